@@ -1,12 +1,9 @@
-//! Tags, and sets of them.
-ghost use Rattle.std.specs.Prelude.{◌≡◌, ◌<◌, [], ◌∷◌, ◌++◌, IsSome, IfSome, OnOk, OnErr, ◌↔◌, List};
-ghost use Rattle.std.specs.List.{list_any};
-ghost use Rattle.txc_tags.specs.Tags.{table_of, same_rows, tags_match, sets_match};
+ghost use Rattle.std.specs.Prelude.{◌≡◌, ◌<◌, IsSome, IfSome, ◌↔◌};
+ghost use Rattle.txc_tags.specs.Tags.{table_of, is_wildcard, equal_rows, same_tag, rows_match, tags_match, rows_before, tag_before};
 
-use std::alloc::{AllocError, Global};
 use std::marker::Model;
 
-/// One of the sixteen tables.
+/// One of the sixteen tables, 0 to 15; a contract sees the number.
 #[derive(Clone, Copy, Debug, PartialEq, Eq, PartialOrd, Ord)]
 pub struct Table {
     number: u8,
@@ -25,6 +22,7 @@ impl Model for Table {
 }
 
 impl Table {
+    /// The table of that number; none from 16 on.
     pub fn new(number: u8) -> Option<Table>
         ensures valid { IsSome result ↔ (number < 16) }
         ensures value { IfSome result (λ t. t ≡ number) }
@@ -36,6 +34,7 @@ impl Table {
         }
     }
 
+    /// Its number.
     pub fn number(self) -> u8
         ensures value { result ≡ self }
         ensures bound { self < 16 }
@@ -44,8 +43,8 @@ impl Table {
     }
 }
 
-/// What an answer depends on, or what an event changed.
-#[derive(Clone, Copy, Debug, PartialEq, Eq, PartialOrd, Ord)]
+/// Rows of a table that an answer depends on, or that an event changed.
+#[derive(Clone, Copy, Debug, PartialEq, Eq)]
 pub enum Tag {
     /// Every row of the table: `t1:?`.
     Wildcard(Table),
@@ -56,6 +55,7 @@ pub enum Tag {
 }
 
 impl Tag {
+    /// The table whose rows it names.
     pub fn table(&self) -> Table
         ensures { result ≡ table_of self.now }
     {
@@ -66,81 +66,68 @@ impl Tag {
         }
     }
 
-    fn matches_rows(&self, other: &Tag) -> bool
-        ensures { result ≡ same_rows self.now other.now }
+    /// Whether it names every row of its table.
+    pub fn is_wildcard(&self) -> bool
+        ensures { result ≡ is_wildcard self.now }
     {
-        match (*self, *other) {
-            (Tag::Wildcard(_), _) | (_, Tag::Wildcard(_)) => true,
-            (Tag::Id(_, n), Tag::Id(_, m)) => n == m,
-            (Tag::Group(_, n), Tag::Group(_, m)) => n == m,
-            (Tag::Id(_, _), Tag::Group(_, _)) | (Tag::Group(_, _), Tag::Id(_, _)) => false,
+        match *self {
+            Tag::Wildcard(_) => true,
+            Tag::Id(_, _) | Tag::Group(_, _) => false,
         }
     }
 
+    /// Whether they are of one table, and either is its wildcard or they are equal. It takes no memory.
     pub fn matches(&self, other: &Tag) -> bool
         ensures { result ≡ tags_match self.now other.now }
     {
+        self.table() == other.table() && self.matches_rows(other)
+    }
+
+    fn matches_rows(&self, other: &Tag) -> bool
+        ensures { result ≡ rows_match self.now other.now }
+    {
+        self.is_wildcard() || other.is_wildcard() || self.equals_rows(other)
+    }
+
+    fn equals_rows(&self, other: &Tag) -> bool
+        ensures { result ≡ equal_rows self.now other.now }
+    {
+        match (*self, *other) {
+            (Tag::Wildcard(_), Tag::Wildcard(_)) => true,
+            (Tag::Id(_, n), Tag::Id(_, m)) => n == m,
+            (Tag::Group(_, n), Tag::Group(_, m)) => n == m,
+            (_, _) => false,
+        }
+    }
+
+    /// Whether they are equal, as `==` says.
+    pub(crate) fn is_same(&self, other: &Tag) -> bool
+        ensures { result ≡ same_tag self.now other.now }
+    {
+        self.table() == other.table() && self.equals_rows(other)
+    }
+
+    /// Whether it stands before the other in a set: by table, and in a table the wildcard, the ids and the groups, each
+    /// by number.
+    pub(crate) fn comes_before(&self, other: &Tag) -> bool
+        ensures { result ≡ tag_before self.now other.now }
+    {
         if self.table() != other.table() {
-            return false;
+            return self.table() < other.table();
         }
-        self.matches_rows(other)
+        self.rows_come_before(other)
     }
-}
 
-/// The tags that a result depends on.
-#[derive(Debug, Drop)]
-pub struct TagSet {
-    tags: Vec<Tag>,
-}
-
-impl Model for TagSet {
-    ghost use Rattle.std.specs.Prelude.{List};
-    ghost use Rattle.txc_tags.specs.declared.tag.Tag.{Tag};
-
-    ghost Value = { List Tag };
-
-    ghost view = { λ s. s.tags.items };
-}
-
-fn any_matches(tags: &[Tag], tag: Tag) -> bool
-    ensures { result ≡ list_any (tags_match tag) tags.now }
-{
-    tags.iter().any(|t| tag.matches(t))
-}
-
-fn slices_match(a: &[Tag], b: &[Tag]) -> bool
-    ensures { result ≡ sets_match a.now b.now }
-{
-    a.iter().any(|t| any_matches(b, *t))
-}
-
-impl TagSet {
-    pub fn new(alloc: Global) -> TagSet
-        ensures { result ≡ [] }
+    fn rows_come_before(&self, other: &Tag) -> bool
+        ensures { result ≡ rows_before self.now other.now }
     {
-        TagSet {
-            tags: Vec::new(alloc),
+        match (*self, *other) {
+            (_, Tag::Wildcard(_)) => false,
+            (Tag::Wildcard(_), _) => true,
+            (Tag::Id(_, n), Tag::Id(_, m)) => n < m,
+            (Tag::Id(_, _), Tag::Group(_, _)) => true,
+            (Tag::Group(_, _), Tag::Id(_, _)) => false,
+            (Tag::Group(_, n), Tag::Group(_, m)) => n < m,
         }
-    }
-
-    pub fn tags(&self) -> &[Tag]
-        ensures { result.now ≡ self.now }
-    {
-        &self.tags
-    }
-
-    pub fn push(&mut self, tag: Tag) -> Result<(), AllocError>
-        ensures ok { OnOk result (self.new ≡ self.old ++ tag ∷ []) }
-        ensures err { OnErr result (self.new ≡ self.old) }
-    {
-        self.tags.push(tag)?;
-        Ok(())
-    }
-
-    /// Whether a tag of one matches a tag of the other.
-    pub fn matches(&self, other: &TagSet) -> bool
-        ensures { result ≡ sets_match self.now other.now }
-    {
-        slices_match(&self.tags, &other.tags)
     }
 }

@@ -1,0 +1,1 @@
+//! What the definitions come to, each the contract of a function that does nothing.

@@ -1,0 +1,148 @@
+ghost use Rattle.std.specs.Prelude.{◌≡◌, ◌≤◌, ℕ, true, false, [], ◌++◌, ◌∷◌, ◌==◌, IsOk, IfOk, OnOk, OnErr, length, filter, count_by, if◌then◌else◌};
+ghost use Rattle.std.specs.List.{list_any};
+ghost use Rattle.txc_tags.specs.Tags.{tags_match, sets_match, has_tag, covers, is_of, tag_before};
+
+use crate::tag::{Table, Tag};
+use std::alloc::{AllocError, Global};
+use std::marker::Model;
+
+/// The most tags of one table in a set.
+const MOST: usize = 16;
+
+/// The tags that a result depends on, or that an event changed: of each table at most sixteen, or its wildcard alone.
+///
+/// A contract sees the list of its tags by table, in a table the wildcard alone, or the ids by number and then the
+/// groups by number. So sets of the same tags are equal, in whatever order the tags came.
+#[derive(Debug, Drop)]
+pub struct TagSet {
+    tags: Vec<Tag>,
+}
+
+impl Model for TagSet {
+    ghost use Rattle.std.specs.Prelude.{List};
+    ghost use Rattle.txc_tags.specs.declared.tag.Tag.{Tag};
+
+    ghost Value = { List Tag };
+
+    ghost view = { λ s. s.tags.items };
+}
+
+impl TagSet {
+    /// The empty set. It takes no memory.
+    pub fn new(alloc: Global) -> TagSet
+        ensures { result ≡ [] }
+    {
+        TagSet {
+            tags: Vec::new(alloc),
+        }
+    }
+
+    /// The tags in their order.
+    pub fn tags(&self) -> &[Tag]
+        ensures { result.now ≡ self.now }
+    {
+        &self.tags
+    }
+
+    /// Whether it holds no tag.
+    pub fn is_empty(&self) -> bool
+        ensures { result ≡ (length self.now == 0) }
+    {
+        self.tags.is_empty()
+    }
+
+    /// Whether it holds the tag or the wildcard of the tag's table.
+    pub fn covers(&self, tag: Tag) -> bool
+        ensures { result ≡ covers self.now tag }
+    {
+        covers_tag(&self.tags, tag)
+    }
+
+    /// Whether a tag of one matches a tag of the other. It takes no memory.
+    pub fn matches(&self, other: &TagSet) -> bool
+        ensures { result ≡ sets_match self.now other.now }
+    {
+        slices_match(&self.tags, &other.tags)
+    }
+
+    /// Adds a tag. A tag that is covered changes nothing; a wildcard, and a seventeenth tag of a table, takes the place of
+    /// the table's tags.
+    pub fn add(&mut self, tag: Tag) -> Result<(), AllocError>
+        ensures err { OnErr result (self.new ≡ self.old) }
+        ensures covered { covers self.old tag ≡ true → IsOk result }
+    {
+        if self.covers(tag) {
+            return Ok(());
+        }
+        if tag.is_wildcard() || count_of(&self.tags, tag.table()) >= MOST {
+            put_wildcard(&mut self.tags, tag.table())
+        } else {
+            put_tag(&mut self.tags, tag)
+        }
+    }
+
+    /// An equal set.
+    pub fn copy(&self, alloc: Global) -> Result<TagSet, AllocError>
+        ensures { IfOk result (λ set. set ≡ self.now) }
+    {
+        let tags = self.tags.to_vec(alloc)?;
+        Ok(TagSet { tags })
+    }
+}
+
+fn any_matches(tags: &[Tag], tag: Tag) -> bool
+    ensures { result ≡ list_any (tags_match tag) tags.now }
+{
+    tags.iter().any(|t| tag.matches(t))
+}
+
+fn slices_match(a: &[Tag], b: &[Tag]) -> bool
+    ensures { result ≡ sets_match a.now b.now }
+{
+    a.iter().any(|t| any_matches(b, *t))
+}
+
+fn has(tags: &[Tag], tag: Tag) -> bool
+    ensures { result ≡ has_tag tags.now tag }
+{
+    tags.iter().any(|t| tag.is_same(t))
+}
+
+fn covers_tag(tags: &[Tag], tag: Tag) -> bool
+    ensures { result ≡ covers tags.now tag }
+{
+    has(tags, tag) || has(tags, Tag::Wildcard(tag.table()))
+}
+
+fn count_of(tags: &[Tag], table: Table) -> usize
+    ensures { result ≡ count_by (is_of table) tags.now }
+{
+    tags.iter().filter(|t| t.table() == table).count()
+}
+
+/// How many of the tags stand before this one.
+fn place_of(tags: &[Tag], tag: &Tag) -> usize
+    ensures value { result ≡ count_by (λ x. tag_before x tag.now) tags.now }
+    ensures bound { result ≤ length tags.now }
+{
+    tags.iter().filter(|t| t.comes_before(tag)).count()
+}
+
+fn put_tag(tags: &mut Vec<Tag>, tag: Tag) -> Result<(), AllocError>
+    ensures { OnErr result (tags.new.items ≡ tags.old.items) }
+{
+    let place = place_of(tags, &tag);
+    tags.insert(place, tag)?;
+    Ok(())
+}
+
+fn put_wildcard(tags: &mut Vec<Tag>, table: Table) -> Result<(), AllocError>
+    ensures { OnErr result (tags.new.items ≡ tags.old.items) }
+{
+    tags.reserve(1)?;
+    tags.retain(|t| t.table() != table);
+    let wildcard = Tag::Wildcard(table);
+    let place = place_of(tags, &wildcard);
+    tags.insert(place, wildcard)?;
+    Ok(())
+}
