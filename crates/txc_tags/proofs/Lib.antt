@@ -1,0 +1,9 @@
+pub mod Lists
+pub mod TagOrder
+pub mod TagSets
+pub mod Placing
+pub mod Counting
+pub mod Canonical
+pub mod Covering
+pub mod Commuting
+pub mod Calls

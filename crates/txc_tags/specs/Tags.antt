@@ -1,5 +1,5 @@
 -- Tags: what they match and cover, and the sets of them, each table's at most sixteen.
-use Rattle.std.specs.Prelude.{◌≡◌, ℕ, ◌≤◌, Bool, true, false, not, ◌&&◌, ◌||◌, ◌==◌, nat_le, nat_lt, List, [], ◌∷◌, ◌++◌, filter, count_by, if◌then◌else◌}
+use Rattle.std.specs.Prelude.{◌≡◌, ℕ, ◌≤◌, Bool, true, false, ◌&&◌, ◌||◌, ◌==◌, nat_le, nat_lt, List, [], ◌∷◌, ◌++◌, filter, count_by, if◌then◌else◌}
 use Rattle.std.specs.List.{list_any, list_all}
 use Rattle.txc_tags.specs.declared.tag.Tag.{Tag}
 use Rattle.txc_tags.specs.declared.tag.Tag.TheVariants.{Wildcard, Id, Group}
@@ -103,11 +103,15 @@ put_in tag set = filter (λ x. tag_before x tag) set ++ tag ∷ filter (tag_befo
 abbrev pub wildcarded : ℕ → List Tag → List Tag
 wildcarded table set = filter (λ x. nat_lt (table_of x) table) set ++ Wildcard table ∷ filter (λ x. nat_lt table (table_of x)) set
 
+-- the set holds as many tags of the table as it may
+abbrev pub is_full : ℕ → List Tag → Bool
+is_full table set = nat_le most_tags (count_by (is_of table) set)
+
 -- the set with one tag more: a wildcard, and a seventeenth tag of its table, makes the table's wildcard of them
 abbrev pub with_tag : Tag → List Tag → List Tag
 with_tag tag set =
     if covers set tag then set
-    else (if is_wildcard tag || nat_le most_tags (count_by (is_of (table_of tag)) set) then wildcarded (table_of tag) set
+    else (if is_wildcard tag || is_full (table_of tag) set then wildcarded (table_of tag) set
     else put_in tag set)
 
 -- the set with all of these, one after the other

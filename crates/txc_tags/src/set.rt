@@ -1,13 +1,11 @@
-ghost use Rattle.std.specs.Prelude.{◌≡◌, ◌≤◌, ℕ, true, false, [], ◌++◌, ◌∷◌, ◌==◌, IsOk, IfOk, OnOk, OnErr, length, filter, count_by, if◌then◌else◌};
+ghost use Rattle.std.specs.Prelude.{◌≡◌, ◌≤◌, ℕ, true, false, [], ◌++◌, ◌∷◌, ◌==◌, IsOk, IfOk, OnOk, OnErr, length, filter, count_by, vec_len, vec_capacity, not, if◌then◌else◌};
 ghost use Rattle.std.specs.List.{list_any};
-ghost use Rattle.txc_tags.specs.Tags.{tags_match, sets_match, has_tag, covers, is_of, tag_before};
+ghost use Rattle.txc_tags.specs.Tags.{table_of, tags_match, sets_match, has_tag, covers, is_of, tag_before, put_in, wildcarded, with_tag, IsCanonical};
 
-use crate::tag::{Table, Tag};
+use crate::adding::{add_tag, covers_tag};
+use crate::tag::Tag;
 use std::alloc::{AllocError, Global};
 use std::marker::Model;
-
-/// The most tags of one table in a set.
-const MOST: usize = 16;
 
 /// The tags that a result depends on, or that an event changed: of each table at most sixteen, or its wildcard alone.
 ///
@@ -21,10 +19,13 @@ pub struct TagSet {
 impl Model for TagSet {
     ghost use Rattle.std.specs.Prelude.{List};
     ghost use Rattle.txc_tags.specs.declared.tag.Tag.{Tag};
+    ghost use Rattle.txc_tags.specs.Tags.{IsCanonical};
 
     ghost Value = { List Tag };
 
     ghost view = { λ s. s.tags.items };
+
+    ghost invariant = { λ s. IsCanonical s.tags.items };
 }
 
 impl TagSet {
@@ -39,7 +40,8 @@ impl TagSet {
 
     /// The tags in their order.
     pub fn tags(&self) -> &[Tag]
-        ensures { result.now ≡ self.now }
+        ensures value { result.now ≡ self.now }
+        ensures canonical { IsCanonical self.now }
     {
         &self.tags
     }
@@ -68,17 +70,11 @@ impl TagSet {
     /// Adds a tag. A tag that is covered changes nothing; a wildcard, and a seventeenth tag of a table, takes the place of
     /// the table's tags.
     pub fn add(&mut self, tag: Tag) -> Result<(), AllocError>
+        ensures ok { OnOk result (self.new ≡ with_tag tag self.old) }
         ensures err { OnErr result (self.new ≡ self.old) }
         ensures covered { covers self.old tag ≡ true → IsOk result }
     {
-        if self.covers(tag) {
-            return Ok(());
-        }
-        if tag.is_wildcard() || count_of(&self.tags, tag.table()) >= MOST {
-            put_wildcard(&mut self.tags, tag.table())
-        } else {
-            put_tag(&mut self.tags, tag)
-        }
+        add_tag(&mut self.tags, tag)
     }
 
     /// An equal set.
@@ -100,49 +96,4 @@ fn slices_match(a: &[Tag], b: &[Tag]) -> bool
     ensures { result ≡ sets_match a.now b.now }
 {
     a.iter().any(|t| any_matches(b, *t))
-}
-
-fn has(tags: &[Tag], tag: Tag) -> bool
-    ensures { result ≡ has_tag tags.now tag }
-{
-    tags.iter().any(|t| tag.is_same(t))
-}
-
-fn covers_tag(tags: &[Tag], tag: Tag) -> bool
-    ensures { result ≡ covers tags.now tag }
-{
-    has(tags, tag) || has(tags, Tag::Wildcard(tag.table()))
-}
-
-fn count_of(tags: &[Tag], table: Table) -> usize
-    ensures { result ≡ count_by (is_of table) tags.now }
-{
-    tags.iter().filter(|t| t.table() == table).count()
-}
-
-/// How many of the tags stand before this one.
-fn place_of(tags: &[Tag], tag: &Tag) -> usize
-    ensures value { result ≡ count_by (λ x. tag_before x tag.now) tags.now }
-    ensures bound { result ≤ length tags.now }
-{
-    tags.iter().filter(|t| t.comes_before(tag)).count()
-}
-
-fn put_tag(tags: &mut Vec<Tag>, tag: Tag) -> Result<(), AllocError>
-    ensures { OnErr result (tags.new.items ≡ tags.old.items) }
-{
-    let place = place_of(tags, &tag);
-    tags.insert(place, tag)?;
-    Ok(())
-}
-
-fn put_wildcard(tags: &mut Vec<Tag>, table: Table) -> Result<(), AllocError>
-    ensures { OnErr result (tags.new.items ≡ tags.old.items) }
-{
-    tags.reserve(1)?;
-    tags.retain(|t| t.table() != table);
-    let wildcard = Tag::Wildcard(table);
-    let place = place_of(tags, &wildcard);
-    tags.insert(place, wildcard)?;
-    Ok(())
 }
