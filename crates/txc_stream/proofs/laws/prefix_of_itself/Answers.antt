@@ -1,0 +1,5 @@
+use Rattle.txc_stream.proofs.Prefix.{prefix_self}
+use Rattle.txc_stream.proofs.laws.prefix_of_itself.Goals as goal
+
+pub returns : goal.returns
+returns g c = λ xs. prefix_self xs

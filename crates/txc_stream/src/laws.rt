@@ -1,0 +1,43 @@
+//! Laws on prefixes. None has anything to run: the contract of each is the law.
+//!
+//! What was seen of a row only grows, so what a caller knows of a front's list has to carry over to each longer one.
+//! These laws do it. They hold of all lists, and crates above find their proofs under the same words.
+ghost use Rattle.std.specs.Prelude.{◌≡◌, ℕ, ◌<◌, ◌≤◌, ◌++◌, ◌∷◌, ◌⊎◌, [], List, length, take, Some, slice_get};
+ghost use mathlib.Core.List.{IsPrefix};
+
+/// A list is a prefix of itself.
+pub fn prefix_of_itself<T>()
+    ensures { (xs : List T) → IsPrefix xs xs }
+{}
+
+/// A prefix of a prefix is a prefix.
+pub fn prefix_of_prefix<T>()
+    ensures { (xs ys zs : List T) → IsPrefix xs ys → IsPrefix ys zs → IsPrefix xs zs }
+{}
+
+/// A prefix is at most as long as the whole, and one that is as long is the whole.
+pub fn prefix_length<T>()
+    ensures at_most { (xs ys : List T) → IsPrefix xs ys → length xs ≤ length ys }
+    ensures whole { (xs ys : List T) → IsPrefix xs ys → length ys ≤ length xs → xs ≡ ys }
+{}
+
+/// What stands in a prefix stands in the whole, at the same place, and the two begin alike.
+pub fn prefix_places<T>()
+    ensures stands { (xs ys : List T) (at : ℕ) (x : T) → IsPrefix xs ys → slice_get xs at ≡ Some x → slice_get ys at ≡ Some x }
+    ensures same { (xs ys : List T) (at : ℕ) → IsPrefix xs ys → at < length xs → slice_get ys at ≡ slice_get xs at }
+    ensures begin { (xs ys : List T) (n : ℕ) → IsPrefix xs ys → n ≤ length xs → take n ys ≡ take n xs }
+{}
+
+/// A list is a prefix of itself with more behind it. One more record stands at the place that the old length names.
+pub fn prefix_of_appended<T>()
+    ensures more { (xs ys : List T) → IsPrefix xs (xs ++ ys) }
+    ensures place { (xs : List T) (x : T) → slice_get (xs ++ x ∷ []) (length xs) ≡ Some x }
+{}
+
+/// Two prefixes of one list agree. Of two lists that agree, the shorter is the prefix, and one of the two that
+/// begins with the longer is the longer.
+pub fn longer_of_two<T>()
+    ensures agree { (xs ys zs : List T) → IsPrefix xs zs → IsPrefix ys zs → IsPrefix xs ys ⊎ IsPrefix ys xs }
+    ensures shorter { (xs ys : List T) → IsPrefix xs ys ⊎ IsPrefix ys xs → length xs ≤ length ys → IsPrefix xs ys }
+    ensures longer { (xs ys now : List T) → IsPrefix xs ys → (now ≡ xs) ⊎ (now ≡ ys) → IsPrefix ys now → now ≡ ys }
+{}
