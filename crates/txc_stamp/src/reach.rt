@@ -80,7 +80,7 @@ impl Reach {
     pub fn holds(self, stamp: Stamp) -> bool
         ensures { result ≡ holds self stamp }
     {
-        self.lo <= stamp && stamp <= self.known
+        stamp >= self.lo && stamp <= self.known
     }
 
     /// Where both hold. It is still valid where both are, and none where no stamp is held by both.

@@ -64,6 +64,6 @@ impl Span {
     pub fn contains(self, stamp: Stamp) -> bool
         ensures { result ≡ is_between self.lo self.end stamp }
     {
-        self.lo <= stamp && stamp.number() < self.end
+        stamp >= self.lo && stamp.number() < self.end
     }
 }
