@@ -7,3 +7,9 @@ pub mod Canonical
 pub mod Covering
 pub mod Commuting
 pub mod Calls
+pub mod TextDigits
+pub mod TextPrefixes
+pub mod TextTags
+pub mod TextKeys
+pub mod TextSets
+pub mod TextCanonical

@@ -1,0 +1,11 @@
+use Rattle.std.proofs.Common.{List, take}
+use Rattle.txc_tags.specs.declared.tag.Tag.{Tag}
+use Rattle.txc_tags.specs.TextTagFront.{IsFrontInRange}
+use Rattle.txc_tags.proofs.TextSets.{HasRead}
+use Rattle.txc_tags.proofs.text.set.check_tags.Given as goal
+
+abbrev pub invariant-loop-i : goal.invariant-loop-i
+invariant-loop-i l = record {
+  in_range : IsFrontInRange l.front;
+  read : (set : List Tag) × HasRead (take l.i l.text) l.front set;
+}
