@@ -1,0 +1,7 @@
+pub mod Best
+pub mod Walk
+pub mod Apart
+pub mod Moves
+pub mod Inserts
+pub mod LawLemmas
+pub mod ReplayLemmas

@@ -1,0 +1,132 @@
+-- The versioned cache, and its steps: a lookup, an insertion and an event. Each step is a function of the whole cache.
+use Rattle.std.specs.Prelude.{◌≡◌, Option, ℕ, ◌+◌, ◌-◌, ◌<◌, ◌≤◌, Bool, ◌&&◌, nat_lt, nat_le, min, List, [], ◌∷◌, ◌++◌, map, length, take, drop, if◌then◌else◌, Some, None, slice_get, false}
+use Rattle.std.specs.List.{find, position, count_by}
+use Rattle.std.specs.Option.{option_map}
+use Rattle.txc_stamp.specs.Interval.{Interval, end_at, shown, closed_at}
+use Rattle.txc_tags.specs.declared.tag.Tag.{Tag}
+use Rattle.txc_tags.specs.Tags.{sets_match}
+use Rattle.txc_tags.specs.Keys.{Call}
+use Rattle.txc_node.specs.declared.entry.Entry.{Entry}
+use Rattle.txc_node.specs.declared.node.Inserted.{Inserted}
+use Rattle.txc_node.specs.declared.node.Inserted.TheVariants.{Stored, Kept}
+use Rattle.txc_node.specs.Entries.{same_place, is_best, others, AreApart}
+
+-- the entries, the most recently used first; the stamp of the last event that was taken; the tags of the last events, the oldest first;
+-- the most entries that it holds; the most events whose tags it keeps
+pub record Cache : Type 0 where
+  pub entries : List Entry
+  pub processed : ℕ
+  pub recent : List (List Tag)
+  pub capacity : ℕ
+  pub depth : ℕ
+
+abbrev pub empty_cache : ℕ → ℕ → Cache
+empty_cache capacity depth = record { entries = []; processed = 0; recent = []; capacity = capacity; depth = depth }
+
+-- what is true of a cache after every list of steps: no two entries have the same key and first stamp, it holds no more than its capacity,
+-- and it keeps the tags of its last `depth` events, or of all while there are fewer
+pub record IsCache (c : Cache) : Type 0 where
+  pub apart : AreApart c.entries
+  pub within : length c.entries ≤ c.capacity
+  pub kept : length c.recent ≡ min c.depth c.processed
+  pub some : 0 < c.capacity
+  pub any : 0 < c.depth
+
+-- a cache, in a node whose list of tags has room for `space`
+pub record IsHeld (c : Cache) (space : ℕ) : Type 0 where
+  pub cache : IsCache c
+  pub room : c.depth ≤ space
+
+-- ---- a lookup: of the entries that meet the range, the one that none outlasts moves to the front
+
+abbrev pub found : Cache → Call → ℕ → ℕ → Option Entry
+found c key lo hi = find (is_best c.processed key lo hi c.entries) c.entries
+
+abbrev pub after_use : Cache → Option Entry → Cache
+after_use c None = c
+after_use c (Some e) = record c { entries = e ∷ others e c.entries }
+
+abbrev pub after_lookup : Cache → Call → ℕ → ℕ → Cache
+after_lookup c key lo hi = after_use c (found c key lo hi)
+
+-- what a hit shows
+pub record Answer : Type 0 where
+  pub reach : Interval
+  pub value : List ℕ
+  pub tags : List Tag
+
+abbrev pub answer_of : ℕ → Entry → Answer
+answer_of processed e = record { reach = shown processed e.reach; value = e.value; tags = e.tags }
+
+-- the answer of the entry that is found, or none, which is a miss
+abbrev pub answer : Cache → Call → ℕ → ℕ → Option Answer
+answer c key lo hi = option_map (answer_of c.processed) (found c key lo hi)
+
+-- ---- an insertion: the events that the entry missed are replayed first
+
+-- closed just before the event with that number behind `known`, if there is one
+abbrev pub closed_before : Option ℕ → Interval → Interval
+closed_before None i = i
+closed_before (Some k) i = closed_at (i.known + k) i
+
+-- A still valid reach has missed the events known + 1 to processed. Where one of them is no longer kept, it is closed at its own known;
+-- else just before the first one that matches, if one does.
+abbrev pub reach_after_replay : Interval → List Tag → ℕ → List (List Tag) → Interval
+reach_after_replay i tags processed recent =
+    let missed = processed - i.known in
+    if i.still
+    then (if nat_lt (length recent) missed
+    then closed_at i.known i
+    else closed_before (position (λ t. sets_match t tags) (drop (length recent - missed) recent)) i)
+    else i
+
+abbrev pub replayed_reach : Cache → Entry → Interval
+replayed_reach c e = reach_after_replay e.reach e.tags c.processed c.recent
+
+abbrev pub replayed_entry : Cache → Entry → Entry
+replayed_entry c e = record e { reach = replayed_reach c e }
+
+-- the entry that stands there, if one does, ends no earlier than the new one
+abbrev pub ends_no_earlier : ℕ → Entry → Option Entry → Bool
+ends_no_earlier processed e None = false
+ends_no_earlier processed e (Some old) = nat_le (end_at processed e.reach) (end_at processed old.reach)
+
+-- the entry with the same key and first stamp stays
+abbrev pub is_kept : Cache → Entry → Bool
+is_kept c e = ends_no_earlier c.processed (replayed_entry c e) (find (λ o. same_place o e) c.entries)
+
+-- the new entry, and behind it all with another key or first stamp
+abbrev pub entries_with : Cache → Entry → List Entry
+entries_with c e = replayed_entry c e ∷ others e c.entries
+
+-- as many of these stay as there is room for
+abbrev pub after_insert : Cache → Entry → Cache
+after_insert c e = if is_kept c e then c else record c { entries = take c.capacity (entries_with c e) }
+
+-- the one for which there is no room
+abbrev pub evicted_entry : Cache → Entry → Option Entry
+evicted_entry c e = slice_get (entries_with c e) c.capacity
+
+abbrev pub outcome : Cache → Entry → Inserted
+outcome c e = if is_kept c e then Kept e else Stored (shown c.processed (replayed_reach c e)) (evicted_entry c e)
+
+-- ---- an event: the still valid entries known below it whose tags match are closed just below it, and no entry moves
+
+abbrev pub is_invalidated : ℕ → List Tag → Entry → Bool
+is_invalidated stamp tags e = e.reach.still && (nat_lt e.reach.known stamp && sets_match tags e.tags)
+
+abbrev pub entry_after : ℕ → List Tag → Entry → Entry
+entry_after stamp tags e = if is_invalidated stamp tags e then record e { reach = closed_at (stamp - 1) e.reach } else e
+
+abbrev pub last_of : {X : Type 0} → ℕ → List X → List X
+last_of n xs = drop (length xs - n) xs
+
+abbrev pub after_event : Cache → ℕ → List Tag → Cache
+after_event c stamp tags = record c {
+  entries = map (entry_after stamp tags) c.entries;
+  processed = stamp;
+  recent = last_of c.depth (c.recent ++ tags ∷ []);
+}
+
+abbrev pub closed_count : Cache → ℕ → List Tag → ℕ
+closed_count c stamp tags = count_by (is_invalidated stamp tags) c.entries

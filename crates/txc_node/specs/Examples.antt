@@ -1,0 +1,102 @@
+-- Worked examples of the steps: what the definitions give, beside what was found by hand.
+use Rattle.std.specs.Prelude.{◌≡◌, ℕ, true, false, List, [], ◌∷◌, Option, Some, None}
+use Rattle.txc_stamp.specs.Interval.{Interval}
+use Rattle.txc_tags.specs.declared.tag.Tag.{Tag}
+use Rattle.txc_tags.specs.declared.tag.Tag.TheVariants.{Wildcard, Id, Group}
+use Rattle.txc_tags.specs.Keys.{Call}
+use Rattle.txc_node.specs.declared.entry.Entry.{Entry}
+use Rattle.txc_node.specs.declared.node.Inserted.TheVariants.{Stored, Kept}
+use Rattle.txc_node.specs.Cache.{Cache, Answer, empty_cache, answer, after_lookup, outcome, after_insert, closed_count, after_event}
+
+-- the call of function 1 with one argument
+abbrev pub call_of : ℕ → Call
+call_of n = record { function = 1; args = n ∷ [] }
+
+abbrev pub still_valid : ℕ → ℕ → Interval
+still_valid lo known = record { lo = lo; known = known; still = true }
+
+abbrev pub closed : ℕ → ℕ → Interval
+closed lo known = record { lo = lo; known = known; still = false }
+
+-- a result of one byte of the call of function 1 with argument n
+abbrev pub entry_of : ℕ → ℕ → Interval → List Tag → Entry
+entry_of n byte reach tags = record { key = call_of n; value = byte ∷ []; reach = reach; tags = tags }
+
+abbrev pub shows : ℕ → Interval → List Tag → Option Answer
+shows byte reach tags = Some (record { reach = reach; value = byte ∷ []; tags = tags })
+
+-- ---- a still valid entry is found as far as events were taken, and an event that matches closes it
+
+abbrev pub first : Entry
+first = entry_of 2 10 (still_valid 0 0) (Id 1 2 ∷ [])
+
+abbrev pub one_entry : Cache
+one_entry = after_insert (empty_cache 4 4) first
+
+abbrev pub one_event : Cache
+one_event = after_event one_entry 1 (Id 1 3 ∷ [])
+
+abbrev pub two_events : Cache
+two_events = after_event one_event 2 (Id 1 2 ∷ [])
+
+pub record ClosesAtTheMatch : Type 0 where
+  pub stored : outcome (empty_cache 4 4) first ≡ Stored (still_valid 0 0) None
+  pub found_at_once : answer one_entry (call_of 2) 0 9 ≡ shows 10 (still_valid 0 0) (Id 1 2 ∷ [])
+  pub no_match : closed_count one_entry 1 (Id 1 3 ∷ []) ≡ 0
+  pub found_later : answer one_event (call_of 2) 0 9 ≡ shows 10 (still_valid 0 1) (Id 1 2 ∷ [])
+  pub match : closed_count one_event 2 (Id 1 2 ∷ []) ≡ 1
+  pub beyond_its_end : answer two_events (call_of 2) 2 9 ≡ None
+  pub found_closed : answer two_events (call_of 2) 0 9 ≡ shows 10 (closed 0 1) (Id 1 2 ∷ [])
+
+-- ---- an entry that comes late is closed before the first event that it missed and that matches, or at its own known
+
+abbrev pub both_events : ℕ → Cache
+both_events depth = after_event (after_event (empty_cache 4 depth) 1 (Id 1 3 ∷ [])) 2 (Id 1 2 ∷ [])
+
+pub record ReplaysWhatIsKept : Type 0 where
+  pub both_kept : outcome (both_events 4) first ≡ Stored (closed 0 1) None
+  pub one_kept : outcome (both_events 1) first ≡ Stored (closed 0 0) None
+
+-- ---- an entry known beyond the processed stamp is closed by no event up to there, and the wildcard matches each tag of its table
+
+abbrev pub ahead : Entry
+ahead = entry_of 2 10 (still_valid 1 5) (Wildcard 1 ∷ [])
+
+abbrev pub quiet : Cache
+quiet = after_event (after_event (empty_cache 4 4) 1 []) 2 []
+
+abbrev pub five_events : Cache
+five_events = after_event (after_event (after_event (after_insert quiet ahead) 3 (Group 1 9 ∷ [])) 4 []) 5 []
+
+pub record WaitsForItsEnd : Type 0 where
+  pub stored : outcome quiet ahead ≡ Stored (still_valid 1 5) None
+  pub not_beyond : closed_count (after_insert quiet ahead) 3 (Group 1 9 ∷ []) ≡ 0
+  pub by_wildcard : closed_count five_events 6 (Id 1 1 ∷ []) ≡ 1
+  pub found_closed : answer (after_event five_events 6 (Id 1 1 ∷ [])) (call_of 2) 0 9 ≡ shows 10 (closed 1 5) (Wildcard 1 ∷ [])
+
+-- ---- a full cache drops the entry that was used longest ago
+
+abbrev pub number : ℕ → ℕ → Entry
+number n byte = entry_of n byte (still_valid 0 0) (Id 1 n ∷ [])
+
+abbrev pub full : Cache
+full = after_insert (after_insert (empty_cache 2 4) (number 1 10)) (number 2 11)
+
+abbrev pub full_used : Cache
+full_used = after_lookup full (call_of 1) 0 9
+
+pub record DropsTheLeastRecentlyUsed : Type 0 where
+  pub kept : outcome (after_insert (empty_cache 2 4) (number 1 10)) (number 1 10) ≡ Kept (number 1 10)
+  pub used : answer full (call_of 1) 0 9 ≡ shows 10 (still_valid 0 0) (Id 1 1 ∷ [])
+  pub evicted : outcome full_used (number 3 12) ≡ Stored (still_valid 0 0) (Some (number 2 11))
+  pub gone : answer (after_insert full_used (number 3 12)) (call_of 2) 0 9 ≡ None
+
+-- ---- of two entries that end equally the one that begins later is found, and a longer one replaces a shorter one
+
+abbrev pub two_begins : Cache
+two_begins = after_insert (after_insert (after_event (empty_cache 4 4) 1 []) (entry_of 2 10 (still_valid 0 0) [])) (entry_of 2 11 (still_valid 1 1) [])
+
+pub record PrefersTheLaterBegin : Type 0 where
+  pub later_begin : answer two_begins (call_of 2) 0 9 ≡ shows 11 (still_valid 1 1) []
+  pub only_one : answer two_begins (call_of 2) 0 0 ≡ shows 10 (still_valid 0 1) []
+  pub longer : outcome two_begins (entry_of 2 12 (closed 0 3) []) ≡ Stored (closed 0 3) None

@@ -1,0 +1,107 @@
+-- What the steps of the cache mean, in the words of their rules.
+use Rattle.std.specs.Prelude.{◌≡◌, ℕ, ◌+◌, ◌-◌, ◌<◌, ◌≤◌, ◌⊎◌, ◌↔◌, true, max, length, List, [], ◌∷◌, Some, None, All, AllPairs, Contains}
+use Rattle.txc_stamp.specs.Interval.{end_at, Spans, closed_at}
+use Rattle.txc_tags.specs.declared.tag.Tag.{Tag}
+use Rattle.txc_tags.specs.Tags.{sets_match}
+use Rattle.txc_tags.specs.Keys.{Call}
+use Rattle.txc_node.specs.declared.entry.Entry.{Entry}
+use Rattle.txc_node.specs.Cache.{Cache, IsCache, empty_cache, found, answer_of, after_lookup, replayed_reach, replayed_entry, after_insert, entry_after, last_of, after_event}
+
+-- ---- lookup
+
+-- the entry is of the key, and its span meets the stamps from lo to hi
+pub record MeetsRange (processed : ℕ) (key : Call) (lo hi : ℕ) (e : Entry) : Type 0 where
+  pub of_key : e.key ≡ key
+  pub begins : e.reach.lo ≤ hi
+  pub ends : lo < end_at processed e.reach
+
+-- the span of a ends later than that of b, or equally and begins later
+abbrev pub LastsLonger : ℕ → Entry → Entry → Type 0
+LastsLonger processed a b =
+    (end_at processed b.reach < end_at processed a.reach)
+    ⊎ ((end_at processed b.reach ≡ end_at processed a.reach) × (b.reach.lo < a.reach.lo))
+
+-- e is an entry of the list that meets the range, and no entry that meets it lasts longer
+pub record IsLongest (c : Cache) (key : Call) (lo hi : ℕ) (e : Entry) : Type 0 where
+  pub stands : Contains c.entries e
+  pub meets : MeetsRange c.processed key lo hi e
+  pub longest : All (λ o. ¬ (MeetsRange c.processed key lo hi o × LastsLonger c.processed o e)) c.entries
+
+-- what a lookup finds is the entry that meets the range and lasts longest
+abbrev pub FindsTheLongest : Type 0
+FindsTheLongest = (c : Cache) (key : Call) (lo hi : ℕ) (e : Entry) → found c key lo hi ≡ Some e → IsLongest c key lo hi e
+
+-- a lookup misses only where no entry meets the range
+abbrev pub MissesOnlyWhereNone : Type 0
+MissesOnlyWhereNone = (c : Cache) (key : Call) (lo hi : ℕ) → found c key lo hi ≡ None → All (λ o. ¬ (MeetsRange c.processed key lo hi o)) c.entries
+
+-- the span of an entry meets a range that is not empty exactly where a stamp of the range lies in the span
+abbrev pub MeetsAtAStamp : Type 0
+MeetsAtAStamp = (processed lo hi : ℕ) (e : Entry) → lo ≤ hi → e.reach.lo ≤ e.reach.known
+    → MeetsRange processed e.key lo hi e ↔ ((t : ℕ) × (lo ≤ t) × (t ≤ hi) × Spans processed e.reach t)
+
+-- a hit shows no stamp beyond the greater of the last one known and the processed one
+abbrev pub ShowsNothingBeyond : Type 0
+ShowsNothingBeyond = (processed : ℕ) (e : Entry) → (answer_of processed e).reach.known ≤ max e.reach.known processed
+
+-- ---- event
+
+-- the entry is still valid, is known below the event, and its tags match
+pub record IsHitBy (stamp : ℕ) (tags : List Tag) (e : Entry) : Type 0 where
+  pub still : e.reach.still ≡ true
+  pub below : e.reach.known < stamp
+  pub matching : sets_match tags e.tags ≡ true
+
+-- an entry that the event hits is closed just below it, and any other stays as it was
+pub record ClosesOnlyIfHit (stamp : ℕ) (tags : List Tag) (old new : Entry) : Type 0 where
+  pub closed : IsHitBy stamp tags old → new ≡ record old { reach = closed_at (stamp - 1) old.reach }
+  pub same : ¬ (IsHitBy stamp tags old) → new ≡ old
+
+-- the lists are equally long, and R holds of the two entries at each place
+abbrev pub EachPlace : (Entry → Entry → Type 0) → List Entry → List Entry → Type 0
+EachPlace R [] [] = Unit {0}
+EachPlace R [] (y ∷ ys) = ⊥
+EachPlace R (x ∷ xs) [] = ⊥
+EachPlace R (x ∷ xs) (y ∷ ys) = R x y × EachPlace R xs ys
+
+-- an event closes exactly the entries that it hits, and no entry moves
+abbrev pub ClosesExactlyTheHit : Type 0
+ClosesExactlyTheHit = (c : Cache) (stamp : ℕ) (tags : List Tag) → EachPlace (ClosesOnlyIfHit stamp tags) c.entries (after_event c stamp tags).entries
+
+-- ---- insertion
+
+-- the entry after events that come one after another, the first of them with this stamp
+abbrev pub after_events : ℕ → List (List Tag) → Entry → Entry
+after_events stamp [] e = e
+after_events stamp (tags ∷ more) e = after_events (stamp + 1) more (entry_after stamp tags e)
+
+-- where all the events that a still valid entry has missed are kept, it is stored as if it had been there when they came
+abbrev pub ReplaysAsIfItHadBeenThere : Type 0
+ReplaysAsIfItHadBeenThere = (c : Cache) (e : Entry) → e.reach.still ≡ true → (let missed = c.processed - e.reach.known in
+    missed ≤ length c.recent → replayed_entry c e ≡ after_events (e.reach.known + 1) (last_of missed c.recent) e)
+
+-- where one of them is no longer kept, it is stored as closed at the last stamp on which it was known
+abbrev pub TrustsNoLostEvent : Type 0
+TrustsNoLostEvent = (c : Cache) (e : Entry) → e.reach.still ≡ true → length c.recent < c.processed - e.reach.known
+    → replayed_reach c e ≡ closed_at e.reach.known e.reach
+
+-- ---- all steps
+
+-- no two entries have the same key and the same first stamp
+abbrev pub HasOneForEach : List Entry → Type 0
+HasOneForEach es = AllPairs (λ a b. ¬ ((a.key ≡ b.key) × (a.reach.lo ≡ b.reach.lo))) es
+
+-- an insertion leaves at most one entry for a key and a first stamp, and never more than the capacity
+pub record FillsNoMore (c : Cache) (e : Entry) : Type 0 where
+  pub one_for_each : HasOneForEach (after_insert c e).entries
+  pub within : length (after_insert c e).entries ≤ c.capacity
+
+abbrev pub InsertsWithinBounds : Type 0
+InsertsWithinBounds = (c : Cache) (e : Entry) → IsCache c → FillsNoMore c e
+
+-- an empty cache is one, and each step leaves one
+pub record StepsKeepCaches : Type 0 where
+  pub empty : (capacity depth : ℕ) → 0 < capacity → 0 < depth → IsCache (empty_cache capacity depth)
+  pub lookup : (c : Cache) (key : Call) (lo hi : ℕ) → IsCache c → IsCache (after_lookup c key lo hi)
+  pub insert : (c : Cache) (e : Entry) → IsCache c → IsCache (after_insert c e)
+  pub event : (c : Cache) (tags : List Tag) → IsCache c → IsCache (after_event c (c.processed + 1) tags)

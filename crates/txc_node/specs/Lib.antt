@@ -1,0 +1,6 @@
+pub mod Entries
+pub mod Cache
+pub mod Best
+pub mod Hit
+pub mod Laws
+pub mod Examples

@@ -1,0 +1,80 @@
+//! Entries of the cache.
+ghost use Rattle.std.specs.Prelude.{◌≡◌, ◌<◌, ◌≤◌, ◌↔◌, Ok, Err, IsOk, IfOk, vec_len};
+
+use crate::value::{MAX_VALUE_LEN, Value};
+use std::alloc::{AllocError, Global};
+use thiserror::Error;
+use txc_stamp::{Reach, Stamp};
+use txc_tags::{Key, TagSet};
+
+/// Why there is no such entry.
+#[derive(Clone, Copy, Debug, PartialEq, Eq, Error)]
+pub enum EntryError {
+    /// N2: the result is known to hold up to a stamp below its first one.
+    #[error("the last stamp known is below the first")]
+    BadReach,
+    /// N4: the value has more than [`MAX_VALUE_LEN`] bytes.
+    #[error("the value is longer than {MAX_VALUE_LEN} bytes")]
+    ValueTooLong,
+}
+
+/// A result that is cached.
+#[derive(Debug, Drop)]
+pub struct Entry {
+    /// The call whose result it is.
+    pub key: Key,
+    /// The result.
+    pub value: Value,
+    /// The stamps on which it is known to hold, and whether it may hold on.
+    pub reach: Reach,
+    /// What it depends on.
+    pub tags: TagSet,
+}
+
+impl Entry {
+    /// A result that holds from `lo` to `known`, and on from there where it is `still` valid, until an event matches
+    /// one of its tags. A reach that is empty is reported before a value that is too long.
+    pub fn new(
+        key: Key,
+        value: Vec<u8>,
+        lo: Stamp,
+        known: Stamp,
+        still: bool,
+        tags: TagSet,
+    ) -> Result<Entry, EntryError>
+        ensures entry { IfOk result (λ e. e ≡ record {
+          key = key;
+          value = value.items;
+          reach = record { lo = lo; known = known; still = still };
+          tags = tags;
+        }) }
+        ensures succeeds { IsOk result ↔ ((lo ≤ known) × (vec_len value ≤ MAX_VALUE_LEN)) }
+        ensures bad_reach { (result ≡ Err EntryError.BadReach) ↔ (known < lo) }
+        ensures too_long { (result ≡ Err EntryError.ValueTooLong) ↔ ((lo ≤ known) × (MAX_VALUE_LEN < vec_len value)) }
+    {
+        let Some(reach) = Reach::from_stamps(lo, known, still) else {
+            return Err(EntryError::BadReach);
+        };
+        let Some(value) = Value::new(value) else {
+            return Err(EntryError::ValueTooLong);
+        };
+        Ok(Entry {
+            key,
+            value,
+            reach,
+            tags,
+        })
+    }
+
+    /// An equal entry.
+    pub fn copy(&self, alloc: Global) -> Result<Entry, AllocError>
+        ensures { IfOk result (λ e. e ≡ self.now) }
+    {
+        Ok(Entry {
+            key: self.key.copy(),
+            value: self.value.copy(alloc)?,
+            reach: self.reach,
+            tags: self.tags.copy(alloc)?,
+        })
+    }
+}

@@ -1,0 +1,189 @@
+//! The node: its entries, and the tags of the last events.
+ghost use Rattle.std.specs.Prelude.{◌≡◌, ◌+◌, ◌<◌, ◌≤◌, ◌↔◌, map, Ok, Err, IfOk, IfErr, OnOk, OnErr, IsOk, MatchResult, is_some, vec_len};
+ghost use Rattle.std.specs.List.{count_by};
+ghost use Rattle.std.specs.Option.{option_map};
+ghost use Rattle.std.specs.Borrow.{sem};
+ghost use Rattle.std.specs.Io.BufRead.{Rests};
+ghost use Rattle.txc_node.specs.contracts.node.NodeCore.{the_row};
+ghost use Rattle.txc_node.specs.Cache.{empty_cache, found, answer, after_lookup, after_insert, outcome, is_invalidated, entry_after, after_event, closed_count};
+ghost use Rattle.txc_node.specs.Hit.{seen};
+
+use crate::entry::Entry;
+use crate::hit::Hit;
+use crate::invalidation::invalidate;
+use crate::replay::replay_for;
+use crate::room::{keep_last, make_room, move_to_front, put};
+use crate::search::{best_at, hit_at_front, place_of};
+use std::alloc::{AllocError, AllocFailed, Global};
+use std::marker::Model;
+use thiserror::Error;
+use txc_stamp::{Reach, Stamp};
+use txc_tags::{Key, TagSet};
+
+/// The most entries that a node may be made for.
+pub const MAX_CAPACITY: usize = 65_536;
+
+/// The most events whose tags a node may be made to keep.
+pub const MAX_RECENT: usize = 4_096;
+
+/// N1: the stamps asked for end before they begin.
+#[derive(Clone, Copy, Debug, PartialEq, Eq, Error)]
+#[error("the range of stamps is empty")]
+pub struct EmptyRange;
+
+/// N3: the event is not the one behind the processed stamp.
+#[derive(Clone, Copy, Debug, PartialEq, Eq, Error)]
+#[error("the event is out of order")]
+pub struct OutOfOrder {
+    /// The stamp of the last event that was taken.
+    pub processed: Stamp,
+}
+
+/// What an insertion did.
+#[derive(Debug, Drop)]
+pub enum Inserted {
+    /// The entry stands at the front.
+    Stored {
+        /// Its reach after the replay, known up to the last stamp of its span.
+        reach: Reach,
+        /// The entry that was dropped to make room for it.
+        evicted: Option<Entry>,
+    },
+    /// An entry with its key and first stamp is there that ends no earlier, and stays. The new one comes back.
+    Kept(Entry),
+}
+
+/// The versioned cache of one node.
+#[derive(Debug, Drop)]
+pub struct NodeCore {
+    entries: Vec<Entry>,
+    processed: Stamp,
+    recent: Vec<TagSet>,
+    capacity: usize,
+    depth: usize,
+}
+
+impl Model for NodeCore {
+    ghost use Rattle.std.specs.Prelude.{vec_capacity};
+    ghost use Rattle.txc_node.specs.Cache.{Cache, IsHeld};
+
+    ghost Value = { Cache };
+
+    ghost view = { λ n. record { entries = n.entries.items; processed = n.processed; recent = n.recent.items; capacity = n.capacity; depth = n.depth } };
+
+    ghost invariant = { λ n. IsHeld (record { entries = n.entries.items; processed = n.processed; recent = n.recent.items; capacity = n.capacity; depth = n.depth }) (vec_capacity n.recent) };
+}
+
+// Closes the entries that an event invalidates just below it, and counts them.
+fn invalidate_all(entries: &mut Vec<Entry>, stamp: Stamp, tags: &TagSet) -> usize
+    ensures entries { entries.new.items ≡ map (entry_after stamp tags.now) entries.old.items }
+    ensures len { vec_len entries.new ≡ vec_len entries.old }
+    ensures count { result ≡ count_by (is_invalidated stamp tags.now) entries.old.items }
+{
+    invalidate(entries, stamp, tags)
+}
+
+impl NodeCore {
+    /// An empty node for at most `capacity` entries, that keeps the tags of the last `recent` events. The room of these
+    /// tags is taken now, so that no event needs memory.
+    pub fn new(alloc: Global, capacity: usize, recent: usize) -> Result<NodeCore, AllocError>
+        requires capacity { (1 ≤ capacity) × (capacity ≤ MAX_CAPACITY) }
+        requires recent { (1 ≤ recent) × (recent ≤ MAX_RECENT) }
+        ensures { IfOk result (λ n. n ≡ empty_cache capacity recent) }
+    {
+        let tags = Vec::with_capacity(alloc, recent)?;
+        Ok(NodeCore {
+            entries: Vec::new(alloc),
+            processed: Stamp::ZERO,
+            recent: tags,
+            capacity,
+            depth: recent,
+        })
+    }
+
+    // Looks an entry up and moves it to the front, and says whether there is one.
+    fn touch(&mut self, key: &Key, lo: Stamp, hi: Stamp) -> Result<bool, EmptyRange>
+        ensures in_order { OnOk result (lo ≤ hi) }
+        ensures empty { OnErr result (hi < lo) }
+        ensures err { OnErr result (self.new ≡ self.old) }
+        ensures after { OnOk result (self.new ≡ after_lookup self.old key.now lo hi) }
+        ensures answer { IfOk result (λ b. b ≡ is_some (found self.old key.now lo hi)) }
+    {
+        if hi < lo {
+            return Err(EmptyRange);
+        }
+        match best_at(&self.entries, self.processed, key, lo, hi) {
+            None => Ok(false),
+            Some(at) => {
+                move_to_front(&mut self.entries, at);
+                Ok(true)
+            }
+        }
+    }
+
+    /// Looks up the call of `key` at the stamps from `lo` to `hi`, both included. Of the entries of the key whose span
+    /// meets them it lends the one whose span ends latest, and of those the one that begins latest; that one becomes
+    /// the most recently used. None is a miss, which changes nothing. It takes no memory.
+    pub fn lookup(&mut self, key: &Key, lo: Stamp, hi: Stamp) -> Result<Option<Hit<'_>>, EmptyRange>
+        ensures in_order { OnOk result (lo ≤ hi) }
+        ensures empty { OnErr result (hi < lo) }
+        ensures answer { IfOk result (λ r. option_map seen r ≡ answer self.old key.now lo hi) }
+        // after an Ok the node is that after the lookup, and after an Err as it was
+        ensures* after { sem 𝓛 (Rests the_row self.entry (λ new. MatchResult result (λ _. new ≡ after_lookup self.old key.now lo hi) (λ _. new ≡ self.old))) }
+    {
+        let is_hit = self.touch(key, lo, hi)?;
+        let processed = self.processed;
+        Ok(hit_at_front(&self.entries, processed, is_hit))
+    }
+
+    /// Takes the next event: closes, just below it, the still valid entries that were known below it and whose tags it
+    /// matches, and counts them. No entry moves. It takes no memory.
+    pub fn event(&mut self, stamp: Stamp, tags: TagSet) -> Result<usize, OutOfOrder>
+        ensures next { IsOk result ↔ (stamp ≡ self.old.processed + 1) }
+        ensures out_of_order { IfErr result (λ e. e.processed ≡ self.old.processed) }
+        ensures err { OnErr result (self.new ≡ self.old) }
+        ensures after { OnOk result (self.new ≡ after_event self.old stamp tags) }
+        ensures count { IfOk result (λ n. n ≡ closed_count self.old stamp tags) }
+    {
+        if stamp.number() != self.processed.number() + 1 {
+            return Err(OutOfOrder {
+                processed: self.processed,
+            });
+        }
+        let count = invalidate_all(&mut self.entries, stamp, &tags);
+        self.processed = stamp;
+        keep_last(&mut self.recent, self.depth, tags);
+        Ok(count)
+    }
+
+    /// Inserts an entry, after the replay of the events that came behind the last stamp on which it is known. It goes
+    /// to the front. A full node drops its last entry for it; an entry with the same key and first stamp is replaced
+    /// where it ends earlier, and else stays in its place. Only want of memory refuses, and gives the entry back.
+    pub fn insert(&mut self, entry: Entry) -> Result<Inserted, AllocFailed<Entry>>
+        ensures after { OnOk result (self.new ≡ after_insert self.old entry) }
+        ensures outcome { IfOk result (λ r. r ≡ outcome self.old entry) }
+        ensures handed_back { IfErr result (λ e. e.value ≡ entry) }
+        ensures err { OnErr result (self.new ≡ self.old) }
+    {
+        let reach = replay_for(&entry, self.processed, &self.recent);
+        match place_of(&self.entries, &entry) {
+            Some(at) => {
+                let old = self.entries[at].reach;
+                if reach.end(self.processed) <= old.end(self.processed) {
+                    return Ok(Inserted::Kept(entry));
+                }
+                let evicted = put(&mut self.entries, self.capacity, Some(at), entry, reach);
+                let reach = reach.shown(self.processed);
+                Ok(Inserted::Stored { reach, evicted })
+            }
+            None => {
+                if !make_room(&mut self.entries, self.capacity) {
+                    return Err(AllocFailed { value: entry });
+                }
+                let evicted = put(&mut self.entries, self.capacity, None, entry, reach);
+                let reach = reach.shown(self.processed);
+                Ok(Inserted::Stored { reach, evicted })
+            }
+        }
+    }
+}

@@ -1,0 +1,45 @@
+//! The replay of recent events at an insertion.
+ghost use Rattle.std.specs.Prelude.{◌≡◌};
+ghost use Rattle.std.specs.List.{position};
+ghost use Rattle.txc_tags.specs.Tags.{sets_match};
+ghost use Rattle.txc_node.specs.Cache.{reach_after_replay};
+
+use crate::entry::Entry;
+use txc_stamp::{Reach, Stamp};
+use txc_tags::TagSet;
+
+// The first of these events that matches.
+fn first_match(events: &[TagSet], tags: &TagSet) -> Option<usize>
+    ensures { result ≡ position (λ t. sets_match t tags.now) events.now }
+{
+    events.iter().position(|t| t.matches(tags))
+}
+
+// The reach after the events behind `known`, up to `processed`, of which the last ones are kept.
+fn replay(reach: Reach, tags: &TagSet, processed: Stamp, recent: &[TagSet]) -> Reach
+    ensures value { result ≡ reach_after_replay reach tags.now processed recent.now }
+    ensures lo { result.lo ≡ reach.lo }
+{
+    if !reach.is_still() {
+        return reach;
+    }
+    let missed = processed.number().saturating_sub(reach.known().number()) as usize;
+    if recent.len() < missed {
+        return reach.closed();
+    }
+    match first_match(&recent[recent.len() - missed..], tags) {
+        None => reach,
+        Some(k) => {
+            let known = reach.known().number() + k as u32;
+            reach.with_known(known).closed()
+        }
+    }
+}
+
+/// The reach of an entry after the events that it missed.
+pub(crate) fn replay_for(e: &Entry, processed: Stamp, recent: &[TagSet]) -> Reach
+    ensures value { result ≡ reach_after_replay e.now.reach e.now.tags processed recent.now }
+    ensures lo { result.lo ≡ e.now.reach.lo }
+{
+    replay(e.reach, &e.tags, processed, recent)
+}
