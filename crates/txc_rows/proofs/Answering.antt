@@ -1,0 +1,128 @@
+-- What the query shows, and what a refusal leaves.
+use Rattle.std.proofs.Common.{◌≡◌, ◌⊎◌, inl, inr, ℕ, ◌+◌, ◌<◌, List, [], ◌∷◌, map, filter, length, get_or, cond, Bool, true, false, Err, Result, refl, sym, ap, subst, ◌∙◌, arith}
+use Rattle.std.proofs.lemmas.List.{length-map}
+use Rattle.std.proofs.Math.ListN.{get_or-map}
+use Rattle.std.specs.Ordering.{is_lt, ordering_then, nat_cmp}
+use Rattle.std.specs.List.{AllByRecursion}
+use Rattle.std.specs.List.Sorted.{IsPermutation, IsSorted}
+use Rattle.sqlite.specs.Order.{Row}
+use Rattle.sqlite.specs.Command.TheVariants.{Select}
+use Rattle.sqlite.specs.Query.{Output, output, output_cmp}
+use Rattle.sqlite.specs.declared.error.Error.{Error}
+use Rattle.sqlite.specs.Listing.{understood}
+use Rattle.sqlite.specs.State.{State, Shown, ShowsRows, IsUnchanged, IsRolledBack, IsNotRun, FailsToQuery, FailsToShow, Executes, ExecutesIn, RunsCommand, shows_rows}
+use Rattle.sqlite.specs.declared.error.Error.TheVariants.{ExecuteReturnedResults}
+use Rattle.std.specs.Prelude.{MatchBool}
+use Rattle.sqlite.specs.Clock.{timed}
+use Rattle.sqlite.proofs.Callers.{IsPlain, reads_as}
+use Rattle.sqlite_value.proofs.OrderLemmas.{then-Equal}
+use Rattle.sqlite_trees.proofs.ListLemmas.{map-map, filter-map, pull_back, all-permutation}
+use Rattle.txc_rows.specs.declared.version.Versioned.{Versioned}
+use Rattle.txc_rows.specs.Versions.{version_cmp}
+use Rattle.txc_rows.specs.Found.{is_in}
+use Rattle.txc_rows.specs.Holdable.{IsHoldable}
+use Rattle.txc_rows.specs.Kept.{IsShown, IsListing}
+use borrow.Author.Tests.{eqb-true}
+use Rattle.txc_rows.specs.Texts.{version_schema}
+use Rattle.txc_rows.specs.Stored.{stored, number, version_in, versions_in, shown, version_shown, IsStored, AreStored}
+use Rattle.txc_rows.proofs.Commands.{alone, select_text, select_filter, select_query, select_names, select_is, select_plain}
+use Rattle.txc_rows.proofs.StoredRows.{number_cmp, select_test, select_stored, shown_again, answered, IsPage}
+
+-- what the query sorts by, and what it shows
+abbrev out : Versioned → Output
+out v = (number v.row.id ∷ number v.born ∷ [], shown v)
+
+outputs : (t : ℕ) (rows : List Row) → AllByRecursion IsStored rows → (p : Row → Bool) → map (λ r. output select_query ((number t ∷ []) ∷ r ∷ [])) (filter p rows) ≡ map out (map version_in (filter p rows))
+outputs t [] all p = refl
+outputs t (r ∷ rows) all p =
+    let here : output select_query ((number t ∷ []) ∷ r ∷ []) ≡ out (version_in r) = ap (λ x. output select_query ((number t ∷ []) ∷ x ∷ [])) all.0 in
+    elim (p r) as (λ b. map (λ x. output select_query ((number t ∷ []) ∷ x ∷ [])) (cond b (r ∷ filter p rows) (filter p rows)) ≡ map out (map version_in (cond b (r ∷ filter p rows) (filter p rows))))
+    [ true ↦ rw (here, outputs t rows all.1 p) refl | false ↦ outputs t rows all.1 p ]
+
+sorted_as : (v w : Versioned) → output_cmp select_query (out v) (out w) ≡ version_cmp v w
+sorted_as v w = rw (number_cmp v.row.id w.row.id, number_cmp v.born w.born) (ap (ordering_then (nat_cmp v.row.id w.row.id)) (then-Equal (nat_cmp v.born w.born)))
+
+sorted_back : (vs : List Versioned) → IsSorted (output_cmp select_query) (map out vs) → IsSorted version_cmp vs
+sorted_back vs up k d low high =
+    let fits : k + 1 < length (map out vs) = omega (arith, length-map vs out) in
+    let at = up k (out d) low fits in
+    ap is_lt (sym (sorted_as (get_or vs (k + 1) d) (get_or vs k d))) ∙ rw (get_or-map out vs (k + 1) d, get_or-map out vs k d) at at
+
+-- the rows show the versions of the table, by id and birth
+pub record Lists (t : ℕ) (versions : List Versioned) (rows : List Row) : Type 0 where
+  pub found : List Versioned
+  pub same : IsPermutation (filter (is_in t) versions) found
+  pub sorted : IsSorted version_cmp found
+  pub rows_are : rows ≡ map shown found
+
+pub lists_page : (t : ℕ) (table rows : List Row) → AreStored table → IsPage select_filter select_query.project select_query.order (number t ∷ []) table rows → Lists t (versions_in table) rows
+lists_page t table rows stored page =
+    let passed = select_stored _ (is_in t) (select_test t) table stored.each in
+    let moved : IsPermutation (map out (filter (is_in t) (versions_in table))) page.ordered =
+    subst (λ xs. IsPermutation xs page.ordered) (outputs t table stored.each _ ∙ ap (map out) (sym (filter-map (is_in t) version_in table)))
+    (subst (λ xs. IsPermutation (map (λ r. output select_query ((number t ∷ []) ∷ r ∷ [])) xs) page.ordered) passed page.same) in
+    let back = pull_back out _ page.ordered moved (filter (is_in t) (versions_in table)) refl in
+    let sorted : IsSorted version_cmp back.0 = sorted_back back.0 (subst (IsSorted (output_cmp select_query)) back.2 page.sorted) in
+    record { found = back.0; same = back.1; sorted = sorted; rows_are = page.rows ∙ ap (map (λ (o : Output). o.1)) back.2 ∙ map-map (λ (o : Output). o.1) out back.0 }
+
+pub selects : (old new : State) (t : ℕ) (rows : List Row) → old.now.schema ≡ version_schema → AreStored (old.now.trees 0) → Shown select_text (number t ∷ []) old new rows
+    → Lists t (versions_in (old.now.trees 0)) rows
+selects old new t rows has stored h =
+    let read = reads_as select_text (number t ∷ []) old new version_schema has (Select (alone select_query) select_names) select_is.0 select_plain select_is.1 rows h in
+    lists_page t (old.now.trees 0) rows stored (answered select_filter select_query.project select_query.order old.now (number t ∷ []) rows read)
+
+-- a plain query changes nothing
+pub shown_same : (sql : List ℕ) (params : Row) (old new : State) (rows : List Row) → IsPlain (understood old.now.schema sql) → Shown sql params old new rows → IsUnchanged old new
+unfolding Shown
+shown_same sql params old new rows plain h =
+    let none = (subst IsPlain h.1.is plain).0 in
+    (subst (ShowsRows old new sql h.0 (timed params h.0.formats h.1.now) rows) none h.2).3
+
+-- a refusal leaves all as it was, or goes back to the last commit
+abbrev pub Refused : State → State → Type 0
+Refused old new = IsUnchanged old new ⊎ IsRolledBack old new
+
+not_run : (old new : State) (sql : List ℕ) (params : Row) (e : Error) → IsNotRun old new sql params e → Refused old new
+unfolding IsNotRun
+not_run old new sql params e (inl h) = inl h.1
+not_run old new sql params e (inr h) = inr h.3
+
+pub query_refused : (sql : List ℕ) (params : Row) (old new : State) (e : Error) → IsPlain (understood old.now.schema sql) → FailsToQuery sql params old new e → Refused old new
+unfolding FailsToQuery
+query_refused sql params old new e plain (inl h) = not_run old new sql params e h
+query_refused sql params old new e plain (inr h) =
+    let none = (subst IsPlain h.1.is plain).0 in
+    inl (subst (FailsToShow old new sql h.0 (timed params h.0.formats h.1.now) e) none h.2).3
+
+pub execute_refused : (sql : List ℕ) (params : Row) (old new : State) (e : Error) → Executes sql params old new (Err e) → Refused old new
+unfolding ExecutesIn
+execute_refused sql params old new e (inl h) = not_run old new sql params e h
+execute_refused sql params old new e (inr h) = ran (shows_rows false h.0) h.2
+  where
+    ran : (b : Bool) → MatchBool b ((◌≡◌ {A = Result ℕ Error} (Err e) (Err ExecuteReturnedResults)) × IsUnchanged old new) (RunsCommand old new sql h.0 (timed params h.0.formats h.1.now) (Err e)) → Refused old new
+    ran true it = inl it.1
+    ran false (inl it) = inl it.1
+    ran false (inr it) = inr it.3
+
+-- what is shown is read back
+read_back : (t : ℕ) (vs : List Versioned) → AllByRecursion (λ v. (v.row.table ≡ t) × IsHoldable v) vs → (map (version_shown t) (map shown vs) ≡ vs) × AllByRecursion (IsShown t) (map shown vs)
+read_back t [] all = (refl, tt)
+read_back t (v ∷ vs) all =
+    let one : version_shown t (shown v) ≡ v = subst (λ x. version_shown x (shown v) ≡ v) all.0.0 (shown_again v) in
+    let more = read_back t vs all.1 in
+    (rw (one, more.0) refl, (record { is = ap shown (sym one); version = subst IsHoldable (sym one) all.0.1 }, more.1))
+
+of_table : (t : ℕ) (vs : List Versioned) → AllByRecursion IsHoldable vs → AllByRecursion (λ v. (v.row.table ≡ t) × IsHoldable v) (filter (is_in t) vs)
+of_table t [] all = tt
+of_table t (v ∷ vs) all = go (is_in t v) refl (of_table t vs all.1)
+  where
+    go : (b : Bool) → is_in t v ≡ b → AllByRecursion (λ w. (w.row.table ≡ t) × IsHoldable w) (filter (is_in t) vs) → AllByRecursion (λ w. (w.row.table ≡ t) × IsHoldable w) (cond b (v ∷ filter (is_in t) vs) (filter (is_in t) vs))
+    go true e more = ((eqb-true _ _ e, all.0), more)
+    go false e more = more
+
+pub listing : (t : ℕ) (versions : List Versioned) (rows : List Row) → AllByRecursion IsHoldable versions → Lists t versions rows → IsListing t versions rows
+listing t versions rows each h =
+    let all = all-permutation _ (filter (is_in t) versions) h.found h.same (of_table t versions each) in
+    let back = read_back t h.found all in
+    let found : map (version_shown t) rows ≡ h.found = ap (map (version_shown t)) h.rows_are ∙ back.0 in
+    record { each = subst (AllByRecursion (IsShown t)) (sym h.rows_are) back.1; same = rw found h.same; sorted = rw found h.sorted }

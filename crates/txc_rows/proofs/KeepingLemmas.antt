@@ -1,0 +1,126 @@
+-- The versions of a store go on saying the kept states, and what is found of them shows the answers.
+use Rattle.std.proofs.Common.{◌≡◌, ◌⊎◌, inl, inr, ℕ, zero, suc, ◌+◌, ◌-◌, ◌≤◌, nat_le, true, false, not, List, [], ◌∷◌, sym, subst, ◌∙◌, add-zero, arith}
+use Rattle.std.proofs.lemmas.Bool.Decides.{nat_tests}
+use Rattle.std.specs.List.Sorted.{IsPermutation}
+use Rattle.std.proofs.lemmas.List.Sorted.{IsPermutation-sym}
+use Rattle.sqlite_trees.proofs.ListLemmas.{along_permutation}
+use Rattle.txc_rows.specs.declared.version.Versioned.{Versioned}
+use Rattle.txc_rows.specs.declared.query.Query.{Query}
+use Rattle.txc_rows.specs.declared.query.Change.{Change}
+use Rattle.txc_rows.specs.Members.{IsIn}
+use Rattle.txc_rows.specs.States.{State, IsState}
+use Rattle.txc_rows.specs.Net.{IsNet}
+use Rattle.txc_rows.specs.Versions.{suits, after_net, purged, has_died_by}
+use Rattle.txc_rows.specs.Found.{Finds}
+use Rattle.txc_rows.specs.Holdable.{AreHeld}
+use Rattle.txc_rows.specs.Keeping.{KeepsStates, KeepsWritten, KeepsPurged, AnswersStates}
+use Rattle.txc_rows.proofs.Members.{bool_cases, in_filter, from_filter}
+use Rattle.txc_rows.proofs.Rising.{changes_state}
+use Rattle.txc_rows.proofs.SaysLemmas.{says_answer, says_nothing, says_written, says_quiet, says_purged}
+use Rattle.txc_rows.proofs.Writable.{net_is_writable}
+use Rattle.txc_rows.proofs.VersionLemmas.{written_versions, kept_versions}
+use Rattle.txc_rows.proofs.Finding.{finds_versions, shown_rises}
+
+-- ---- no versions
+
+pub keeps_nothing : (states : ℕ → State) → states 0 ≡ [] → KeepsStates states 0 0 []
+keeps_nothing states empty = record {
+  kept = omega arith;
+  each = λ t low high. let now : t ≡ 0 = omega arith in rw (now, empty) tt;
+  says = says_nothing states empty;
+  versions = record { each = tt; apart = tt };
+}
+
+-- ---- stamps at which no state changes
+
+-- the last stamp, or one before it
+last_or : (t n : ℕ) → t ≤ suc n → (t ≡ suc n) ⊎ (t ≤ n)
+last_or t n h = elim (bool_cases (nat_le t n)) [ inl low ↦ inr (le_of t n low) | inr high ↦ inl (last t n h high) ]
+  where
+    le_of : (a b : ℕ) → nat_le a b ≡ true → a ≤ b
+    le_of a b e = grind (arith, nat_tests)
+
+    last : (a b : ℕ) → a ≤ suc b → nat_le a b ≡ false → a ≡ suc b
+    last a b e f = grind (arith, nat_tests)
+
+one_more_state : (states : ℕ → State) (horizon newest : ℕ) (vs : List Versioned) → KeepsStates states horizon newest vs → IsState (states (suc newest)) → (t : ℕ) → horizon ≤ t → t ≤ suc newest → IsState (states t)
+one_more_state states horizon newest vs keeps next t low high = elim (last_or t newest high) [
+  | inl now ↦ rw now next
+  | inr then ↦ keeps.each t low then
+]
+
+pub keeps_quiet : (states : ℕ → State) (horizon newest : ℕ) (vs : List Versioned) → states (suc newest) ≡ states newest → KeepsStates states horizon newest vs → KeepsStates states horizon (suc newest) vs
+keeps_quiet states horizon newest vs same keeps = record {
+  kept = let k = keeps.kept in omega arith;
+  each = one_more_state states horizon newest vs keeps (rw same (keeps.each newest keeps.kept (omega arith)));
+  says = says_quiet states horizon newest vs keeps.kept same keeps.says;
+  versions = keeps.versions;
+}
+
+keeps_long : (states : ℕ → State) (horizon newest : ℕ) (vs : List Versioned) (k : ℕ) → ((t : ℕ) → newest ≤ t → t ≤ newest + k → states t ≡ states newest) → KeepsStates states horizon newest vs → KeepsStates states horizon (newest + k) vs
+keeps_long states horizon newest vs zero stays keeps = rw add-zero keeps
+keeps_long states horizon newest vs (suc k) stays keeps =
+    let before = keeps_long states horizon newest vs k (λ t low high. stays t low (omega arith)) keeps in
+    let same : states (suc (newest + k)) ≡ states (newest + k) = stays (suc (newest + k)) (omega arith) (omega arith) ∙ sym (stays (newest + k) (omega arith) (omega arith)) in
+    let next : suc (newest + k) ≡ newest + suc k = omega arith in
+    subst (λ n. KeepsStates states horizon n vs) next (keeps_quiet states horizon (newest + k) vs same before)
+
+-- up to a later stamp
+pub keeps_to : (states : ℕ → State) (horizon newest last : ℕ) (vs : List Versioned) → newest ≤ last → ((t : ℕ) → newest ≤ t → t ≤ last → states t ≡ states newest) → KeepsStates states horizon newest vs → KeepsStates states horizon last vs
+keeps_to states horizon newest last vs later stays keeps =
+    let apart : newest + (last - newest) ≡ last = omega arith in
+    subst (λ n. KeepsStates states horizon n vs) apart (keeps_long states horizon newest vs (last - newest) (λ t low high. stays t low (omega arith)) keeps)
+
+-- ---- a write
+
+keeps_next : (states : ℕ → State) (horizon newest : ℕ) (net : List Change) (vs : List Versioned) → IsNet (states newest) net (states (suc newest)) → AreHeld (after_net (suc newest) net vs)
+    → KeepsStates states horizon newest vs → KeepsStates states horizon (suc newest) (after_net (suc newest) net vs)
+keeps_next states horizon newest net vs is held keeps = record {
+  kept = let k = keeps.kept in omega arith;
+  each = one_more_state states horizon newest vs keeps (subst IsState is.leads (changes_state net (states newest) (keeps.each newest keeps.kept (omega arith))));
+  says = says_written states horizon newest net vs keeps.kept (sym is.leads) keeps.says;
+  versions = written_versions (suc newest) net vs keeps.versions (net_is_writable states horizon newest net vs (states (suc newest)) keeps.kept keeps.says is) held.each;
+}
+
+pub keeps_written : (net : List Change) (stamp : ℕ) (vs : List Versioned) → AreHeld (after_net stamp net vs) → KeepsWritten net stamp vs (after_net stamp net vs)
+keeps_written net zero vs held states horizon newest keeps leads = absurd (let late = leads.later in omega arith)
+keeps_written net (suc last) vs held states horizon newest keeps leads =
+    let late = leads.later in
+    let before = keeps_to states horizon newest last vs (omega arith) (λ t low high. leads.quiet t low (omega arith)) keeps in
+    let same : states last ≡ states newest = leads.quiet last (omega arith) (omega arith) in
+    keeps_next states horizon last net vs (subst (λ s. IsNet s net (states (suc last))) (sym same) leads.changes) held before
+
+-- ---- a purge
+
+pub keeps_purged : (next : ℕ) (vs : List Versioned) → KeepsPurged next vs (purged next vs)
+keeps_purged next vs states horizon newest keeps later known = record {
+  kept = known;
+  each = λ t low high. keeps.each t (omega arith) high;
+  says = says_purged states horizon newest next vs later keeps.says;
+  versions = kept_versions (λ v. not (has_died_by next v)) vs keeps.versions;
+}
+
+-- ---- what is found
+
+in_permutation : {X : Type 0} (x : X) (xs ys : List X) → IsPermutation xs ys → IsIn x xs → IsIn x ys
+in_permutation {X} x = along_permutation (λ ps qs. IsIn x ps → IsIn x qs) (λ ps h. h) skip turn (λ ps qs rs p q h. q (p h))
+  where
+    skip : (y : X) (ps qs : List X) → (IsIn x ps → IsIn x qs) → IsIn x (y ∷ ps) → IsIn x (y ∷ qs)
+    skip y ps qs on (inl e) = inl e
+    skip y ps qs on (inr h) = inr (on h)
+
+    turn : (y z : X) (ps : List X) → IsIn x (y ∷ z ∷ ps) → IsIn x (z ∷ y ∷ ps)
+    turn y z ps (inl e) = inr (inl e)
+    turn y z ps (inr (inl e)) = inl e
+    turn y z ps (inr (inr h)) = inr (inr h)
+
+pub found_answers : (q : Query) (vs found : List Versioned) → Finds q vs found → AnswersStates q vs found
+found_answers q vs found finds states horizon newest keeps =
+    let versions = finds_versions q vs found keeps.versions finds in
+    record {
+      answers = λ t low high. says_answer q t vs found (states t) (keeps.each t low high) (keeps.says.kept t low high)
+          (λ v there. (from_filter (suits q) v vs (in_permutation v found _ (IsPermutation-sym _ _ finds.same) there)).0)
+          (λ v there fits. in_permutation v _ found finds.same (in_filter (suits q) v vs there fits))
+          (shown_rises t q found versions.apart finds.sorted);
+      versions = versions;
+    }

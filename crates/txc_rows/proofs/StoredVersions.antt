@@ -1,0 +1,73 @@
+-- What a store can hold it can hold after each change.
+use Rattle.std.proofs.Common.{◌≡◌, ◌≢◌, ℕ, ◌≤◌, List, [], ◌∷◌, filter, Bool, true, false, cond, ◌&&◌, ◌==◌, Option, None, Some, is_none, refl, arith}
+use borrow.Author.Tests.{eqb-true, eq-eqb}
+use Rattle.std.specs.List.{AllByRecursion}
+use Rattle.txc_rows.specs.declared.version.Versioned.{Versioned}
+use Rattle.txc_rows.specs.declared.query.Change.{Change}
+use Rattle.txc_rows.specs.declared.query.Change.TheVariants.{Put, Remove}
+use Rattle.txc_rows.specs.Values.{RowValue, IsRow}
+use Rattle.txc_rows.specs.States.{is_at}
+use Rattle.txc_rows.specs.Versions.{is_current, closed, removed, put, after_write, greatest_stamp}
+use Rattle.txc_rows.specs.Holdable.{IsHoldable, HasEnded, AreHeld, IsWritable}
+use Rattle.txc_rows.proofs.Members.{both_true}
+use Rattle.txc_rows.proofs.Pairs.{all_mapped, pairs_mapped, all_pushed, pairs_pushed, all_left, pairs_left}
+
+none_is : (d : Option ℕ) → is_none d ≡ true → d ≡ None
+none_is None e = refl
+none_is (Some d) e = absurd (let f = e in cc)
+
+-- the current version of a table and id, as the test has it
+pub hit_is : (t i : ℕ) (v : Versioned) → is_at t i v.row && is_current v ≡ true → (v.row.table ≡ t) × (v.row.id ≡ i) × (v.died ≡ None)
+hit_is t i v e =
+    let two = both_true (is_at t i v.row) (is_current v) e in
+    let here = both_true (v.row.table == t) (v.row.id == i) two.0 in
+    (eqb-true _ _ here.0, eqb-true _ _ here.1, none_is v.died two.1)
+
+pub hit_from : (t i : ℕ) (v : Versioned) → v.row.table ≡ t → v.row.id ≡ i → v.died ≡ None → is_at t i v.row && is_current v ≡ true
+hit_from t i v a b c = rw (eq-eqb _ _ a, eq-eqb _ _ b, c) refl
+
+holdable_closed : (t i s : ℕ) → s ≤ greatest_stamp → (v : Versioned) → IsHoldable v → IsHoldable (closed t i s v)
+holdable_closed t i s low v is = record { row = is.row; born = is.born; died = λ d e. go (is_at t i v.row && is_current v) d e }
+  where
+    go : (b : Bool) → (d : ℕ) → cond b (Some s) v.died ≡ Some d → d ≤ greatest_stamp
+    go true d e = let same : s ≡ d = cc in omega arith
+    go false d e = is.died d e
+
+-- what had died has still
+closed_dead : (t i s : ℕ) (v : Versioned) → v.died ≢ None → (closed t i s v).died ≢ None
+closed_dead t i s v dead = go (is_at t i v.row && is_current v)
+  where
+    go : (b : Bool) → cond b (Some s) v.died ≡ None → ⊥
+    go true e = cc
+    go false e = dead e
+
+held_removed : (t i s : ℕ) → s ≤ greatest_stamp → (vs : List Versioned) → AreHeld vs → AreHeld (removed t i s vs)
+held_removed t i s low vs h = record {
+  each = all_mapped IsHoldable (closed t i s) (holdable_closed t i s low) vs h.each;
+  ended = pairs_mapped HasEnded (closed t i s) (λ v w dead a b. closed_dead t i s v (dead a b)) vs h.ended;
+}
+
+-- a change of a table and id leaves no current version of them
+none_current : (s : ℕ) (row : RowValue) (vs : List Versioned) → AllByRecursion (λ v. HasEnded v (record { row = row; born = s; died = None })) (removed row.table row.id s vs)
+none_current s row [] = tt
+none_current s row (v ∷ vs) = (λ a b. go (is_at row.table row.id v.row && is_current v) refl a b, none_current s row vs)
+  where
+    go : (c : Bool) → is_at row.table row.id v.row && is_current v ≡ c → v.row.table ≡ row.table → v.row.id ≡ row.id → cond c (Some s) v.died ≡ None → ⊥
+    go true hit a b e = cc
+    go false off a b e = let hit = hit_from row.table row.id v a b e in cc
+
+held_put : (s : ℕ) → s ≤ greatest_stamp → (row : RowValue) → IsRow row → (vs : List Versioned) → AreHeld vs → AreHeld (put row s vs)
+held_put s low row is vs h =
+    let new : Versioned = record { row = row; born = s; died = None } in
+    let before = held_removed row.table row.id s low vs h in
+    record {
+      each = all_pushed IsHoldable new (record { row = is; born = low; died = λ d e. absurd (let f = e in cc) }) (removed row.table row.id s vs) before.each;
+      ended = pairs_pushed HasEnded new (removed row.table row.id s vs) (none_current s row vs) before.ended;
+    }
+
+pub held_write : (s : ℕ) (c : Change) (vs : List Versioned) → IsWritable s c → AreHeld vs → AreHeld (after_write s c vs)
+held_write s (Put row) vs can h = held_put s can.0 row can.1 vs h
+held_write s (Remove table id) vs can h = held_removed table id s can vs h
+
+pub held_kept : (p : Versioned → Bool) (vs : List Versioned) → AreHeld vs → AreHeld (filter p vs)
+held_kept p vs h = record { each = all_left IsHoldable p vs h.each; ended = pairs_left HasEnded p vs h.ended }

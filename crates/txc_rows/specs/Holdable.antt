@@ -1,0 +1,28 @@
+-- The versions that a store can hold.
+use Rattle.std.specs.Prelude.{◌≡◌, ◌≢◌, ◌≤◌, ℕ, List, Some, None}
+use Rattle.std.specs.List.{AllByRecursion}
+use Rattle.txc_rows.specs.declared.version.Versioned.{Versioned}
+use Rattle.txc_rows.specs.declared.query.Change.{Change}
+use Rattle.txc_rows.specs.declared.query.Change.TheVariants.{Put, Remove}
+use Rattle.txc_rows.specs.Values.{IsRow}
+use Rattle.txc_rows.specs.Versions.{Pairwise, greatest_stamp}
+
+-- a row, and stamps that can be
+pub record IsHoldable (v : Versioned) : Type 0 where
+  pub row : IsRow v.row
+  pub born : v.born ≤ greatest_stamp
+  pub died : (d : ℕ) → v.died ≡ Some d → d ≤ greatest_stamp
+
+-- of two versions of a table and id the one before has died
+abbrev pub HasEnded : Versioned → Versioned → Type 0
+HasEnded v w = v.row.table ≡ w.row.table → v.row.id ≡ w.row.id → v.died ≢ None
+
+-- so no table and id has two versions that have not died
+pub record AreHeld (vs : List Versioned) : Type 0 where
+  pub each : AllByRecursion IsHoldable vs
+  pub ended : Pairwise HasEnded vs
+
+-- the change writes what can be held
+abbrev pub IsWritable : ℕ → Change → Type 0
+IsWritable stamp (Put row) = (stamp ≤ greatest_stamp) × IsRow row
+IsWritable stamp (Remove table id) = stamp ≤ greatest_stamp

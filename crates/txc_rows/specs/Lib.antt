@@ -1,0 +1,16 @@
+pub mod Members
+pub mod Values
+pub mod States
+pub mod RowTags
+pub mod Net
+pub mod Versions
+pub mod Says
+pub mod Laws
+pub mod Found
+pub mod StoreErrors
+pub mod Holdable
+pub mod Texts
+pub mod Stored
+pub mod Kept
+pub mod Keeping
+pub mod Uses

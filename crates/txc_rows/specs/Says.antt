@@ -1,0 +1,26 @@
+-- How versions say states.
+use Rattle.std.specs.Prelude.{ℕ, ◌≡◌, ◌≤◌, ◌<◌, List, [], ◌∷◌, Some}
+use Rattle.std.specs.List.{AllByRecursion}
+use Rattle.txc_rows.specs.Members.{IsIn}
+use Rattle.txc_rows.specs.States.{RowValue, State}
+use Rattle.txc_rows.specs.declared.version.Versioned.{Versioned}
+use Rattle.txc_rows.specs.Versions.{visible_rows}
+
+-- the versions that are visible at the stamp have the rows of the state, and no others
+pub record Says (t : ℕ) (vs : List Versioned) (s : State) : Type 0 where
+  pub each : (r : RowValue) → IsIn r s → IsIn r (visible_rows t vs)
+  pub only : (r : RowValue) → IsIn r (visible_rows t vs) → IsIn r s
+
+-- nothing has happened after the stamp
+abbrev pub AreUpTo : ℕ → List Versioned → Type 0
+AreUpTo t = AllByRecursion (λ v. (v.born ≤ t) × ((d : ℕ) → v.died ≡ Some d → d ≤ t))
+
+-- each state from the horizon to the newest stamp is said, and nothing has happened later
+pub record SaysStates (states : ℕ → State) (horizon newest : ℕ) (vs : List Versioned) : Type 0 where
+  pub kept : (t : ℕ) → horizon ≤ t → t ≤ newest → Says t vs (states t)
+  pub upto : AreUpTo newest vs
+
+-- strictly by id
+abbrev pub IdsRise : List RowValue → Type 0
+IdsRise [] = Unit {0}
+IdsRise (r ∷ rs) = AllByRecursion (λ (s : RowValue). r.id < s.id) rs × IdsRise rs

@@ -1,0 +1,68 @@
+-- How a version stands in the table, and how it is read back.
+use Rattle.std.specs.Prelude.{◌≡◌, ℕ, ℤ, pos, negsuc, List, [], ◌∷◌, map, Option, Some, None}
+use Rattle.std.specs.List.{AllByRecursion}
+use Rattle.sqlite.specs.Tree.{rowid, IsTable}
+use Rattle.sqlite.specs.Edit.{id_in}
+use Rattle.sqlite.specs.declared.types.Value.{Value}
+use Rattle.sqlite.specs.declared.types.Value.TheVariants.{Null, Int, Real, Text, Blob}
+use Rattle.sqlite.specs.Order.{Row, column, bytes}
+use Rattle.sqlite.specs.Values.{or_null}
+use Rattle.txc_rows.specs.declared.version.Versioned.{Versioned}
+
+abbrev pub number : ℕ → Value
+number n = Int (pos n)
+
+abbrev pub death : Option ℕ → Value
+death = or_null number
+
+-- the number of the row in its table, and then its columns
+abbrev pub stored : ℤ → Versioned → Row
+stored id v = Int id ∷ number v.row.table ∷ number v.row.id ∷ number v.born ∷ number v.row.group ∷ Blob v.row.body ∷ death v.died ∷ []
+
+abbrev pub number_in : Value → ℕ
+number_in Null = 0
+number_in (Int (pos n)) = n
+number_in (Int (negsuc n)) = 0
+number_in (Real x) = 0
+number_in (Text t) = 0
+number_in (Blob b) = 0
+
+abbrev pub death_in : Value → Option ℕ
+death_in Null = None
+death_in (Int (pos n)) = Some n
+death_in (Int (negsuc n)) = None
+death_in (Real x) = None
+death_in (Text t) = None
+death_in (Blob b) = None
+
+-- what a row of the table says
+abbrev pub version_in : Row → Versioned
+version_in r = record {
+  row = record { table = number_in (column r 1); id = number_in (column r 2); group = number_in (column r 4); body = bytes (column r 5) };
+  born = number_in (column r 3);
+  died = death_in (column r 6);
+}
+
+-- what the query on one table shows of a version: id, group, body, birth and death
+abbrev pub shown : Versioned → Row
+shown v = number v.row.id ∷ number v.row.group ∷ Blob v.row.body ∷ number v.born ∷ death v.died ∷ []
+
+-- and how that is read, for a table
+abbrev pub version_shown : ℕ → Row → Versioned
+version_shown table r = record {
+  row = record { table = table; id = number_in (column r 0); group = number_in (column r 1); body = bytes (column r 2) };
+  born = number_in (column r 3);
+  died = death_in (column r 4);
+}
+
+abbrev pub versions_in : List Row → List Versioned
+versions_in = map version_in
+
+-- the row is a version with its number
+abbrev pub IsStored : Row → Type 0
+IsStored r = r ≡ stored (id_in (rowid r)) (version_in r)
+
+-- the rows are versions, and stand by their numbers
+pub record AreStored (rows : List Row) : Type 0 where
+  pub table : IsTable rows
+  pub each : AllByRecursion IsStored rows

@@ -1,0 +1,93 @@
+//! Versions from the rows that the store shows.
+
+ghost use Rattle.std.specs.Prelude.{◌≡◌, ◌<◌, ◌≤◌, IfOk, Some, map, filter, length};
+ghost use Rattle.std.specs.List.{AllByRecursion};
+ghost use Rattle.txc_rows.specs.States.{query_table};
+ghost use Rattle.txc_rows.specs.Values.{IsBody};
+ghost use Rattle.txc_rows.specs.Versions.{suits, greatest_stamp};
+ghost use Rattle.txc_rows.specs.Stored.{version_shown};
+ghost use Rattle.txc_rows.specs.Kept.{IsShown};
+
+use crate::query::Query;
+use crate::row::Row;
+use crate::store_error::StoreError;
+use crate::version::Versioned;
+use std::alloc::Global;
+use txc_stamp::Stamp;
+use txc_tags::Table;
+
+/// How many versions may match a query.
+pub(crate) const MOST_VERSIONS: usize = 1024;
+
+/// A stamp that was stored.
+fn stamp_from(number: u32) -> Stamp
+    requires { number ≤ greatest_stamp }
+    ensures { result ≡ number }
+{
+    match Stamp::new(number) {
+        Ok(stamp) => stamp,
+        Err(_) => unreachable!(),
+    }
+}
+
+fn death_from(number: Option<u32>) -> Option<Stamp>
+    requires { (d : _) → number ≡ Some d → d ≤ greatest_stamp }
+    ensures { result ≡ number }
+{
+    match number {
+        Some(number) => Some(stamp_from(number)),
+        None => None,
+    }
+}
+
+/// A row that was stored.
+fn row_from(table: Table, id: u32, group: u32, body: Vec<u8>) -> Row
+    requires { IsBody body.items }
+    ensures { result ≡ record { table = table; id = id; group = group; body = body.items } }
+{
+    match Row::new(table, id, group, body) {
+        Ok(row) => row,
+        Err(_) => unreachable!(),
+    }
+}
+
+fn version_from(table: Table, shown: &sqlite::Row) -> Result<Versioned, sqlite::Error>
+    requires { IsShown table shown.now }
+    ensures { IfOk result (λ v. v ≡ version_shown table shown.now) }
+{
+    let id: u32 = shown.get(0)?;
+    let group: u32 = shown.get(1)?;
+    let body: Vec<u8> = shown.get(2)?;
+    let born: u32 = shown.get(3)?;
+    let died: Option<u32> = shown.get(4)?;
+    Ok(Versioned {
+        row: row_from(table, id, group, body),
+        born: stamp_from(born),
+        died: death_from(died),
+    })
+}
+
+/// The versions of the query's table that match, in the order in which they are shown.
+pub(crate) fn select(
+    alloc: Global,
+    query: &Query,
+    rows: &[sqlite::Row],
+) -> Result<Vec<Versioned>, StoreError>
+    requires { AllByRecursion (IsShown (query_table query.now)) rows.now }
+    ensures found { IfOk result (λ vs. vs.items ≡ filter (suits query.now) (map (version_shown (query_table query.now)) rows.now)) }
+    ensures most { IfOk result (λ vs. length vs.items ≤ 1024) }
+    ensures many { result ≡ Err StoreError.TooManyRows → 1024 < length (filter (suits query.now) (map (version_shown (query_table query.now)) rows.now)) }
+{
+    let table = query.table();
+    let mut found = Vec::new(alloc);
+    for shown in rows {
+        let version = version_from(table, shown)?;
+        if query.matches(&version.row) {
+            if found.len() == MOST_VERSIONS {
+                return Err(StoreError::TooManyRows);
+            }
+            found.push(version)?;
+        }
+    }
+    Ok(found)
+}

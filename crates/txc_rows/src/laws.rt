@@ -1,0 +1,33 @@
+//! Laws over the definitions alone.
+ghost use Rattle.txc_rows.specs.Laws.{StatesAreRows, ChangedIsState, ChangeUpdates, NetLeads, NetIsDifference, NetTags, TagsAreSound, NoTagsBetween, SaysNothing, SaysAgree, SaysWritten, SaysQuiet, SaysPurged, SaysAnswer, NetIsWritable};
+
+/// States are finite maps from (table, id) to (group, body), and changes update them.
+pub fn states_are_maps()
+    ensures rows { StatesAreRows }
+    ensures states { ChangedIsState }
+    ensures updates { ChangeUpdates }
+{}
+
+/// The net changes of a list of changes are what differs between the states before and after it.
+pub fn net_changes_are_differences()
+    ensures leads { NetLeads }
+    ensures differences { NetIsDifference }
+    ensures tags { NetTags }
+{}
+
+/// The tags between two states cover every query whose answer differs in them.
+pub fn tags_are_sound()
+    ensures sound { TagsAreSound }
+    ensures none { NoTagsBetween }
+{}
+
+/// Versions go on saying the states through writes, quiet stamps and purges.
+pub fn versions_say_states()
+    ensures nothing { SaysNothing }
+    ensures agree { SaysAgree }
+    ensures writable { NetIsWritable }
+    ensures written { SaysWritten }
+    ensures quiet { SaysQuiet }
+    ensures purged { SaysPurged }
+    ensures answer { SaysAnswer }
+{}

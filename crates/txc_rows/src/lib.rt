@@ -1,0 +1,25 @@
+//! Rows of tables, changes of them, queries over them, and the versions of rows that say every kept state.
+#![tactic(auto)]
+
+mod decode;
+mod laws;
+mod query;
+mod row;
+mod statements;
+mod store;
+mod store_error;
+mod store_laws;
+mod version;
+
+pub use laws::{
+    net_changes_are_differences, states_are_maps, tags_are_sound, versions_say_states,
+};
+pub use query::{Change, Query};
+pub use row::{Row, RowError};
+pub use store::VersionRows;
+pub use store_error::StoreError;
+pub use store_laws::{versions_answer, versions_keep_states};
+pub use version::Versioned;
+
+#[cfg(test)]
+mod tests;

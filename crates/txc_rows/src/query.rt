@@ -1,0 +1,72 @@
+ghost use Rattle.std.specs.Prelude.{◌≡◌, IfOk};
+ghost use Rattle.txc_rows.specs.States.{query_table, matches};
+ghost use Rattle.txc_rows.specs.RowTags.{query_tag};
+
+use crate::row::Row;
+use std::alloc::{AllocError, Global};
+use txc_tags::{Table, Tag};
+
+/// What is asked of a state. Its answer is the rows that match, by id.
+#[derive(Clone, Copy, Debug, PartialEq, Eq)]
+pub enum Query {
+    /// The row of the table with that id.
+    ById(Table, u32),
+    /// The rows of the table in that group.
+    ByGroup(Table, u32),
+    /// Every row of the table.
+    All(Table),
+}
+
+impl Query {
+    pub fn table(&self) -> Table
+        ensures { result ≡ query_table self.now }
+    {
+        match *self {
+            Query::ById(table, _) => table,
+            Query::ByGroup(table, _) => table,
+            Query::All(table) => table,
+        }
+    }
+
+    pub fn matches(&self, row: &Row) -> bool
+        ensures { result ≡ matches self.now row.now }
+    {
+        match *self {
+            Query::ById(table, id) => row.table() == table && row.id() == id,
+            Query::ByGroup(table, group) => row.table() == table && row.group() == group,
+            Query::All(table) => row.table() == table,
+        }
+    }
+
+    /// The one tag on which the query's answer depends.
+    pub fn tag(&self) -> Tag
+        ensures { result ≡ query_tag self.now }
+    {
+        match *self {
+            Query::ById(table, id) => Tag::Id(table, id),
+            Query::ByGroup(table, group) => Tag::Group(table, group),
+            Query::All(table) => Tag::Wildcard(table),
+        }
+    }
+}
+
+/// One change of a state.
+#[derive(Drop)]
+pub enum Change {
+    /// The row stands at its table and id, in place of the one that was there.
+    Put(Row),
+    /// No row stands at the table and id.
+    Remove(Table, u32),
+}
+
+impl Change {
+    /// An equal change.
+    pub fn copy(&self, alloc: Global) -> Result<Change, AllocError>
+        ensures { IfOk result (λ c. c ≡ self.now) }
+    {
+        match self {
+            Change::Put(row) => Ok(Change::Put(row.copy(alloc)?)),
+            Change::Remove(table, id) => Ok(Change::Remove(*table, *id)),
+        }
+    }
+}

@@ -1,0 +1,95 @@
+//! The store of row versions.
+
+ghost use Rattle.std.specs.Prelude.{◌≡◌, ℕ, ◌<◌, ◌≤◌, [], Ok, IfOk, IfErr, OnOk, OnErr, length, filter};
+ghost use Rattle.txc_rows.specs.Versions.{suits, purged, after_net};
+ghost use Rattle.txc_rows.specs.States.{State};
+ghost use Rattle.txc_rows.specs.Found.{Finds};
+ghost use Rattle.txc_rows.specs.Keeping.{KeepsStates, KeepsWritten, KeepsPurged, AnswersStates};
+ghost use Rattle.txc_rows.specs.Kept.{IsKept, versions_of};
+ghost use Rattle.txc_rows.specs.StoreErrors.{IsStoreRefusal};
+
+use crate::decode::select;
+use crate::query::{Change, Query};
+use crate::statements::{create, delete_dead, read_table, write_all};
+use crate::store_error::StoreError;
+use crate::version::Versioned;
+use sqlite::{Connection, MemStore};
+use std::alloc::Global;
+use std::marker::Model;
+use txc_stamp::Stamp;
+
+/// Row versions in a store in memory. Contracts see the list of its versions, the earliest put first.
+#[derive(Drop)]
+pub struct VersionRows {
+    conn: Connection<MemStore>,
+    alloc: Global,
+}
+
+impl Model for VersionRows {
+    ghost use Rattle.std.specs.Prelude.{List};
+    ghost use Rattle.txc_rows.specs.declared.version.Versioned.{Versioned};
+    ghost use Rattle.txc_rows.specs.Kept.{versions_of, IsKept};
+
+    ghost Value = { List Versioned };
+
+    ghost view = { λ a. versions_of a.conn };
+
+    ghost invariant = { λ a. IsKept a.conn };
+}
+
+/// A connection with the table and no version.
+fn open_table(alloc: Global) -> Result<Connection<MemStore>, sqlite::Error>
+    ensures kept { IfOk result IsKept }
+    ensures empty { IfOk result (λ conn. versions_of conn ≡ []) }
+{
+    let mut conn = Connection::open_in_memory(alloc)?;
+    create(&mut conn)?;
+    Ok(conn)
+}
+
+impl VersionRows {
+    /// A store that has no version. It is refused for want of memory, which is `Store`.
+    pub fn open_in_memory(alloc: Global) -> Result<VersionRows, StoreError>
+        ensures ok { IfOk result (λ rows. rows ≡ []) }
+        ensures keeps { IfOk result (λ rows. (states : ℕ → State) → states 0 ≡ [] → KeepsStates states 0 0 rows) }
+        ensures cause { IfErr result IsStoreRefusal }
+    {
+        let conn = open_table(alloc)?;
+        Ok(VersionRows { conn, alloc })
+    }
+
+    /// The versions that match, by id and then by birth.
+    pub fn matching(&mut self, query: &Query) -> Result<Vec<Versioned>, StoreError>
+        ensures same { self.new ≡ self.old }
+        ensures found { IfOk result (λ found. Finds query.now self.old found.items) }
+        ensures most { IfOk result (λ found. length found.items ≤ 1024) }
+        ensures answers { IfOk result (λ found. AnswersStates query.now self.old found.items) }
+        ensures many { result ≡ Err StoreError.TooManyRows → 1024 < length (filter (suits query.now) self.old) }
+    {
+        let rows = read_table(&mut self.conn, query.table())?;
+        select(self.alloc, query, rows.as_slice())
+    }
+
+    /// Writes the net changes of the commit with this stamp, all or none. A change ends the current version of its
+    /// table and id at the stamp; a put adds one that is born there.
+    pub fn write(&mut self, net: &[Change], stamp: Stamp) -> Result<(), StoreError>
+        ensures ok { OnOk result (self.new ≡ after_net stamp net.now self.old) }
+        ensures keeps { OnOk result (KeepsWritten net.now stamp self.old self.new) }
+        ensures err { OnErr result (self.new ≡ self.old) }
+        ensures cause { IfErr result IsStoreRefusal }
+    {
+        write_all(&mut self.conn, net, stamp)?;
+        Ok(())
+    }
+
+    /// Deletes the versions that died at the horizon or before: no stamp from the horizon on has shown them.
+    pub fn purge(&mut self, horizon: Stamp) -> Result<(), StoreError>
+        ensures ok { OnOk result (self.new ≡ purged horizon self.old) }
+        ensures keeps { OnOk result (KeepsPurged horizon self.old self.new) }
+        ensures err { OnErr result (self.new ≡ self.old) }
+        ensures cause { IfErr result IsStoreRefusal }
+    {
+        delete_dead(&mut self.conn, horizon)?;
+        Ok(())
+    }
+}

@@ -1,0 +1,26 @@
+ghost use Rattle.std.specs.Prelude.{◌≡◌};
+ghost use Rattle.txc_rows.specs.Versions.{is_visible};
+
+use crate::row::Row;
+use txc_stamp::Stamp;
+
+/// A row with the stamps at which it stands: from `born` to the stamp before `died`, or on while that is `None`.
+#[derive(Drop)]
+pub struct Versioned {
+    pub row: Row,
+    pub born: Stamp,
+    pub died: Option<Stamp>,
+}
+
+impl Versioned {
+    /// Whether the row stands at the stamp.
+    pub fn is_visible(&self, at: Stamp) -> bool
+        ensures { result ≡ is_visible at self.now }
+    {
+        let lives = match self.died {
+            Some(died) => at < died,
+            None => true,
+        };
+        self.born <= at && lives
+    }
+}

@@ -1,0 +1,2 @@
+pub mod ValidityLemmas
+pub mod OneTag

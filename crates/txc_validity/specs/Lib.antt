@@ -1,0 +1,3 @@
+pub mod Validity
+pub mod Answers
+pub mod Laws

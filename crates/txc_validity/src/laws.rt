@@ -1,0 +1,11 @@
+//! Laws over the definitions alone.
+ghost use Rattle.txc_validity.specs.Laws.{SameWithin, DiffersBelow, DiffersAbove, OneValidity, KeptAnswersDecide};
+
+/// A validity has the answer of its stamp throughout and another just outside, and there is only one.
+pub fn validity_is_the_largest()
+    ensures within { SameWithin }
+    ensures below { DiffersBelow }
+    ensures above { DiffersAbove }
+    ensures one { OneValidity }
+    ensures kept { KeptAnswersDecide }
+{}
