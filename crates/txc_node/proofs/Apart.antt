@@ -1,33 +1,23 @@
 -- Entries that stand at places of their own.
 use Rattle.std.proofs.Common.{◌≡◌, ℕ, ◌-◌, ◌<◌, Bool, true, false, not, eqb, cond, List, [], ◌∷◌, length, get_or, take, map, refl, sym, ap, ◌∙◌, arith, suc, zero}
 use Rattle.std.specs.List.{AllByRecursion, filter, remove}
-use Rattle.std.specs.Str.{bytes_eq}
-use Rattle.std.proofs.lemmas.Slice.Eq.{bytes_eq-Decides}
 use Rattle.std.proofs.lemmas.Bool.Decides.{same_from_decides, Decides-like, Decides-eqb}
 use Rattle.txc_tags.specs.Keys.{Call, same_call}
+use Rattle.txc_tags.proofs.Calls.{same_call_itself, same_call_iff}
 use Rattle.txc_tags.specs.declared.tag.Tag.{Tag}
 use Rattle.txc_stamp.specs.Interval.{closed_at}
 use Rattle.txc_node.specs.declared.entry.Entry.{Entry}
 use Rattle.txc_node.specs.Entries.{same_place, others, AreApart}
 use Rattle.txc_node.specs.Cache.{is_invalidated, entry_after}
 
-eqb_self : (n : ℕ) → eqb n n ≡ true
-eqb_self n = (Decides-eqb n n).1 refl
-
 eqb_sym : (m n : ℕ) → eqb m n ≡ eqb n m
 eqb_sym m n = same_from_decides (eqb m n) (eqb n m) (Decides-eqb m n) (Decides-like (eqb n m) (λ (e : n ≡ m). sym e) (λ (e : m ≡ n). sym e) (Decides-eqb n m))
 
-bytes_self : (xs : List ℕ) → bytes_eq xs xs ≡ true
-bytes_self xs = (bytes_eq-Decides xs xs).1 refl
-
-bytes_sym : (xs ys : List ℕ) → bytes_eq xs ys ≡ bytes_eq ys xs
-bytes_sym xs ys = same_from_decides (bytes_eq xs ys) (bytes_eq ys xs) (bytes_eq-Decides xs ys) (Decides-like (bytes_eq ys xs) (λ (e : ys ≡ xs). sym e) (λ (e : xs ≡ ys). sym e) (bytes_eq-Decides ys xs))
-
-pub same_call_sym : (a b : Call) → same_call a b ≡ same_call b a
-same_call_sym a b = rw (eqb_sym a.function b.function, bytes_sym a.args b.args)
+same_call_sym : (a b : Call) → same_call a b ≡ same_call b a
+same_call_sym a b = same_from_decides (same_call a b) (same_call b a) (same_call_iff a b) (Decides-like (same_call b a) (λ (e : b ≡ a). sym e) (λ (e : a ≡ b). sym e) (same_call_iff b a))
 
 pub same_place_self : (a : Entry) → same_place a a ≡ true
-same_place_self a = rw (eqb_self a.key.function, bytes_self a.key.args, eqb_self a.reach.lo)
+same_place_self a = rw (same_call_itself a.key, (Decides-eqb a.reach.lo a.reach.lo).1 refl)
 
 pub same_place_sym : (a b : Entry) → same_place a b ≡ same_place b a
 same_place_sym a b = rw (same_call_sym a.key b.key, eqb_sym a.reach.lo b.reach.lo)

@@ -2,10 +2,7 @@
 use Rattle.std.proofs.Common.{◌≡◌, ℕ, ◌+◌, ◌-◌, ◌<◌, ◌≤◌, Bool, true, false, not, ◌&&◌, eqb, ltb, suc, cond, List, [], ◌∷◌, length, get_or, take, drop, leb, Option, Some, None, refl, subst, sym, ap, ◌∙◌, arith}
 use Rattle.std.specs.Prelude.{slice_get}
 use Rattle.std.specs.List.{AllByRecursion, filter, find, position, prefix_len, remove}
-use Rattle.std.proofs.lemmas.Bool.{false≢true}
 use Rattle.std.proofs.lemmas.Bool.Decides.{nat_tests, Decides-eqb}
-use Rattle.std.proofs.lemmas.Slice.Eq.{bytes_eq-Decides}
-use Rattle.std.specs.Str.{bytes_eq}
 use Rattle.std.proofs.lemmas.List.{take_all, get_or_read}
 use Rattle.std.proofs.lemmas.List.Edits.{length-remove}
 use Rattle.std.proofs.lemmas.List.Quantifiers.{position-Some}
@@ -13,27 +10,23 @@ use Rattle.std.proofs.lemmas.List.Recursion.{found_at}
 use Rattle.std.proofs.lemmas.Option.{slice_get_past}
 use Rattle.txc_node.specs.declared.entry.Entry.{Entry}
 use Rattle.txc_stamp.specs.Interval.{Interval, shown, end_at, closed_at}
-use Rattle.txc_tags.specs.Keys.{same_call}
+use Rattle.txc_tags.specs.Keys.{Call, same_call}
+use Rattle.txc_tags.proofs.Calls.{same_call_is}
+use Rattle.txc_tags.proofs.Lists.{both_true}
 use Rattle.txc_tags.specs.Tags.{sets_match}
 use Rattle.txc_tags.specs.declared.tag.Tag.{Tag}
 use Rattle.txc_node.specs.declared.node.Inserted.TheVariants.{Stored, Kept}
-use Rattle.txc_node.specs.Cache.{Cache, outcome, evicted_entry, reach_after_replay, replayed_reach, replayed_entry, closed_before, ends_no_earlier, is_kept, entries_with, after_insert}
+use Rattle.txc_node.specs.Cache.{Cache, Grows, outcome, evicted_entry, reach_after_replay, replayed_reach, replayed_entry, closed_before, ends_no_earlier, is_kept, entries_with, after_insert}
 use Rattle.txc_node.specs.Entries.{same_place, others, AreApart}
 use Rattle.txc_node.proofs.Apart.{remove_is_others, first_apart, take_apart}
-
-both : (a b : Bool) → (a && b) ≡ true → (a ≡ true) × (b ≡ true)
-both true b h = (refl, h)
-both false b h = absurd (false≢true h)
 
 -- entries at the place of one stand at the place of the other
 pub same_place_like : (x e o : Entry) → same_place x e ≡ true → same_place o x ≡ same_place o e
 same_place_like x e o h =
-    let p = both (eqb x.key.function e.key.function && bytes_eq x.key.args e.key.args) (eqb x.reach.lo e.reach.lo) h in
-    let q = both (eqb x.key.function e.key.function) (bytes_eq x.key.args e.key.args) p.0 in
-    let f : x.key.function ≡ e.key.function = (Decides-eqb x.key.function e.key.function).0 q.0 in
-    let a : x.key.args ≡ e.key.args = (bytes_eq-Decides x.key.args e.key.args).0 q.1 in
+    let p = both_true (same_call x.key e.key) (eqb x.reach.lo e.reach.lo) h in
+    let k : x.key ≡ e.key = same_call_is x.key e.key p.0 in
     let l : x.reach.lo ≡ e.reach.lo = (Decides-eqb x.reach.lo e.reach.lo).0 p.1 in
-    rw (f, a, l)
+    ap (λ (c : Call). same_call o.key c && eqb o.reach.lo x.reach.lo) k ∙ ap (λ (n : ℕ). same_call o.key e.key && eqb o.reach.lo n) l
 
 filter_same : (p q : Entry → Bool) → ((o : Entry) → p o ≡ q o) → (es : List Entry) → filter p es ≡ filter q es
 filter_same p q h [] = refl
@@ -143,3 +136,7 @@ kept_false c e i x r m n h k q em en l =
     let o = old_end c.processed c.entries i x e (position-Some (λ o. same_place o e) c.entries i e h).0 k in
     let t : leb m n ≡ false = grind (arith, nat_tests) in
     kept_is c e i h ∙ ap (λ y. leb (end_at c.processed y) (end_at c.processed (get_or c.entries i e).reach)) (sym q) ∙ ap (λ y. leb (end_at c.processed r) y) (sym o) ∙ ap (λ y. leb (end_at c.processed r) y) (sym en) ∙ ap (λ y. leb y n) (sym em) ∙ t
+
+-- where nothing stands at the place of e, and there is room
+pub grows : (c : Cache) (e : Entry) → position (λ o. same_place o e) c.entries ≡ None → length c.entries < c.capacity → Grows c e
+grows c e h l = record { new = find_none (λ o. same_place o e) c.entries (position_none (λ o. same_place o e) c.entries h); not_full = l }

@@ -3,13 +3,13 @@ use Rattle.std.proofs.Common.{◌≡◌, ℕ, ◌+◌, ◌-◌, ◌<◌, ◌≤�
 use Rattle.std.specs.List.{find, list_all, remove}
 use Rattle.std.proofs.lemmas.Bool.{false≢true}
 use Rattle.std.proofs.lemmas.Bool.Decides.{nat_tests, Decides-eqb, Decides-ltb, Decides-like, Decides-not, Decides-and, Decides-or, Decides-by_and}
-use Rattle.std.proofs.lemmas.Slice.Eq.{bytes_eq-Decides}
 use Rattle.std.proofs.lemmas.List.{get_or_default, length-map}
 use Rattle.std.proofs.lemmas.List.Edits.{length-remove}
 use Rattle.txc_stamp.specs.Interval.{Interval, end_at, closed_at}
 use Rattle.txc_tags.specs.declared.tag.Tag.{Tag}
 use Rattle.txc_tags.specs.Tags.{sets_match}
-use Rattle.txc_tags.specs.Keys.{Call, same_call}
+use Rattle.txc_tags.specs.Keys.{Call}
+use Rattle.txc_tags.proofs.Calls.{same_call_iff}
 use Rattle.txc_node.specs.declared.entry.Entry.{Entry}
 use Rattle.txc_node.specs.Entries.{same_place, meets_range, outlasts, is_best, others, AreApart}
 use Rattle.txc_node.specs.Best.{BestSoFar}
@@ -24,20 +24,11 @@ use Rattle.txc_node.proofs.Inserts.{cut_apart, replay_lo}
 Decides-leb : (a b : ℕ) → Decides (leb a b) (a ≤ b)
 Decides-leb a b = (λ h. grind (arith, nat_tests), λ h. grind (arith, nat_tests))
 
-call_same : (a b : Call) → a.function ≡ b.function → a.args ≡ b.args → a ≡ b
-call_same a b f g =
-    ap (λ (n : ℕ). let x : Call = record { function = n; args = a.args } in x) f ∙ ap (λ (l : List ℕ). let x : Call = record { function = b.function; args = l } in x) g
-
-pub Decides-same_call : (a b : Call) → Decides (same_call a b) (a ≡ b)
-Decides-same_call a b =
-    Decides-like (same_call a b) (λ (h : (a.function ≡ b.function) × (a.args ≡ b.args)). call_same a b h.0 h.1) (λ (h : a ≡ b). (ap (λ (c : Call). c.function) h, ap (λ (c : Call). c.args) h))
-    (Decides-and _ _ (Decides-eqb a.function b.function) (bytes_eq-Decides a.args b.args))
-
 pub Decides-meets_range : (p : ℕ) (key : Call) (lo hi : ℕ) (e : Entry) → Decides (meets_range p key lo hi e) (MeetsRange p key lo hi e)
 Decides-meets_range p key lo hi e =
     Decides-like (meets_range p key lo hi e) (λ (h : (e.key ≡ key) × ((e.reach.lo ≤ hi) × (lo < end_at p e.reach))). record { of_key = h.0; begins = h.1.0; ends = h.1.1 })
     (λ (h : MeetsRange p key lo hi e). (h.of_key, (h.begins, h.ends)))
-    (Decides-and _ _ (Decides-same_call e.key key) (Decides-and _ _ (Decides-leb e.reach.lo hi) (Decides-ltb lo (end_at p e.reach))))
+    (Decides-and _ _ (same_call_iff e.key key) (Decides-and _ _ (Decides-leb e.reach.lo hi) (Decides-ltb lo (end_at p e.reach))))
 
 pub Decides-outlasts : (p : ℕ) (a b : Entry) → Decides (outlasts p a b) (LastsLonger p a b)
 Decides-outlasts p a b =
@@ -231,7 +222,7 @@ one_for_each (e ∷ es) h zero zero d l k = absurd (omega arith)
 one_for_each (e ∷ es) h zero (suc j) d l k = λ same.
     let o = get_or es j d in
     let no : same_place o e ≡ false = recursion_at (λ o. same_place o e ≡ false) es j d (omega arith) h.0 in
-    let yes : same_place o e ≡ true = (Decides-and _ _ (Decides-same_call o.key e.key) (Decides-eqb o.reach.lo e.reach.lo)).1 (sym same.0, sym same.1) in
+    let yes : same_place o e ≡ true = (Decides-and _ _ (same_call_iff o.key e.key) (Decides-eqb o.reach.lo e.reach.lo)).1 (sym same.0, sym same.1) in
     false≢true (sym no ∙ yes)
 one_for_each (e ∷ es) h (suc i) zero d l k = absurd (omega arith)
 one_for_each (e ∷ es) h (suc i) (suc j) d l k = one_for_each es h.1 i j d (omega arith) (omega arith)

@@ -107,6 +107,11 @@ after_insert c e = if is_kept c e then c else record c { entries = take c.capaci
 abbrev pub evicted_entry : Cache → Entry → Option Entry
 evicted_entry c e = slice_get (entries_with c e) c.capacity
 
+-- there is none with the same key and first stamp, and the cache is not full
+pub record Grows (c : Cache) (e : Entry) : Type 0 where
+  pub new : find (λ o. same_place o e) c.entries ≡ None
+  pub not_full : length c.entries < c.capacity
+
 abbrev pub outcome : Cache → Entry → Inserted
 outcome c e = if is_kept c e then Kept e else Stored (shown c.processed (replayed_reach c e)) (evicted_entry c e)
 

@@ -11,7 +11,7 @@
 mod entry;
 mod hit;
 mod invalidation;
-mod laws;
+pub mod laws;
 mod node;
 mod replay;
 mod room;
@@ -22,10 +22,5 @@ mod value;
 
 pub use entry::{Entry, EntryError};
 pub use hit::Hit;
-pub use laws::{
-    event_closes_exactly_the_hit, hit_shows_nothing_beyond, insertion_replays_what_was_missed,
-    insertion_stays_within_bounds, lookup_finds_the_longest, span_meets_range_at_a_stamp,
-    steps_keep_caches, worked_examples,
-};
 pub use node::{EmptyRange, Inserted, MAX_CAPACITY, MAX_RECENT, NodeCore, OutOfOrder};
 pub use value::{MAX_VALUE_LEN, Value};

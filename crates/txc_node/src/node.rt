@@ -5,7 +5,7 @@ ghost use Rattle.std.specs.Option.{option_map};
 ghost use Rattle.std.specs.Borrow.{sem};
 ghost use Rattle.std.specs.Io.BufRead.{Rests};
 ghost use Rattle.txc_node.specs.contracts.node.NodeCore.{the_row};
-ghost use Rattle.txc_node.specs.Cache.{empty_cache, found, answer, after_lookup, after_insert, outcome, is_invalidated, entry_after, after_event, closed_count};
+ghost use Rattle.txc_node.specs.Cache.{empty_cache, Grows, found, answer, after_lookup, after_insert, outcome, is_invalidated, entry_after, after_event, closed_count};
 ghost use Rattle.txc_node.specs.Hit.{seen};
 
 use crate::entry::Entry;
@@ -158,11 +158,13 @@ impl NodeCore {
 
     /// Inserts an entry, after the replay of the events that came behind the last stamp on which it is known. It goes
     /// to the front. A full node drops its last entry for it; an entry with the same key and first stamp is replaced
-    /// where it ends earlier, and else stays in its place. Only want of memory refuses, and gives the entry back.
+    /// where it ends earlier, and else stays in its place. Only want of memory refuses,
+    /// where the list has to grow, and gives the entry back.
     pub fn insert(&mut self, entry: Entry) -> Result<Inserted, AllocFailed<Entry>>
         ensures after { OnOk result (self.new ≡ after_insert self.old entry) }
         ensures outcome { IfOk result (λ r. r ≡ outcome self.old entry) }
         ensures handed_back { IfErr result (λ e. e.value ≡ entry) }
+        ensures only_to_grow { OnErr result (Grows self.old entry) }
         ensures err { OnErr result (self.new ≡ self.old) }
     {
         let reach = replay_for(&entry, self.processed, &self.recent);

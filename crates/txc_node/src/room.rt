@@ -1,5 +1,5 @@
 //! The list of entries as one that is never longer than its capacity, and the list of recent tags.
-ghost use Rattle.std.specs.Prelude.{◌≡◌, ◌+◌, ◌<◌, ◌≤◌, [], ◌∷◌, ◌++◌, take, min, None, slice_get, vec_len, vec_capacity, true};
+ghost use Rattle.std.specs.Prelude.{◌≡◌, ◌+◌, ◌<◌, ◌≤◌, [], ◌∷◌, ◌++◌, take, min, None, slice_get, vec_len, vec_capacity, true, false};
 ghost use Rattle.std.specs.List.{position, remove, HoldsAt};
 ghost use Rattle.txc_node.specs.Entries.{same_place, others, AreApart};
 ghost use Rattle.txc_node.specs.Cache.{last_of};
@@ -109,6 +109,7 @@ pub(crate) fn make_room(entries: &mut Vec<Entry>, capacity: usize) -> bool
     ensures items { entries.new.items ≡ entries.old.items }
     ensures len { vec_len entries.new ≡ vec_len entries.old }
     ensures room { result ≡ true → vec_len entries.old < capacity → vec_len entries.new < vec_capacity entries.new }
+    ensures no_room { result ≡ false → vec_len entries.old < capacity }
 {
     if entries.len() < capacity {
         entries.reserve(1).is_ok()

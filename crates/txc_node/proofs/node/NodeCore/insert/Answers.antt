@@ -1,9 +1,9 @@
-use Rattle.std.proofs.Common.{◌≡◌, ap, sym, ◌∙◌}
+use Rattle.std.proofs.Common.{◌≡◌, false, ap, sym, ◌∙◌, arith, rules}
 use Rattle.txc_stamp.specs.Interval.{Interval, shown}
 use Rattle.txc_node.specs.declared.node.Inserted.TheVariants.{Stored}
 use Rattle.txc_node.specs.Cache.{Cache, outcome, after_insert, replayed_reach}
 use Rattle.txc_node.specs.contracts.node.NodeCore.{the_view}
-use Rattle.txc_node.proofs.Inserts.{kept_true, kept_false, kept_state, not_kept, stored_state}
+use Rattle.txc_node.proofs.Inserts.{grows, kept_true, kept_false, kept_state, not_kept, stored_state}
 use Rattle.txc_node.proofs.node.NodeCore.insert.Goals as goal
 
 pub returns-then-end : goal.returns-then-end
@@ -16,6 +16,7 @@ returns-then-end c =
       after = rw (← c.self.view_is) kept.0;
       outcome = kept.1 ∙ ap (λ (m : Cache). outcome m c.args.entry) c.self.view_is;
       handed_back = tt;
+      only_to_grow = tt;
       err = tt;
     }
 
@@ -31,6 +32,7 @@ returns-else-end c =
       after = state.0 ∙ ap (λ (m : Cache). after_insert m c.args.entry) c.self.view_is;
       outcome = ap (λ (i : Interval). Stored i c.put-evicted.result) reach ∙ state.1 ∙ ap (λ (m : Cache). outcome m c.args.entry) c.self.view_is;
       handed_back = tt;
+      only_to_grow = tt;
       err = tt;
     }
 
@@ -46,5 +48,12 @@ returns-else-not-make_room c =
       after = state.0 ∙ ap (λ (m : Cache). after_insert m c.args.entry) c.self.view_is;
       outcome = ap (λ (i : Interval). Stored i c.put-evicted-in-None.result) reach ∙ state.1 ∙ ap (λ (m : Cache). outcome m c.args.entry) c.self.view_is;
       handed_back = tt;
+      only_to_grow = tt;
       err = tt;
     }
+
+pub returns-then-not-make_room-clause-only_to_grow : goal.returns-then-not-make_room-clause-only_to_grow
+returns-then-not-make_room-clause-only_to_grow c =
+    let h = rw c.deref-2.ensures.value at c.in-None.ensures in
+    let no : c.make_room.result ≡ false = search rules in
+    rw (← c.self.view_is) (grows (the_view c.self.inside) c.args.entry (sym h) (omega (arith, c.make_room.ensures.no_room no)))
