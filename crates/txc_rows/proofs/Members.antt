@@ -1,66 +1,7 @@
 -- Tests, and what stands in a list.
-use Rattle.std.proofs.Common.{◌≡◌, ◌⊎◌, inl, inr, List, [], ◌∷◌, ◌++◌, filter, Bool, true, false, true≢false, cond, not, ◌&&◌, ◌||◌, refl, sym, ap, ◌∙◌}
-use Rattle.std.specs.List.{list_any}
-use Rattle.txc_rows.specs.Members.{IsIn}
-
-pub bool_cases : (b : Bool) → (b ≡ true) ⊎ (b ≡ false)
-bool_cases true = inl refl
-bool_cases false = inr refl
-
-pub both_true : (a b : Bool) → a && b ≡ true → (a ≡ true) × (b ≡ true)
-both_true true b e = (refl, e)
-both_true false b e = absurd (true≢false (sym e))
-
-pub and_true : (a b : Bool) → a ≡ true → b ≡ true → a && b ≡ true
-and_true a b e f = rw (e, f) refl
-
-pub one_true : (a b : Bool) → a || b ≡ true → (a ≡ true) ⊎ (b ≡ true)
-one_true true b e = inl refl
-one_true false b e = inr e
-
-pub or_left : (a b : Bool) → a ≡ true → a || b ≡ true
-or_left a b e = rw e refl
-
-pub or_right : (a b : Bool) → b ≡ true → a || b ≡ true
-or_right true b e = refl
-or_right false b e = e
+use Rattle.std.proofs.Common.{◌≡◌, Bool, true, false, true≢false, not, refl, sym}
+pub use Rattle.txc_tags.proofs.Lists.{bool_cases, both_true, and_true, any_there, any_found, in_filter, from_filter, in_left, in_right}
 
 pub not_true_is : (b : Bool) → not b ≡ true → b ≡ false
 not_true_is true e = absurd (true≢false (sym e))
 not_true_is false e = refl
-
-module _ {X : Type 0} (p : X → Bool) where
-  pub any_there : (x : X) (xs : List X) → IsIn x xs → p x ≡ true → list_any p xs ≡ true
-  any_there x [] h e = absurd h
-  any_there x (y ∷ ys) (inl same) e = or_left (p y) (list_any p ys) (ap p (sym same) ∙ e)
-  any_there x (y ∷ ys) (inr later) e = or_right (p y) (list_any p ys) (any_there x ys later e)
-
-  pub any_found : (xs : List X) → list_any p xs ≡ true → (x : X) × IsIn x xs × (p x ≡ true)
-  any_found [] e = absurd (true≢false (sym e))
-  any_found (y ∷ ys) e = elim (one_true (p y) (list_any p ys) e) [
-    | inl here ↦ (y, inl refl, here)
-    | inr there ↦ let it = any_found ys there in (it.0, inr it.1, it.2)
-  ]
-
-  pub in_filter : (x : X) (xs : List X) → IsIn x xs → p x ≡ true → IsIn x (filter p xs)
-  in_filter x [] h e = absurd h
-  in_filter x (y ∷ ys) (inl same) e = rw (ap p (sym same) ∙ e) (inl same)
-  in_filter x (y ∷ ys) (inr later) e = let it = in_filter x ys later e in elim (p y) as (λ b. IsIn x (cond b (y ∷ filter p ys) (filter p ys))) [ true ↦ inr it | false ↦ it ]
-
-  pub from_filter : (x : X) (xs : List X) → IsIn x (filter p xs) → IsIn x xs × (p x ≡ true)
-  from_filter x [] h = absurd h
-  from_filter x (y ∷ ys) h = go (p y) refl (λ k. from_filter x ys k) h
-    where
-      go : (b : Bool) → p y ≡ b → (IsIn x (filter p ys) → IsIn x ys × (p x ≡ true)) → IsIn x (cond b (y ∷ filter p ys) (filter p ys)) → IsIn x (y ∷ ys) × (p x ≡ true)
-      go true e rest (inl same) = (inl same, ap p same ∙ e)
-      go true e rest (inr later) = let it = rest later in (inr it.0, it.1)
-      go false e rest later = let it = rest later in (inr it.0, it.1)
-
-pub in_left : {X : Type 0} (x : X) (xs ys : List X) → IsIn x xs → IsIn x (xs ++ ys)
-in_left x [] ys h = absurd h
-in_left x (y ∷ xs) ys (inl same) = inl same
-in_left x (y ∷ xs) ys (inr later) = inr (in_left x xs ys later)
-
-pub in_right : {X : Type 0} (x : X) (xs ys : List X) → IsIn x ys → IsIn x (xs ++ ys)
-in_right x [] ys h = h
-in_right x (y ∷ xs) ys h = inr (in_right x xs ys h)

@@ -51,7 +51,7 @@ impl Query {
 }
 
 /// One change of a state.
-#[derive(Drop)]
+#[derive(Debug, Drop)]
 pub enum Change {
     /// The row stands at its table and id, in place of the one that was there.
     Put(Row),

@@ -18,7 +18,7 @@ pub enum RowError {
 }
 
 /// A row of a table, with its id in the table, its group and its body.
-#[derive(Drop)]
+#[derive(Debug, Drop)]
 pub struct Row {
     table: Table,
     id: u32,

@@ -5,7 +5,7 @@ use crate::row::Row;
 use txc_stamp::Stamp;
 
 /// A row with the stamps at which it stands: from `born` to the stamp before `died`, or on while that is `None`.
-#[derive(Drop)]
+#[derive(Debug, Drop)]
 pub struct Versioned {
     pub row: Row,
     pub born: Stamp,
