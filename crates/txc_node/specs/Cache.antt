@@ -20,6 +20,7 @@ pub record Cache : Type 0 where
   pub capacity : ℕ
   pub depth : ℕ
 
+-- no entry, no event taken, and no tags kept
 abbrev pub empty_cache : ℕ → ℕ → Cache
 empty_cache capacity depth = record { entries = []; processed = 0; recent = []; capacity = capacity; depth = depth }
 
@@ -39,13 +40,16 @@ pub record IsHeld (c : Cache) (space : ℕ) : Type 0 where
 
 -- ---- a lookup: of the entries that meet the range, the one that none outlasts moves to the front
 
+-- the entry that a lookup finds: the one that meets the range and that none outlasts
 abbrev pub found : Cache → Call → ℕ → ℕ → Option Entry
 found c key lo hi = find (is_best c.processed key lo hi c.entries) c.entries
 
+-- the entry that was used stands first, and the others keep their order
 abbrev pub after_use : Cache → Option Entry → Cache
 after_use c None = c
 after_use c (Some e) = record c { entries = e ∷ others e c.entries }
 
+-- the cache after a lookup; after a miss it is as it was
 abbrev pub after_lookup : Cache → Call → ℕ → ℕ → Cache
 after_lookup c key lo hi = after_use c (found c key lo hi)
 
@@ -55,6 +59,7 @@ pub record Answer : Type 0 where
   pub value : List ℕ
   pub tags : List Tag
 
+-- what a hit shows of an entry, its reach known up to the last stamp of its span
 abbrev pub answer_of : ℕ → Entry → Answer
 answer_of processed e = record { reach = shown processed e.reach; value = e.value; tags = e.tags }
 
@@ -80,9 +85,11 @@ reach_after_replay i tags processed recent =
     else closed_before (position (λ t. sets_match t tags) (drop (length recent - missed) recent)) i)
     else i
 
+-- the reach of an entry after the replay of the events that it missed
 abbrev pub replayed_reach : Cache → Entry → Interval
 replayed_reach c e = reach_after_replay e.reach e.tags c.processed c.recent
 
+-- the entry after that replay
 abbrev pub replayed_entry : Cache → Entry → Entry
 replayed_entry c e = record e { reach = replayed_reach c e }
 
@@ -112,20 +119,25 @@ pub record Grows (c : Cache) (e : Entry) : Type 0 where
   pub new : find (λ o. same_place o e) c.entries ≡ None
   pub not_full : length c.entries < c.capacity
 
+-- kept, with the entry handed in; or stored, with the reach after the replay and the entry that was dropped
 abbrev pub outcome : Cache → Entry → Inserted
 outcome c e = if is_kept c e then Kept e else Stored (shown c.processed (replayed_reach c e)) (evicted_entry c e)
 
 -- ---- an event: the still valid entries known below it whose tags match are closed just below it, and no entry moves
 
+-- still valid, known below the event, and of tags that match
 abbrev pub is_invalidated : ℕ → List Tag → Entry → Bool
 is_invalidated stamp tags e = e.reach.still && (nat_lt e.reach.known stamp && sets_match tags e.tags)
 
+-- an entry that the event invalidates is closed just below it; any other stays as it was
 abbrev pub entry_after : ℕ → List Tag → Entry → Entry
 entry_after stamp tags e = if is_invalidated stamp tags e then record e { reach = closed_at (stamp - 1) e.reach } else e
 
+-- the last n of a list, or all where there are fewer
 abbrev pub last_of : {X : Type 0} → ℕ → List X → List X
 last_of n xs = drop (length xs - n) xs
 
+-- the cache after an event: no entry moves, and the tags of the last `depth` events are kept
 abbrev pub after_event : Cache → ℕ → List Tag → Cache
 after_event c stamp tags = record c {
   entries = map (entry_after stamp tags) c.entries;
@@ -133,5 +145,6 @@ after_event c stamp tags = record c {
   recent = last_of c.depth (c.recent ++ tags ∷ []);
 }
 
+-- how many entries the event closes
 abbrev pub closed_count : Cache → ℕ → List Tag → ℕ
 closed_count c stamp tags = count_by (is_invalidated stamp tags) c.entries

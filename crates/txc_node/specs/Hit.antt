@@ -7,5 +7,6 @@ use Rattle.txc_node.specs.Cache.{Answer}
 abbrev pub hit_reach : Hit → Interval
 hit_reach h = record h.stored.now { known = h.last }
 
+-- the answer that a hit shows
 abbrev pub seen : Hit → Answer
 seen h = record { reach = hit_reach h; value = h.value.now; tags = h.tags.now }

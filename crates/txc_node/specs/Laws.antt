@@ -96,6 +96,7 @@ pub record FillsNoMore (c : Cache) (e : Entry) : Type 0 where
   pub one_for_each : HasOneForEach (after_insert c e).entries
   pub within : length (after_insert c e).entries ≤ c.capacity
 
+-- so does every insertion into a cache
 abbrev pub InsertsWithinBounds : Type 0
 InsertsWithinBounds = (c : Cache) (e : Entry) → IsCache c → FillsNoMore c e
 

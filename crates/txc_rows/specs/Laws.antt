@@ -29,6 +29,7 @@ abbrev pub made_by : Change → Option RowValue
 made_by (Put row) = Some row
 made_by (Remove table id) = None
 
+-- the change is one of that table and id
 abbrev pub is_change_of : ℕ → ℕ → Change → Bool
 is_change_of table id c = (change_table c == table) && (change_id c == id)
 

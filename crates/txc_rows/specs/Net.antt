@@ -6,14 +6,17 @@ use Rattle.txc_rows.specs.declared.query.Change.TheVariants.{Put, Remove}
 use Rattle.txc_rows.specs.States.{RowValue, State, is_at, after_changes}
 use Rattle.txc_rows.specs.RowTags.{has_row}
 
+-- the table of a change
 abbrev pub change_table : Change → ℕ
 change_table (Put row) = row.table
 change_table (Remove table id) = table
 
+-- the id of a change
 abbrev pub change_id : Change → ℕ
 change_id (Put row) = row.id
 change_id (Remove table id) = id
 
+-- the changes are of one table and id
 abbrev pub same_key : Change → Change → Bool
 same_key c d = (change_table c == change_table d) && (change_id c == change_id d)
 
@@ -40,6 +43,7 @@ settled (c ∷ cs) = placed c (settled cs)
 abbrev pub net_changes : State → List Change → List Change
 net_changes s changes = filter (changes_state s) (settled changes)
 
+-- strictly by table and id
 abbrev pub KeysRise : List Change → Type 0
 KeysRise [] = Unit {0}
 KeysRise (c ∷ cs) = AllByRecursion (λ d. key_before c d ≡ true) cs × KeysRise cs

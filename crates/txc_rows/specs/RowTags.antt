@@ -19,9 +19,11 @@ query_tag (All table) = Wildcard table
 abbrev pub covers_query : List Tag → Query → Bool
 covers_query set q = covers set (query_tag q)
 
+-- the rows are equal
 abbrev pub same_row : RowValue → RowValue → Bool
 same_row r s = (r.table == s.table) && ((r.id == s.id) && ((r.group == s.group) && bytes_eq r.body s.body))
 
+-- the state has the row
 abbrev pub has_row : State → RowValue → Bool
 has_row s r = list_any (same_row r) s
 

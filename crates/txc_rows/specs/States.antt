@@ -20,6 +20,7 @@ abbrev pub IsState : State → Type 0
 IsState [] = Unit {0}
 IsState (r ∷ rs) = AllByRecursion (λ s. row_before r s ≡ true) rs × IsState rs
 
+-- the row has that table and id
 abbrev pub is_at : ℕ → ℕ → RowValue → Bool
 is_at table id r = (r.table == table) && (r.id == id)
 
@@ -38,6 +39,7 @@ abbrev pub after_changes : List Change → State → State
 after_changes [] s = s
 after_changes (c ∷ cs) s = after_changes cs (after_change c s)
 
+-- the table that a query asks
 abbrev pub query_table : Query → ℕ
 query_table (ById table id) = table
 query_table (ByGroup table group) = table

@@ -9,9 +9,11 @@ use Rattle.sqlite.specs.Order.{Row, column, bytes}
 use Rattle.sqlite.specs.Values.{or_null}
 use Rattle.txc_rows.specs.declared.version.Versioned.{Versioned}
 
+-- a number as the store keeps it
 abbrev pub number : ℕ → Value
 number n = Int (pos n)
 
+-- the stamp of a death as the store keeps it: null while the version is current
 abbrev pub death : Option ℕ → Value
 death = or_null number
 
@@ -19,6 +21,7 @@ death = or_null number
 abbrev pub stored : ℤ → Versioned → Row
 stored id v = Int id ∷ number v.row.table ∷ number v.row.id ∷ number v.born ∷ number v.row.group ∷ Blob v.row.body ∷ death v.died ∷ []
 
+-- the number that a stored value says
 abbrev pub number_in : Value → ℕ
 number_in Null = 0
 number_in (Int (pos n)) = n
@@ -27,6 +30,7 @@ number_in (Real x) = 0
 number_in (Text t) = 0
 number_in (Blob b) = 0
 
+-- the death that a stored value says
 abbrev pub death_in : Value → Option ℕ
 death_in Null = None
 death_in (Int (pos n)) = Some n
@@ -55,6 +59,7 @@ version_shown table r = record {
   died = death_in (column r 4);
 }
 
+-- the versions that the rows of the table say
 abbrev pub versions_in : List Row → List Versioned
 versions_in = map version_in
 

@@ -10,9 +10,11 @@ use Rattle.sqlite_schema.specs.declared.schema.Column.{Column}
 use Rattle.sqlite.specs.Change.{created}
 use Rattle.sqlite_value.specs.Keys.{plain}
 
+-- a column of the table
 abbrev pub column_of : List ℕ → Kind → Bool → Column
 column_of name kind needed = record { name = name; kind = kind; is_strict = true; not_null = needed; default = Null; collation = Binary }
 
+-- the schema of an empty store
 abbrev pub no_schema : Schema
 no_schema = record { tables = []; indexes = []; views = [] }
 
@@ -33,5 +35,6 @@ version_table = record {
   is_counted = false;
 }
 
+-- the schema with the table of versions
 abbrev pub version_schema : Schema
 version_schema = created no_schema version_table

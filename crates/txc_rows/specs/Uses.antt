@@ -34,6 +34,7 @@ use_at t s (purge horizon) = s
 abbrev pub state_after : List Use → ℕ → State
 state_after uses t = fold (use_at t) [] uses
 
+-- the horizon after one more use of the store
 abbrev pub next_horizon : ℕ → Use → ℕ
 next_horizon horizon (write net stamp) = horizon
 next_horizon horizon (purge next) = next

@@ -10,6 +10,7 @@ use Rattle.txc_rows.specs.declared.query.Change.TheVariants.{Put, Remove}
 use Rattle.txc_rows.specs.States.{RowValue, is_at, matches}
 use Rattle.txc_rows.specs.Values.{IsRow}
 
+-- no death, or a later one than the stamp
 abbrev pub lives_at : ℕ → Option ℕ → Bool
 lives_at t None = true
 lives_at t (Some died) = nat_lt t died
@@ -18,6 +19,7 @@ lives_at t (Some died) = nat_lt t died
 abbrev pub is_visible : ℕ → Versioned → Bool
 is_visible t v = nat_le v.born t && lives_at t v.died
 
+-- the row of a version
 abbrev pub row_of : Versioned → RowValue
 row_of v = v.row
 
@@ -55,6 +57,7 @@ removed table id stamp = map (closed table id stamp)
 abbrev pub put : RowValue → ℕ → List Versioned → List Versioned
 put row stamp vs = removed row.table row.id stamp vs ++ record { row = row; born = stamp; died = None } ∷ []
 
+-- the versions after one change at the stamp
 abbrev pub after_write : ℕ → Change → List Versioned → List Versioned
 after_write stamp (Put row) vs = put row stamp vs
 after_write stamp (Remove table id) vs = removed table id stamp vs
@@ -64,6 +67,7 @@ abbrev pub after_net : ℕ → List Change → List Versioned → List Versioned
 after_net stamp [] vs = vs
 after_net stamp (c ∷ cs) vs = after_net stamp cs (after_write stamp c vs)
 
+-- a death at the horizon or before it
 abbrev pub died_by : ℕ → Option ℕ → Bool
 died_by horizon None = false
 died_by horizon (Some died) = nat_le died horizon
@@ -78,6 +82,7 @@ purged horizon = filter (λ v. not (has_died_by horizon v))
 
 -- ---- what a list of versions keeps
 
+-- the greatest stamp
 abbrev pub greatest_stamp : ℕ
 greatest_stamp = 1048576
 
@@ -96,6 +101,7 @@ abbrev pub Pairwise : (Versioned → Versioned → Type 0) → List Versioned �
 Pairwise R [] = ⊤
 Pairwise R (v ∷ vs) = AllByRecursion (R v) vs × Pairwise R vs
 
+-- each is a version, and of any two of a table and id the later follows the earlier
 pub record AreVersions (vs : List Versioned) : Type 0 where
   pub each : AllByRecursion IsVersion vs
   pub apart : Pairwise Follows vs

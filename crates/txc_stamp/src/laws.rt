@@ -5,12 +5,14 @@ ghost use Rattle.txc_stamp.specs.Interval.{Interval, Spans, holds, meet_of};
 
 /// A meet holds at a stamp exactly where both hold, and where there is none, they hold at no common stamp.
 pub fn meet_holds_where_both_hold()
-    ensures { (a b : Interval) (stamp : ℕ) → option_map_or (λ m. holds m stamp) (meet_of a b) false ≡ holds a stamp && holds b stamp }
+    ensures { (a b : Interval) (stamp : ℕ)
+        → option_map_or (λ m. holds m stamp) (meet_of a b) false ≡ holds a stamp && holds b stamp }
 {}
 
 /// There is no meet exactly where no stamp is held by both.
 pub fn meet_is_none_where_none_holds()
-    ensures { (a b : Interval) → IsNone (meet_of a b) ↔ ((stamp : ℕ) → holds a stamp && holds b stamp ≡ false) }
+    ensures { (a b : Interval)
+        → IsNone (meet_of a b) ↔ ((stamp : ℕ) → holds a stamp && holds b stamp ≡ false) }
 {}
 
 /// A meet is still valid where both are.

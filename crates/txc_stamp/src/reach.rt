@@ -1,4 +1,4 @@
-ghost use Rattle.std.specs.Prelude.{◌≡◌, ◌+◌, ◌-◌, ◌<◌, ◌≤◌, Err, IfOk, IsOk, IfSome, IfNone};
+ghost use Rattle.std.specs.Prelude.{◌≡◌, ◌+◌, ◌-◌, ◌<◌, ◌≤◌, Err, IfOk, OnOk, IsOk, IfSome, OnSome, IfNone};
 ghost use Rattle.txc_stamp.specs.Interval.{end_at, span_of, shown, closed_at, holds, meet_of};
 ghost use Rattle.txc_stamp.specs.declared.stamp.TheConstants.{LAST};
 
@@ -36,7 +36,9 @@ impl Reach {
         ensures known_too_large { lo ≤ LAST → LAST < known → result ≡ Err (StampError.TooLarge known) }
         ensures empty { lo ≤ LAST → known < lo → result ≡ Err StampError.Empty }
         ensures success { lo ≤ known → known ≤ LAST → IsOk result }
-        ensures ok { IfOk result (λ r. (r ≡ record { lo = lo; known = known; still = still }) × (lo ≤ known) × (known ≤ LAST)) }
+        ensures value { IfOk result (λ r. r ≡ record { lo = lo; known = known; still = still }) }
+        ensures ordered { OnOk result (lo ≤ known) }
+        ensures bound { OnOk result (known ≤ LAST) }
     {
         let lo = Stamp::new(lo)?;
         let known = Stamp::new(known)?;
@@ -45,7 +47,8 @@ impl Reach {
 
     /// From `lo` to `known`; none where `known` lies below `lo`.
     pub fn from_stamps(lo: Stamp, known: Stamp, still: bool) -> Option<Reach>
-        ensures some { IfSome result (λ r. (r ≡ record { lo = lo; known = known; still = still }) × (lo ≤ known)) }
+        ensures value { IfSome result (λ r. r ≡ record { lo = lo; known = known; still = still }) }
+        ensures ordered { OnSome result (lo ≤ known) }
         ensures none { IfNone result (known < lo) }
     {
         if known < lo {

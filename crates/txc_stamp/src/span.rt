@@ -1,4 +1,4 @@
-ghost use Rattle.std.specs.Prelude.{◌≡◌, ◌+◌, ◌<◌, ◌≤◌, Err, IfOk, IsOk};
+ghost use Rattle.std.specs.Prelude.{◌≡◌, ◌+◌, ◌<◌, ◌≤◌, Err, IfOk, OnOk, IsOk};
 ghost use Rattle.txc_stamp.specs.Interval.{is_between};
 
 use crate::error::StampError;
@@ -32,7 +32,9 @@ impl Span {
         ensures end_too_large { lo ≤ LAST → LAST + 1 < end → result ≡ Err (StampError.TooLarge end) }
         ensures empty { lo ≤ LAST → end ≤ lo → result ≡ Err StampError.Empty }
         ensures success { lo < end → end ≤ LAST + 1 → IsOk result }
-        ensures ok { IfOk result (λ s. (s ≡ record { lo = lo; end = end }) × (lo < end) × (end ≤ LAST + 1)) }
+        ensures value { IfOk result (λ s. s ≡ record { lo = lo; end = end }) }
+        ensures ordered { OnOk result (lo < end) }
+        ensures bound { OnOk result (end ≤ LAST + 1) }
     {
         let lo = Stamp::new(lo)?;
         if end > LAST + 1 {

@@ -1,4 +1,4 @@
-ghost use Rattle.std.specs.Prelude.{◌≡◌, ◌+◌, ◌<◌, ◌≤◌, Err, IfOk, OnErr};
+ghost use Rattle.std.specs.Prelude.{◌≡◌, ◌+◌, ◌<◌, ◌≤◌, Err, IfOk, OnOk, OnErr};
 
 use crate::error::StampError;
 use std::marker::Model;
@@ -30,8 +30,10 @@ impl Stamp {
 
     /// The state after `number` events.
     pub fn new(number: u32) -> Result<Stamp, StampError>
-        ensures ok { IfOk result (λ s. (s ≡ number) × (number ≤ LAST)) }
-        ensures too_large { OnErr result ((LAST < number) × (result ≡ Err (StampError.TooLarge number))) }
+        ensures value { IfOk result (λ s. s ≡ number) }
+        ensures bound { OnOk result (number ≤ LAST) }
+        ensures too_large { OnErr result (LAST < number) }
+        ensures named { OnErr result (result ≡ Err (StampError.TooLarge number)) }
     {
         if number > LAST {
             return Err(StampError::TooLarge(number));

@@ -12,6 +12,7 @@ pub record Shown (T : Type 0) : Type 0 where
   pub row : List ℕ
   pub list : List T
 
+-- the code of what a front shows, made of that of its records
 abbrev pub shown_code : {T : Type 0} → Coded T → Coded (Shown T)
 shown_code {T} c =
     code_by (List ℕ × List T) (coded× (coded_list coded_ℕ) (coded_list c)) (λ s. (s.row, s.list)) (λ p. record { row = p.0; list = p.1 }) (λ _. refl)

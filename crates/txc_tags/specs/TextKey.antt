@@ -4,6 +4,7 @@ use Rattle.std.specs.Fmt.{decimal}
 use Rattle.std.specs.List.{join_with_byte}
 use Rattle.txc_tags.specs.Keys.{Call}
 
+-- the text of a key
 abbrev pub key_text : Call → List ℕ
 key_text key = codes "f" ++ (decimal key.function ++ (codes "(" ++ (join_with_byte 44 (map decimal key.args) ++ codes ")")))
 

@@ -8,10 +8,12 @@ use Rattle.txc_tags.specs.Tags.{set_of}
 use Rattle.txc_tags.specs.TextGrammar.{IsText, IsTextOf, IsLongestPrefix}
 use Rattle.txc_tags.specs.TextTag.{tag_text, IsTagInRange}
 
+-- the text of tags in the order in which they are written
 abbrev pub tags_text : List Tag → List ℕ
 tags_text [] = codes "-"
 tags_text (tag ∷ tags) = join_with_byte 44 (map tag_text (tag ∷ tags))
 
+-- each tag is in range
 abbrev pub AreTagsInRange : List Tag → Type 0
 AreTagsInRange tags = All IsTagInRange tags
 

@@ -4,6 +4,7 @@ use Rattle.std.specs.Fmt.{decimal}
 use Rattle.txc_tags.specs.declared.tag.Tag.{Tag}
 use Rattle.txc_tags.specs.declared.tag.Tag.TheVariants.{Wildcard, Id, Group}
 
+-- the text of a tag
 abbrev pub tag_text : Tag → List ℕ
 tag_text (Wildcard table) = codes "t" ++ (decimal table ++ codes ":?")
 tag_text (Id table id) = codes "t" ++ (decimal table ++ (codes ":id=" ++ decimal id))

@@ -1,6 +1,6 @@
-ghost use Rattle.std.specs.Prelude.{◌≡◌, ◌≤◌, ℕ, true, false, [], ◌++◌, ◌∷◌, ◌==◌, IsOk, IfOk, OnOk, OnErr, length, filter, count_by, vec_len, vec_capacity, not, if◌then◌else◌};
+ghost use Rattle.std.specs.Prelude.{◌≡◌, true, [], ◌==◌, IsOk, IfOk, OnOk, OnErr, length};
 ghost use Rattle.std.specs.List.{list_any};
-ghost use Rattle.txc_tags.specs.Tags.{table_of, tags_match, sets_match, has_tag, covers, is_of, tag_before, put_in, wildcarded, with_tag, IsCanonical};
+ghost use Rattle.txc_tags.specs.Tags.{tags_match, sets_match, covers, with_tag, IsCanonical};
 
 use crate::adding::{add_tag, covers_tag};
 use crate::tag::Tag;
