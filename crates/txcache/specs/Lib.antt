@@ -1,0 +1,11 @@
+pub mod Script
+pub mod Hex
+pub mod Words
+pub mod Written
+pub mod Insertion
+pub mod Lines
+pub mod Replies
+pub mod Runs
+pub mod Reading
+pub mod Sessions
+pub mod Turns

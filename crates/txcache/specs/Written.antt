@@ -1,0 +1,7 @@
+-- What a run writes.
+use Rattle.std.specs.Prelude.{ℕ, ◌≤◌, List, length, take, Option}
+use Rattle.std.specs.Io.KnownBytes.{Appends}
+
+-- a front of the text was appended
+abbrev pub AppendsFront : Option (List ℕ) → Option (List ℕ) → List ℕ → Type 0
+AppendsFront old new text = (n : ℕ) × (n ≤ length text) × Appends old new (take n text)

@@ -1,0 +1,210 @@
+//! The commands of a script, and the lines that give them.
+ghost use Rattle.std.specs.Prelude.{◌≡◌, ◌<◌, ◌≤◌, Err, IfOk, OnOk, length};
+ghost use Rattle.std.specs.Prelude.{ℕ, Bool, List, codes, IfSome, IfNone, MatchOption};
+ghost use Rattle.txc_tags.specs.declared.tag.Tag.{Tag};
+ghost use Rattle.txc_tags.specs.Keys.{Call};
+ghost use Rattle.txcache.specs.Insertion.{NewEntry};
+ghost use Rattle.txcache.specs.Lines.{IsStampWord, IsTagsWord, still_text, name_of, IsArgumentsOf, Spells};
+ghost use Rattle.txcache.specs.Replies.{entry_of};
+
+use crate::hex::read_hex;
+use crate::words::{first_word, is_same, six_words, three_words, two_words};
+use std::alloc::{AllocError, Global};
+use std::marker::Model;
+use txc_node::entry::{Entry, EntryError};
+use txc_stamp::{LAST, Stamp};
+use txc_tags::{Key, SetError, TagSet, read_number};
+
+/// An entry to be inserted, as its line names it.
+#[derive(Debug, Drop)]
+pub struct Insertion {
+    pub(crate) key: Key,
+    pub(crate) value: Vec<u8>,
+    pub(crate) lo: Stamp,
+    pub(crate) known: Stamp,
+    pub(crate) still: bool,
+    pub(crate) tags: TagSet,
+}
+
+impl Model for Insertion {
+    ghost use Rattle.txcache.specs.Insertion.{NewEntry};
+
+    ghost Value = { NewEntry };
+
+    ghost view = { λ i. record { key = i.key; value = i.value.items; lo = i.lo; known = i.known; still = i.still; tags = i.tags } };
+}
+
+impl Insertion {
+    /// The entry, or why there is none.
+    pub fn into_entry(self) -> Result<Entry, EntryError>
+        ensures entry { IfOk result (λ e. e ≡ entry_of self) }
+        ensures fits { OnOk result ((self.lo ≤ self.known) × (length self.value ≤ 1024)) }
+        ensures bad_reach { result ≡ Err EntryError.BadReach → self.known < self.lo }
+        ensures too_long { result ≡ Err EntryError.ValueTooLong → (self.lo ≤ self.known) × (1024 < length self.value) }
+    {
+        let Insertion {
+            key,
+            value,
+            lo,
+            known,
+            still,
+            tags,
+        } = self;
+        Entry::new(key, value, lo, known, still, tags)
+    }
+}
+
+/// What a line asks of the node.
+#[derive(Debug, Drop)]
+pub enum Command {
+    /// `insert KEY LO KNOWN still TAGS HEX`, or `closed` for `still`.
+    Insert(Insertion),
+    /// `lookup KEY LO HI`.
+    Lookup { key: Key, lo: Stamp, hi: Stamp },
+    /// `event STAMP TAGS`.
+    Event { stamp: Stamp, tags: TagSet },
+}
+
+/// A stamp's number.
+fn read_stamp(text: &[u8]) -> Option<Stamp>
+    ensures some { IfSome result (λ s. IsStampWord text.now s) }
+    ensures none { IfNone result ((n : ℕ) → IsStampWord text.now n → ⊥) }
+{
+    match read_number(text, u64::from(LAST)) {
+        Some(number) => Some(Stamp::new(number as u32).unwrap()),
+        None => None,
+    }
+}
+
+/// `still`, or `closed`.
+fn read_still(text: &[u8]) -> Option<bool>
+    ensures some { IfSome result (λ b. text.now ≡ still_text b) }
+    ensures none { IfNone result ((b : Bool) → text.now ≡ still_text b → ⊥) }
+{
+    if text == b"still".as_slice() {
+        return Some(true);
+    }
+    if text == b"closed".as_slice() {
+        return Some(false);
+    }
+    None
+}
+
+/// A set of tags, where the text is one.
+fn read_tags(alloc: Global, text: &[u8]) -> Result<Option<TagSet>, AllocError>
+    ensures { IfOk result (λ r. MatchOption r ((tags : List Tag) → IsTagsWord text.now tags → ⊥) (λ tags. IsTagsWord text.now tags)) }
+{
+    match TagSet::read(alloc, text) {
+        Ok(tags) => Ok(Some(tags)),
+        Err(SetError::BadTag(_)) => Ok(None),
+        Err(SetError::Memory(e)) => Err(e),
+    }
+}
+
+/// `lookup`, by what stands behind its name.
+fn read_lookup(text: &[u8]) -> Option<Command>
+    ensures some { IfSome result (λ c. (name_of c ≡ codes "lookup") × IsArgumentsOf c text.now) }
+    ensures none { IfNone result ((key : Call) (lo hi : ℕ) → IsArgumentsOf (Command.Lookup key lo hi) text.now → ⊥) }
+{
+    let (key, lo, hi) = match three_words(text) {
+        Some(words) => words,
+        None => return None,
+    };
+    let key = match Key::read(key) {
+        Ok(key) => key,
+        Err(_) => return None,
+    };
+    let lo = match read_stamp(lo) {
+        Some(lo) => lo,
+        None => return None,
+    };
+    let hi = match read_stamp(hi) {
+        Some(hi) => hi,
+        None => return None,
+    };
+    Some(Command::Lookup { key, lo, hi })
+}
+
+/// `event`, by what stands behind its name.
+fn read_event(alloc: Global, text: &[u8]) -> Result<Option<Command>, AllocError>
+    ensures { IfOk result (λ r. MatchOption r ((stamp : ℕ) (tags : List Tag) → IsArgumentsOf (Command.Event stamp tags) text.now → ⊥)
+        (λ c. (name_of c ≡ codes "event") × IsArgumentsOf c text.now)) }
+{
+    let (stamp, tags) = match two_words(text) {
+        Some(words) => words,
+        None => return Ok(None),
+    };
+    let stamp = match read_stamp(stamp) {
+        Some(stamp) => stamp,
+        None => return Ok(None),
+    };
+    match read_tags(alloc, tags) {
+        Ok(Some(tags)) => Ok(Some(Command::Event { stamp, tags })),
+        Ok(None) => Ok(None),
+        Err(e) => Err(e),
+    }
+}
+
+/// `insert`, by what stands behind its name.
+fn read_insert(alloc: Global, text: &[u8]) -> Result<Option<Command>, AllocError>
+    ensures { IfOk result (λ r. MatchOption r ((new : NewEntry) → IsArgumentsOf (Command.Insert new) text.now → ⊥)
+        (λ c. (name_of c ≡ codes "insert") × IsArgumentsOf c text.now)) }
+{
+    let words = match six_words(text) {
+        Some(words) => words,
+        None => return Ok(None),
+    };
+    let key = match Key::read(words.first) {
+        Ok(key) => key,
+        Err(_) => return Ok(None),
+    };
+    let lo = match read_stamp(words.second) {
+        Some(lo) => lo,
+        None => return Ok(None),
+    };
+    let known = match read_stamp(words.third) {
+        Some(known) => known,
+        None => return Ok(None),
+    };
+    let still = match read_still(words.fourth) {
+        Some(still) => still,
+        None => return Ok(None),
+    };
+    let tags = match read_tags(alloc, words.fifth) {
+        Ok(Some(tags)) => tags,
+        Ok(None) => return Ok(None),
+        Err(e) => return Err(e),
+    };
+    match read_hex(alloc, words.sixth) {
+        Ok(Some(value)) => Ok(Some(Command::Insert(Insertion {
+            key,
+            value,
+            lo,
+            known,
+            still,
+            tags,
+        }))),
+        Ok(None) => Ok(None),
+        Err(e) => Err(e),
+    }
+}
+
+/// The command that the line is; none where it is no command.
+pub fn read_command(alloc: Global, line: &[u8]) -> Result<Option<Command>, AllocError>
+    ensures { IfOk result (λ r. MatchOption r ((c : Command) → Spells line.now c → ⊥) (λ c. Spells line.now c)) }
+{
+    let (name, rest) = match first_word(line) {
+        Some(words) => words,
+        None => return Ok(None),
+    };
+    if is_same(name, b"insert") {
+        return read_insert(alloc, rest);
+    }
+    if is_same(name, b"lookup") {
+        return Ok(read_lookup(rest));
+    }
+    if is_same(name, b"event") {
+        return read_event(alloc, rest);
+    }
+    Ok(None)
+}

@@ -1,0 +1,60 @@
+//! The program: `txcache node` reads a script on standard input and prints the replies.
+#![tactic(auto)]
+
+mod command;
+mod fault;
+mod hex;
+mod line;
+mod obey;
+mod piece;
+mod reply;
+mod run;
+mod session;
+mod settings;
+mod words;
+mod writer;
+
+use fault::{RunFault, Status};
+use run::{Mode, run};
+use settings::Settings;
+use std::env::{self, Env};
+use std::io;
+use std::process::ExitCode;
+
+fn main(rt: HostRuntime) -> ExitCode {
+    let Some(mode) = read_arguments(&rt) else {
+        return end(&rt, "usage: txcache node", 2);
+    };
+    let mut reader = rt.reader();
+    let mut writer = io::writer(&rt);
+    match run(
+        rt.alloc(),
+        mode,
+        Settings::DEFAULT,
+        &mut reader,
+        &mut writer,
+    ) {
+        Ok(Status::Done) => ExitCode::SUCCESS,
+        Ok(Status::Refused) => ExitCode::from(1),
+        Err(RunFault::Read) => end(&rt, "read fault", 4),
+        Err(RunFault::Write) => end(&rt, "write fault", 4),
+        Err(RunFault::Memory) => end(&rt, "memory", 5),
+    }
+}
+
+/// The mode that the command line names, where it is one mode's name alone.
+fn read_arguments(rt: &(impl Env + AllocGlobal)) -> Option<Mode> {
+    let mut arguments = env::args(rt).ok()?;
+    arguments.next()?;
+    let word = arguments.next()?;
+    if arguments.next().is_some() || word.as_str() != "node" {
+        return None;
+    }
+    Some(Mode::Node)
+}
+
+/// Says on standard error why the program ends with this status.
+fn end(rt: &impl Eprint, text: &str, status: u8) -> ExitCode {
+    let _ = rt.eprintln(text);
+    ExitCode::from(status)
+}
