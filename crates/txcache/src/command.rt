@@ -11,7 +11,7 @@ use crate::hex::read_hex;
 use crate::words::{first_word, is_same, six_words, three_words, two_words};
 use std::alloc::{AllocError, Global};
 use std::marker::Model;
-use txc_node::entry::{Entry, EntryError};
+use txc_node::{Entry, EntryError};
 use txc_stamp::{LAST, Stamp};
 use txc_tags::{Key, SetError, TagSet, read_number};
 

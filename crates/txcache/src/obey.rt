@@ -5,8 +5,7 @@ ghost use Rattle.txcache.specs.Replies.{ObeysAs};
 use crate::command::{Command, Insertion};
 use crate::reply::{Refusal, ReplyLine, closed, hit, inserted, miss, refused};
 use std::alloc::{AllocError, Global};
-use txc_node::entry::EntryError;
-use txc_node::node::NodeCore;
+use txc_node::{EntryError, NodeCore};
 use txc_stamp::Stamp;
 use txc_tags::{Key, TagSet};
 

@@ -6,9 +6,7 @@ ghost use Rattle.txcache.specs.Replies.{ToEvent, Refused, reply_text, inserted_t
 use crate::hex::push_hex;
 use std::alloc::{AllocError, Global};
 use std::fmt;
-use txc_node::entry::Entry;
-use txc_node::hit::Hit;
-use txc_node::node::Inserted;
+use txc_node::{Entry, Hit, Inserted};
 use txc_stamp::{Reach, Stamp};
 
 /// Why a command was refused.

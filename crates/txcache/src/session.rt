@@ -14,7 +14,7 @@ use crate::settings::Settings;
 use crate::writer::write_text;
 use std::alloc::{AllocError, Global};
 use std::io::Write;
-use txc_node::node::NodeCore;
+use txc_node::NodeCore;
 
 /// Whether a run goes on behind a line.
 #[derive(Clone, Copy, Debug, PartialEq, Eq)]
