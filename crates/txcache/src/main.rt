@@ -11,6 +11,8 @@ mod reply;
 mod run;
 mod session;
 mod settings;
+#[cfg(test)]
+mod tests;
 mod words;
 mod writer;
 
