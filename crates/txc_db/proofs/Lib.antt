@@ -1,0 +1,6 @@
+pub mod Histories
+pub mod Holds
+pub mod Settling
+pub mod NetRows
+pub mod Sound
+pub mod Tagged

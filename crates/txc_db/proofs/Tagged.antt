@@ -1,0 +1,20 @@
+-- Events beside their tags.
+use Rattle.std.proofs.Common.{◌≡◌, ℕ, suc, ◌+◌, ◌==◌, ◌≤◌, Bool, true, false, List, Some, slice_get, refl, ap, sym, ◌∙◌, add-one, eqb-true, arith}
+use Rattle.std.proofs.lemmas.Bool.{eqb-false}
+use Rattle.txc_tags.specs.Tags.{sets_match}
+use Rattle.txc_db.specs.Refusals.{NoneMatches}
+use Rattle.txc_tags.specs.declared.tag.Tag.{Tag}
+use Rattle.txc_db.specs.Facts.{EventValue}
+use Rattle.txc_db.specs.History.{History, AreTagged, tags_at, event_at}
+
+-- the event at a place has the tags of the stamp after it
+pub tagged_at : (L : History) → AreTagged L → (t : ℕ) (v : EventValue) → slice_get L t ≡ Some v → v.tags ≡ tags_at L (t + 1)
+tagged_at L tagged t v at = tagged (suc t) v at ∙ ap (tags_at L) (sym (add-one t))
+
+-- one event more that does not match
+pub none_more : (L : History) (base t : ℕ) (read : List Tag) → NoneMatches L base t read → sets_match (tags_at L (t + 1)) read ≡ false → NoneMatches L base (t + 1) read
+none_more L base t read none off e low high = go (e == t + 1) refl
+  where
+    go : (b : Bool) → (e == t + 1) ≡ b → sets_match (tags_at L e) read ≡ false
+    go true is = let same : e ≡ t + 1 = eqb-true e (t + 1) is in ap (λ n. sets_match (tags_at L n) read) same ∙ off
+    go false is = let up : e ≤ t = let ne = eqb-false e (t + 1) is in omega (arith, high, ne) in none e low up

@@ -1,0 +1,5 @@
+use Rattle.txc_db.proofs.Holds.{one_less}
+use Rattle.txc_db.proofs.laws.one_hold_less.Goals as goal
+
+pub returns : goal.returns
+returns c = one_less

@@ -1,0 +1,9 @@
+pub mod Facts
+pub mod History
+pub mod Seen
+pub mod DatabaseValue
+pub mod Refusals
+pub mod Calls
+pub mod Laws
+pub mod NetWith
+pub mod Worked

@@ -1,0 +1,72 @@
+use std::alloc::{AllocError, AllocFailed};
+use thiserror::Error;
+use txc_rows::StoreError;
+use txc_stamp::Stamp;
+
+/// Why a call of the database was refused. After it the database is as it was, but where a call found it `Broken`.
+#[derive(Clone, Copy, Debug, PartialEq, Eq, Error)]
+pub enum DbError {
+    /// B1: the stamp lies below the horizon, which is given.
+    #[error("the snapshot is gone: the horizon is {0:?}")]
+    SnapshotGone(Stamp),
+    /// B2: an event after the base matches the tags read; the first that does is given.
+    #[error("event {0:?} conflicts with what was read")]
+    Conflict(Stamp),
+    /// B3: the history has as many events as its row has cells.
+    #[error("the history is full")]
+    Full,
+    /// B4: the store of the row versions refused: over 1,024 versions match, or it refused by itself, also for want of
+    /// memory of its own.
+    #[error("{0}")]
+    Store(StoreError),
+    /// B5: another record stood in the row behind the history. From then on each call is refused so.
+    #[error("the database is broken")]
+    Broken,
+    /// B6: nothing holds the stamp.
+    #[error("stamp {0:?} is not held")]
+    NotPinned(Stamp),
+    /// B7: the stamp lies beyond the newest one, which is given.
+    #[error("the newest stamp is {0:?}")]
+    FutureStamp(Stamp),
+    /// B8: there are 65,536 holds.
+    #[error("too many stamps are held")]
+    HoldsFull,
+    /// A growth was refused.
+    #[error("out of memory")]
+    Memory,
+}
+
+impl From<StoreError> for DbError {
+    ghost use Rattle.txc_db.specs.Refusals.{IsRefusalOf};
+
+    ghost from_gives = { λ cause it. IsRefusalOf cause it };
+
+    fn from(cause: StoreError) -> DbError {
+        match cause {
+            StoreError::Memory => DbError::Memory,
+            StoreError::TooManyRows | StoreError::Store(_) => DbError::Store(cause),
+        }
+    }
+}
+
+impl From<AllocError> for DbError {
+    ghost use Rattle.std.specs.Prelude.{◌≡◌};
+    ghost use Rattle.txc_db.specs.declared.error.DbError.TheVariants.{Memory};
+
+    ghost from_gives = { λ _ it. it ≡ Memory };
+
+    fn from(_: AllocError) -> DbError {
+        DbError::Memory
+    }
+}
+
+impl<T: Drop> From<AllocFailed<T>> for DbError {
+    ghost use Rattle.std.specs.Prelude.{◌≡◌};
+    ghost use Rattle.txc_db.specs.declared.error.DbError.TheVariants.{Memory};
+
+    ghost from_gives = { λ _ it. it ≡ Memory };
+
+    fn from(_: AllocFailed<T>) -> DbError {
+        DbError::Memory
+    }
+}

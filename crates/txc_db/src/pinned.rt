@@ -1,0 +1,17 @@
+ghost use Rattle.std.specs.Prelude.{◌≡◌, Some};
+ghost use Rattle.txc_db.specs.History.{moment_at};
+
+use crate::event::Event;
+use txc_stamp::Stamp;
+use txc_stream::Front;
+
+/// A pin of the history, held at its stamp.
+///
+/// Its front shows it: the event of that stamp is a pin of that moment, in milliseconds.
+#[derive(Drop)]
+pub struct Pinned {
+    pub stamp: Stamp,
+    pub moment: u64,
+    pub front: Front<Event>,
+    pub ghost shows: { moment_at front.list stamp ≡ Some moment },
+}

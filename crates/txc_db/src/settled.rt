@@ -1,0 +1,134 @@
+//! What a list of changes comes to: the last one of each table and id, by table and id.
+ghost use Rattle.std.specs.Prelude.{◌≡◌, ◌≤◌, ◌∷◌, [], ℕ, OnOk, IfOk, MatchOption, length, flat_map};
+ghost use Rattle.std.specs.List.{insert, list_any};
+ghost use Rattle.txc_tags.specs.Tags.{with_tags};
+ghost use Rattle.txc_rows.specs.declared.query.Query.TheVariants.{ById};
+ghost use Rattle.txc_rows.specs.States.{State, answer};
+ghost use Rattle.txc_rows.specs.RowTags.{tags_of_row, same_row};
+ghost use Rattle.txc_rows.specs.Net.{change_table, change_id, same_key, key_before, changes_state, placed, settled, puts_of};
+
+use std::alloc::{AllocError, Global};
+use txc_rows::{Change, Row};
+use txc_tags::{Table, Tag, TagSet};
+
+pub(crate) fn table_of(change: &Change) -> Table
+    ensures { result ≡ change_table change.now }
+{
+    match change {
+        Change::Put(row) => row.table(),
+        Change::Remove(table, _) => *table,
+    }
+}
+
+pub(crate) fn id_of(change: &Change) -> u32
+    ensures { result ≡ change_id change.now }
+{
+    match change {
+        Change::Put(row) => row.id(),
+        Change::Remove(_, id) => *id,
+    }
+}
+
+fn is_same_key(one: &Change, other: &Change) -> bool
+    ensures { result ≡ same_key one.now other.now }
+{
+    table_of(one) == table_of(other) && id_of(one) == id_of(other)
+}
+
+fn is_key_before(one: &Change, other: &Change) -> bool
+    ensures { result ≡ key_before one.now other.now }
+{
+    let (table, other_table) = (table_of(one), table_of(other));
+    table < other_table || table == other_table && id_of(one) < id_of(other)
+}
+
+/// Where the change belongs among those that settle later ones, or none where one of them has its table and id.
+fn place_of(change: &Change, settled: &[Change]) -> Option<usize>
+    ensures { MatchOption result (placed change.now settled.now ≡ settled.now) (λ at. (at ≤ length settled.now) × (insert settled.now at change.now ≡ placed change.now settled.now)) }
+{
+    for (at, other) in settled.iter().enumerate() {
+        if is_same_key(change, other) {
+            return None;
+        }
+        if is_key_before(change, other) {
+            return Some(at);
+        }
+    }
+    Some(settled.len())
+}
+
+/// The last change of each table and id, by table and id.
+pub(crate) fn settle(alloc: Global, changes: &[Change]) -> Result<Vec<Change>, AllocError>
+    ensures { IfOk result (λ last. last.items ≡ settled changes.now) }
+{
+    let mut last = Vec::new(alloc);
+    let mut left = changes.len();
+    while left > 0 {
+        left -= 1;
+        let change = &changes[left];
+        if let Some(at) = place_of(change, &last) {
+            last.insert(at, change.copy(alloc)?)?;
+        }
+    }
+    Ok(last)
+}
+
+fn is_same(one: &Row, other: &Row) -> bool
+    ensures { result ≡ same_row one.now other.now }
+{
+    one.is_same(other)
+}
+
+fn has_row(rows: &[Row], row: &Row) -> bool
+    ensures { result ≡ list_any (same_row row.now) rows.now }
+{
+    rows.iter().any(|old| is_same(row, old))
+}
+
+/// Whether the change makes another state, where these are the rows at its table and id.
+pub(crate) fn makes_another(change: &Change, rows: &[Row]) -> bool
+    ensures { (s : State) → rows.now ≡ answer (ById (change_table change.now) (change_id change.now)) s → result ≡ changes_state s change.now }
+{
+    match change {
+        Change::Put(row) => !has_row(rows, row),
+        Change::Remove(_, _) => !rows.is_empty(),
+    }
+}
+
+/// Adds the tags of a row: its id's and its group's.
+fn add_row(tags: &mut TagSet, row: &Row) -> Result<(), AllocError>
+    ensures { OnOk result (tags.new ≡ with_tags (tags_of_row row.now) tags.old) }
+{
+    tags.add(Tag::Id(row.table(), row.id()))?;
+    tags.add(Tag::Group(row.table(), row.group()))?;
+    Ok(())
+}
+
+/// Adds the tags of the rows.
+pub(crate) fn add_rows(tags: &mut TagSet, rows: &[Row]) -> Result<(), AllocError>
+    ensures { OnOk result (tags.new ≡ with_tags (flat_map tags_of_row rows.now) tags.old) }
+{
+    for row in rows {
+        add_row(tags, row)?;
+    }
+    Ok(())
+}
+
+fn add_put(tags: &mut TagSet, change: &Change) -> Result<(), AllocError>
+    ensures { OnOk result (tags.new ≡ with_tags (flat_map tags_of_row (puts_of (change.now ∷ []))) tags.old) }
+{
+    match change {
+        Change::Put(row) => add_row(tags, row),
+        Change::Remove(_, _) => Ok(()),
+    }
+}
+
+/// Adds the tags of the rows that the changes put.
+pub(crate) fn add_puts(tags: &mut TagSet, changes: &[Change]) -> Result<(), AllocError>
+    ensures { OnOk result (tags.new ≡ with_tags (flat_map tags_of_row (puts_of changes.now)) tags.old) }
+{
+    for change in changes {
+        add_put(tags, change)?;
+    }
+    Ok(())
+}
