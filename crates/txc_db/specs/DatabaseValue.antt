@@ -16,6 +16,7 @@ pub record DatabaseValue : Type 0 where
   pub holds : List ℕ
   pub broken : Bool
 
+-- the stamp after all events
 abbrev pub newest : DatabaseValue → ℕ
 newest d = length d.history
 
@@ -23,6 +24,7 @@ newest d = length d.history
 abbrev pub newest_state : DatabaseValue → State
 newest_state d = state_at d.history (newest d)
 
+-- the most holds at a time
 abbrev pub most_holds : ℕ
 most_holds = 65536
 

@@ -15,6 +15,7 @@ pub record EventValue : Type 0 where
   pub fact : Fact
   pub tags : List Tag
 
+-- what happened, as a fact
 abbrev pub fact_of : What → Fact
 fact_of (whats.Commit net) = commit net.items
 fact_of (whats.Pin moment) = pin moment

@@ -16,6 +16,7 @@ abbrev pub after_fact : Fact → State → State
 after_fact (commit net) s = after_changes net s
 after_fact (pin moment) s = s
 
+-- the state after an event
 abbrev pub after_event : State → EventValue → State
 after_event s e = after_fact e.fact s
 
@@ -37,10 +38,12 @@ event_at L (suc t) = slice_get L t
 abbrev pub AreTagged : History → Type 0
 AreTagged L = (e : ℕ) (v : EventValue) → event_at L e ≡ Some v → v.tags ≡ tags_at L e
 
+-- the moment of a pin; a commit has none
 abbrev pub moment_of : Fact → Option ℕ
 moment_of (commit net) = None
 moment_of (pin moment) = Some moment
 
+-- the moment of an event that is there and is a pin
 abbrev pub pinned_moment : Option EventValue → Option ℕ
 pinned_moment None = None
 pinned_moment (Some e) = moment_of e.fact

@@ -21,6 +21,7 @@ worked =
     ∷ record { fact = pin 2000; tags = [] }
     ∷ []
 
+-- its states
 pub record WorkedStates : Type 0 where
   pub empty : state_at worked 0 ≡ []
   pub put : state_at worked 1 ≡ row_of 7 97 ∷ []
@@ -28,23 +29,27 @@ pub record WorkedStates : Type 0 where
   pub put_again : state_at worked 3 ≡ row_of 7 97 ∷ row_of 8 98 ∷ []
   pub newest : state_at worked 4 ≡ row_of 7 97 ∷ row_of 8 98 ∷ []
 
+-- the tags of its events
 pub record WorkedTags : Type 0 where
   pub put : tags_at worked 1 ≡ Id 1 7 ∷ Group 1 2 ∷ []
   pub pinned : tags_at worked 2 ≡ []
   pub put_again : tags_at worked 3 ≡ Id 1 8 ∷ Group 1 2 ∷ []
   pub newest : tags_at worked 4 ≡ []
 
+-- the moments of its pins
 pub record WorkedMoments : Type 0 where
   pub put : moment_at worked 1 ≡ None
   pub pinned : moment_at worked 2 ≡ Some 1000
   pub newest : moment_at worked 4 ≡ Some 2000
   pub beyond : moment_at worked 5 ≡ None
 
+-- answers of queries in its states
 pub record WorkedAnswers : Type 0 where
   pub group : answer (ByGroup 1 2) (state_at worked 2) ≡ row_of 7 97 ∷ []
   pub newest : answer (ByGroup 1 2) (state_at worked 4) ≡ row_of 7 97 ∷ row_of 8 98 ∷ []
   pub none : answer (ById 1 9) (state_at worked 4) ≡ []
 
+-- net changes over its newest state
 pub record WorkedNet : Type 0 where
   -- the same row again, and the removal of a row that is not there
   pub quiet : net_changes (state_at worked 4) (Put (row_of 7 97) ∷ Remove 1 9 ∷ []) ≡ []
@@ -53,6 +58,7 @@ pub record WorkedNet : Type 0 where
   -- a row that goes to group 3: its id, its old group and its new one
   pub moved : (commit_event (state_at worked 4) (Put (record { table = 1; id = 7; group = 3; body = 97 ∷ [] }) ∷ [])).tags ≡ Id 1 7 ∷ Group 1 2 ∷ Group 1 3 ∷ []
 
+-- all of these
 pub record WorkedHistory : Type 0 where
   pub states : WorkedStates
   pub tags : WorkedTags

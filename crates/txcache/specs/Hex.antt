@@ -16,8 +16,10 @@ abbrev pub hex_text : List ℕ → List ℕ
 hex_text [] = codes "-"
 hex_text (b ∷ bytes) = flat_map digits_of (b ∷ bytes)
 
+-- each is below 256
 abbrev pub IsBytes : List ℕ → Type 0
 IsBytes value = All (λ b. b < 256) value
 
+-- the text of bytes: a dash, or two hexadecimal digits for each
 abbrev pub IsHexWord : List ℕ → List ℕ → Type 0
 IsHexWord word value = IsTextOf IsBytes hex_text word value

@@ -15,6 +15,7 @@ use Rattle.txcache.specs.declared.command.Command.TheVariants.{Insert, Lookup, E
 
 -- ---- words
 
+-- the text of a key
 abbrev pub IsKeyWord : List ℕ → Call → Type 0
 IsKeyWord word key = IsTextOf IsKeyInRange key_text word key
 
@@ -26,6 +27,7 @@ IsStampWord word stamp = IsTextOf (λ n. n ≤ 1048576) decimal word stamp
 abbrev pub IsTagsWord : List ℕ → List Tag → Type 0
 IsTagsWord word tags = IsSetOfText word tags
 
+-- the word for a reach that is still valid, or is not
 abbrev pub still_text : Bool → List ℕ
 still_text true = codes "still"
 still_text false = codes "closed"
@@ -42,6 +44,7 @@ pub record AreLookupWords (key : Call) (lo hi : ℕ) (words : List (List ℕ)) :
   pub is_lo : IsStampWord lo_word lo
   pub is_hi : IsStampWord hi_word hi
 
+-- a stamp and tags
 pub record AreEventWords (stamp : ℕ) (tags : List Tag) (words : List (List ℕ)) : Type 0 where
   pub stamp_word : List ℕ
   pub tags_word : List ℕ
@@ -49,6 +52,7 @@ pub record AreEventWords (stamp : ℕ) (tags : List Tag) (words : List (List ℕ
   pub is_stamp : IsStampWord stamp_word stamp
   pub are_tags : IsTagsWord tags_word tags
 
+-- a key, two stamps, `still` or `closed`, tags and bytes
 pub record AreInsertWords (new : NewEntry) (words : List (List ℕ)) : Type 0 where
   pub key_word : List ℕ
   pub lo_word : List ℕ
@@ -68,6 +72,7 @@ name_of (Insert new) = codes "insert"
 name_of (Lookup key lo hi) = codes "lookup"
 name_of (Event stamp tags) = codes "event"
 
+-- the words behind the name of that command
 abbrev pub AreWordsBehind : Command → List (List ℕ) → Type 0
 AreWordsBehind (Insert new) words = AreInsertWords new words
 AreWordsBehind (Lookup key lo hi) words = AreLookupWords key lo hi words

@@ -21,6 +21,7 @@ pub data Reply : Type 0 where
   ToEvent : ℕ → Reply
   Refused : Refusal → Reply
 
+-- the reply is a refusal
 abbrev pub is_refusal : Reply → Bool
 is_refusal (ToInsert inserted) = false
 is_refusal (ToLookup found) = false
@@ -29,6 +30,7 @@ is_refusal (Refused refusal) = true
 
 -- ---- what is replied
 
+-- the entry that a line names
 abbrev pub entry_of : NewEntry → Entry
 entry_of new = record { key = new.key; value = new.value; reach = record { lo = new.lo; known = new.known; still = new.still }; tags = new.tags }
 
@@ -64,11 +66,13 @@ IsObeyed c command (Some refusal) reply next = (reply ≡ Refused refusal) × (n
 IsObeyed c command None reply next =
     ((reply ≡ reply_of_step c command) × (next ≡ state_of_step c command)) ⊎ (WantsMemory command reply × (next ≡ c))
 
+-- the command has this reply in the state of the cache, and leaves that one
 abbrev pub Obeys : Cache → Command → Reply → Cache → Type 0
 Obeys c command reply next = IsObeyed c command (refusal_of c command) reply next
 
 -- ---- texts
 
+-- how a span ends
 abbrev pub validity_text : Bool → List ℕ
 validity_text true = codes ") still"
 validity_text false = codes ") closed"
@@ -82,10 +86,12 @@ abbrev pub evicted_text : Option Entry → List ℕ
 evicted_text None = 10 ∷ []
 evicted_text (Some e) = codes " evicted " ++ (key_text e.key ++ (codes "@" ++ (decimal e.reach.lo ++ 10 ∷ [])))
 
+-- the reply to an insertion
 abbrev pub inserted_text : Inserted → List ℕ
 inserted_text (Stored reach evicted) = codes "stored " ++ (span_text reach ++ evicted_text evicted)
 inserted_text (Kept entry) = codes "kept" ++ 10 ∷ []
 
+-- the reply to a lookup
 abbrev pub found_text : Option Answer → List ℕ
 found_text None = codes "miss" ++ 10 ∷ []
 found_text (Some a) = codes "hit " ++ (span_text a.reach ++ codes " ") ++ hex_text a.value ++ 10 ∷ []

@@ -21,6 +21,7 @@ pub data Given : Type 0 where
   Replied : Reply → Given
   Malformed : ℕ → Given
 
+-- what is written of it
 abbrev pub given_text : Given → List ℕ
 given_text Nothing = []
 given_text (Replied reply) = reply_text reply
@@ -53,9 +54,11 @@ AreGiven c number (line ∷ lines) [] end = ⊥
 AreGiven c number (line ∷ lines) (g ∷ given) end =
     (next : Cache) × Gives c number line g next × GoesOn g lines × AreGiven next (number + 1) lines given end
 
+-- what is written of all, one after the other
 abbrev pub output_of : List Given → List ℕ
 output_of given = flat_map given_text given
 
+-- the line was malformed
 abbrev pub is_malformed : Given → Bool
 is_malformed Nothing = false
 is_malformed (Replied reply) = false
@@ -63,6 +66,7 @@ is_malformed (Malformed number) = true
 
 -- ---- runs
 
+-- refused where a line was refused or malformed
 abbrev pub status_of : List Given → Status
 status_of given = if list_any is_refused given then Refused else Done
 

@@ -71,11 +71,13 @@ pub record HasEnded (start : Cache) (read written : List ℕ) (s : Session) : Ty
   pub text : written ++ string_bytes s.output ≡ output_of given
   pub refused : s.is_refused ≡ list_any is_refused given
 
+-- bytes were heard: the session goes on, or was stopped by a malformed line, or halted for want of memory
 abbrev pub HearsAs : Cache → List ℕ → List ℕ → Session → Result Flow AllocError → Type 0
 HearsAs start read written s (Ok GoesOn) = Heard start read written s
 HearsAs start read written s (Ok Stopped) = IsStopped start read written s
 HearsAs start read written s (Err e) = IsHalted start read written s
 
+-- the end of the script was heard, or memory was wanted
 abbrev pub EndsAs : {T : Type 0} → Cache → List ℕ → List ℕ → Session → Result T AllocError → Type 0
 EndsAs start read written s (Ok x) = HasEnded start read written s
 EndsAs start read written s (Err e) = IsHalted start read written s

@@ -16,6 +16,7 @@ abbrev pub EndsWith : Cache → List ℕ → Type 0 → List ℕ → Option (Lis
 EndsWith start read at_end written contents_old contents_new result =
     (more : List ℕ) × Appends contents_old contents_new more × HasWritten start read at_end (written ++ more) result
 
+-- the status of a run in which a line was refused, or none was
 abbrev pub status_by : Bool → Status
 status_by refused = if refused then Refused else Done
 
