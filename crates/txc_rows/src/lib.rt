@@ -11,9 +11,7 @@ mod store_error;
 mod store_laws;
 mod version;
 
-pub use laws::{
-    net_changes_are_differences, states_are_maps, tags_are_sound, versions_say_states,
-};
+pub use laws::{net_changes_are_differences, states_are_maps, tags_are_sound, versions_say_states};
 pub use query::{Change, Query};
 pub use row::{Row, RowError};
 pub use store::VersionRows;

@@ -24,8 +24,10 @@ use std::io;
 use std::process::ExitCode;
 
 fn main(rt: HostRuntime) -> ExitCode {
-    let Some(mode) = read_arguments(&rt) else {
-        return end(&rt, "usage: txcache node", 2);
+    let mode = match read_arguments(&rt) {
+        Ok(Some(mode)) => mode,
+        Ok(None) => return end(&rt, "usage: txcache node", 2),
+        Err(_) => return end(&rt, "memory", 5),
     };
     let mut reader = rt.reader();
     let mut writer = io::writer(&rt);
@@ -44,15 +46,17 @@ fn main(rt: HostRuntime) -> ExitCode {
     }
 }
 
-/// The mode that the command line names, where it is one mode's name alone.
-fn read_arguments(rt: &(impl Env + AllocGlobal)) -> Option<Mode> {
-    let mut arguments = env::args(rt).ok()?;
-    arguments.next()?;
-    let word = arguments.next()?;
+/// The mode that the command line names, where it is one mode's name alone. An error is want of memory.
+fn read_arguments(rt: &(impl Env + AllocGlobal)) -> io::Result<Option<Mode>> {
+    let mut arguments = env::args(rt)?;
+    let _program = arguments.next();
+    let Some(word) = arguments.next() else {
+        return Ok(None);
+    };
     if arguments.next().is_some() || word.as_str() != "node" {
-        return None;
+        return Ok(None);
     }
-    Some(Mode::Node)
+    Ok(Some(Mode::Node))
 }
 
 /// Says on standard error why the program ends with this status.
