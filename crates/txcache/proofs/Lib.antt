@@ -8,3 +8,5 @@ pub mod Reading
 pub mod Turning
 pub mod Arguments
 pub mod HexDigits
+pub mod OneThing
+pub mod OneWay

@@ -1,6 +1,5 @@
 -- Commands are obeyed.
 use Rattle.std.proofs.Common.{◌≡◌, ℕ, ◌+◌, ◌<◌, ◌≤◌, Bool, true, false, eqb, ltb, cond, List, Option, Some, None, Result, Ok, Err, IfOk, length, refl, sym, ap, subst, ◌∙◌, arith, inl, inr}
-use Rattle.std.specs.Prelude.{string_bytes}
 use Rattle.std.proofs.lemmas.Bool.Decides.{nat_tests}
 use Rattle.txc_tags.specs.declared.tag.Tag.{Tag}
 use Rattle.txc_tags.specs.Keys.{Call}
@@ -8,7 +7,7 @@ use Rattle.txc_node.specs.declared.node.Inserted.{Inserted}
 use Rattle.txc_node.specs.declared.entry.Entry.{Entry}
 use Rattle.txc_node.specs.Cache.{Cache, Answer, answer, after_lookup, after_insert, outcome, after_event, closed_count}
 use Rattle.txcache.specs.Insertion.{NewEntry}
-use Rattle.txcache.specs.Replies.{Reply, ToInsert, ToLookup, ToEvent, Refused, Obeys, IsObeyed, ObeysAs, reply_text, is_refusal, entry_of}
+use Rattle.txcache.specs.Replies.{Reply, ToInsert, ToLookup, ToEvent, Refused, Obeys, IsObeyed, ObeysAs, Tells, entry_of}
 use Rattle.txcache.specs.declared.command.Command.{Command}
 use Rattle.txcache.specs.declared.command.Command.TheVariants.{Insert, Lookup, Event}
 use Rattle.txcache.specs.declared.reply.ReplyLine.{ReplyLine}
@@ -17,9 +16,8 @@ use Rattle.txcache.specs.declared.reply.Refusal.TheVariants.{EmptyRange, BadReac
 
 -- a line with the reply's text
 pub obeyed_as : {E : Type 0} (r : Result ReplyLine E) (c : Cache) (command : Command) (next : Cache) (reply : Reply)
-    → IfOk r (λ l. (string_bytes l.text ≡ reply_text reply) × (l.is_refusal ≡ is_refusal reply)) → Obeys c command reply next
-    → IfOk r (λ l. ObeysAs c command next (string_bytes l.text) l.is_refusal)
-obeyed_as (Ok l) c command next reply h obeys = (reply, obeys, h.0, h.1)
+    → IfOk r (λ l. Tells l reply) → Obeys c command reply next → IfOk r (ObeysAs c command next)
+obeyed_as (Ok l) c command next reply h obeys = (reply, obeys, h)
 obeyed_as (Err e) c command next reply h obeys = tt
 
 is_equal : (a b : ℕ) → a ≡ b → eqb a b ≡ true

@@ -9,3 +9,4 @@ pub mod Runs
 pub mod Reading
 pub mod Sessions
 pub mod Turns
+pub mod Laws

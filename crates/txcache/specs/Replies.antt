@@ -1,5 +1,5 @@
 -- What the node replies to a command, and the texts of replies.
-use Rattle.std.specs.Prelude.{◌≡◌, ℕ, ◌+◌, Bool, true, false, List, [], ◌∷◌, ◌++◌, Option, Some, None, nat_lt, ◌==◌, ◌⊎◌, if◌then◌else◌, length, codes}
+use Rattle.std.specs.Prelude.{◌≡◌, ℕ, ◌+◌, Bool, true, false, List, [], ◌∷◌, ◌++◌, Option, Some, None, nat_lt, ◌==◌, ◌⊎◌, if◌then◌else◌, length, codes, string_bytes}
 use Rattle.std.specs.Fmt.{decimal}
 use Rattle.txc_stamp.specs.Interval.{Interval}
 use Rattle.txc_tags.specs.TextKey.{key_text}
@@ -11,6 +11,7 @@ use Rattle.txcache.specs.Insertion.{NewEntry}
 use Rattle.txcache.specs.Hex.{hex_text}
 use Rattle.txcache.specs.declared.command.Command.{Command}
 use Rattle.txcache.specs.declared.command.Command.TheVariants.{Insert, Lookup, Event}
+use Rattle.txcache.specs.declared.reply.ReplyLine.{ReplyLine}
 use Rattle.txcache.specs.declared.reply.Refusal.{Refusal}
 use Rattle.txcache.specs.declared.reply.Refusal.TheVariants.{EmptyRange, BadReach, OutOfOrder, ValueTooLong, Memory}
 
@@ -111,6 +112,11 @@ reply_text (ToLookup found) = found_text found
 reply_text (ToEvent count) = codes "closed " ++ (decimal count ++ 10 ∷ [])
 reply_text (Refused refusal) = codes "refused " ++ (refusal_text refusal ++ 10 ∷ [])
 
--- a command is obeyed with a reply of this text, which is a refusal or not
-abbrev pub ObeysAs : Cache → Command → Cache → List ℕ → Bool → Type 0
-ObeysAs c command next text refused = (reply : Reply) × Obeys c command reply next × (text ≡ reply_text reply) × (refused ≡ is_refusal reply)
+-- the line is the reply's text, and says whether the reply is a refusal
+pub record Tells (line : ReplyLine) (reply : Reply) : Type 0 where
+  pub text : string_bytes line.text ≡ reply_text reply
+  pub refused : line.is_refusal ≡ is_refusal reply
+
+-- the command is obeyed, and the line tells its reply
+abbrev pub ObeysAs : Cache → Command → Cache → ReplyLine → Type 0
+ObeysAs c command next line = (reply : Reply) × Obeys c command reply next × Tells line reply

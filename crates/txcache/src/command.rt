@@ -31,7 +31,14 @@ impl Model for Insertion {
 
     ghost Value = { NewEntry };
 
-    ghost view = { λ i. record { key = i.key; value = i.value.items; lo = i.lo; known = i.known; still = i.still; tags = i.tags } };
+    ghost view = { λ i. record {
+      key = i.key;
+      value = i.value.items;
+      lo = i.lo;
+      known = i.known;
+      still = i.still;
+      tags = i.tags;
+    } };
 }
 
 impl Insertion {
@@ -40,7 +47,8 @@ impl Insertion {
         ensures entry { IfOk result (λ e. e ≡ entry_of self) }
         ensures fits { OnOk result ((self.lo ≤ self.known) × (length self.value ≤ 1024)) }
         ensures bad_reach { result ≡ Err EntryError.BadReach → self.known < self.lo }
-        ensures too_long { result ≡ Err EntryError.ValueTooLong → (self.lo ≤ self.known) × (1024 < length self.value) }
+        ensures too_long { result ≡ Err EntryError.ValueTooLong →
+            (self.lo ≤ self.known) × (1024 < length self.value) }
     {
         let Insertion {
             key,
@@ -92,7 +100,8 @@ fn read_still(text: &[u8]) -> Option<bool>
 
 /// A set of tags, where the text is one.
 fn read_tags(alloc: Global, text: &[u8]) -> Result<Option<TagSet>, AllocError>
-    ensures { IfOk result (λ r. MatchOption r ((tags : List Tag) → IsTagsWord text.now tags → ⊥) (λ tags. IsTagsWord text.now tags)) }
+    ensures { IfOk result (λ r. MatchOption r
+        ((tags : List Tag) → IsTagsWord text.now tags → ⊥) (λ tags. IsTagsWord text.now tags)) }
 {
     match TagSet::read(alloc, text) {
         Ok(tags) => Ok(Some(tags)),
@@ -104,7 +113,8 @@ fn read_tags(alloc: Global, text: &[u8]) -> Result<Option<TagSet>, AllocError>
 /// `lookup`, by what stands behind its name.
 fn read_lookup(text: &[u8]) -> Option<Command>
     ensures some { IfSome result (λ c. (name_of c ≡ codes "lookup") × IsArgumentsOf c text.now) }
-    ensures none { IfNone result ((key : Call) (lo hi : ℕ) → IsArgumentsOf (Command.Lookup key lo hi) text.now → ⊥) }
+    ensures none { IfNone result
+        ((key : Call) (lo hi : ℕ) → IsArgumentsOf (Command.Lookup key lo hi) text.now → ⊥) }
 {
     let (key, lo, hi) = match three_words(text) {
         Some(words) => words,
@@ -127,7 +137,8 @@ fn read_lookup(text: &[u8]) -> Option<Command>
 
 /// `event`, by what stands behind its name.
 fn read_event(alloc: Global, text: &[u8]) -> Result<Option<Command>, AllocError>
-    ensures { IfOk result (λ r. MatchOption r ((stamp : ℕ) (tags : List Tag) → IsArgumentsOf (Command.Event stamp tags) text.now → ⊥)
+    ensures { IfOk result (λ r. MatchOption r
+        ((stamp : ℕ) (tags : List Tag) → IsArgumentsOf (Command.Event stamp tags) text.now → ⊥)
         (λ c. (name_of c ≡ codes "event") × IsArgumentsOf c text.now)) }
 {
     let (stamp, tags) = match two_words(text) {
@@ -147,7 +158,8 @@ fn read_event(alloc: Global, text: &[u8]) -> Result<Option<Command>, AllocError>
 
 /// `insert`, by what stands behind its name.
 fn read_insert(alloc: Global, text: &[u8]) -> Result<Option<Command>, AllocError>
-    ensures { IfOk result (λ r. MatchOption r ((new : NewEntry) → IsArgumentsOf (Command.Insert new) text.now → ⊥)
+    ensures { IfOk result (λ r. MatchOption r
+        ((new : NewEntry) → IsArgumentsOf (Command.Insert new) text.now → ⊥)
         (λ c. (name_of c ≡ codes "insert") × IsArgumentsOf c text.now)) }
 {
     let words = match six_words(text) {
@@ -191,7 +203,8 @@ fn read_insert(alloc: Global, text: &[u8]) -> Result<Option<Command>, AllocError
 
 /// The command that the line is; none where it is no command.
 pub fn read_command(alloc: Global, line: &[u8]) -> Result<Option<Command>, AllocError>
-    ensures { IfOk result (λ r. MatchOption r ((c : Command) → Spells line.now c → ⊥) (λ c. Spells line.now c)) }
+    ensures { IfOk result (λ r. MatchOption r
+        ((c : Command) → Spells line.now c → ⊥) (λ c. Spells line.now c)) }
 {
     let (name, rest) = match first_word(line) {
         Some(words) => words,

@@ -10,7 +10,8 @@ pub enum Status {
     Refused,
 }
 
-/// Why a run ended early. The replies to the lines before were written, as far as the writer took them.
+/// Why a run ended early. The replies to the lines before were written, as far as the writer took
+/// them.
 #[derive(Clone, Copy, Debug, PartialEq, Eq, Error)]
 pub enum RunFault {
     /// The reader failed, or did not end within the reads that it is given.

@@ -34,7 +34,8 @@ fn push_digits(text: &mut String, byte: u8) -> Result<(), AllocError>
 }
 
 fn push_all_digits(text: &mut String, bytes: &[u8]) -> Result<(), AllocError>
-    ensures { OnOk result (string_bytes text.new ≡ string_bytes text.old ++ flat_map digits_of bytes.now) }
+    ensures { OnOk result
+        (string_bytes text.new ≡ string_bytes text.old ++ flat_map digits_of bytes.now) }
 {
     for byte in bytes {
         push_digits(text, *byte)?;
@@ -68,7 +69,8 @@ fn read_byte(high: u8, low: u8) -> Option<u8>
 
 /// The bytes of which the text has the digits.
 fn read_digits(alloc: Global, text: &[u8]) -> Result<Option<Vec<u8>>, AllocError>
-    ensures { IfOk result (λ r. MatchOption r ((bytes : List ℕ) → IsBytes bytes → flat_map digits_of bytes ≡ text.now → ⊥)
+    ensures { IfOk result (λ r. MatchOption r
+        ((bytes : List ℕ) → IsBytes bytes → flat_map digits_of bytes ≡ text.now → ⊥)
         (λ v. IsBytes v.items × (flat_map digits_of v.items ≡ text.now))) }
 {
     let mut bytes = Vec::new(alloc);
@@ -92,7 +94,8 @@ fn read_digits(alloc: Global, text: &[u8]) -> Result<Option<Vec<u8>>, AllocError
 
 /// The bytes of which the text is the spelling: `-` for none, or two digits for each.
 pub fn read_hex(alloc: Global, text: &[u8]) -> Result<Option<Vec<u8>>, AllocError>
-    ensures { IfOk result (λ r. MatchOption r ((bytes : List ℕ) → IsHexWord text.now bytes → ⊥) (λ v. IsHexWord text.now v.items)) }
+    ensures { IfOk result (λ r. MatchOption r
+        ((bytes : List ℕ) → IsHexWord text.now bytes → ⊥) (λ v. IsHexWord text.now v.items)) }
 {
     if is_same(text, b"-") {
         return Ok(Some(Vec::new(alloc)));

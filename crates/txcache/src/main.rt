@@ -4,6 +4,7 @@
 mod command;
 mod fault;
 mod hex;
+mod laws;
 mod line;
 mod obey;
 mod piece;
@@ -46,7 +47,8 @@ fn main(rt: HostRuntime) -> ExitCode {
     }
 }
 
-/// The mode that the command line names, where it is one mode's name alone. An error is want of memory.
+/// The mode that the command line names, where it is one mode's name alone. An error is want of
+/// memory.
 fn read_arguments(rt: &(impl Env + AllocGlobal)) -> io::Result<Option<Mode>> {
     let mut arguments = env::args(rt)?;
     let _program = arguments.next();

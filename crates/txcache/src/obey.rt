@@ -1,5 +1,5 @@
 //! Commands are obeyed by a node.
-ghost use Rattle.std.specs.Prelude.{IfOk, string_bytes};
+ghost use Rattle.std.specs.Prelude.{IfOk};
 ghost use Rattle.txcache.specs.Replies.{ObeysAs};
 
 use crate::command::{Command, Insertion};
@@ -11,7 +11,7 @@ use txc_tags::{Key, TagSet};
 
 /// Inserts an entry.
 fn insert(alloc: Global, node: &mut NodeCore, new: Insertion) -> Result<ReplyLine, AllocError>
-    ensures { IfOk result (λ l. ObeysAs node.old (Command.Insert new) node.new (string_bytes l.text) l.is_refusal) }
+    ensures { IfOk result (ObeysAs node.old (Command.Insert new) node.new) }
 {
     match new.into_entry() {
         Ok(entry) => match node.insert(entry) {
@@ -31,7 +31,7 @@ fn lookup(
     lo: Stamp,
     hi: Stamp,
 ) -> Result<ReplyLine, AllocError>
-    ensures { IfOk result (λ l. ObeysAs node.old (Command.Lookup key lo hi) node.new (string_bytes l.text) l.is_refusal) }
+    ensures { IfOk result (ObeysAs node.old (Command.Lookup key lo hi) node.new) }
 {
     match node.lookup(&key, lo, hi) {
         Ok(Some(found)) => hit(alloc, &found),
@@ -47,7 +47,7 @@ fn event(
     stamp: Stamp,
     tags: TagSet,
 ) -> Result<ReplyLine, AllocError>
-    ensures { IfOk result (λ l. ObeysAs node.old (Command.Event stamp tags) node.new (string_bytes l.text) l.is_refusal) }
+    ensures { IfOk result (ObeysAs node.old (Command.Event stamp tags) node.new) }
 {
     match node.event(stamp, tags) {
         Ok(count) => closed(alloc, count),
@@ -57,7 +57,7 @@ fn event(
 
 /// Obeys a command, and gives its reply.
 pub fn obey(alloc: Global, node: &mut NodeCore, command: Command) -> Result<ReplyLine, AllocError>
-    ensures { IfOk result (λ l. ObeysAs node.old command node.new (string_bytes l.text) l.is_refusal) }
+    ensures { IfOk result (ObeysAs node.old command node.new) }
 {
     match command {
         Command::Insert(new) => insert(alloc, node, new),

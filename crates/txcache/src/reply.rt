@@ -1,7 +1,7 @@
 //! The replies to commands, and their texts.
-ghost use Rattle.std.specs.Prelude.{◌≡◌, [], ◌∷◌, ◌++◌, Some, true, false, codes, IfOk, string_bytes};
+ghost use Rattle.std.specs.Prelude.{◌≡◌, ◌++◌, Some, None, codes, IfOk, string_bytes};
 ghost use Rattle.txc_node.specs.Hit.{seen};
-ghost use Rattle.txcache.specs.Replies.{ToEvent, Refused, reply_text, inserted_text, evicted_text, found_text, span_text};
+ghost use Rattle.txcache.specs.Replies.{ToInsert, ToLookup, ToEvent, Refused, Tells, evicted_text, span_text};
 
 use crate::hex::push_hex;
 use std::alloc::{AllocError, Global};
@@ -75,7 +75,7 @@ pub struct ReplyLine {
 
 /// `refused`, the code and its number.
 pub fn refused(alloc: Global, refusal: Refusal) -> Result<ReplyLine, AllocError>
-    ensures { IfOk result (λ l. (string_bytes l.text ≡ reply_text (Refused refusal)) × (l.is_refusal ≡ true)) }
+    ensures { IfOk result (λ l. Tells l (Refused refusal)) }
 {
     let text = format!(in alloc; "refused {refusal}\n")?;
     Ok(ReplyLine {
@@ -86,7 +86,8 @@ pub fn refused(alloc: Global, refusal: Refusal) -> Result<ReplyLine, AllocError>
 
 /// `stored`, the span, and the entry that was dropped, if one was.
 fn stored_text(alloc: Global, reach: Reach, evicted: &Option<Entry>) -> Result<String, AllocError>
-    ensures { IfOk result (λ s. string_bytes s ≡ codes "stored " ++ (span_text reach ++ evicted_text evicted.now)) }
+    ensures { IfOk result
+        (λ s. string_bytes s ≡ codes "stored " ++ (span_text reach ++ evicted_text evicted.now)) }
 {
     let span = SpanText(reach);
     match evicted {
@@ -101,7 +102,7 @@ fn stored_text(alloc: Global, reach: Reach, evicted: &Option<Entry>) -> Result<S
 
 /// What became of an entry: `stored`, or `kept` where the one that was there stays.
 pub fn inserted(alloc: Global, inserted: &Inserted) -> Result<ReplyLine, AllocError>
-    ensures { IfOk result (λ l. (string_bytes l.text ≡ inserted_text inserted.now) × (l.is_refusal ≡ false)) }
+    ensures { IfOk result (λ l. Tells l (ToInsert inserted.now)) }
 {
     match inserted {
         Inserted::Stored { reach, evicted } => {
@@ -123,7 +124,7 @@ pub fn inserted(alloc: Global, inserted: &Inserted) -> Result<ReplyLine, AllocEr
 
 /// `hit`, the span and the value.
 pub fn hit(alloc: Global, found: &Hit<'_>) -> Result<ReplyLine, AllocError>
-    ensures { IfOk result (λ l. (string_bytes l.text ≡ found_text (Some (seen found.now))) × (l.is_refusal ≡ false)) }
+    ensures { IfOk result (λ l. Tells l (ToLookup (Some (seen found.now)))) }
 {
     let span = SpanText(found.reach());
     let mut text = format!(in alloc; "hit {span} ")?;
@@ -137,7 +138,7 @@ pub fn hit(alloc: Global, found: &Hit<'_>) -> Result<ReplyLine, AllocError>
 
 /// `miss`.
 pub fn miss(alloc: Global) -> Result<ReplyLine, AllocError>
-    ensures { IfOk result (λ l. (string_bytes l.text ≡ codes "miss" ++ 10 ∷ []) × (l.is_refusal ≡ false)) }
+    ensures { IfOk result (λ l. Tells l (ToLookup None)) }
 {
     let text = format!(in alloc; "miss\n")?;
     Ok(ReplyLine {
@@ -148,7 +149,7 @@ pub fn miss(alloc: Global) -> Result<ReplyLine, AllocError>
 
 /// `closed`, and how many entries were.
 pub fn closed(alloc: Global, count: usize) -> Result<ReplyLine, AllocError>
-    ensures { IfOk result (λ l. (string_bytes l.text ≡ reply_text (ToEvent count)) × (l.is_refusal ≡ false)) }
+    ensures { IfOk result (λ l. Tells l (ToEvent count)) }
 {
     let text = format!(in alloc; "closed {count}\n")?;
     Ok(ReplyLine {

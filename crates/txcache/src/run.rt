@@ -32,7 +32,8 @@ pub fn run<R: Read, W: Write>(
     reader: &mut R,
     writer: &mut W,
 ) -> Result<Status, RunFault>
-    ensures { HasRun (empty_cache settings.capacity settings.recent) (R.remaining reader.old) (R.remaining reader.new)
+    ensures { HasRun (empty_cache settings.capacity settings.recent)
+        (R.remaining reader.old) (R.remaining reader.new)
         (W.contents writer.old) (W.contents writer.new) result }
 {
     match mode {
@@ -50,7 +51,8 @@ fn turn<W: Write>(
     requires { session.old.lines + length bytes.now < 2 ^ 64 }
     ensures counted { session.new.lines ≤ session.old.lines + length bytes.now }
     ensures turned { (start : Cache) (read written : List ℕ) → Heard start read written session.old
-        → TurnsTo start (read ++ bytes.now) written session.new (W.contents writer.old) (W.contents writer.new) result }
+        → TurnsTo start (read ++ bytes.now) written session.new
+        (W.contents writer.old) (W.contents writer.new) result }
 {
     let heard = session.hear(alloc, bytes);
     match session.write_out(writer) {
@@ -70,7 +72,8 @@ fn finish<W: Write>(
 ) -> Result<Status, RunFault>
     requires { session.old.lines + 1 < 2 ^ 64 }
     ensures { (start : Cache) (read written : List ℕ) → Heard start read written session.old
-        → EndsWith start read (Unit {0}) written (W.contents writer.old) (W.contents writer.new) result }
+        → EndsWith start read (Unit {0}) written
+        (W.contents writer.old) (W.contents writer.new) result }
 {
     let heard = session.hear_end(alloc);
     match session.write_out(writer) {
@@ -88,7 +91,8 @@ fn run_node<R: Read, W: Write>(
     reader: &mut R,
     writer: &mut W,
 ) -> Result<Status, RunFault>
-    ensures { HasRun (empty_cache settings.capacity settings.recent) (R.remaining reader.old) (R.remaining reader.new)
+    ensures { HasRun (empty_cache settings.capacity settings.recent)
+        (R.remaining reader.old) (R.remaining reader.new)
         (W.contents writer.old) (W.contents writer.new) result }
 {
     let mut session = match Session::new(alloc, settings) {

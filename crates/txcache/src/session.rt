@@ -46,7 +46,10 @@ fn either(a: bool, b: bool) -> bool
 
 impl Session {
     pub fn new(alloc: Global, settings: Settings) -> Result<Session, AllocError>
-        ensures { IfOk result (λ s. Heard (empty_cache settings.capacity settings.recent) [] [] s × (string_bytes s.output ≡ []) × (s.lines ≡ 0)) }
+        ensures heard { IfOk result
+            (λ s. Heard (empty_cache settings.capacity settings.recent) [] [] s) }
+        ensures none_at_hand { IfOk result (λ s. string_bytes s.output ≡ []) }
+        ensures none_read { IfOk result (λ s. s.lines ≡ 0) }
     {
         let line = LineStart::new(alloc)?;
         let node = NodeCore::new(alloc, settings.capacity(), settings.recent())?;
@@ -73,7 +76,8 @@ impl Session {
     fn answer_line(&mut self, alloc: Global) -> Result<Flow, AllocError>
         requires { self.old.lines + 1 < 2 ^ 64 }
         ensures answered { IfOk result (AnswersLine self.old self.new) }
-        ensures no_reply { OnErr result (string_bytes self.new.output ≡ string_bytes self.old.output) }
+        ensures no_reply { OnErr result
+            (string_bytes self.new.output ≡ string_bytes self.old.output) }
         ensures counted { self.new.lines ≡ self.old.lines + 1 }
     {
         self.lines += 1;
@@ -161,9 +165,11 @@ impl Session {
 
     /// Writes the replies that are not written yet.
     pub fn write_out<W: Write>(&mut self, writer: &mut W) -> Result<(), RunFault>
-        ensures written { OnOk result (Appends (W.contents writer.old) (W.contents writer.new) (string_bytes self.old.output)) }
+        ensures written { OnOk result
+            (Appends (W.contents writer.old) (W.contents writer.new) (string_bytes self.old.output)) }
         ensures emptied { OnOk result (string_bytes self.new.output ≡ []) }
-        ensures fault { OnErr result (AppendsFront (W.contents writer.old) (W.contents writer.new) (string_bytes self.old.output)) }
+        ensures fault { OnErr result
+            (AppendsFront (W.contents writer.old) (W.contents writer.new) (string_bytes self.old.output)) }
         ensures only_write { OnErr result (result ≡ Err RunFault.Write) }
         ensures others { IsKeptBeside self.old self.new }
     {

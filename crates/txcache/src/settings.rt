@@ -7,7 +7,8 @@ pub const MOST_CAPACITY: usize = 65_536;
 /// The most events whose tags a node can be set to keep.
 pub const MOST_RECENT: usize = 4_096;
 
-/// What a run is set to: how many entries a node holds, 1 to 65,536, and of how many events it keeps the tags, 1 to 4,096.
+/// What a run is set to: how many entries a node holds, 1 to 65,536, and of how many events it keeps the tags, 1 to
+/// 4,096.
 #[derive(Clone, Copy, Debug, PartialEq, Eq)]
 pub struct Settings {
     capacity: usize,
@@ -27,7 +28,8 @@ impl Settings {
 
     /// Settings, where both numbers are in their ranges.
     pub fn new(capacity: usize, recent: usize) -> Option<Settings>
-        ensures valid { IsSome result ↔ ((0 < capacity) × (capacity ≤ 65536) × (0 < recent) × (recent ≤ 4096)) }
+        ensures valid { IsSome result ↔
+            ((0 < capacity) × (capacity ≤ 65536) × (0 < recent) × (recent ≤ 4096)) }
         ensures value { IfSome result (λ s. (s.capacity ≡ capacity) × (s.recent ≡ recent)) }
     {
         if capacity == 0 || capacity > MOST_CAPACITY || recent == 0 || recent > MOST_RECENT {

@@ -2,7 +2,7 @@
 use crate::fault::{RunFault, Status};
 use crate::run::{MOST_READS, Mode, run};
 use crate::settings::Settings;
-use std::io::{self, Read, Write};
+use std::io::{self, Cursor, Read, Write};
 use std::test::Fail;
 
 /// The stored script, line by line, and the reply to each line.
@@ -85,6 +85,15 @@ impl Write for Taker {
     }
 }
 
+/// Runs a node with the settings at their defaults.
+fn run_node<R: Read, W: Write>(
+    rt: &impl AllocGlobal,
+    reader: &mut R,
+    writer: &mut W,
+) -> Result<Status, RunFault> {
+    run(rt.alloc(), Mode::Node, Settings::DEFAULT, reader, writer)
+}
+
 fn ran_on(
     rt: &impl AllocGlobal,
     settings: Settings,
@@ -144,13 +153,7 @@ fn one_byte_at_a_time(rt: HostRuntime) -> Result<(), Fail> {
     let (script, replies) = stored(&rt)?;
     let mut reader = Feeder::new(script.as_bytes(), 1, 0);
     let mut written = Vec::new(rt.alloc());
-    let ended = run(
-        rt.alloc(),
-        Mode::Node,
-        Settings::DEFAULT,
-        &mut reader,
-        &mut written,
-    );
+    let ended = run_node(&rt, &mut reader, &mut written);
     assert_eq!(rt; ended, Ok(Status::Done));
     assert_eq!(rt; written.as_slice(), replies.as_bytes());
     Ok(())
@@ -162,13 +165,7 @@ fn a_reader_that_fails(rt: HostRuntime) -> Result<(), Fail> {
     for k in 1..=script.len() as u64 + 1 {
         let mut reader = Feeder::new(script.as_bytes(), 1, k);
         let mut written = Vec::new(rt.alloc());
-        let ended = run(
-            rt.alloc(),
-            Mode::Node,
-            Settings::DEFAULT,
-            &mut reader,
-            &mut written,
-        );
+        let ended = run_node(&rt, &mut reader, &mut written);
         assert_eq!(rt; ended, Err(RunFault::Read), "at {k}");
         assert!(rt; replies.as_bytes().starts_with(&written), "at {k}");
         let ends = script
@@ -196,13 +193,7 @@ fn a_writer_that_fails(rt: HostRuntime) -> Result<(), Fail> {
             fails_at: k,
             writes: 0,
         };
-        let ended = run(
-            rt.alloc(),
-            Mode::Node,
-            Settings::DEFAULT,
-            &mut reader,
-            &mut writer,
-        );
+        let ended = run_node(&rt, &mut reader, &mut writer);
         assert_eq!(rt; ended, Err(RunFault::Write), "at {k}");
         assert_eq!(rt; writer.taken.len() as u64, k - 1);
         assert!(rt; replies.as_bytes().starts_with(&writer.taken), "at {k}");
@@ -215,37 +206,9 @@ fn a_reader_that_never_ends(rt: HostRuntime) -> Result<(), Fail> {
     for line in ["\n", "a", "event 5 -\n"] {
         let mut reader = Feeder::new(line.as_bytes(), 1, 0);
         reader.is_endless = true;
-        let mut writer = Taker {
-            taken: Vec::new(rt.alloc()),
-            at_most: usize::MAX,
-            fails_at: 0,
-            writes: 1,
-        };
-        let ended = if line == "event 5 -\n" {
-            writer.fails_at = 3;
-            run(
-                rt.alloc(),
-                Mode::Node,
-                Settings::DEFAULT,
-                &mut reader,
-                &mut writer,
-            )
-        } else {
-            writer.fails_at = u64::MAX;
-            run(
-                rt.alloc(),
-                Mode::Node,
-                Settings::DEFAULT,
-                &mut reader,
-                &mut writer,
-            )
-        };
-        if line == "event 5 -\n" {
-            assert_eq!(rt; ended, Err(RunFault::Write));
-        } else {
-            assert_eq!(rt; ended, Err(RunFault::Read));
-            assert_eq!(rt; reader.reads, MOST_READS);
-        }
+        let ended = run_node(&rt, &mut reader, &mut io::sink());
+        assert_eq!(rt; ended, Err(RunFault::Read), "at {line}");
+        assert_eq!(rt; reader.reads, MOST_READS, "at {line}");
     }
     Ok(())
 }
@@ -338,6 +301,112 @@ fn refused_and_malformed_lines(rt: HostRuntime) -> Result<(), Fail> {
     ] {
         let (_, written) = ran_on(&rt, Settings::DEFAULT, script.as_bytes())?;
         assert_eq!(rt; written.as_slice(), text.as_bytes(), "at {script}");
+    }
+    Ok(())
+}
+
+/// A script for a node of two entries, line by line, and the reply to each line.
+const FEW: [(&str, &str); 8] = [
+    (
+        "insert f1(1,2) 0 0 still t1:id=1,t1:grp=4,t2:? 0a0b0c\n",
+        "stored [0,1) still\n",
+    ),
+    (
+        "insert f2(3) 0 0 closed t3:id=1,t3:id=2 -\n",
+        "stored [0,1) closed\n",
+    ),
+    ("lookup f1(1,2) 0 9\n", "hit [0,1) still 0a0b0c\n"),
+    ("event 1 t1:id=2,t3:?\n", "closed 0\n"),
+    (
+        "insert f3() 0 1 still t2:id=5 ff\n",
+        "stored [0,2) still evicted f2(3)@0\n",
+    ),
+    ("lookup f2(3) 0 9\n", "miss\n"),
+    ("event 2 t2:?\n", "closed 2\n"),
+    ("lookup f1(1,2) 0 9\n", "hit [0,2) closed 0a0b0c\n"),
+];
+
+/// The reply to an insertion for which memory is wanted.
+const REFUSED: &[u8] = b"refused memory\n";
+
+/// Gives a script a line a read, but for one line, and takes no memory.
+#[derive(Debug, Drop)]
+struct LineByLine {
+    at: usize,
+    left_out: usize,
+}
+
+impl Read for LineByLine {
+    fn read(&mut self, buf: &mut [u8]) -> io::Result<usize> {
+        if self.at == self.left_out {
+            self.at = self.at.wrapping_add(1);
+        }
+        let Some((line, _)) = FEW.get(self.at) else {
+            return Ok(0);
+        };
+        self.at = self.at.wrapping_add(1);
+        let n = line.len().min(buf.len());
+        buf[..n].copy_from_slice(&line.as_bytes()[..n]);
+        Ok(n)
+    }
+}
+
+/// Runs the script without one of its lines. Only the run takes memory.
+fn ran_without(
+    rt: &impl AllocGlobal,
+    left_out: usize,
+    page: &mut [u8],
+) -> Result<(Result<Status, RunFault>, usize), Fail> {
+    let settings = Settings::new(2, 4).ok_or("in range")?;
+    let mut reader = LineByLine { at: 0, left_out };
+    let mut writer = Cursor::new(page);
+    let ended = run(rt.alloc(), Mode::Node, settings, &mut reader, &mut writer);
+    Ok((ended, writer.position() as usize))
+}
+
+/// How many of the replies were written, where nothing else was.
+fn count_replies(written: &[u8]) -> Option<usize> {
+    let mut left = written;
+    for (i, (_, reply)) in FEW.iter().enumerate() {
+        if left.is_empty() {
+            return Some(i);
+        }
+        left = left.strip_prefix(reply.as_bytes())?;
+    }
+    left.is_empty().then_some(FEW.len())
+}
+
+/// Ends well whichever allocation fails: `rt try --test --fail-alloc N` makes the Nth one fail. Then an insertion is
+/// refused, and the others give what they give without it, or the run ends behind the replies to the lines before.
+#[test]
+fn a_run_that_wants_memory(rt: HostRuntime) -> Result<(), Fail> {
+    let mut page = [0u8; 512];
+    let (ended, len) = ran_without(&rt, FEW.len(), &mut page)?;
+    let written = &page[..len.min(512)];
+    let refused = written
+        .windows(REFUSED.len())
+        .position(|bytes| bytes == REFUSED);
+    if let Some(at) = refused {
+        let line = written[..at].iter().filter(|b| **b == b'\n').count();
+        let mut other = [0u8; 512];
+        let (again, other_len) = ran_without(&rt, line, &mut other)?;
+        assert_eq!(rt; ended, Ok(Status::Refused));
+        assert_eq!(rt; again, Ok(Status::Done));
+        assert_eq!(rt; other_len.saturating_add(REFUSED.len()), len);
+        assert_eq!(rt; &other[..at], &written[..at]);
+        assert!(rt; written.ends_with(&other[at..other_len.min(512)]));
+        return Ok(());
+    }
+    let replies = count_replies(written).ok_or("whole replies")?;
+    match ended {
+        Ok(status) => {
+            assert_eq!(rt; status, Status::Done);
+            assert_eq!(rt; replies, FEW.len());
+        }
+        Err(fault) => {
+            assert_eq!(rt; fault, RunFault::Memory);
+            assert!(rt; replies < FEW.len());
+        }
     }
     Ok(())
 }

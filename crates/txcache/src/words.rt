@@ -10,7 +10,7 @@ pub fn is_same(text: &[u8], other: &[u8]) -> bool
     text == other
 }
 
-/// The word before the first blank, and what stands behind that blank; none where there is no blank.
+/// The word before the first blank, and what stands behind that blank. None where there is no blank.
 pub fn first_word(text: &[u8]) -> Option<(&[u8], &[u8])>
     ensures some { IfSome result (λ w. (text.now ≡ w.0.now ++ 32 ∷ w.1.now) × HasNoBlank w.0.now) }
     ensures none { IfNone result (HasNoBlank text.now) }
@@ -68,8 +68,10 @@ pub struct SixWords<'a> {
 
 /// The words of a text of six words.
 pub fn six_words(text: &[u8]) -> Option<SixWords<'_>>
-    ensures some { IfSome result (λ w. HasWords text.now (w.first.now ∷ w.second.now ∷ w.third.now ∷ w.fourth.now ∷ w.fifth.now ∷ w.sixth.now ∷ [])) }
-    ensures none { IfNone result ((a b d e f g : List ℕ) → HasWords text.now (a ∷ b ∷ d ∷ e ∷ f ∷ g ∷ []) → ⊥) }
+    ensures some { IfSome result (λ w. HasWords text.now
+        (w.first.now ∷ w.second.now ∷ w.third.now ∷ w.fourth.now ∷ w.fifth.now ∷ w.sixth.now ∷ [])) }
+    ensures none { IfNone result
+        ((a b d e f g : List ℕ) → HasWords text.now (a ∷ b ∷ d ∷ e ∷ f ∷ g ∷ []) → ⊥) }
 {
     match first_word(text) {
         None => None,

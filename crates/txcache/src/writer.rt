@@ -9,7 +9,8 @@ use std::io::Write;
 /// Writes a text. Where the writer fails, a front of it was written.
 pub fn write_text<W: Write>(writer: &mut W, text: &[u8]) -> Result<(), RunFault>
     ensures ok { OnOk result (Appends (W.contents writer.old) (W.contents writer.new) text.now) }
-    ensures fault { OnErr result (AppendsFront (W.contents writer.old) (W.contents writer.new) text.now) }
+    ensures fault { OnErr result
+        (AppendsFront (W.contents writer.old) (W.contents writer.new) text.now) }
     ensures only_write { OnErr result (result ≡ Err RunFault.Write) }
 {
     let mut at = 0;

@@ -10,13 +10,13 @@ returns-in-Err g c = run_lacks _ _ _
 
 pub reads-init : goal.reads-init
 reads-init g c = record {
-  counted = omega (arith, c.in-Ok.ensures.2);
+  counted = omega (arith, c.in-Ok.ensures.none_read);
   read = [];
   written = [];
   consumed = Consumes-nil _;
   appended = Appends-nil _;
-  heard = c.in-Ok.ensures.0;
-  none = c.in-Ok.ensures.1;
+  heard = c.in-Ok.ensures.heard;
+  none = c.in-Ok.ensures.none_at_hand;
 }
 
 pub returns-then-n-eq0 : goal.returns-then-n-eq0

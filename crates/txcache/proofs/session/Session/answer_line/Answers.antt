@@ -10,8 +10,8 @@ returns-in_ok-push_str-in-Command-clause-answered c =
     record {
       given = Replied obeyed.0;
       gives = (c.in-Command.command, is_command c.bytes.result.now c.args.self.now.line c.in_ok-line.line c.in-Command.command c.bytes.ensures c.in-Command.is c.in_ok-line.ensures, obeyed.1);
-      text = c.in_ok-push_str-in-Command.ensures.bytes ∙ ap (λ (xs : List ℕ). string_bytes c.args.self.now.output ++ xs) (c.as_str.ensures.value ∙ obeyed.2);
-      refused = c.either-self.ensures ∙ ap (λ b. either_of c.args.self.now.is_refused b) obeyed.3;
+      text = c.in_ok-push_str-in-Command.ensures.bytes ∙ ap (λ (xs : List ℕ). string_bytes c.args.self.now.output ++ xs) (c.as_str.ensures.value ∙ obeyed.2.text);
+      refused = c.either-self.ensures ∙ ap (λ b. either_of c.args.self.now.is_refused b) obeyed.2.refused;
       flow_is = refl;
       emptied = c.clear.ensures;
       count = refl;
