@@ -3,7 +3,8 @@ use Rattle.std.specs.Prelude.{ℕ, Bool, List}
 use Rattle.txc_tags.specs.declared.tag.Tag.{Tag}
 use Rattle.txc_tags.specs.Keys.{Call}
 
--- the call, the value, the first stamp and the last one known, whether it is still valid, and the tags
+-- the call, the value, the first stamp and the last one known, whether it is still valid, and the
+-- tags
 pub record NewEntry : Type 0 where
   pub key : Call
   pub value : List ℕ

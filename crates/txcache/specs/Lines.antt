@@ -66,7 +66,7 @@ pub record AreInsertWords (new : NewEntry) (words : List (List ℕ)) : Type 0 wh
   pub are_tags : IsTagsWord tags_word new.tags
   pub is_value : IsHexWord value_word new.value
 
--- the words behind the name of a command
+-- the name of a command
 abbrev pub name_of : Command → List ℕ
 name_of (Insert new) = codes "insert"
 name_of (Lookup key lo hi) = codes "lookup"
@@ -80,11 +80,13 @@ AreWordsBehind (Event stamp tags) words = AreEventWords stamp tags words
 
 -- the text is the command's words behind its name
 abbrev pub IsArgumentsOf : Command → List ℕ → Type 0
-IsArgumentsOf command text = (words : List (List ℕ)) × HasWords text words × AreWordsBehind command words
+IsArgumentsOf command text =
+    (words : List (List ℕ)) × HasWords text words × AreWordsBehind command words
 
 -- the line is the command's name and its words
 abbrev pub Spells : List ℕ → Command → Type 0
-Spells line command = (words : List (List ℕ)) × HasWords line (name_of command ∷ words) × AreWordsBehind command words
+Spells line command =
+    (words : List (List ℕ)) × HasWords line (name_of command ∷ words) × AreWordsBehind command words
 
 -- ---- lines
 

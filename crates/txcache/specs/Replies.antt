@@ -15,7 +15,8 @@ use Rattle.txcache.specs.declared.reply.ReplyLine.{ReplyLine}
 use Rattle.txcache.specs.declared.reply.Refusal.{Refusal}
 use Rattle.txcache.specs.declared.reply.Refusal.TheVariants.{EmptyRange, BadReach, OutOfOrder, ValueTooLong, Memory}
 
--- an insertion is answered by what became of the entry, a lookup by its hit or none, an event by how many entries it closed
+-- an insertion is answered by what became of the entry, a lookup by its hit or none, an event by how
+-- many entries it closed
 pub data Reply : Type 0 where
   ToInsert : Inserted → Reply
   ToLookup : Option Answer → Reply
@@ -33,14 +34,23 @@ is_refusal (Refused refusal) = true
 
 -- the entry that a line names
 abbrev pub entry_of : NewEntry → Entry
-entry_of new = record { key = new.key; value = new.value; reach = record { lo = new.lo; known = new.known; still = new.still }; tags = new.tags }
+entry_of new = record {
+  key = new.key;
+  value = new.value;
+  reach = record { lo = new.lo; known = new.known; still = new.still };
+  tags = new.tags;
+}
 
--- Why a command is refused in a state of the cache, whatever memory is left: a lookup of an empty range; an entry known up to a stamp below its
--- first, and else one whose value is too long; an event that is not the next.
+-- Why a command is refused in a state of the cache, whatever memory is left: a lookup of an empty range;
+-- an entry known up to a stamp below its first, and else one whose value is too long; an event that is not
+-- the next.
 abbrev pub refusal_of : Cache → Command → Option Refusal
-refusal_of c (Insert new) = if nat_lt new.known new.lo then Some BadReach else (if nat_lt 1024 (length new.value) then Some ValueTooLong else None)
+refusal_of c (Insert new) =
+    if nat_lt new.known new.lo then Some BadReach
+    else (if nat_lt 1024 (length new.value) then Some ValueTooLong else None)
 refusal_of c (Lookup key lo hi) = if nat_lt hi lo then Some EmptyRange else None
-refusal_of c (Event stamp tags) = if stamp == c.processed + 1 then None else Some (OutOfOrder c.processed)
+refusal_of c (Event stamp tags) =
+    if stamp == c.processed + 1 then None else Some (OutOfOrder c.processed)
 
 -- what the step of the cache answers
 abbrev pub reply_of_step : Cache → Command → Reply
@@ -60,12 +70,14 @@ WantsMemory (Insert new) reply = reply ≡ Refused Memory
 WantsMemory (Lookup key lo hi) reply = ⊥
 WantsMemory (Event stamp tags) reply = ⊥
 
--- a refused command has its refusal for a reply, and leaves the state as it is; any other is replied as its step of the cache answers,
--- and leaves the state of that step, or, where it is an insertion for which memory is wanted, as it is
+-- a refused command has its refusal for a reply, and leaves the state as it is; any other is replied as
+-- its step of the cache answers, and leaves the state of that step, or, where it is an insertion for which
+-- memory is wanted, as it is
 abbrev pub IsObeyed : Cache → Command → Option Refusal → Reply → Cache → Type 0
 IsObeyed c command (Some refusal) reply next = (reply ≡ Refused refusal) × (next ≡ c)
 IsObeyed c command None reply next =
-    ((reply ≡ reply_of_step c command) × (next ≡ state_of_step c command)) ⊎ (WantsMemory command reply × (next ≡ c))
+    ((reply ≡ reply_of_step c command) × (next ≡ state_of_step c command))
+    ⊎ (WantsMemory command reply × (next ≡ c))
 
 -- the command has this reply in the state of the cache, and leaves that one
 abbrev pub Obeys : Cache → Command → Reply → Cache → Type 0
@@ -80,12 +92,14 @@ validity_text false = codes ") closed"
 
 -- a reach is shown as its span: `[0,3) still`, or `closed`
 abbrev pub span_text : Interval → List ℕ
-span_text i = codes "[" ++ (decimal i.lo ++ (codes "," ++ (decimal (i.known + 1) ++ validity_text i.still)))
+span_text i =
+    codes "[" ++ (decimal i.lo ++ (codes "," ++ (decimal (i.known + 1) ++ validity_text i.still)))
 
 -- the entry that was dropped, if one was, and the end of the line
 abbrev pub evicted_text : Option Entry → List ℕ
 evicted_text None = 10 ∷ []
-evicted_text (Some e) = codes " evicted " ++ (key_text e.key ++ (codes "@" ++ (decimal e.reach.lo ++ 10 ∷ [])))
+evicted_text (Some e) =
+    codes " evicted " ++ (key_text e.key ++ (codes "@" ++ (decimal e.reach.lo ++ 10 ∷ [])))
 
 -- the reply to an insertion
 abbrev pub inserted_text : Inserted → List ℕ
@@ -95,7 +109,8 @@ inserted_text (Kept entry) = codes "kept" ++ 10 ∷ []
 -- the reply to a lookup
 abbrev pub found_text : Option Answer → List ℕ
 found_text None = codes "miss" ++ 10 ∷ []
-found_text (Some a) = codes "hit " ++ (span_text a.reach ++ codes " ") ++ hex_text a.value ++ 10 ∷ []
+found_text (Some a) =
+    codes "hit " ++ (span_text a.reach ++ codes " ") ++ hex_text a.value ++ 10 ∷ []
 
 -- the code, and the number that goes with it
 abbrev pub refusal_text : Refusal → List ℕ

@@ -25,7 +25,8 @@ pub data Given : Type 0 where
 abbrev pub given_text : Given → List ℕ
 given_text Nothing = []
 given_text (Replied reply) = reply_text reply
-given_text (Malformed number) = codes "line " ++ (decimal number ++ (codes ": malformed" ++ 10 ∷ []))
+given_text (Malformed number) =
+    codes "line " ++ (decimal number ++ (codes ": malformed" ++ 10 ∷ []))
 
 -- refused, or malformed
 abbrev pub is_refused : Given → Bool
@@ -36,7 +37,8 @@ is_refused (Malformed number) = true
 -- what a line, which has this number, gives in a state of the cache, and the state that it leaves
 abbrev pub Gives : Cache → ℕ → List ℕ → Given → Cache → Type 0
 Gives c number line Nothing next = IsQuiet line × (next ≡ c)
-Gives c number line (Replied reply) next = (command : Command) × IsCommandLine line command × Obeys c command reply next
+Gives c number line (Replied reply) next =
+    (command : Command) × IsCommandLine line command × Obeys c command reply next
 Gives c number line (Malformed k) next = IsMalformed line × (k ≡ number) × (next ≡ c)
 
 -- no line is read behind a malformed one
@@ -45,14 +47,15 @@ GoesOn Nothing lines = Unit {0}
 GoesOn (Replied reply) lines = Unit {0}
 GoesOn (Malformed number) lines = lines ≡ []
 
--- What each of the lines gives, in order: the first has this number, the next the one behind it, and each finds the state that the lines
--- before it left.
+-- What each of the lines gives, in order: the first has this number, the next the one behind it, and each
+-- finds the state that the lines before it left.
 abbrev pub AreGiven : Cache → ℕ → List (List ℕ) → List Given → Cache → Type 0
 AreGiven c number [] [] end = end ≡ c
 AreGiven c number [] (g ∷ given) end = ⊥
 AreGiven c number (line ∷ lines) [] end = ⊥
 AreGiven c number (line ∷ lines) (g ∷ given) end =
-    (next : Cache) × Gives c number line g next × GoesOn g lines × AreGiven next (number + 1) lines given end
+    (next : Cache) × Gives c number line g next × GoesOn g lines
+    × AreGiven next (number + 1) lines given end
 
 -- what is written of all, one after the other
 abbrev pub output_of : List Given → List ℕ
@@ -75,7 +78,8 @@ pub record Answers (start : Cache) (lines : List (List ℕ)) (given : List Given
   pub end : Cache
   pub are_given : AreGiven start 1 lines given end
 
--- The lines of a whole script were answered; or those up to a malformed one, and what stands behind it was not.
+-- The lines of a whole script were answered; or those up to a malformed one, and what stands behind it was
+-- not.
 abbrev pub IsWhole : List ℕ → Type 0 → List (List ℕ) → List Given → Type 0
 IsWhole read at_end lines given =
     (AreLinesOf read lines × at_end)
@@ -83,26 +87,35 @@ IsWhole read at_end lines given =
 
 -- lines at the front of what was read
 abbrev pub AreFirstLines : List ℕ → List (List ℕ) → Type 0
-AreFirstLines read lines = ((others : List ℕ) × BeginsWithLines read lines others) ⊎ AreLinesOf read lines
+AreFirstLines read lines =
+    ((others : List ℕ) × BeginsWithLines read lines others) ⊎ AreLinesOf read lines
 
--- What a run that read these bytes wrote, by how it ended: the text of what the lines give. After a fault of the reader that is what all lines
--- give that had ended; after want of memory, what those before give; after a fault of the writer, a front of it.
+-- What a run that read these bytes wrote, by how it ended: the text of what the lines give. After a fault of
+-- the reader that is what all lines give that had ended; after want of memory, what those before give; after
+-- a fault of the writer, a front of it.
 abbrev pub HasWritten : Cache → List ℕ → Type 0 → List ℕ → Result Status RunFault → Type 0
 HasWritten start read at_end written (Ok status) =
-    (lines : List (List ℕ)) × (given : List Given) × Answers start lines given × IsWhole read at_end lines given
+    (lines : List (List ℕ)) × (given : List Given)
+    × Answers start lines given × IsWhole read at_end lines given
     × (written ≡ output_of given) × (status ≡ status_of given)
 HasWritten start read at_end written (Err Read) =
-    (lines : List (List ℕ)) × (given : List Given) × (rest : List ℕ) × Answers start lines given × BeginsWithLines read lines rest × HasNoEnd rest
+    (lines : List (List ℕ)) × (given : List Given) × (rest : List ℕ)
+    × Answers start lines given × BeginsWithLines read lines rest × HasNoEnd rest
     × (written ≡ output_of given) × (list_any is_malformed given ≡ false)
 HasWritten start read at_end written (Err Write) =
-    (lines : List (List ℕ)) × (given : List Given) × Answers start lines given × AreFirstLines read lines
+    (lines : List (List ℕ)) × (given : List Given)
+    × Answers start lines given × AreFirstLines read lines
     × ((n : ℕ) × (written ≡ take n (output_of given)))
 HasWritten start read at_end written (Err Memory) =
-    (lines : List (List ℕ)) × (given : List Given) × (others : List ℕ) × Answers start lines given × BeginsWithLines read lines others
+    (lines : List (List ℕ)) × (given : List Given) × (others : List ℕ)
+    × Answers start lines given × BeginsWithLines read lines others
     × (written ≡ output_of given)
 
--- A run that begins in this state: what it read of the reader's bytes, what it wrote behind the writer's, and how it ended.
-abbrev pub HasRun : Cache → Option (List ℕ) → Option (List ℕ) → Option (List ℕ) → Option (List ℕ) → Result Status RunFault → Type 0
+-- A run that begins in this state: what it read of the reader's bytes, what it wrote behind the writer's,
+-- and how it ended.
+abbrev pub HasRun : Cache → Option (List ℕ) → Option (List ℕ) → Option (List ℕ) → Option (List ℕ)
+    → Result Status RunFault → Type 0
 HasRun start remaining_old remaining_new contents_old contents_new result =
-    (read : List ℕ) × (written : List ℕ) × Consumes remaining_old remaining_new read × Appends contents_old contents_new written
+    (read : List ℕ) × (written : List ℕ)
+    × Consumes remaining_old remaining_new read × Appends contents_old contents_new written
     × HasWritten start read (IsAtEnd remaining_new) written result

@@ -23,4 +23,5 @@ last_line (b ∷ bytes) = (b ∷ bytes) ∷ []
 -- the lines of a whole script, of which the last may lack its line feed
 abbrev pub AreLinesOf : List ℕ → List (List ℕ) → Type 0
 AreLinesOf script lines =
-    (whole : List (List ℕ)) × (left : List ℕ) × BeginsWithLines script whole left × HasNoEnd left × (lines ≡ whole ++ last_line left)
+    (whole : List (List ℕ)) × (left : List ℕ)
+    × BeginsWithLines script whole left × HasNoEnd left × (lines ≡ whole ++ last_line left)

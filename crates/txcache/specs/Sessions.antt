@@ -28,7 +28,8 @@ pub record AnswersLine (old new : Session) (flow : Flow) : Type 0 where
   pub emptied : new.line ≡ []
   pub count : new.lines ≡ old.lines + 1
 
--- the lines that have ended were answered, and none was malformed; these bytes were written, and the rest of the replies is at hand
+-- the lines that have ended were answered, and none was malformed; these bytes were written, and the rest
+-- of the replies is at hand
 pub record Heard (start : Cache) (read written : List ℕ) (s : Session) : Type 0 where
   pub lines : List (List ℕ)
   pub given : List Given
@@ -71,7 +72,8 @@ pub record HasEnded (start : Cache) (read written : List ℕ) (s : Session) : Ty
   pub text : written ++ string_bytes s.output ≡ output_of given
   pub refused : s.is_refused ≡ list_any is_refused given
 
--- bytes were heard: the session goes on, or was stopped by a malformed line, or halted for want of memory
+-- bytes were heard: the session goes on, or was stopped by a malformed line, or halted for want of
+-- memory
 abbrev pub HearsAs : Cache → List ℕ → List ℕ → Session → Result Flow AllocError → Type 0
 HearsAs start read written s (Ok GoesOn) = Heard start read written s
 HearsAs start read written s (Ok Stopped) = IsStopped start read written s
