@@ -15,6 +15,9 @@ use Rattle.txcache.proofs.Blanks.{same_words, words_more, words_first, words_oth
 pub match_none : {X : Type 0} (o : Option X) (P : Type 0) (Q : X → Type 0) → o ≡ None → MatchOption o P Q → P
 match_none o P Q e h = subst (λ x. MatchOption x P Q) e h
 
+pub if_none : {X : Type 0} (o : Option X) (P : Type 0) → o ≡ None → P → IfNone o P
+if_none o P e h = subst (λ x. IfNone x P) (sym e) h
+
 -- ---- what the words of a command are
 
 pub record LookupParts (a b d : List ℕ) (key : Call) (lo hi : ℕ) : Type 0 where

@@ -116,22 +116,12 @@ fn read_lookup(text: &[u8]) -> Option<Command>
     ensures none { IfNone result
         ((key : Call) (lo hi : ℕ) → IsArgumentsOf (Command.Lookup key lo hi) text.now → ⊥) }
 {
-    let (key, lo, hi) = match three_words(text) {
-        Some(words) => words,
-        None => return None,
+    let (key, lo, hi) = three_words(text)?;
+    let Ok(key) = Key::read(key) else {
+        return None;
     };
-    let key = match Key::read(key) {
-        Ok(key) => key,
-        Err(_) => return None,
-    };
-    let lo = match read_stamp(lo) {
-        Some(lo) => lo,
-        None => return None,
-    };
-    let hi = match read_stamp(hi) {
-        Some(hi) => hi,
-        None => return None,
-    };
+    let lo = read_stamp(lo)?;
+    let hi = read_stamp(hi)?;
     Some(Command::Lookup { key, lo, hi })
 }
 
@@ -141,19 +131,16 @@ fn read_event(alloc: Global, text: &[u8]) -> Result<Option<Command>, AllocError>
         ((stamp : ℕ) (tags : List Tag) → IsArgumentsOf (Command.Event stamp tags) text.now → ⊥)
         (λ c. (name_of c ≡ codes "event") × IsArgumentsOf c text.now)) }
 {
-    let (stamp, tags) = match two_words(text) {
-        Some(words) => words,
-        None => return Ok(None),
+    let Some((stamp, tags)) = two_words(text) else {
+        return Ok(None);
     };
-    let stamp = match read_stamp(stamp) {
-        Some(stamp) => stamp,
-        None => return Ok(None),
+    let Some(stamp) = read_stamp(stamp) else {
+        return Ok(None);
     };
-    match read_tags(alloc, tags) {
-        Ok(Some(tags)) => Ok(Some(Command::Event { stamp, tags })),
-        Ok(None) => Ok(None),
-        Err(e) => Err(e),
-    }
+    let Some(tags) = read_tags(alloc, tags)? else {
+        return Ok(None);
+    };
+    Ok(Some(Command::Event { stamp, tags }))
 }
 
 /// `insert`, by what stands behind its name.
@@ -162,43 +149,35 @@ fn read_insert(alloc: Global, text: &[u8]) -> Result<Option<Command>, AllocError
         ((new : NewEntry) → IsArgumentsOf (Command.Insert new) text.now → ⊥)
         (λ c. (name_of c ≡ codes "insert") × IsArgumentsOf c text.now)) }
 {
-    let words = match six_words(text) {
-        Some(words) => words,
-        None => return Ok(None),
+    let Some(words) = six_words(text) else {
+        return Ok(None);
     };
-    let key = match Key::read(words.first) {
-        Ok(key) => key,
-        Err(_) => return Ok(None),
+    let Ok(key) = Key::read(words.first) else {
+        return Ok(None);
     };
-    let lo = match read_stamp(words.second) {
-        Some(lo) => lo,
-        None => return Ok(None),
+    let Some(lo) = read_stamp(words.second) else {
+        return Ok(None);
     };
-    let known = match read_stamp(words.third) {
-        Some(known) => known,
-        None => return Ok(None),
+    let Some(known) = read_stamp(words.third) else {
+        return Ok(None);
     };
-    let still = match read_still(words.fourth) {
-        Some(still) => still,
-        None => return Ok(None),
+    let Some(still) = read_still(words.fourth) else {
+        return Ok(None);
     };
-    let tags = match read_tags(alloc, words.fifth) {
-        Ok(Some(tags)) => tags,
-        Ok(None) => return Ok(None),
-        Err(e) => return Err(e),
+    let Some(tags) = read_tags(alloc, words.fifth)? else {
+        return Ok(None);
     };
-    match read_hex(alloc, words.sixth) {
-        Ok(Some(value)) => Ok(Some(Command::Insert(Insertion {
-            key,
-            value,
-            lo,
-            known,
-            still,
-            tags,
-        }))),
-        Ok(None) => Ok(None),
-        Err(e) => Err(e),
-    }
+    let Some(value) = read_hex(alloc, words.sixth)? else {
+        return Ok(None);
+    };
+    Ok(Some(Command::Insert(Insertion {
+        key,
+        value,
+        lo,
+        known,
+        still,
+        tags,
+    })))
 }
 
 /// The command that the line is; none where it is no command.
@@ -206,9 +185,8 @@ pub fn read_command(alloc: Global, line: &[u8]) -> Result<Option<Command>, Alloc
     ensures { IfOk result (λ r. MatchOption r
         ((c : Command) → Spells line.now c → ⊥) (λ c. Spells line.now c)) }
 {
-    let (name, rest) = match first_word(line) {
-        Some(words) => words,
-        None => return Ok(None),
+    let Some((name, rest)) = first_word(line) else {
+        return Ok(None);
     };
     if is_same(name, b"insert") {
         return read_insert(alloc, rest);

@@ -1,14 +1,16 @@
-use Rattle.txcache.proofs.Arguments.{lookup_parts}
+use Rattle.txcache.proofs.Arguments.{lookup_parts, if_none}
 use Rattle.txcache.proofs.command.read_lookup.Goals as goal
 
-pub returns-in-Err-clause-none : goal.returns-in-Err-clause-none
-returns-in-Err-clause-none c key lo hi args =
-    let parts = lookup_parts c.args.text.now _ _ _ key lo hi c.in-Some.ensures.some args in
-    let found = c.in-Err.ensures.grammar.1 (key, parts.is_key) in
+pub returns-in_default-clause-none : goal.returns-in_default-clause-none
+returns-in_default-clause-none c key lo hi args =
+    let parts = lookup_parts c.args.text.now _ _ _ key lo hi c.in_ok-key.ensures.some args in
+    let found = c.in_default.ensures.grammar.1 (key, parts.is_key) in
     cc
 
-pub returns-in-None-read_stamp-clause-none : goal.returns-in-None-read_stamp-clause-none
-returns-in-None-read_stamp-clause-none c key lo hi args = c.in-None-read_stamp.ensures.none lo (lookup_parts c.args.text.now _ _ _ key lo hi c.in-Some.ensures.some args).is_lo
+pub returns-in_err-lo-clause-none : goal.returns-in_err-lo-clause-none
+returns-in_err-lo-clause-none c = if_none _ _ c.from_residual-in_err-lo.ensures
+    (λ key lo hi args. c.in_err-lo.ensures.none lo (lookup_parts c.args.text.now _ _ _ key lo hi c.in_ok-key.ensures.some args).is_lo)
 
-pub returns-in-None-read_stamp-2-clause-none : goal.returns-in-None-read_stamp-2-clause-none
-returns-in-None-read_stamp-2-clause-none c key lo hi args = c.in-None-read_stamp-2.ensures.none hi (lookup_parts c.args.text.now _ _ _ key lo hi c.in-Some.ensures.some args).is_hi
+pub returns-in_err-hi-clause-none : goal.returns-in_err-hi-clause-none
+returns-in_err-hi-clause-none c = if_none _ _ c.from_residual-in_err-hi.ensures
+    (λ key lo hi args. c.in_err-hi.ensures.none hi (lookup_parts c.args.text.now _ _ _ key lo hi c.in_ok-key.ensures.some args).is_hi)
