@@ -50,7 +50,8 @@ impl Entry {
         }) }
         ensures succeeds { IsOk result ↔ ((lo ≤ known) × (vec_len value ≤ MAX_VALUE_LEN)) }
         ensures bad_reach { (result ≡ Err EntryError.BadReach) ↔ (known < lo) }
-        ensures too_long { (result ≡ Err EntryError.ValueTooLong) ↔ ((lo ≤ known) × (MAX_VALUE_LEN < vec_len value)) }
+        ensures too_long { (result ≡ Err EntryError.ValueTooLong)
+            ↔ ((lo ≤ known) × (MAX_VALUE_LEN < vec_len value)) }
     {
         let Some(reach) = Reach::from_stamps(lo, known, still) else {
             return Err(EntryError::BadReach);

@@ -129,7 +129,9 @@ impl NodeCore {
         ensures empty { OnErr result (hi < lo) }
         ensures answer { IfOk result (λ r. option_map seen r ≡ answer self.old key.now lo hi) }
         // after an Ok the node is that after the lookup, and after an Err as it was
-        ensures* after { sem 𝓛 (Rests the_row self.entry (λ new. MatchResult result (λ _. new ≡ after_lookup self.old key.now lo hi) (λ _. new ≡ self.old))) }
+        ensures* after { sem 𝓛 (Rests the_row self.entry (λ new. MatchResult result
+            (λ _. new ≡ after_lookup self.old key.now lo hi)
+            (λ _. new ≡ self.old))) }
     {
         let is_hit = self.touch(key, lo, hi)?;
         let processed = self.processed;

@@ -11,7 +11,8 @@ use txc_tags::TagSet;
 // Moves what stands at a place to the front.
 fn pull(entries: &mut Vec<Entry>, at: usize)
     requires { at < vec_len entries.old }
-    ensures items { HoldsAt (λ e. entries.new.items ≡ e ∷ remove entries.old.items at) entries.old.items at }
+    ensures items { HoldsAt (λ e. entries.new.items ≡ e ∷ remove entries.old.items at)
+        entries.old.items at }
     ensures len { vec_len entries.new ≡ vec_len entries.old }
 {
     let e = entries.remove(at);
@@ -22,7 +23,8 @@ fn pull(entries: &mut Vec<Entry>, at: usize)
 pub(crate) fn move_to_front(entries: &mut Vec<Entry>, at: usize)
     requires within { at < vec_len entries.old }
     requires apart { AreApart entries.old.items }
-    ensures moved { HoldsAt (λ e. entries.new.items ≡ e ∷ others e entries.old.items) entries.old.items at }
+    ensures moved { HoldsAt (λ e. entries.new.items ≡ e ∷ others e entries.old.items)
+        entries.old.items at }
     ensures apart { AreApart entries.new.items }
     ensures len { vec_len entries.new ≡ vec_len entries.old }
 {
@@ -43,7 +45,8 @@ fn replace(entries: &mut Vec<Entry>, at: usize, e: Entry)
 fn add(entries: &mut Vec<Entry>, capacity: usize, e: Entry) -> Option<Entry>
     requires some { 0 < capacity }
     requires within { vec_len entries.old ≤ capacity }
-    requires room { vec_len entries.old < capacity → vec_len entries.old < vec_capacity entries.old }
+    requires room { vec_len entries.old < capacity
+        → vec_len entries.old < vec_capacity entries.old }
     ensures items { entries.new.items ≡ take capacity (e ∷ entries.old.items) }
     ensures evicted { result ≡ slice_get (e ∷ entries.old.items) capacity }
     ensures within { vec_len entries.new ≤ capacity }
@@ -88,9 +91,12 @@ pub(crate) fn put(
     requires apart { AreApart entries.old.items }
     requires some { 0 < capacity }
     requires within { vec_len entries.old ≤ capacity }
-    requires room { at ≡ None → vec_len entries.old < capacity → vec_len entries.old < vec_capacity entries.old }
-    ensures items { entries.new.items ≡ take capacity (record e { reach = reach } ∷ others e entries.old.items) }
-    ensures evicted { result ≡ slice_get (record e { reach = reach } ∷ others e entries.old.items) capacity }
+    requires room { at ≡ None → vec_len entries.old < capacity
+        → vec_len entries.old < vec_capacity entries.old }
+    ensures items { entries.new.items
+        ≡ take capacity (record e { reach = reach } ∷ others e entries.old.items) }
+    ensures evicted { result
+        ≡ slice_get (record e { reach = reach } ∷ others e entries.old.items) capacity }
     ensures apart { AreApart entries.new.items }
     ensures within { vec_len entries.new ≤ capacity }
 {
@@ -108,7 +114,8 @@ pub(crate) fn put(
 pub(crate) fn make_room(entries: &mut Vec<Entry>, capacity: usize) -> bool
     ensures items { entries.new.items ≡ entries.old.items }
     ensures len { vec_len entries.new ≡ vec_len entries.old }
-    ensures room { result ≡ true → vec_len entries.old < capacity → vec_len entries.new < vec_capacity entries.new }
+    ensures room { result ≡ true → vec_len entries.old < capacity
+        → vec_len entries.new < vec_capacity entries.new }
     ensures no_room { result ≡ false → vec_len entries.old < capacity }
 {
     if entries.len() < capacity {

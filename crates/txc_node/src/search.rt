@@ -74,7 +74,8 @@ pub(crate) fn best_at(
 ) -> Option<usize>
     ensures { MatchOption result
         (find (is_best processed key.now lo hi entries.now) entries.now ≡ None)
-        (λ i. (i < length entries.now) × HoldsAt (λ e. find (is_best processed key.now lo hi entries.now) entries.now ≡ Some e) entries.now i) }
+        (λ i. (i < length entries.now) × HoldsAt (λ e.
+            find (is_best processed key.now lo hi entries.now) entries.now ≡ Some e) entries.now i) }
 {
     let mut best: Option<usize> = None;
     for i in 0..entries.len() {
@@ -101,7 +102,8 @@ fn place_at(entries: &[Entry], key: &Key, lo: Stamp) -> Option<usize>
 pub(crate) fn hit_at_front(entries: &[Entry], processed: Stamp, is_hit: bool) -> Option<Hit<'_>>
     requires { is_hit ≡ true → 0 < length entries.now }
     ensures none { is_hit ≡ false → result ≡ None }
-    ensures some { is_hit ≡ true → HoldsAt (λ e. option_map seen result ≡ Some (answer_of processed e)) entries.now 0 }
+    ensures some { is_hit ≡ true
+        → HoldsAt (λ e. option_map seen result ≡ Some (answer_of processed e)) entries.now 0 }
 {
     if !is_hit {
         return None;

@@ -1,5 +1,5 @@
-//! Scripts of steps with what they answer. Each call that needs memory is made again where it was refused, so that
-//! the scripts run to the same end where any one allocation fails.
+//! Scripts of steps with what they answer. Where a step is refused for want of memory the node is as it was, and the step
+//! is taken again, so that a script runs to the same end where any one allocation fails.
 ghost use Rattle.std.specs.Prelude.{◌≤◌};
 
 use crate::{Entry, EntryError, Inserted, MAX_CAPACITY, MAX_RECENT, NodeCore};
@@ -41,7 +41,6 @@ enum Reply {
     EmptyRange,
     Closed(usize),
     OutOfOrder(u32),
-    Memory,
 }
 
 fn shown(reach: Reach) -> Shown {
@@ -93,20 +92,31 @@ fn reply_of(inserted: Inserted) -> Reply {
     }
 }
 
-fn inserted(node: &mut NodeCore, entry: Entry) -> Reply {
-    match node.insert(entry) {
-        Ok(inserted) => reply_of(inserted),
-        // The entry that came back is inserted again.
-        Err(refused) => match node.insert(refused.value) {
-            Ok(inserted) => reply_of(inserted),
-            Err(_) => Reply::Memory,
-        },
+fn is_same(a: &Entry, b: &Entry) -> bool {
+    a.key.is_same(&b.key)
+        && a.value.bytes() == b.value.bytes()
+        && a.reach == b.reach
+        && a.tags.tags() == b.tags.tags()
+}
+
+// An insertion of the copy of an entry, which comes back where the insertion is refused.
+fn inserted(
+    rt: &(impl Abort + AllocGlobal),
+    node: &mut NodeCore,
+    entry: &Entry,
+) -> Result<Reply, AllocError> {
+    match node.insert(entry.copy(rt.alloc())?) {
+        Ok(inserted) => Ok(reply_of(inserted)),
+        Err(refused) => {
+            assert!(rt; is_same(&refused.value, entry));
+            Err(AllocError)
+        }
     }
 }
 
-// An insertion of the copy of a new entry.
+// An insertion of a new entry.
 fn insert(
-    alloc: Global,
+    rt: &(impl Abort + AllocGlobal),
     node: &mut NodeCore,
     n: u32,
     value: (usize, u8),
@@ -118,16 +128,16 @@ fn insert(
     let Ok(key) = Key::new(1, &[n]) else {
         return Ok(Reply::Miss);
     };
-    let bytes = vec![in alloc; byte; len]?;
+    let bytes = vec![in rt.alloc(); byte; len]?;
     match Entry::new(
         key,
         bytes,
         stamp(lo),
         stamp(known),
         still,
-        set(alloc, rows)?,
+        set(rt.alloc(), rows)?,
     ) {
-        Ok(entry) => Ok(inserted(node, entry.copy(alloc)?)),
+        Ok(entry) => inserted(rt, node, &entry),
         Err(e) => Ok(Reply::Refused(e)),
     }
 }
@@ -159,24 +169,41 @@ fn event(
     }
 }
 
-fn take(alloc: Global, node: &mut NodeCore, step: Step) -> Reply {
+fn take(
+    rt: &(impl Abort + AllocGlobal),
+    node: &mut NodeCore,
+    step: Step,
+) -> Result<Reply, AllocError> {
     match step {
-        Step::Insert(n, value, reach, rows) => {
-            insert(alloc, node, n, value, reach, rows).unwrap_or(Reply::Memory)
-        }
-        Step::Lookup(n, lo, hi) => lookup(node, n, lo, hi),
-        Step::Event(number, rows) => event(alloc, node, number, rows).unwrap_or(Reply::Memory),
+        Step::Insert(n, value, reach, rows) => insert(rt, node, n, value, reach, rows),
+        Step::Lookup(n, lo, hi) => Ok(lookup(node, n, lo, hi)),
+        Step::Event(number, rows) => event(rt.alloc(), node, number, rows),
     }
 }
 
-fn play(rt: &impl Abort, alloc: Global, mut node: NodeCore, steps: &[(Step, Reply)]) {
+// All that the node holds, as text.
+fn state(alloc: Global, node: &NodeCore) -> Result<String, AllocError> {
+    format!(in alloc; "{node:?}").or_else(|_| format!(in alloc; "{node:?}"))
+}
+
+fn play(
+    rt: &(impl Abort + AllocGlobal),
+    mut node: NodeCore,
+    steps: &[(Step, Reply)],
+) -> Result<(), Fail> {
     for (i, (step, wanted)) in steps.iter().enumerate() {
-        let mut reply = take(alloc, &mut node, *step);
-        if reply == Reply::Memory {
-            reply = take(alloc, &mut node, *step);
-        }
+        let before = state(rt.alloc(), &node)?;
+        let reply = match take(rt, &mut node, *step) {
+            Ok(reply) => reply,
+            Err(_) => {
+                let after = state(rt.alloc(), &node)?;
+                assert_eq!(rt; after.as_str(), before.as_str(), "step {i}");
+                take(rt, &mut node, *step)?
+            }
+        };
         assert_eq!(rt; reply, *wanted, "step {i}");
     }
+    Ok(())
 }
 
 // An empty node.
@@ -184,15 +211,11 @@ fn made(alloc: Global, capacity: usize, recent: usize) -> Result<NodeCore, Alloc
     requires capacity { (1 ≤ capacity) × (capacity ≤ MAX_CAPACITY) }
     requires recent { (1 ≤ recent) × (recent ≤ MAX_RECENT) }
 {
-    match NodeCore::new(alloc, capacity, recent) {
-        Ok(node) => Ok(node),
-        Err(_) => NodeCore::new(alloc, capacity, recent),
-    }
+    NodeCore::new(alloc, capacity, recent).or_else(|_| NodeCore::new(alloc, capacity, recent))
 }
 
 #[test]
 fn an_event_closes_at_the_match(rt: HostRuntime) -> Result<(), Fail> {
-    let alloc = rt.alloc();
     let steps = [
         (
             Step::Insert(2, (1, 10), (0, 0, true), &[Rows::Id(2)]),
@@ -227,13 +250,11 @@ fn an_event_closes_at_the_match(rt: HostRuntime) -> Result<(), Fail> {
         (Step::Lookup(2, 2, 2), Reply::Hit((2, 3, false), 1024, 7)),
         (Step::Lookup(2, 0, 1), Reply::Hit((0, 2, false), 1, 10)),
     ];
-    play(&rt, alloc, made(alloc, 4, 4)?, &steps);
-    Ok(())
+    play(&rt, made(rt.alloc(), 4, 4)?, &steps)
 }
 
 #[test]
 fn no_event_closes_an_entry_known_beyond_it(rt: HostRuntime) -> Result<(), Fail> {
-    let alloc = rt.alloc();
     let steps = [
         (Step::Event(1, &[]), Reply::Closed(0)),
         (Step::Event(2, &[]), Reply::Closed(0)),
@@ -247,13 +268,11 @@ fn no_event_closes_an_entry_known_beyond_it(rt: HostRuntime) -> Result<(), Fail>
         (Step::Event(6, &[Rows::Id(1)]), Reply::Closed(1)),
         (Step::Lookup(2, 0, 9), Reply::Hit((1, 6, false), 1, 10)),
     ];
-    play(&rt, alloc, made(alloc, 4, 4)?, &steps);
-    Ok(())
+    play(&rt, made(rt.alloc(), 4, 4)?, &steps)
 }
 
 #[test]
 fn the_longest_entry_is_found(rt: HostRuntime) -> Result<(), Fail> {
-    let alloc = rt.alloc();
     let steps = [
         (
             Step::Insert(2, (0, 0), (0, 0, false), &[]),
@@ -277,13 +296,11 @@ fn the_longest_entry_is_found(rt: HostRuntime) -> Result<(), Fail> {
         ),
         (Step::Lookup(2, 0, 9), Reply::Hit((0, 4, false), 1, 12)),
     ];
-    play(&rt, alloc, made(alloc, 4, 4)?, &steps);
-    Ok(())
+    play(&rt, made(rt.alloc(), 4, 4)?, &steps)
 }
 
 #[test]
 fn a_late_entry_misses_no_event(rt: HostRuntime) -> Result<(), Fail> {
-    let alloc = rt.alloc();
     let steps = [
         (Step::Event(1, &[Rows::Id(3)]), Reply::Closed(0)),
         (Step::Event(2, &[Rows::Id(2)]), Reply::Closed(0)),
@@ -292,13 +309,11 @@ fn a_late_entry_misses_no_event(rt: HostRuntime) -> Result<(), Fail> {
             Reply::Stored((0, 2, false)),
         ),
     ];
-    play(&rt, alloc, made(alloc, 4, 4)?, &steps);
-    Ok(())
+    play(&rt, made(rt.alloc(), 4, 4)?, &steps)
 }
 
 #[test]
 fn an_event_that_is_no_longer_kept_is_not_trusted(rt: HostRuntime) -> Result<(), Fail> {
-    let alloc = rt.alloc();
     let steps = [
         (Step::Event(1, &[Rows::Id(3)]), Reply::Closed(0)),
         (Step::Event(2, &[Rows::Id(2)]), Reply::Closed(0)),
@@ -307,13 +322,11 @@ fn an_event_that_is_no_longer_kept_is_not_trusted(rt: HostRuntime) -> Result<(),
             Reply::Stored((0, 1, false)),
         ),
     ];
-    play(&rt, alloc, made(alloc, 4, 1)?, &steps);
-    Ok(())
+    play(&rt, made(rt.alloc(), 4, 1)?, &steps)
 }
 
 #[test]
 fn a_full_node_drops_the_least_recently_used(rt: HostRuntime) -> Result<(), Fail> {
-    let alloc = rt.alloc();
     let steps = [
         (
             Step::Insert(1, (1, 10), (0, 0, true), &[Rows::Id(1)]),
@@ -334,6 +347,5 @@ fn a_full_node_drops_the_least_recently_used(rt: HostRuntime) -> Result<(), Fail
         ),
         (Step::Lookup(2, 0, 9), Reply::Miss),
     ];
-    play(&rt, alloc, made(alloc, 2, 4)?, &steps);
-    Ok(())
+    play(&rt, made(rt.alloc(), 2, 4)?, &steps)
 }

@@ -22,5 +22,6 @@ pub fn meet_is_still_where_both_are()
 
 /// A span holds no stamp beyond the greater of `known` and what is processed.
 pub fn span_ends()
-    ensures { (i : Interval) (processed stamp : ℕ) → Spans processed i stamp → stamp ≤ max i.known processed }
+    ensures { (i : Interval) (processed stamp : ℕ)
+        → Spans processed i stamp → stamp ≤ max i.known processed }
 {}

@@ -33,7 +33,8 @@ impl Reach {
     /// From the stamp `lo` to the stamp `known`, given as numbers.
     pub fn new(lo: u32, known: u32, still: bool) -> Result<Reach, StampError>
         ensures lo_too_large { LAST < lo → result ≡ Err (StampError.TooLarge lo) }
-        ensures known_too_large { lo ≤ LAST → LAST < known → result ≡ Err (StampError.TooLarge known) }
+        ensures known_too_large { lo ≤ LAST → LAST < known
+            → result ≡ Err (StampError.TooLarge known) }
         ensures empty { lo ≤ LAST → known < lo → result ≡ Err StampError.Empty }
         ensures success { lo ≤ known → known ≤ LAST → IsOk result }
         ensures value { IfOk result (λ r. r ≡ record { lo = lo; known = known; still = still }) }

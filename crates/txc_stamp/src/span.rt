@@ -29,7 +29,8 @@ impl Span {
     /// The stamps from `lo` to `end - 1`.
     pub fn new(lo: u32, end: u32) -> Result<Span, StampError>
         ensures lo_too_large { LAST < lo → result ≡ Err (StampError.TooLarge lo) }
-        ensures end_too_large { lo ≤ LAST → LAST + 1 < end → result ≡ Err (StampError.TooLarge end) }
+        ensures end_too_large { lo ≤ LAST → LAST + 1 < end
+            → result ≡ Err (StampError.TooLarge end) }
         ensures empty { lo ≤ LAST → end ≤ lo → result ≡ Err StampError.Empty }
         ensures success { lo < end → end ≤ LAST + 1 → IsOk result }
         ensures value { IfOk result (λ s. s ≡ record { lo = lo; end = end }) }

@@ -9,6 +9,7 @@ pub mod Commuting
 pub mod Calls
 pub mod TextDigits
 pub mod TextPrefixes
+pub mod TextJoined
 pub mod TextTags
 pub mod TextKeys
 pub mod TextSets

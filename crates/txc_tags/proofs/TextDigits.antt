@@ -91,6 +91,10 @@ no_digit number byte most l h other n rest behind small nb e =
     let p = split_digits (digits_read number) (decimal n) (byte ∷ rest) behind (read_digits number (smaller number most l h)) (decimal_is_IsNumeral n (omega arith)).0.1 other nb e in
     (read_all number n (smaller number most l h) (omega arith) p.0, p.1)
 
+-- a byte that no number takes
+pub small_number : (most : ℕ) (number : Option ℕ) → most < 2 ^ 64 → IfSome number (λ n. n ≤ most) → EndsBefore (λ n. n ≤ most) decimal number (digits_read number) 0
+small_number most number l h = no_digit number 0 most l h (λ d. omega (arith, d.0))
+
 -- no number of at most `most` goes on with that digit
 pub stops_at : (number : Option ℕ) (byte most : ℕ) → most < 2 ^ 64 → IfSome number (λ n. n ≤ most) → IsDigit byte → ((n : ℕ) (rest : List ℕ) → n ≤ most → digits_read number ++ byte ∷ rest ≡ decimal n → ⊥) → EndsBefore (λ n. n ≤ most) decimal number (digits_read number) byte
 stops_at number byte most l h d none n rest behind small nb e =

@@ -4,9 +4,9 @@ use Rattle.std.specs.List.{flat_map, join_with_byte}
 use Rattle.std.specs.Fmt.{decimal}
 use Rattle.std.specs.Str.Parse.{AllDigits}
 use Rattle.std.proofs.lemmas.Fmt.{decimal_is_IsNumeral, decimal_injective, decimal_nonempty}
-use Rattle.std.proofs.lemmas.List.{flat_map_more, drop_at}
+use Rattle.std.proofs.lemmas.List.{flat_map_more}
 use Rattle.std.proofs.lemmas.Str.Parse.{digit_from_value}
-use Rattle.std.proofs.lemmas.List.Elements.{All-head, All-tail, All-nil, All-push, All-drop}
+use Rattle.std.proofs.lemmas.List.Elements.{All-head, All-tail, All-nil, All-push}
 use Rattle.txc_tags.specs.Keys.{Call}
 use Rattle.txc_tags.specs.declared.text.key.KeyFront.{KeyFront}
 use Rattle.txc_tags.specs.declared.text.key.KeyFront.TheVariants.{Nothing, InFunction, InArguments, Closed}
@@ -14,7 +14,8 @@ use Rattle.txc_tags.specs.TextGrammar.{IsTextOf, IsText, IsPrefix, IsLongestPref
 use Rattle.txc_tags.specs.TextNumber.{IsDigit, BeginsWithNoDigit, EndsBefore, digits_read}
 use Rattle.txc_tags.specs.TextKey.{key_text, IsKeyInRange}
 use Rattle.txc_tags.specs.TextKeyFront.{each_with_comma, front_text, finished_key, IsFrontInRange, EndsArgument}
-use Rattle.txc_tags.proofs.TextDigits.{split_digits, no_digit}
+use Rattle.txc_tags.proofs.TextDigits.{split_digits, small_number}
+use Rattle.txc_tags.proofs.TextJoined.{All-back, one_left, join_push, join_others}
 use Rattle.txc_tags.proofs.TextPrefixes.{NoneGoesOn, none_goes_on, stopped, no_text, ended}
 
 -- numbers joined by commas
@@ -24,9 +25,6 @@ args_text args = join_with_byte 44 (map decimal args)
 -- an argument
 abbrev IsArg : ℕ → Type 0
 IsArg arg = arg ≤ 4294967295
-
-All-back : (xs ys : List ℕ) → All IsArg (xs ++ ys) → All IsArg ys
-All-back xs ys h = subst (All IsArg) (drop_at xs ys (length xs) refl) (All-drop IsArg (length xs) (xs ++ ys) h)
 
 key_parts : (key : Call) (behind : List ℕ) → key_text key ++ behind ≡ 102 ∷ (decimal key.function ++ 40 ∷ (args_text key.args ++ 41 ∷ behind))
 key_parts key behind = ap (λ xs. 102 ∷ xs) (append_assoc (decimal key.function) (40 ∷ (args_text key.args ++ 41 ∷ [])) behind)
@@ -81,9 +79,6 @@ comma_more : (more t s : List ℕ) → 44 ∷ t ≡ behind_arg more s → (0 < l
 comma_more [] t s e = let w : ◌≡◌ {A = ℕ} 44 41 = cc in absurd (omega (arith, w))
 comma_more (x ∷ more) t s e = (omega arith, (let u : t ≡ args_text (x ∷ more) ++ 41 ∷ s = cc in u))
 
-one_left : (xs ys : List ℕ) (n : ℕ) → n ≡ length xs + length ys → 0 < n → (xs ≡ []) ⊎ (0 < length ys) → 0 < length ys
-one_left xs ys n counted l h = elim h as (λ _. 0 < length ys) [ inl w ↦ omega (arith, counted, l, ap length w) | inr w ↦ w ]
-
 -- the arguments that were read are the first ones
 peel : (args xs r s : List ℕ) → All IsArg args → All IsArg xs → each_with_comma args ++ r ≡ args_text xs ++ 41 ∷ s → (ys : List ℕ) × (xs ≡ args ++ ys) × (r ≡ args_text ys ++ 41 ∷ s) × ((args ≡ []) ⊎ (0 < length ys))
 peel [] xs r s h k e = (xs, refl, e, inl refl)
@@ -131,7 +126,7 @@ open_stops function args byte h l stops other key rest behind k nb e =
     none : (ys : List ℕ) → All IsArg (args ++ ys) → byte ∷ rest ≡ args_text ys ++ 41 ∷ behind → (args ≡ []) ⊎ (0 < length ys) → ⊥
     none [] all q few = let b : byte ≡ 41 = cc in other b (elim few as (λ _. args ≡ []) [ inl w ↦ w | inr w ↦ absurd (omega (arith, w)) ])
     none (y ∷ ys) all q few =
-        let small : IsArg y = All-head IsArg y ys (All-back args (y ∷ ys) all) in
+        let small : IsArg y = All-head IsArg y ys (All-back IsArg args (y ∷ ys) all) in
         let w = stops y rest (behind_arg ys behind) small (no_digit_behind ys behind) (q ∙ args_parts y ys behind) in
         let z : ◌≡◌ {A = Option ℕ} None (Some y) = w.0 in absurd (cc)
 
@@ -148,7 +143,7 @@ argument_stops function args n byte h l small stops paren comma key rest behind 
     none : (ys : List ℕ) → All IsArg (args ++ ys) → length (args ++ ys) ≤ 4 → decimal n ++ byte ∷ rest ≡ args_text ys ++ 41 ∷ behind → ⊥
     none [] all few q = number_first n (byte ∷ rest) behind small q
     none (y ∷ ys) all few q =
-        let one : IsArg y = All-head IsArg y ys (All-back args (y ∷ ys) all) in
+        let one : IsArg y = All-head IsArg y ys (All-back IsArg args (y ∷ ys) all) in
         let w = stops y rest (behind_arg ys behind) one (no_digit_behind ys behind) (q ∙ args_parts y ys behind) in
         third ys y few w.1
 
@@ -184,14 +179,6 @@ closed_stops function args byte h key rest behind k nb e =
 each_push : (args : List ℕ) (n : ℕ) → each_with_comma (args ++ n ∷ []) ≡ (each_with_comma args ++ decimal n) ++ 44 ∷ []
 each_push args n = sym (flat_map_more (λ m. decimal m ++ 44 ∷ []) [] args n) ∙ sym (append_assoc (each_with_comma args) (decimal n) (44 ∷ []))
 
-args_push : (args : List ℕ) (n : ℕ) → args_text (args ++ n ∷ []) ≡ each_with_comma args ++ decimal n
-args_push [] n = refl
-args_push (a ∷ []) n = sym (append_assoc (decimal a) (44 ∷ []) (decimal n)) ∙ ap (λ xs. xs ++ decimal n) (sym (append-nil (decimal a ++ 44 ∷ [])))
-args_push (a ∷ b ∷ args) n =
-    ap (λ xs. decimal a ++ 44 ∷ xs) (args_push (b ∷ args) n)
-    ∙ sym (append_assoc (decimal a) (44 ∷ []) (each_with_comma (b ∷ args) ++ decimal n))
-    ∙ sym (append_assoc (decimal a ++ 44 ∷ []) (each_with_comma (b ∷ args)) (decimal n))
-
 pub argument_ends : (function : ℕ) (args : List ℕ) (n byte : ℕ) (more : KeyFront) → EndsArgument function (args ++ n ∷ []) byte more → front_text more ≡ front_text (InArguments function args (Some n)) ++ byte ∷ []
 argument_ends function args n byte Nothing h = absurd h
 argument_ends function args n byte (InFunction number) h = absurd h
@@ -204,15 +191,12 @@ argument_ends function args n byte (InArguments f xs number) h =
 argument_ends function args n byte (Closed f xs) h =
     let same : front_text (Closed f xs) ≡ front_text (Closed function (args ++ n ∷ [])) =
     ap (λ (g : ℕ). front_text (Closed g xs)) h.1 ∙ ap (λ (ys : List ℕ). front_text (Closed function ys)) h.2 in
-    same ∙ ap (λ xs. 102 ∷ (decimal function ++ 40 ∷ (xs ++ 41 ∷ []))) (args_push args n)
+    same ∙ ap (λ xs. 102 ∷ (decimal function ++ 40 ∷ (xs ++ 41 ∷ []))) (join_push decimal args n)
     ∙ ap (λ xs. 102 ∷ (decimal function ++ 40 ∷ xs)) (append_assoc (each_with_comma args) (decimal n) (41 ∷ []))
     ∙ sym (in_arguments function args (Some n) (41 ∷ []))
     ∙ ap (λ b. front_text (InArguments function args (Some n)) ++ b ∷ []) (sym h.0)
 
 -- ---- what each front finishes and how it goes on
-
-small_number : (most : ℕ) (number : Option ℕ) → most < 2 ^ 64 → IfSome number (λ n. n ≤ most) → EndsBefore (λ n. n ≤ most) decimal number (digits_read number) 0
-small_number most number l h = no_digit number 0 most l h (λ d. omega (arith, d.0))
 
 not_open : (number : Option ℕ) → IfSome number (λ (n : ℕ). ◌≡◌ {A = ℕ} 0 40 → ⊥)
 not_open None = tt
@@ -250,7 +234,7 @@ args_on function args number n more h few l small e = (
       record { function = h; few = omega (arith, length-append args (n ∷ [])); args = All-push IsArg args n l small },
       in_arguments function args number (more ++ 41 ∷ [])
           ∙ ap (λ xs. 102 ∷ (decimal function ++ 40 ∷ (each_with_comma args ++ xs))) (sym (append_assoc (digits_read number) more (41 ∷ [])) ∙ ap (λ xs. xs ++ 41 ∷ []) e)
-          ∙ ap (λ xs. 102 ∷ (decimal function ++ 40 ∷ xs)) (sym (append_assoc (each_with_comma args) (decimal n) (41 ∷ [])) ∙ ap (λ xs. xs ++ 41 ∷ []) (sym (args_push args n))),
+          ∙ ap (λ xs. 102 ∷ (decimal function ++ 40 ∷ xs)) (sym (append_assoc (each_with_comma args) (decimal n) (41 ∷ [])) ∙ ap (λ xs. xs ++ 41 ∷ []) (sym (join_push decimal args n))),
     ),
   ),
 )
@@ -287,12 +271,8 @@ ended_key front text h read open_end = (ended IsKeyInRange key_text text (rw rea
 
 -- ---- the text of a key, as it is written
 
-others_args : (first : ℕ) (others : List ℕ) → args_text (first ∷ others) ≡ decimal first ++ flat_map (λ arg. 44 ∷ decimal arg) others
-others_args first [] = sym (append-nil (decimal first))
-others_args first (other ∷ others) = ap (λ xs. decimal first ++ 44 ∷ xs) (others_args other others)
-
 pub written_key : (key : Call) (first : ℕ) (others : List ℕ) → key.args ≡ first ∷ others → ((102 ∷ (decimal key.function ++ 40 ∷ decimal first)) ++ flat_map (λ arg. 44 ∷ decimal arg) others) ++ 41 ∷ [] ≡ key_text key
 written_key key first others e =
     ap (λ xs. 102 ∷ (xs ++ 41 ∷ [])) (append_assoc (decimal key.function) (40 ∷ decimal first) (flat_map (λ arg. 44 ∷ decimal arg) others))
     ∙ ap (λ xs. 102 ∷ xs) (append_assoc (decimal key.function) (40 ∷ (decimal first ++ flat_map (λ arg. 44 ∷ decimal arg) others)) (41 ∷ []))
-    ∙ ap (λ xs. 102 ∷ (decimal key.function ++ 40 ∷ (xs ++ 41 ∷ []))) (sym (others_args first others) ∙ ap args_text (sym e))
+    ∙ ap (λ xs. 102 ∷ (decimal key.function ++ 40 ∷ (xs ++ 41 ∷ []))) (sym (join_others decimal first others) ∙ ap args_text (sym e))

@@ -1,8 +1,8 @@
 -- Tags joined by commas: where their text stops, what it finishes, how it goes on.
 use Rattle.std.proofs.Common.{◌≡◌, ℕ, ◌+◌, ◌<◌, Option, None, Some, IsSome, List, [], ◌∷◌, ◌++◌, map, length, take, get_or, refl, sym, ap, subst, ◌∙◌, arith, suc, zero, append_assoc, append-nil, length-append, ◌⊎◌, inl, inr}
 use Rattle.std.specs.List.{flat_map, join_with_byte}
-use Rattle.std.proofs.lemmas.List.{flat_map_more, drop_at}
-use Rattle.std.proofs.lemmas.List.Elements.{All-head, All-tail, All-nil, All-push, All-drop}
+use Rattle.std.proofs.lemmas.List.{flat_map_more}
+use Rattle.std.proofs.lemmas.List.Elements.{All-head, All-tail, All-nil, All-push}
 use Rattle.txc_tags.specs.declared.tag.Tag.{Tag}
 use Rattle.txc_tags.specs.declared.tag.Tag.TheVariants.{Wildcard, Id, Group}
 use Rattle.txc_tags.specs.declared.text.tag.TagFront.{TagFront}
@@ -15,6 +15,7 @@ use Rattle.txc_tags.specs.TextTagFront.{front_text, finished_tag, IsFrontInRange
 use Rattle.txc_tags.specs.TextSet.{tags_text, AreTagsInRange, IsSetOfText}
 use Rattle.txc_tags.specs.TextSetFront.{PushesByte, with_ended}
 use Rattle.txc_tags.proofs.TextCanonical.{set_of_set}
+use Rattle.txc_tags.proofs.TextJoined.{All-back, one_left, join_push}
 use Rattle.txc_tags.proofs.TextPrefixes.{NoneGoesOn, stopped, no_text, ended}
 use Rattle.txc_tags.proofs.TextTags.{tag_text_known, finished_by, finished_text, front_is_prefix}
 
@@ -58,9 +59,6 @@ comma_more : (more : List Tag) (t : List ℕ) → 44 ∷ t ≡ behind_tag more �
 comma_more [] t e = absurd (cc)
 comma_more (tag ∷ more) t e = (omega arith, (let u : t ≡ joined (tag ∷ more) = cc in u))
 
-one_left : (xs ys : List Tag) (n : ℕ) → n ≡ length xs + length ys → 0 < n → (xs ≡ []) ⊎ (0 < length ys) → 0 < length ys
-one_left xs ys n counted l h = elim h as (λ _. 0 < length ys) [ inl w ↦ omega (arith, counted, l, ap length w) | inr w ↦ w ]
-
 -- the tags that were read are the first ones
 peel : (tags others : List Tag) (r : List ℕ) → AreTagsInRange tags → AreTagsInRange others → each_with_comma tags ++ r ≡ joined others → (more : List Tag) × (others ≡ tags ++ more) × (r ≡ joined more) × ((tags ≡ []) ⊎ (0 < length more))
 peel [] others r h k e = (others, refl, e, inl refl)
@@ -74,21 +72,9 @@ peel (tag ∷ tags) others r h k e =
     let counted : length p.0 ≡ length tags + length z.0 = ap length z.1 ∙ length-append tags z.0 in
     (z.0, p.1 ∙ ap (λ ys. tag ∷ ys) z.1, z.2, inr (one_left tags z.0 (length p.0) counted q.0 z.3))
 
-All-back : (xs ys : List Tag) → AreTagsInRange (xs ++ ys) → AreTagsInRange ys
-All-back xs ys h = subst AreTagsInRange (drop_at xs ys (length xs) refl) (All-drop IsTagInRange (length xs) (xs ++ ys) h)
-
--- the tags that were read, with one more, are joined by commas
-joined_push : (tags : List Tag) (tag : Tag) → joined (tags ++ tag ∷ []) ≡ each_with_comma tags ++ tag_text tag
-joined_push [] tag = refl
-joined_push (a ∷ []) tag = sym (append_assoc (tag_text a) (44 ∷ []) (tag_text tag)) ∙ ap (λ xs. xs ++ tag_text tag) (sym (append-nil (tag_text a ++ 44 ∷ [])))
-joined_push (a ∷ b ∷ tags) tag =
-    ap (λ xs. tag_text a ++ 44 ∷ xs) (joined_push (b ∷ tags) tag)
-    ∙ sym (append_assoc (tag_text a) (44 ∷ []) (each_with_comma (b ∷ tags) ++ tag_text tag))
-    ∙ sym (append_assoc (tag_text a ++ 44 ∷ []) (each_with_comma (b ∷ tags)) (tag_text tag))
-
 tags_text_push : (tags : List Tag) (tag : Tag) → tags_text (tags ++ tag ∷ []) ≡ each_with_comma tags ++ tag_text tag
 tags_text_push [] tag = refl
-tags_text_push (a ∷ tags) tag = joined_push (a ∷ tags) tag
+tags_text_push (a ∷ tags) tag = join_push tag_text (a ∷ tags) tag
 
 -- ---- what the readers keep
 
@@ -167,7 +153,7 @@ tags_stop front text i byte set h r l b d stops comma (first ∷ others) rest k 
     sym (append_assoc (each_with_comma r.tags) (front_text front) (byte ∷ rest)) ∙ ap (λ xs. xs ++ byte ∷ rest) (sym r.text) ∙ e in
     let p = peel r.tags (first ∷ others) (front_text front ++ byte ∷ rest) r.in_range k t in
     let counted : length (first ∷ others) ≡ length r.tags + length p.0 = ap length p.1 ∙ length-append r.tags p.0 in
-    none p.0 (All-back r.tags p.0 (subst AreTagsInRange p.1 k)) (one_left r.tags p.0 (length (first ∷ others)) counted (omega arith) p.3) p.2
+    none p.0 (All-back IsTagInRange r.tags p.0 (subst AreTagsInRange p.1 k)) (one_left r.tags p.0 (length (first ∷ others)) counted (omega arith) p.3) p.2
   where
     last : (more : List Tag) (tag : Tag) → finished_tag front ≡ Some tag → byte ∷ rest ≡ behind_tag more → ⊥
     last [] tag f q = cc
@@ -199,12 +185,7 @@ ended_tags front text set h r d open_end = (ended AreTagsInRange tags_text text 
     none (first ∷ others, (k, e)) =
         let p = peel r.tags (first ∷ others) (front_text front) r.in_range k (sym r.text ∙ e) in
         let counted : length (first ∷ others) ≡ length r.tags + length p.0 = ap length p.1 ∙ length-append r.tags p.0 in
-        by_more p.0 (All-back r.tags p.0 (subst AreTagsInRange p.1 k)) (one_left r.tags p.0 (length (first ∷ others)) counted (omega arith) p.3) p.2
-
--- the text of tags, as it is written
-pub others_text : (tag : Tag) (tags : List Tag) → tags_text (tag ∷ tags) ≡ tag_text tag ++ flat_map (λ u. 44 ∷ tag_text u) tags
-others_text tag [] = sym (append-nil (tag_text tag))
-others_text tag (other ∷ tags) = ap (λ xs. tag_text tag ++ 44 ∷ xs) (others_text other tags)
+        by_more p.0 (All-back IsTagInRange r.tags p.0 (subst AreTagsInRange p.1 k)) (one_left r.tags p.0 (length (first ∷ others)) counted (omega arith) p.3) p.2
 
 -- ---- tags are known by their text
 
@@ -239,21 +220,3 @@ same_tags_text (x ∷ xs) (y ∷ ys) h k e = joined_known (x ∷ xs) (y ∷ ys) 
 pub read_back : (text : List ℕ) (set tags : List Tag) → IsSetOfText text set → IsCanonical tags → AreTagsInRange tags → text ≡ tags_text tags → set ≡ tags
 read_back text set tags (read, (in_range, e), made) c h w =
     made ∙ ap set_of (same_tags_text read tags in_range h (sym e ∙ w)) ∙ set_of_set tags c
-
--- what stands behind a dash is no set's
-pub dash_alone : (text : List ℕ) → 1 < length text → get_or text 0 0 ≡ 45 → IsLongestPrefix AreTagsInRange tags_text text 1 × (IsText AreTagsInRange tags_text text → ⊥)
-dash_alone [] l d = absurd (omega (arith, l))
-dash_alone (c ∷ []) l d = absurd (omega (arith, l))
-dash_alone (c ∷ byte ∷ text) l d = (
-  stopped AreTagsInRange tags_text (c ∷ byte ∷ text) 1 byte l refl none ([], ([], (All-nil IsTagInRange, ap (λ b. b ∷ []) d))),
-  no_text AreTagsInRange tags_text (c ∷ byte ∷ text) 1 byte l refl none,
-)
-  where
-    none : NoneGoesOn AreTagsInRange tags_text (c ∷ []) byte
-    none [] rest k e = absurd (cc)
-    none (tag ∷ tags) rest k e =
-        let p = first_letter tag (behind_tag tags) in
-        let q : c ∷ byte ∷ rest ≡ 116 ∷ p.0 = e ∙ joined_parts tag tags ∙ p.1 in
-        let w : c ≡ 116 = cc in
-        let v : c ≡ 45 = d in
-        omega (arith, w, v)

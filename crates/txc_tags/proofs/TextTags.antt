@@ -13,7 +13,7 @@ use Rattle.txc_tags.specs.TextGrammar.{IsTextOf, IsText, IsPrefix, IsLongestPref
 use Rattle.txc_tags.specs.TextNumber.{BeginsWithNoDigit, EndsBefore, digits_read}
 use Rattle.txc_tags.specs.TextTag.{tag_text, IsTagInRange}
 use Rattle.txc_tags.specs.TextTagFront.{front_text, finished_tag, IsFrontInRange}
-use Rattle.txc_tags.proofs.TextDigits.{split_digits, no_digit}
+use Rattle.txc_tags.proofs.TextDigits.{split_digits, small_number}
 use Rattle.txc_tags.proofs.TextPrefixes.{NoneGoesOn, none_goes_on, stopped, no_text, ended}
 
 -- what stands behind the table's number
@@ -163,9 +163,6 @@ all_rows_stops table byte h tag rest behind k nb e =
     by_tag (Group t n) s q = let w : ◌≡◌ {A = ℕ} 63 103 = cc in absurd (omega (arith, w))
 
 -- ---- what each front finishes and how it goes on
-
-small_number : (most : ℕ) (number : Option ℕ) → most < 2 ^ 64 → IfSome number (λ n. n ≤ most) → EndsBefore (λ n. n ≤ most) decimal number (digits_read number) 0
-small_number most number l h = no_digit number 0 most l h (λ d. omega (arith, d.0))
 
 not_colon : (number : Option ℕ) → IfSome number (λ (n : ℕ). ◌≡◌ {A = ℕ} 0 58 → ⊥)
 not_colon None = tt

@@ -23,5 +23,6 @@ IsSetOfText text set = (tags : List Tag) × IsTextOf AreTagsInRange tags_text te
 
 -- a text that is none of the grammar is refused at its longest prefix, and memory is short only for a text of the grammar
 abbrev pub IsSetRefusal : List ℕ → SetError → Type 0
-IsSetRefusal text (BadTag bad) = IsLongestPrefix AreTagsInRange tags_text text bad.at × (IsText AreTagsInRange tags_text text → ⊥)
+IsSetRefusal text (BadTag bad) = IsLongestPrefix AreTagsInRange tags_text text bad.at
+    × (IsText AreTagsInRange tags_text text → ⊥)
 IsSetRefusal text (Memory error) = IsText AreTagsInRange tags_text text

@@ -29,7 +29,8 @@ pub fn adding_keeps_cover()
 /// Sets that cover tags which match, match.
 pub fn sets_match_where_covered_tags_do()
     ensures { (xs ys : List Tag) (a b : Tag)
-        → covers xs a ≡ true → covers ys b ≡ true → tags_match a b ≡ true → sets_match xs ys ≡ true }
+        → covers xs a ≡ true → covers ys b ≡ true → tags_match a b ≡ true
+        → sets_match xs ys ≡ true }
 {}
 
 /// The order in which two tags are added does not matter.

@@ -67,8 +67,8 @@ impl TagSet {
         slices_match(&self.tags, &other.tags)
     }
 
-    /// Adds a tag. A tag that is covered changes nothing; a wildcard, and a seventeenth tag of a table, takes the place of
-    /// the table's tags.
+    /// Adds a tag. A tag that is covered changes nothing and takes no memory; a wildcard, and a seventeenth tag of a table,
+    /// takes the place of the table's tags. Only want of memory refuses, and leaves the set as it was.
     pub fn add(&mut self, tag: Tag) -> Result<(), AllocError>
         ensures ok { OnOk result (self.new ≡ with_tag tag self.old) }
         ensures err { OnErr result (self.new ≡ self.old) }
@@ -77,7 +77,7 @@ impl TagSet {
         add_tag(&mut self.tags, tag)
     }
 
-    /// An equal set.
+    /// An equal set. Only want of memory refuses.
     pub fn copy(&self, alloc: Global) -> Result<TagSet, AllocError>
         ensures { IfOk result (λ set. set ≡ self.now) }
     {

@@ -18,7 +18,7 @@ const MOST_FUNCTION: u64 = 31;
 /// The greatest argument.
 const MOST_ARGUMENT: u64 = 4294967295;
 
-/// The text is not that of a key.
+/// G2: the text is not that of a key.
 #[derive(Debug, Clone, Copy, PartialEq, Eq, thiserror::Error)]
 #[error("no text of a key: it goes wrong behind {at} bytes")]
 pub struct BadKey {
@@ -28,7 +28,7 @@ pub struct BadKey {
 
 /// Up to four arguments.
 #[derive(Debug, Drop)]
-pub(crate) struct Arguments {
+struct Arguments {
     count: usize,
     numbers: [u32; 4],
 }
@@ -95,8 +95,10 @@ enum KeyFront {
 fn push_to_function(number: Option<u64>, byte: u8) -> Option<KeyFront>
     requires { IfSome number (λ n. n ≤ 31) }
     ensures within { IfSome result IsFrontInRange }
-    ensures more { IfSome result (λ more. front_text more ≡ front_text (KeyFront.InFunction number) ++ byte ∷ []) }
-    ensures none { IfNone result (EndsBefore IsKeyInRange key_text None (front_text (KeyFront.InFunction number)) byte) }
+    ensures more { IfSome result (λ more.
+        front_text more ≡ front_text (KeyFront.InFunction number) ++ byte ∷ []) }
+    ensures none { IfNone result (EndsBefore IsKeyInRange key_text None
+        (front_text (KeyFront.InFunction number)) byte) }
 {
     match push_digit(number, byte, MOST_FUNCTION) {
         Some(more) => Some(KeyFront::InFunction(Some(more))),
@@ -108,7 +110,8 @@ fn push_to_function(number: Option<u64>, byte: u8) -> Option<KeyFront>
 fn end_function(number: Option<u64>, byte: u8) -> Option<KeyFront>
     requires { IfSome number (λ n. n ≤ 31) }
     ensures some { IsSome result → IsSome number }
-    ensures more { IfSome result (λ more. IfSome number (λ n. (byte ≡ 40) × (more ≡ KeyFront.InArguments n [] None))) }
+    ensures more { IfSome result (λ more. IfSome number (λ n.
+        (byte ≡ 40) × (more ≡ KeyFront.InArguments n [] None))) }
     ensures none { IfNone result (IfSome number (λ n. byte ≡ 40 → ⊥)) }
 {
     match number {
@@ -131,8 +134,10 @@ fn push_to_arguments(
 ) -> Option<KeyFront>
     requires { IsFrontInRange (KeyFront.InArguments function arguments number) }
     ensures within { IfSome result IsFrontInRange }
-    ensures more { IfSome result (λ more. front_text more ≡ front_text (KeyFront.InArguments function arguments number) ++ byte ∷ []) }
-    ensures none { IfNone result (EndsBefore IsKeyInRange key_text None (front_text (KeyFront.InArguments function arguments number)) byte) }
+    ensures more { IfSome result (λ more. front_text more
+        ≡ front_text (KeyFront.InArguments function arguments number) ++ byte ∷ []) }
+    ensures none { IfNone result (EndsBefore IsKeyInRange key_text None
+        (front_text (KeyFront.InArguments function arguments number)) byte) }
 {
     match push_digit(number, byte, MOST_ARGUMENT) {
         Some(more) => Some(KeyFront::InArguments(function, arguments, Some(more))),
@@ -145,7 +150,8 @@ fn push_to_arguments(
 
 /// The front behind `(` or a comma, with one byte more that is no digit.
 fn end_none(function: u8, arguments: Arguments, byte: u8) -> Option<KeyFront>
-    ensures some { IfSome result (λ more. (byte ≡ 41) × (arguments ≡ []) × (more ≡ KeyFront.Closed function [])) }
+    ensures some { IfSome result (λ more.
+        (byte ≡ 41) × (arguments ≡ []) × (more ≡ KeyFront.Closed function [])) }
     ensures none { IfNone result (byte ≡ 41 → arguments ≡ [] → ⊥) }
 {
     if byte != b')' {
@@ -181,7 +187,8 @@ impl KeyFront {
         requires { IsFrontInRange self }
         ensures within { IfSome result IsFrontInRange }
         ensures more { IfSome result (λ more. front_text more ≡ front_text self ++ byte ∷ []) }
-        ensures none { IfNone result (EndsBefore IsKeyInRange key_text (finished_key self) (front_text self) byte) }
+        ensures none { IfNone result (EndsBefore IsKeyInRange key_text (finished_key self)
+            (front_text self) byte) }
     {
         match self {
             KeyFront::Nothing => {
@@ -232,12 +239,13 @@ impl fmt::Display for Key {
 }
 
 impl Key {
-    /// The key that the whole text is.
+    /// The key that the whole text is: `f3(1,2)`. It takes no memory.
     pub fn read(text: &[u8]) -> Result<Key, BadKey>
         ensures grammar { IsOk result ↔ IsText IsKeyInRange key_text text.now }
         ensures key { IfOk result (IsTextOf IsKeyInRange key_text text.now) }
         ensures at { IfErr result (λ bad. IsLongestPrefix IsKeyInRange key_text text.now bad.at) }
-        ensures written { (key : Call) → IsKeyInRange key → text.now ≡ key_text key → result ≡ Ok key }
+        ensures written { (key : Call) → IsKeyInRange key
+            → text.now ≡ key_text key → result ≡ Ok key }
     {
         let mut front = KeyFront::Nothing;
         for (i, byte) in text.iter().enumerate() {
@@ -252,7 +260,7 @@ impl Key {
         }
     }
 
-    /// The key's text. [`Key::read`] gives the key back, and reads it from no other text.
+    /// The key's text. [`Key::read`] gives the key back, and reads it from no other text. Only want of memory refuses.
     pub fn write(&self, alloc: Global) -> Result<String, AllocError>
         ensures { IfOk result (λ text. string_bytes text ≡ key_text self.now) }
     {

@@ -65,8 +65,10 @@ pub fn keys_are_read_back(alloc: Global, key: &Key) -> Result<Key, AllocError>
 
 /// A key's text is the only one of that key, and no other key has it.
 pub fn keys_have_one_text()
-    ensures only { (key : Call) (a b : List ℕ) → IsTextOf IsKeyInRange key_text a key → IsTextOf IsKeyInRange key_text b key → a ≡ b }
-    ensures known { (text : List ℕ) (a b : Call) → IsTextOf IsKeyInRange key_text text a → IsTextOf IsKeyInRange key_text text b → a ≡ b }
+    ensures only { (key : Call) (a b : List ℕ)
+        → IsTextOf IsKeyInRange key_text a key → IsTextOf IsKeyInRange key_text b key → a ≡ b }
+    ensures known { (text : List ℕ) (a b : Call)
+        → IsTextOf IsKeyInRange key_text text a → IsTextOf IsKeyInRange key_text text b → a ≡ b }
 {}
 
 /// A set is read back from its text: want of memory aside, which [`SetError`] says.

@@ -16,7 +16,8 @@ pub(crate) fn push_digit(number: Option<u64>, byte: u8, most: u64) -> Option<u64
     requires { IfSome number (λ n. n ≤ most) }
     ensures within { IfSome result (λ n. n ≤ most) }
     ensures more { IfSome result (λ n. decimal n ≡ digits_read number ++ byte ∷ []) }
-    ensures none { IfNone result (EndsBefore (λ n. n ≤ most) decimal number (digits_read number) byte) }
+    ensures none { IfNone result (EndsBefore (λ n. n ≤ most) decimal number
+        (digits_read number) byte) }
 {
     if !is_digit(byte) {
         return None;

@@ -1,5 +1,5 @@
 //! Texts of sets of tags: `-`, `t1:id=7,t1:grp=2,t2:?`.
-ghost use Rattle.std.specs.Prelude.{◌≡◌, ◌≢◌, ◌↔◌, [], ◌∷◌, ◌++◌, List, IsTrue, IfOk, OnOk, OnErr, IfErr, IsSome, IfSome, IfNone, slice_index, string_bytes};
+ghost use Rattle.std.specs.Prelude.{◌≡◌, ◌≢◌, ◌↔◌, [], ◌∷◌, ◌++◌, List, codes, IsTrue, IsOk, IfOk, OnOk, OnErr, IfErr, IsSome, IfSome, IfNone, slice_index, string_bytes};
 ghost use Rattle.txc_tags.specs.declared.tag.Tag.{Tag};
 ghost use Rattle.txc_tags.specs.Tags.{IsCanonical};
 ghost use Rattle.txc_tags.specs.TextGrammar.{IsText, IsLongestPrefix};
@@ -18,7 +18,7 @@ use std::fmt;
 /// Why no set of tags was read.
 #[derive(Debug, Drop, thiserror::Error)]
 pub enum SetError {
-    /// The text is not that of a set of tags.
+    /// G1: the text is not that of a set of tags.
     #[error(transparent)]
     BadTag(BadTag),
     /// A growth was refused.
@@ -41,7 +41,8 @@ fn push_byte(front: TagFront, byte: u8) -> Option<(TagFront, Option<Tag>)>
     requires { IsFrontInRange front }
     ensures within { IfSome result (λ pushed. IsFrontInRange pushed.0) }
     ensures more { IfSome result (λ pushed. PushesByte front byte pushed.0 pushed.1) }
-    ensures none { IfNone result (EndsBefore IsTagInRange tag_text (finished_tag front) (front_text front) byte) }
+    ensures none { IfNone result (EndsBefore IsTagInRange tag_text (finished_tag front)
+        (front_text front) byte) }
     ensures comma { IfNone result (IsSome (finished_tag front) → byte ≡ 44 → ⊥) }
 {
     match front.push(byte) {
@@ -143,11 +144,13 @@ impl fmt::Display for TagSet {
 
 impl TagSet {
     /// The set that the whole text is: `-` for the empty set, or what adding the text's tags one after the other gives. A
-    /// text that is none is refused before memory is asked for.
+    /// text that is none is refused as [`SetError::BadTag`], before memory is asked for; `-` takes none.
     pub fn read(alloc: Global, text: &[u8]) -> Result<TagSet, SetError>
         ensures set { IfOk result (IsSetOfText text.now) }
         ensures refused { IfErr result (IsSetRefusal text.now) }
-        ensures written { (tags : List Tag) → IsCanonical tags → AreTagsInRange tags → text.now ≡ tags_text tags → IfOk result (λ set. set ≡ tags) }
+        ensures written { (tags : List Tag) → IsCanonical tags → AreTagsInRange tags
+            → text.now ≡ tags_text tags → IfOk result (λ set. set ≡ tags) }
+        ensures dash { text.now ≡ codes "-" → IsOk result }
     {
         if begins_with_dash(text) {
             if text.len() > 1 {
@@ -164,7 +167,8 @@ impl TagSet {
         }
     }
 
-    /// The set's text. [`TagSet::read`] gives the set back.
+    /// The set's one spelling: by table, in a table the wildcard alone, or ids by number and then groups by number.
+    /// [`TagSet::read`] gives the set back. Only want of memory refuses.
     pub fn write(&self, alloc: Global) -> Result<String, AllocError>
         ensures { IfOk result (λ text. string_bytes text ≡ tags_text self.now) }
     {

@@ -16,7 +16,7 @@ const MOST_TABLE: u64 = 15;
 /// The greatest id and the greatest group.
 const MOST_ROW: u64 = 4294967295;
 
-/// The text is not that of a tag.
+/// G1: the text is not that of a tag, or of a set of tags.
 #[derive(Debug, Clone, Copy, PartialEq, Eq, thiserror::Error)]
 #[error("no text of a tag: it goes wrong behind {at} bytes")]
 pub struct BadTag {
@@ -55,8 +55,10 @@ pub(crate) enum TagFront {
 fn push_to_table(number: Option<u64>, byte: u8) -> Option<TagFront>
     requires { IfSome number (λ n. n ≤ 15) }
     ensures within { IfSome result IsFrontInRange }
-    ensures more { IfSome result (λ more. front_text more ≡ front_text (TagFront.InTable number) ++ byte ∷ []) }
-    ensures none { IfNone result (EndsBefore IsTagInRange tag_text None (front_text (TagFront.InTable number)) byte) }
+    ensures more { IfSome result (λ more.
+        front_text more ≡ front_text (TagFront.InTable number) ++ byte ∷ []) }
+    ensures none { IfNone result (EndsBefore IsTagInRange tag_text None
+        (front_text (TagFront.InTable number)) byte) }
 {
     match push_digit(number, byte, MOST_TABLE) {
         Some(more) => Some(TagFront::InTable(Some(more))),
@@ -67,7 +69,8 @@ fn push_to_table(number: Option<u64>, byte: u8) -> Option<TagFront>
 /// The front behind a whole table's number, with one byte more.
 fn end_table(number: Option<u64>, byte: u8) -> Option<TagFront>
     requires { IfSome number (λ n. n ≤ 15) }
-    ensures more { IfSome result (λ more. IfSome number (λ n. (byte ≡ 58) × (more ≡ TagFront.Colon n))) }
+    ensures more { IfSome result (λ more. IfSome number (λ n.
+        (byte ≡ 58) × (more ≡ TagFront.Colon n))) }
     ensures none { IfNone result (IfSome number (λ n. byte ≡ 58 → ⊥)) }
     ensures some { IsSome result → IsSome number }
 {
@@ -88,7 +91,8 @@ impl TagFront {
         requires { IsFrontInRange self }
         ensures within { IfSome result IsFrontInRange }
         ensures more { IfSome result (λ more. front_text more ≡ front_text self ++ byte ∷ []) }
-        ensures none { IfNone result (EndsBefore IsTagInRange tag_text (finished_tag self) (front_text self) byte) }
+        ensures none { IfNone result (EndsBefore IsTagInRange tag_text (finished_tag self)
+            (front_text self) byte) }
     {
         match self {
             TagFront::Nothing => {
@@ -191,12 +195,13 @@ impl fmt::Display for Tag {
 impl Tag {
     ghost use Rattle.txc_tags.specs.declared.tag.Tag.{Tag};
 
-    /// The tag that the whole text is.
+    /// The tag that the whole text is: `t1:?`, `t1:id=7` or `t1:grp=2`. It takes no memory.
     pub fn read(text: &[u8]) -> Result<Tag, BadTag>
         ensures grammar { IsOk result ↔ IsText IsTagInRange tag_text text.now }
         ensures tag { IfOk result (IsTextOf IsTagInRange tag_text text.now) }
         ensures at { IfErr result (λ bad. IsLongestPrefix IsTagInRange tag_text text.now bad.at) }
-        ensures written { (tag : Tag) → IsTagInRange tag → text.now ≡ tag_text tag → result ≡ Ok tag }
+        ensures written { (tag : Tag) → IsTagInRange tag
+            → text.now ≡ tag_text tag → result ≡ Ok tag }
     {
         let mut front = TagFront::Nothing;
         for (i, byte) in text.iter().enumerate() {
@@ -211,7 +216,7 @@ impl Tag {
         }
     }
 
-    /// The tag's text. [`Tag::read`] gives the tag back.
+    /// The tag's text. [`Tag::read`] gives the tag back. Only want of memory refuses.
     pub fn write(&self, alloc: Global) -> Result<String, AllocError>
         ensures { IfOk result (λ text. string_bytes text ≡ tag_text self.now) }
     {

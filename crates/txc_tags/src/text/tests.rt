@@ -1,12 +1,15 @@
-//! The worked texts.
+//! The worked texts. Each call that needs memory is made again where it was refused, so that a test runs to the same
+//! end where any one allocation fails.
 use crate::key::Key;
 use crate::set::TagSet;
 use crate::tag::{Table, Tag};
 use crate::text::key::BadKey;
+use crate::text::laws::{keys_are_read_back, sets_are_read_back, tags_are_read_back};
 use crate::text::number::read_number;
 use crate::text::set::SetError;
 use crate::text::tag::BadTag;
-use std::fmt::Write;
+use std::alloc::AllocError;
+use std::fmt::{self, Write};
 use std::test::Fail;
 
 fn tag_refused_at(text: &str) -> Option<usize> {
@@ -69,8 +72,12 @@ fn tags(rt: HostRuntime) -> Result<(), Fail> {
         Tag::Id(table, 4294967295)
     );
     assert_eq!(rt; Tag::read(b"t15:grp=0")?, Tag::Group(table, 0));
-    let text = Tag::Group(table, 20).write(rt.alloc())?;
+    let tag = Tag::Group(table, 20);
+    let text = tag.write(rt.alloc()).or_else(|_| tag.write(rt.alloc()))?;
     assert_eq!(rt; text.as_str(), "t15:grp=20");
+    let alloc = rt.alloc();
+    let back = tags_are_read_back(alloc, tag).or_else(|_| tags_are_read_back(alloc, tag))?;
+    assert_eq!(rt; back, tag);
     Ok(())
 }
 
@@ -87,6 +94,10 @@ fn refused_keys(rt: HostRuntime) {
     assert_eq!(rt; key_refused_at("f1(4294967296)"), Some(12));
 }
 
+fn written(rt: &impl AllocGlobal, key: &Key) -> Result<String, AllocError> {
+    key.write(rt.alloc()).or_else(|_| key.write(rt.alloc()))
+}
+
 #[test]
 fn keys(rt: HostRuntime) -> Result<(), Fail> {
     let none = Key::read(b"f0()")?;
@@ -95,10 +106,13 @@ fn keys(rt: HostRuntime) -> Result<(), Fail> {
     let four = Key::read(b"f31(0,1,20,4294967295)")?;
     assert_eq!(rt; four.function(), 31);
     assert_eq!(rt; four.args(), [0, 1, 20, 4294967295].as_slice());
-    let text = four.write(rt.alloc())?;
+    let text = written(&rt, &four)?;
     assert_eq!(rt; text.as_str(), "f31(0,1,20,4294967295)");
-    let text = none.write(rt.alloc())?;
+    let text = written(&rt, &none)?;
     assert_eq!(rt; text.as_str(), "f0()");
+    let alloc = rt.alloc();
+    let back = keys_are_read_back(alloc, &four).or_else(|_| keys_are_read_back(alloc, &four))?;
+    assert!(rt; back.is_same(&four));
     Ok(())
 }
 
@@ -112,8 +126,15 @@ fn refused_sets(rt: HostRuntime) {
     assert_eq!(rt; set_refused_at(&rt, "t1:?;t2:?"), Some(4));
 }
 
-/// The text of `t1:id=0` and the ids after it, joined by commas.
-fn first_ids(rt: &impl AllocGlobal, count: u32) -> Result<String, Fail> {
+/// The set that the text is read as.
+fn read(rt: &impl AllocGlobal, text: &str) -> Result<TagSet, SetError> {
+    match TagSet::read(rt.alloc(), text.as_bytes()) {
+        Err(SetError::Memory(_)) => TagSet::read(rt.alloc(), text.as_bytes()),
+        read => read,
+    }
+}
+
+fn try_first_ids(rt: &impl AllocGlobal, count: u32) -> Result<String, fmt::Error> {
     let mut text = String::from_str(rt.alloc(), "t1:id=0")?;
     for id in 1..count {
         write!(text, ",t1:id={id}")?;
@@ -121,9 +142,15 @@ fn first_ids(rt: &impl AllocGlobal, count: u32) -> Result<String, Fail> {
     Ok(text)
 }
 
+/// The text of `t1:id=0` and the ids after it, joined by commas.
+fn first_ids(rt: &impl AllocGlobal, count: u32) -> Result<String, fmt::Error> {
+    try_first_ids(rt, count).or_else(|_| try_first_ids(rt, count))
+}
+
 /// The one spelling of the set that the text is read as.
 fn respelled(rt: &impl AllocGlobal, text: &str) -> Result<String, Fail> {
-    Ok(TagSet::read(rt.alloc(), text.as_bytes())?.write(rt.alloc())?)
+    let set = read(rt, text)?;
+    Ok(set.write(rt.alloc()).or_else(|_| set.write(rt.alloc()))?)
 }
 
 #[test]
@@ -146,10 +173,24 @@ fn sets(rt: HostRuntime) -> Result<(), Fail> {
 }
 
 #[test]
+fn sets_are_read_back_from_their_text(rt: HostRuntime) -> Result<(), Fail> {
+    let set = read(&rt, "t2:?,t1:grp=2,t1:id=7")?;
+    let alloc = rt.alloc();
+    let back = match sets_are_read_back(alloc, &set) {
+        Err(SetError::Memory(_)) => sets_are_read_back(alloc, &set)?,
+        back => back?,
+    };
+    assert_eq!(rt; back.tags(), set.tags());
+    assert_eq!(rt; back.tags().len(), 3);
+    Ok(())
+}
+
+#[test]
 fn texts_print(rt: HostRuntime) -> Result<(), Fail> {
     let key = Key::read(b"f3(1,2)")?;
-    let set = TagSet::read(rt.alloc(), b"t1:id=7,t2:?")?;
-    let line = format!(in rt.alloc(); "{key} {set}")?;
+    let set = read(&rt, "t1:id=7,t2:?")?;
+    let alloc = rt.alloc();
+    let line = format!(in alloc; "{key} {set}").or_else(|_| format!(in alloc; "{key} {set}"))?;
     assert_eq!(rt; line.as_str(), "f3(1,2) t1:id=7,t2:?");
     Ok(())
 }
