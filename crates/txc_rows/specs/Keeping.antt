@@ -21,13 +21,17 @@ pub record Leads (states : ℕ → State) (newest stamp : ℕ) (net : List Chang
   pub quiet : (t : ℕ) → newest ≤ t → t < stamp → states t ≡ states newest
   pub changes : IsNet (states newest) net (states stamp)
 
--- where the old versions keep the states and the net changes lead on at the stamp, the new ones keep the states up to it
+-- where the old versions keep the states and the net changes lead on at the stamp,
+-- the new ones keep the states up to it
 abbrev pub KeepsWritten : List Change → ℕ → List Versioned → List Versioned → Type 0
-KeepsWritten net stamp old new = (states : ℕ → State) (horizon newest : ℕ) → KeepsStates states horizon newest old → Leads states newest stamp net → KeepsStates states horizon stamp new
+KeepsWritten net stamp old new = (states : ℕ → State) (horizon newest : ℕ) → KeepsStates states horizon newest old
+    → Leads states newest stamp net → KeepsStates states horizon stamp new
 
--- where the old versions keep the states up to a stamp not before the next horizon, the new ones keep those from that horizon on
+-- where the old versions keep the states up to a stamp not before the next horizon,
+-- the new ones keep those from that horizon on
 abbrev pub KeepsPurged : ℕ → List Versioned → List Versioned → Type 0
-KeepsPurged next old new = (states : ℕ → State) (horizon newest : ℕ) → KeepsStates states horizon newest old → horizon ≤ next → next ≤ newest → KeepsStates states next newest new
+KeepsPurged next old new = (states : ℕ → State) (horizon newest : ℕ) → KeepsStates states horizon newest old
+    → horizon ≤ next → next ≤ newest → KeepsStates states next newest new
 
 -- what is visible of the found versions at a kept stamp is the query's answer in its state. Of one table and id
 -- the found versions follow one another: one at most is visible, and where one is born as another dies they differ.
@@ -37,4 +41,5 @@ pub record ShowsAnswers (q : Query) (states : ℕ → State) (horizon newest : �
 
 -- where the versions keep states, the found ones show the answers in them
 abbrev pub AnswersStates : Query → List Versioned → List Versioned → Type 0
-AnswersStates q vs found = (states : ℕ → State) (horizon newest : ℕ) → KeepsStates states horizon newest vs → ShowsAnswers q states horizon newest found
+AnswersStates q vs found = (states : ℕ → State) (horizon newest : ℕ) → KeepsStates states horizon newest vs
+    → ShowsAnswers q states horizon newest found

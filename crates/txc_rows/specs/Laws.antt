@@ -47,9 +47,11 @@ NetLeads = (s : State) (changes : List Change) → IsState s → IsNet s (net_ch
 -- a table and id has a net change exactly where the states before and after differ
 abbrev pub NetIsDifference : Type 0
 NetIsDifference = (s : State) (changes : List Change) (table id : ℕ) → IsState s
-    → (list_any (is_change_of table id) (net_changes s changes) ≡ true) ↔ (row_at table id s ≢ row_at table id (after_changes changes s))
+    → (list_any (is_change_of table id) (net_changes s changes) ≡ true)
+    ↔ (row_at table id s ≢ row_at table id (after_changes changes s))
 
--- the tags between the states are those of the old rows at the net's tables and ids, then those of the rows that it puts
+-- the tags between the states are those of the old rows at the net's tables and ids,
+-- then those of the rows that it puts
 abbrev pub NetTags : Type 0
 NetTags = (old new : State) (net : List Change) → IsState old → IsNet old net new
     → tags_between old new ≡ set_of (flat_map tags_of_row (rows_at net old ++ puts_of net))
@@ -73,7 +75,8 @@ SaysNothing = (states : ℕ → State) → states 0 ≡ [] → SaysStates states
 
 -- only the kept states count
 abbrev pub SaysAgree : Type 0
-SaysAgree = (states others : ℕ → State) (horizon newest : ℕ) (vs : List Versioned) → ((t : ℕ) → horizon ≤ t → t ≤ newest → states t ≡ others t)
+SaysAgree = (states others : ℕ → State) (horizon newest : ℕ) (vs : List Versioned)
+    → ((t : ℕ) → horizon ≤ t → t ≤ newest → states t ≡ others t)
     → SaysStates states horizon newest vs → SaysStates others horizon newest vs
 
 -- a write of net changes at the next stamp says the state that they lead to, and all those before it
@@ -85,7 +88,8 @@ SaysWritten = (states : ℕ → State) (horizon newest : ℕ) (net : List Change
 -- a stamp at which no state changes
 abbrev pub SaysQuiet : Type 0
 SaysQuiet = (states : ℕ → State) (horizon newest : ℕ) (vs : List Versioned) → horizon ≤ newest
-    → states (suc newest) ≡ states newest → SaysStates states horizon newest vs → SaysStates states horizon (suc newest) vs
+    → states (suc newest) ≡ states newest → SaysStates states horizon newest vs
+    → SaysStates states horizon (suc newest) vs
 
 -- a purge leaves what is said from its horizon on
 abbrev pub SaysPurged : Type 0
@@ -95,10 +99,12 @@ SaysPurged = (states : ℕ → State) (horizon newest next : ℕ) (vs : List Ver
 -- the versions that match a query show its answer
 abbrev pub SaysAnswer : Type 0
 SaysAnswer = (q : Query) (t : ℕ) (vs found : List Versioned) (s : State) → IsState s → Says t vs s
-    → ((v : Versioned) → IsIn v found → IsIn v vs) → ((v : Versioned) → IsIn v vs → matches q v.row ≡ true → IsIn v found)
+    → ((v : Versioned) → IsIn v found → IsIn v vs)
+    → ((v : Versioned) → IsIn v vs → matches q v.row ≡ true → IsIn v found)
     → IdsRise (shown_at q t found) → shown_at q t found ≡ answer q s
 
 -- net changes of the newest state that versions say may be written over them at the next stamp
 abbrev pub NetIsWritable : Type 0
-NetIsWritable = (states : ℕ → State) (horizon newest : ℕ) (net : List Change) (vs : List Versioned) (new : State) → horizon ≤ newest
-    → SaysStates states horizon newest vs → IsNet (states newest) net new → AreChanges (suc newest) net vs
+NetIsWritable = (states : ℕ → State) (horizon newest : ℕ) (net : List Change) (vs : List Versioned) (new : State)
+    → horizon ≤ newest → SaysStates states horizon newest vs → IsNet (states newest) net new
+    → AreChanges (suc newest) net vs

@@ -22,7 +22,8 @@ same_key c d = (change_table c == change_table d) && (change_id c == change_id d
 
 -- by table, then id
 abbrev pub key_before : Change → Change → Bool
-key_before c d = nat_lt (change_table c) (change_table d) || ((change_table c == change_table d) && nat_lt (change_id c) (change_id d))
+key_before c d = nat_lt (change_table c) (change_table d)
+    || ((change_table c == change_table d) && nat_lt (change_id c) (change_id d))
 
 -- a put of a row that isn't there, or a removal of one that is
 abbrev pub changes_state : State → Change → Bool

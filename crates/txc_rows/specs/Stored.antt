@@ -19,7 +19,8 @@ death = or_null number
 
 -- the number of the row in its table, and then its columns
 abbrev pub stored : ℤ → Versioned → Row
-stored id v = Int id ∷ number v.row.table ∷ number v.row.id ∷ number v.born ∷ number v.row.group ∷ Blob v.row.body ∷ death v.died ∷ []
+stored id v = Int id ∷ number v.row.table ∷ number v.row.id ∷ number v.born
+    ∷ number v.row.group ∷ Blob v.row.body ∷ death v.died ∷ []
 
 -- the number that a stored value says
 abbrev pub number_in : Value → ℕ
@@ -42,7 +43,12 @@ death_in (Blob b) = None
 -- what a row of the table says
 abbrev pub version_in : Row → Versioned
 version_in r = record {
-  row = record { table = number_in (column r 1); id = number_in (column r 2); group = number_in (column r 4); body = bytes (column r 5) };
+  row = record {
+    table = number_in (column r 1);
+    id = number_in (column r 2);
+    group = number_in (column r 4);
+    body = bytes (column r 5);
+  };
   born = number_in (column r 3);
   died = death_in (column r 6);
 }
@@ -54,7 +60,12 @@ shown v = number v.row.id ∷ number v.row.group ∷ Blob v.row.body ∷ number 
 -- and how that is read, for a table
 abbrev pub version_shown : ℕ → Row → Versioned
 version_shown table r = record {
-  row = record { table = table; id = number_in (column r 0); group = number_in (column r 1); body = bytes (column r 2) };
+  row = record {
+    table = table;
+    id = number_in (column r 0);
+    group = number_in (column r 1);
+    body = bytes (column r 2);
+  };
   born = number_in (column r 3);
   died = death_in (column r 4);
 }

@@ -12,7 +12,14 @@ use Rattle.sqlite_value.specs.Keys.{plain}
 
 -- a column of the table
 abbrev pub column_of : List ℕ → Kind → Bool → Column
-column_of name kind needed = record { name = name; kind = kind; is_strict = true; not_null = needed; default = Null; collation = Binary }
+column_of name kind needed = record {
+  name = name;
+  kind = kind;
+  is_strict = true;
+  not_null = needed;
+  default = Null;
+  collation = Binary;
+}
 
 -- the schema of an empty store
 abbrev pub no_schema : Schema
@@ -23,7 +30,12 @@ abbrev pub version_table : Table
 version_table = record {
   name = codes "version";
   tree = 0;
-  columns = column_of (codes "table_number") Integer true ∷ column_of (codes "id") Integer true ∷ column_of (codes "born") Integer true ∷ column_of (codes "group_number") Integer true ∷ column_of (codes "body") Blob true ∷ column_of (codes "died") Integer false ∷ [];
+  columns = column_of (codes "table_number") Integer true
+      ∷ column_of (codes "id") Integer true
+      ∷ column_of (codes "born") Integer true
+      ∷ column_of (codes "group_number") Integer true
+      ∷ column_of (codes "body") Blob true
+      ∷ column_of (codes "died") Integer false ∷ [];
   key = None;
   primary = 1 ∷ 2 ∷ 3 ∷ [];
   uniques = (1 ∷ 2 ∷ 3 ∷ []) ∷ [];

@@ -46,12 +46,16 @@ horizon_after = fold next_horizon 0
 -- writes of net changes of the state at rising stamps, and purges at rising horizons
 abbrev pub AreRising : State → ℕ → ℕ → List Use → Type 0
 AreRising s horizon newest [] = Unit {0}
-AreRising s horizon newest (write net stamp ∷ uses) = (newest < stamp) × IsNet s net (after_changes net s) × AllByRecursion (IsWritable stamp) net × AreRising (after_changes net s) horizon stamp uses
+AreRising s horizon newest (write net stamp ∷ uses) = (newest < stamp)
+    × IsNet s net (after_changes net s) × AllByRecursion (IsWritable stamp) net
+    × AreRising (after_changes net s) horizon stamp uses
 AreRising s horizon newest (purge next ∷ uses) = (horizon ≤ next) × AreRising s next (max newest next) uses
 
--- from an empty store, after any writes of net changes at rising stamps and purges at rising horizons, what is found for a query shows its answer at every kept stamp
+-- from an empty store, after any writes of net changes at rising stamps and purges at rising horizons,
+-- what is found for a query shows its answer at every kept stamp
 abbrev pub UsesAnswer : Type 0
-UsesAnswer = (uses : List Use) (q : Query) (found : List Versioned) (t : ℕ) → AreRising [] 0 0 uses → Finds q (versions_after uses) found → horizon_after uses ≤ t
+UsesAnswer = (uses : List Use) (q : Query) (found : List Versioned) (t : ℕ)
+    → AreRising [] 0 0 uses → Finds q (versions_after uses) found → horizon_after uses ≤ t
     → (shown_at q t found ≡ answer q (state_after uses t)) × AreVersions found
 
 -- ---- one call after another
@@ -62,8 +66,12 @@ KeepsNothing = (states : ℕ → State) → states 0 ≡ [] → KeepsStates stat
 
 -- only the kept states count
 abbrev pub KeepsAgreed : Type 0
-KeepsAgreed = (states others : ℕ → State) (horizon newest : ℕ) (vs : List Versioned) → ((t : ℕ) → horizon ≤ t → t ≤ newest → states t ≡ others t) → KeepsStates states horizon newest vs → KeepsStates others horizon newest vs
+KeepsAgreed = (states others : ℕ → State) (horizon newest : ℕ) (vs : List Versioned)
+    → ((t : ℕ) → horizon ≤ t → t ≤ newest → states t ≡ others t)
+    → KeepsStates states horizon newest vs → KeepsStates others horizon newest vs
 
 -- a stamp at which the state does not change needs no write
 abbrev pub KeepsQuiet : Type 0
-KeepsQuiet = (states : ℕ → State) (horizon newest : ℕ) (vs : List Versioned) → states (suc newest) ≡ states newest → KeepsStates states horizon newest vs → KeepsStates states horizon (suc newest) vs
+KeepsQuiet = (states : ℕ → State) (horizon newest : ℕ) (vs : List Versioned)
+    → states (suc newest) ≡ states newest → KeepsStates states horizon newest vs
+    → KeepsStates states horizon (suc newest) vs

@@ -94,7 +94,8 @@ pub record IsVersion (v : Versioned) : Type 0 where
 
 -- of two versions of a table and id the one before died by the other's birth, and where it died then they differ
 pub record Follows (v w : Versioned) : Type 0 where
-  pub died : v.row.table ≡ w.row.table → v.row.id ≡ w.row.id → (d : ℕ) × (v.died ≡ Some d) × (d ≤ w.born) × (d ≡ w.born → v.row ≢ w.row)
+  pub died : v.row.table ≡ w.row.table → v.row.id ≡ w.row.id
+      → (d : ℕ) × (v.died ≡ Some d) × (d ≤ w.born) × (d ≡ w.born → v.row ≢ w.row)
 
 -- each earlier element with each later one
 abbrev pub Pairwise : (Versioned → Versioned → Type 0) → List Versioned → Type 0
@@ -116,8 +117,10 @@ pub record IsPutOver (stamp : ℕ) (row : RowValue) (v : Versioned) : Type 0 whe
 
 -- no version of its table and id began at the stamp or later, and a put changes the row that is there
 abbrev pub IsChange : ℕ → Change → List Versioned → Type 0
-IsChange stamp (Put row) vs = AllByRecursion (λ v. v.row.table ≡ row.table → v.row.id ≡ row.id → IsPutOver stamp row v) vs
-IsChange stamp (Remove table id) vs = AllByRecursion (λ v. v.row.table ≡ table → v.row.id ≡ id → v.born < stamp) vs
+IsChange stamp (Put row) vs =
+    AllByRecursion (λ v. v.row.table ≡ row.table → v.row.id ≡ row.id → IsPutOver stamp row v) vs
+IsChange stamp (Remove table id) vs =
+    AllByRecursion (λ v. v.row.table ≡ table → v.row.id ≡ id → v.born < stamp) vs
 
 -- each change is one of the versions that those before it leave
 abbrev pub AreChanges : ℕ → List Change → List Versioned → Type 0

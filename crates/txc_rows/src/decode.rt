@@ -74,9 +74,11 @@ pub(crate) fn select(
     rows: &[sqlite::Row],
 ) -> Result<Vec<Versioned>, StoreError>
     requires { AllByRecursion (IsShown (query_table query.now)) rows.now }
-    ensures found { IfOk result (λ vs. vs.items ≡ filter (suits query.now) (map (version_shown (query_table query.now)) rows.now)) }
+    ensures found { IfOk result (λ vs. vs.items
+        ≡ filter (suits query.now) (map (version_shown (query_table query.now)) rows.now)) }
     ensures most { IfOk result (λ vs. length vs.items ≤ 1024) }
-    ensures many { result ≡ Err StoreError.TooManyRows → 1024 < length (filter (suits query.now) (map (version_shown (query_table query.now)) rows.now)) }
+    ensures many { result ≡ Err StoreError.TooManyRows
+        → 1024 < length (filter (suits query.now) (map (version_shown (query_table query.now)) rows.now)) }
 {
     let table = query.table();
     let mut found = Vec::new(alloc);

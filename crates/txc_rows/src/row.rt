@@ -31,9 +31,11 @@ impl Model for Row {
 
     ghost Value = { RowValue };
 
-    ghost view = { λ r. record { table = r.table; id = r.id; group = r.group; body = r.body.items } };
+    ghost view = { λ r.
+        record { table = r.table; id = r.id; group = r.group; body = r.body.items } };
 
-    ghost invariant = { λ r. IsRow (record { table = r.table; id = r.id; group = r.group; body = r.body.items }) };
+    ghost invariant = { λ r.
+        IsRow (record { table = r.table; id = r.id; group = r.group; body = r.body.items }) };
 }
 
 fn is_body(body: &[u8]) -> bool
@@ -48,7 +50,8 @@ fn is_body(body: &[u8]) -> bool
 impl Row {
     /// A body is 1 to 256 bytes, each one that prints and is no blank; any other is `BadBody`, and is dropped.
     pub fn new(table: Table, id: u32, group: u32, body: Vec<u8>) -> Result<Row, RowError>
-        ensures row { IfOk result (λ r. r ≡ record { table = table; id = id; group = group; body = body.items }) }
+        ensures row { IfOk result (λ r. r
+            ≡ record { table = table; id = id; group = group; body = body.items }) }
         ensures good { IsOk result ↔ IsBody body.items }
         ensures bad { IsErrOf result RowError.BadBody ↔ (IsBody body.items → ⊥) }
     {

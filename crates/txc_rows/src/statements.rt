@@ -49,7 +49,9 @@ fn add_version(tx: &mut Transaction<'_, MemStore>, row: &Row, stamp: Stamp) -> R
     requires inside { tx.old.conn.now.in_transaction ≡ true }
     ensures same_reference { tx.new.conn.ghost_name ≡ tx.old.conn.ghost_name }
     ensures row { IsRow row.now }
-    ensures step { IsStep (versions_of tx.old.conn.now ++ record { row = row.now; born = stamp; died = None } ∷ []) tx.old.conn.now tx.new.conn.now result }
+    ensures step { IsStep
+        (versions_of tx.old.conn.now ++ record { row = row.now; born = stamp; died = None } ∷ [])
+        tx.old.conn.now tx.new.conn.now result }
 {
     tx.execute(
         ADD_VERSION,
@@ -75,7 +77,9 @@ fn end_version(
     requires held { AreHeld (versions_of tx.old.conn.now) }
     ensures same_reference { tx.new.conn.ghost_name ≡ tx.old.conn.ghost_name }
     ensures stamp { stamp ≤ greatest_stamp }
-    ensures step { IsStep (removed table id stamp (versions_of tx.old.conn.now)) tx.old.conn.now tx.new.conn.now result }
+    ensures step { IsStep
+        (removed table id stamp (versions_of tx.old.conn.now))
+        tx.old.conn.now tx.new.conn.now result }
 {
     tx.execute(
         END_VERSION,
@@ -93,7 +97,9 @@ fn write_change(
     requires held { AreHeld (versions_of tx.old.conn.now) }
     ensures same_reference { tx.new.conn.ghost_name ≡ tx.old.conn.ghost_name }
     ensures writable { OnOk result (IsWritable stamp change.now) }
-    ensures step { IsStep (after_write stamp change.now (versions_of tx.old.conn.now)) tx.old.conn.now tx.new.conn.now result }
+    ensures step { IsStep
+        (after_write stamp change.now (versions_of tx.old.conn.now))
+        tx.old.conn.now tx.new.conn.now result }
 {
     match change {
         Change::Put(row) => {

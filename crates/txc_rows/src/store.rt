@@ -51,7 +51,8 @@ impl VersionRows {
     /// A store that has no version. It is refused for want of memory, which is `Store`.
     pub fn open_in_memory(alloc: Global) -> Result<VersionRows, StoreError>
         ensures ok { IfOk result (λ rows. rows ≡ []) }
-        ensures keeps { IfOk result (λ rows. (states : ℕ → State) → states 0 ≡ [] → KeepsStates states 0 0 rows) }
+        ensures keeps { IfOk result (λ rows.
+            (states : ℕ → State) → states 0 ≡ [] → KeepsStates states 0 0 rows) }
         ensures cause { IfErr result IsStoreRefusal }
     {
         let conn = open_table(alloc)?;
@@ -64,7 +65,8 @@ impl VersionRows {
         ensures found { IfOk result (λ found. Finds query.now self.old found.items) }
         ensures most { IfOk result (λ found. length found.items ≤ 1024) }
         ensures answers { IfOk result (λ found. AnswersStates query.now self.old found.items) }
-        ensures many { result ≡ Err StoreError.TooManyRows → 1024 < length (filter (suits query.now) self.old) }
+        ensures many { result ≡ Err StoreError.TooManyRows
+            → 1024 < length (filter (suits query.now) self.old) }
     {
         let rows = read_table(&mut self.conn, query.table())?;
         select(self.alloc, query, rows.as_slice())
@@ -91,5 +93,15 @@ impl VersionRows {
     {
         delete_dead(&mut self.conn, horizon)?;
         Ok(())
+    }
+}
+
+#[cfg(test)]
+impl VersionRows {
+    /// Limits the steps of each later statement of the store, or takes the limit away.
+    pub(crate) fn set_step_limit(&mut self, limit: Option<u64>)
+        ensures { self.new ≡ self.old }
+    {
+        self.conn.set_step_limit(limit);
     }
 }

@@ -15,7 +15,8 @@ pub record Shown (T : Type 0) : Type 0 where
 -- the code of what a front shows, made of that of its records
 abbrev pub shown_code : {T : Type 0} → Coded T → Coded (Shown T)
 shown_code {T} c =
-    code_by (List ℕ × List T) (coded× (coded_list coded_ℕ) (coded_list c)) (λ s. (s.row, s.list)) (λ p. record { row = p.0; list = p.1 }) (λ _. refl)
+    code_by (List ℕ × List T) (coded× (coded_list coded_ℕ) (coded_list c))
+    (λ s. (s.row, s.list)) (λ p. record { row = p.0; list = p.1 }) (λ _. refl)
 
 -- how many records a row may have room for
 pub record IsCapacity (n : ℕ) : Type 0 where

@@ -23,9 +23,12 @@ pub fn prefix_length<T>()
 
 /// What stands in a prefix stands in the whole, at the same place, and the two begin alike.
 pub fn prefix_places<T>()
-    ensures stands { (xs ys : List T) (at : ℕ) (x : T) → IsPrefix xs ys → slice_get xs at ≡ Some x → slice_get ys at ≡ Some x }
-    ensures same { (xs ys : List T) (at : ℕ) → IsPrefix xs ys → at < length xs → slice_get ys at ≡ slice_get xs at }
-    ensures begin { (xs ys : List T) (n : ℕ) → IsPrefix xs ys → n ≤ length xs → take n ys ≡ take n xs }
+    ensures stands { (xs ys : List T) (at : ℕ) (x : T) → IsPrefix xs ys
+        → slice_get xs at ≡ Some x → slice_get ys at ≡ Some x }
+    ensures same { (xs ys : List T) (at : ℕ) → IsPrefix xs ys
+        → at < length xs → slice_get ys at ≡ slice_get xs at }
+    ensures begin { (xs ys : List T) (n : ℕ) → IsPrefix xs ys
+        → n ≤ length xs → take n ys ≡ take n xs }
 {}
 
 /// A list is a prefix of itself with more behind it. One more record stands at the place that the old length names.
@@ -37,7 +40,10 @@ pub fn prefix_of_appended<T>()
 /// Two prefixes of one list agree. Of two lists that agree, the shorter is the prefix, and one of the two that
 /// begins with the longer is the longer.
 pub fn longer_of_two<T>()
-    ensures agree { (xs ys zs : List T) → IsPrefix xs zs → IsPrefix ys zs → IsPrefix xs ys ⊎ IsPrefix ys xs }
-    ensures shorter { (xs ys : List T) → IsPrefix xs ys ⊎ IsPrefix ys xs → length xs ≤ length ys → IsPrefix xs ys }
-    ensures longer { (xs ys now : List T) → IsPrefix xs ys → (now ≡ xs) ⊎ (now ≡ ys) → IsPrefix ys now → now ≡ ys }
+    ensures agree { (xs ys zs : List T) → IsPrefix xs zs → IsPrefix ys zs
+        → IsPrefix xs ys ⊎ IsPrefix ys xs }
+    ensures shorter { (xs ys : List T) → IsPrefix xs ys ⊎ IsPrefix ys xs
+        → length xs ≤ length ys → IsPrefix xs ys }
+    ensures longer { (xs ys now : List T) → IsPrefix xs ys
+        → (now ≡ xs) ⊎ (now ≡ ys) → IsPrefix ys now → now ≡ ys }
 {}

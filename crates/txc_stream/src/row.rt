@@ -157,7 +157,9 @@ impl<T> EventRow<T> {
     pub fn next<'a>(&'a self, front: &mut Front<T>) -> Option<&'a T>
         requires { front.old.row ≡ self.now }
         ensures row { front.new.row ≡ front.old.row }
-        ensures list { MatchOption result (front.new.list ≡ front.old.list) (λ added. front.new.list ≡ front.old.list ++ added.now ∷ []) }
+        ensures list { MatchOption result
+            (front.new.list ≡ front.old.list)
+            (λ added. front.new.list ≡ front.old.list ++ added.now ∷ []) }
         ensures end { length front.old.list ≡ length self.now → IsNone result }
     {
         let at = front.len();
