@@ -4,3 +4,4 @@ pub mod Settling
 pub mod NetRows
 pub mod Sound
 pub mod Tagged
+pub mod Telling

@@ -28,6 +28,11 @@ IsLeft old new refusal = (new ≡ old) ⊎ IsBroken old new refusal
 
 -- ---- holds
 
+-- a hold can be had: it is whole, and there is room for one hold more
+pub record IsHoldable (d : DatabaseValue) : Type 0 where
+  pub whole : d.broken ≡ false
+  pub room : length d.holds < most_holds
+
 -- of a hold: broken, or too many holds, or no memory
 abbrev pub IsHoldRefused : DatabaseValue → DbError → Type 0
 IsHoldRefused d Broken = d.broken ≡ true
@@ -107,6 +112,17 @@ IsAppendRefused d (Store cause) = (newest d < length d.row) × IsOwn cause
 IsAppendRefused d Memory = newest d < length d.row
 IsAppendRefused d Broken = newest d < length d.row
 IsAppendRefused d e = ⊥
+
+-- the database is whole and knows the base
+pub record IsBase (d : DatabaseValue) (base : ℕ) : Type 0 where
+  pub whole : d.broken ≡ false
+  pub known : base ≤ newest d
+
+-- of the base of a commit: broken, or beyond the newest stamp
+abbrev pub IsBaseRefused : DatabaseValue → ℕ → DbError → Type 0
+IsBaseRefused d base Broken = d.broken ≡ true
+IsBaseRefused d base (FutureStamp last) = (d.broken ≡ false) × (newest d < base) × (last ≡ newest d)
+IsBaseRefused d base e = ⊥
 
 -- the database is whole, knows the base, and no event after it has tags that match those read
 pub record IsUnread (d : DatabaseValue) (base : ℕ) (read : List Tag) : Type 0 where

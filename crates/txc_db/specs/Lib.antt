@@ -7,3 +7,4 @@ pub mod Calls
 pub mod Laws
 pub mod NetWith
 pub mod Worked
+pub mod Told

@@ -1,5 +1,5 @@
 //! Commits: conflicts with what was read, net changes against the newest state, and the event that is appended.
-ghost use Rattle.std.specs.Prelude.{◌≡◌, ◌≢◌, ◌+◌, ◌<◌, ◌≤◌, ◌++◌, ◌∷◌, [], ℕ, true, false, length, Ok, Err, IfOk, OnOk, OnErr, IfErr, IfSome, IfNone, IsOk};
+ghost use Rattle.std.specs.Prelude.{◌≡◌, ◌≢◌, ◌+◌, ◌<◌, ◌≤◌, ◌++◌, ◌∷◌, [], ℕ, true, false, length, Ok, Err, IfOk, OnOk, OnErr, IfErr, IfSome, IfNone, IsOk, ◌↔◌};
 ghost use Rattle.txc_rows.specs.declared.query.Query.TheVariants.{ById};
 ghost use Rattle.txc_rows.specs.States.{answer, after_changes};
 ghost use Rattle.txc_rows.specs.RowTags.{tags_between};
@@ -10,7 +10,7 @@ ghost use Rattle.txc_db.specs.History.{AreTagged, commit_event};
 ghost use Rattle.txc_db.specs.Facts.{commit};
 ghost use Rattle.txc_db.specs.NetWith.{IsNetWith};
 ghost use Rattle.txc_db.specs.Refusals.{IsConflict, NoneMatches};
-ghost use Rattle.txc_db.specs.Calls.{IsLeft, IsReadRefused, IsNetRefused, IsAppendRefused, IsCommittable, IsCommitRefused};
+ghost use Rattle.txc_db.specs.Calls.{IsLeft, IsBase, IsBaseRefused, IsReadRefused, IsNetRefused, IsAppendRefused, IsCommittable, IsCommitRefused};
 
 use crate::error::DbError;
 use crate::event::{Event, What};
@@ -119,6 +119,7 @@ impl DbState {
         requires tags { net.tags ≡ tags_between (newest_state self.old) (after_changes net.changes.items (newest_state self.old)) }
         ensures event { IfOk result (λ stamp. self.new ≡ record self.old { history = self.old.history ++ record { fact = commit net.changes.items; tags = net.tags } ∷ []; versions = after_net stamp net.changes.items self.old.versions }) }
         ensures stamp { IfOk result (λ stamp. stamp ≡ newest self.old + 1) }
+        ensures row { self.new.row ≡ self.old.row }
         ensures room { IsOk result → newest self.old < length self.old.row }
         ensures err { IfErr result (IsLeft self.old self.new) }
         ensures refused { IfErr result (IsAppendRefused self.old) }
@@ -141,6 +142,22 @@ impl DbState {
         }
     }
 
+    /// The newest stamp, where the base is known.
+    pub(crate) fn check_base(&self, base: Stamp) -> Result<Stamp, DbError>
+        ensures due { IsOk result ↔ IsBase self.now base }
+        ensures newest { IfOk result (λ stamp. stamp ≡ newest self.now) }
+        ensures refused { IfErr result (IsBaseRefused self.now base) }
+    {
+        if self.broken {
+            return Err(DbError::Broken);
+        }
+        let newest = stamp_after(self.front.len());
+        if newest < base {
+            return Err(DbError::FutureStamp(newest));
+        }
+        Ok(newest)
+    }
+
     /// Commits the changes, where no event after the base matches what was read.
     pub(crate) fn commit(
         &mut self,
@@ -155,18 +172,13 @@ impl DbState {
         ensures none { net_changes (newest_state self.old) changes.now ≡ [] → OnOk result (self.new ≡ self.old) }
         ensures event { net_changes (newest_state self.old) changes.now ≢ [] → IfOk result (λ stamp. self.new ≡ record self.old { history = self.old.history ++ commit_event (newest_state self.old) changes.now ∷ []; versions = after_net stamp (net_changes (newest_state self.old) changes.now) self.old.versions }) }
         ensures stamp { IfOk result (λ stamp. stamp ≡ newest self.new) }
+        ensures row { self.new.row ≡ self.old.row }
         ensures err { IfErr result (IsLeft self.old self.new) }
         ensures refused { IfErr result (IsCommitRefused self.old base read.now changes.now) }
     {
         net_changes_are_differences();
         states_are_maps();
-        if self.broken {
-            return Err(DbError::Broken);
-        }
-        let newest = stamp_after(self.front.len());
-        if newest < base {
-            return Err(DbError::FutureStamp(newest));
-        }
+        let newest = self.check_base(base)?;
         let base = base.number() as usize;
         if let Some(first) = first_conflict(row, &self.front, base, read) {
             return Err(DbError::Conflict(stamp_after(first)));

@@ -5,6 +5,7 @@ ghost use mathlib.Core.List.{IsPrefix};
 
 use crate::event::Event;
 use crate::naming::Naming;
+use crate::state::DbState;
 use std::alloc::{AllocError, Global};
 use std::marker::{Model, PhantomData};
 use std::sync::Arc;
@@ -31,6 +32,9 @@ impl<J: Naming> Model for Mark<J> {
     ghost invariant = { λ m. (m.front.row ≡ J.database_row) × AreTagged m.front.list };
 }
 
+// A mark is read by `&` from many threads. What its front knows of the row's cells, every thread knows alike.
+unsafe impl<J: Naming + Sync> Sync for Mark<J> {}
+
 impl<J: Naming> Mark<J> {
     /// Marks the events that the front shows.
     pub(crate) fn new(front: Front<Event>) -> Mark<J>
@@ -42,6 +46,15 @@ impl<J: Naming> Mark<J> {
             front,
             of: PhantomData,
         }
+    }
+
+    /// Marks the whole history.
+    pub(crate) fn lengthen(&mut self, state: &DbState)
+        requires named { state.now.row ≡ J.database_row }
+        requires tagged { AreTagged state.now.history }
+        requires begins { IsPrefix self.old state.now.history }
+    {
+        state.show(&mut self.front);
     }
 }
 

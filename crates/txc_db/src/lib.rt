@@ -2,6 +2,7 @@
 #![tactic(auto)]
 
 mod commit;
+mod database;
 mod db_core;
 mod error;
 mod event;
@@ -12,6 +13,7 @@ mod pinned;
 mod settled;
 mod state;
 
+pub use database::{CommitError, Database, Told};
 pub use db_core::DbCore;
 pub use error::DbError;
 pub use event::{Event, What};

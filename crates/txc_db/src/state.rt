@@ -1,11 +1,12 @@
-ghost use Rattle.std.specs.Prelude.{◌≡◌, ◌+◌, ◌<◌, ◌≤◌, ◌⊎◌, ◌++◌, ◌∷◌, [], ◌↔◌, true, false, length, Ok, Err, IfOk, OnOk, OnErr, IfErr, IsOk, IfSome, IfNone};
+ghost use Rattle.std.specs.Prelude.{◌≡◌, ◌+◌, ◌<◌, ◌≤◌, ◌⊎◌, ◌++◌, ◌∷◌, [], ◌↔◌, true, false, length, Ok, Err, IfOk, OnOk, OnErr, IfErr, IsOk, IfSome, IfNone, IsTrue};
+ghost use mathlib.Core.List.{IsPrefix};
 ghost use Rattle.std.specs.List.{remove, AllByRecursion};
 ghost use Rattle.txc_rows.specs.Versions.{purged};
 ghost use Rattle.txc_db.specs.History.{state_at, pin_event};
 ghost use Rattle.txc_rows.specs.RowTags.{query_tag};
 ghost use Rattle.txc_validity.specs.Answers.{IsAnswer};
 ghost use Rattle.txc_db.specs.DatabaseValue.{DatabaseValue, newest, most_holds, least, without, is_held, Rises, IsSound};
-ghost use Rattle.txc_db.specs.Calls.{IsLeft, IsHoldRefused, IsUnpinRefused, IsPinnable, IsPinRefused, IsVacuumRefused, IsAnswerable, IsQueryRefused};
+ghost use Rattle.txc_db.specs.Calls.{IsLeft, IsHoldable, IsHoldRefused, IsUnpinRefused, IsPinnable, IsPinRefused, IsVacuumRefused, IsAnswerable, IsQueryRefused};
 
 use crate::error::DbError;
 use crate::event::{Event, What};
@@ -76,6 +77,36 @@ impl DbState {
         let _whole = self.broken;
     }
 
+    /// Whether another record was found in its row.
+    pub(crate) fn is_broken(&self) -> bool
+        ensures { result ≡ self.now.broken }
+    {
+        self.broken
+    }
+
+    /// Whether the history has no event.
+    pub(crate) fn is_empty(&self) -> bool
+        ensures { IsTrue result ↔ (self.now.history ≡ []) }
+    {
+        self.front.is_empty()
+    }
+
+    /// From now on each call is refused as broken.
+    pub(crate) fn set_broken(&mut self)
+        ensures { self.new ≡ record self.old { broken = true } }
+    {
+        self.broken = true;
+    }
+
+    /// Lengthens a front of the row to the whole history.
+    pub(crate) fn show(&self, front: &mut Front<Event>)
+        requires { front.old.row ≡ self.now.row }
+        ensures row { front.new.row ≡ front.old.row }
+        ensures list { IsPrefix front.old.list self.now.history → front.new.list ≡ self.now.history }
+    {
+        front.longer(&self.front);
+    }
+
     /// A front that shows the whole history.
     pub(crate) fn front(
         &self,
@@ -119,6 +150,22 @@ impl DbState {
         }
     }
 
+    /// Refuses a hold that cannot be had, whatever memory there is.
+    pub(crate) fn check_hold(&self) -> Result<(), DbError>
+        ensures due { IsOk result ↔ IsHoldable self.now }
+        ensures refused { IfErr result (IsHoldRefused self.now) }
+        ensures broken { self.now.broken ≡ true → result ≡ Err DbError.Broken }
+        ensures full { self.now.broken ≡ false → most_holds ≤ length self.now.holds → result ≡ Err DbError.HoldsFull }
+    {
+        if self.broken {
+            return Err(DbError::Broken);
+        }
+        if self.holds.len() >= MAX_HOLDS {
+            return Err(DbError::HoldsFull);
+        }
+        Ok(())
+    }
+
     /// Holds the newest stamp.
     pub(crate) fn hold(&mut self) -> Result<Stamp, DbError>
         ensures ok { IfOk result (λ stamp. (stamp ≡ newest self.old) × (self.new ≡ record self.old { holds = self.old.holds ++ stamp ∷ [] })) }
@@ -127,12 +174,7 @@ impl DbState {
         ensures broken { self.old.broken ≡ true → result ≡ Err DbError.Broken }
         ensures full { self.old.broken ≡ false → most_holds ≤ length self.old.holds → result ≡ Err DbError.HoldsFull }
     {
-        if self.broken {
-            return Err(DbError::Broken);
-        }
-        if self.holds.len() >= MAX_HOLDS {
-            return Err(DbError::HoldsFull);
-        }
+        self.check_hold()?;
         let newest = stamp_after(self.front.len());
         self.holds.push(newest)?;
         Ok(newest)
@@ -173,25 +215,12 @@ impl DbState {
         Ok(horizon)
     }
 
-    /// Appends a pin, and holds its stamp.
-    pub(crate) fn pin(
-        &mut self,
-        row: &EventRow<Event>,
-        alloc: Global,
-        now: u64,
-        at_least: Stamp,
-    ) -> Result<Pinned, DbError>
-        requires { row.now ≡ self.old.row }
-        ensures event { IfOk result (λ pinned. self.new ≡ record self.old { history = self.old.history ++ pin_event now ∷ []; holds = self.old.holds ++ pinned.stamp ∷ [] }) }
-        ensures stamp { IfOk result (λ pinned. pinned.stamp ≡ newest self.new) }
-        ensures moment { IfOk result (λ pinned. pinned.moment ≡ now) }
-        ensures front { IfOk result (λ pinned. (pinned.front.row ≡ self.new.row) × (pinned.front.list ≡ self.new.history)) }
-        ensures due { IsOk result → IsPinnable self.old at_least }
-        ensures err { IfErr result (IsLeft self.old self.new) }
-        ensures refused { IfErr result (IsPinRefused self.old at_least) }
+    /// Refuses a pin that cannot be appended, whatever memory there is.
+    pub(crate) fn check_pin(&self, row: &EventRow<Event>, at_least: Stamp) -> Result<(), DbError>
+        requires { row.now ≡ self.now.row }
+        ensures due { IsOk result ↔ IsPinnable self.now at_least }
+        ensures refused { IfErr result (IsPinRefused self.now at_least) }
     {
-        versions_keep_states();
-        tags_are_sound();
         if self.broken {
             return Err(DbError::Broken);
         }
@@ -205,6 +234,31 @@ impl DbState {
         if self.holds.len() >= MAX_HOLDS {
             return Err(DbError::HoldsFull);
         }
+        Ok(())
+    }
+
+    /// Appends a pin, and holds its stamp.
+    pub(crate) fn pin(
+        &mut self,
+        row: &EventRow<Event>,
+        alloc: Global,
+        now: u64,
+        at_least: Stamp,
+    ) -> Result<Pinned, DbError>
+        requires { row.now ≡ self.old.row }
+        ensures event { IfOk result (λ pinned. self.new ≡ record self.old { history = self.old.history ++ pin_event now ∷ []; holds = self.old.holds ++ pinned.stamp ∷ [] }) }
+        ensures stamp { IfOk result (λ pinned. pinned.stamp ≡ newest self.new) }
+        ensures moment { IfOk result (λ pinned. pinned.moment ≡ now) }
+        ensures row { self.new.row ≡ self.old.row }
+        ensures front { IfOk result (λ pinned. (pinned.front.row ≡ self.new.row) × (pinned.front.list ≡ self.new.history)) }
+        ensures due { IsOk result → IsPinnable self.old at_least }
+        ensures err { IfErr result (IsLeft self.old self.new) }
+        ensures refused { IfErr result (IsPinRefused self.old at_least) }
+    {
+        versions_keep_states();
+        tags_are_sound();
+        self.check_pin(row, at_least)?;
+        let events = self.front.len();
         self.holds.reserve(1)?;
         let event = pin_event(alloc, now)?;
         let mut front = row.again(alloc, &self.front)?;
