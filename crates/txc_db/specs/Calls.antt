@@ -14,17 +14,20 @@ use Rattle.txc_db.specs.declared.error.DbError.TheVariants.{SnapshotGone, Confli
 use Rattle.txc_db.specs.DatabaseValue.{DatabaseValue, newest, newest_state, most_holds, is_held, IsReadable}
 use Rattle.txc_db.specs.Refusals.{IsOwn, IsConflict, NoneMatches}
 
--- the call found another record in the row behind the history: the history is as it was, and each later call is refused
-pub record IsBroken (old new : DatabaseValue) (refusal : DbError) : Type 0 where
-  pub named : refusal ≡ Broken
+-- the call found another record in the row behind the history: the history, the horizon and the holds are as they were, and
+-- each later call is refused
+pub record IsBroken (old new : DatabaseValue) : Type 0 where
   pub was : old.broken ≡ false
   pub is : new.broken ≡ true
   pub row : new.row ≡ old.row
   pub history : new.history ≡ old.history
+  pub horizon : new.horizon ≡ old.horizon
+  pub holds : new.holds ≡ old.holds
 
--- what a refusal leaves: the database as it was, or broken
+-- what a refusal leaves: the database as it was; and refused as broken, it was broken before, or is so from now on
 abbrev pub IsLeft : DatabaseValue → DatabaseValue → DbError → Type 0
-IsLeft old new refusal = (new ≡ old) ⊎ IsBroken old new refusal
+IsLeft old new Broken = ((new ≡ old) × (old.broken ≡ true)) ⊎ IsBroken old new
+IsLeft old new e = new ≡ old
 
 -- ---- holds
 
