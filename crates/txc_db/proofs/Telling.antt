@@ -193,12 +193,21 @@ refusal_told row d base read changes (commits.Conflict told) h = (h.named, subst
 refusal_told row d base read changes (commits.Database e) h = changes_told row d base read changes e h
 
 left_locked : (old new : DatabaseValue) (e : DbError) → IsLeft old new e → IsLockedLeft old new e
-left_locked old new e (inl same) = inl same
-left_locked old new e (inr broken) = inr (broken.named, broken.is)
+left_locked old new Broken left = elim left [
+  | inl same ↦ inl same.0
+  | inr broken ↦ inr (refl, broken.is)
+]
+left_locked old new (SnapshotGone horizon) left = inl left
+left_locked old new (Conflict first) left = inl left
+left_locked old new Full left = inl left
+left_locked old new (Store cause) left = inl left
+left_locked old new (NotPinned named) left = inl left
+left_locked old new (FutureStamp last) left = inl left
+left_locked old new HoldsFull left = inl left
+left_locked old new Memory left = inl left
 
 pub told_left : (old new : DatabaseValue) (refusal : DbError) (front : Shown EventValue) (e : CommitError) → IsToldRefusal refusal front e → IsLeft old new refusal → IsCommitLeft old new e
-told_left old new (Conflict first) front e is (inl same) = subst (IsCommitLeft old new) (sym is) same
-told_left old new (Conflict first) front e is (inr broken) = absurd (let f = broken.named in cc)
+told_left old new (Conflict first) front e is left = subst (IsCommitLeft old new) (sym is) left
 told_left old new (SnapshotGone horizon) front e is left = subst (IsCommitLeft old new) (sym is) (left_locked old new (SnapshotGone horizon) left)
 told_left old new Full front e is left = subst (IsCommitLeft old new) (sym is) (left_locked old new Full left)
 told_left old new (Store cause) front e is left = subst (IsCommitLeft old new) (sym is) (left_locked old new (Store cause) left)
