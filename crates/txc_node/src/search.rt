@@ -75,7 +75,7 @@ pub(crate) fn best_at(
     ensures { MatchOption result
         (find (is_best processed key.now lo hi entries.now) entries.now ≡ None)
         (λ i. (i < length entries.now) × HoldsAt (λ e.
-            find (is_best processed key.now lo hi entries.now) entries.now ≡ Some e) entries.now i) }
+        find (is_best processed key.now lo hi entries.now) entries.now ≡ Some e) entries.now i) }
 {
     let mut best: Option<usize> = None;
     for i in 0..entries.len() {
