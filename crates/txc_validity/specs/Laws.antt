@@ -6,17 +6,20 @@ use Rattle.txc_validity.specs.Validity.{IsValidity}
 
 -- every stamp of the reach has the answer of t
 abbrev pub SameWithin : Type 0
-SameWithin = (answers : ℕ → List RowValue) (t horizon newest : ℕ) (reach : Interval) → IsValidity answers t horizon newest reach
+SameWithin = (answers : ℕ → List RowValue) (t horizon newest : ℕ) (reach : Interval)
+    → IsValidity answers t horizon newest reach
     → (s : ℕ) → reach.lo ≤ s → s ≤ reach.known → answers s ≡ answers t
 
 -- the stamp below its first, where that is kept, has another
 abbrev pub DiffersBelow : Type 0
-DiffersBelow = (answers : ℕ → List RowValue) (t horizon newest : ℕ) (reach : Interval) → IsValidity answers t horizon newest reach
+DiffersBelow = (answers : ℕ → List RowValue) (t horizon newest : ℕ) (reach : Interval)
+    → IsValidity answers t horizon newest reach
     → horizon < reach.lo → answers (reach.lo - 1) ≢ answers t
 
 -- the stamp above its last, where that is kept, has another
 abbrev pub DiffersAbove : Type 0
-DiffersAbove = (answers : ℕ → List RowValue) (t horizon newest : ℕ) (reach : Interval) → IsValidity answers t horizon newest reach
+DiffersAbove = (answers : ℕ → List RowValue) (t horizon newest : ℕ) (reach : Interval)
+    → IsValidity answers t horizon newest reach
     → reach.known < newest → answers (reach.known + 1) ≢ answers t
 
 -- a stamp has one validity
@@ -26,5 +29,6 @@ OneValidity = (answers : ℕ → List RowValue) (t horizon newest : ℕ) (reach 
 
 -- only the answers of the kept stamps count
 abbrev pub KeptAnswersDecide : Type 0
-KeptAnswersDecide = (answers others : ℕ → List RowValue) (t horizon newest : ℕ) (reach : Interval) → ((s : ℕ) → horizon ≤ s → s ≤ newest → answers s ≡ others s)
+KeptAnswersDecide = (answers others : ℕ → List RowValue) (t horizon newest : ℕ) (reach : Interval)
+    → ((s : ℕ) → horizon ≤ s → s ≤ newest → answers s ≡ others s)
     → IsValidity answers t horizon newest reach → IsValidity others t horizon newest reach

@@ -14,5 +14,6 @@ pub record IsValidity (answers : ℕ → List RowValue) (t horizon newest : ℕ)
   pub around : (reach.lo ≤ t) × (t ≤ reach.known)
   pub high : reach.known ≤ newest
   pub same : HoldsOn answers t reach.lo reach.known
-  pub largest : (first last : ℕ) → horizon ≤ first → first ≤ t → t ≤ last → last ≤ newest → HoldsOn answers t first last → (reach.lo ≤ first) × (last ≤ reach.known)
+  pub largest : (first last : ℕ) → horizon ≤ first → first ≤ t → t ≤ last → last ≤ newest
+      → HoldsOn answers t first last → (reach.lo ≤ first) × (last ≤ reach.known)
   pub still : reach.still ≡ (reach.known == newest)

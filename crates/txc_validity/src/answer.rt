@@ -86,8 +86,10 @@ fn first_shown(
     requires kept { horizon ≤ stamp }
     requires here { shown_at query.now stamp versions.now ≡ rows.now }
     ensures within { IfOk result (λ first. (horizon ≤ first) × (first ≤ stamp)) }
-    ensures holds { IfOk result (λ first. HoldsOn (λ s. shown_at query.now s versions.now) stamp first stamp) }
-    ensures ends { IfOk result (λ first. horizon < first → shown_at query.now (first - 1) versions.now ≢ shown_at query.now stamp versions.now) }
+    ensures holds { IfOk result (λ first.
+        HoldsOn (λ s. shown_at query.now s versions.now) stamp first stamp) }
+    ensures ends { IfOk result (λ first. horizon < first
+        → shown_at query.now (first - 1) versions.now ≢ shown_at query.now stamp versions.now) }
 {
     let mut first = stamp;
     'down: while horizon < first {
@@ -112,8 +114,10 @@ fn last_shown(
     requires kept { stamp ≤ newest }
     requires here { shown_at query.now stamp versions.now ≡ rows.now }
     ensures within { IfOk result (λ last. (stamp ≤ last) × (last ≤ newest)) }
-    ensures holds { IfOk result (λ last. HoldsOn (λ s. shown_at query.now s versions.now) stamp stamp last) }
-    ensures ends { IfOk result (λ last. last < newest → shown_at query.now (last + 1) versions.now ≢ shown_at query.now stamp versions.now) }
+    ensures holds { IfOk result (λ last.
+        HoldsOn (λ s. shown_at query.now s versions.now) stamp stamp last) }
+    ensures ends { IfOk result (λ last. last < newest
+        → shown_at query.now (last + 1) versions.now ≢ shown_at query.now stamp versions.now) }
 {
     let mut last = stamp;
     'up: while last < newest {
@@ -147,14 +151,18 @@ pub fn answer_at(
     newest: Stamp,
 ) -> Result<Found, ValidityError>
     requires { AreVersions versions.now }
-    ensures outside { IsErrOf result (ValidityError.OutsideKept horizon newest) ↔ ((stamp < horizon) ⊎ (newest < stamp)) }
-    ensures refused { IfErr result (λ e. (e ≡ ValidityError.OutsideKept horizon newest) ⊎ (e ≡ ValidityError.Memory)) }
+    ensures outside { IsErrOf result (ValidityError.OutsideKept horizon newest)
+        ↔ ((stamp < horizon) ⊎ (newest < stamp)) }
+    ensures refused { IfErr result (λ e.
+        (e ≡ ValidityError.OutsideKept horizon newest) ⊎ (e ≡ ValidityError.Memory)) }
     ensures rows { IfOk result (λ f. f.rows.items ≡ shown_at query.now stamp versions.now) }
-    ensures validity { IfOk result (λ f. IsValidity (λ s. shown_at query.now s versions.now) stamp horizon newest f.reach) }
+    ensures validity { IfOk result (λ f.
+        IsValidity (λ s. shown_at query.now s versions.now) stamp horizon newest f.reach) }
     ensures tag { IfOk result (λ f. f.tags ≡ query_tag query.now ∷ []) }
 
     // Of any states whose answers the versions show, it is the answer and its validity.
-    ensures answer { (states : ℕ → State) → ShowsAnswers query.now states horizon newest versions.now
+    ensures answer { (states : ℕ → State)
+        → ShowsAnswers query.now states horizon newest versions.now
         → IfOk result (λ f. IsAnswer states query.now stamp horizon newest f) }
 {
     if stamp < horizon || newest < stamp {
