@@ -1,9 +1,14 @@
 ghost use Rattle.std.specs.Prelude.{◌≤◌};
 
 use super::*;
+
+mod locked;
+mod many_versions;
+mod refused;
+
 use std::alloc::Global;
 use std::test::*;
-use txc_rows::{Change, Query, Row};
+use txc_rows::{Change, Query, Row, StoreError};
 use txc_stamp::Stamp;
 use txc_stream::MAX_CAPACITY;
 use txc_tags::{Table, Tag, TagSet};
