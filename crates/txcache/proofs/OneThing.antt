@@ -1,5 +1,5 @@
 -- A line is one thing.
-use Rattle.std.proofs.Common.{◌≡◌, ◌<◌, ◌≤◌, ◌/◌, ◌%◌, ℕ, Bool, true, false, ltb, List, [], ◌∷◌, ◌++◌, refl, sym, ap, subst, ◌∙◌, arith}
+use Rattle.std.proofs.Common.{◌≡◌, ◌<◌, ◌/◌, ◌%◌, ℕ, Bool, true, false, List, [], ◌∷◌, refl, sym, ap, subst, ◌∙◌, arith}
 use Rattle.std.specs.List.{AllByRecursion, flat_map, join_with_byte}
 use Rattle.std.proofs.lemmas.Bool.Decides.{nat_tests}
 use Rattle.std.proofs.lemmas.Fmt.{decimal_injective}
@@ -9,7 +9,6 @@ use Rattle.txc_tags.specs.Keys.{Call}
 use Rattle.txc_tags.specs.Tags.{set_of}
 use Rattle.txc_tags.proofs.TextKeys.{same_key_text}
 use Rattle.txc_tags.proofs.TextSets.{same_tags_text}
-use Rattle.txcache.specs.Words.{HasWords}
 use Rattle.txcache.specs.Hex.{digit_of, digits_of, IsHexWord}
 use Rattle.txcache.specs.Insertion.{NewEntry}
 use Rattle.txcache.specs.Lines.{IsKeyWord, IsStampWord, IsTagsWord, still_text, AreLookupWords, AreEventWords, AreInsertWords, AreWordsBehind, name_of, Spells, IsQuiet, IsCommandLine}

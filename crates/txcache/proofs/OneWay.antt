@@ -3,7 +3,6 @@ use Rattle.std.proofs.Common.{◌≡◌, ◌≢◌, ℕ, ◌+◌, List, [], ◌�
 use Rattle.std.specs.List.{AllByRecursion}
 use Rattle.std.proofs.lemmas.List.Elements.{recursion_from_All}
 use Rattle.txc_node.specs.Cache.{Cache}
-use Rattle.txcache.specs.Lines.{IsCommandLine}
 use Rattle.txcache.specs.Replies.{Reply, Refused, Obeys, IsObeyed, WantsMemory, refusal_of, reply_of_step, state_of_step}
 use Rattle.txcache.specs.Runs.{Given, Nothing, Replied, Malformed, Gives, AreGiven}
 use Rattle.txcache.specs.Laws.{WantNoMemory}
