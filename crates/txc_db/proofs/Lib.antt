@@ -5,3 +5,4 @@ pub mod NetRows
 pub mod Sound
 pub mod Tagged
 pub mod Telling
+pub mod Left

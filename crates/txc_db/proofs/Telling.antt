@@ -26,7 +26,7 @@ use Rattle.txc_db.specs.Facts.{EventValue}
 use Rattle.txc_db.specs.History.{History, state_at, tags_at, event_at, commit_event}
 use Rattle.txc_db.specs.DatabaseValue.{DatabaseValue, newest, newest_state}
 use Rattle.txc_db.specs.Refusals.{NoneMatches, IsConflict, IsOwn}
-use Rattle.txc_db.specs.Calls.{IsLeft, IsBroken, IsStoreRefused, IsQueryRefused, IsHoldRefused, IsUnpinRefused, IsVacuumRefused, IsPinRefused, IsPinnable, IsCommittable, IsCommitRefused, IsBase, IsBaseRefused}
+use Rattle.txc_db.specs.Calls.{IsLeft, IsStoreRefused, IsQueryRefused, IsHoldRefused, IsUnpinRefused, IsVacuumRefused, IsPinRefused, IsPinnable, IsCommittable, IsCommitRefused, IsBase, IsBaseRefused}
 use Rattle.txc_db.specs.Told.{IsQuietIn, IsEventIn, IsStoreCause, MayRefuseQuery, MayRefuseHold, MayRefuseUnpin, MayRefuseVacuum, MayRefusePin, MayRefuseChanges, MayRefuseCommit, IsLockedLeft, IsCommitLeft, IsToldRefusal, IsToldConflict, IsLockedCommitRefused}
 use Rattle.txc_db.proofs.Histories.{state_before, tags_stay}
 
@@ -192,22 +192,20 @@ pub refusal_told : (row : List ℕ) (d : DatabaseValue) (base : ℕ) (read : Lis
 refusal_told row d base read changes (commits.Conflict told) h = (h.named, subst (λ (l : History). IsConflict l base read told.answer) (sym h.list) h.conflict)
 refusal_told row d base read changes (commits.Database e) h = changes_told row d base read changes e h
 
-left_locked : (old new : DatabaseValue) (e : DbError) → IsLeft old new e → IsLockedLeft old new e
-left_locked old new Broken left = elim left [
-  | inl same ↦ inl same.0
-  | inr broken ↦ inr (refl, broken.is)
-]
-left_locked old new (SnapshotGone horizon) left = inl left
-left_locked old new (Conflict first) left = inl left
-left_locked old new Full left = inl left
-left_locked old new (Store cause) left = inl left
-left_locked old new (NotPinned named) left = inl left
-left_locked old new (FutureStamp last) left = inl left
-left_locked old new HoldsFull left = inl left
-left_locked old new Memory left = inl left
+pub left_locked : (old new : DatabaseValue) (e : DbError) → IsLeft old new e → IsLockedLeft old new e
+left_locked old new Broken (inl left) = inl left.0
+left_locked old new Broken (inr broken) = inr (refl, broken.is)
+left_locked old new (SnapshotGone horizon) same = inl same
+left_locked old new (Conflict first) same = inl same
+left_locked old new Full same = inl same
+left_locked old new (Store cause) same = inl same
+left_locked old new (NotPinned named) same = inl same
+left_locked old new (FutureStamp last) same = inl same
+left_locked old new HoldsFull same = inl same
+left_locked old new Memory same = inl same
 
 pub told_left : (old new : DatabaseValue) (refusal : DbError) (front : Shown EventValue) (e : CommitError) → IsToldRefusal refusal front e → IsLeft old new refusal → IsCommitLeft old new e
-told_left old new (Conflict first) front e is left = subst (IsCommitLeft old new) (sym is) left
+told_left old new (Conflict first) front e is same = subst (IsCommitLeft old new) (sym is) same
 told_left old new (SnapshotGone horizon) front e is left = subst (IsCommitLeft old new) (sym is) (left_locked old new (SnapshotGone horizon) left)
 told_left old new Full front e is left = subst (IsCommitLeft old new) (sym is) (left_locked old new Full left)
 told_left old new (Store cause) front e is left = subst (IsCommitLeft old new) (sym is) (left_locked old new (Store cause) left)

@@ -1,4 +1,5 @@
-use Rattle.txc_db.specs.Calls.{IsCommitRefused}
+use Rattle.txc_db.specs.Calls.{IsLeft, IsCommitRefused}
+use Rattle.txc_db.proofs.Left.{base_left}
 use Rattle.txc_db.proofs.Telling.{passed_up, base_refused}
 use Rattle.txc_db.proofs.state.DbState.commit.Goals as goal
 
@@ -7,3 +8,9 @@ returns-in_err-newest-clause-refused c =
     let e = c.in_err-newest.field-0.0 in
     passed_up c.from_residual.result e (IsCommitRefused c.args.self.now c.args.base c.args.read.now c.args.changes.now) c.from_residual.ensures.1
     (base_refused c.args.self.now c.args.base c.args.read.now c.args.changes.now e c.in_err-newest.ensures.refused)
+
+pub returns-in_err-newest-clause-err : goal.returns-in_err-newest-clause-err
+returns-in_err-newest-clause-err c =
+    let e = c.in_err-newest.field-0.0 in
+    passed_up c.from_residual.result e (IsLeft c.args.self.now c.args.self.now) c.from_residual.ensures.1
+    (base_left c.args.self.now c.args.base e c.in_err-newest.ensures.refused)
