@@ -370,13 +370,11 @@ fn are_found(row: &EventRow<Event>, front: &Front<Event>, receipts: &[(Stamp, u3
 // How many events a feed gives.
 fn fed<J: Naming>(feed: Feed<J>) -> usize {
     let mut feed = feed;
-    let mut events = 0;
-    for _ in 0..64usize {
+    for events in 0..64usize {
         if !feed.look() {
-            break;
+            return events;
         }
         feed.take();
-        events += 1;
     }
-    events
+    64
 }
