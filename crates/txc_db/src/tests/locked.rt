@@ -104,15 +104,32 @@ fn worked_queries<J: Naming, R: Wait + Abort>(
     requires { core.row ≡ J.database_row }
 {
     let database = Database::<J>::new(alloc, core)?;
+    group_queries(rt, &database, alloc)?;
+    other_queries(rt, &database, alloc)
+}
+
+fn group_queries<J: Naming, R: Wait + Abort>(
+    rt: &R,
+    database: &Database<J>,
+    alloc: Global,
+) -> Result<(), Fail> {
     let group = Query::ByGroup(table()?, 2);
-    let early = locked_query(rt, &database, alloc, &group, 2)??;
+    let early = locked_query(rt, database, alloc, &group, 2)??;
     assert!(rt; shows(&early.answer, &[7], 1, 2, false, Tag::Group(table()?, 2)));
     assert!(rt; early.front.len() == 4);
-    let late = locked_query(rt, &database, alloc, &group, 4)??;
+    let late = locked_query(rt, database, alloc, &group, 4)??;
     assert!(rt; shows(&late.answer, &[7, 8], 3, 4, true, Tag::Group(table()?, 2)));
-    let none = locked_query(rt, &database, alloc, &Query::ById(table()?, 9), 4)??;
+    Ok(())
+}
+
+fn other_queries<J: Naming, R: Wait + Abort>(
+    rt: &R,
+    database: &Database<J>,
+    alloc: Global,
+) -> Result<(), Fail> {
+    let none = locked_query(rt, database, alloc, &Query::ById(table()?, 9), 4)??;
     assert!(rt; shows(&none.answer, &[], 0, 4, true, Tag::Id(table()?, 9)));
-    let beyond = locked_query(rt, &database, alloc, &Query::All(table()?), 5)?;
+    let beyond = locked_query(rt, database, alloc, &Query::All(table()?), 5)?;
     assert!(rt; matches!(&beyond, Err(DbError::FutureStamp(last)) if last.number() == 4));
     Ok(())
 }
@@ -125,21 +142,52 @@ fn worked_commits<J: Naming, R: Wait + Abort>(
     requires { core.row ≡ J.database_row }
 {
     let database = Database::<J>::new(alloc, core)?;
-    let first = locked_commit(rt, &database, alloc, put(alloc, 7, b'a')?)??;
-    assert!(rt; answers(&first, 1));
-    let pinned = locked_pin(rt, &database, alloc, 1000, 0)??;
-    assert!(rt; pinned.stamp.number() == 2 && pinned.moment == 1000 && pinned.front.len() == 2);
-    let second = locked_commit(rt, &database, alloc, put(alloc, 8, b'b')?)??;
-    assert!(rt; answers(&second, 3));
-    let pinned = locked_pin(rt, &database, alloc, 2000, 0)??;
-    assert!(rt; pinned.stamp.number() == 4 && pinned.moment == 2000 && pinned.front.len() == 4);
-    let same = locked_commit(rt, &database, alloc, put(alloc, 7, b'a')?)??;
+    put_and_pin(rt, &database, alloc, 7, b'a', 1000, 1)?;
+    put_and_pin(rt, &database, alloc, 8, b'b', 2000, 3)?;
+    change_nothing(rt, &database, alloc)?;
+    remove_over_what_was_read(rt, &database, alloc)
+}
+
+// Puts a row as the event of this number, and pins the present.
+fn put_and_pin<J: Naming, R: Wait + Abort>(
+    rt: &R,
+    database: &Database<J>,
+    alloc: Global,
+    id: u32,
+    body: u8,
+    now: u64,
+    number: u32,
+) -> Result<(), Fail>
+    requires { number ≤ 3 }
+{
+    let told = locked_commit(rt, database, alloc, put(alloc, id, body)?)??;
+    assert!(rt; answers(&told, number));
+    let pinned = locked_pin(rt, database, alloc, now, 0)??;
+    assert!(rt; pinned.stamp.number() == number + 1 && pinned.moment == now);
+    assert!(rt; pinned.front.len() == number as usize + 1);
+    Ok(())
+}
+
+fn change_nothing<J: Naming, R: Wait + Abort>(
+    rt: &R,
+    database: &Database<J>,
+    alloc: Global,
+) -> Result<(), Fail> {
+    let same = locked_commit(rt, database, alloc, put(alloc, 7, b'a')?)??;
     assert!(rt; answers(&same, 4));
-    let absent = locked_commit(rt, &database, alloc, Change::Remove(table()?, 9))??;
+    let absent = locked_commit(rt, database, alloc, Change::Remove(table()?, 9))??;
     assert!(rt; answers(&absent, 4));
-    let conflict = locked_remove_8(rt, &database, alloc, Tag::Group(table()?, 2))?;
+    Ok(())
+}
+
+fn remove_over_what_was_read<J: Naming, R: Wait + Abort>(
+    rt: &R,
+    database: &Database<J>,
+    alloc: Global,
+) -> Result<(), Fail> {
+    let conflict = locked_remove_8(rt, database, alloc, Tag::Group(table()?, 2))?;
     assert!(rt; is_conflict(&conflict, 3, 4));
-    let done = locked_remove_8(rt, &database, alloc, Tag::Id(table()?, 7))??;
+    let done = locked_remove_8(rt, database, alloc, Tag::Id(table()?, 7))??;
     assert!(rt; answers(&done, 5));
     Ok(())
 }
@@ -172,14 +220,27 @@ fn worked_holds<J: Naming, R: Wait + Abort>(rt: &R, alloc: Global, core: DbCore)
     assert_eq!(rt; database.vacuum(rt), Ok(stamp(2)?));
     let held = database.hold(rt, alloc)?;
     assert!(rt; answers(&held, 4));
-    assert_eq!(rt; locked_unpin(rt, &database, 2)?, Ok(()));
-    assert_eq!(rt; locked_unpin(rt, &database, 4)?, Ok(()));
+    take_both_away(rt, &database)?;
+    early_stamps_are_gone(rt, &database, alloc)
+}
+
+fn take_both_away<J: Naming, R: Wait + Abort>(rt: &R, database: &Database<J>) -> Result<(), Fail> {
+    assert_eq!(rt; locked_unpin(rt, database, 2)?, Ok(()));
+    assert_eq!(rt; locked_unpin(rt, database, 4)?, Ok(()));
     assert_eq!(rt; database.vacuum(rt), Ok(stamp(4)?));
-    let gone = locked_query(rt, &database, alloc, &Query::All(table()?), 2)?;
+    Ok(())
+}
+
+fn early_stamps_are_gone<J: Naming, R: Wait + Abort>(
+    rt: &R,
+    database: &Database<J>,
+    alloc: Global,
+) -> Result<(), Fail> {
+    let gone = locked_query(rt, database, alloc, &Query::All(table()?), 2)?;
     assert!(rt; matches!(&gone, Err(DbError::SnapshotGone(horizon)) if horizon.number() == 4));
-    assert_eq!(rt; locked_unpin(rt, &database, 4)?, Ok(()));
+    assert_eq!(rt; locked_unpin(rt, database, 4)?, Ok(()));
     assert_eq!(rt;
-        locked_unpin(rt, &database, 4)?,
+        locked_unpin(rt, database, 4)?,
         Err(DbError::NotPinned(stamp(4)?))
     );
     Ok(())
