@@ -6,3 +6,4 @@ pub mod Sound
 pub mod Tagged
 pub mod Telling
 pub mod Left
+pub mod Crosses

@@ -193,16 +193,16 @@ refusal_told row d base read changes (commits.Conflict told) h = (h.named, subst
 refusal_told row d base read changes (commits.Database e) h = changes_told row d base read changes e h
 
 pub left_locked : (old new : DatabaseValue) (e : DbError) → IsLeft old new e → IsLockedLeft old new e
-left_locked old new Broken (inl left) = inl left.0
-left_locked old new Broken (inr broken) = inr (refl, broken.is)
-left_locked old new (SnapshotGone horizon) same = inl same
-left_locked old new (Conflict first) same = inl same
-left_locked old new Full same = inl same
-left_locked old new (Store cause) same = inl same
-left_locked old new (NotPinned named) same = inl same
-left_locked old new (FutureStamp last) same = inl same
-left_locked old new HoldsFull same = inl same
-left_locked old new Memory same = inl same
+left_locked old new Broken (inl left) = inl left
+left_locked old new Broken (inr broken) = inr (broken.was, broken.is)
+left_locked old new (SnapshotGone horizon) same = same
+left_locked old new (Conflict first) same = same
+left_locked old new Full same = same
+left_locked old new (Store cause) same = same
+left_locked old new (NotPinned named) same = same
+left_locked old new (FutureStamp last) same = same
+left_locked old new HoldsFull same = same
+left_locked old new Memory same = same
 
 pub told_left : (old new : DatabaseValue) (refusal : DbError) (front : Shown EventValue) (e : CommitError) → IsToldRefusal refusal front e → IsLeft old new refusal → IsCommitLeft old new e
 told_left old new (Conflict first) front e is same = subst (IsCommitLeft old new) (sym is) same

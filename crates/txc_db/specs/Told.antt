@@ -104,9 +104,11 @@ abbrev pub IsToldRefusal : DbError → Shown EventValue → CommitError → Type
 IsToldRefusal (Conflict first) front e = e ≡ commits.Conflict (record { answer = first; front = front })
 IsToldRefusal refusal front e = e ≡ commits.Database refusal
 
--- what a refusal leaves: the database as it was, or broken from then on, where another record stood in one of its rows
+-- what a refusal leaves: the database as it was; and refused as broken, it was broken before, or is so from now on, where
+-- another record stood in one of its rows
 abbrev pub IsLockedLeft : DatabaseValue → DatabaseValue → DbError → Type 0
-IsLockedLeft old new refusal = (new ≡ old) ⊎ ((refusal ≡ Broken) × (new.broken ≡ true))
+IsLockedLeft old new Broken = ((new ≡ old) × (old.broken ≡ true)) ⊎ ((old.broken ≡ false) × (new.broken ≡ true))
+IsLockedLeft old new e = new ≡ old
 
 -- what a refused commit leaves
 abbrev pub IsCommitLeft : DatabaseValue → DatabaseValue → CommitError → Type 0

@@ -32,7 +32,8 @@ impl<J: Naming> Model for Mark<J> {
     ghost invariant = { λ m. (m.front.row ≡ J.database_row) × AreTagged m.front.list };
 }
 
-// A mark is read by `&` from many threads. What its front knows of the row's cells, every thread knows alike.
+// A mark is read by `&` from many threads. What its front knows of the row's cells, every thread knows alike: that is
+// shown in `proofs/Crosses.antt`, by which a closure that borrows a database is sent.
 unsafe impl<J: Naming + Sync> Sync for Mark<J> {}
 
 impl<J: Naming> Mark<J> {

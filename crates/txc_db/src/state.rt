@@ -179,6 +179,7 @@ impl DbState {
         self.holds.push(newest)?;
         Ok(newest)
     }
+
     /// Takes one hold of the stamp away. It takes no memory.
     pub(crate) fn unpin(&mut self, stamp: Stamp) -> Result<(), DbError>
         ensures held { IsOk result → is_held stamp self.old.holds ≡ true }

@@ -5,6 +5,7 @@ use super::*;
 mod locked;
 mod many_versions;
 mod refused;
+mod threads;
 
 use std::alloc::Global;
 use std::test::*;

@@ -1,4 +1,4 @@
-//! The calls under the lock: the worked history, and a foreign record.
+//! The calls under the lock: the worked history, the feed of its events, and foreign records.
 ghost use Rattle.std.specs.Prelude.{◌≡◌, ◌≤◌};
 
 use super::*;
@@ -6,72 +6,58 @@ use std::marker::Brand;
 use std::process::Abort;
 use std::sync::Wait;
 
-#[test]
-fn locked_calls_answer_the_worked_history(rt: HostRuntime) -> Result<(), Fail> {
-    worked_queries::<Brand, _>(&rt, rt.alloc(), worked(rt.alloc())?)?;
-    worked_commits::<Brand, _>(&rt, rt.alloc(), empty(rt.alloc(), 16)?)?;
-    worked_refusals::<Brand, _>(&rt, rt.alloc(), worked(rt.alloc())?)?;
-    worked_holds::<Brand, _>(&rt, rt.alloc(), worked(rt.alloc())?)
+/// One who calls a database under its lock, with what each call wants.
+#[derive(Drop)]
+pub(super) struct Caller<'a, J: Naming, R: Wait> {
+    pub(super) rt: &'a R,
+    pub(super) alloc: Global,
+    pub(super) database: &'a Database<J>,
 }
 
-fn locked_query<J: Naming>(
-    rt: &impl Wait,
-    database: &Database<J>,
-    alloc: Global,
-    query: &Query,
-    number: u32,
-) -> Result<Result<Told<Found>, DbError>, Fail> {
-    Ok(database.query(rt, alloc, query, stamp(number)?))
-}
+impl<J: Naming, R: Wait> Caller<'_, J, R> {
+    fn query(&self, query: &Query, number: u32) -> Result<Result<Told<Found>, DbError>, Fail> {
+        Ok(
+            self.database
+                .query(self.rt, self.alloc, query, stamp(number)?),
+        )
+    }
 
-fn locked_commit<J: Naming>(
-    rt: &impl Wait,
-    database: &Database<J>,
-    alloc: Global,
-    change: Change,
-) -> Result<Result<Told<Stamp>, CommitError>, Fail> {
-    let changes = [change];
-    Ok(database.commit(rt, alloc, Stamp::ZERO, &TagSet::new(alloc), &changes))
-}
+    fn commit(&self, change: Change) -> Result<Told<Stamp>, CommitError> {
+        let (read, changes) = (TagSet::new(self.alloc), [change]);
+        self.database
+            .commit(self.rt, self.alloc, Stamp::ZERO, &read, &changes)
+    }
 
-fn locked_commit_nothing<J: Naming>(
-    rt: &impl Wait,
-    database: &Database<J>,
-    alloc: Global,
-    base: u32,
-) -> Result<Result<Told<Stamp>, CommitError>, Fail> {
-    let none: [Change; 0] = [];
-    Ok(database.commit(rt, alloc, stamp(base)?, &TagSet::new(alloc), &none))
-}
+    fn commit_nothing(&self, base: u32) -> Result<Result<Told<Stamp>, CommitError>, Fail> {
+        let none: [Change; 0] = [];
+        let read = TagSet::new(self.alloc);
+        Ok(
+            self.database
+                .commit(self.rt, self.alloc, stamp(base)?, &read, &none),
+        )
+    }
 
-fn locked_remove_8<J: Naming>(
-    rt: &impl Wait,
-    database: &Database<J>,
-    alloc: Global,
-    read: Tag,
-) -> Result<Result<Told<Stamp>, CommitError>, Fail> {
-    let changes = [Change::Remove(table()?, 8)];
-    let mut tags = TagSet::new(alloc);
-    tags.add(read)?;
-    Ok(database.commit(rt, alloc, stamp(2)?, &tags, &changes))
-}
+    // What is removed depends on what was read at stamp 2.
+    fn remove_8(&self, read: Tag) -> Result<Result<Told<Stamp>, CommitError>, Fail> {
+        let changes = [Change::Remove(table()?, 8)];
+        let mut tags = TagSet::new(self.alloc);
+        tags.add(read)?;
+        Ok(
+            self.database
+                .commit(self.rt, self.alloc, stamp(2)?, &tags, &changes),
+        )
+    }
 
-fn locked_pin<J: Naming>(
-    rt: &impl Wait,
-    database: &Database<J>,
-    alloc: Global,
-    now: u64,
-    at_least: u32,
-) -> Result<Result<Pinned, DbError>, Fail> {
-    Ok(database.pin(rt, alloc, now, stamp(at_least)?))
-}
+    fn pin(&self, now: u64, at_least: u32) -> Result<Result<Pinned, DbError>, Fail> {
+        Ok(
+            self.database
+                .pin(self.rt, self.alloc, now, stamp(at_least)?),
+        )
+    }
 
-fn locked_unpin<J: Naming>(
-    rt: &impl Wait,
-    database: &Database<J>,
-    number: u32,
-) -> Result<Result<(), DbError>, Fail> {
-    Ok(database.unpin(rt, stamp(number)?))
+    fn unpin(&self, number: u32) -> Result<Result<(), DbError>, Fail> {
+        Ok(self.database.unpin(self.rt, stamp(number)?))
+    }
 }
 
 fn answers(told: &Told<Stamp>, number: u32) -> bool {
@@ -94,6 +80,14 @@ fn is_conflict(refused: &Result<Told<Stamp>, CommitError>, number: u32, events: 
     }
 }
 
+#[test]
+fn locked_calls_answer_the_worked_history(rt: HostRuntime) -> Result<(), Fail> {
+    worked_queries::<Brand, _>(&rt, rt.alloc(), worked(rt.alloc())?)?;
+    worked_commits::<Brand, _>(&rt, rt.alloc(), empty(rt.alloc(), 16)?)?;
+    worked_refusals::<Brand, _>(&rt, rt.alloc(), worked(rt.alloc())?)?;
+    worked_holds::<Brand, _>(&rt, rt.alloc(), worked(rt.alloc())?)
+}
+
 fn worked_queries<J: Naming, R: Wait + Abort>(
     rt: &R,
     alloc: Global,
@@ -102,33 +96,30 @@ fn worked_queries<J: Naming, R: Wait + Abort>(
     requires { core.row ≡ J.database_row }
 {
     let database = Database::<J>::new(alloc, core)?;
-    group_queries(rt, &database, alloc)?;
-    other_queries(rt, &database, alloc)
+    let caller = Caller {
+        rt,
+        alloc,
+        database: &database,
+    };
+    group_queries(&caller)?;
+    other_queries(&caller)
 }
 
-fn group_queries<J: Naming, R: Wait + Abort>(
-    rt: &R,
-    database: &Database<J>,
-    alloc: Global,
-) -> Result<(), Fail> {
+fn group_queries<J: Naming, R: Wait + Abort>(caller: &Caller<J, R>) -> Result<(), Fail> {
     let group = Query::ByGroup(table()?, 2);
-    let early = locked_query(rt, database, alloc, &group, 2)??;
-    assert!(rt; shows(&early.answer, &[7], 1, 2, false, Tag::Group(table()?, 2)));
-    assert!(rt; early.front.len() == 4);
-    let late = locked_query(rt, database, alloc, &group, 4)??;
-    assert!(rt; shows(&late.answer, &[7, 8], 3, 4, true, Tag::Group(table()?, 2)));
+    let early = caller.query(&group, 2)??;
+    assert!(caller.rt; shows(&early.answer, &[7], 1, 2, false, Tag::Group(table()?, 2)));
+    assert!(caller.rt; early.front.len() == 4);
+    let late = caller.query(&group, 4)??;
+    assert!(caller.rt; shows(&late.answer, &[7, 8], 3, 4, true, Tag::Group(table()?, 2)));
     Ok(())
 }
 
-fn other_queries<J: Naming, R: Wait + Abort>(
-    rt: &R,
-    database: &Database<J>,
-    alloc: Global,
-) -> Result<(), Fail> {
-    let none = locked_query(rt, database, alloc, &Query::ById(table()?, 9), 4)??;
-    assert!(rt; shows(&none.answer, &[], 0, 4, true, Tag::Id(table()?, 9)));
-    let beyond = locked_query(rt, database, alloc, &Query::All(table()?), 5)?;
-    assert!(rt; matches!(&beyond, Err(DbError::FutureStamp(last)) if last.number() == 4));
+fn other_queries<J: Naming, R: Wait + Abort>(caller: &Caller<J, R>) -> Result<(), Fail> {
+    let none = caller.query(&Query::ById(table()?, 9), 4)??;
+    assert!(caller.rt; shows(&none.answer, &[], 0, 4, true, Tag::Id(table()?, 9)));
+    let beyond = caller.query(&Query::All(table()?), 5)?;
+    assert!(caller.rt; matches!(&beyond, Err(DbError::FutureStamp(last)) if last.number() == 4));
     Ok(())
 }
 
@@ -140,17 +131,20 @@ fn worked_commits<J: Naming, R: Wait + Abort>(
     requires { core.row ≡ J.database_row }
 {
     let database = Database::<J>::new(alloc, core)?;
-    put_and_pin(rt, &database, alloc, 7, b'a', 1000, 1)?;
-    put_and_pin(rt, &database, alloc, 8, b'b', 2000, 3)?;
-    change_nothing(rt, &database, alloc)?;
-    remove_over_what_was_read(rt, &database, alloc)
+    let caller = Caller {
+        rt,
+        alloc,
+        database: &database,
+    };
+    put_and_pin(&caller, 7, b'a', 1000, 1)?;
+    put_and_pin(&caller, 8, b'b', 2000, 3)?;
+    change_nothing(&caller)?;
+    remove_over_what_was_read(&caller)
 }
 
 // Puts a row as the event of this number, and pins the present.
 fn put_and_pin<J: Naming, R: Wait + Abort>(
-    rt: &R,
-    database: &Database<J>,
-    alloc: Global,
+    caller: &Caller<J, R>,
     id: u32,
     body: u8,
     now: u64,
@@ -158,35 +152,29 @@ fn put_and_pin<J: Naming, R: Wait + Abort>(
 ) -> Result<(), Fail>
     requires { number ≤ 3 }
 {
-    let told = locked_commit(rt, database, alloc, put(alloc, id, body)?)??;
-    assert!(rt; answers(&told, number));
-    let pinned = locked_pin(rt, database, alloc, now, 0)??;
-    assert!(rt; pinned.stamp.number() == number + 1 && pinned.moment == now);
-    assert!(rt; pinned.front.len() == number as usize + 1);
+    let told = caller.commit(put(caller.alloc, id, body)?)?;
+    assert!(caller.rt; answers(&told, number));
+    let pinned = caller.pin(now, 0)??;
+    assert!(caller.rt; pinned.stamp.number() == number + 1 && pinned.moment == now);
+    assert!(caller.rt; pinned.front.len() == number as usize + 1);
     Ok(())
 }
 
-fn change_nothing<J: Naming, R: Wait + Abort>(
-    rt: &R,
-    database: &Database<J>,
-    alloc: Global,
-) -> Result<(), Fail> {
-    let same = locked_commit(rt, database, alloc, put(alloc, 7, b'a')?)??;
-    assert!(rt; answers(&same, 4));
-    let absent = locked_commit(rt, database, alloc, Change::Remove(table()?, 9))??;
-    assert!(rt; answers(&absent, 4));
+fn change_nothing<J: Naming, R: Wait + Abort>(caller: &Caller<J, R>) -> Result<(), Fail> {
+    let same = caller.commit(put(caller.alloc, 7, b'a')?)?;
+    assert!(caller.rt; answers(&same, 4));
+    let absent = caller.commit(Change::Remove(table()?, 9))?;
+    assert!(caller.rt; answers(&absent, 4));
     Ok(())
 }
 
 fn remove_over_what_was_read<J: Naming, R: Wait + Abort>(
-    rt: &R,
-    database: &Database<J>,
-    alloc: Global,
+    caller: &Caller<J, R>,
 ) -> Result<(), Fail> {
-    let conflict = locked_remove_8(rt, database, alloc, Tag::Group(table()?, 2))?;
-    assert!(rt; is_conflict(&conflict, 3, 4));
-    let done = locked_remove_8(rt, database, alloc, Tag::Id(table()?, 7))??;
-    assert!(rt; answers(&done, 5));
+    let conflict = caller.remove_8(Tag::Group(table()?, 2))?;
+    assert!(caller.rt; is_conflict(&conflict, 3, 4));
+    let done = caller.remove_8(Tag::Id(table()?, 7))??;
+    assert!(caller.rt; answers(&done, 5));
     Ok(())
 }
 
@@ -198,16 +186,18 @@ fn worked_refusals<J: Naming, R: Wait + Abort>(
     requires { core.row ≡ J.database_row }
 {
     let database = Database::<J>::new(alloc, core)?;
-    let beyond = locked_commit_nothing(rt, &database, alloc, 5)?;
+    let caller = Caller {
+        rt,
+        alloc,
+        database: &database,
+    };
+    let beyond = caller.commit_nothing(5)?;
     assert!(rt; is_refused(&beyond, DbError::FutureStamp(stamp(4)?)));
-    let early = locked_pin(rt, &database, alloc, 9000, 6)?;
+    let early = caller.pin(9000, 6)?;
     assert!(rt; matches!(&early, Err(DbError::FutureStamp(last)) if last.number() == 4));
-    let pinned = locked_pin(rt, &database, alloc, 9000, 5)??;
+    let pinned = caller.pin(9000, 5)??;
     assert!(rt; pinned.stamp.number() == 5 && pinned.moment == 9000);
-    assert_eq!(rt;
-        locked_unpin(rt, &database, 3)?,
-        Err(DbError::NotPinned(stamp(3)?))
-    );
+    assert_eq!(rt; caller.unpin(3)?, Err(DbError::NotPinned(stamp(3)?)));
     Ok(())
 }
 
@@ -215,32 +205,32 @@ fn worked_holds<J: Naming, R: Wait + Abort>(rt: &R, alloc: Global, core: DbCore)
     requires { core.row ≡ J.database_row }
 {
     let database = Database::<J>::new(alloc, core)?;
+    let caller = Caller {
+        rt,
+        alloc,
+        database: &database,
+    };
     assert_eq!(rt; database.vacuum(rt), Ok(stamp(2)?));
     let held = database.hold(rt, alloc)?;
     assert!(rt; answers(&held, 4));
-    take_both_away(rt, &database)?;
-    early_stamps_are_gone(rt, &database, alloc)
+    take_both_away(&caller)?;
+    early_stamps_are_gone(&caller)
 }
 
-fn take_both_away<J: Naming, R: Wait + Abort>(rt: &R, database: &Database<J>) -> Result<(), Fail> {
-    assert_eq!(rt; locked_unpin(rt, database, 2)?, Ok(()));
-    assert_eq!(rt; locked_unpin(rt, database, 4)?, Ok(()));
-    assert_eq!(rt; database.vacuum(rt), Ok(stamp(4)?));
+fn take_both_away<J: Naming, R: Wait + Abort>(caller: &Caller<J, R>) -> Result<(), Fail> {
+    assert_eq!(caller.rt; caller.unpin(2)?, Ok(()));
+    assert_eq!(caller.rt; caller.unpin(4)?, Ok(()));
+    assert_eq!(caller.rt; caller.database.vacuum(caller.rt), Ok(stamp(4)?));
     Ok(())
 }
 
-fn early_stamps_are_gone<J: Naming, R: Wait + Abort>(
-    rt: &R,
-    database: &Database<J>,
-    alloc: Global,
-) -> Result<(), Fail> {
-    let gone = locked_query(rt, database, alloc, &Query::All(table()?), 2)?;
-    assert!(rt; matches!(&gone, Err(DbError::SnapshotGone(horizon)) if horizon.number() == 4));
-    assert_eq!(rt; locked_unpin(rt, database, 4)?, Ok(()));
-    assert_eq!(rt;
-        locked_unpin(rt, database, 4)?,
-        Err(DbError::NotPinned(stamp(4)?))
+fn early_stamps_are_gone<J: Naming, R: Wait + Abort>(caller: &Caller<J, R>) -> Result<(), Fail> {
+    let gone = caller.query(&Query::All(table()?), 2)?;
+    assert!(caller.rt;
+        matches!(&gone, Err(DbError::SnapshotGone(horizon)) if horizon.number() == 4)
     );
+    assert_eq!(caller.rt; caller.unpin(4)?, Ok(()));
+    assert_eq!(caller.rt; caller.unpin(4)?, Err(DbError::NotPinned(stamp(4)?)));
     Ok(())
 }
 
@@ -253,13 +243,18 @@ fn row_of_one<J: Naming, R: Wait + Abort>(rt: &R, alloc: Global, core: DbCore) -
     requires { core.row ≡ J.database_row }
 {
     let database = Database::<J>::new(alloc, core)?;
-    let first = locked_commit(rt, &database, alloc, put(alloc, 7, b'a')?)??;
+    let caller = Caller {
+        rt,
+        alloc,
+        database: &database,
+    };
+    let first = caller.commit(put(alloc, 7, b'a')?)?;
     assert!(rt; answers(&first, 1));
-    let full = locked_commit(rt, &database, alloc, put(alloc, 8, b'b')?)?;
+    let full = caller.commit(put(alloc, 8, b'b')?);
     assert!(rt; is_refused(&full, DbError::Full));
-    let same = locked_commit(rt, &database, alloc, put(alloc, 7, b'a')?)??;
+    let same = caller.commit(put(alloc, 7, b'a')?)?;
     assert!(rt; answers(&same, 1));
-    let pinned = locked_pin(rt, &database, alloc, 0, 0)?;
+    let pinned = caller.pin(0, 0)?;
     assert!(rt; matches!(&pinned, Err(DbError::Full)));
     Ok(())
 }
@@ -278,27 +273,28 @@ fn foreign_record<J: Naming, R: Wait + Abort>(
 {
     core.append_past(alloc)?;
     let database = Database::<J>::new(alloc, core)?;
-    let broken = locked_commit(rt, &database, alloc, put(alloc, 9, b'c')?)?;
+    let caller = Caller {
+        rt,
+        alloc,
+        database: &database,
+    };
+    let broken = caller.commit(put(alloc, 9, b'c')?);
     assert!(rt; is_refused(&broken, DbError::Broken));
-    is_broken_from_now_on(rt, &database, alloc)
+    is_broken_from_now_on(&caller)
 }
 
 // Each locked call is refused as broken, whatever its arguments.
-fn is_broken_from_now_on<J: Naming, R: Wait + Abort>(
-    rt: &R,
-    database: &Database<J>,
-    alloc: Global,
-) -> Result<(), Fail> {
-    let again = locked_commit_nothing(rt, database, alloc, 9)?;
-    assert!(rt; is_refused(&again, DbError::Broken));
-    let found = locked_query(rt, database, alloc, &Query::All(table()?), 1)?;
-    assert!(rt; matches!(&found, Err(DbError::Broken)));
-    let held = database.hold(rt, alloc);
-    assert!(rt; matches!(&held, Err(DbError::Broken)));
-    let pinned = locked_pin(rt, database, alloc, 0, 9)?;
-    assert!(rt; matches!(&pinned, Err(DbError::Broken)));
-    assert_eq!(rt; locked_unpin(rt, database, 2)?, Err(DbError::Broken));
-    assert_eq!(rt; database.vacuum(rt), Err(DbError::Broken));
+fn is_broken_from_now_on<J: Naming, R: Wait + Abort>(caller: &Caller<J, R>) -> Result<(), Fail> {
+    let again = caller.commit_nothing(9)?;
+    assert!(caller.rt; is_refused(&again, DbError::Broken));
+    let found = caller.query(&Query::All(table()?), 1)?;
+    assert!(caller.rt; matches!(&found, Err(DbError::Broken)));
+    let held = caller.database.hold(caller.rt, caller.alloc);
+    assert!(caller.rt; matches!(&held, Err(DbError::Broken)));
+    let pinned = caller.pin(0, 9)?;
+    assert!(caller.rt; matches!(&pinned, Err(DbError::Broken)));
+    assert_eq!(caller.rt; caller.unpin(2)?, Err(DbError::Broken));
+    assert_eq!(caller.rt; caller.database.vacuum(caller.rt), Err(DbError::Broken));
     Ok(())
 }
 
@@ -311,8 +307,72 @@ fn foreign_mark<J: Naming, R: Wait + Abort>(rt: &R, alloc: Global, core: DbCore)
     requires { core.row ≡ J.database_row }
 {
     let database = Database::<J>::new(alloc, core)?;
+    let caller = Caller {
+        rt,
+        alloc,
+        database: &database,
+    };
     database.mark_past(alloc)?;
-    let broken = locked_pin(rt, &database, alloc, 3000, 0)?;
+    let broken = caller.pin(3000, 0)?;
     assert!(rt; matches!(&broken, Err(DbError::Broken)));
-    is_broken_from_now_on(rt, &database, alloc)
+    is_broken_from_now_on(&caller)
+}
+
+#[test]
+fn feed_gives_the_worked_history(rt: HostRuntime) -> Result<(), Fail> {
+    fed_history::<Brand, _>(&rt, rt.alloc(), worked(rt.alloc())?)
+}
+
+fn fed_history<J: Naming, R: Wait + Abort>(rt: &R, alloc: Global, core: DbCore) -> Result<(), Fail>
+    requires { core.row ≡ J.database_row }
+{
+    let database = Database::<J>::new(alloc, core)?;
+    let mut feed = database.feed(alloc)?;
+    assert!(rt; feeds_put(&mut feed, 7)? && feeds_pin(&mut feed, 1000));
+    assert!(rt; feeds_put(&mut feed, 8)? && feeds_pin(&mut feed, 2000));
+    assert!(rt; !feed.look());
+    let caller = Caller {
+        rt,
+        alloc,
+        database: &database,
+    };
+    let _told = caller.commit(put(alloc, 9, b'c')?)?;
+    assert!(rt; feeds_put(&mut feed, 9)?);
+    assert!(rt; !feed.look());
+    let mut front = database.reader(alloc)?;
+    assert!(rt; front.is_empty());
+    front.longer(feed.front());
+    assert!(rt; front.len() == 5 && database.row().capacity() == 16);
+    Ok(())
+}
+
+// Takes the next event, and says whether it puts a row of group 2 with that id, and has its two tags.
+fn feeds_put<J: Naming>(feed: &mut Feed<J>, id: u32) -> Result<bool, Fail> {
+    if !feed.look() {
+        return Ok(false);
+    }
+    let event = feed.next_event();
+    let is_put = match event.net() {
+        [Change::Put(row)] => row.id() == id,
+        _ => false,
+    };
+    let tags = [Tag::Id(table()?, id), Tag::Group(table()?, 2)];
+    let is_tagged = event.tags.tags() == tags.as_slice();
+    feed.take();
+    Ok(is_put && is_tagged)
+}
+
+// Takes the next event, and says whether it pins that moment, and has no tag.
+fn feeds_pin<J: Naming>(feed: &mut Feed<J>, moment: u64) -> bool {
+    if !feed.look() {
+        return false;
+    }
+    let event = feed.next_event();
+    let is_pin = match &event.what {
+        What::Pin(at) => *at == moment,
+        What::Commit(_) => false,
+    };
+    let is_bare = event.tags.is_empty();
+    feed.take();
+    is_pin && is_bare
 }
