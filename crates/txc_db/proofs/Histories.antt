@@ -1,17 +1,17 @@
 -- States and tags of histories.
-use Rattle.std.proofs.Common.{◌≡◌, ℕ, zero, suc, ◌+◌, ◌≤◌, ◌<◌, List, [], ◌∷◌, ◌++◌, length, take, fold, true, false, Some, slice_get, refl, ap, sym, subst, ◌∙◌, arith, ◌⊎◌, inl, inr}
-use Rattle.std.proofs.Math.Seq.{take-append_seam, take-length}
+use Rattle.std.proofs.Common.{◌≡◌, ℕ, zero, suc, ◌≤◌, ◌<◌, List, [], ◌∷◌, ◌++◌, length, take, fold, true, false, Some, slice_get, refl, ap, sym, ◌∙◌, arith, ◌⊎◌, inl, inr}
+use Rattle.std.proofs.Math.Seq.{take-length}
 use Rattle.std.proofs.lemmas.List.{take-append-le}
 use Rattle.std.proofs.lemmas.List.Sums.{fold-append}
-use Rattle.std.proofs.lemmas.List.{append-nil, length_push}
+use Rattle.std.proofs.lemmas.List.{length_push}
 use Rattle.txc_tags.specs.declared.tag.Tag.{Tag}
 use Rattle.txc_tags.specs.Tags.{sets_match}
 use Rattle.txc_rows.specs.declared.query.Query.{Query}
-use Rattle.txc_rows.specs.States.{State, IsState, answer, after_changes}
+use Rattle.txc_rows.specs.States.{State, IsState, answer}
 use Rattle.txc_rows.specs.RowTags.{covers_query, tags_between}
 use Rattle.txc_rows.specs.Laws.{ChangedIsState, TagsAreSound, NoTagsBetween}
 use Rattle.txc_db.specs.Facts.{Fact, commit, pin, EventValue}
-use Rattle.txc_db.specs.History.{History, after_fact, after_event, state_at, tags_at, event_at, AreTagged, moment_at, moment_of, pinned_moment}
+use Rattle.txc_db.specs.History.{History, after_fact, after_event, state_at, tags_at, AreTagged, moment_at, moment_of, pinned_moment}
 
 -- ---- states
 

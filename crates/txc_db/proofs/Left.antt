@@ -1,5 +1,5 @@
 -- What a refusal leaves where a call looked before it did anything.
-use Rattle.std.proofs.Common.{◌≡◌, inl, ℕ, refl}
+use Rattle.std.proofs.Common.{inl, ℕ, refl}
 use Rattle.txc_db.specs.declared.error.DbError.{DbError}
 use Rattle.txc_db.specs.declared.error.DbError.TheVariants.{SnapshotGone, Conflict, Full, Store, Broken, NotPinned, FutureStamp, HoldsFull, Memory}
 use Rattle.txc_db.specs.DatabaseValue.{DatabaseValue}

@@ -1,5 +1,5 @@
 -- The rows that net changes find, and the tags of a commit.
-use Rattle.std.proofs.Common.{◌≡◌, ◌⊎◌, inl, inr, ℕ, zero, suc, ◌+◌, List, [], ◌∷◌, ◌++◌, filter, take, Bool, true, false, true≢false, cond, ◌&&◌, ◌==◌, slice_get, Some, refl, sym, ap, subst, ◌∙◌, eqb-true, add-one}
+use Rattle.std.proofs.Common.{◌≡◌, ◌⊎◌, inl, inr, ℕ, zero, suc, ◌+◌, List, [], ◌∷◌, ◌++◌, filter, take, Bool, true, false, cond, slice_get, Some, refl, sym, ap, subst, ◌∙◌, eqb-true, add-one}
 use Rattle.std.specs.List.{AllByRecursion, list_any, flat_map}
 use Rattle.txc_tags.specs.declared.tag.Tag.{Tag}
 use Rattle.txc_tags.specs.Tags.{with_tags, set_of}
@@ -8,7 +8,7 @@ use Rattle.txc_rows.specs.declared.query.Query.TheVariants.{ById}
 use Rattle.txc_rows.specs.Members.{IsIn}
 use Rattle.txc_rows.specs.States.{RowValue, State, IsState, row_before, is_at, answer, after_changes}
 use Rattle.txc_rows.specs.RowTags.{tags_of_row, tags_between}
-use Rattle.txc_rows.specs.Net.{change_table, change_id, same_key, key_before, changes_state, placed, settled, net_changes, KeysRise, IsNet, puts_of, rows_at}
+use Rattle.txc_rows.specs.Net.{change_table, change_id, same_key, key_before, changes_state, placed, settled, net_changes, KeysRise, puts_of, rows_at}
 use Rattle.txc_rows.specs.Laws.{NetTags, NetLeads}
 use Rattle.txc_rows.proofs.Members.{any_there, any_found, both_true, in_filter, from_filter, in_left, in_right}
 use Rattle.txc_rows.proofs.Rising.{same_rows, filter_state}

@@ -1,7 +1,6 @@
 -- Changes that settle, and the tags of their rows.
-use Rattle.std.proofs.Common.{◌≡◌, ℕ, zero, suc, ◌+◌, ◌≤◌, ◌<◌, ◌&&◌, ◌||◌, ◌==◌, inl, inr, true≢false, eqb-true, eq-eqb, ne_eqb, add-one, get_or, slice_get, Some, Bool, true, false, not, List, [], ◌∷◌, ◌++◌, length, take, drop, filter, cond, refl, ap, sym, subst, ◌∙◌, arith, append_assoc}
+use Rattle.std.proofs.Common.{◌≡◌, ℕ, zero, suc, ◌+◌, ◌&&◌, ◌||◌, ◌==◌, inl, inr, true≢false, eqb-true, eq-eqb, ne_eqb, add-one, slice_get, Some, Bool, true, false, not, List, [], ◌∷◌, ◌++◌, length, take, cond, refl, ap, sym, subst, ◌∙◌, arith, append_assoc}
 use Rattle.std.specs.List.{flat_map, insert, list_any}
-use Rattle.std.specs.Str.{bytes_eq}
 use Rattle.txc_tags.specs.declared.tag.Tag.{Tag}
 use Rattle.txc_tags.specs.Tags.{with_tag, with_tags}
 use Rattle.txc_rows.specs.declared.query.Change.{Change}
@@ -11,7 +10,7 @@ use Rattle.txc_rows.specs.States.{RowValue, State, answer, is_at}
 use Rattle.txc_rows.specs.RowTags.{same_row, has_row, tags_of_row}
 use Rattle.txc_rows.proofs.RowTests.{same_row_is, row_itself}
 use Rattle.txc_rows.proofs.Members.{bool_cases, both_true, and_true}
-use Rattle.txc_rows.specs.Net.{change_table, change_id, same_key, key_before, changes_state, placed, puts_of}
+use Rattle.txc_rows.specs.Net.{same_key, key_before, placed, puts_of}
 
 -- ---- where a change belongs
 

@@ -1,8 +1,7 @@
 -- What a database keeps through its calls.
-use Rattle.std.proofs.Common.{◌≡◌, ℕ, zero, suc, ◌+◌, ◌≤◌, ◌<◌, List, [], ◌∷◌, ◌++◌, length, refl, ap, sym, subst, ◌∙◌, arith, add-one}
-use Rattle.std.specs.List.{AllByRecursion}
+use Rattle.std.proofs.Common.{◌≡◌, ℕ, suc, ◌+◌, ◌≤◌, List, [], ◌∷◌, ◌++◌, length, ap, sym, subst, ◌∙◌, arith, add-one}
 use Rattle.std.proofs.lemmas.List.{length_push}
-use Rattle.txc_rows.specs.States.{State, IsState, after_changes}
+use Rattle.txc_rows.specs.States.{after_changes}
 use Rattle.txc_rows.specs.declared.query.Change.{Change}
 use Rattle.txc_rows.specs.declared.version.Versioned.{Versioned}
 use Rattle.txc_rows.specs.Net.{IsNet}
@@ -11,8 +10,8 @@ use Rattle.txc_rows.specs.Keeping.{KeepsStates, KeepsWritten, KeepsPurged, Leads
 use Rattle.txc_rows.specs.Laws.{NoTagsBetween}
 use Rattle.txc_rows.specs.Uses.{KeepsAgreed, KeepsQuiet}
 use Rattle.txc_db.specs.Facts.{Fact, EventValue, commit}
-use Rattle.txc_db.specs.History.{History, state_at, pin_event, after_fact}
-use Rattle.txc_db.specs.DatabaseValue.{DatabaseValue, newest, newest_state, IsSound, IsReadable, Rises, least}
+use Rattle.txc_db.specs.History.{state_at, pin_event, after_fact}
+use Rattle.txc_db.specs.DatabaseValue.{DatabaseValue, newest, newest_state, IsSound, IsReadable, least}
 use Rattle.txc_db.proofs.Histories.{states_stay, state_before, state_pushed, tagged_pushed}
 use Rattle.txc_db.proofs.Holds.{all_push, rises_push, least_low, least_high, readable_later, readable_from}
 

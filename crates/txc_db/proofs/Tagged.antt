@@ -5,7 +5,7 @@ use Rattle.txc_tags.specs.Tags.{sets_match}
 use Rattle.txc_db.specs.Refusals.{NoneMatches}
 use Rattle.txc_tags.specs.declared.tag.Tag.{Tag}
 use Rattle.txc_db.specs.Facts.{EventValue}
-use Rattle.txc_db.specs.History.{History, AreTagged, tags_at, event_at}
+use Rattle.txc_db.specs.History.{History, AreTagged, tags_at}
 
 -- the event at a place has the tags of the stamp after it
 pub tagged_at : (L : History) → AreTagged L → (t : ℕ) (v : EventValue) → slice_get L t ≡ Some v → v.tags ≡ tags_at L (t + 1)

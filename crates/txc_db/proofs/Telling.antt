@@ -1,5 +1,5 @@
 -- What a locked call tells by its numbers, and by the front beside its answer.
-use Rattle.std.proofs.Common.{◌≡◌, ◌≢◌, ◌⊎◌, inl, inr, ℕ, suc, ◌+◌, ◌≤◌, ◌<◌, true, false, List, [], ◌∷◌, ◌++◌, length, Some, slice_get, refl, ap, sym, subst, ◌∙◌, arith, add-one}
+use Rattle.std.proofs.Common.{◌≡◌, ◌≢◌, ◌⊎◌, inl, inr, ℕ, ◌+◌, ◌≤◌, ◌<◌, List, [], ◌∷◌, ◌++◌, length, Some, refl, ap, sym, subst, ◌∙◌, arith, add-one}
 use Rattle.std.specs.Prelude.{Result, Ok, Err, IfOk, OnOk, IfErr, IsOk}
 use Rattle.std.specs.Result.{IsErrAnd}
 use Rattle.std.proofs.lemmas.List.{length_push}
@@ -23,11 +23,11 @@ use Rattle.txc_db.specs.declared.database.Told.{Told}
 use Rattle.txc_db.specs.declared.database.CommitError.{CommitError}
 use Rattle.txc_db.specs.declared.database.CommitError.TheVariants as commits
 use Rattle.txc_db.specs.Facts.{EventValue}
-use Rattle.txc_db.specs.History.{History, state_at, tags_at, event_at, commit_event}
+use Rattle.txc_db.specs.History.{History, state_at, event_at, commit_event}
 use Rattle.txc_db.specs.DatabaseValue.{DatabaseValue, newest, newest_state}
 use Rattle.txc_db.specs.Refusals.{NoneMatches, IsConflict, IsOwn}
-use Rattle.txc_db.specs.Calls.{IsLeft, IsStoreRefused, IsQueryRefused, IsHoldRefused, IsUnpinRefused, IsVacuumRefused, IsPinRefused, IsPinnable, IsCommittable, IsCommitRefused, IsBase, IsBaseRefused}
-use Rattle.txc_db.specs.Told.{IsQuietIn, IsEventIn, IsStoreCause, MayRefuseQuery, MayRefuseHold, MayRefuseUnpin, MayRefuseVacuum, MayRefusePin, MayRefuseChanges, MayRefuseCommit, IsLockedLeft, IsCommitLeft, IsToldRefusal, IsToldConflict, IsLockedCommitRefused}
+use Rattle.txc_db.specs.Calls.{IsLeft, IsStoreRefused, IsQueryRefused, IsHoldRefused, IsUnpinRefused, IsVacuumRefused, IsPinRefused, IsCommittable, IsCommitRefused, IsBaseRefused}
+use Rattle.txc_db.specs.Told.{IsQuietIn, IsEventIn, IsStoreCause, MayRefuseQuery, MayRefuseHold, MayRefuseUnpin, MayRefuseVacuum, MayRefusePin, MayRefuseChanges, MayRefuseCommit, IsLockedLeft, IsCommitLeft, IsToldRefusal, IsLockedCommitRefused}
 use Rattle.txc_db.proofs.Histories.{state_before, tags_stay}
 
 -- ---- answers

@@ -1,20 +1,12 @@
 -- Why calls of the database are refused.
-use Rattle.std.specs.Prelude.{◌≡◌, ◌≢◌, ⊤, ℕ, ◌+◌, ◌<◌, ◌≤◌, true, false, List, [], length, filter}
-use Rattle.std.specs.List.{list_any}
+use Rattle.std.specs.Prelude.{◌≡◌, ⊤, ℕ, ◌<◌, ◌≤◌, true, false, List, length}
 use Rattle.txc_tags.specs.declared.tag.Tag.{Tag}
 use Rattle.txc_tags.specs.Tags.{sets_match}
-use Rattle.txc_rows.specs.declared.query.Change.{Change}
-use Rattle.txc_rows.specs.declared.query.Query.{Query}
-use Rattle.txc_rows.specs.declared.query.Query.TheVariants.{ById}
 use Rattle.txc_rows.specs.declared.store_error.StoreError.{StoreError}
 use Rattle.txc_rows.specs.declared.store_error.StoreError.TheVariants as store
-use Rattle.txc_rows.specs.Net.{change_table, change_id, net_changes}
-use Rattle.txc_rows.specs.Members.{IsIn}
-use Rattle.txc_rows.specs.Versions.{suits}
 use Rattle.txc_db.specs.declared.error.DbError.{DbError}
 use Rattle.txc_db.specs.declared.error.DbError.TheVariants as refusals
-use Rattle.txc_db.specs.History.{History, state_at, tags_at}
-use Rattle.txc_db.specs.DatabaseValue.{DatabaseValue, newest, most_holds}
+use Rattle.txc_db.specs.History.{History, tags_at}
 
 -- what a refusal of the store is to the database's caller
 abbrev pub IsRefusalOf : StoreError → DbError → Type 0

@@ -1,6 +1,5 @@
 -- What a feed has shown so far.
-use Rattle.std.specs.Prelude.{ℕ, List, refl}
-use Rattle.std.specs.Coded.{Coded, code_by, coded×, coded_ℕ, coded_list}
+use Rattle.std.specs.Prelude.{ℕ}
 use Rattle.txc_db.specs.History.{History}
 
 -- the events that it has seen, and how many of them were taken

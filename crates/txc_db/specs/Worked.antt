@@ -1,5 +1,5 @@
 -- A history worked by hand: put the id 7 in group 2 of table 1, pin 1000, put the id 8 there, pin 2000.
-use Rattle.std.specs.Prelude.{◌≡◌, ℕ, List, [], ◌∷◌, Some, None}
+use Rattle.std.specs.Prelude.{◌≡◌, ℕ, [], ◌∷◌, Some, None}
 use Rattle.txc_tags.specs.declared.tag.Tag.TheVariants.{Id, Group}
 use Rattle.txc_rows.specs.declared.query.Query.TheVariants.{ById, ByGroup}
 use Rattle.txc_rows.specs.declared.query.Change.TheVariants.{Put, Remove}

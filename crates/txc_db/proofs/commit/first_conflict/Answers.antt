@@ -1,8 +1,7 @@
-use Rattle.std.proofs.Common.{◌≡◌, ◌+◌, ◌<◌, ◌≤◌, ℕ, length, ap, sym, ◌∙◌, arith, true, false, Bool}
+use Rattle.std.proofs.Common.{◌≡◌, ◌+◌, ◌≤◌, ap, sym, ◌∙◌, arith}
 use Rattle.txc_tags.specs.Tags.{sets_match}
 use Rattle.txc_db.specs.Facts.{EventValue}
 use Rattle.txc_db.specs.History.{tags_at}
-use Rattle.txc_db.specs.Refusals.{IsConflict, NoneMatches}
 use Rattle.txc_db.proofs.Tagged.{tagged_at, none_more}
 use Rattle.txc_db.proofs.commit.first_conflict.Goals as goal
 

@@ -1,4 +1,4 @@
-use Rattle.std.proofs.Common.{◌≡◌, ap, sym, ◌∙◌, not, length, ◌==◌, ℕ, List, subst}
+use Rattle.std.proofs.Common.{◌≡◌, ap, sym, ◌∙◌, not, length, ◌==◌, List}
 use Rattle.std.specs.List.{list_any}
 use Rattle.txc_rows.specs.Values.{RowValue}
 use Rattle.txc_rows.specs.States.{answer}

@@ -1,4 +1,4 @@
-use Rattle.std.proofs.Common.{◌≡◌, slice_get, Some, sym, ◌∙◌}
+use Rattle.std.proofs.Common.{◌≡◌, slice_get, Some, sym}
 use Rattle.txc_db.proofs.Holds.{least_first}
 use Rattle.txc_db.proofs.state.least_held.Goals as goal
 

@@ -1,5 +1,3 @@
-use Rattle.std.proofs.Common.{ap, ◌∙◌, ◌+◌}
-use Rattle.txc_db.specs.History.{tags_at}
 use Rattle.txc_db.proofs.Tagged.{tagged_at}
 use Rattle.txc_db.proofs.feed.Feed.next_event.Goals as goal
 

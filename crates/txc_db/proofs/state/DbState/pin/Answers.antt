@@ -1,7 +1,7 @@
 use Rattle.std.proofs.Common.{◌≡◌, ◌+◌, List, [], ◌∷◌, ◌++◌, ℕ, length, ap, sym, subst, ◌∙◌}
 use mathlib.Core.List.{IsPrefix}
 use Rattle.txc_stream.proofs.Prefix.{prefix_push, longer_is}
-use Rattle.txc_db.specs.Facts.{EventValue, pin}
+use Rattle.txc_db.specs.Facts.{EventValue}
 use Rattle.txc_db.specs.History.{History, pin_event}
 use Rattle.txc_db.proofs.Sound.{pin_sound}
 use Rattle.txc_db.proofs.state.DbState.pin.Goals as goal

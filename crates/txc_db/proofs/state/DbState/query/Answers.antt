@@ -1,6 +1,5 @@
-use Rattle.std.proofs.Common.{◌≡◌, ◌≤◌, ℕ, length, ap, sym, subst, ◌∙◌, List}
+use Rattle.std.proofs.Common.{◌≡◌, ℕ, length, sym, subst, ◌∙◌, List}
 use Rattle.txc_rows.specs.declared.version.Versioned.{Versioned}
-use Rattle.txc_rows.specs.States.{answer}
 use Rattle.txc_rows.specs.Versions.{AreVersions}
 use Rattle.txc_rows.specs.Keeping.{ShowsAnswers}
 use Rattle.txc_validity.specs.Answers.{IsAnswer}

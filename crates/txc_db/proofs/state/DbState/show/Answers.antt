@@ -1,4 +1,4 @@
-use Rattle.std.proofs.Common.{◌≡◌, sym, ◌∙◌, ap, subst}
+use Rattle.std.proofs.Common.{sym, ◌∙◌, ap, subst}
 use mathlib.Core.List.{IsPrefix}
 use Rattle.txc_stream.proofs.Prefix.{longer_is}
 use Rattle.txc_db.specs.DatabaseValue.{DatabaseValue}

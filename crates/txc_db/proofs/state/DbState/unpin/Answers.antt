@@ -1,4 +1,3 @@
-use Rattle.std.proofs.Common.{◌∙◌}
 use Rattle.txc_db.proofs.Holds.{unpin_sound}
 use Rattle.txc_db.proofs.state.DbState.unpin.Goals as goal
 
