@@ -97,11 +97,15 @@ fn events(core: &DbCore, alloc: Global) -> Result<usize, Fail> {
 // Put 1 7 2 a, pin 1000, put 1 8 2 b, pin 2000.
 fn worked(alloc: Global) -> Result<DbCore, Fail> {
     let mut core = empty(alloc, 16)?;
-    commit(&mut core, alloc, put(alloc, 7, b'a')?)??;
-    let _first = pin(&mut core, alloc, 1000, 0)??;
-    commit(&mut core, alloc, put(alloc, 8, b'b')?)??;
-    let _second = pin(&mut core, alloc, 2000, 0)??;
+    commit_and_pin(&mut core, alloc, put(alloc, 7, b'a')?, 1000)?;
+    commit_and_pin(&mut core, alloc, put(alloc, 8, b'b')?, 2000)?;
     Ok(core)
+}
+
+fn commit_and_pin(core: &mut DbCore, alloc: Global, change: Change, now: u64) -> Result<(), Fail> {
+    commit(core, alloc, change)??;
+    let _pinned = pin(core, alloc, now, 0)??;
+    Ok(())
 }
 
 fn shows(found: &Found, ids: &[u32], lo: u32, known: u32, still: bool, tag: Tag) -> bool {

@@ -228,17 +228,31 @@ fn seen(core: &mut DbCore, alloc: Global) -> Result<String, DbError> {
     for number in horizon as usize..newest + 1 {
         let at = stamp(u32::try_from(number).unwrap_or(0));
         let found = core.query(alloc, &query(Rows::All), at)?;
-        let (lo, known) = (found.reach.lo().number(), found.reach.known().number());
-        let reach = format!(in alloc; "at {number} [{lo},{known}]")?;
-        text.push_str(&reach)?;
-        for row in &found.rows {
-            let (id, group, byte) = (row.id(), row.group(), row.body()[0]);
-            let row = format!(in alloc; " {id} {group} {byte}")?;
-            text.push_str(&row)?;
-        }
-        text.push_str(";")?;
+        push_found(&mut text, alloc, number, &found)?;
     }
     Ok(text)
+}
+
+// The rows of an answer with their reach.
+fn push_found(
+    text: &mut String,
+    alloc: Global,
+    number: usize,
+    found: &Found,
+) -> Result<(), AllocError> {
+    let (lo, known) = (found.reach.lo().number(), found.reach.known().number());
+    let reach = format!(in alloc; "at {number} [{lo},{known}]")?;
+    text.push_str(&reach)?;
+    for row in &found.rows {
+        push_row(text, alloc, row)?;
+    }
+    text.push_str(";")
+}
+
+fn push_row(text: &mut String, alloc: Global, row: &Row) -> Result<(), AllocError> {
+    let (id, group, byte) = (row.id(), row.group(), row.body()[0]);
+    let row = format!(in alloc; " {id} {group} {byte}")?;
+    text.push_str(&row)
 }
 
 // No two allocations are refused.
