@@ -8,13 +8,21 @@ use std::sync::Wait;
 
 /// One who calls a database under its lock, with what each call wants.
 #[derive(Drop)]
-pub(super) struct Caller<'a, J: Naming, R: Wait> {
-    pub(super) rt: &'a R,
-    pub(super) alloc: Global,
-    pub(super) database: &'a Database<J>,
+struct Caller<'a, J: Naming, R: Wait> {
+    rt: &'a R,
+    alloc: Global,
+    database: &'a Database<J>,
 }
 
-impl<J: Naming, R: Wait> Caller<'_, J, R> {
+impl<'a, J: Naming, R: Wait> Caller<'a, J, R> {
+    fn new(rt: &'a R, alloc: Global, database: &'a Database<J>) -> Caller<'a, J, R> {
+        Caller {
+            rt,
+            alloc,
+            database,
+        }
+    }
+
     fn query(&self, query: &Query, number: u32) -> Result<Result<Told<Found>, DbError>, Fail> {
         Ok(
             self.database
@@ -96,11 +104,7 @@ fn worked_queries<J: Naming, R: Wait + Abort>(
     requires { core.row ≡ J.database_row }
 {
     let database = Database::<J>::new(alloc, core)?;
-    let caller = Caller {
-        rt,
-        alloc,
-        database: &database,
-    };
+    let caller = Caller::new(rt, alloc, &database);
     group_queries(&caller)?;
     other_queries(&caller)
 }
@@ -131,11 +135,7 @@ fn worked_commits<J: Naming, R: Wait + Abort>(
     requires { core.row ≡ J.database_row }
 {
     let database = Database::<J>::new(alloc, core)?;
-    let caller = Caller {
-        rt,
-        alloc,
-        database: &database,
-    };
+    let caller = Caller::new(rt, alloc, &database);
     put_and_pin(&caller, 7, b'a', 1000, 1)?;
     put_and_pin(&caller, 8, b'b', 2000, 3)?;
     change_nothing(&caller)?;
@@ -186,11 +186,7 @@ fn worked_refusals<J: Naming, R: Wait + Abort>(
     requires { core.row ≡ J.database_row }
 {
     let database = Database::<J>::new(alloc, core)?;
-    let caller = Caller {
-        rt,
-        alloc,
-        database: &database,
-    };
+    let caller = Caller::new(rt, alloc, &database);
     let beyond = caller.commit_nothing(5)?;
     assert!(rt; is_refused(&beyond, DbError::FutureStamp(stamp(4)?)));
     let early = caller.pin(9000, 6)?;
@@ -205,11 +201,7 @@ fn worked_holds<J: Naming, R: Wait + Abort>(rt: &R, alloc: Global, core: DbCore)
     requires { core.row ≡ J.database_row }
 {
     let database = Database::<J>::new(alloc, core)?;
-    let caller = Caller {
-        rt,
-        alloc,
-        database: &database,
-    };
+    let caller = Caller::new(rt, alloc, &database);
     assert_eq!(rt; database.vacuum(rt), Ok(stamp(2)?));
     let held = database.hold(rt, alloc)?;
     assert!(rt; answers(&held, 4));
@@ -243,11 +235,7 @@ fn row_of_one<J: Naming, R: Wait + Abort>(rt: &R, alloc: Global, core: DbCore) -
     requires { core.row ≡ J.database_row }
 {
     let database = Database::<J>::new(alloc, core)?;
-    let caller = Caller {
-        rt,
-        alloc,
-        database: &database,
-    };
+    let caller = Caller::new(rt, alloc, &database);
     let first = caller.commit(put(alloc, 7, b'a')?)?;
     assert!(rt; answers(&first, 1));
     let full = caller.commit(put(alloc, 8, b'b')?);
@@ -273,11 +261,7 @@ fn foreign_record<J: Naming, R: Wait + Abort>(
 {
     core.append_past(alloc)?;
     let database = Database::<J>::new(alloc, core)?;
-    let caller = Caller {
-        rt,
-        alloc,
-        database: &database,
-    };
+    let caller = Caller::new(rt, alloc, &database);
     let broken = caller.commit(put(alloc, 9, b'c')?);
     assert!(rt; is_refused(&broken, DbError::Broken));
     is_broken_from_now_on(&caller)
@@ -307,11 +291,7 @@ fn foreign_mark<J: Naming, R: Wait + Abort>(rt: &R, alloc: Global, core: DbCore)
     requires { core.row ≡ J.database_row }
 {
     let database = Database::<J>::new(alloc, core)?;
-    let caller = Caller {
-        rt,
-        alloc,
-        database: &database,
-    };
+    let caller = Caller::new(rt, alloc, &database);
     database.mark_past(alloc)?;
     let broken = caller.pin(3000, 0)?;
     assert!(rt; matches!(&broken, Err(DbError::Broken)));
@@ -331,11 +311,7 @@ fn fed_history<J: Naming, R: Wait + Abort>(rt: &R, alloc: Global, core: DbCore) 
     assert!(rt; feeds_put(&mut feed, 7)? && feeds_pin(&mut feed, 1000));
     assert!(rt; feeds_put(&mut feed, 8)? && feeds_pin(&mut feed, 2000));
     assert!(rt; !feed.look());
-    let caller = Caller {
-        rt,
-        alloc,
-        database: &database,
-    };
+    let caller = Caller::new(rt, alloc, &database);
     let _told = caller.commit(put(alloc, 9, b'c')?)?;
     assert!(rt; feeds_put(&mut feed, 9)?);
     assert!(rt; !feed.look());
