@@ -1,28 +1,10 @@
 //! The program: `txcache node` reads a script on standard input and prints the replies.
 #![tactic(auto)]
 
-mod command;
-mod fault;
-mod hex;
-mod laws;
-mod line;
-mod obey;
-mod piece;
-mod reply;
-mod run;
-mod session;
-mod settings;
-#[cfg(test)]
-mod tests;
-mod words;
-mod writer;
-
-use fault::{RunFault, Status};
-use run::{Mode, run};
-use settings::Settings;
 use std::env::{self, Env};
 use std::io;
 use std::process::ExitCode;
+use txc_run::{Mode, Settings, exit_of, run};
 
 fn main(rt: HostRuntime) -> ExitCode {
     let mode = match read_arguments(&rt) {
@@ -32,19 +14,17 @@ fn main(rt: HostRuntime) -> ExitCode {
     };
     let mut reader = rt.reader();
     let mut writer = io::writer(&rt);
-    match run(
+    let ended = run(
         rt.alloc(),
         mode,
         Settings::DEFAULT,
         &mut reader,
         &mut writer,
-    ) {
-        Ok(Status::Done) => ExitCode::SUCCESS,
-        Ok(Status::Refused) => ExitCode::from(1),
-        Err(RunFault::Read) => end(&rt, "read fault", 4),
-        Err(RunFault::Write) => end(&rt, "write fault", 4),
-        Err(RunFault::Memory) => end(&rt, "memory", 5),
+    );
+    if let Err(fault) = ended {
+        let _ = rt.eprintln(fault);
     }
+    ExitCode::from(exit_of(ended))
 }
 
 /// The mode that the command line names, where it is one mode's name alone. An error is want of

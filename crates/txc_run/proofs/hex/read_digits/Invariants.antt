@@ -1,0 +1,13 @@
+use Rattle.std.proofs.Common.{◌≡◌, ◌++◌, length}
+use Rattle.std.specs.List.{flat_map}
+use Rattle.txc_run.specs.Hex.{digits_of, IsBytes}
+use Rattle.txc_run.proofs.hex.read_digits.Given as goal
+
+abbrev pub invariant-digits : goal.invariant-digits
+invariant-digits l = record {
+  bytes : IsBytes l.bytes.items;
+  read : l.fn.text ≡ flat_map digits_of l.bytes.items ++ l.rest;
+}
+
+abbrev pub decreases-digits : goal.decreases-digits
+decreases-digits l = length l.rest

@@ -1,0 +1,92 @@
+-- A run in progress.
+use Rattle.std.specs.Prelude.{◌≡◌, ℕ, ◌+◌, Bool, ◌||◌, true, false, List, [], ◌++◌, Result, Ok, Err, length, take, string_bytes}
+use Rattle.std.specs.List.{list_any}
+use Rattle.std.specs.declared.alloc.AllocError.{AllocError}
+use Rattle.txc_node.specs.Cache.{Cache}
+use Rattle.txc_run.specs.Script.{BeginsWithLines, HasNoEnd, AreLinesOf}
+use Rattle.txc_run.specs.Runs.{Given, Gives, AreGiven, Answers, given_text, output_of, is_refused, is_malformed}
+use Rattle.txc_run.specs.declared.session.Session.{Session}
+use Rattle.txc_run.specs.declared.session.Flow.{Flow}
+use Rattle.txc_run.specs.declared.session.Flow.TheVariants.{GoesOn, Stopped}
+
+-- how much of a line is kept
+abbrev pub kept_of : List ℕ → List ℕ
+kept_of line = take 4097 line
+
+-- whether the run goes on behind a line that gives this
+abbrev pub flow_of : Bool → Flow
+flow_of false = GoesOn
+flow_of true = Stopped
+
+-- the line that ended was answered
+pub record AnswersLine (old new : Session) (flow : Flow) : Type 0 where
+  pub given : Given
+  pub gives : Gives old.node (old.lines + 1) old.line given new.node
+  pub text : string_bytes new.output ≡ string_bytes old.output ++ given_text given
+  pub refused : new.is_refused ≡ (old.is_refused || is_refused given)
+  pub flow_is : flow ≡ flow_of (is_malformed given)
+  pub emptied : new.line ≡ []
+  pub count : new.lines ≡ old.lines + 1
+
+-- the lines that have ended were answered, and none was malformed; these bytes were written, and the rest
+-- of the replies is at hand
+pub record Heard (start : Cache) (read written : List ℕ) (s : Session) : Type 0 where
+  pub lines : List (List ℕ)
+  pub given : List Given
+  pub rest : List ℕ
+  pub are_given : AreGiven start 1 lines given s.node
+  pub begins : BeginsWithLines read lines rest
+  pub not_ended : HasNoEnd rest
+  pub kept : s.line ≡ kept_of rest
+  pub text : written ++ string_bytes s.output ≡ output_of given
+  pub count : s.lines ≡ length lines
+  pub refused : s.is_refused ≡ list_any is_refused given
+  pub well_formed : list_any is_malformed given ≡ false
+
+-- first lines were answered, and the last of them was malformed
+pub record IsStopped (start : Cache) (read written : List ℕ) (s : Session) : Type 0 where
+  pub lines : List (List ℕ)
+  pub given : List Given
+  pub others : List ℕ
+  pub answers : Answers start lines given
+  pub begins : BeginsWithLines read lines others
+  pub text : written ++ string_bytes s.output ≡ output_of given
+  pub refused : s.is_refused ≡ list_any is_refused given
+  pub malformed : list_any is_malformed given ≡ true
+
+-- first lines were answered, as far as there was memory
+pub record IsHalted (start : Cache) (read written : List ℕ) (s : Session) : Type 0 where
+  pub lines : List (List ℕ)
+  pub given : List Given
+  pub others : List ℕ
+  pub answers : Answers start lines given
+  pub begins : BeginsWithLines read lines others
+  pub text : written ++ string_bytes s.output ≡ output_of given
+
+-- all lines of the script were answered
+pub record HasEnded (start : Cache) (read written : List ℕ) (s : Session) : Type 0 where
+  pub lines : List (List ℕ)
+  pub given : List Given
+  pub answers : Answers start lines given
+  pub all : AreLinesOf read lines
+  pub text : written ++ string_bytes s.output ≡ output_of given
+  pub refused : s.is_refused ≡ list_any is_refused given
+
+-- bytes were heard: the session goes on, or was stopped by a malformed line, or halted for want of
+-- memory
+abbrev pub HearsAs : Cache → List ℕ → List ℕ → Session → Result Flow AllocError → Type 0
+HearsAs start read written s (Ok GoesOn) = Heard start read written s
+HearsAs start read written s (Ok Stopped) = IsStopped start read written s
+HearsAs start read written s (Err e) = IsHalted start read written s
+
+-- the end of the script was heard, or memory was wanted
+abbrev pub EndsAs : {T : Type 0} → Cache → List ℕ → List ℕ → Session → Result T AllocError → Type 0
+EndsAs start read written s (Ok x) = HasEnded start read written s
+EndsAs start read written s (Err e) = IsHalted start read written s
+
+-- all but the replies at hand stay as they were
+pub record IsKeptBeside (old new : Session) : Type 0 where
+  pub node : new.node ≡ old.node
+  pub lines : new.lines ≡ old.lines
+  pub refused : new.is_refused ≡ old.is_refused
+  pub line : new.line ≡ old.line

@@ -1,0 +1,66 @@
+//! The lines of a script.
+ghost use Rattle.std.specs.Prelude.{◌≡◌, ◌≤◌, ◌↔◌, true, false, IsTrue, All, IfOk};
+ghost use Rattle.txc_run.specs.Lines.{IsPlain, IsBlankOrComment};
+ghost use Rattle.txc_run.specs.Reading.{IsLine};
+
+use crate::command::{Command, read_command};
+use std::alloc::{AllocError, Global};
+
+/// The most bytes of a line, its line feed not counted.
+pub const MOST_BYTES: usize = 4_096;
+
+/// What a line is.
+#[derive(Debug, Drop)]
+pub enum Line {
+    /// Empty, or a comment. It has no reply.
+    Quiet,
+    /// A command.
+    Command(Command),
+    /// Neither, or too long, or with a byte outside 0x20 to 0x7E.
+    Malformed,
+}
+
+/// Whether each byte is one of a script's.
+fn are_plain(bytes: &[u8]) -> bool
+    ensures { IsTrue result ↔ All (λ b. (32 ≤ b) × (b ≤ 126)) bytes.now }
+{
+    bytes.iter().all(|b| *b >= 0x20 && *b <= 0x7e)
+}
+
+/// Whether the bytes are few enough and each is one of a script's.
+fn is_plain(bytes: &[u8]) -> bool
+    ensures plain { result ≡ true → IsPlain bytes.now }
+    ensures other { result ≡ false → IsPlain bytes.now → ⊥ }
+{
+    if bytes.len() > MOST_BYTES {
+        return false;
+    }
+    are_plain(bytes)
+}
+
+/// Whether the line is empty or a comment.
+fn is_quiet(bytes: &[u8]) -> bool
+    ensures quiet { result ≡ true → IsBlankOrComment bytes.now }
+    ensures other { result ≡ false → IsBlankOrComment bytes.now → ⊥ }
+{
+    match bytes.split_first() {
+        None => true,
+        Some((first, _)) => *first == b'#',
+    }
+}
+
+/// Reads a line, without its line feed.
+pub fn read_line(alloc: Global, bytes: &[u8]) -> Result<Line, AllocError>
+    ensures { IfOk result (λ line. IsLine bytes.now line) }
+{
+    if !is_plain(bytes) {
+        return Ok(Line::Malformed);
+    }
+    if is_quiet(bytes) {
+        return Ok(Line::Quiet);
+    }
+    match read_command(alloc, bytes)? {
+        Some(command) => Ok(Line::Command(command)),
+        None => Ok(Line::Malformed),
+    }
+}

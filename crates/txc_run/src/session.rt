@@ -1,0 +1,180 @@
+//! A run in progress: a node, and the lines and replies so far.
+ghost use Rattle.std.specs.Prelude.{◌≡◌, ℕ, ◌+◌, ◌^◌, ◌<◌, ◌≤◌, List, [], ◌∷◌, ◌++◌, ◌||◌, length, if◌then◌else◌, string_bytes, Err, IfOk, OnOk, OnErr};
+ghost use Rattle.std.specs.Io.KnownBytes.{Appends};
+ghost use Rattle.txc_node.specs.Cache.{Cache, empty_cache};
+ghost use Rattle.txc_run.specs.Script.{HasNoEnd};
+ghost use Rattle.txc_run.specs.Written.{AppendsFront};
+ghost use Rattle.txc_run.specs.Sessions.{AnswersLine, Heard, HearsAs, EndsAs, IsKeptBeside};
+
+use crate::fault::{RunFault, Status};
+use crate::line::{Line, read_line};
+use crate::obey::obey;
+use crate::piece::{LineStart, cut_line};
+use crate::settings::Settings;
+use crate::writer::write_text;
+use std::alloc::{AllocError, Global};
+use std::io::Write;
+use txc_node::NodeCore;
+
+/// Whether a run goes on behind a line.
+#[derive(Clone, Copy, Debug, PartialEq, Eq)]
+pub enum Flow {
+    GoesOn,
+    /// A malformed line was read.
+    Stopped,
+}
+
+/// A run in progress.
+#[derive(Debug, Drop)]
+pub struct Session {
+    node: NodeCore,
+    /// How many lines were read.
+    lines: u64,
+    /// Whether a line was refused or malformed.
+    is_refused: bool,
+    /// What is known of the line that has not ended.
+    line: LineStart,
+    /// The texts of replies that are not written yet.
+    output: String,
+}
+
+fn either(a: bool, b: bool) -> bool
+    ensures { result ≡ (a || b) }
+{
+    a || b
+}
+
+impl Session {
+    pub fn new(alloc: Global, settings: Settings) -> Result<Session, AllocError>
+        ensures heard { IfOk result
+            (λ s. Heard (empty_cache settings.capacity settings.recent) [] [] s) }
+        ensures none_at_hand { IfOk result (λ s. string_bytes s.output ≡ []) }
+        ensures none_read { IfOk result (λ s. s.lines ≡ 0) }
+    {
+        let line = LineStart::new(alloc)?;
+        let node = NodeCore::new(alloc, settings.capacity(), settings.recent())?;
+        Ok(Session {
+            node,
+            lines: 0,
+            is_refused: false,
+            line,
+            output: String::new(alloc),
+        })
+    }
+
+    pub fn status(&self) -> Status
+        ensures { result ≡ (if self.now.is_refused then Status.Refused else Status.Done) }
+    {
+        if self.is_refused {
+            Status::Refused
+        } else {
+            Status::Done
+        }
+    }
+
+    /// Answers the line that has ended.
+    fn answer_line(&mut self, alloc: Global) -> Result<Flow, AllocError>
+        requires { self.old.lines + 1 < 2 ^ 64 }
+        ensures answered { IfOk result (AnswersLine self.old self.new) }
+        ensures no_reply { OnErr result
+            (string_bytes self.new.output ≡ string_bytes self.old.output) }
+        ensures counted { self.new.lines ≡ self.old.lines + 1 }
+    {
+        self.lines += 1;
+        let line = read_line(alloc, self.line.bytes())?;
+        self.line.clear();
+        match line {
+            Line::Quiet => Ok(Flow::GoesOn),
+            Line::Command(command) => {
+                let reply = obey(alloc, &mut self.node, command)?;
+                self.output.push_str(reply.text.as_str())?;
+                self.is_refused = either(self.is_refused, reply.is_refusal);
+                Ok(Flow::GoesOn)
+            }
+            Line::Malformed => {
+                let number = self.lines;
+                let text = format!(in alloc; "line {number}: malformed\n")?;
+                self.output.push_str(text.as_str())?;
+                self.is_refused = true;
+                Ok(Flow::Stopped)
+            }
+        }
+    }
+
+    /// Answers the line that ends behind these bytes.
+    fn hear_line(&mut self, alloc: Global, front: &[u8]) -> Result<Flow, AllocError>
+        requires count { self.old.lines + 1 < 2 ^ 64 }
+        requires no_end { HasNoEnd front.now }
+        ensures counted { self.new.lines ≤ self.old.lines + 1 }
+        ensures heard { (start : Cache) (read written : List ℕ) → Heard start read written self.old
+            → HearsAs start (read ++ (front.now ++ 10 ∷ [])) written self.new result }
+    {
+        match self.line.add(front) {
+            Ok(()) => self.answer_line(alloc),
+            Err(e) => Err(e),
+        }
+    }
+
+    /// A line goes on with these bytes.
+    fn hear_rest(&mut self, rest: &[u8]) -> Result<Flow, AllocError>
+        requires { HasNoEnd rest.now }
+        ensures counted { self.new.lines ≡ self.old.lines }
+        ensures heard { (start : Cache) (read written : List ℕ) → Heard start read written self.old
+            → HearsAs start (read ++ rest.now) written self.new result }
+    {
+        match self.line.add(rest) {
+            Ok(()) => Ok(Flow::GoesOn),
+            Err(e) => Err(e),
+        }
+    }
+
+    /// Answers the lines that end in these bytes.
+    pub fn hear(&mut self, alloc: Global, bytes: &[u8]) -> Result<Flow, AllocError>
+        requires { self.old.lines + length bytes.now < 2 ^ 64 }
+        ensures counted { self.new.lines ≤ self.old.lines + length bytes.now }
+        ensures heard { (start : Cache) (read written : List ℕ) → Heard start read written self.old
+            → HearsAs start (read ++ bytes.now) written self.new result }
+    {
+        let mut rest = bytes;
+        'lines: loop {
+            match cut_line(rest) {
+                Some((front, behind)) => match self.hear_line(alloc, front) {
+                    Ok(Flow::GoesOn) => rest = behind,
+                    Ok(Flow::Stopped) => return Ok(Flow::Stopped),
+                    Err(e) => return Err(e),
+                },
+                None => return self.hear_rest(rest),
+            }
+        }
+    }
+
+    /// Answers the last line, where its line feed is missing.
+    pub fn hear_end(&mut self, alloc: Global) -> Result<(), AllocError>
+        requires { self.old.lines + 1 < 2 ^ 64 }
+        ensures { (start : Cache) (read written : List ℕ) → Heard start read written self.old
+            → EndsAs start read written self.new result }
+    {
+        if self.line.is_empty() {
+            return Ok(());
+        }
+        match self.answer_line(alloc) {
+            Ok(_) => Ok(()),
+            Err(e) => Err(e),
+        }
+    }
+
+    /// Writes the replies that are not written yet.
+    pub fn write_out<W: Write>(&mut self, writer: &mut W) -> Result<(), RunFault>
+        ensures written { OnOk result
+            (Appends (W.contents writer.old) (W.contents writer.new) (string_bytes self.old.output)) }
+        ensures emptied { OnOk result (string_bytes self.new.output ≡ []) }
+        ensures fault { OnErr result
+            (AppendsFront (W.contents writer.old) (W.contents writer.new) (string_bytes self.old.output)) }
+        ensures only_write { OnErr result (result ≡ Err RunFault.Write) }
+        ensures others { IsKeptBeside self.old self.new }
+    {
+        write_text(writer, self.output.as_bytes())?;
+        self.output.clear();
+        Ok(())
+    }
+}

@@ -1,9 +1,0 @@
-use Rattle.std.proofs.Common.{sym}
-use Rattle.txcache.proofs.Cuts.{cut_at, no_cut}
-use Rattle.txcache.proofs.piece.cut_line.Goals as goal
-
-pub returns-in-Some-clause-some : goal.returns-in-Some-clause-some
-returns-in-Some-clause-some c = let cut = cut_at 10 c.args.bytes.now c.in-Some.i (sym c.in-Some.ensures) in (cut.joined, cut.not_before)
-
-pub returns-in-None-clause-none : goal.returns-in-None-clause-none
-returns-in-None-clause-none c = no_cut 10 c.args.bytes.now (sym c.in-None.ensures)
