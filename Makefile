@@ -1,9 +1,11 @@
 # make run SCRIPT=FILE: the replies of `txcache node` to a script.
-# make test: every proof and every test.
-# make edits: the wrong bodies that `make test` leaves out for its time.
+# make test: every proof, every test, and the wrong bodies that break a cache.
+# make edits [CRATE=NAME]: the wrong bodies that `make test` leaves out for its time.
+# make refusals [TEST=NAME]: every allocation of the tests and of the program, refused in its turn.
+# make docs: the parts of the documents and of the tests that are made by script.
 SCRIPT ?= examples/page.txc
 
-.PHONY: run build test edits
+.PHONY: run build test edits refusals docs
 
 run: build
 	crates/txcache/out/txcache node <$(SCRIPT)
@@ -12,7 +14,16 @@ build:
 	cd crates/txcache && rt run -- node <stdin >/dev/null
 
 test:
-	rt ci
+	scripts/docs.py --check
+	scripts/examples.py --check
+	RT_JOBS=$$(nproc) rt ci
 
 edits:
-	bench/edits.sh
+	scripts/edits.sh $(CRATE)
+
+refusals:
+	scripts/refusals.sh $(TEST)
+
+docs:
+	scripts/docs.py
+	scripts/examples.py
