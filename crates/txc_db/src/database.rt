@@ -223,6 +223,12 @@ impl<J: Naming> Database<J> {
         &self.events
     }
 
+    /// The row of the marks that the feeds read. Whoever appends to it breaks the database; tests do. No clause
+    /// names this row: nothing that callers see has a name for it.
+    pub fn marks(&self) -> &EventRow<Mark<J>> {
+        &self.marks
+    }
+
     /// A front of the history that shows nothing yet. It takes no lock.
     pub fn reader(&self, alloc: Global) -> Result<Front<Event>, AllocError>
         ensures { IfOk result (λ front. (front.row ≡ J.database_row) × (front.list ≡ [])) }
@@ -371,17 +377,5 @@ fn told_refusal(refusal: DbError, front: Front<Event>) -> CommitError
     match refusal {
         DbError::Conflict(answer) => CommitError::Conflict(Told { answer, front }),
         _ => CommitError::Database(refusal),
-    }
-}
-
-#[cfg(test)]
-impl<J: Naming> Database<J> {
-    // Leaves a second mark past the lock, as no call does.
-    pub(crate) fn mark_past(&self, alloc: Global) -> Result<(), AllocError> {
-        let mut marked = self.marks.start(alloc)?;
-        let _first = self.marks.next(&mut marked);
-        let mark = Box::new(alloc, Mark::new(self.reader(alloc)?))?;
-        let _added = self.marks.append(&mut marked, mark);
-        Ok(())
     }
 }

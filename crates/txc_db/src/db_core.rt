@@ -147,6 +147,14 @@ impl DbCore {
         self.state.vacuum()
     }
 
+    /// The row of the events. Whoever appends to it breaks the database; tests do.
+    pub fn row(&self) -> &EventRow<Event>
+        ensures { result.now ≡ self.now.row }
+    {
+        let _state = &self.state;
+        &self.row
+    }
+
     /// A front of the history that shows nothing yet.
     pub fn reader(&self, alloc: Global) -> Result<Front<Event>, AllocError>
         ensures { IfOk result (λ front. (front.row ≡ self.now.row) × (front.list ≡ [])) }
@@ -160,19 +168,5 @@ impl DbCore {
         ensures { IfOk result (λ front. (front.row ≡ self.now.row) × (front.list ≡ self.now.history)) }
     {
         self.state.front(&self.row, alloc)
-    }
-}
-
-#[cfg(test)]
-impl DbCore {
-    // Appends past the database, as no call does.
-    pub(crate) fn append_past(&self, alloc: Global) -> Result<(), AllocError> {
-        let mut front = self.front(alloc)?;
-        let event = Event {
-            what: crate::event::What::Pin(0),
-            tags: TagSet::new(alloc),
-        };
-        let _added = self.row.append(&mut front, Box::new(alloc, event)?);
-        Ok(())
     }
 }

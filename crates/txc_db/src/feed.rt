@@ -38,7 +38,7 @@ unsafe impl<J: Naming + Sync> Sync for Mark<J> {}
 
 impl<J: Naming> Mark<J> {
     /// Marks the events that the front shows.
-    pub(crate) fn new(front: Front<Event>) -> Mark<J>
+    pub fn new(front: Front<Event>) -> Mark<J>
         requires named { front.row ≡ J.database_row }
         requires tagged { AreTagged front.list }
         ensures { result ≡ front.list }

@@ -22,6 +22,3 @@ pub use laws::{one_hold_less, pins_change_nothing, states_stay, tags_are_sound, 
 pub use naming::Naming;
 pub use pinned::Pinned;
 pub use state::MAX_HOLDS;
-
-#[cfg(test)]
-mod tests;

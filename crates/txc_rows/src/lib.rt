@@ -18,6 +18,3 @@ pub use store::VersionRows;
 pub use store_error::StoreError;
 pub use store_laws::{versions_answer, versions_keep_states};
 pub use version::Versioned;
-
-#[cfg(test)]
-mod tests;

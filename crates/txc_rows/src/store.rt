@@ -94,12 +94,10 @@ impl VersionRows {
         delete_dead(&mut self.conn, horizon)?;
         Ok(())
     }
-}
 
-#[cfg(test)]
-impl VersionRows {
-    /// Limits the steps of each later statement of the store, or takes the limit away.
-    pub(crate) fn set_step_limit(&mut self, limit: Option<u64>)
+    /// Limits the steps of each later statement of the store, or takes the limit away. It is for tests: it stops a
+    /// statement in the middle, with an error of the store, and nothing of that call is left written.
+    pub fn set_step_limit(&mut self, limit: Option<u64>)
         ensures { self.new ≡ self.old }
     {
         self.conn.set_step_limit(limit);

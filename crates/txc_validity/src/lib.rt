@@ -7,8 +7,6 @@
 mod answer;
 mod error;
 mod laws;
-#[cfg(test)]
-mod tests;
 
 pub use answer::{Found, answer_at, rows_at};
 pub use error::ValidityError;

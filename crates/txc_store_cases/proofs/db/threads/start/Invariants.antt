@@ -1,5 +1,5 @@
 use Rattle.std.proofs.Common.{[]}
-use Rattle.txc_db.proofs.tests.threads.two_threads_meet_in_one_history.Given as goal
+use Rattle.txc_store_cases.proofs.db.threads.start.Given as goal
 
 -- the row that was just made
 abbrev pub ghosts-two_threads : goal.ghosts-two_threads

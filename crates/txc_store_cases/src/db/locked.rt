@@ -1,0 +1,256 @@
+//! The calls under the lock. Each answers what the database alone answers, with a front that shows
+//! the whole history.
+ghost use Rattle.std.specs.Prelude.{◌≡◌};
+
+use super::tables::{FED, FOREIGN, FOREIGN_MARK, FULL_ROW, WHOLE};
+use super::{
+    Call, LAST_LOOK, LOOKS, Reply, Script, append_foreign, changes, empty, event_after, event_of,
+    found_reply, pinned, played, query, refused, reply_to, stamp, tags,
+};
+use crate::common::{Rows, Write};
+use std::alloc::{AllocError, Global};
+use std::marker::Brand;
+use std::process::Abort;
+use std::sync::Wait;
+use std::test::Fail;
+use txc_db::{CommitError, Database, DbCore, DbError, Feed, Mark, Naming};
+
+/// A reply, with the number of events that the front beside it shows, where one came.
+type Told = (Reply, Option<usize>);
+
+fn commit<J: Naming>(
+    rt: &impl Wait,
+    alloc: Global,
+    database: &Database<J>,
+    base: u32,
+    read: &[Rows],
+    writes: &[Write],
+) -> Result<Told, DbError> {
+    let tags = tags(alloc, read)?;
+    let changes = changes(alloc, writes)?;
+    match database.commit(rt, alloc, stamp(base), &tags, &changes) {
+        Ok(told) => Ok((Reply::At(told.answer.number()), Some(told.front.len()))),
+        Err(CommitError::Conflict(told)) => {
+            Ok((
+                Reply::Conflict(told.answer.number()),
+                Some(told.front.len()),
+            ))
+        }
+        Err(CommitError::Database(refusal)) => Err(refusal),
+    }
+}
+
+fn query_reply<J: Naming>(
+    rt: &impl Wait,
+    alloc: Global,
+    database: &Database<J>,
+    asked: Rows,
+    number: u32,
+) -> Result<Told, DbError> {
+    let query = query(asked);
+    let told = database.query(rt, alloc, &query, stamp(number))?;
+    Ok((found_reply(&told.answer, &query), Some(told.front.len())))
+}
+
+/// The event of that stamp, and how many events there are up to it.
+fn event_reply<J: Naming>(
+    alloc: Global,
+    database: &Database<J>,
+    number: u32,
+) -> Result<(Reply, usize), DbError> {
+    let mut front = database.reader(alloc)?;
+    let event = event_after(database.row(), &mut front, number);
+    Ok((event, front.len()))
+}
+
+/// Appends a mark past the lock, as no call does.
+fn append_mark<J: Naming>(alloc: Global, database: &Database<J>) -> Result<(), AllocError> {
+    let marks = database.marks();
+    let mut marked = marks.start(alloc)?;
+    let mark = Box::new(alloc, Mark::new(database.reader(alloc)?))?;
+    let _first = marks.next(&mut marked);
+    let _second = marks.next(&mut marked);
+    let _added = marks.append(&mut marked, mark);
+    Ok(())
+}
+
+fn answer<J: Naming>(
+    rt: &impl Wait,
+    alloc: Global,
+    database: &Database<J>,
+    call: Call,
+) -> Result<Told, DbError> {
+    match call {
+        Call::Commit(base, read, writes) => commit(rt, alloc, database, base, read, writes),
+        Call::Pin(now, at_least) => {
+            Ok((
+                pinned(&database.pin(rt, alloc, now, stamp(at_least))?),
+                None,
+            ))
+        }
+        Call::Hold => {
+            let told = database.hold(rt, alloc)?;
+            Ok((Reply::At(told.answer.number()), Some(told.front.len())))
+        }
+        Call::Unpin(number) => {
+            database.unpin(rt, stamp(number))?;
+            Ok((Reply::Done, None))
+        }
+        Call::Vacuum => Ok((Reply::At(database.vacuum(rt)?.number()), None)),
+        Call::Query(asked, number) => query_reply(rt, alloc, database, asked, number),
+        Call::Reader => Ok((Reply::Events(database.reader(alloc)?.len()), None)),
+        Call::Front => {
+            let (_last, events) = event_reply(alloc, database, LAST_LOOK)?;
+            Ok((Reply::Events(events), None))
+        }
+        Call::Event(number) => Ok((event_reply(alloc, database, number)?.0, None)),
+        Call::Foreign => {
+            append_foreign(alloc, database.row(), database.reader(alloc)?)?;
+            Ok((Reply::Done, None))
+        }
+        Call::ForeignMark => {
+            append_mark(alloc, database)?;
+            Ok((Reply::Done, None))
+        }
+        Call::Next | Call::Fed => Ok((Reply::NoEvent, None)),
+    }
+}
+
+pub(super) fn locked_reply<J: Naming>(
+    rt: &impl Wait,
+    alloc: Global,
+    database: &Database<J>,
+    call: Call,
+) -> Told {
+    match answer(rt, alloc, database, call) {
+        Ok(told) => told,
+        Err(refusal) => (refused(refusal), None),
+    }
+}
+
+/// Whether the database shows what one alone does.
+fn is_alike<J: Naming>(
+    rt: &impl Wait,
+    alloc: Global,
+    database: &Database<J>,
+    core: &mut DbCore,
+) -> bool {
+    for number in 0..=LAST_LOOK {
+        let event = Call::Event(number);
+        if locked_reply(rt, alloc, database, event).0 != reply_to(core, alloc, event) {
+            return false;
+        }
+        for asked in &LOOKS {
+            let query = Call::Query(*asked, number);
+            if locked_reply(rt, alloc, database, query).0 != reply_to(core, alloc, query) {
+                return false;
+            }
+        }
+    }
+    true
+}
+
+fn next_event<J: Naming>(feed: &mut Feed<J>) -> Reply {
+    if !feed.look() {
+        return Reply::NoEvent;
+    }
+    let reply = event_of(feed.next_event());
+    feed.take();
+    reply
+}
+
+fn reply_with<J: Naming>(
+    rt: &impl Wait,
+    alloc: Global,
+    database: &Database<J>,
+    feed: &mut Feed<J>,
+    call: Call,
+) -> Told {
+    match call {
+        Call::Next => (next_event(feed), None),
+        Call::Fed => (Reply::Events(feed.front().len()), None),
+        _ => locked_reply(rt, alloc, database, call),
+    }
+}
+
+pub(super) fn feed_of<J: Naming>(
+    alloc: Global,
+    database: &Database<J>,
+) -> Result<Feed<J>, AllocError> {
+    match database.feed(alloc) {
+        Err(_) => database.feed(alloc),
+        other => other,
+    }
+}
+
+fn events_of<J: Naming>(alloc: Global, database: &Database<J>) -> Result<usize, DbError> {
+    match event_reply(alloc, database, LAST_LOOK) {
+        Ok((_, events)) => Ok(events),
+        Err(_) => Ok(event_reply(alloc, database, LAST_LOOK)?.1),
+    }
+}
+
+/// Compares what each call answers; `false` where the memory for the database itself was refused.
+fn is_played<J: Naming, R: Wait + Abort + AllocGlobal>(
+    rt: &R,
+    core: DbCore,
+    script: Script,
+) -> Result<bool, Fail>
+    requires { core.row ≡ J.database_row }
+{
+    let alloc = rt.alloc();
+    let Ok(database) = Database::<J>::new(alloc, core) else {
+        return Ok(false);
+    };
+    let mut feed = feed_of(alloc, &database)?;
+    for (i, (call, wanted)) in script.calls.iter().enumerate() {
+        let mut told = reply_with(rt, alloc, &database, &mut feed, *call);
+        if told.0 == Reply::NoMemory {
+            let mut core = played(alloc, script, i)?;
+            assert!(rt; is_alike(rt, alloc, &database, &mut core), "call {i}");
+            told = reply_with(rt, alloc, &database, &mut feed, *call);
+        }
+        assert_eq!(rt; told.0, *wanted, "call {i}");
+        if let Some(shown) = told.1 {
+            assert_eq!(rt; shown, events_of(alloc, &database)?, "call {i}");
+        }
+    }
+    Ok(true)
+}
+
+fn play_once(rt: &(impl Wait + Abort + AllocGlobal), script: Script) -> Result<bool, Fail> {
+    let core = empty(rt.alloc(), script.row_cap)?;
+    is_played::<Brand, _>(rt, core, script)
+}
+
+fn play(rt: &(impl Wait + Abort + AllocGlobal), script: Script) -> Result<(), Fail> {
+    if !play_once(rt, script)? {
+        assert!(rt; play_once(rt, script)?);
+    }
+    Ok(())
+}
+
+#[test]
+fn locked_calls_answer_the_worked_history(rt: HostRuntime) -> Result<(), Fail> {
+    play(&rt, WHOLE)
+}
+
+#[test]
+fn locked_row_of_one_is_full(rt: HostRuntime) -> Result<(), Fail> {
+    play(&rt, FULL_ROW)
+}
+
+#[test]
+fn foreign_record_breaks_the_locked_database(rt: HostRuntime) -> Result<(), Fail> {
+    play(&rt, FOREIGN)
+}
+
+#[test]
+fn foreign_mark_breaks_the_locked_database(rt: HostRuntime) -> Result<(), Fail> {
+    play(&rt, FOREIGN_MARK)
+}
+
+#[test]
+fn feed_gives_each_event_once(rt: HostRuntime) -> Result<(), Fail> {
+    play(&rt, FED)
+}
