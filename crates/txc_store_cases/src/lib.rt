@@ -11,4 +11,6 @@ mod db;
 #[cfg(test)]
 mod rows;
 #[cfg(test)]
+mod run;
+#[cfg(test)]
 mod validity;
