@@ -26,6 +26,7 @@ enum Call {
     Again,
     Get(usize),
     Len,
+    IsEmpty,
 }
 
 #[derive(Clone, Copy, Debug, PartialEq, Eq)]
@@ -34,6 +35,7 @@ enum Reply {
     Number(u64),
     Nothing,
     Len(usize),
+    Is(bool),
     Full(u64),
     Taken(u64),
 }
@@ -120,6 +122,7 @@ fn try_answer(
         }
         Call::Get(at) => Ok(got(row, front, at)),
         Call::Len => Ok(Reply::Len(front.len())),
+        Call::IsEmpty => Ok(Reply::Is(front.is_empty())),
     }
 }
 
@@ -145,46 +148,75 @@ fn answer(
     }
 }
 
+/// Makes the call by one of the two fronts, and compares its answer.
+fn step(
+    rt: &(impl Abort + AllocGlobal),
+    row: &EventRow<u64>,
+    one: &mut Front<u64>,
+    other: &mut Front<u64>,
+    step: (By, Call, Reply),
+) -> Result<(), AllocError>
+    requires one { one.old.row ≡ row.now }
+    requires other { other.old.row ≡ row.now }
+    ensures one { one.new.row ≡ row.now }
+    ensures other { other.new.row ≡ row.now }
+{
+    let (by, call, wanted) = step;
+    let given = match by {
+        By::One => answer(rt, row, one, other, call)?,
+        By::Other => answer(rt, row, other, one, call)?,
+    };
+    assert_eq!(rt; given, wanted);
+    row.agree(one, other);
+    Ok(())
+}
+
+/// Goes through the calls by two fronts that show nothing yet.
+fn play_on(
+    rt: &(impl Abort + AllocGlobal),
+    row: &EventRow<u64>,
+    steps: &[(By, Call, Reply)],
+) -> Result<(), AllocError> {
+    let mut one = start(row, rt.alloc())?;
+    let mut other = start(row, rt.alloc())?;
+    for taken in steps {
+        step(rt, row, &mut one, &mut other, *taken)?;
+    }
+    Ok(())
+}
+
+/// Goes through the calls on a new row.
 fn play(
     rt: &(impl Abort + AllocGlobal),
     capacity: usize,
-    rows: &[(By, Call, Reply)],
+    steps: &[(By, Call, Reply)],
 ) -> Result<(), AllocError>
     requires least { 1 ≤ capacity }
     requires most { capacity ≤ MAX_CAPACITY }
 {
     let row = new_row(rt.alloc(), capacity)?;
     assert!(rt; row.capacity() == capacity);
-    let mut one = start(&row, rt.alloc())?;
-    let mut other = start(&row, rt.alloc())?;
-    assert!(rt; one.is_empty() && other.is_empty());
-    for (i, (by, call, wanted)) in rows.iter().enumerate() {
-        let given = match by {
-            By::One => answer(rt, &row, &mut one, &other, *call)?,
-            By::Other => answer(rt, &row, &mut other, &one, *call)?,
-        };
-        assert_eq!(rt; given, *wanted, "row {i}");
-    }
-    row.agree(&one, &other);
-    Ok(())
+    play_on(rt, &row, steps)
 }
 
 #[test]
-fn a_second_record_finds_no_room(rt: HostRuntime) -> Result<(), Fail> {
-    Ok(play(&rt, 1, &FULL)?)
+fn a_second_record_finds_no_room(rt: HostRuntime) -> Result<(), AllocError> {
+    play(&rt, 1, &FULL)
 }
 
-const FULL: [(By, Call, Reply); 5] = [
+const FULL: [(By, Call, Reply); 7] = [
+    (By::One, Call::IsEmpty, Reply::Is(true)),
     (By::One, Call::Append(7), Reply::Done),
     (By::One, Call::Len, Reply::Len(1)),
+    (By::One, Call::IsEmpty, Reply::Is(false)),
     (By::One, Call::Append(8), Reply::Full(8)),
     (By::One, Call::Len, Reply::Len(1)),
     (By::One, Call::Next, Reply::Nothing),
 ];
 
 #[test]
-fn the_other_front_finds_the_cell_taken(rt: HostRuntime) -> Result<(), Fail> {
-    Ok(play(&rt, 2, &TAKEN)?)
+fn the_other_front_finds_the_cell_taken(rt: HostRuntime) -> Result<(), AllocError> {
+    play(&rt, 2, &TAKEN)
 }
 
 const TAKEN: [(By, Call, Reply); 8] = [
@@ -199,8 +231,8 @@ const TAKEN: [(By, Call, Reply); 8] = [
 ];
 
 #[test]
-fn a_copy_and_the_longer_of_two_show_the_longer_list(rt: HostRuntime) -> Result<(), Fail> {
-    Ok(play(&rt, 3, &LONGER)?)
+fn a_copy_and_the_longer_of_two_show_the_longer_list(rt: HostRuntime) -> Result<(), AllocError> {
+    play(&rt, 3, &LONGER)
 }
 
 const LONGER: [(By, Call, Reply); 9] = [
