@@ -14,6 +14,3 @@ pub use laws::{
     prefix_places,
 };
 pub use row::{AppendError, EventRow, Front, MAX_CAPACITY, Refused};
-
-#[cfg(test)]
-mod tests;

@@ -1,0 +1,364 @@
+//! Rows of numbers: calls by two fronts with what they answer, two threads, and the largest row.
+ghost use Rattle.std.specs.Prelude.{◌≡◌, ◌≤◌, [], IfOk};
+
+use once_cell::race::Note;
+use std::alloc::{AllocError, Global};
+use std::mem::size_of;
+use std::process::Abort;
+use std::test::Fail;
+use std::thread::join;
+use txc_stream::{AppendError, EventRow, Front, MAX_CAPACITY};
+
+/// The front by which a call is made.
+#[derive(Clone, Copy)]
+enum By {
+    One,
+    Other,
+}
+
+#[derive(Clone, Copy)]
+enum Call {
+    Append(u64),
+    Next,
+    /// Takes over what the other front shows.
+    Longer,
+    /// Starts again with what the other front shows.
+    Again,
+    Get(usize),
+    Len,
+    IsEmpty,
+}
+
+#[derive(Clone, Copy, Debug, PartialEq, Eq)]
+enum Reply {
+    Done,
+    Number(u64),
+    Nothing,
+    Len(usize),
+    Is(bool),
+    Full(u64),
+    Taken(u64),
+}
+
+fn new_row(alloc: Global, capacity: usize) -> Result<EventRow<u64>, AllocError>
+    requires least { 1 ≤ capacity }
+    requires most { capacity ≤ MAX_CAPACITY }
+{
+    match EventRow::new(alloc, capacity) {
+        Ok(row) => Ok(row),
+        Err(_) => EventRow::new(alloc, capacity),
+    }
+}
+
+fn start(row: &EventRow<u64>, alloc: Global) -> Result<Front<u64>, AllocError>
+    ensures { IfOk result (λ front. (front.row ≡ row.now) × (front.list ≡ [])) }
+{
+    match row.start(alloc) {
+        Ok(front) => Ok(front),
+        Err(_) => row.start(alloc),
+    }
+}
+
+fn boxed(alloc: Global, number: u64) -> Result<Box<u64>, AllocError> {
+    match Box::new(alloc, number) {
+        Ok(value) => Ok(value),
+        Err(refused) => Ok(Box::new(alloc, refused.value)?),
+    }
+}
+
+fn appended(outcome: Result<(), AppendError<u64>>) -> Reply {
+    match outcome {
+        Ok(()) => Reply::Done,
+        Err(AppendError::Full(value)) => Reply::Full(*value),
+        Err(AppendError::Taken(refused)) => Reply::Taken(*refused.value),
+    }
+}
+
+fn got(row: &EventRow<u64>, front: &Front<u64>, at: usize) -> Reply
+    requires { front.now.row ≡ row.now }
+{
+    if at < front.len() {
+        Reply::Number(*row.get(front, at))
+    } else {
+        Reply::Nothing
+    }
+}
+
+/// How many numbers the front shows, and the first three of them.
+fn shown(row: &EventRow<u64>, front: &Front<u64>) -> (usize, [Reply; 3])
+    requires { front.now.row ≡ row.now }
+{
+    let first = [got(row, front, 0), got(row, front, 1), got(row, front, 2)];
+    (front.len(), first)
+}
+
+fn try_answer(
+    row: &EventRow<u64>,
+    alloc: Global,
+    front: &mut Front<u64>,
+    other: &Front<u64>,
+    call: Call,
+) -> Result<Reply, AllocError>
+    requires front { front.old.row ≡ row.now }
+    requires other { other.now.row ≡ row.now }
+    ensures { front.new.row ≡ row.now }
+{
+    match call {
+        Call::Append(number) => {
+            let value = Box::new(alloc, number)?;
+            Ok(appended(row.append(front, value)))
+        }
+        Call::Next => match row.next(front) {
+            Some(number) => Ok(Reply::Number(*number)),
+            None => Ok(Reply::Nothing),
+        },
+        Call::Longer => {
+            front.longer(other);
+            Ok(Reply::Len(front.len()))
+        }
+        Call::Again => {
+            *front = row.again(alloc, other)?;
+            Ok(Reply::Len(front.len()))
+        }
+        Call::Get(at) => Ok(got(row, front, at)),
+        Call::Len => Ok(Reply::Len(front.len())),
+        Call::IsEmpty => Ok(Reply::Is(front.is_empty())),
+    }
+}
+
+/// The answer to the call. Where memory is refused, the front shows what it showed, and the call is made once more.
+fn answer(
+    rt: &(impl Abort + AllocGlobal),
+    row: &EventRow<u64>,
+    front: &mut Front<u64>,
+    other: &Front<u64>,
+    call: Call,
+) -> Result<Reply, AllocError>
+    requires front { front.old.row ≡ row.now }
+    requires other { other.now.row ≡ row.now }
+    ensures { front.new.row ≡ row.now }
+{
+    let before = shown(row, front);
+    match try_answer(row, rt.alloc(), front, other, call) {
+        Ok(reply) => Ok(reply),
+        Err(_) => {
+            assert!(rt; shown(row, front) == before);
+            try_answer(row, rt.alloc(), front, other, call)
+        }
+    }
+}
+
+/// Makes the call by one of the two fronts, and compares its answer.
+fn step(
+    rt: &(impl Abort + AllocGlobal),
+    row: &EventRow<u64>,
+    one: &mut Front<u64>,
+    other: &mut Front<u64>,
+    step: (By, Call, Reply),
+) -> Result<(), AllocError>
+    requires one { one.old.row ≡ row.now }
+    requires other { other.old.row ≡ row.now }
+    ensures one { one.new.row ≡ row.now }
+    ensures other { other.new.row ≡ row.now }
+{
+    let (by, call, wanted) = step;
+    let given = match by {
+        By::One => answer(rt, row, one, other, call)?,
+        By::Other => answer(rt, row, other, one, call)?,
+    };
+    assert_eq!(rt; given, wanted);
+    row.agree(one, other);
+    Ok(())
+}
+
+/// Goes through the calls by two fronts that show nothing yet.
+fn play_on(
+    rt: &(impl Abort + AllocGlobal),
+    row: &EventRow<u64>,
+    steps: &[(By, Call, Reply)],
+) -> Result<(), AllocError> {
+    let mut one = start(row, rt.alloc())?;
+    let mut other = start(row, rt.alloc())?;
+    for taken in steps {
+        step(rt, row, &mut one, &mut other, *taken)?;
+    }
+    Ok(())
+}
+
+/// Goes through the calls on a new row.
+fn play(
+    rt: &(impl Abort + AllocGlobal),
+    capacity: usize,
+    steps: &[(By, Call, Reply)],
+) -> Result<(), AllocError>
+    requires least { 1 ≤ capacity }
+    requires most { capacity ≤ MAX_CAPACITY }
+{
+    let row = new_row(rt.alloc(), capacity)?;
+    assert!(rt; row.capacity() == capacity);
+    play_on(rt, &row, steps)
+}
+
+#[test]
+fn a_second_record_finds_no_room(rt: HostRuntime) -> Result<(), AllocError> {
+    play(&rt, 1, &FULL)
+}
+
+const FULL: [(By, Call, Reply); 7] = [
+    (By::One, Call::IsEmpty, Reply::Is(true)),
+    (By::One, Call::Append(7), Reply::Done),
+    (By::One, Call::Len, Reply::Len(1)),
+    (By::One, Call::IsEmpty, Reply::Is(false)),
+    (By::One, Call::Append(8), Reply::Full(8)),
+    (By::One, Call::Len, Reply::Len(1)),
+    (By::One, Call::Next, Reply::Nothing),
+];
+
+#[test]
+fn the_other_front_finds_the_cell_taken(rt: HostRuntime) -> Result<(), AllocError> {
+    play(&rt, 2, &TAKEN)
+}
+
+const TAKEN: [(By, Call, Reply); 8] = [
+    (By::Other, Call::Next, Reply::Nothing),
+    (By::One, Call::Append(7), Reply::Done),
+    (By::Other, Call::Append(8), Reply::Taken(8)),
+    (By::Other, Call::Len, Reply::Len(0)),
+    (By::Other, Call::Next, Reply::Number(7)),
+    (By::Other, Call::Len, Reply::Len(1)),
+    (By::Other, Call::Next, Reply::Nothing),
+    (By::Other, Call::Get(0), Reply::Number(7)),
+];
+
+#[test]
+fn a_copy_and_the_longer_of_two_show_the_longer_list(rt: HostRuntime) -> Result<(), AllocError> {
+    play(&rt, 3, &LONGER)
+}
+
+const LONGER: [(By, Call, Reply); 9] = [
+    (By::One, Call::Append(7), Reply::Done),
+    (By::Other, Call::Again, Reply::Len(1)),
+    (By::One, Call::Append(8), Reply::Done),
+    (By::One, Call::Longer, Reply::Len(2)),
+    (By::Other, Call::Longer, Reply::Len(2)),
+    (By::Other, Call::Get(0), Reply::Number(7)),
+    (By::Other, Call::Get(1), Reply::Number(8)),
+    (By::One, Call::Get(0), Reply::Number(7)),
+    (By::One, Call::Get(1), Reply::Number(8)),
+];
+
+/// Appends the 32 numbers below 64 that are even, or odd, and reads what others appended before it. Each round lengthens
+/// the front, so 64 rounds are enough.
+fn add(
+    row: &EventRow<u64>,
+    alloc: Global,
+    mut front: Front<u64>,
+    parity: u64,
+) -> Result<Front<u64>, AllocError>
+    requires { front.row ≡ row.now }
+    ensures { IfOk result (λ front. front.row ≡ row.now) }
+{
+    let mut stored = 0u64;
+    for _ in 0..64u32 {
+        if stored == 32 {
+            return Ok(front);
+        }
+        let number = boxed(alloc, 2 * (stored % 32) + parity % 2)?;
+        match row.append(&mut front, number) {
+            Ok(()) => stored = stored % 32 + 1,
+            Err(_) => {
+                let _other = row.next(&mut front);
+            }
+        }
+    }
+    Ok(front)
+}
+
+/// How often each number below 64 stands in the front.
+fn counts(row: &EventRow<u64>, front: &Front<u64>) -> [u32; 64]
+    requires { front.now.row ≡ row.now }
+{
+    let mut counts = [0u32; 64];
+    for at in 0..front.len() {
+        let number = *row.get(front, at);
+        if number < 64 && counts[number as usize] < 2 {
+            counts[number as usize] += 1;
+        }
+    }
+    counts
+}
+
+#[test]
+fn two_threads_meet_with_each_record_once(rt: HostRuntime) -> Result<(), Fail> {
+    let alloc = rt.alloc();
+    let row = new_row(alloc, 64)?;
+    let (one, other) = (start(&row, alloc)?, start(&row, alloc)?);
+    let (mine, theirs) = (&row, &row);
+    let (one, other) = join(
+        &rt,
+        move || -> Result<Front<u64>, AllocError>
+            requires { one.row ≡ mine.now }
+            ensures { IfOk result (λ front. front.row ≡ mine.entry.now) }
+        { add(mine, alloc, one, 0) },
+        move || -> Result<Front<u64>, AllocError>
+            requires { other.row ≡ theirs.now }
+            ensures { IfOk result (λ front. front.row ≡ theirs.entry.now) }
+        { add(theirs, alloc, other, 1) },
+    );
+    let (mut one, mut other) = (one?, other?);
+    one.agree(&other);
+    one.longer(&other);
+    other.longer(&one);
+    assert!(rt; one.len() == 64 && other.len() == 64);
+    assert!(rt; counts(&row, &one) == [1; 64] && counts(&row, &other) == [1; 64]);
+    Ok(())
+}
+
+#[test]
+fn the_largest_row_is_filled_and_walked(rt: HostRuntime) -> Result<(), Fail> {
+    let alloc = rt.alloc();
+    let row = new_row(alloc, MAX_CAPACITY)?;
+    let mut front = start(&row, alloc)?;
+    let mut walker = start(&row, alloc)?;
+    for number in 0..1_048_576u64 {
+        assert!(rt; row.append(&mut front, boxed(alloc, number)?).is_ok());
+        assert!(rt; row.next(&mut walker) == Some(&number));
+    }
+    assert!(rt; front.len() == MAX_CAPACITY && walker.len() == MAX_CAPACITY);
+    assert!(rt; appended(row.append(&mut walker, boxed(alloc, 8)?)) == Reply::Full(8));
+    assert!(rt; row.next(&mut walker).is_none());
+    assert!(rt; got(&row, &walker, 1_048_575) == Reply::Number(1_048_575));
+    Ok(())
+}
+
+#[test]
+fn a_front_takes_no_bytes_for_a_record(rt: HostRuntime) {
+    assert!(rt; size_of::<Note<u64>>() == 0);
+}
+
+/// The message of a refusal, and what it prints for a log.
+fn texts(alloc: Global, outcome: &Result<(), AppendError<u64>>) -> Result<String, AllocError> {
+    match outcome {
+        Ok(()) => Ok(String::new(alloc)),
+        Err(error) => {
+            let text = format!(in alloc; "{error}; {error:?}");
+            text.or_else(|_| format!(in alloc; "{error}; {error:?}"))
+        }
+    }
+}
+
+#[test]
+fn refusals_print_their_reason(rt: HostRuntime) -> Result<(), Fail> {
+    let alloc = rt.alloc();
+    let row = new_row(alloc, 1)?;
+    let (mut front, mut late) = (start(&row, alloc)?, start(&row, alloc)?);
+    assert!(rt; row.append(&mut front, boxed(alloc, 7)?).is_ok());
+    let full = row.append(&mut front, boxed(alloc, 8)?);
+    assert_eq!(rt; texts(alloc, &full)?.as_str(), "the row is full; Full(..)");
+    let taken = row.append(&mut late, boxed(alloc, 8)?);
+    assert_eq!(rt;
+        texts(alloc, &taken)?.as_str(),
+        "another record stands in the cell; Taken(..)"
+    );
+    Ok(())
+}
