@@ -24,8 +24,8 @@ type Shown = (u32, u32, bool);
 
 #[derive(Clone, Copy)]
 enum Call {
-    /// An entry of function 1 with this argument: the length of the value and the byte that fills it, the first stamp, the
-    /// last one known and whether it is still valid, and what it depends on.
+    /// An entry of function 1 with this argument: the length of the value and the byte that fills
+    /// it, the first stamp, the last one known and whether it is still valid, and its tags.
     Insert(u32, (usize, u8), (u32, u32, bool), Rows),
     /// The argument, and the first and the last stamp asked for.
     Lookup(u32, u32, u32),
@@ -171,7 +171,8 @@ fn state(alloc: Global, node: &NodeCore) -> Result<String, AllocError> {
     format!(in alloc; "{node:?}").or_else(|_| format!(in alloc; "{node:?}"))
 }
 
-/// The answer to the call. Where memory is refused the node is as it was, and the call is made once more.
+/// The answer to the call. Where memory is refused the node is as it was, and the call is made once
+/// more.
 fn answer(
     rt: &(impl Abort + AllocGlobal),
     node: &mut NodeCore,
@@ -188,7 +189,8 @@ fn answer(
     }
 }
 
-/// Goes through the calls from an empty node for so many entries, which keeps the tags of so many events.
+/// Goes through the calls from an empty node for so many entries, which keeps the tags of so many
+/// events.
 fn play(
     rt: &(impl Abort + AllocGlobal),
     capacity: usize,

@@ -66,11 +66,36 @@ fn boxed(alloc: Global, number: u64) -> Result<Box<u64>, AllocError> {
     }
 }
 
-fn appended(outcome: Result<(), AppendError<u64>>) -> Reply {
+/// The message of a refusal, and what it prints for a log.
+fn texts(alloc: Global, error: &AppendError<u64>) -> Result<String, AllocError> {
+    let text = format!(in alloc; "{error}; {error:?}");
+    text.or_else(|_| format!(in alloc; "{error}; {error:?}"))
+}
+
+/// The answer of a refusal that prints so.
+fn refused(rt: &impl Abort, error: AppendError<u64>, texts: &str) -> Reply {
+    match error {
+        AppendError::Full(value) => {
+            assert!(rt; texts == "the row is full; Full(..)");
+            Reply::Full(*value)
+        }
+        AppendError::Taken(refused) => {
+            assert!(rt; texts == "another record stands in the cell; Taken(..)");
+            Reply::Taken(*refused.value)
+        }
+    }
+}
+
+fn appended(
+    rt: &(impl Abort + AllocGlobal),
+    outcome: Result<(), AppendError<u64>>,
+) -> Result<Reply, AllocError> {
     match outcome {
-        Ok(()) => Reply::Done,
-        Err(AppendError::Full(value)) => Reply::Full(*value),
-        Err(AppendError::Taken(refused)) => Reply::Taken(*refused.value),
+        Ok(()) => Ok(Reply::Done),
+        Err(error) => {
+            let texts = texts(rt.alloc(), &error)?;
+            Ok(refused(rt, error, texts.as_str()))
+        }
     }
 }
 
@@ -93,8 +118,8 @@ fn shown(row: &EventRow<u64>, front: &Front<u64>) -> (usize, [Reply; 3])
 }
 
 fn try_answer(
+    rt: &(impl Abort + AllocGlobal),
     row: &EventRow<u64>,
-    alloc: Global,
     front: &mut Front<u64>,
     other: &Front<u64>,
     call: Call,
@@ -105,8 +130,8 @@ fn try_answer(
 {
     match call {
         Call::Append(number) => {
-            let value = Box::new(alloc, number)?;
-            Ok(appended(row.append(front, value)))
+            let value = Box::new(rt.alloc(), number)?;
+            appended(rt, row.append(front, value))
         }
         Call::Next => match row.next(front) {
             Some(number) => Ok(Reply::Number(*number)),
@@ -117,7 +142,7 @@ fn try_answer(
             Ok(Reply::Len(front.len()))
         }
         Call::Again => {
-            *front = row.again(alloc, other)?;
+            *front = row.again(rt.alloc(), other)?;
             Ok(Reply::Len(front.len()))
         }
         Call::Get(at) => Ok(got(row, front, at)),
@@ -126,7 +151,8 @@ fn try_answer(
     }
 }
 
-/// The answer to the call. Where memory is refused, the front shows what it showed, and the call is made once more.
+/// The answer to the call. Where memory is refused, the front shows what it showed, and the call is
+/// made once more.
 fn answer(
     rt: &(impl Abort + AllocGlobal),
     row: &EventRow<u64>,
@@ -139,11 +165,11 @@ fn answer(
     ensures { front.new.row ≡ row.now }
 {
     let before = shown(row, front);
-    match try_answer(row, rt.alloc(), front, other, call) {
+    match try_answer(rt, row, front, other, call) {
         Ok(reply) => Ok(reply),
         Err(_) => {
             assert!(rt; shown(row, front) == before);
-            try_answer(row, rt.alloc(), front, other, call)
+            try_answer(rt, row, front, other, call)
         }
     }
 }
@@ -171,6 +197,23 @@ fn step(
     Ok(())
 }
 
+/// Goes through the calls by the two fronts.
+fn play_by(
+    rt: &(impl Abort + AllocGlobal),
+    row: &EventRow<u64>,
+    one: &mut Front<u64>,
+    other: &mut Front<u64>,
+    steps: &[(By, Call, Reply)],
+) -> Result<(), AllocError>
+    requires one { one.old.row ≡ row.now }
+    requires other { other.old.row ≡ row.now }
+{
+    for taken in steps {
+        step(rt, row, one, other, *taken)?;
+    }
+    Ok(())
+}
+
 /// Goes through the calls by two fronts that show nothing yet.
 fn play_on(
     rt: &(impl Abort + AllocGlobal),
@@ -179,10 +222,7 @@ fn play_on(
 ) -> Result<(), AllocError> {
     let mut one = start(row, rt.alloc())?;
     let mut other = start(row, rt.alloc())?;
-    for taken in steps {
-        step(rt, row, &mut one, &mut other, *taken)?;
-    }
-    Ok(())
+    play_by(rt, row, &mut one, &mut other, steps)
 }
 
 /// Goes through the calls on a new row.
@@ -200,7 +240,7 @@ fn play(
 }
 
 #[test]
-fn a_second_record_finds_no_room(rt: HostRuntime) -> Result<(), AllocError> {
+fn a_second_record_finds_no_room_and_says_so(rt: HostRuntime) -> Result<(), AllocError> {
     play(&rt, 1, &FULL)
 }
 
@@ -215,7 +255,7 @@ const FULL: [(By, Call, Reply); 7] = [
 ];
 
 #[test]
-fn the_other_front_finds_the_cell_taken(rt: HostRuntime) -> Result<(), AllocError> {
+fn the_other_front_finds_the_cell_taken_and_says_so(rt: HostRuntime) -> Result<(), AllocError> {
     play(&rt, 2, &TAKEN)
 }
 
@@ -247,8 +287,8 @@ const LONGER: [(By, Call, Reply); 9] = [
     (By::One, Call::Get(1), Reply::Number(8)),
 ];
 
-/// Appends the 32 numbers below 64 that are even, or odd, and reads what others appended before it. Each round lengthens
-/// the front, so 64 rounds are enough.
+/// Appends the 32 numbers below 64 that are even, or odd, and reads what others appended before it.
+/// Each round lengthens the front, so 64 rounds are enough.
 fn add(
     row: &EventRow<u64>,
     alloc: Global,
@@ -288,6 +328,18 @@ fn counts(row: &EventRow<u64>, front: &Front<u64>) -> [u32; 64]
     counts
 }
 
+/// Lets both fronts show the longer list, which has each number once.
+fn meet(rt: &impl Abort, row: &EventRow<u64>, mut one: Front<u64>, mut other: Front<u64>)
+    requires one { one.row ≡ row.now }
+    requires other { other.row ≡ row.now }
+{
+    one.agree(&other);
+    one.longer(&other);
+    other.longer(&one);
+    assert!(rt; one.len() == 64 && other.len() == 64);
+    assert!(rt; counts(row, &one) == [1; 64] && counts(row, &other) == [1; 64]);
+}
+
 #[test]
 fn two_threads_meet_with_each_record_once(rt: HostRuntime) -> Result<(), Fail> {
     let alloc = rt.alloc();
@@ -305,60 +357,57 @@ fn two_threads_meet_with_each_record_once(rt: HostRuntime) -> Result<(), Fail> {
             ensures { IfOk result (λ front. front.row ≡ theirs.entry.now) }
         { add(theirs, alloc, other, 1) },
     );
-    let (mut one, mut other) = (one?, other?);
-    one.agree(&other);
-    one.longer(&other);
-    other.longer(&one);
-    assert!(rt; one.len() == 64 && other.len() == 64);
-    assert!(rt; counts(&row, &one) == [1; 64] && counts(&row, &other) == [1; 64]);
+    meet(&rt, &row, one?, other?);
     Ok(())
 }
 
-#[test]
-fn the_largest_row_is_filled_and_walked(rt: HostRuntime) -> Result<(), Fail> {
-    let alloc = rt.alloc();
-    let row = new_row(alloc, MAX_CAPACITY)?;
-    let mut front = start(&row, alloc)?;
-    let mut walker = start(&row, alloc)?;
+/// Fills the largest row by one front, and reads each number by the other.
+fn fill(
+    rt: &(impl Abort + AllocGlobal),
+    row: &EventRow<u64>,
+    front: &mut Front<u64>,
+    walker: &mut Front<u64>,
+) -> Result<(), AllocError>
+    requires front { front.old.row ≡ row.now }
+    requires walker { walker.old.row ≡ row.now }
+    ensures front { front.new.row ≡ row.now }
+    ensures walker { walker.new.row ≡ row.now }
+{
     for number in 0..1_048_576u64 {
-        assert!(rt; row.append(&mut front, boxed(alloc, number)?).is_ok());
-        assert!(rt; row.next(&mut walker) == Some(&number));
+        let value = boxed(rt.alloc(), number)?;
+        assert!(rt; row.append(front, value).is_ok());
+        assert!(rt; row.next(walker) == Some(&number));
     }
-    assert!(rt; front.len() == MAX_CAPACITY && walker.len() == MAX_CAPACITY);
-    assert!(rt; appended(row.append(&mut walker, boxed(alloc, 8)?)) == Reply::Full(8));
-    assert!(rt; row.next(&mut walker).is_none());
-    assert!(rt; got(&row, &walker, 1_048_575) == Reply::Number(1_048_575));
     Ok(())
 }
+
+fn fill_and_play(
+    rt: &(impl Abort + AllocGlobal),
+    row: &EventRow<u64>,
+    steps: &[(By, Call, Reply)],
+) -> Result<(), AllocError> {
+    let mut front = start(row, rt.alloc())?;
+    let mut walker = start(row, rt.alloc())?;
+    fill(rt, row, &mut front, &mut walker)?;
+    play_by(rt, row, &mut front, &mut walker, steps)
+}
+
+#[test]
+fn the_largest_row_is_filled_and_walked(rt: HostRuntime) -> Result<(), AllocError> {
+    let row = new_row(rt.alloc(), MAX_CAPACITY)?;
+    fill_and_play(&rt, &row, &FILLED)
+}
+
+const FILLED: [(By, Call, Reply); 6] = [
+    (By::One, Call::Len, Reply::Len(1_048_576)),
+    (By::Other, Call::Len, Reply::Len(1_048_576)),
+    (By::Other, Call::Append(8), Reply::Full(8)),
+    (By::Other, Call::Next, Reply::Nothing),
+    (By::Other, Call::Again, Reply::Len(1_048_576)),
+    (By::Other, Call::Get(1_048_575), Reply::Number(1_048_575)),
+];
 
 #[test]
 fn a_front_takes_no_bytes_for_a_record(rt: HostRuntime) {
     assert!(rt; size_of::<Note<u64>>() == 0);
-}
-
-/// The message of a refusal, and what it prints for a log.
-fn texts(alloc: Global, outcome: &Result<(), AppendError<u64>>) -> Result<String, AllocError> {
-    match outcome {
-        Ok(()) => Ok(String::new(alloc)),
-        Err(error) => {
-            let text = format!(in alloc; "{error}; {error:?}");
-            text.or_else(|_| format!(in alloc; "{error}; {error:?}"))
-        }
-    }
-}
-
-#[test]
-fn refusals_print_their_reason(rt: HostRuntime) -> Result<(), Fail> {
-    let alloc = rt.alloc();
-    let row = new_row(alloc, 1)?;
-    let (mut front, mut late) = (start(&row, alloc)?, start(&row, alloc)?);
-    assert!(rt; row.append(&mut front, boxed(alloc, 7)?).is_ok());
-    let full = row.append(&mut front, boxed(alloc, 8)?);
-    assert_eq!(rt; texts(alloc, &full)?.as_str(), "the row is full; Full(..)");
-    let taken = row.append(&mut late, boxed(alloc, 8)?);
-    assert_eq!(rt;
-        texts(alloc, &taken)?.as_str(),
-        "another record stands in the cell; Taken(..)"
-    );
-    Ok(())
 }

@@ -114,17 +114,26 @@ const BAD_KEYS: [(&str, usize); 9] = [
     ("f1(4294967296)", 12),
 ];
 
+/// Asserts that the key is written as the text, and read back from it.
+fn assert_key_text(
+    rt: &(impl Abort + AllocGlobal),
+    key: &Key,
+    text: &str,
+) -> Result<(), AllocError> {
+    let alloc = rt.alloc();
+    let written = key.write(alloc).or_else(|_| key.write(alloc))?;
+    assert!(rt; written.as_str() == text);
+    let back = keys_are_read_back(alloc, key).or_else(|_| keys_are_read_back(alloc, key))?;
+    assert!(rt; back.is_same(key) && key.is_same(&key.copy()));
+    Ok(())
+}
+
 #[test]
 fn keys_are_written_as_they_are_read(rt: HostRuntime) -> Result<(), Fail> {
-    let alloc = rt.alloc();
     for (text, function, args) in KEYS {
         let key = Key::read(text.as_bytes())?;
-        assert_eq!(rt; key.function(), function);
-        assert_eq!(rt; key.args(), args);
-        let written = key.write(alloc).or_else(|_| key.write(alloc))?;
-        assert_eq!(rt; written.as_str(), text);
-        let back = keys_are_read_back(alloc, &key).or_else(|_| keys_are_read_back(alloc, &key))?;
-        assert!(rt; back.is_same(&key) && key.is_same(&key.copy()));
+        assert!(rt; key.function() == function && key.args() == args);
+        assert_key_text(&rt, &key, text)?;
     }
     Ok(())
 }
@@ -231,19 +240,28 @@ const SIXTEEN_IDS: &str = "t1:id=0,t1:id=1,t1:id=2,t1:id=3,t1:id=4,t1:id=5,t1:id
 const SEVENTEEN_IDS: &str = "t1:id=0,t1:id=1,t1:id=2,t1:id=3,t1:id=4,t1:id=5,t1:id=6,t1:id=7,\
     t1:id=8,t1:id=9,t1:id=10,t1:id=11,t1:id=12,t1:id=13,t1:id=14,t1:id=15,t1:id=16";
 
+fn read_back(alloc: Global, set: &TagSet) -> Result<TagSet, SetError> {
+    match sets_are_read_back(alloc, set) {
+        Err(SetError::Memory(_)) => sets_are_read_back(alloc, set),
+        back => back,
+    }
+}
+
+/// Asserts that the set is read back from its text, and copied.
+fn assert_set(rt: &(impl Abort + AllocGlobal), set: &TagSet) -> Result<(), SetError> {
+    let back = read_back(rt.alloc(), set)?;
+    assert!(rt; back.tags() == set.tags());
+    let copy = copied(rt.alloc(), set).map_err(SetError::Memory)?;
+    assert!(rt; copy.tags() == set.tags());
+    Ok(())
+}
+
 #[test]
-fn sets_are_read_back_and_copied(rt: HostRuntime) -> Result<(), Fail> {
-    let alloc = rt.alloc();
+fn sets_are_read_back_and_copied(rt: HostRuntime) -> Result<(), SetError> {
     for (text, count) in [("-", 0), ("t2:?,t1:grp=2,t1:id=7", 3), (SIXTEEN_IDS, 16)] {
-        let set = read_set(alloc, text)?;
-        assert_eq!(rt; set.tags().len(), count);
-        let back = match sets_are_read_back(alloc, &set) {
-            Err(SetError::Memory(_)) => sets_are_read_back(alloc, &set)?,
-            back => back?,
-        };
-        assert_eq!(rt; back.tags(), set.tags());
-        let copy = copied(alloc, &set)?;
-        assert!(rt; copy.tags() == set.tags() && copy.is_empty() == (count == 0));
+        let set = read_set(rt.alloc(), text)?;
+        assert!(rt; set.tags().len() == count && set.is_empty() == (count == 0));
+        assert_set(&rt, &set)?;
     }
     Ok(())
 }
@@ -254,8 +272,8 @@ fn add(set: &mut TagSet, text: &str) -> Result<(), SetError> {
     set.add(tag).map_err(SetError::Memory)
 }
 
-/// The set with one tag more. The copy has no room for it, so that the tag takes memory; where that is refused the copy
-/// is still the same, and the tag is added once more.
+/// The set with one tag more. The copy has no room for it, so that the tag takes memory; where that
+/// is refused the copy is still the same, and the tag is added once more.
 fn longer_set(
     rt: &(impl Abort + AllocGlobal),
     set: &TagSet,
@@ -384,7 +402,8 @@ fn refused_sets_print_their_reason(rt: HostRuntime) -> Result<(), AllocError> {
     )
 }
 
-/// The definition's own sets: t2:id=1, t1:grp=2, t1:id=3 in their order; the wildcard alone; and what they match.
+/// The definition's own sets: t2:id=1, t1:grp=2, t1:id=3 in their order; the wildcard alone; and
+/// what they match.
 fn definitions_are_as_worked()
     ensures order { set_of (Tag.Id 2 1 ∷ Tag.Group 1 2 ∷ Tag.Id 1 3 ∷ [])
         ≡ Tag.Id 1 3 ∷ Tag.Group 1 2 ∷ Tag.Id 2 1 ∷ [] }

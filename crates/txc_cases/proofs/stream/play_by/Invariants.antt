@@ -1,5 +1,5 @@
 use Rattle.std.proofs.Common.{◌≡◌}
-use Rattle.txc_cases.proofs.stream.play_on.Given as goal
+use Rattle.txc_cases.proofs.stream.play_by.Given as goal
 
 -- both fronts are of the row
 abbrev pub invariant-loop-taken : goal.invariant-loop-taken
