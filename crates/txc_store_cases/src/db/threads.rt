@@ -160,10 +160,9 @@ fn two_threads<J: Naming + Send + Sync, R: Threads + Wait + Abort + Sync>(
     let Ok(database) = Database::<J>::new(alloc, core) else {
         return Ok(false);
     };
-    match work_in_two_threads(rt, alloc, &database) {
-        (Some(one), Some(other)) => meet(rt, alloc, &database, one, other)?,
-        _ => assert!(rt; false, "each thread is to end"),
-    }
+    let (one, other) = work_in_two_threads(rt, alloc, &database);
+    let (one, other) = (one.ok_or("one thread")?, other.ok_or("other thread")?);
+    meet(rt, alloc, &database, one, other)?;
     Ok(true)
 }
 
