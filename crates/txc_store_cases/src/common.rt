@@ -115,17 +115,31 @@ pub(crate) fn is_tagged(found: &Found, query: &Query) -> bool {
     found.tags.tags() == [query.tag()].as_slice()
 }
 
+fn text_of<E: fmt::Display>(alloc: Global, error: &E) -> Result<String, AllocError> {
+    match format!(in alloc; "{error}") {
+        Err(_) => format!(in alloc; "{error}"),
+        other => other,
+    }
+}
+
+/// Compares what the error says.
+pub(crate) fn text<E: fmt::Display>(
+    rt: &(impl Abort + AllocGlobal),
+    error: &E,
+    wanted: &str,
+) -> Result<(), Fail> {
+    let text = text_of(rt.alloc(), error)?;
+    assert!(rt; text.as_str() == wanted, "{text} for {wanted}");
+    Ok(())
+}
+
 /// Compares what each error says with the text beside it.
 pub(crate) fn texts<E: fmt::Display>(
     rt: &(impl Abort + AllocGlobal),
     errors: &[(E, &str)],
 ) -> Result<(), Fail> {
     for (error, wanted) in errors {
-        let text = match format!(in rt.alloc(); "{error}") {
-            Ok(text) => text,
-            Err(_) => format!(in rt.alloc(); "{error}")?,
-        };
-        assert_eq!(rt; text.as_str(), *wanted);
+        text(rt, error, wanted)?;
     }
     Ok(())
 }

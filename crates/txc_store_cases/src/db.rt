@@ -9,12 +9,12 @@ mod tables;
 mod threads;
 
 use crate::common::{
-    Rows, Shown, Write, changes, first_byte, is_tagged, query, shown_of, stamp, texts,
+    Rows, Shown, Write, changes, first_byte, is_tagged, query, shown_of, stamp, text, texts,
 };
 use std::alloc::{AllocError, Global};
 use std::process::Abort;
 use std::test::Fail;
-use tables::{CONFLICT, DB_ERRORS, FOREIGN, FULL_ROW, FULL_TEXT, MANY, WHOLE};
+use tables::{ALONE, CONFLICT, DB_ERRORS, FULL_TEXT, MANY};
 use txc_db::{CommitError, DbCore, DbError, Event, Pinned, Told, What};
 use txc_rows::{Change, Query, StoreError};
 use txc_stamp::Stamp;
@@ -77,6 +77,8 @@ enum Reply {
 #[derive(Clone, Copy)]
 struct Script<'a> {
     row_cap: usize,
+    /// How many of the calls are made before the database goes under its lock, if it does.
+    alone: usize,
     calls: &'a [(Call<'a>, Reply)],
 }
 
@@ -112,17 +114,24 @@ fn found_reply(found: &Found, query: &Query) -> Reply {
     }
 }
 
+fn refused_by_store(refusal: StoreError) -> Reply {
+    match refusal {
+        StoreError::TooManyRows => Reply::TooMany,
+        _ => Reply::NoMemory,
+    }
+}
+
 fn refused(refusal: DbError) -> Reply {
     match refusal {
         DbError::SnapshotGone(horizon) => Reply::Gone(horizon.number()),
         DbError::Conflict(stamp) => Reply::Conflict(stamp.number()),
         DbError::Full => Reply::Full,
-        DbError::Store(StoreError::TooManyRows) => Reply::TooMany,
+        DbError::Store(refusal) => refused_by_store(refusal),
         DbError::Broken => Reply::Broken,
         DbError::NotPinned(stamp) => Reply::NotPinned(stamp.number()),
         DbError::FutureStamp(newest) => Reply::Future(newest.number()),
         DbError::HoldsFull => Reply::HoldsFull,
-        DbError::Store(_) | DbError::Memory => Reply::NoMemory,
+        DbError::Memory => Reply::NoMemory,
     }
 }
 
@@ -266,10 +275,11 @@ fn is_alike(core: &mut DbCore, other: &mut DbCore, alloc: Global) -> bool {
     true
 }
 
-fn play(rt: &(impl Abort + AllocGlobal), script: Script) -> Result<(), Fail> {
+/// Compares what each of the first calls answers, and gives the database.
+fn play(rt: &(impl Abort + AllocGlobal), script: Script, count: usize) -> Result<DbCore, Fail> {
     let alloc = rt.alloc();
     let mut core = empty(alloc, script.row_cap)?;
-    for (i, (call, wanted)) in script.calls.iter().enumerate() {
+    for (i, (call, wanted)) in script.calls.iter().enumerate().take(count) {
         let mut given = reply_to(&mut core, alloc, *call);
         if given == Reply::NoMemory {
             let mut other = played(alloc, script, i)?;
@@ -278,27 +288,27 @@ fn play(rt: &(impl Abort + AllocGlobal), script: Script) -> Result<(), Fail> {
         }
         assert_eq!(rt; given, *wanted, "call {i}");
     }
+    Ok(core)
+}
+
+fn play_all(rt: &(impl Abort + AllocGlobal), script: Script) -> Result<(), Fail> {
+    let _core = play(rt, script, script.calls.len())?;
     Ok(())
 }
 
 #[test]
-fn worked_history_answers(rt: HostRuntime) -> Result<(), Fail> {
-    play(&rt, WHOLE)
+fn calls_answer_the_worked_history_a_full_row_and_a_foreign_record(
+    rt: HostRuntime,
+) -> Result<(), Fail> {
+    for script in &ALONE {
+        play_all(&rt, *script)?;
+    }
+    Ok(())
 }
 
 #[test]
 fn too_many_versions_are_not_read(rt: HostRuntime) -> Result<(), Fail> {
-    play(&rt, MANY)
-}
-
-#[test]
-fn row_of_one_is_full(rt: HostRuntime) -> Result<(), Fail> {
-    play(&rt, FULL_ROW)
-}
-
-#[test]
-fn foreign_record_breaks_the_database(rt: HostRuntime) -> Result<(), Fail> {
-    play(&rt, FOREIGN)
+    play_all(&rt, MANY)
 }
 
 fn conflict(alloc: Global) -> Result<CommitError, AllocError> {
@@ -307,19 +317,16 @@ fn conflict(alloc: Global) -> Result<CommitError, AllocError> {
     Ok(CommitError::Conflict(Told { answer, front }))
 }
 
+fn sure_conflict(alloc: Global) -> Result<CommitError, AllocError> {
+    match conflict(alloc) {
+        Err(_) => conflict(alloc),
+        other => other,
+    }
+}
+
 #[test]
 fn errors_of_the_database_say_what_was_refused(rt: HostRuntime) -> Result<(), Fail> {
-    let alloc = rt.alloc();
-    let conflict = match conflict(alloc) {
-        Ok(conflict) => conflict,
-        Err(_) => conflict(alloc)?,
-    };
     texts(&rt, &DB_ERRORS)?;
-    texts(
-        &rt,
-        &[
-            (conflict, CONFLICT),
-            (CommitError::Database(DbError::Full), FULL_TEXT),
-        ],
-    )
+    text(&rt, &sure_conflict(rt.alloc())?, CONFLICT)?;
+    text(&rt, &CommitError::Database(DbError::Full), FULL_TEXT)
 }

@@ -1,4 +1,5 @@
-//! Cases of the crates that reach the store, and of runs of scripts: tables of rows, which players go through.
+//! Cases of the crates that reach the store, and of runs of scripts: tables of rows, which players
+//! go through.
 //!
 //! Each case goes on where one allocation is refused: what the refused call was not to change is
 //! compared, and the call is made again.

@@ -160,12 +160,6 @@ const FOLLOWING: [(Call, Reply); 9] = [
     (List(Group(1, 3)), Ok("")),
 ];
 
-#[test]
-fn versions_follow_one_another(rt: HostRuntime) -> Result<(), Fail> {
-    let _rows = play(&rt, &FOLLOWING)?;
-    Ok(())
-}
-
 const PURGED: [(Call, Reply); 6] = [
     (Call::Write(1, &[Put(1, 7, 2, b"a")]), DONE),
     (Call::Write(3, &[Remove(1, 7)]), DONE),
@@ -174,12 +168,6 @@ const PURGED: [(Call, Reply); 6] = [
     (Purge(3), DONE),
     (List(All(1)), Ok("")),
 ];
-
-#[test]
-fn a_purge_deletes_what_died_by_its_horizon(rt: HostRuntime) -> Result<(), Fail> {
-    let _rows = play(&rt, &PURGED)?;
-    Ok(())
-}
 
 const MANY: [(Call, Reply); 7] = [
     (Call::Write(1, &[PutAll(1024)]), DONE),
@@ -212,12 +200,6 @@ const REFUSED: [(Call, Reply); 5] = [
     (Call::Write(2, &[Put(1, 8, 2, b"z")]), DONE),
     (List(All(1)), Ok("7 a [1,);8 z [2,);")),
 ];
-
-#[test]
-fn a_refused_write_leaves_the_versions(rt: HostRuntime) -> Result<(), Fail> {
-    let _rows = play(&rt, &REFUSED)?;
-    Ok(())
-}
 
 /// The put of 7 looks at as many versions as there are of it, so that it stops the store, after
 /// the put of 5.
@@ -257,9 +239,15 @@ const STEPS: [(Call, Reply); 22] = [
     (List(All(1)), AFTER),
 ];
 
+const TABLES: [&[(Call, Reply)]; 5] = [&FOLLOWING, &PURGED, &REFUSED, &STEPS, &STORED];
+
 #[test]
-fn a_store_that_stops_in_a_write_leaves_the_versions(rt: HostRuntime) -> Result<(), Fail> {
-    let _rows = play(&rt, &STEPS)?;
+fn stores_follow_writes_and_purges_and_refused_ones_leave_them(
+    rt: HostRuntime,
+) -> Result<(), Fail> {
+    for calls in &TABLES {
+        let _rows = play(&rt, calls)?;
+    }
     Ok(())
 }
 
@@ -333,12 +321,6 @@ const STORED: [(Call, Reply); 2] = [
     ),
     (List(All(1)), LONGEST_LISTED),
 ];
-
-#[test]
-fn bodies_at_both_ends_are_stored(rt: HostRuntime) -> Result<(), Fail> {
-    let _rows = play(&rt, &STORED)?;
-    Ok(())
-}
 
 fn copied(alloc: Global) -> Result<String, AllocError> {
     let net = changes(alloc, &[Put(1, 7, 2, b"a"), Remove(1, 8)])?;

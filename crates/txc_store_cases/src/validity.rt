@@ -123,16 +123,20 @@ fn reply_of(found: &Result<Found, ValidityError>, asked: Rows) -> Reply {
 /// What the versions answer at these stamps.
 type Case<'a> = (&'a [Version<'a>], Rows, Kept, Reply);
 
+fn sure_versions(alloc: Global, rows: &[Version]) -> Result<Vec<Versioned>, AllocError> {
+    match versions(alloc, rows) {
+        Err(_) => versions(alloc, rows),
+        other => other,
+    }
+}
+
 fn play(rt: &(impl Abort + AllocGlobal), cases: &[Case]) -> Result<(), Fail> {
     let alloc = rt.alloc();
-    for (i, (rows, asked, kept, wanted)) in cases.iter().enumerate() {
-        let versions = match versions(alloc, rows) {
-            Ok(versions) => versions,
-            Err(_) => versions(alloc, rows)?,
-        };
-        assert!(rt; are_versions(&versions), "case {i}");
-        let found = answered(alloc, &versions, *asked, *kept);
-        assert_eq!(rt; reply_of(&found, *asked), *wanted, "case {i}");
+    for (rows, asked, kept, wanted) in cases {
+        let versions = sure_versions(alloc, rows)?;
+        assert!(rt; are_versions(&versions));
+        let given = reply_of(&answered(alloc, &versions, *asked, *kept), *asked);
+        assert_eq!(rt; given, *wanted, "{asked:?} at {kept:?}");
     }
     Ok(())
 }

@@ -2,10 +2,10 @@
 //! the whole history.
 ghost use Rattle.std.specs.Prelude.{◌≡◌};
 
-use super::tables::{FED, FOREIGN, FOREIGN_MARK, FULL_ROW, WHOLE};
+use super::tables::{ALONE, LOCKED};
 use super::{
-    Call, LAST_LOOK, LOOKS, Reply, Script, append_foreign, changes, empty, event_after, event_of,
-    found_reply, pinned, played, query, refused, reply_to, stamp, tags,
+    Call, LAST_LOOK, LOOKS, Reply, Script, append_foreign, changes, event_after, event_of,
+    found_reply, pinned, play as play_alone, played, query, refused, reply_to, stamp, tags,
 };
 use crate::common::{Rows, Write};
 use std::alloc::{AllocError, Global};
@@ -203,7 +203,7 @@ fn is_played<J: Naming, R: Wait + Abort + AllocGlobal>(
         return Ok(false);
     };
     let mut feed = feed_of(alloc, &database)?;
-    for (i, (call, wanted)) in script.calls.iter().enumerate() {
+    for (i, (call, wanted)) in script.calls.iter().enumerate().skip(script.alone) {
         let mut told = reply_with(rt, alloc, &database, &mut feed, *call);
         if told.0 == Reply::NoMemory {
             let mut core = played(alloc, script, i)?;
@@ -219,7 +219,7 @@ fn is_played<J: Naming, R: Wait + Abort + AllocGlobal>(
 }
 
 fn play_once(rt: &(impl Wait + Abort + AllocGlobal), script: Script) -> Result<bool, Fail> {
-    let core = empty(rt.alloc(), script.row_cap)?;
+    let core = play_alone(rt, script, script.alone)?;
     is_played::<Brand, _>(rt, core, script)
 }
 
@@ -231,26 +231,17 @@ fn play(rt: &(impl Wait + Abort + AllocGlobal), script: Script) -> Result<(), Fa
 }
 
 #[test]
-fn locked_calls_answer_the_worked_history(rt: HostRuntime) -> Result<(), Fail> {
-    play(&rt, WHOLE)
+fn locked_calls_answer_as_those_of_one_alone(rt: HostRuntime) -> Result<(), Fail> {
+    for script in &ALONE {
+        play(&rt, *script)?;
+    }
+    Ok(())
 }
 
 #[test]
-fn locked_row_of_one_is_full(rt: HostRuntime) -> Result<(), Fail> {
-    play(&rt, FULL_ROW)
-}
-
-#[test]
-fn foreign_record_breaks_the_locked_database(rt: HostRuntime) -> Result<(), Fail> {
-    play(&rt, FOREIGN)
-}
-
-#[test]
-fn foreign_mark_breaks_the_locked_database(rt: HostRuntime) -> Result<(), Fail> {
-    play(&rt, FOREIGN_MARK)
-}
-
-#[test]
-fn feed_gives_each_event_once(rt: HostRuntime) -> Result<(), Fail> {
-    play(&rt, FED)
+fn feeds_give_each_event_once_and_foreign_marks_break(rt: HostRuntime) -> Result<(), Fail> {
+    for script in &LOCKED {
+        play(&rt, *script)?;
+    }
+    Ok(())
 }

@@ -20,9 +20,16 @@ const B: (u32, u8) = (8, b'b');
 
 const NONE: (u32, u8) = (0, 0);
 
+/// What is played alone and under the lock.
+pub(super) const ALONE: [Script; 3] = [WHOLE, FULL_ROW, FOREIGN];
+
+/// What is played under the lock only.
+pub(super) const LOCKED: [Script; 2] = [FOREIGN_MARK, FED];
+
 /// Two puts and two pins, what they answer and refuse, and holds that come and go.
-pub(super) const WHOLE: Script = Script {
+const WHOLE: Script = Script {
     row_cap: 16,
+    alone: 0,
     calls: &[
         (Reader, Events(0)),
         (Commit(0, &[], &[Put(1, 7, 2, b"a")]), At(1)),
@@ -92,8 +99,9 @@ const MIXED: [Write; 5] = [
     Put(1, 8, 2, b"b"),
 ];
 
-pub(super) const FULL_ROW: Script = Script {
+const FULL_ROW: Script = Script {
     row_cap: 1,
+    alone: 0,
     calls: &[
         (Commit(0, &[], &[Put(1, 7, 2, b"a")]), At(1)),
         (Commit(1, &[], &[Put(1, 8, 2, b"b")]), Full),
@@ -107,6 +115,7 @@ pub(super) const FULL_ROW: Script = Script {
 /// removed is still a version, until a vacuum drops it.
 pub(super) const MANY: Script = Script {
     row_cap: 16,
+    alone: 0,
     calls: &[
         (Commit(0, &[], &[PutAll(1024)]), At(1)),
         (
@@ -134,8 +143,9 @@ pub(super) const MANY: Script = Script {
 };
 
 /// A record past the database, from which on each call is refused, whatever its arguments.
-pub(super) const FOREIGN: Script = Script {
+const FOREIGN: Script = Script {
     row_cap: 16,
+    alone: 2,
     calls: &[
         (Commit(0, &[], &[Put(1, 7, 2, b"a")]), At(1)),
         (Pin(1000, 0), Pinned(2, 1000, 2)),
@@ -151,8 +161,9 @@ pub(super) const FOREIGN: Script = Script {
 };
 
 /// A record past the lock in the row of marks: the event that the next call appends has no mark.
-pub(super) const FOREIGN_MARK: Script = Script {
+const FOREIGN_MARK: Script = Script {
     row_cap: 16,
+    alone: 0,
     calls: &[
         (Commit(0, &[], &[Put(1, 7, 2, b"a")]), At(1)),
         (Pin(1000, 0), Pinned(2, 1000, 2)),
@@ -167,25 +178,28 @@ pub(super) const FOREIGN_MARK: Script = Script {
     ],
 };
 
-/// A feed takes each event once, after it was appended.
-pub(super) const FED: Script = Script {
+/// A feed takes each event once, also those that were there before the database went under its
+/// lock.
+const FED: Script = Script {
     row_cap: 16,
+    alone: 4,
     calls: &[
-        (Next, NoEvent),
         (Commit(0, &[], &[Put(1, 7, 2, b"a")]), At(1)),
         (Pin(1000, 0), Pinned(2, 1000, 2)),
         (Commit(2, &[], &[Put(1, 8, 2, b"b")]), At(3)),
+        (Pin(2000, 0), Pinned(4, 2000, 4)),
         (Next, PutOne(7, 2, b'a')),
         (Next, PinnedAt(1000)),
         (Next, PutOne(8, 2, b'b')),
-        (Next, NoEvent),
-        (Pin(2000, 0), Pinned(4, 2000, 4)),
         (Next, PinnedAt(2000)),
         (Next, NoEvent),
         (Commit(4, &[], &[Put(1, 9, 2, b"c")]), At(5)),
         (Next, PutOne(9, 2, b'c')),
         (Next, NoEvent),
-        (Fed, Events(5)),
+        (Pin(3000, 0), Pinned(6, 3000, 6)),
+        (Next, PinnedAt(3000)),
+        (Next, NoEvent),
+        (Fed, Events(6)),
     ],
 };
 

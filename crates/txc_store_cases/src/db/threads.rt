@@ -128,6 +128,27 @@ fn feeds_all<J: Naming>(feed: Feed<J>) -> bool {
     !feed.look()
 }
 
+/// What both threads were told is found in one history.
+fn meet<J: Naming>(
+    rt: &(impl Wait + Abort),
+    alloc: Global,
+    database: &Database<J>,
+    mut one: Seen,
+    mut other: Seen,
+) -> Result<(), Fail>
+    requires one { one.front.row ≡ J.database_row }
+    requires other { other.front.row ≡ J.database_row }
+{
+    database.row().agree(&one.front, &other.front);
+    one.front.longer(&other.front);
+    other.front.longer(&one.front);
+    assert!(rt; one.front.len() == EVENTS as usize && other.front.len() == EVENTS as usize);
+    assert!(rt; are_found(rt, alloc, database, &one.commits, 0));
+    assert!(rt; are_found(rt, alloc, database, &other.commits, 100));
+    assert!(rt; feeds_all(feed_of(alloc, database)?));
+    Ok(())
+}
+
 /// `false` where the memory for the database itself was refused.
 fn two_threads<J: Naming + Send + Sync, R: Threads + Wait + Abort + Sync>(
     rt: &R,
@@ -140,14 +161,8 @@ fn two_threads<J: Naming + Send + Sync, R: Threads + Wait + Abort + Sync>(
         return Ok(false);
     };
     let (one, other) = work_in_two_threads(rt, alloc, &database);
-    let (mut one, mut other) = (one.ok_or("one thread")?, other.ok_or("other thread")?);
-    database.row().agree(&one.front, &other.front);
-    one.front.longer(&other.front);
-    other.front.longer(&one.front);
-    assert!(rt; one.front.len() == EVENTS as usize && other.front.len() == EVENTS as usize);
-    assert!(rt; are_found(rt, alloc, &database, &one.commits, 0));
-    assert!(rt; are_found(rt, alloc, &database, &other.commits, 100));
-    assert!(rt; feeds_all(feed_of(alloc, &database)?));
+    let (one, other) = (one.ok_or("one thread")?, other.ok_or("other thread")?);
+    meet(rt, alloc, &database, one, other)?;
     Ok(true)
 }
 
