@@ -117,11 +117,12 @@ def examples() -> list[Case]:
 def count(case: Case) -> tuple[int, Ended]:
     """How many allocations a run makes where none is refused, and how it ends."""
     file = f"{sys.argv[1]}.count"
-    # a file that the last run left would hide that this one wrote none
-    open(file, "w").close()
+    # what the last run left would hide that this one counted nothing
+    open(file, "wb").close()
     whole = run(case, REFUSE_COUNT=file)
-    with open(file) as it:
-        return int(it.read() or -1), whole
+    with open(file, "rb") as it:
+        counted = it.read()
+    return int.from_bytes(counted, "little") if counted else -1, whole
 
 
 def chosen(allocations: int) -> list[int]:
