@@ -16,7 +16,10 @@ from functools import partial
 from typing import Callable, NamedTuple
 
 # Tests that count to a limit of a million, and so have as many allocations as that.
-LEFT_OUT: set[str] = set()
+LEFT_OUT = {
+    "txc_cases stream::the_largest_row_is_filled_and_walked",
+    "txc_store_cases run::a_reader_that_never_ends",
+}
 
 # A run with at most so many allocations has each refused, a longer one an evenly spaced sample.
 ALL = 10_000
@@ -114,9 +117,12 @@ def examples() -> list[Case]:
 def count(case: Case) -> tuple[int, Ended]:
     """How many allocations a run makes where none is refused, and how it ends."""
     file = f"{sys.argv[1]}.count"
+    # what the last run left would hide that this one counted nothing
+    open(file, "wb").close()
     whole = run(case, REFUSE_COUNT=file)
-    with open(file) as it:
-        return int(it.read()), whole
+    with open(file, "rb") as it:
+        counted = it.read()
+    return int.from_bytes(counted, "little") if counted else -1, whole
 
 
 def chosen(allocations: int) -> list[int]:
@@ -133,6 +139,8 @@ def refuse(pool: ThreadPoolExecutor, case: Case) -> tuple[int, int]:
     """Refuses the case's allocations, and returns how many, and how many runs ended badly."""
     allocations, whole = count(case)
     why = stopped(whole) or case.wrong(case, whole, whole)
+    if not why and allocations < 0:
+        why = "its allocations were not counted"
     if why:
         print(f"{case.name}: fails where nothing is refused: {why}", flush=True)
         return 0, 1

@@ -1,7 +1,7 @@
 /* An allocator for LD_PRELOAD that refuses one allocation of the process that loads it.
  *
  * REFUSE_AT=N      refuses the N-th allocation, once: it returns NULL, and errno is ENOMEM
- * REFUSE_COUNT=F   writes into the file F, at the end, how many allocations there were
+ * REFUSE_COUNT=F   keeps in the file F, as a word of 8 bytes, how many allocations there were
  *
  * Every call that may return NULL is an allocation, a realloc to a smaller size too.
  * Those of the loader, before the program's own code, are not counted.
@@ -9,42 +9,45 @@
  * cc -shared -fPIC -O2 -o refuse.so refuse.c
  */
 #include <errno.h>
+#include <fcntl.h>
 #include <stdatomic.h>
 #include <stdbool.h>
 #include <stddef.h>
-#include <stdio.h>
+#include <stdint.h>
 #include <stdlib.h>
+#include <sys/mman.h>
+#include <unistd.h>
 
 void *__libc_malloc(size_t);
 void *__libc_calloc(size_t, size_t);
 void *__libc_realloc(void *, size_t);
 void *__libc_memalign(size_t, size_t);
 
-static atomic_bool counts;
-static atomic_ulong count;
-static unsigned long refused_at;
+static _Atomic uint64_t own_count;
+static _Atomic uint64_t *count;
+static uint64_t refused_at;
+
+/* The count lies in the file from the first allocation on, since a process may end by _exit. */
+static _Atomic uint64_t *count_in(const char *name)
+{
+    int file = name ? open(name, O_RDWR | O_CREAT, 0600) : -1;
+    if (file < 0 || ftruncate(file, sizeof *count))
+        return &own_count;
+    void *made = mmap(NULL, sizeof *count, PROT_READ | PROT_WRITE, MAP_SHARED, file, 0);
+    close(file);
+    return made == MAP_FAILED ? &own_count : made;
+}
 
 __attribute__((constructor)) static void begin(void)
 {
     const char *at = getenv("REFUSE_AT");
-    refused_at = at ? strtoul(at, NULL, 10) : 0;
-    counts = true;
-}
-
-__attribute__((destructor)) static void end(void)
-{
-    const char *name = getenv("REFUSE_COUNT");
-    counts = false;
-    FILE *file = name ? fopen(name, "w") : NULL;
-    if (file) {
-        fprintf(file, "%lu\n", (unsigned long)count);
-        fclose(file);
-    }
+    refused_at = at ? strtoull(at, NULL, 10) : 0;
+    count = count_in(getenv("REFUSE_COUNT"));
 }
 
 static bool refuses(void)
 {
-    if (!counts || atomic_fetch_add(&count, 1) + 1 != refused_at)
+    if (!count || atomic_fetch_add(count, 1) + 1 != refused_at)
         return false;
     errno = ENOMEM;
     return true;
