@@ -23,7 +23,7 @@ use Rattle.txc_db.proofs.Histories.{state_before, tags_stay}
 
 -- ---- with a net change or none
 
-pub empty_or : (net : List Change) → (net ≡ []) ⊎ (net ≢ [])
+empty_or : (net : List Change) → (net ≡ []) ⊎ (net ≢ [])
 empty_or [] = inl refl
 empty_or (c ∷ cs) = inr (λ e. let f = e in absurd cc)
 
@@ -31,10 +31,10 @@ some_is : (net : List Change) (d other : DatabaseValue) → net ≢ [] → where
 some_is [] d other some = absurd (some refl)
 some_is (c ∷ cs) d other some = refl
 
-pub quiet_commit : (d : DatabaseValue) (changes : List Change) → newest_net d changes ≡ [] → after_commit d changes ≡ d
+quiet_commit : (d : DatabaseValue) (changes : List Change) → newest_net d changes ≡ [] → after_commit d changes ≡ d
 quiet_commit d changes none = ap (λ (net : List Change). where_some net d (after_event_of d (commit_event (newest_state d) changes) (newest_net d changes))) none
 
-pub event_commit : (d : DatabaseValue) (changes : List Change) → newest_net d changes ≢ []
+event_commit : (d : DatabaseValue) (changes : List Change) → newest_net d changes ≢ []
     → after_commit d changes ≡ after_event_of d (commit_event (newest_state d) changes) (newest_net d changes)
 event_commit d changes some = some_is (newest_net d changes) d (after_event_of d (commit_event (newest_state d) changes) (newest_net d changes)) some
 
@@ -48,32 +48,9 @@ commit_begins d changes = elim (empty_or (newest_net d changes)) [
   | inr some ↦ subst (λ (l : History). IsPrefix d.history l) (sym (event_history d changes some)) (prefix_push d.history (commit_event (newest_state d) changes))
 ]
 
-row_stays : (net : List Change) (d : DatabaseValue) (e : EventValue) → (where_some net d (after_event_of d e net)).row ≡ d.row
-row_stays [] d e = refl
-row_stays (c ∷ cs) d e = refl
-
-pub commit_row : (d : DatabaseValue) (changes : List Change) → (after_commit d changes).row ≡ d.row
-commit_row d changes = row_stays (newest_net d changes) d (commit_event (newest_state d) changes)
-
-broken_stays : (net : List Change) (d : DatabaseValue) (e : EventValue) → (where_some net d (after_event_of d e net)).broken ≡ d.broken
-broken_stays [] d e = refl
-broken_stays (c ∷ cs) d e = refl
-
-pub commit_broken : (d : DatabaseValue) (changes : List Change) → (after_commit d changes).broken ≡ d.broken
-commit_broken d changes = broken_stays (newest_net d changes) d (commit_event (newest_state d) changes)
-
 -- a commit that leaves another newest stamp has a net change
 pub some_net : (d : DatabaseValue) (changes : List Change) (was is : ℕ) → was ≡ newest d → is ≡ newest (after_commit d changes) → was ≢ is → newest_net d changes ≢ []
 some_net d changes was is old new more none = more (old ∙ (sym (ap newest (quiet_commit d changes none)) ∙ sym new))
-
--- one that leaves the newest stamp leaves the database
-pub same_newest : (d : DatabaseValue) (changes : List Change) (was is : ℕ) → was ≡ newest d → is ≡ newest (after_commit d changes) → is ≤ was → after_commit d changes ≡ d
-same_newest d changes was is old new le = elim (empty_or (newest_net d changes)) [
-  | inl none ↦ quiet_commit d changes none
-  | inr some ↦
-      let more : newest (after_commit d changes) ≡ newest d + 1 = ap (λ (l : History). length l) (event_history d changes some) ∙ length_push d.history (commit_event (newest_state d) changes) in
-      absurd (omega (arith, old, new, more, le))
-]
 
 -- ---- its answer
 
@@ -116,8 +93,3 @@ commit_result d new base read changes (Ok answered) after answer front due =
     commit_answer d base answered.answer read changes answered.front.history
     (ap (λ (f : FrontValue). f.history) front ∙ ap (λ (v : DatabaseValue). v.history) after) (answer ∙ ap newest after) (due refl)
 commit_result d new base read changes (Err e) after answer front due = tt
-
--- ---- marks
-
-pub last_pushed : (marks : List History) (m : History) → last_mark (marks ++ m ∷ []) ≡ m
-last_pushed marks m = fold-append (λ (before mark : History). mark) [] marks (m ∷ [])

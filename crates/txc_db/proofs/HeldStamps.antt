@@ -62,10 +62,6 @@ least_first newest (y ∷ ys) x rises high at =
     let rest = least_of_all newest y ys high.0 rises.0 in
     omega (arith, rest, same)
 
-pub least_none : (newest : ℕ) (xs : List ℕ) → slice_get xs 0 ≡ None → newest ≡ least newest xs
-least_none newest [] at = refl
-least_none newest (y ∷ ys) at = absurd (let f = at in cc)
-
 pub within_newest : (horizon newest : ℕ) (xs : List ℕ) → AllByRecursion (IsReadable horizon newest) xs → AllByRecursion (λ s. s ≤ newest) xs
 within_newest horizon newest [] h = tt
 within_newest horizon newest (x ∷ xs) h = (h.0.high, within_newest horizon newest xs h.1)
@@ -96,15 +92,6 @@ not_held stamp [] h = refl
 not_held stamp (x ∷ xs) h =
     let off : (x == stamp) ≡ false = let ne = h zero (omega arith) in ne_eqb x stamp ne in
     rw off (not_held stamp xs (λ k b. h (suc k) (omega (arith, b))))
-
-pub held_at : (stamp : ℕ) (xs : List ℕ) (i : ℕ) → i < length xs → get_or xs i 0 ≡ stamp → is_held stamp xs ≡ true
-held_at stamp [] i below at = absurd (omega (arith, below))
-held_at stamp (x ∷ xs) zero below at = let here : (x == stamp) ≡ true = eq-eqb x stamp at in rw here refl
-held_at stamp (x ∷ xs) (suc i) below at = rw (held_at stamp xs i (omega (arith, below)) at) (or_true (x == stamp))
-  where
-    or_true : (b : Bool) → b || true ≡ true
-    or_true true = refl
-    or_true false = refl
 
 -- ---- other horizons and newest stamps
 
