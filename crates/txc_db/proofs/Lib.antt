@@ -1,9 +1,11 @@
 pub mod Histories
-pub mod Holds
+pub mod HeldStamps
 pub mod Settling
 pub mod NetRows
 pub mod Sound
 pub mod Tagged
-pub mod Telling
-pub mod Left
+pub mod Committed
+pub mod Refusing
+pub mod Sharing
 pub mod Crosses
+pub mod Captured

@@ -1,5 +1,5 @@
 -- The rows that net changes find, and the tags of a commit.
-use Rattle.std.proofs.Common.{◌≡◌, ◌⊎◌, inl, inr, ℕ, zero, suc, ◌+◌, List, [], ◌∷◌, ◌++◌, filter, take, Bool, true, false, cond, slice_get, Some, refl, sym, ap, subst, ◌∙◌, eqb-true, add-one}
+use Rattle.std.proofs.Common.{◌≡◌, ◌⊎◌, inl, inr, ℕ, zero, suc, ◌+◌, ◌≤◌, List, [], ◌∷◌, ◌++◌, filter, take, Bool, true, false, cond, slice_get, Some, refl, sym, ap, subst, ◌∙◌, eqb-true, add-one}
 use Rattle.std.specs.List.{AllByRecursion, list_any, flat_map}
 use Rattle.txc_tags.specs.declared.tag.Tag.{Tag}
 use Rattle.txc_tags.specs.Tags.{with_tags, set_of}
@@ -12,10 +12,8 @@ use Rattle.txc_rows.specs.Net.{change_table, change_id, same_key, key_before, ch
 use Rattle.txc_rows.specs.Laws.{NetTags, NetLeads}
 use Rattle.txc_rows.proofs.Members.{any_there, any_found, both_true, in_filter, from_filter, in_left, in_right}
 use Rattle.txc_rows.proofs.Rising.{same_rows, filter_state}
-use Rattle.txc_db.specs.declared.error.DbError.{DbError}
-use Rattle.txc_db.specs.declared.error.DbError.TheVariants.{SnapshotGone, Conflict, Full, Store, Broken, NotPinned, FutureStamp, HoldsFull, Memory}
 use Rattle.txc_db.specs.DatabaseValue.{DatabaseValue}
-use Rattle.txc_db.specs.Calls.{IsReadRefused, IsNetRefused}
+use Rattle.txc_db.specs.Calls.{matching_of, max_matching, row_query, AreFewNamed}
 use Rattle.txc_db.specs.NetWith.{found_rows, IsNetWith}
 use Rattle.txc_db.proofs.Settling.{tags_then, flat_then}
 
@@ -155,14 +153,53 @@ pub settled_in : (x : Change) (cs : List Change) → IsIn x (settled cs) → IsI
 settled_in x [] h = absurd h
 settled_in x (c ∷ cs) h = elim (placed_in x c (settled cs) h) [ inl same ↦ inl same | inr there ↦ inr (settled_in x cs there) ]
 
--- a refusal at one of the changes is one of all of them
-pub net_refused : (d : DatabaseValue) (changes : List Change) (c : Change) → IsIn c changes → (e : DbError) → IsReadRefused d (ById (change_table c) (change_id c)) e → IsNetRefused d changes e
-net_refused d changes c one (SnapshotGone horizon) h = h
-net_refused d changes c one (Conflict first) h = h
-net_refused d changes c one Full h = h
-net_refused d changes c one (Store cause) h = (c, one, h)
-net_refused d changes c one Broken h = h
-net_refused d changes c one (NotPinned stamp) h = h
-net_refused d changes c one (FutureStamp last) h = h
-net_refused d changes c one HoldsFull h = h
-net_refused d changes c one Memory h = h
+-- ---- each change has one of its key among what settles
+
+pub record IsOfKey (c : Change) (ds : List Change) : Type 0 where
+  pub change : Change
+  pub one : IsIn change ds
+  pub table : change_table change ≡ change_table c
+  pub id : change_id change ≡ change_id c
+
+placed_has : (c : Change) (ds : List Change) → IsOfKey c (placed c ds)
+placed_has c [] = record { change = c; one = inl refl; table = refl; id = refl }
+placed_has c (d ∷ ds) = go (same_key c d) refl (key_before c d) (placed_has c ds)
+  where
+    go : (b : Bool) → same_key c d ≡ b → (e : Bool) → IsOfKey c (placed c ds) → IsOfKey c (cond b (d ∷ ds) (cond e (c ∷ (d ∷ ds)) (d ∷ placed c ds)))
+    go true is e rest = let keys = both_true _ _ is in record { change = d; one = inl refl; table = sym (eqb-true _ _ keys.0); id = sym (eqb-true _ _ keys.1) }
+    go false is true rest = record { change = c; one = inl refl; table = refl; id = refl }
+    go false is false rest = record { change = rest.change; one = inr rest.one; table = rest.table; id = rest.id }
+
+placed_keeps : (c x : Change) (ds : List Change) → IsIn x ds → IsIn x (placed c ds)
+placed_keeps c x [] h = absurd h
+placed_keeps c x (d ∷ ds) h = go (same_key c d) (key_before c d) h (placed_keeps c x ds)
+  where
+    go : (b e : Bool) → IsIn x (d ∷ ds) → (IsIn x ds → IsIn x (placed c ds)) → IsIn x (cond b (d ∷ ds) (cond e (c ∷ (d ∷ ds)) (d ∷ placed c ds)))
+    go true e k rest = k
+    go false true k rest = inr k
+    go false false (inl same) rest = inl same
+    go false false (inr later) rest = inr (rest later)
+
+settled_has : (c : Change) (cs : List Change) → IsIn c cs → IsOfKey c (settled cs)
+settled_has c [] h = absurd h
+settled_has c (d ∷ cs) (inl same) = subst (λ (x : Change). IsOfKey x (placed d (settled cs))) (sym same) (placed_has d (settled cs))
+settled_has c (d ∷ cs) (inr later) =
+    let it = settled_has c cs later in
+    record { change = it.change; one = placed_keeps d it.change (settled cs) it.one; table = it.table; id = it.id }
+
+-- what is so of each key that settles is so of each that a change names
+pub few_named : (d : DatabaseValue) (changes : List Change) → ((x : Change) → IsIn x (settled changes) → matching_of d (row_query x) ≤ max_matching) → AreFewNamed d changes
+few_named d changes few c one =
+    let it = settled_has c changes one in
+    subst (λ (i : ℕ). matching_of d (ById (change_table c) i) ≤ max_matching) it.id (subst (λ (t : ℕ). matching_of d (ById t (change_id it.change)) ≤ max_matching) it.table (few it.change it.one))
+
+-- what is among one more was among them, or is the one
+pub taken_in : (cs : List Change) (i : ℕ) (c x : Change) → slice_get cs i ≡ Some c → IsIn x (take (i + 1) cs) → IsIn x (take i cs) ⊎ (x ≡ c)
+taken_in cs i c x at h = go cs i at (subst (λ (n : ℕ). IsIn x (take n cs)) (add-one i) h)
+  where
+    go : (ds : List Change) (j : ℕ) → slice_get ds j ≡ Some c → IsIn x (take (suc j) ds) → IsIn x (take j ds) ⊎ (x ≡ c)
+    go [] j k one = absurd one
+    go (d ∷ ds) zero k (inl same) = let is : d ≡ c = cc k in inr (same ∙ is)
+    go (d ∷ ds) zero k (inr later) = absurd later
+    go (d ∷ ds) (suc j) k (inl same) = inl (inl same)
+    go (d ∷ ds) (suc j) k (inr later) = elim (go ds j k later) [ inl before ↦ inl (inr before) | inr last ↦ inr last ]

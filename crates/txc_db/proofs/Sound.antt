@@ -13,7 +13,7 @@ use Rattle.txc_db.specs.Facts.{Fact, EventValue, commit}
 use Rattle.txc_db.specs.History.{state_at, pin_event, after_fact}
 use Rattle.txc_db.specs.DatabaseValue.{DatabaseValue, newest, newest_state, IsSound, IsReadable, least}
 use Rattle.txc_db.proofs.Histories.{states_stay, state_before, state_pushed, tagged_pushed}
-use Rattle.txc_db.proofs.Holds.{all_push, rises_push, least_low, least_high, readable_later, readable_from}
+use Rattle.txc_db.proofs.HeldStamps.{all_push, rises_push, least_low, least_high, readable_later, readable_from}
 
 -- the versions keep the old states of a longer history
 kept_on : KeepsAgreed → (d : DatabaseValue) (e : EventValue) → IsSound d → KeepsStates (state_at (d.history ++ e ∷ [])) d.horizon (newest d) d.versions

@@ -1,10 +1,11 @@
--- Events beside their tags.
+-- Events beside their tags, and fronts of them.
 use Rattle.std.proofs.Common.{◌≡◌, ℕ, suc, ◌+◌, ◌==◌, ◌≤◌, Bool, true, false, List, Some, slice_get, refl, ap, sym, ◌∙◌, add-one, eqb-true, arith}
 use Rattle.std.proofs.lemmas.Bool.{eqb-false}
 use Rattle.txc_tags.specs.Tags.{sets_match}
 use Rattle.txc_db.specs.Refusals.{NoneMatches}
 use Rattle.txc_tags.specs.declared.tag.Tag.{Tag}
 use Rattle.txc_db.specs.Facts.{EventValue}
+use Rattle.txc_db.specs.Seen.{FrontValue}
 use Rattle.txc_db.specs.History.{History, AreTagged, tags_at}
 
 -- the event at a place has the tags of the stamp after it
@@ -18,3 +19,9 @@ none_more L base t read none off e low high = go (e == t + 1) refl
     go : (b : Bool) → (e == t + 1) ≡ b → sets_match (tags_at L e) read ≡ false
     go true is = let same : e ≡ t + 1 = eqb-true e (t + 1) is in ap (λ n. sets_match (tags_at L n) read) same ∙ off
     go false is = let up : e ≤ t = let ne = eqb-false e (t + 1) is in omega (arith, high, ne) in none e low up
+
+-- a front is its row and its history
+pub front_is : (f : FrontValue) (row : List ℕ) (L : History) → f.row ≡ row → f.history ≡ L → f ≡ record { row = row; history = L }
+front_is f row L same is =
+    let one : f ≡ record { row = row; history = f.history } = ap (λ (r : List ℕ). let g : FrontValue = record { row = r; history = f.history } in g) same in
+    one ∙ ap (λ (l : History). let g : FrontValue = record { row = row; history = l } in g) is

@@ -1,10 +1,15 @@
 -- What callers see of a database.
-use Rattle.std.specs.Prelude.{ℕ, ◌+◌, ◌≤◌, Bool, List, [], ◌∷◌, length, min, ◌==◌, if◌then◌else◌}
+use Rattle.std.specs.Prelude.{ℕ, ◌+◌, ◌≤◌, Bool, List, [], ◌∷◌, ◌++◌, length, min, ◌==◌, if◌then◌else◌}
 use Rattle.std.specs.List.{AllByRecursion, list_any}
 use Rattle.txc_rows.specs.declared.version.Versioned.{Versioned}
 use Rattle.txc_rows.specs.States.{State}
 use Rattle.txc_rows.specs.Keeping.{KeepsStates}
-use Rattle.txc_db.specs.History.{History, state_at, AreTagged}
+use Rattle.txc_rows.specs.declared.query.Change.{Change}
+use Rattle.txc_rows.specs.Net.{net_changes}
+use Rattle.txc_rows.specs.Versions.{after_net, purged}
+use Rattle.txc_db.specs.Facts.{EventValue}
+use Rattle.txc_db.specs.Seen.{FrontValue}
+use Rattle.txc_db.specs.History.{History, state_at, AreTagged, pin_event, commit_event}
 
 -- the names of its row's cells; the history; the versions that are kept; the horizon; the stamps that are held, one for
 -- each hold, the earliest hold first; and whether another record was found in its row
@@ -16,6 +21,10 @@ pub record DatabaseValue : Type 0 where
   pub holds : List ℕ
   pub broken : Bool
 
+-- what a front of the whole history shows
+abbrev pub front_of : DatabaseValue → FrontValue
+front_of d = record { row = d.row; history = d.history }
+
 -- the stamp after all events
 abbrev pub newest : DatabaseValue → ℕ
 newest d = length d.history
@@ -23,10 +32,6 @@ newest d = length d.history
 -- the state after all events
 abbrev pub newest_state : DatabaseValue → State
 newest_state d = state_at d.history (newest d)
-
--- the most holds at a time
-abbrev pub most_holds : ℕ
-most_holds = 65536
 
 -- the least of the stamps, or the newest stamp where there is none
 abbrev pub least : ℕ → List ℕ → ℕ
@@ -42,7 +47,7 @@ holds_of stamp (s ∷ ss) = (if s == stamp then 1 else 0) + holds_of stamp ss
 abbrev pub is_held : ℕ → List ℕ → Bool
 is_held stamp holds = list_any (λ s. s == stamp) holds
 
--- one hold of the stamp less
+-- the holds without one of the stamp
 abbrev pub without : ℕ → List ℕ → List ℕ
 without stamp [] = []
 without stamp (s ∷ ss) = if s == stamp then ss else s ∷ without stamp ss
@@ -64,3 +69,42 @@ pub record IsSound (d : DatabaseValue) : Type 0 where
   pub kept : KeepsStates (state_at d.history) d.horizon (newest d) d.versions
   pub held : AllByRecursion (IsReadable d.horizon (newest d)) d.holds
   pub rising : Rises d.holds
+
+-- ---- after the calls
+
+-- one hold more, of the newest stamp
+abbrev pub after_hold : DatabaseValue → DatabaseValue
+after_hold d = record d { holds = d.holds ++ newest d ∷ [] }
+
+-- one hold of the stamp fewer
+abbrev pub after_unpin : DatabaseValue → ℕ → DatabaseValue
+after_unpin d stamp = record d { holds = without stamp d.holds }
+
+-- what a vacuum makes the horizon: the least held stamp, or the newest where none is held
+abbrev pub next_horizon : DatabaseValue → ℕ
+next_horizon d = least (newest d) d.holds
+
+-- that horizon, and only the versions that a stamp from it on shows
+abbrev pub after_vacuum : DatabaseValue → DatabaseValue
+after_vacuum d = record d { horizon = next_horizon d; versions = purged (next_horizon d) d.versions }
+
+-- one event more, a pin of the moment, whose stamp is held
+abbrev pub after_pin : DatabaseValue → ℕ → DatabaseValue
+after_pin d moment = record d { history = d.history ++ pin_event moment ∷ []; holds = d.holds ++ (newest d + 1) ∷ [] }
+
+-- what the changes come to over the newest state
+abbrev pub newest_net : DatabaseValue → List Change → List Change
+newest_net d changes = net_changes (newest_state d) changes
+
+-- one event more, whose net changes are written at its stamp
+abbrev pub after_event_of : DatabaseValue → EventValue → List Change → DatabaseValue
+after_event_of d e net = record d { history = d.history ++ e ∷ []; versions = after_net (newest d + 1) net d.versions }
+
+-- d itself where there is no net change, else the other
+abbrev pub where_some : List Change → DatabaseValue → DatabaseValue → DatabaseValue
+where_some [] d other = d
+where_some (c ∷ cs) d other = other
+
+-- the commit of the changes is one event more; where they change nothing, d stays
+abbrev pub after_commit : DatabaseValue → List Change → DatabaseValue
+after_commit d changes = where_some (newest_net d changes) d (after_event_of d (commit_event (newest_state d) changes) (newest_net d changes))

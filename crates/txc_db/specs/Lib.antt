@@ -4,7 +4,9 @@ pub mod Seen
 pub mod DatabaseValue
 pub mod Refusals
 pub mod Calls
+pub mod Steps
 pub mod Laws
 pub mod NetWith
 pub mod Worked
-pub mod Told
+pub mod Shared
+pub mod Locked

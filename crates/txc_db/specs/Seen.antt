@@ -1,8 +1,17 @@
--- What a feed has shown so far.
-use Rattle.std.specs.Prelude.{ℕ}
+-- What fronts and feeds have seen of a history.
+use Rattle.std.specs.Prelude.{ℕ, List, [], fold}
 use Rattle.txc_db.specs.History.{History}
 
--- the events that it has seen, and how many of them were taken
-pub record Fed : Type 0 where
-  pub list : History
+-- the names of all cells of the row, and the events that were seen in the first of them
+pub record FrontValue : Type 0 where
+  pub row : List ℕ
+  pub history : History
+
+-- the events that a feed has seen, and how many of them were taken
+pub record FeedValue : Type 0 where
+  pub history : History
   pub taken : ℕ
+
+-- what the last of the marks shows; nothing where there is none
+abbrev pub last_mark : List History → History
+last_mark marks = fold (λ before mark. mark) [] marks

@@ -1,24 +1,25 @@
-ghost use Rattle.std.specs.Prelude.{◌≡◌, ◌≢◌, ◌+◌, ◌≤◌, ◌++◌, ◌∷◌, [], true, false, length, Err, IfOk, OnOk, OnErr, IfErr, IsOk};
+//! The database for one thread, which its lock holds too.
+ghost use Rattle.std.specs.Prelude.{◌≡◌, ◌+◌, ◌≤◌, ◌∷◌, [], ◌↔◌, true, false, length, Ok, Err, IfOk, OnOk, OnErr, IfErr, IsOk, IsTrue};
+ghost use mathlib.Core.List.{IsPrefix};
 ghost use Rattle.txc_rows.specs.RowTags.{query_tag};
-ghost use Rattle.txc_rows.specs.Net.{net_changes};
-ghost use Rattle.txc_rows.specs.Versions.{after_net, purged};
 ghost use Rattle.txc_validity.specs.Answers.{IsAnswer};
-ghost use Rattle.txc_db.specs.History.{state_at, commit_event, pin_event};
+ghost use Rattle.txc_db.specs.History.{state_at, pin_event};
 ghost use Rattle.txc_db.specs.Refusals.{IsWant};
-ghost use Rattle.txc_db.specs.DatabaseValue.{DatabaseValue, newest, newest_state, most_holds, least, without, is_held, IsSound};
-ghost use Rattle.txc_db.specs.Calls.{IsLeft, IsHoldRefused, IsUnpinRefused, IsVacuumRefused, IsPinnable, IsPinRefused, IsAnswerable, IsQueryRefused, IsCommittable, IsCommitRefused};
+ghost use Rattle.txc_db.specs.Calls.{IsLeft, IsHoldable, IsHoldRefused, IsUnpinRefused, IsVacuumRefused, IsPinnable, IsPinRefused, IsAnswerable, matching_of, max_matching, IsQueryRefused};
 
 use crate::error::DbError;
-use crate::event::Event;
+use crate::event::{Event, What};
+use crate::history_front::{HistoryFront, stamp_after};
+use crate::holds::{MAX_HOLDS, least_held, place_of};
 use crate::pinned::Pinned;
-use crate::state::DbState;
 use std::alloc::{AllocError, Global};
 use std::marker::Model;
-use txc_rows::{Change, Query, VersionRows};
+use std::sync::Arc;
+use txc_rows::{Query, VersionRows, tags_are_sound, versions_keep_states};
 use txc_stamp::Stamp;
-use txc_stream::{EventRow, Front, MAX_CAPACITY};
+use txc_stream::{EventRow, MAX_CAPACITY};
 use txc_tags::TagSet;
-use txc_validity::Found;
+use txc_validity::{Found, answer_at};
 
 /// A versioned database for one thread: one history of commits and pins, the versions of the rows from the horizon on,
 /// and the stamps that are held.
@@ -28,22 +29,28 @@ use txc_validity::Found;
 /// clauses say.
 #[derive(Drop)]
 pub struct DbCore {
-    pub(crate) row: EventRow<Event>,
-    pub(crate) state: DbState,
+    pub(crate) store: VersionRows,
+    pub(crate) front: HistoryFront,
+    horizon: Stamp,
+    // The earliest hold first, so that they rise.
+    holds: Vec<Stamp>,
+    pub(crate) broken: bool,
 }
 
 impl Model for DbCore {
-    ghost use Rattle.std.specs.Prelude.{◌≡◌};
-    ghost use Rattle.txc_db.specs.DatabaseValue.{DatabaseValue};
+    ghost use Rattle.std.specs.Prelude.{◌≡◌, false};
+    ghost use Rattle.txc_db.specs.DatabaseValue.{DatabaseValue, IsSound};
 
     ghost Value = { DatabaseValue };
 
-    ghost view = { λ d. d.state };
+    ghost view = { λ d. record { row = d.front.row; history = d.front.history; versions = d.store; horizon = d.horizon; holds = d.holds.items; broken = d.broken } };
 
-    ghost invariant = { λ d. d.row ≡ d.state.row };
+    ghost invariant = { λ d. d.broken ≡ false → IsSound (record { row = d.front.row; history = d.front.history; versions = d.store; horizon = d.horizon; holds = d.holds.items; broken = d.broken }) };
 }
 
 impl DbCore {
+    ghost use Rattle.txc_db.specs.DatabaseValue.{DatabaseValue, front_of, after_hold, after_pin, after_unpin, after_vacuum, newest, next_horizon, is_held, IsSound};
+
     /// An empty database with room for `row_cap` events.
     pub fn new(alloc: Global, row_cap: usize) -> Result<DbCore, DbError>
         requires least { 1 ≤ row_cap }
@@ -53,12 +60,16 @@ impl DbCore {
         ensures holds { IfOk result (λ d. (d.holds ≡ []) × (d.broken ≡ false)) }
         ensures refused { IfErr result IsWant }
     {
-        let row = EventRow::new(alloc, row_cap)?;
-        let front = row.start(alloc)?;
+        versions_keep_states();
+        let events = Arc::new(alloc, EventRow::new(alloc, row_cap)?)?;
+        let front = HistoryFront::new(alloc, events)?;
         let store = VersionRows::open_in_memory(alloc)?;
         Ok(DbCore {
-            row,
-            state: DbState::new(alloc, store, front),
+            store,
+            front,
+            horizon: Stamp::ZERO,
+            holds: Vec::new(alloc),
+            broken: false,
         })
     }
 
@@ -67,106 +78,221 @@ impl DbCore {
     pub fn is_sound(&self)
         ensures { self.now.broken ≡ false → IsSound self.now }
     {
-        self.state.is_sound()
+        let _whole = self.broken;
     }
 
-    /// The answer of the query at a stamp, with its validity and the query's tag.
-    pub fn query(&mut self, alloc: Global, query: &Query, stamp: Stamp) -> Result<Found, DbError>
-        ensures same { self.new ≡ self.old }
-        ensures answer { IfOk result (λ found. IsAnswer (state_at self.old.history) query.now stamp self.old.horizon (newest self.old) found) }
-        ensures tag { IfOk result (λ found. found.tags ≡ query_tag query.now ∷ []) }
-        ensures due { IsOk result → IsAnswerable self.old stamp }
-        ensures refused { IfErr result (IsQueryRefused self.old query.now stamp) }
+    /// Whether another record was found in its row.
+    pub(crate) fn is_broken(&self) -> bool
+        ensures { result ≡ self.now.broken }
     {
-        self.state.query(alloc, query, stamp)
+        self.broken
     }
 
-    /// Holds the newest stamp, so that no vacuum passes it until the hold is taken away.
-    pub fn hold(&mut self) -> Result<Stamp, DbError>
-        ensures ok { IfOk result (λ stamp. (stamp ≡ newest self.old) × (self.new ≡ record self.old { holds = self.old.holds ++ stamp ∷ [] })) }
-        ensures err { OnErr result (self.new ≡ self.old) }
-        ensures refused { IfErr result (IsHoldRefused self.old) }
-        ensures broken { self.old.broken ≡ true → result ≡ Err DbError.Broken }
-        ensures full { self.old.broken ≡ false → most_holds ≤ length self.old.holds → result ≡ Err DbError.HoldsFull }
+    /// From now on each call is refused as broken.
+    pub(crate) fn set_broken(&mut self)
+        ensures { self.new ≡ record self.old { broken = true } }
     {
-        self.state.hold()
+        self.broken = true;
     }
 
-    /// Commits the changes, where no event after the base has tags that match those read. It answers the newest stamp
-    /// that it leaves. Changes that change nothing add no event.
-    pub fn commit(
-        &mut self,
-        alloc: Global,
-        base: Stamp,
-        read: &TagSet,
-        changes: &[Change],
-    ) -> Result<Stamp, DbError>
-        ensures due { IsOk result → IsCommittable self.old base read.now changes.now }
-        ensures none { net_changes (newest_state self.old) changes.now ≡ [] → OnOk result (self.new ≡ self.old) }
-        ensures event { net_changes (newest_state self.old) changes.now ≢ [] → IfOk result (λ stamp. self.new ≡ record self.old { history = self.old.history ++ commit_event (newest_state self.old) changes.now ∷ []; versions = after_net stamp (net_changes (newest_state self.old) changes.now) self.old.versions }) }
-        ensures stamp { IfOk result (λ stamp. stamp ≡ newest self.new) }
-        ensures err { IfErr result (IsLeft self.old self.new) }
-        ensures refused { IfErr result (IsCommitRefused self.old base read.now changes.now) }
+    /// The history, for the crate's own use.
+    pub(crate) fn history(&self) -> &HistoryFront
+        ensures { result.now ≡ front_of self.now }
     {
-        self.state.commit(&self.row, alloc, base, read, changes)
+        &self.front
     }
 
-    /// Appends a pin of the moment `now`, in milliseconds, and holds its stamp, which is not below `at_least`.
-    pub fn pin(&mut self, alloc: Global, now: u64, at_least: Stamp) -> Result<Pinned, DbError>
-        ensures event { IfOk result (λ pinned. self.new ≡ record self.old { history = self.old.history ++ pin_event now ∷ []; holds = self.old.holds ++ pinned.stamp ∷ [] }) }
-        ensures stamp { IfOk result (λ pinned. pinned.stamp ≡ newest self.new) }
-        ensures moment { IfOk result (λ pinned. pinned.moment ≡ now) }
-        ensures front { IfOk result (λ pinned. (pinned.front.row ≡ self.new.row) × (pinned.front.list ≡ self.new.history)) }
-        ensures due { IsOk result → IsPinnable self.old at_least }
-        ensures err { IfErr result (IsLeft self.old self.new) }
-        ensures refused { IfErr result (IsPinRefused self.old at_least) }
+    /// A front of the history that shows nothing yet.
+    pub fn reader(&self, alloc: Global) -> Result<HistoryFront, AllocError>
+        ensures { IfOk result (λ front. front ≡ record { row = self.now.row; history = [] }) }
     {
-        self.state.pin(&self.row, alloc, now, at_least)
+        HistoryFront::new(alloc, self.front.row_handle()?)
     }
 
-    /// Takes one hold of the stamp away. It takes no memory.
-    pub fn unpin(&mut self, stamp: Stamp) -> Result<(), DbError>
-        ensures held { IsOk result → is_held stamp self.old.holds ≡ true }
-        ensures ok { OnOk result (self.new ≡ record self.old { holds = without stamp self.old.holds }) }
-        ensures err { OnErr result (self.new ≡ self.old) }
-        ensures refused { IfErr result (IsUnpinRefused self.old stamp) }
-        ensures broken { self.old.broken ≡ true → result ≡ Err DbError.Broken }
+    /// A front that shows the whole history.
+    pub fn front(&self, alloc: Global) -> Result<HistoryFront, AllocError>
+        ensures { IfOk result (λ front. front ≡ front_of self.now) }
     {
-        self.state.unpin(stamp)
-    }
-
-    /// Makes the horizon the least held stamp, or the newest where none is held, and drops the versions that no stamp
-    /// from there on shows.
-    pub fn vacuum(&mut self) -> Result<Stamp, DbError>
-        ensures horizon { IfOk result (λ horizon. horizon ≡ least (newest self.old) self.old.holds) }
-        ensures ok { IfOk result (λ horizon. self.new ≡ record self.old { horizon = horizon; versions = purged horizon self.old.versions }) }
-        ensures err { OnErr result (self.new ≡ self.old) }
-        ensures refused { IfErr result (IsVacuumRefused self.old) }
-        ensures broken { self.old.broken ≡ true → result ≡ Err DbError.Broken }
-    {
-        self.state.vacuum()
+        self.front.again(alloc)
     }
 
     /// The row of the events. Whoever appends to it breaks the database; tests do.
     pub fn row(&self) -> &EventRow<Event>
         ensures { result.now ≡ self.now.row }
     {
-        let _state = &self.state;
-        &self.row
+        self.front.row()
     }
 
-    /// A front of the history that shows nothing yet.
-    pub fn reader(&self, alloc: Global) -> Result<Front<Event>, AllocError>
-        ensures { IfOk result (λ front. (front.row ≡ self.now.row) × (front.list ≡ [])) }
+    /// The answer of the query at a stamp, with its validity and the query's tag.
+    pub fn query(&mut self, alloc: Global, query: &Query, stamp: Stamp) -> Result<Found, DbError>
+        ensures same { self.new ≡ self.old }
+        ensures answer { IfOk result (λ found.
+            IsAnswer (state_at self.old.history) query.now stamp self.old.horizon (newest self.old) found) }
+        ensures tag { IfOk result (λ found. found.tags ≡ query_tag query.now ∷ []) }
+        ensures only_if { IsOk result → IsAnswerable self.old stamp }
+        ensures few { IsOk result → matching_of self.old query.now ≤ max_matching }
+        ensures refused { IfErr result (IsQueryRefused self.old query.now stamp) }
     {
-        let _state = &self.state;
-        self.row.start(alloc)
+        if self.broken {
+            return Err(DbError::Broken);
+        }
+        let newest = self.front.newest();
+        if newest < stamp {
+            return Err(DbError::FutureStamp(newest));
+        }
+        if stamp < self.horizon {
+            return Err(DbError::SnapshotGone(self.horizon));
+        }
+        let versions = self.store.matching(query)?;
+        // The stamp is kept, so that there is no refusal left but that it is out of memory.
+        match answer_at(alloc, &versions, query, stamp, self.horizon, newest) {
+            Ok(found) => Ok(found),
+            Err(_) => Err(DbError::Memory),
+        }
     }
 
-    /// A front that shows the whole history.
-    pub fn front(&self, alloc: Global) -> Result<Front<Event>, AllocError>
-        ensures { IfOk result (λ front. (front.row ≡ self.now.row) × (front.list ≡ self.now.history)) }
+    /// Whether there is no room for one hold more.
+    fn has_all_holds(&self) -> bool
+        ensures { IsTrue result ↔ (MAX_HOLDS ≤ length self.now.holds) }
     {
-        self.state.front(&self.row, alloc)
+        self.holds.len() >= MAX_HOLDS
     }
+
+    /// Refuses a hold that cannot be had, whatever memory there is.
+    pub(crate) fn check_hold(&self) -> Result<(), DbError>
+        ensures only_if { IsOk result ↔ IsHoldable self.now }
+        ensures refused { IfErr result (IsHoldRefused self.now) }
+        ensures broken { self.now.broken ≡ true → result ≡ Err DbError.Broken }
+        ensures full { self.now.broken ≡ false → MAX_HOLDS ≤ length self.now.holds
+            → result ≡ Err DbError.HoldsFull }
+    {
+        if self.broken {
+            return Err(DbError::Broken);
+        }
+        if self.has_all_holds() {
+            return Err(DbError::HoldsFull);
+        }
+        Ok(())
+    }
+
+    /// Holds the newest stamp, so that no vacuum passes it until the hold is taken away.
+    pub fn hold(&mut self, alloc: Global) -> Result<Stamp, DbError>
+        ensures after { OnOk result (self.new ≡ after_hold self.old) }
+        ensures answer { IfOk result (λ stamp. stamp ≡ newest self.old) }
+        ensures only_if { IsOk result → IsHoldable self.old }
+        ensures unchanged { OnErr result (self.new ≡ self.old) }
+        ensures refused { IfErr result (IsHoldRefused self.old) }
+        ensures broken { self.old.broken ≡ true → result ≡ Err DbError.Broken }
+        ensures full { self.old.broken ≡ false → MAX_HOLDS ≤ length self.old.holds
+            → result ≡ Err DbError.HoldsFull }
+    {
+        self.check_hold()?;
+        let newest = self.front.newest();
+        self.holds.push(newest)?;
+        Ok(newest)
+    }
+
+    /// Takes one hold of the stamp away. It takes no memory.
+    pub fn unpin(&mut self, stamp: Stamp) -> Result<(), DbError>
+        ensures after { OnOk result (self.new ≡ after_unpin self.old stamp) }
+        ensures only_if { IsOk result → is_held stamp self.old.holds ≡ true }
+        ensures unchanged { OnErr result (self.new ≡ self.old) }
+        ensures refused { IfErr result (IsUnpinRefused self.old stamp) }
+        ensures broken { self.old.broken ≡ true → result ≡ Err DbError.Broken }
+    {
+        if self.broken {
+            return Err(DbError::Broken);
+        }
+        let Some(at) = place_of(&self.holds, stamp) else {
+            return Err(DbError::NotPinned(stamp));
+        };
+        let _hold = self.holds.remove(at);
+        Ok(())
+    }
+
+    /// Makes the horizon the least held stamp, or the newest where none is held, and drops the versions that no stamp
+    /// from there on shows.
+    pub fn vacuum(&mut self) -> Result<Stamp, DbError>
+        ensures after { OnOk result (self.new ≡ after_vacuum self.old) }
+        ensures answer { IfOk result (λ horizon. horizon ≡ next_horizon self.old) }
+        ensures unchanged { OnErr result (self.new ≡ self.old) }
+        ensures refused { IfErr result (IsVacuumRefused self.old) }
+        ensures broken { self.old.broken ≡ true → result ≡ Err DbError.Broken }
+    {
+        if self.broken {
+            return Err(DbError::Broken);
+        }
+        let newest = self.front.newest();
+        let horizon = least_held(&self.holds, newest);
+        self.store.purge(horizon)?;
+        self.horizon = horizon;
+        Ok(horizon)
+    }
+
+    /// Refuses a pin that cannot be appended, whatever memory there is.
+    pub(crate) fn check_pin(&self, at_least: Stamp) -> Result<(), DbError>
+        ensures only_if { IsOk result ↔ IsPinnable self.now at_least }
+        ensures refused { IfErr result (IsPinRefused self.now at_least) }
+    {
+        if self.broken {
+            return Err(DbError::Broken);
+        }
+        let events = self.front.len();
+        if at_least.number() as usize > events + 1 {
+            return Err(DbError::FutureStamp(stamp_after(events)));
+        }
+        if events == self.front.row().capacity() {
+            return Err(DbError::Full);
+        }
+        if self.has_all_holds() {
+            return Err(DbError::HoldsFull);
+        }
+        Ok(())
+    }
+
+    /// Appends a pin of the moment `now`, in milliseconds, and holds its stamp, which is not below `at_least`.
+    pub fn pin(&mut self, alloc: Global, now: u64, at_least: Stamp) -> Result<Pinned, DbError>
+        ensures after { OnOk result (self.new ≡ after_pin self.old now) }
+        ensures answer { IfOk result (λ pinned. pinned.stamp ≡ newest self.new) }
+        ensures moment { IfOk result (λ pinned. pinned.moment ≡ now) }
+        ensures front { IfOk result (λ pinned. pinned.front ≡ front_of self.new) }
+        ensures only_if { IsOk result → IsPinnable self.old at_least }
+        ensures unchanged { IfErr result (IsLeft self.old self.new) }
+        ensures refused { IfErr result (IsPinRefused self.old at_least) }
+    {
+        versions_keep_states();
+        tags_are_sound();
+        self.check_pin(at_least)?;
+        let events = self.front.len();
+        self.holds.reserve(1)?;
+        let event = pin_event(alloc, now)?;
+        let mut front = self.front.again(alloc)?;
+        let stamp = stamp_after(events + 1);
+        match self.front.append(event) {
+            Ok(()) => {
+                self.holds.push_reserved(stamp);
+                front.lengthen(&self.front);
+                Ok(Pinned {
+                    stamp,
+                    moment: now,
+                    front,
+                })
+            }
+            Err(_) => {
+                self.broken = true;
+                Err(DbError::Broken)
+            }
+        }
+    }
+}
+
+/// The event of a pin.
+fn pin_event(alloc: Global, moment: u64) -> Result<Box<Event>, AllocError>
+    ensures { IfOk result (λ event. event.value ≡ pin_event moment) }
+{
+    let event = Event {
+        what: What::Pin(moment),
+        tags: TagSet::new(alloc),
+    };
+    Ok(Box::new(alloc, event)?)
 }

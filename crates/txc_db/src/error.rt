@@ -6,29 +6,29 @@ use txc_stamp::Stamp;
 /// Why a call of the database was refused. After it the database is as it was, but where a call found it `Broken`.
 #[derive(Clone, Copy, Debug, PartialEq, Eq, Error)]
 pub enum DbError {
-    /// B1: the stamp lies below the horizon, which is given.
+    /// The stamp lies below the horizon, which is given.
     #[error("the snapshot is gone: the horizon is {0:?}")]
     SnapshotGone(Stamp),
-    /// B2: an event after the base matches the tags read; the first that does is given.
+    /// An event after the base matches the tags read; the first that does is given.
     #[error("event {0:?} conflicts with what was read")]
     Conflict(Stamp),
-    /// B3: the history has as many events as its row has cells.
+    /// The history has as many events as its row has cells.
     #[error("the history is full")]
     Full,
-    /// B4: the store of the row versions refused: over 1,024 versions match, or it refused by itself, also for want of
-    /// memory of its own.
+    /// The store of the row versions refused: over 1,024 versions match, or it refused by itself, also
+    /// where it was out of memory of its own.
     #[error("{0}")]
     Store(StoreError),
-    /// B5: another record stood in the row behind the history. From then on each call is refused so.
+    /// Another record stood in the row after the history. From then on each call is refused so.
     #[error("the database is broken")]
     Broken,
-    /// B6: nothing holds the stamp.
+    /// Nothing holds the stamp.
     #[error("stamp {0:?} is not held")]
     NotPinned(Stamp),
-    /// B7: the stamp lies beyond the newest one, which is given.
+    /// The stamp lies beyond the newest one, which is given.
     #[error("the newest stamp is {0:?}")]
     FutureStamp(Stamp),
-    /// B8: there are 65,536 holds.
+    /// There are 65,536 holds.
     #[error("too many stamps are held")]
     HoldsFull,
     /// A growth was refused.

@@ -1,24 +1,29 @@
 //! The database: one history of commits and pins, and the versions of the rows that say its kept states.
 #![tactic(auto)]
 
+mod answered;
 mod commit;
 mod database;
 mod db_core;
 mod error;
 mod event;
 mod feed;
+mod history_front;
+mod holds;
 mod laws;
+mod locked;
 mod naming;
 mod pinned;
 mod settled;
-mod state;
 
-pub use database::{CommitError, Database, Told};
+pub use answered::{Answered, CommitError};
+pub use database::Database;
 pub use db_core::DbCore;
 pub use error::DbError;
 pub use event::{Event, What};
 pub use feed::{Feed, Mark};
+pub use history_front::HistoryFront;
+pub use holds::MAX_HOLDS;
 pub use laws::{one_hold_less, pins_change_nothing, states_stay, tags_are_sound, worked_history};
 pub use naming::Naming;
 pub use pinned::Pinned;
-pub use state::MAX_HOLDS;

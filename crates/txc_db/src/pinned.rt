@@ -1,9 +1,8 @@
 ghost use Rattle.std.specs.Prelude.{◌≡◌, Some};
 ghost use Rattle.txc_db.specs.History.{moment_at};
 
-use crate::event::Event;
+use crate::history_front::HistoryFront;
 use txc_stamp::Stamp;
-use txc_stream::Front;
 
 /// A pin of the history, held at its stamp.
 ///
@@ -12,6 +11,6 @@ use txc_stream::Front;
 pub struct Pinned {
     pub stamp: Stamp,
     pub moment: u64,
-    pub front: Front<Event>,
-    pub ghost shows: { moment_at front.list stamp ≡ Some moment },
+    pub front: HistoryFront,
+    pub ghost shows: { moment_at front.history stamp ≡ Some moment },
 }

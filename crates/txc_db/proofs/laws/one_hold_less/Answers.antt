@@ -1,4 +1,4 @@
-use Rattle.txc_db.proofs.Holds.{one_less}
+use Rattle.txc_db.proofs.HeldStamps.{one_less}
 use Rattle.txc_db.proofs.laws.one_hold_less.Goals as goal
 
 pub returns : goal.returns

@@ -1,0 +1,54 @@
+-- Refusals, one in terms of another, and what they leave.
+use Rattle.std.proofs.Common.{◌≡◌, ◌≢◌, inl, inr, ℕ, List, [], ◌∷◌, false, true, refl, ap, sym, subst, ◌∙◌, true≢false}
+use Rattle.std.specs.Prelude.{Result, Ok, Err, IfErr}
+use Rattle.std.specs.Result.{IsErrAnd}
+use Rattle.txc_tags.specs.declared.tag.Tag.{Tag}
+use Rattle.txc_rows.specs.declared.query.Change.{Change}
+use Rattle.txc_rows.specs.declared.store_error.StoreError.{StoreError}
+use Rattle.txc_rows.specs.declared.store_error.StoreError.TheVariants as store
+use Rattle.txc_rows.specs.Members.{IsIn}
+use Rattle.txc_rows.specs.Net.{net_changes}
+use Rattle.txc_db.specs.declared.error.DbError.{DbError}
+use Rattle.txc_db.specs.declared.error.DbError.TheVariants.{SnapshotGone, Conflict, Full, Store, Broken, NotPinned, FutureStamp, HoldsFull, Memory}
+use Rattle.txc_db.specs.declared.answered.CommitError.{CommitError}
+use Rattle.txc_db.specs.declared.answered.CommitError.TheVariants as commits
+use Rattle.txc_db.specs.Seen.{FrontValue}
+use Rattle.txc_db.specs.DatabaseValue.{DatabaseValue, newest_state, newest_net, front_of}
+use Rattle.txc_db.specs.Refusals.{IsOwn}
+use Rattle.txc_db.specs.Calls.{IsLeft, IsUnread, AreFewNamed, IsCommittable, IsStoreRefusedIn, row_query, IsCommitRefused}
+use Rattle.txc_db.specs.Steps.{IsBaseRefused, IsReadRefused, IsNetRefused, IsAppendRefused}
+use Rattle.txc_db.specs.Shared.{IsSharedCommitRefused}
+use Rattle.txc_db.specs.Locked.{IsLockedLeft, IsCommitLeft, IsRefusalWith}
+
+-- an error that is passed on
+pub passed_up : {T E : Type 0} (r : Result T E) (e : E) (P : E → Type 0) → IsErrAnd r (λ y. y ≡ e) → P e → IfErr r P
+passed_up (Ok x) e P is p = absurd is
+passed_up (Err y) e P is p = subst P (sym is) p
+
+-- ---- of the steps of a commit
+
+pub base_left : (d : DatabaseValue) (base : ℕ) (e : DbError) → IsBaseRefused d base e → IsLeft d d e
+base_left d base Broken r = inl (refl, r)
+base_left d base e r = refl
+
+pub base_refused : (d : DatabaseValue) (base : ℕ) (read : List Tag) (changes : List Change) (e : DbError) → IsBaseRefused d base e → IsCommitRefused d base read changes e
+base_refused d base read changes Broken h = inl h
+base_refused d base read changes (FutureStamp last) h = h
+base_refused d base read changes e h = absurd h
+
+some_in : (c : Change) (changes : List Change) → IsIn c changes → changes ≢ []
+some_in c [] is none = is
+some_in c (x ∷ xs) is none = let f = none in absurd cc
+
+-- a refusal at one of the changes is one of all of them
+pub read_refused : (d : DatabaseValue) (changes : List Change) (c : Change) → IsIn c changes → (e : DbError) → IsReadRefused d (row_query c) e → IsNetRefused d changes e
+read_refused d changes c one (Store store.TooManyRows) h = (c, one, h)
+read_refused d changes c one (Store (store.Store cause)) h = some_in c changes one
+read_refused d changes c one (Store store.Memory) h = h
+read_refused d changes c one e h = h
+
+-- ---- under the lock
+
+-- where a commit leaves another newest stamp, there was room for its event
+pub mark_refused : (d : DatabaseValue) (base : ℕ) (read : List Tag) (changes : List Change) → IsCommittable d base read changes → newest_net d changes ≢ [] → IsCommitRefused d base read changes Broken
+mark_refused d base read changes due some = inr (record { unread = due.unread; few = due.few; some = some; room = due.room some })

@@ -1,0 +1,24 @@
+-- Words for what is done under the lock, which only this crate's private functions promise.
+use Rattle.std.specs.Prelude.{◌≡◌, ◌⊎◌, true, false}
+use Rattle.txc_db.specs.declared.error.DbError.{DbError}
+use Rattle.txc_db.specs.declared.error.DbError.TheVariants.{SnapshotGone, Conflict, Full, Store, Broken, NotPinned, FutureStamp, HoldsFull, Memory}
+use Rattle.txc_db.specs.declared.answered.CommitError.{CommitError}
+use Rattle.txc_db.specs.declared.answered.CommitError.TheVariants as commits
+use Rattle.txc_db.specs.Seen.{FrontValue}
+use Rattle.txc_db.specs.DatabaseValue.{DatabaseValue}
+
+-- what a refusal leaves: the database as it was; and refused as broken, it was broken before, or is so from now on, where
+-- another record stood in one of its rows
+abbrev pub IsLockedLeft : DatabaseValue → DatabaseValue → DbError → Type 0
+IsLockedLeft old new Broken = ((new ≡ old) × (old.broken ≡ true)) ⊎ ((old.broken ≡ false) × (new.broken ≡ true))
+IsLockedLeft old new e = new ≡ old
+
+-- what a refused commit leaves
+abbrev pub IsCommitLeft : DatabaseValue → DatabaseValue → CommitError → Type 0
+IsCommitLeft old new (commits.Conflict conflict) = new ≡ old
+IsCommitLeft old new (commits.Database refusal) = IsLockedLeft old new refusal
+
+-- the refusal of a commit as its caller gets it: a conflict takes the front with it
+abbrev pub IsRefusalWith : FrontValue → DbError → CommitError → Type 0
+IsRefusalWith front (Conflict first) e = e ≡ commits.Conflict (record { answer = first; front = front })
+IsRefusalWith front refusal e = e ≡ commits.Database refusal

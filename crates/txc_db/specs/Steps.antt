@@ -1,0 +1,34 @@
+-- Words for the steps of a commit, which only this crate's private functions promise.
+use Rattle.std.specs.Prelude.{◌≡◌, ℕ, ◌<◌, ◌≤◌, true, false, List, length}
+use Rattle.txc_rows.specs.declared.query.Query.{Query}
+use Rattle.txc_rows.specs.declared.query.Change.{Change}
+use Rattle.txc_db.specs.declared.error.DbError.{DbError}
+use Rattle.txc_db.specs.declared.error.DbError.TheVariants.{SnapshotGone, Conflict, Full, Store, Broken, NotPinned, FutureStamp, HoldsFull, Memory}
+use Rattle.txc_db.specs.DatabaseValue.{DatabaseValue, newest}
+use Rattle.txc_db.specs.Refusals.{IsOwn}
+use Rattle.txc_db.specs.Calls.{IsStoreRefused, IsStoreRefusedIn}
+
+-- of the base of a commit: broken, or beyond the newest stamp
+abbrev pub IsBaseRefused : DatabaseValue → ℕ → DbError → Type 0
+IsBaseRefused d base Broken = d.broken ≡ true
+IsBaseRefused d base (FutureStamp last) = (d.broken ≡ false) × (newest d < base) × (last ≡ newest d)
+IsBaseRefused d base e = ⊥
+
+-- of a look at the rows of a query: the store, or out of memory
+abbrev pub IsReadRefused : DatabaseValue → Query → DbError → Type 0
+IsReadRefused d q (Store cause) = IsStoreRefused d q cause
+IsReadRefused d q e = e ≡ Memory
+
+-- of a look at the rows that the changes name: the store, or out of memory
+abbrev pub IsNetRefused : DatabaseValue → List Change → DbError → Type 0
+IsNetRefused d changes (Store cause) = IsStoreRefusedIn d changes cause
+IsNetRefused d changes e = e ≡ Memory
+
+-- of an event that is to be appended: the row is full; else the store refused by itself, or out of memory, or another record
+-- stands in the row
+abbrev pub IsAppendRefused : DatabaseValue → DbError → Type 0
+IsAppendRefused d Full = newest d ≡ length d.row
+IsAppendRefused d (Store cause) = (newest d < length d.row) × IsOwn cause
+IsAppendRefused d Memory = newest d < length d.row
+IsAppendRefused d Broken = newest d < length d.row
+IsAppendRefused d e = ⊥

@@ -1,0 +1,170 @@
+//! What somebody has seen of a history, wherever it goes.
+ghost use Rattle.std.specs.Prelude.{◌≡◌, ◌+◌, ◌<◌, ◌≤◌, ◌⊎◌, ◌++◌, ◌∷◌, [], length, Some, IfOk, OnOk, IfErr, IsTrue, ◌↔◌};
+ghost use Rattle.std.specs.Arc.{arc_value};
+ghost use mathlib.Core.List.{IsPrefix};
+ghost use Rattle.txc_stamp.specs.declared.stamp.TheConstants.{LAST};
+ghost use Rattle.txc_rows.specs.RowTags.{tags_between};
+ghost use Rattle.txc_db.specs.History.{AreTagged, after_event, state_at, tags_at, event_at};
+
+use crate::error::DbError;
+use crate::event::Event;
+use std::alloc::{AllocError, Global};
+use std::marker::Model;
+use std::sync::Arc;
+use txc_stamp::Stamp;
+use txc_stream::{EventRow, Front};
+
+/// A prefix of the history of a database, as somebody has seen it. Each event in it stands beside its tags.
+///
+/// Contracts see the names of the row's cells and the events seen. It has a handle of the row, so that whoever has one
+/// can read it, copy it and compare it with others of its row.
+#[derive(Drop)]
+pub struct HistoryFront {
+    events: Arc<EventRow<Event>>,
+    front: Front<Event>,
+}
+
+impl Model for HistoryFront {
+    ghost use Rattle.std.specs.Prelude.{◌≡◌};
+    ghost use Rattle.std.specs.Arc.{arc_value};
+    ghost use Rattle.txc_db.specs.History.{AreTagged};
+    ghost use Rattle.txc_db.specs.Seen.{FrontValue};
+
+    ghost Value = { FrontValue };
+
+    ghost view = { λ f. record { row = f.front.row; history = f.front.list } };
+
+    ghost invariant = { λ f. (arc_value f.events ≡ f.front.row) × AreTagged f.front.list };
+}
+
+/// The stamp after so many events.
+pub(crate) fn stamp_after(events: usize) -> Stamp
+    requires { events ≤ LAST }
+    ensures { result ≡ events }
+{
+    match Stamp::new(events as u32) {
+        Ok(stamp) => stamp,
+        Err(_) => unreachable!(),
+    }
+}
+
+impl HistoryFront {
+    /// A front that shows nothing yet of the row.
+    pub(crate) fn new(
+        alloc: Global,
+        events: Arc<EventRow<Event>>,
+    ) -> Result<HistoryFront, AllocError>
+        ensures { IfOk result (λ front. front ≡ record { row = arc_value events; history = [] }) }
+    {
+        let front = events.start(alloc)?;
+        Ok(HistoryFront { events, front })
+    }
+
+    /// A front of one's own that shows the same.
+    pub fn again(&self, alloc: Global) -> Result<HistoryFront, AllocError>
+        ensures { IfOk result (λ copy. copy ≡ self.now) }
+    {
+        let events = Arc::try_clone(&self.events)?;
+        let front = events.again(alloc, &self.front)?;
+        Ok(HistoryFront { events, front })
+    }
+
+    /// A handle of its row.
+    pub(crate) fn row_handle(&self) -> Result<Arc<EventRow<Event>>, AllocError>
+        ensures { IfOk result (λ row. arc_value row ≡ self.now.row) }
+    {
+        let _len = self.front.len();
+        Ok(Arc::try_clone(&self.events)?)
+    }
+
+    /// The row of the events. Whoever appends to it breaks the database; tests do.
+    pub fn row(&self) -> &EventRow<Event>
+        ensures { result.now ≡ self.now.row }
+    {
+        let _len = self.front.len();
+        &self.events
+    }
+
+    /// Each of its events stands beside its tags. It does nothing when it runs.
+    pub fn is_tagged(&self)
+        ensures { AreTagged self.now.history }
+    {
+        let _len = self.front.len();
+    }
+
+    /// How many events it shows.
+    pub fn len(&self) -> usize
+        ensures shown { result ≡ length self.now.history }
+        ensures room { result ≤ length self.now.row }
+        ensures most { length self.now.row ≤ LAST }
+    {
+        self.front.len()
+    }
+
+    /// Whether it shows no event.
+    pub fn is_empty(&self) -> bool
+        ensures { IsTrue result ↔ (self.now.history ≡ []) }
+    {
+        self.front.is_empty()
+    }
+
+    /// The stamp after the events that it shows.
+    pub fn newest(&self) -> Stamp
+        ensures { result ≡ length self.now.history }
+    {
+        stamp_after(self.len())
+    }
+
+    /// One of the events that it shows, by its number, from 1 on, and its tags.
+    pub fn event_at(&self, number: usize) -> &Event
+        requires first { 1 ≤ number }
+        requires last { number ≤ length self.now.history }
+        ensures event { event_at self.now.history number ≡ Some result.now }
+        ensures tags { result.now.tags ≡ tags_at self.now.history number }
+    {
+        self.events.get(&self.front, number - 1)
+    }
+
+    /// Takes over what the other shows beyond this one, so that this one shows the longer history. It takes no memory.
+    pub fn longer(&mut self, other: &HistoryFront)
+        requires { other.now.row ≡ self.old.row }
+        ensures row { self.new.row ≡ self.old.row }
+        ensures one { (self.new.history ≡ self.old.history) ⊎ (self.new.history ≡ other.now.history) }
+        ensures this { IsPrefix self.old.history self.new.history }
+        ensures that { IsPrefix other.now.history self.new.history }
+    {
+        self.front.longer(&other.front);
+    }
+
+    /// Takes over the whole of a front that goes on from this one.
+    pub(crate) fn lengthen(&mut self, whole: &HistoryFront)
+        requires row { self.old.row ≡ whole.now.row }
+        requires begins { IsPrefix self.old.history whole.now.history }
+        ensures { self.new ≡ whole.now }
+    {
+        self.longer(whole);
+    }
+
+    /// Of two fronts of one row, the history of one is a prefix of the other's. It does nothing when it runs.
+    pub fn agree(&self, other: &HistoryFront)
+        requires { self.now.row ≡ other.now.row }
+        ensures { IsPrefix self.now.history other.now.history ⊎ IsPrefix other.now.history self.now.history }
+    {
+        self.front.agree(&other.front);
+    }
+
+    /// Appends an event that stands beside its tags. `Broken` where another record stands in its cell.
+    pub(crate) fn append(&mut self, event: Box<Event>) -> Result<(), DbError>
+        requires room { length self.old.history < length self.old.row }
+        requires tagged { let before = state_at self.old.history (length self.old.history)
+            in event.value.tags ≡ tags_between before (after_event before event.value) }
+        ensures after { OnOk result (self.new ≡ record self.old { history = self.old.history ++ event.value ∷ [] }) }
+        ensures unchanged { IfErr result (λ refusal. self.new ≡ self.old) }
+        ensures refused { IfErr result (λ refusal. refusal ≡ DbError.Broken) }
+    {
+        match self.events.append(&mut self.front, event) {
+            Ok(()) => Ok(()),
+            Err(_) => Err(DbError::Broken),
+        }
+    }
+}
