@@ -15,7 +15,7 @@ use std::alloc::{AllocError, Global};
 use std::process::Abort;
 use std::test::Fail;
 use tables::{ALONE, CONFLICT, DB_ERRORS, FULL_TEXT, MANY};
-use txc_db::{CommitError, DbCore, DbError, Event, Pinned, Told, What};
+use txc_db::{Answered, CommitError, DbCore, DbError, Event, Pinned, What};
 use txc_rows::{Change, Query, StoreError};
 use txc_stamp::Stamp;
 use txc_stream::{EventRow, Front, MAX_CAPACITY};
@@ -153,13 +153,13 @@ fn event_of(event: &Event) -> Reply {
 }
 
 /// Lengthens the front by as many events, and gives the last of them.
-fn event_after(row: &EventRow<Event>, front: &mut Front<Event>, events: u32) -> Reply
-    requires { front.old.row ≡ row.now }
-    ensures { front.new.row ≡ row.now }
+fn event_after(events: &EventRow<Event>, front: &mut Front<Event>, count: u32) -> Reply
+    requires { front.old.row ≡ events.now }
+    ensures { front.new.row ≡ events.now }
 {
     let mut reply = Reply::NoEvent;
-    for _ in 0..events {
-        match row.next(front) {
+    for _ in 0..count {
+        match events.next(front) {
             Some(event) => reply = event_of(event),
             None => return Reply::NoEvent,
         }
@@ -168,19 +168,14 @@ fn event_after(row: &EventRow<Event>, front: &mut Front<Event>, events: u32) -> 
 }
 
 /// Appends a record past the database, as no call does.
-fn append_foreign(
-    alloc: Global,
-    row: &EventRow<Event>,
-    mut front: Front<Event>,
-) -> Result<(), AllocError>
-    requires { front.row ≡ row.now }
-{
-    let _last = event_after(row, &mut front, LAST_LOOK);
+fn append_foreign(alloc: Global, events: &EventRow<Event>) -> Result<(), AllocError> {
+    let mut front = events.start(alloc)?;
+    let _last = event_after(events, &mut front, LAST_LOOK);
     let event = Event {
         what: What::Pin(0),
         tags: TagSet::new(alloc),
     };
-    let _added = row.append(&mut front, Box::new(alloc, event)?);
+    let _added = events.append(&mut front, Box::new(alloc, event)?);
     Ok(())
 }
 
@@ -208,16 +203,22 @@ fn query_reply(
     Ok(found_reply(&found, &query))
 }
 
-fn event_reply(core: &DbCore, alloc: Global, number: u32) -> Result<Reply, DbError> {
-    let mut front = core.reader(alloc)?;
-    Ok(event_after(core.row(), &mut front, number))
+/// The event of that stamp, and how many events there are up to it, as the row itself has them.
+fn event_reply(
+    alloc: Global,
+    events: &EventRow<Event>,
+    number: u32,
+) -> Result<(Reply, usize), AllocError> {
+    let mut front = events.start(alloc)?;
+    let event = event_after(events, &mut front, number);
+    Ok((event, front.len()))
 }
 
 fn answer(core: &mut DbCore, alloc: Global, call: Call) -> Result<Reply, DbError> {
     match call {
         Call::Commit(base, read, writes) => commit(core, alloc, base, read, writes),
         Call::Pin(now, at_least) => Ok(pinned(&core.pin(alloc, now, stamp(at_least))?)),
-        Call::Hold => Ok(Reply::At(core.hold()?.number())),
+        Call::Hold => Ok(Reply::At(core.hold(alloc)?.number())),
         Call::Unpin(number) => {
             core.unpin(stamp(number))?;
             Ok(Reply::Done)
@@ -226,9 +227,9 @@ fn answer(core: &mut DbCore, alloc: Global, call: Call) -> Result<Reply, DbError
         Call::Query(asked, number) => query_reply(core, alloc, asked, number),
         Call::Reader => Ok(Reply::Events(core.reader(alloc)?.len())),
         Call::Front => Ok(Reply::Events(core.front(alloc)?.len())),
-        Call::Event(number) => event_reply(core, alloc, number),
+        Call::Event(number) => Ok(event_reply(alloc, core.row(), number)?.0),
         Call::Foreign => {
-            append_foreign(alloc, core.row(), core.reader(alloc)?)?;
+            append_foreign(alloc, core.row())?;
             Ok(Reply::Done)
         }
         Call::Next | Call::Fed | Call::ForeignMark => Ok(Reply::NoEvent),
@@ -311,13 +312,13 @@ fn too_many_versions_are_not_read(rt: HostRuntime) -> Result<(), Fail> {
     play_all(&rt, MANY)
 }
 
-fn conflict(alloc: Global) -> Result<CommitError, AllocError> {
-    let front = EventRow::<Event>::new(alloc, 1)?.start(alloc)?;
+fn conflict(alloc: Global) -> Result<CommitError, DbError> {
+    let front = DbCore::new(alloc, 1)?.reader(alloc)?;
     let answer = Stamp::ZERO;
-    Ok(CommitError::Conflict(Told { answer, front }))
+    Ok(CommitError::Conflict(Answered { answer, front }))
 }
 
-fn sure_conflict(alloc: Global) -> Result<CommitError, AllocError> {
+fn sure_conflict(alloc: Global) -> Result<CommitError, DbError> {
     match conflict(alloc) {
         Err(_) => conflict(alloc),
         other => other,

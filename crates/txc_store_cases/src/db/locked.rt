@@ -4,7 +4,7 @@ ghost use Rattle.std.specs.Prelude.{◌≡◌};
 
 use super::tables::{ALONE, LOCKED};
 use super::{
-    Call, LAST_LOOK, LOOKS, Reply, Script, append_foreign, changes, event_after, event_of,
+    Call, LAST_LOOK, LOOKS, Reply, Script, append_foreign, changes, event_of, event_reply,
     found_reply, pinned, play as play_alone, played, query, refused, reply_to, stamp, tags,
 };
 use crate::common::{Rows, Write};
@@ -16,7 +16,7 @@ use std::test::Fail;
 use txc_db::{CommitError, Database, DbCore, DbError, Feed, Mark, Naming};
 
 /// A reply, with the number of events that the front beside it shows, where one came.
-type Told = (Reply, Option<usize>);
+type Given = (Reply, Option<usize>);
 
 fn commit<J: Naming>(
     rt: &impl Wait,
@@ -25,15 +25,15 @@ fn commit<J: Naming>(
     base: u32,
     read: &[Rows],
     writes: &[Write],
-) -> Result<Told, DbError> {
+) -> Result<Given, DbError> {
     let tags = tags(alloc, read)?;
     let changes = changes(alloc, writes)?;
     match database.commit(rt, alloc, stamp(base), &tags, &changes) {
-        Ok(told) => Ok((Reply::At(told.answer.number()), Some(told.front.len()))),
-        Err(CommitError::Conflict(told)) => {
+        Ok(done) => Ok((Reply::At(done.answer.number()), Some(done.front.len()))),
+        Err(CommitError::Conflict(first)) => {
             Ok((
-                Reply::Conflict(told.answer.number()),
-                Some(told.front.len()),
+                Reply::Conflict(first.answer.number()),
+                Some(first.front.len()),
             ))
         }
         Err(CommitError::Database(refusal)) => Err(refusal),
@@ -46,21 +46,10 @@ fn query_reply<J: Naming>(
     database: &Database<J>,
     asked: Rows,
     number: u32,
-) -> Result<Told, DbError> {
+) -> Result<Given, DbError> {
     let query = query(asked);
-    let told = database.query(rt, alloc, &query, stamp(number))?;
-    Ok((found_reply(&told.answer, &query), Some(told.front.len())))
-}
-
-/// The event of that stamp, and how many events there are up to it.
-fn event_reply<J: Naming>(
-    alloc: Global,
-    database: &Database<J>,
-    number: u32,
-) -> Result<(Reply, usize), DbError> {
-    let mut front = database.reader(alloc)?;
-    let event = event_after(database.row(), &mut front, number);
-    Ok((event, front.len()))
+    let found = database.query(rt, alloc, &query, stamp(number))?;
+    Ok((found_reply(&found.answer, &query), Some(found.front.len())))
 }
 
 /// Appends a mark past the lock, as no call does.
@@ -79,7 +68,7 @@ fn answer<J: Naming>(
     alloc: Global,
     database: &Database<J>,
     call: Call,
-) -> Result<Told, DbError> {
+) -> Result<Given, DbError> {
     match call {
         Call::Commit(base, read, writes) => commit(rt, alloc, database, base, read, writes),
         Call::Pin(now, at_least) => {
@@ -89,8 +78,8 @@ fn answer<J: Naming>(
             ))
         }
         Call::Hold => {
-            let told = database.hold(rt, alloc)?;
-            Ok((Reply::At(told.answer.number()), Some(told.front.len())))
+            let held = database.hold(rt, alloc)?;
+            Ok((Reply::At(held.answer.number()), Some(held.front.len())))
         }
         Call::Unpin(number) => {
             database.unpin(rt, stamp(number))?;
@@ -100,12 +89,12 @@ fn answer<J: Naming>(
         Call::Query(asked, number) => query_reply(rt, alloc, database, asked, number),
         Call::Reader => Ok((Reply::Events(database.reader(alloc)?.len()), None)),
         Call::Front => {
-            let (_last, events) = event_reply(alloc, database, LAST_LOOK)?;
+            let (_last, events) = event_reply(alloc, database.row(), LAST_LOOK)?;
             Ok((Reply::Events(events), None))
         }
-        Call::Event(number) => Ok((event_reply(alloc, database, number)?.0, None)),
+        Call::Event(number) => Ok((event_reply(alloc, database.row(), number)?.0, None)),
         Call::Foreign => {
-            append_foreign(alloc, database.row(), database.reader(alloc)?)?;
+            append_foreign(alloc, database.row())?;
             Ok((Reply::Done, None))
         }
         Call::ForeignMark => {
@@ -121,9 +110,9 @@ pub(super) fn locked_reply<J: Naming>(
     alloc: Global,
     database: &Database<J>,
     call: Call,
-) -> Told {
+) -> Given {
     match answer(rt, alloc, database, call) {
-        Ok(told) => told,
+        Ok(given) => given,
         Err(refusal) => (refused(refusal), None),
     }
 }
@@ -165,7 +154,7 @@ fn reply_with<J: Naming>(
     database: &Database<J>,
     feed: &mut Feed<J>,
     call: Call,
-) -> Told {
+) -> Given {
     match call {
         Call::Next => (next_event(feed), None),
         Call::Fed => (Reply::Events(feed.front().len()), None),
@@ -183,10 +172,10 @@ pub(super) fn feed_of<J: Naming>(
     }
 }
 
-fn events_of<J: Naming>(alloc: Global, database: &Database<J>) -> Result<usize, DbError> {
-    match event_reply(alloc, database, LAST_LOOK) {
+fn events_of<J: Naming>(alloc: Global, database: &Database<J>) -> Result<usize, AllocError> {
+    match event_reply(alloc, database.row(), LAST_LOOK) {
         Ok((_, events)) => Ok(events),
-        Err(_) => Ok(event_reply(alloc, database, LAST_LOOK)?.1),
+        Err(_) => Ok(event_reply(alloc, database.row(), LAST_LOOK)?.1),
     }
 }
 
@@ -204,14 +193,14 @@ fn is_played<J: Naming, R: Wait + Abort + AllocGlobal>(
     };
     let mut feed = feed_of(alloc, &database)?;
     for (i, (call, wanted)) in script.calls.iter().enumerate().skip(script.alone) {
-        let mut told = reply_with(rt, alloc, &database, &mut feed, *call);
-        if told.0 == Reply::NoMemory {
+        let mut given = reply_with(rt, alloc, &database, &mut feed, *call);
+        if given.0 == Reply::NoMemory {
             let mut core = played(alloc, script, i)?;
             assert!(rt; is_alike(rt, alloc, &database, &mut core), "call {i}");
-            told = reply_with(rt, alloc, &database, &mut feed, *call);
+            given = reply_with(rt, alloc, &database, &mut feed, *call);
         }
-        assert_eq!(rt; told.0, *wanted, "call {i}");
-        if let Some(shown) = told.1 {
+        assert_eq!(rt; given.0, *wanted, "call {i}");
+        if let Some(shown) = given.1 {
             assert_eq!(rt; shown, events_of(alloc, &database)?, "call {i}");
         }
     }

@@ -1,8 +1,8 @@
 //! Two threads over one database.
-ghost use Rattle.std.specs.Prelude.{◌≡◌, IfSome};
+ghost use Rattle.std.specs.Prelude.{◌≡◌, IfOk, IfSome};
 
 use super::locked::{feed_of, locked_reply};
-use super::{Call, Reply, empty, event_after};
+use super::{Call, Reply, empty, event_of, query};
 use crate::common::{Rows, Shown, Write};
 use std::alloc::Global;
 use std::marker::Brand;
@@ -10,19 +10,19 @@ use std::process::Abort;
 use std::sync::Wait;
 use std::test::Fail;
 use std::thread::{Threads, join};
-use txc_db::{Database, DbCore, Event, Feed, Naming};
-use txc_stream::Front;
+use txc_db::{Database, DbCore, DbError, Feed, HistoryFront, Naming};
+use txc_stamp::Stamp;
 
 /// How many rounds each thread works, and how many events both leave.
 const ROUNDS: usize = 8;
 
 const EVENTS: u32 = 32;
 
-/// What a thread was told: the stamp of each of its commits, and the history after the last.
+/// What a thread has seen: the stamp of each of its commits, and the history after the last.
 #[derive(Drop)]
 struct Seen {
     commits: [u32; ROUNDS],
-    front: Front<Event>,
+    front: HistoryFront,
 }
 
 /// The reply, of the call made again where memory was refused.
@@ -56,6 +56,18 @@ fn round<J: Naming>(rt: &impl Wait, alloc: Global, database: &Database<J>, id: u
     (is_new && is_later && is_freed).then_some(at)
 }
 
+/// The whole history, as the answer of a query shows it.
+fn history<J: Naming>(
+    rt: &impl Wait,
+    alloc: Global,
+    database: &Database<J>,
+) -> Result<HistoryFront, DbError>
+    ensures { IfOk result (λ front. front.row ≡ J.database_row) }
+{
+    let found = database.query(rt, alloc, &query(Rows::All(1)), Stamp::ZERO)?;
+    Ok(found.front)
+}
+
 fn work<J: Naming>(
     rt: &impl Wait,
     alloc: Global,
@@ -70,11 +82,10 @@ fn work<J: Naming>(
         *commit = round(rt, alloc, database, id)?;
         id = id.saturating_add(1);
     }
-    let mut front = match database.reader(alloc) {
+    let front = match history(rt, alloc, database) {
         Ok(front) => front,
-        Err(_) => database.reader(alloc).ok()?,
+        Err(_) => history(rt, alloc, database).ok()?,
     };
-    let _last = event_after(database.row(), &mut front, EVENTS);
     Some(Seen { commits, front })
 }
 
@@ -97,18 +108,29 @@ fn work_in_two_threads<J: Naming + Send + Sync, R: Threads + Wait + Sync>(
     )
 }
 
-/// Whether each id was put by the event of its stamp.
+/// The event of that stamp, as the front shows it.
+fn event_shown(front: &HistoryFront, number: u32) -> Reply {
+    let number = number as usize;
+    if number == 0 || front.len() < number {
+        return Reply::NoEvent;
+    }
+    event_of(front.event_at(number))
+}
+
+/// Whether each id was put by the event of its stamp, in the row and in the front.
 fn are_found<J: Naming>(
     rt: &impl Wait,
     alloc: Global,
     database: &Database<J>,
-    commits: &[u32],
+    seen: &Seen,
     first_id: u32,
 ) -> bool {
     let mut id = first_id;
-    for commit in commits {
+    for commit in &seen.commits {
         let put = Reply::PutOne(id, 2, b'a');
-        if reply(rt, alloc, database, Call::Event(*commit)) != put {
+        if reply(rt, alloc, database, Call::Event(*commit)) != put
+            || event_shown(&seen.front, *commit) != put
+        {
             return false;
         }
         id = id.saturating_add(1);
@@ -128,7 +150,7 @@ fn feeds_all<J: Naming>(feed: Feed<J>) -> bool {
     !feed.look()
 }
 
-/// What both threads were told is found in one history.
+/// What both threads have seen is found in one history.
 fn meet<J: Naming>(
     rt: &(impl Wait + Abort),
     alloc: Global,
@@ -139,12 +161,12 @@ fn meet<J: Naming>(
     requires one { one.front.row ≡ J.database_row }
     requires other { other.front.row ≡ J.database_row }
 {
-    database.row().agree(&one.front, &other.front);
+    one.front.agree(&other.front);
     one.front.longer(&other.front);
     other.front.longer(&one.front);
     assert!(rt; one.front.len() == EVENTS as usize && other.front.len() == EVENTS as usize);
-    assert!(rt; are_found(rt, alloc, database, &one.commits, 0));
-    assert!(rt; are_found(rt, alloc, database, &other.commits, 100));
+    assert!(rt; are_found(rt, alloc, database, &one, 0));
+    assert!(rt; are_found(rt, alloc, database, &other, 100));
     assert!(rt; feeds_all(feed_of(alloc, database)?));
     Ok(())
 }

@@ -1,6 +1,6 @@
 use Rattle.std.proofs.Common.{◌≡◌}
 use Rattle.txc_store_cases.proofs.db.event_after.Given as goal
 
--- the front is of the row
+-- the front is of the row of the events
 abbrev pub invariant-loop : goal.invariant-loop
-invariant-loop l = l.front.row ≡ l.row
+invariant-loop l = l.front.row ≡ l.events

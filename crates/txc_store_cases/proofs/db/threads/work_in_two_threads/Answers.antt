@@ -11,7 +11,7 @@ heap_sync = search (sendable, crosses) depth 20
 -- each closure borrows the runtime, the database and the allocator
 pub join-requires-send-F : goal.join-requires-send-F
 join-requires-send-F g c κs within =
-    let shared = database_sync (param 0 g.row.J) g.J.Naming c.type_bounds.sync-J in
+    let shared = database_sync (param 0 g.row.J) g.J.Naming in
     let runtime = c.type_bounds.sync-R in
     let memory = heap_sync in
     search (sendable, shared, runtime, memory) depth 20
