@@ -53,8 +53,8 @@ for crate in "$@"; do
 done
 
 # the libraries below them are built once, over what earlier runs kept here
-below=$(awk -v tried=" $* " '{ split($0, line, ":") } index(tried, " " line[1] " ") { print line[2] }' \
-    "$room/base/crates.txt" | tr ' ' '\n' | sort -u)
+below=$(awk -F: -v tried=" $* " 'index(tried, " " $1 " ") { print $2 }' "$room/base/crates.txt" |
+    tr ' ' '\n' | sort -u)
 for kept in crates/*/out; do
     if [ -d "$kept" ]; then cp -a "$kept" "$room/base/$kept"; fi
 done
