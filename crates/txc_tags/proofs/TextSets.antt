@@ -4,17 +4,16 @@ use Rattle.std.specs.List.{flat_map, join_with_byte}
 use Rattle.std.proofs.lemmas.List.{flat_map_more}
 use Rattle.std.proofs.lemmas.List.Elements.{All-head, All-tail, All-nil, All-push}
 use Rattle.txc_tags.specs.declared.tag.Tag.{Tag}
-use Rattle.txc_tags.specs.declared.tag.Tag.TheVariants.{Wildcard, Id, Group}
 use Rattle.txc_tags.specs.declared.text.tag.TagFront.{TagFront}
 use Rattle.txc_tags.specs.declared.text.tag.TagFront.TheVariants.{Nothing}
-use Rattle.txc_tags.specs.Tags.{with_tag, with_tags, set_of, IsCanonical}
+use Rattle.txc_tags.specs.Tags.{with_tag, set_of, IsCanonical}
 use Rattle.txc_tags.specs.TextGrammar.{IsText, IsPrefix, IsLongestPrefix}
 use Rattle.txc_tags.specs.TextNumber.{BeginsWithNoDigit, EndsBefore}
 use Rattle.txc_tags.specs.TextTag.{tag_text, IsTagInRange}
 use Rattle.txc_tags.specs.TextTagFront.{front_text, finished_tag, IsFrontInRange}
 use Rattle.txc_tags.specs.TextSet.{tags_text, AreTagsInRange, IsSetOfText}
 use Rattle.txc_tags.specs.TextSetFront.{PushesByte, with_ended}
-use Rattle.txc_tags.proofs.TextCanonical.{set_of_set}
+use Rattle.txc_tags.proofs.Sixteen.{set_of_set, with_tags_push}
 use Rattle.txc_tags.proofs.TextJoined.{All-back, one_left, join_push}
 use Rattle.txc_tags.proofs.TextPrefixes.{NoneGoesOn, stopped, no_text, ended}
 use Rattle.txc_tags.proofs.TextTags.{tag_text_known, finished_by, finished_text, front_is_prefix}
@@ -41,9 +40,7 @@ no_digit_behind [] = tt
 no_digit_behind (tag ∷ more) = λ d. omega (arith, d.0)
 
 first_letter : (tag : Tag) (r : List ℕ) → (more : List ℕ) × (tag_text tag ++ r ≡ 116 ∷ more)
-first_letter (Wildcard t) r = (_, refl)
-first_letter (Id t n) r = (_, refl)
-first_letter (Group t n) r = (_, refl)
+first_letter tag r = (_, refl)
 
 not_nothing : (tag : Tag) (r : List ℕ) → tag_text tag ++ r ≡ [] → ⊥
 not_nothing tag r e = let p = first_letter tag r in let q : 116 ∷ p.0 ≡ [] = sym p.1 ∙ e in cc
@@ -84,10 +81,6 @@ pub record HasRead (read : List ℕ) (front : TagFront) (set : List Tag) : Type 
   pub in_range : AreTagsInRange tags
   pub text : read ≡ each_with_comma tags ++ front_text front
   pub set_is : set ≡ set_of tags
-
-with_tags_push : (tags set : List Tag) (tag : Tag) → with_tags (tags ++ tag ∷ []) set ≡ with_tag tag (with_tags tags set)
-with_tags_push [] set tag = refl
-with_tags_push (a ∷ tags) set tag = with_tags_push tags (with_tag a set) tag
 
 pub nothing_read : HasRead [] Nothing []
 nothing_read = record { tags = []; in_range = All-nil IsTagInRange; text = refl; set_is = refl }

@@ -6,17 +6,11 @@ ghost use Rattle.txc_tags.specs.TextKey.{key_text, IsKeyInRange};
 ghost use Rattle.txc_tags.specs.TextKeyFront.{front_text, finished_key, IsFrontInRange, EndsArgument};
 ghost use Rattle.txc_tags.specs.TextNumber.{EndsBefore};
 
-use crate::key::Key;
-use crate::text::number::push_digit;
+use crate::key::{Key, LAST_FUNCTION, MAX_ARGS};
+use crate::text::number::{LAST_NUMBER, push_digit};
 use std::alloc::{AllocError, Global};
 use std::fmt;
 use std::marker::Model;
-
-/// The greatest number of a function.
-const MOST_FUNCTION: u64 = 31;
-
-/// The greatest argument.
-const MOST_ARGUMENT: u64 = 4294967295;
 
 /// G2: the text is not that of a key.
 #[derive(Debug, Clone, Copy, PartialEq, Eq, thiserror::Error)]
@@ -93,14 +87,14 @@ enum KeyFront {
 
 /// The front of a function's part with one byte more behind it.
 fn push_to_function(number: Option<u64>, byte: u8) -> Option<KeyFront>
-    requires { IfSome number (λ n. n ≤ 31) }
+    requires { IfSome number (λ n. n ≤ LAST_FUNCTION) }
     ensures within { IfSome result IsFrontInRange }
     ensures more { IfSome result (λ more.
         front_text more ≡ front_text (KeyFront.InFunction number) ++ byte ∷ []) }
     ensures none { IfNone result (EndsBefore IsKeyInRange key_text None
         (front_text (KeyFront.InFunction number)) byte) }
 {
-    match push_digit(number, byte, MOST_FUNCTION) {
+    match push_digit(number, byte, LAST_FUNCTION as u64) {
         Some(more) => Some(KeyFront::InFunction(Some(more))),
         None => end_function(number, byte),
     }
@@ -108,7 +102,7 @@ fn push_to_function(number: Option<u64>, byte: u8) -> Option<KeyFront>
 
 /// The front behind a whole function's number, with one byte more.
 fn end_function(number: Option<u64>, byte: u8) -> Option<KeyFront>
-    requires { IfSome number (λ n. n ≤ 31) }
+    requires { IfSome number (λ n. n ≤ LAST_FUNCTION) }
     ensures some { IsSome result → IsSome number }
     ensures more { IfSome result (λ more. IfSome number (λ n.
         (byte ≡ 40) × (more ≡ KeyFront.InArguments n [] None))) }
@@ -139,7 +133,7 @@ fn push_to_arguments(
     ensures none { IfNone result (EndsBefore IsKeyInRange key_text None
         (front_text (KeyFront.InArguments function arguments number)) byte) }
 {
-    match push_digit(number, byte, MOST_ARGUMENT) {
+    match push_digit(number, byte, LAST_NUMBER) {
         Some(more) => Some(KeyFront::InArguments(function, arguments, Some(more))),
         None => match number {
             None => end_none(function, arguments, byte),

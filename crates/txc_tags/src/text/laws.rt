@@ -8,7 +8,7 @@ ghost use Rattle.txc_tags.specs.TextTag.{IsTagInRange};
 
 use crate::key::Key;
 use crate::set::TagSet;
-use crate::tag::Tag;
+use crate::tag::{Rows, Tag};
 use crate::text::set::SetError;
 use std::alloc::{AllocError, Global};
 
@@ -16,11 +16,11 @@ use std::alloc::{AllocError, Global};
 pub fn tags_are_in_range(tag: Tag)
     ensures { IsTagInRange tag }
 {
-    let _table = tag.table().number();
-    match tag {
-        Tag::Wildcard(_) => {}
-        Tag::Id(_, _id) => {}
-        Tag::Group(_, _group) => {}
+    let _table = tag.table.number();
+    match tag.rows {
+        Rows::All => {}
+        Rows::Id(_id) => {}
+        Rows::Group(_group) => {}
     }
 }
 

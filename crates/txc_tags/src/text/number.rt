@@ -4,6 +4,9 @@ ghost use Rattle.std.specs.Fmt.{decimal};
 ghost use Rattle.txc_tags.specs.TextGrammar.{IsTextOf, IsText};
 ghost use Rattle.txc_tags.specs.TextNumber.{digits_read, IsDigit, EndsBefore};
 
+/// The greatest id, group and argument.
+pub const LAST_NUMBER: u64 = 4_294_967_295;
+
 fn is_digit(byte: u8) -> bool
     ensures digit { result ≡ true → IsDigit byte }
     ensures other { result ≡ false → IsDigit byte → ⊥ }

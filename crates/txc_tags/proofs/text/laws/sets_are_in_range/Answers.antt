@@ -8,4 +8,4 @@ pub loop-tag-preserved : goal.loop-tag-preserved
 loop-tag-preserved c = All-more IsTagInRange c.tags-tag-items.result.now c.loop-tag.tag-index c.tag-item.result c.loop-tag-test.true c.loop-tag.invariant (subst IsTagInRange c.tag-item.is c.tags_are_in_range.ensures)
 
 pub returns : goal.returns
-returns c = subst (All IsTagInRange) (take_all c.loop-tag.tag-index c.tags-tag-items.result.now (omega arith) ∙ c.tags-tag-items.ensures.value) c.loop-tag.invariant
+returns c = subst (All IsTagInRange) (take_all c.loop-tag.tag-index c.tags-tag-items.result.now (omega arith) ∙ c.tags-tag-items.ensures.answer) c.loop-tag.invariant

@@ -28,4 +28,4 @@ pub returns : goal.returns
 returns c =
     let whole : take c.loop-byte.byte-index c.args.text.now ≡ c.args.text.now = take_all c.loop-byte.byte-index c.args.text.now (omega arith) in
     let p = read_all c.loop-byte.front c.in-Some-finished.tag c.args.text.now c.loop-byte.set c.loop-byte.invariant.in_range (sym c.in-Some-finished.ensures) (rw whole at c.loop-byte.invariant.read) in
-    subst (IsSetOfText c.args.text.now) (sym c.in_ok-add-in-Some-finished.ensures.ok) p
+    subst (IsSetOfText c.args.text.now) (sym c.in_ok-add-in-Some-finished.ensures.after) p
