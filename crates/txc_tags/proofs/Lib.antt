@@ -14,3 +14,4 @@ pub mod TextKeys
 pub mod TextSets
 pub mod Sixteen
 pub mod Merging
+pub mod Offered

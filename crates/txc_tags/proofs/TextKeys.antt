@@ -130,7 +130,7 @@ open_stops function args byte h l stops other key rest behind k nb e =
         let w = stops y rest (behind_arg ys behind) small (no_digit_behind ys behind) (q ∙ args_parts y ys behind) in
         let z : ◌≡◌ {A = Option ℕ} None (Some y) = w.0 in absurd (cc)
 
-pub argument_stops : (function : ℕ) (args : List ℕ) (n byte : ℕ) → function ≤ 31 → All IsArg args → IsArg n → EndsBefore (λ n. n ≤ 4294967295) decimal (Some n) (digits_read (Some n)) byte → (byte ≡ 41 → ⊥) → (byte ≡ 44 → length args ≡ 3) → EndsBefore IsKeyInRange key_text None (front_text (InArguments function args (Some n))) byte
+pub argument_stops : (function : ℕ) (args : List ℕ) (n byte : ℕ) → function ≤ 31 → All IsArg args → IsArg n → EndsBefore (λ n. n ≤ 4294967295) decimal (Some n) (digits_read (Some n)) byte → (byte ≡ 41 → ⊥) → (byte ≡ 44 → length args + 1 ≡ 4) → EndsBefore IsKeyInRange key_text None (front_text (InArguments function args (Some n))) byte
 argument_stops function args n byte h l small stops paren comma key rest behind k nb e =
     let p = arguments_begin function args (Some n) byte key rest behind h l k e in
     let few : length (args ++ p.0) ≤ 4 = subst (λ (xs : List ℕ). length xs ≤ 4) p.1 k.few in

@@ -3,6 +3,8 @@ ghost use Rattle.std.specs.Prelude.{◌≡◌, ◌⊎◌, ◌↔◌, ◌++◌, �
 ghost use Rattle.txc_tags.specs.declared.tag.Tag.{Tag};
 ghost use Rattle.txc_tags.specs.Tags.{tags_match, sets_match, has_tag, covers, tag_before, IsCanonical, KeepsSixteen, with_tag, with_tags};
 ghost use Rattle.txc_tags.specs.Keys.{Call, same_call};
+ghost use Rattle.txc_tags.specs.TextGrammar.{IsTextOf};
+ghost use Rattle.txc_tags.specs.TextKey.{IsKeyInRange, key_text};
 
 /// Of two tags one stands before the other or they are equal.
 pub fn tags_stand_in_order()
@@ -57,4 +59,12 @@ pub fn the_same_tags_make_the_same_set()
 /// Two keys are the same exactly where they are equal.
 pub fn same_calls_are_equal()
     ensures { (a b : Call) → (same_call a b ≡ true) ↔ (a ≡ b) }
+{}
+
+/// A key's text is the only one of that key, and no other key has it.
+pub fn keys_have_one_text()
+    ensures only { (key : Call) (a b : List ℕ)
+        → IsTextOf IsKeyInRange key_text a key → IsTextOf IsKeyInRange key_text b key → a ≡ b }
+    ensures known { (text : List ℕ) (a b : Call)
+        → IsTextOf IsKeyInRange key_text text a → IsTextOf IsKeyInRange key_text text b → a ≡ b }
 {}

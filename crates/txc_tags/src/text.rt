@@ -13,7 +13,7 @@
 //! Texts are read from bytes, since a script's line may be no UTF-8.
 
 pub mod key;
-pub mod laws;
 pub mod number;
+mod range;
 pub mod set;
 pub mod tag;

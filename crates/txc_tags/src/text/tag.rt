@@ -7,12 +7,13 @@ ghost use Rattle.txc_tags.specs.TextTagFront.{IsFrontInRange, finished_tag, fron
 
 use crate::tag::{LAST_TABLE, Rows, Table, Tag};
 use crate::text::number::{LAST_NUMBER, push_digit};
+use crate::text::range::tag_is_in_range;
 use std::alloc::{AllocError, Global};
 use std::fmt;
 
-/// G1: the text is not that of a tag, or of a set of tags.
+/// The text is not that of a tag, or of a set of tags.
 #[derive(Debug, Clone, Copy, PartialEq, Eq, thiserror::Error)]
-#[error("no text of a tag: it goes wrong behind {at} bytes")]
+#[error("no text of a tag: it goes wrong after {at} bytes")]
 pub struct BadTag {
     /// The length in bytes of the longest prefix of the text that is also a prefix of some text of the grammar read.
     pub at: usize,
@@ -198,11 +199,10 @@ impl Tag {
 
     /// The tag that the whole text is: `t1:?`, `t1:id=7` or `t1:grp=2`. It takes no memory.
     pub fn read(text: &[u8]) -> Result<Tag, BadTag>
-        ensures grammar { IsOk result ↔ IsText IsTagInRange tag_text text.now }
-        ensures tag { IfOk result (IsTextOf IsTagInRange tag_text text.now) }
-        ensures at { IfErr result (λ bad. IsLongestPrefix IsTagInRange tag_text text.now bad.at) }
-        ensures written { (tag : Tag) → IsTagInRange tag
-            → text.now ≡ tag_text tag → result ≡ Ok tag }
+        ensures answer { IfOk result (IsTextOf IsTagInRange tag_text text.now) }
+        ensures only_if { IsOk result ↔ IsText IsTagInRange tag_text text.now }
+        ensures refused { IfErr result (λ bad. IsLongestPrefix IsTagInRange tag_text text.now bad.at) }
+        ensures read_back { (tag : Tag) → IsTextOf IsTagInRange tag_text text.now tag → result ≡ Ok tag }
     {
         let mut front = TagFront::Nothing;
         for (i, byte) in text.iter().enumerate() {
@@ -217,10 +217,11 @@ impl Tag {
         }
     }
 
-    /// The tag's text. [`Tag::read`] gives the tag back. Only want of memory refuses.
+    /// The tag's text. [`Tag::read`] gives the tag back. It is refused only where memory was.
     pub fn write(&self, alloc: Global) -> Result<String, AllocError>
-        ensures { IfOk result (λ text. string_bytes text ≡ tag_text self.now) }
+        ensures { IfOk result (λ text. IsTextOf IsTagInRange tag_text (string_bytes text) self.now) }
     {
+        tag_is_in_range(*self);
         self.to_string(alloc)
     }
 }
