@@ -1,7 +1,7 @@
 use thiserror::Error;
 
-/// Why a stamp, a span or a reach cannot be made. A number that is too large is named before an empty stretch is, and of
-/// two that are too large the first.
+/// Why a stamp, a span or a reach cannot be made. A number that is too large is named before an empty
+/// stretch is, and of two that are too large the first.
 #[derive(Clone, Copy, Debug, PartialEq, Eq, Error)]
 pub enum StampError {
     /// The stamp exceeds [`crate::LAST_STAMP`], or the end exceeds the stamp after it.

@@ -9,8 +9,8 @@ use crate::stamp::Stamp;
 use std::fmt;
 use std::marker::Model;
 
-/// Where a result is known to hold: at every stamp from `lo` to `known`. If it is *still* valid, no later event that was
-/// processed has changed it, and its span grows with what is processed.
+/// Where a result is known to hold: at every stamp from `lo` to `known`. If it is *still* valid, no later
+/// event that was processed has changed it, and its span grows with what is processed.
 #[derive(Clone, Copy, Debug, PartialEq, Eq)]
 pub struct Reach {
     lo: Stamp,

@@ -7,10 +7,11 @@ use crate::tag::Tag;
 use std::alloc::{AllocError, Global};
 use std::marker::Model;
 
-/// The tags that a result depends on, or that an event changed: of each table at most sixteen, or its wildcard alone.
+/// The tags that a result depends on, or that an event changed: of each table at most sixteen, or its
+/// wildcard alone.
 ///
-/// A contract sees the list of its tags by table, in a table the wildcard alone, or the ids by number and then the
-/// groups by number. So sets of the same tags are equal, in whatever order the tags came.
+/// A contract sees the list of its tags by table, in a table the wildcard alone, or the ids by number and
+/// then the groups by number. So sets of the same tags are equal, in whatever order the tags came.
 #[derive(Debug, Drop)]
 pub struct TagSet {
     tags: Vec<Tag>,
@@ -67,8 +68,8 @@ impl TagSet {
         slices_match(&self.tags, &other.tags)
     }
 
-    /// Adds a tag. A tag that is covered changes nothing; a wildcard, and a seventeenth tag of a table, takes the
-    /// place of the table's tags. It is refused only where memory was.
+    /// Adds a tag. A tag that is covered changes nothing; a wildcard, and a seventeenth tag of a table,
+    /// takes the place of the table's tags. It is refused only where memory was.
     pub fn add(&mut self, tag: Tag) -> Result<(), AllocError>
         ensures after { OnOk result (self.new ≡ with_tag tag self.old) }
         ensures unchanged { OnErr result (self.new ≡ self.old) }
@@ -77,8 +78,8 @@ impl TagSet {
         add_tag(&mut self.tags, tag)
     }
 
-    /// Adds the other set's tags one after the other. It is refused only where memory was, and takes none where each
-    /// of them is covered.
+    /// Adds the other set's tags one after the other. It is refused only where memory was, and takes none
+    /// where each of them is covered.
     pub fn join(&mut self, other: &TagSet) -> Result<(), AllocError>
         ensures after { OnOk result (self.new ≡ with_tags other.now self.old) }
         ensures unchanged { OnErr result (self.new ≡ self.old) }

@@ -20,20 +20,20 @@ pub struct BadKey {
     pub at: usize,
 }
 
-/// The front of a key's text, by what stands in it.
+/// The beginning of a key's text, by what stands in it.
 #[derive(Debug, Drop)]
 enum KeyFront {
     /// No byte.
     Nothing,
     /// `f` and digits.
     InFunction(Option<u64>),
-    /// `f3(`, arguments with a comma behind each, and digits.
+    /// `f3(`, arguments with a comma after each, and digits.
     InArguments(u8, Arguments, Option<u64>),
     /// The whole text.
     Closed(u8, Arguments),
 }
 
-/// The front of a function's part with one byte more behind it.
+/// The beginning of a function's part with one byte more.
 fn push_to_function(number: Option<u64>, byte: u8) -> Option<KeyFront>
     requires { IfSome number (λ n. n ≤ LAST_FUNCTION) }
     ensures within { IfSome result IsFrontInRange }
@@ -67,7 +67,7 @@ fn end_function(number: Option<u64>, byte: u8) -> Option<KeyFront>
     }
 }
 
-/// The front of the arguments with one byte more behind it.
+/// The beginning of the arguments with one byte more.
 fn push_to_arguments(
     function: u8,
     arguments: Arguments,
@@ -124,7 +124,7 @@ fn end_argument(function: u8, arguments: Arguments, number: u32, byte: u8) -> Op
 }
 
 impl KeyFront {
-    /// The front with one byte more behind it. `None` where no key's text begins so.
+    /// The beginning with one byte more. `None` where no key's text begins so.
     fn push(self, byte: u8) -> Option<KeyFront>
         requires { IsFrontInRange self }
         ensures within { IfSome result IsFrontInRange }
@@ -199,7 +199,8 @@ impl Key {
         }
     }
 
-    /// The key's text. [`Key::read`] gives the key back, and reads it from no other text. It is refused only where memory was.
+    /// The key's text. [`Key::read`] gives the key back, and reads it from no other text. It is refused
+    /// only where memory was.
     pub fn write(&self, alloc: Global) -> Result<String, AllocError>
         ensures { IfOk result (λ text. IsTextOf IsKeyInRange key_text (string_bytes text) self.now) }
     {

@@ -36,8 +36,8 @@ fn begins_with_dash(text: &[u8]) -> bool
     }
 }
 
-/// One byte more of tags joined by commas: the beginning of the last tag after it, and the tag that a comma ended. `None` where no
-/// tags go on so.
+/// One byte more of tags joined by commas: the beginning of the last tag after it, and the tag that a comma
+/// ended. `None` where no tags go on so.
 fn push_byte(front: TagFront, byte: u8) -> Option<(TagFront, Option<Tag>)>
     requires { IsFrontInRange front }
     ensures within { IfSome result (λ pushed. IsFrontInRange pushed.0) }
@@ -89,8 +89,8 @@ fn with_ended(set: Result<TagSet, AllocError>, ended: Option<Tag>) -> Result<Tag
     }
 }
 
-/// The set of the tags of a text that does not begin with a dash, made while the text is read. Where memory is refused the
-/// text is read to its end all the same, so that one outside the grammar is refused as such.
+/// The set of the tags of a text that does not begin with a dash, made while the text is read. Where memory
+/// is refused the text is read to its end all the same, so that one outside the grammar is refused as such.
 fn read_tags(alloc: Global, text: &[u8]) -> Result<TagSet, SetError>
     requires { slice_index text.now 0 ≢ 45 }
     ensures answer { IfOk result (IsSetOfText text.now) }
@@ -135,8 +135,9 @@ impl fmt::Display for TagSet {
 }
 
 impl TagSet {
-    /// The set that the whole text is: `-` for the empty set, or what adding the text's tags one after the other gives. A
-    /// text that is none is refused as [`SetError::BadTag`], whatever memory is left; `-` takes none.
+    /// The set that the whole text is: `-` for the empty set, or what adding the text's tags one after the
+    /// other gives. A text that is none is refused as [`SetError::BadTag`], whatever memory is left; `-`
+    /// takes none.
     pub fn read(alloc: Global, text: &[u8]) -> Result<TagSet, SetError>
         ensures answer { IfOk result (IsSetOfText text.now) }
         ensures refused { IfErr result (IsSetRefusal text.now) }
@@ -153,8 +154,8 @@ impl TagSet {
         Ok(TagSet::new(alloc))
     }
 
-    /// The set's one spelling: by table, in a table the wildcard alone, or ids by number and then groups by number.
-    /// [`TagSet::read`] gives the set back. It is refused only where memory was.
+    /// The set's one spelling: by table, in a table the wildcard alone, or ids by number and then groups by
+    /// number. [`TagSet::read`] gives the set back. It is refused only where memory was.
     pub fn write(&self, alloc: Global) -> Result<String, AllocError>
         ensures { IfOk result
             (λ text. IsTextOf AreTagsInRange tags_text (string_bytes text) self.now) }

@@ -15,7 +15,8 @@ use std::fmt;
 #[derive(Debug, Clone, Copy, PartialEq, Eq, thiserror::Error)]
 #[error("no text of a tag: it goes wrong after {at} bytes")]
 pub struct BadTag {
-    /// The length in bytes of the longest prefix of the text that is also a prefix of some text of the grammar read.
+    /// The length in bytes of the longest prefix of the text that is also a prefix of some text of the
+    /// grammar read.
     pub at: usize,
 }
 
