@@ -16,8 +16,6 @@ mod node;
 mod replay;
 mod room;
 mod search;
-#[cfg(test)]
-mod tests;
 mod value;
 
 pub use entry::{Entry, EntryError};
