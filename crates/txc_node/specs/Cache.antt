@@ -1,6 +1,6 @@
 -- The versioned cache, and its steps: a lookup, an insertion and an event. Each step is a function of the whole cache.
-use Rattle.std.specs.Prelude.{◌≡◌, Option, ℕ, ◌+◌, ◌-◌, ◌<◌, ◌≤◌, Bool, ◌&&◌, nat_lt, nat_le, min, List, [], ◌∷◌, ◌++◌, map, length, take, drop, if◌then◌else◌, Some, None, slice_get, false}
-use Rattle.std.specs.List.{find, position, count_by}
+use Rattle.std.specs.Prelude.{◌≡◌, Option, ℕ, ◌+◌, ◌-◌, ◌<◌, ◌≤◌, Bool, ◌&&◌, nat_lt, nat_le, not, min, List, [], ◌∷◌, ◌++◌, map, length, take, drop, if◌then◌else◌, Some, None, slice_get, false}
+use Rattle.std.specs.List.{find, filter, position, count_by}
 use Rattle.std.specs.Option.{option_map}
 use Rattle.txc_stamp.specs.Interval.{Interval, end_at, shown, closed_at}
 use Rattle.txc_tags.specs.declared.tag.Tag.{Tag}
@@ -148,3 +148,17 @@ after_event c stamp tags = record c {
 -- how many entries the event closes
 abbrev pub closed_count : Cache → ℕ → List Tag → ℕ
 closed_count c stamp tags = count_by (is_invalidated stamp tags) c.entries
+
+-- ---- a sweep: the entries whose span ends at the horizon or before it are dropped
+
+-- the span of the entry ends at the horizon or before it
+abbrev pub has_ended : ℕ → ℕ → Entry → Bool
+has_ended processed horizon e = nat_le (end_at processed e.reach) horizon
+
+-- the cache after a sweep: exactly these entries are dropped, and the others keep their order
+abbrev pub after_sweep : Cache → ℕ → Cache
+after_sweep c horizon = record c { entries = filter (λ e. not (has_ended c.processed horizon e)) c.entries }
+
+-- how many entries the sweep drops
+abbrev pub swept_count : Cache → ℕ → ℕ
+swept_count c horizon = count_by (has_ended c.processed horizon) c.entries

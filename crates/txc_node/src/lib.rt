@@ -16,6 +16,7 @@ mod node;
 mod replay;
 mod room;
 mod search;
+mod sweeping;
 mod value;
 
 pub use entry::{Entry, EntryError};

@@ -1,11 +1,12 @@
 //! The node: its entries, and the tags of the last events.
-ghost use Rattle.std.specs.Prelude.{◌≡◌, ◌+◌, ◌<◌, ◌≤◌, ◌↔◌, map, Ok, Err, IfOk, IfErr, OnOk, OnErr, IsOk, MatchResult, is_some, vec_len};
+ghost use Rattle.std.specs.Prelude.{◌≡◌, ◌+◌, ◌<◌, ◌≤◌, ◌↔◌, map, length, [], IsTrue, Ok, Err, IfOk, IfErr, OnOk, OnErr, IsOk, MatchResult, vec_len};
 ghost use Rattle.std.specs.List.{count_by};
 ghost use Rattle.std.specs.Option.{option_map};
 ghost use Rattle.std.specs.Borrow.{sem};
 ghost use Rattle.std.specs.Io.BufRead.{Rests};
 ghost use Rattle.txc_node.specs.contracts.node.NodeCore.{the_row};
-ghost use Rattle.txc_node.specs.Cache.{empty_cache, Grows, found, answer, after_lookup, after_insert, outcome, is_invalidated, entry_after, after_event, closed_count};
+ghost use Rattle.txc_node.specs.Cache.{empty_cache, Grows, found, answer, after_lookup, after_insert, outcome, is_invalidated, entry_after, after_event, closed_count, after_sweep, swept_count};
+ghost use Rattle.txc_node.specs.Best.{StandsAt};
 ghost use Rattle.txc_node.specs.Hit.{seen};
 
 use crate::entry::Entry;
@@ -13,7 +14,8 @@ use crate::hit::Hit;
 use crate::invalidation::invalidate;
 use crate::replay::replay_for;
 use crate::room::{keep_last, make_room, move_to_front, put};
-use crate::search::{best_at, hit_at_front, place_of};
+use crate::search::{best_at, hit_at, place_of};
+use crate::sweeping::drop_ended;
 use std::alloc::{AllocError, AllocFailed, Global};
 use std::marker::Model;
 use thiserror::Error;
@@ -101,22 +103,56 @@ impl NodeCore {
         })
     }
 
-    // Looks an entry up and moves it to the front, and says whether there is one.
-    fn touch(&mut self, key: &Key, lo: Stamp, hi: Stamp) -> Result<bool, EmptyRange>
-        ensures in_order { OnOk result (lo ≤ hi) }
-        ensures empty { OnErr result (hi < lo) }
-        ensures err { OnErr result (self.new ≡ self.old) }
+    /// The stamp of the last event that was taken.
+    pub fn processed(&self) -> Stamp
+        ensures { result ≡ self.now.processed }
+    {
+        self.processed
+    }
+
+    /// How many entries it holds.
+    pub fn len(&self) -> usize
+        ensures { result ≡ length self.now.entries }
+    {
+        self.entries.len()
+    }
+
+    /// Whether it holds no entry.
+    pub fn is_empty(&self) -> bool
+        ensures { IsTrue result ↔ (self.now.entries ≡ []) }
+    {
+        self.entries.is_empty()
+    }
+
+    /// Answers and refuses as [`NodeCore::lookup`] does, and changes nothing. It takes no memory.
+    pub fn find(&self, key: &Key, lo: Stamp, hi: Stamp) -> Result<Option<Hit<'_>>, EmptyRange>
+        ensures only_if { OnOk result (lo ≤ hi) }
+        ensures refused { OnErr result (hi < lo) }
+        ensures answer { IfOk result (λ r. option_map seen r ≡ answer self.now key.now lo hi) }
+    {
+        if hi < lo {
+            return Err(EmptyRange);
+        }
+        let at = best_at(&self.entries, self.processed, key, lo, hi);
+        Ok(hit_at(&self.entries, self.processed, at))
+    }
+
+    // Looks an entry up and moves it to the front, and says where it then stands.
+    fn touch(&mut self, key: &Key, lo: Stamp, hi: Stamp) -> Result<Option<usize>, EmptyRange>
+        ensures only_if { OnOk result (lo ≤ hi) }
+        ensures refused { OnErr result (hi < lo) }
+        ensures unchanged { OnErr result (self.new ≡ self.old) }
         ensures after { OnOk result (self.new ≡ after_lookup self.old key.now lo hi) }
-        ensures answer { IfOk result (λ b. b ≡ is_some (found self.old key.now lo hi)) }
+        ensures place { IfOk result (StandsAt (found self.old key.now lo hi) self.new.entries) }
     {
         if hi < lo {
             return Err(EmptyRange);
         }
         match best_at(&self.entries, self.processed, key, lo, hi) {
-            None => Ok(false),
+            None => Ok(None),
             Some(at) => {
                 move_to_front(&mut self.entries, at);
-                Ok(true)
+                Ok(Some(0))
             }
         }
     }
@@ -125,27 +161,27 @@ impl NodeCore {
     /// meets them it lends the one whose span ends latest, and of those the one that begins latest; that one becomes
     /// the most recently used. None is a miss, which changes nothing. It takes no memory.
     pub fn lookup(&mut self, key: &Key, lo: Stamp, hi: Stamp) -> Result<Option<Hit<'_>>, EmptyRange>
-        ensures in_order { OnOk result (lo ≤ hi) }
-        ensures empty { OnErr result (hi < lo) }
+        ensures only_if { OnOk result (lo ≤ hi) }
+        ensures refused { OnErr result (hi < lo) }
         ensures answer { IfOk result (λ r. option_map seen r ≡ answer self.old key.now lo hi) }
         // after an Ok the node is that after the lookup, and after an Err as it was
         ensures* after { sem 𝓛 (Rests the_row self.entry (λ new. MatchResult result
             (λ _. new ≡ after_lookup self.old key.now lo hi)
             (λ _. new ≡ self.old))) }
     {
-        let is_hit = self.touch(key, lo, hi)?;
+        let at = self.touch(key, lo, hi)?;
         let processed = self.processed;
-        Ok(hit_at_front(&self.entries, processed, is_hit))
+        Ok(hit_at(&self.entries, processed, at))
     }
 
     /// Takes the next event: closes, just below it, the still valid entries that were known below it and whose tags it
     /// matches, and counts them. No entry moves. It takes no memory.
     pub fn event(&mut self, stamp: Stamp, tags: TagSet) -> Result<usize, OutOfOrder>
-        ensures next { IsOk result ↔ (stamp ≡ self.old.processed + 1) }
-        ensures out_of_order { IfErr result (λ e. e.processed ≡ self.old.processed) }
-        ensures err { OnErr result (self.new ≡ self.old) }
+        ensures only_if { IsOk result ↔ (stamp ≡ self.old.processed + 1) }
+        ensures refused { IfErr result (λ e. e.processed ≡ self.old.processed) }
+        ensures unchanged { OnErr result (self.new ≡ self.old) }
         ensures after { OnOk result (self.new ≡ after_event self.old stamp tags) }
-        ensures count { IfOk result (λ n. n ≡ closed_count self.old stamp tags) }
+        ensures answer { IfOk result (λ n. n ≡ closed_count self.old stamp tags) }
     {
         if stamp.number() != self.processed.number() + 1 {
             return Err(OutOfOrder {
@@ -189,5 +225,14 @@ impl NodeCore {
                 Ok(Inserted::Stored { reach, evicted })
             }
         }
+    }
+
+    /// Drops exactly the entries whose span ends at the horizon or before it, and counts them. The others keep their
+    /// order. It takes no memory.
+    pub fn sweep(&mut self, horizon: Stamp) -> usize
+        ensures after { self.new ≡ after_sweep self.old horizon }
+        ensures answer { result ≡ swept_count self.old horizon }
+    {
+        drop_ended(&mut self.entries, self.processed, horizon)
     }
 }
