@@ -53,7 +53,7 @@ impl Entry {
         ensures too_long { (result ≡ Err EntryError.ValueTooLong)
             ↔ ((lo ≤ known) × (MAX_VALUE_LEN < vec_len value)) }
     {
-        let Some(reach) = Reach::from_stamps(lo, known, still) else {
+        let Ok(reach) = Reach::from_stamps(lo, known, still) else {
             return Err(EntryError::BadReach);
         };
         let Some(value) = Value::new(value) else {

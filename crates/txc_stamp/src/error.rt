@@ -4,10 +4,10 @@ use thiserror::Error;
 /// two that are too large the first.
 #[derive(Clone, Copy, Debug, PartialEq, Eq, Error)]
 pub enum StampError {
-    /// S2: the stamp exceeds [`crate::LAST`], or the end exceeds the stamp after it.
+    /// The stamp exceeds [`crate::LAST_STAMP`], or the end exceeds the stamp after it.
     #[error("{0} is beyond the last stamp")]
     TooLarge(u32),
-    /// S1: the end is at most the first stamp, or the last known stamp lies below the first.
+    /// The end is at most the first stamp, or the last known stamp lies below the first.
     #[error("no stamp lies in it")]
     Empty,
 }

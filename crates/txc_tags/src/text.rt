@@ -17,5 +17,3 @@ pub mod laws;
 pub mod number;
 pub mod set;
 pub mod tag;
-#[cfg(test)]
-mod tests;
