@@ -8,7 +8,7 @@ use Rattle.txc_node.specs.declared.hit.Hit.{Hit}
 use Rattle.txc_tags.specs.Keys.{Call}
 use Rattle.txc_node.specs.Entries.{others}
 use Rattle.txc_node.specs.Best.{StandsAt}
-use Rattle.txc_node.specs.Cache.{Cache, found, after_use, after_lookup, answer_of}
+use Rattle.txc_node.specs.Cache.{Cache, found, after_use, after_lookup, shown_of}
 use Rattle.txc_node.specs.Hit.{seen}
 
 an_entry : (es : List Entry) (i : ℕ) → i < length es → Entry
@@ -37,5 +37,5 @@ stands_first o es (x ∷ new) i f m =
 
 -- what is lent of the entry at the place where it stands is its answer
 pub lent : (p : ℕ) (r : Option Hit) (es : List Entry) (o : Option Entry) (i : ℕ) → StandsAt o es (Some i)
-    → HoldsAt (λ e. option_map seen r ≡ Some (answer_of p e)) es i → option_map seen r ≡ option_map (answer_of p) o
-lent p r es o i at is = let d = an_entry es i at.0 in is d ∙ sym (ap (option_map (answer_of p)) (at.1 d))
+    → HoldsAt (λ e. option_map seen r ≡ Some (shown_of p e)) es i → option_map seen r ≡ option_map (shown_of p) o
+lent p r es o i at is = let d = an_entry es i at.0 in is d ∙ sym (ap (option_map (shown_of p)) (at.1 d))

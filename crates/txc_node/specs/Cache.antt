@@ -7,6 +7,7 @@ use Rattle.txc_tags.specs.declared.tag.Tag.{Tag}
 use Rattle.txc_tags.specs.Tags.{sets_match}
 use Rattle.txc_tags.specs.Keys.{Call}
 use Rattle.txc_node.specs.declared.entry.Entry.{Entry}
+use Rattle.txc_node.specs.declared.hit.Shown.{Shown}
 use Rattle.txc_node.specs.declared.node.Inserted.{Inserted}
 use Rattle.txc_node.specs.declared.node.Inserted.TheVariants.{Stored, Kept}
 use Rattle.txc_node.specs.Entries.{same_place, is_best, others, AreApart}
@@ -53,19 +54,13 @@ after_use c (Some e) = record c { entries = e ∷ others e c.entries }
 abbrev pub after_lookup : Cache → Call → ℕ → ℕ → Cache
 after_lookup c key lo hi = after_use c (found c key lo hi)
 
--- what a hit shows
-pub record Answer : Type 0 where
-  pub reach : Interval
-  pub value : List ℕ
-  pub tags : List Tag
-
 -- what a hit shows of an entry, its reach known up to the last stamp of its span
-abbrev pub answer_of : ℕ → Entry → Answer
-answer_of processed e = record { reach = shown processed e.reach; value = e.value; tags = e.tags }
+abbrev pub shown_of : ℕ → Entry → Shown
+shown_of processed e = record { reach = shown processed e.reach; value = e.value; tags = e.tags }
 
 -- the answer of the entry that is found, or none, which is a miss
-abbrev pub answer : Cache → Call → ℕ → ℕ → Option Answer
-answer c key lo hi = option_map (answer_of c.processed) (found c key lo hi)
+abbrev pub answer : Cache → Call → ℕ → ℕ → Option Shown
+answer c key lo hi = option_map (shown_of c.processed) (found c key lo hi)
 
 -- ---- an insertion: the events that the entry missed are replayed first
 
@@ -113,11 +108,6 @@ after_insert c e = if is_kept c e then c else record c { entries = take c.capaci
 -- the one for which there is no room
 abbrev pub evicted_entry : Cache → Entry → Option Entry
 evicted_entry c e = slice_get (entries_with c e) c.capacity
-
--- there is none with the same key and first stamp, and the cache is not full
-pub record Grows (c : Cache) (e : Entry) : Type 0 where
-  pub new : find (λ o. same_place o e) c.entries ≡ None
-  pub not_full : length c.entries < c.capacity
 
 -- kept, with the entry handed in; or stored, with the reach after the replay and the entry that was dropped
 abbrev pub outcome : Cache → Entry → Inserted

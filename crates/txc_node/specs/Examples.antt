@@ -5,8 +5,9 @@ use Rattle.txc_tags.specs.declared.tag.Tag.{Tag}
 use Rattle.txc_tags.specs.declared.tag.Tag.TheVariants.{Wildcard, Id, Group}
 use Rattle.txc_tags.specs.Keys.{Call}
 use Rattle.txc_node.specs.declared.entry.Entry.{Entry}
+use Rattle.txc_node.specs.declared.hit.Shown.{Shown}
 use Rattle.txc_node.specs.declared.node.Inserted.TheVariants.{Stored, Kept}
-use Rattle.txc_node.specs.Cache.{Cache, Answer, empty_cache, answer, after_lookup, outcome, after_insert, closed_count, after_event}
+use Rattle.txc_node.specs.Cache.{Cache, empty_cache, answer, after_lookup, outcome, after_insert, closed_count, after_event}
 
 -- the call of function 1 with one argument
 abbrev pub call_of : ℕ → Call
@@ -22,7 +23,7 @@ closed lo known = record { lo = lo; known = known; still = false }
 abbrev pub entry_of : ℕ → ℕ → Interval → List Tag → Entry
 entry_of n byte reach tags = record { key = call_of n; value = byte ∷ []; reach = reach; tags = tags }
 
-abbrev pub shows : ℕ → Interval → List Tag → Option Answer
+abbrev pub shows : ℕ → Interval → List Tag → Option Shown
 shows byte reach tags = Some (record { reach = reach; value = byte ∷ []; tags = tags })
 
 -- ---- a still valid entry is found as far as events were taken, and an event that matches closes it

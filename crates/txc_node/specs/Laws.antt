@@ -5,7 +5,7 @@ use Rattle.txc_tags.specs.declared.tag.Tag.{Tag}
 use Rattle.txc_tags.specs.Tags.{sets_match}
 use Rattle.txc_tags.specs.Keys.{Call}
 use Rattle.txc_node.specs.declared.entry.Entry.{Entry}
-use Rattle.txc_node.specs.Cache.{Cache, IsCache, empty_cache, found, answer_of, after_lookup, replayed_reach, replayed_entry, after_insert, entry_after, last_of, after_event}
+use Rattle.txc_node.specs.Cache.{Cache, IsCache, empty_cache, found, shown_of, after_lookup, replayed_reach, replayed_entry, after_insert, entry_after, last_of, after_event}
 
 -- ---- lookup
 
@@ -42,7 +42,7 @@ MeetsAtAStamp = (processed lo hi : ℕ) (e : Entry) → lo ≤ hi → e.reach.lo
 
 -- a hit shows no stamp beyond the greater of the last one known and the processed one
 abbrev pub ShowsNothingBeyond : Type 0
-ShowsNothingBeyond = (processed : ℕ) (e : Entry) → (answer_of processed e).reach.known ≤ max e.reach.known processed
+ShowsNothingBeyond = (processed : ℕ) (e : Entry) → (shown_of processed e).reach.known ≤ max e.reach.known processed
 
 -- ---- event
 

@@ -42,7 +42,7 @@ impl Entry {
         still: bool,
         tags: TagSet,
     ) -> Result<Entry, EntryError>
-        ensures entry { IfOk result (λ e. e ≡ record {
+        ensures answer { IfOk result (λ e. e ≡ record {
           key = key;
           value = value.items;
           reach = record { lo = lo; known = known; still = still };

@@ -1,11 +1,11 @@
 //! The node: its entries, and the tags of the last events.
-ghost use Rattle.std.specs.Prelude.{◌≡◌, ◌+◌, ◌<◌, ◌≤◌, ◌↔◌, map, length, [], IsTrue, Ok, Err, IfOk, IfErr, OnOk, OnErr, IsOk, MatchResult, vec_len};
+ghost use Rattle.std.specs.Prelude.{◌≡◌, ◌+◌, ◌<◌, ◌≤◌, ◌↔◌, map, length, [], IsTrue, Ok, Err, IfOk, IfErr, OnOk, OnErr, IsOk, MatchResult, false, vec_len};
 ghost use Rattle.std.specs.List.{count_by};
 ghost use Rattle.std.specs.Option.{option_map};
 ghost use Rattle.std.specs.Borrow.{sem};
 ghost use Rattle.std.specs.Io.BufRead.{Rests};
 ghost use Rattle.txc_node.specs.contracts.node.NodeCore.{the_row};
-ghost use Rattle.txc_node.specs.Cache.{empty_cache, Grows, found, answer, after_lookup, after_insert, outcome, is_invalidated, entry_after, after_event, closed_count, after_sweep, swept_count};
+ghost use Rattle.txc_node.specs.Cache.{empty_cache, found, answer, after_lookup, is_kept, after_insert, outcome, is_invalidated, entry_after, after_event, closed_count, after_sweep, swept_count};
 ghost use Rattle.txc_node.specs.Best.{StandsAt};
 ghost use Rattle.txc_node.specs.Hit.{seen};
 
@@ -194,16 +194,16 @@ impl NodeCore {
         Ok(count)
     }
 
-    /// Inserts an entry, after the replay of the events that came behind the last stamp on which it is known. It goes
+    /// Inserts an entry, after the replay of the events that came after the last stamp on which it is known. It goes
     /// to the front. A full node drops its last entry for it; an entry with the same key and first stamp is replaced
-    /// where it ends earlier, and else stays in its place. Only want of memory refuses,
-    /// where the list has to grow, and gives the entry back.
+    /// where it ends earlier, and else stays in its place. Only out of memory refuses, never where the old entry stays,
+    /// and gives the entry back.
     pub fn insert(&mut self, entry: Entry) -> Result<Inserted, AllocFailed<Entry>>
         ensures after { OnOk result (self.new ≡ after_insert self.old entry) }
-        ensures outcome { IfOk result (λ r. r ≡ outcome self.old entry) }
+        ensures answer { IfOk result (λ r. r ≡ outcome self.old entry) }
+        ensures refused { OnErr result (is_kept self.old entry ≡ false) }
+        ensures unchanged { OnErr result (self.new ≡ self.old) }
         ensures handed_back { IfErr result (λ e. e.value ≡ entry) }
-        ensures only_to_grow { OnErr result (Grows self.old entry) }
-        ensures err { OnErr result (self.new ≡ self.old) }
     {
         let reach = replay_for(&entry, self.processed, &self.recent);
         match place_of(&self.entries, &entry) {

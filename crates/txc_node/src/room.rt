@@ -116,7 +116,6 @@ pub(crate) fn make_room(entries: &mut Vec<Entry>, capacity: usize) -> bool
     ensures len { vec_len entries.new ≡ vec_len entries.old }
     ensures room { result ≡ true → vec_len entries.old < capacity
         → vec_len entries.new < vec_capacity entries.new }
-    ensures no_room { result ≡ false → vec_len entries.old < capacity }
 {
     if entries.len() < capacity {
         entries.reserve(1).is_ok()

@@ -6,7 +6,7 @@ ghost use Rattle.txc_tags.specs.Keys.{same_call};
 ghost use Rattle.txc_node.specs.Entries.{same_place, meets_range, outlasts, is_best};
 ghost use Rattle.txc_node.specs.declared.entry.Entry.{Entry};
 ghost use Rattle.txc_node.specs.Best.{BestSoFar, StandsAt};
-ghost use Rattle.txc_node.specs.Cache.{answer_of};
+ghost use Rattle.txc_node.specs.Cache.{shown_of};
 ghost use Rattle.txc_node.specs.Hit.{seen};
 
 use crate::entry::Entry;
@@ -101,7 +101,7 @@ fn place_at(entries: &[Entry], key: &Key, lo: Stamp) -> Option<usize>
 pub(crate) fn hit_at(entries: &[Entry], processed: Stamp, at: Option<usize>) -> Option<Hit<'_>>
     requires { IfSome at (λ i. i < length entries.now) }
     ensures { (o : Option Entry) → StandsAt o entries.now at
-        → option_map seen result ≡ option_map (answer_of processed) o }
+        → option_map seen result ≡ option_map (shown_of processed) o }
 {
     let at = at?;
     let e = &entries[at];
