@@ -51,7 +51,7 @@ at_end a b h = grind (arith, nat_tests)
 pub position_none : {X : Type 0} (p : X → Bool) (es : List X) → position p es ≡ None → AllByRecursion (λ o. p o ≡ false) es
 position_none p es h = nowhere p es (at_end (prefix_len (λ o. not (p o)) es) (length es) h)
 
-find_none : (p : Entry → Bool) (es : List Entry) → AllByRecursion (λ o. p o ≡ false) es → find p es ≡ None
+pub find_none : (p : Entry → Bool) (es : List Entry) → AllByRecursion (λ o. p o ≡ false) es → find p es ≡ None
 find_none p [] h = refl
 find_none p (e ∷ es) h = rw h.0 (find_none p es h.1)
 

@@ -5,3 +5,5 @@ pub mod Moves
 pub mod Inserts
 pub mod LawLemmas
 pub mod ReplayLemmas
+mod Dropped
+mod Swept

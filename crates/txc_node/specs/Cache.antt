@@ -64,21 +64,29 @@ answer c key lo hi = option_map (shown_of c.processed) (found c key lo hi)
 
 -- ---- an insertion: the events that the entry missed are replayed first
 
--- closed just before the event with that number behind `known`, if there is one
+-- closed just before the event with that number after `known`, if there is one
 abbrev pub closed_before : Option ℕ → Interval → Interval
 closed_before None i = i
 closed_before (Some k) i = closed_at (i.known + k) i
 
--- A still valid reach has missed the events known + 1 to processed. Where one of them is no longer kept, it is closed at its own known;
--- else just before the first one that matches, if one does.
+-- the last n of a list, or all where there are fewer
+abbrev pub last_of : {X : Type 0} → ℕ → List X → List X
+last_of n xs = drop (length xs - n) xs
+
+-- a still valid reach after the events directly after its `known`: closed just before the first one that matches, if one does
+abbrev pub after_missed : Interval → List Tag → List (List Tag) → Interval
+after_missed i tags missed = closed_before (position (λ t. sets_match t tags) missed) i
+
+-- A still valid reach after so many events, of which the last ones are kept: closed at its own `known` where one of them is
+-- no longer kept, and else as these events leave it.
+abbrev pub after_kept : Interval → List Tag → ℕ → List (List Tag) → Interval
+after_kept i tags count recent =
+    if nat_lt (length recent) count then closed_at i.known i
+    else after_missed i tags (last_of count recent)
+
+-- a still valid reach has missed the events known + 1 to processed; any other has missed none
 abbrev pub reach_after_replay : Interval → List Tag → ℕ → List (List Tag) → Interval
-reach_after_replay i tags processed recent =
-    let missed = processed - i.known in
-    if i.still
-    then (if nat_lt (length recent) missed
-    then closed_at i.known i
-    else closed_before (position (λ t. sets_match t tags) (drop (length recent - missed) recent)) i)
-    else i
+reach_after_replay i tags processed recent = if i.still then after_kept i tags (processed - i.known) recent else i
 
 -- the reach of an entry after the replay of the events that it missed
 abbrev pub replayed_reach : Cache → Entry → Interval
@@ -97,7 +105,7 @@ ends_no_earlier processed e (Some old) = nat_le (end_at processed e.reach) (end_
 abbrev pub is_kept : Cache → Entry → Bool
 is_kept c e = ends_no_earlier c.processed (replayed_entry c e) (find (λ o. same_place o e) c.entries)
 
--- the new entry, and behind it all with another key or first stamp
+-- the new entry, and after it all with another key or first stamp
 abbrev pub entries_with : Cache → Entry → List Entry
 entries_with c e = replayed_entry c e ∷ others e c.entries
 
@@ -122,10 +130,6 @@ is_invalidated stamp tags e = e.reach.still && (nat_lt e.reach.known stamp && se
 -- an entry that the event invalidates is closed just below it; any other stays as it was
 abbrev pub entry_after : ℕ → List Tag → Entry → Entry
 entry_after stamp tags e = if is_invalidated stamp tags e then record e { reach = closed_at (stamp - 1) e.reach } else e
-
--- the last n of a list, or all where there are fewer
-abbrev pub last_of : {X : Type 0} → ℕ → List X → List X
-last_of n xs = drop (length xs - n) xs
 
 -- the cache after an event: no entry moves, and the tags of the last `depth` events are kept
 abbrev pub after_event : Cache → ℕ → List Tag → Cache

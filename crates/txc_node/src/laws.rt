@@ -1,5 +1,5 @@
 //! What the steps of the cache mean, in the words of their rules, each the contract of a function that does nothing.
-ghost use Rattle.txc_node.specs.Laws.{FindsTheLongest, MissesOnlyWhereNone, MeetsAtAStamp, ShowsNothingBeyond, ClosesExactlyTheHit, ReplaysAsIfItHadBeenThere, TrustsNoLostEvent, InsertsWithinBounds, StepsKeepCaches};
+ghost use Rattle.txc_node.specs.Laws.{FindsTheLongest, MissesOnlyWhereNone, MeetsAtAStamp, ShowsNothingBeyond, ClosesExactlyTheHit, ReplaysAsIfItHadBeenThere, TrustsNoLostEvent, InsertsWithinBounds, InsertionKeepsTheLonger, InsertionDropsTheLast, SweepDropsTheEnded, ChangesNoLaterAnswer, StepsKeepCaches};
 ghost use Rattle.txc_node.specs.Examples.{ClosesAtTheMatch, ReplaysWhatIsKept, WaitsForItsEnd, DropsTheLeastRecentlyUsed, PrefersTheLaterBegin};
 
 /// A lookup finds the entry of the key whose span meets the range such that no other such entry ends later, nor ends
@@ -34,6 +34,24 @@ pub fn insertion_replays_what_was_missed()
 /// An insertion leaves at most one entry for a key and a first stamp, and never more than the capacity.
 pub fn insertion_stays_within_bounds()
     ensures { InsertsWithinBounds }
+{}
+
+/// An insertion keeps the entry that has its key and first stamp exactly where that one ends no earlier.
+pub fn insertion_keeps_the_longer()
+    ensures { InsertionKeepsTheLonger }
+{}
+
+/// An insertion drops nothing where an entry has its key and first stamp or where there is room, and else exactly the
+/// entry that was used longest ago.
+pub fn insertion_drops_the_last()
+    ensures { InsertionDropsTheLast }
+{}
+
+/// A sweep drops exactly the entries whose span ends at the horizon or before it. No lookup from the horizon on finds
+/// anything else than before.
+pub fn sweep_drops_the_ended()
+    ensures ended { SweepDropsTheEnded }
+    ensures later { ChangesNoLaterAnswer }
 {}
 
 /// Every step leaves a cache: one entry for a key and a first stamp, no more than the capacity, and the tags of the
