@@ -7,3 +7,4 @@ pub mod LawLemmas
 pub mod ReplayLemmas
 mod Dropped
 mod Swept
+mod Counting

@@ -6,3 +6,4 @@ pub mod Laws
 pub mod Examples
 pub mod Steps
 pub mod Texts
+pub mod Counts

@@ -8,6 +8,7 @@
 //! at an insertion are this project's own.
 #![tactic(auto)]
 
+mod counts;
 mod entry;
 mod hit;
 mod invalidation;
@@ -23,6 +24,7 @@ mod search;
 mod sweeping;
 mod value;
 
+pub use counts::{Counts, FunctionCounts};
 pub use entry::{Entry, EntryError};
 pub use hit::{Hit, Shown};
 pub use node::{EmptyRange, Inserted, MAX_CAPACITY, MAX_RECENT, NodeCore, OutOfOrder};

@@ -1,0 +1,16 @@
+use Rattle.std.proofs.Common.{refl, sym, subst, arith}
+use Rattle.txc_node.specs.Counts.{none_counted, IsAtMost}
+use Rattle.txc_node.proofs.Counting.{constant, none_at_most}
+use Rattle.txc_node.proofs.counts.Counts.new.Goals as goal
+
+pub invariant_of-result : goal.invariant_of-result
+invariant_of-result c = record {
+  all = refl;
+  each = λ f. subst (IsAtMost 0) (sym (constant 32 f none_counted)) (none_at_most 0);
+  few = omega arith;
+  closed = omega arith;
+  swept = omega arith;
+}
+
+pub returns-clause-functions : goal.returns-clause-functions
+returns-clause-functions c = λ f. constant 32 f none_counted
