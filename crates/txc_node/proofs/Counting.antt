@@ -5,7 +5,8 @@ use Rattle.txc_node.specs.declared.counts.FunctionCounts.{FunctionCounts}
 use Rattle.txc_node.specs.declared.node.Inserted.TheVariants.{Stored, Kept}
 use Rattle.txc_node.specs.declared.reply.Reply.{Reply}
 use Rattle.txc_node.specs.declared.reply.Reply.TheVariants as replies
-use Rattle.txc_node.specs.Counts.{none_counted, one_evicted, counts_of, sum_of, counts_if, own_counts, dropped_function, IsAtMost}
+use Rattle.txc_node.specs.CountBounds.{IsAtMost}
+use Rattle.txc_node.specs.Counts.{none_counted, one_evicted, counts_of, sum_of, counts_if, own_counts, dropped_function}
 
 pub constant : (n f : ℕ) (x : FunctionCounts) → get_or (replicate n x) f x ≡ x
 constant zero f x = refl
@@ -56,8 +57,8 @@ one_more n old mid new function reply f h e k =
     let d = counts_if (dropped_function reply) f one_evicted in
     let bs : IsOwn b = by_function IsOwn function f (own_counts reply) none_is_own (own reply) in
     let ds : IsEviction d = by_function IsEviction (dropped_function reply) f one_evicted
-        (record { lookups = refl; hits = refl; stored = refl; kept = refl; once = omega arith })
-        (record { lookups = refl; hits = refl; stored = refl; kept = refl; once = omega arith }) in
+    (record { lookups = refl; hits = refl; stored = refl; kept = refl; once = omega arith })
+    (record { lookups = refl; hits = refl; stored = refl; kept = refl; once = omega arith }) in
     let all : counts_of new f ≡ sum_of (sum_of a b) d = k ∙ ap (λ m. sum_of m d) e in
     subst (IsAtMost (n + 1)) (sym all) (record {
       lookups = omega (arith, h.lookups, bs.once.lookups, ds.lookups);

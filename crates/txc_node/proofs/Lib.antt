@@ -8,3 +8,4 @@ pub mod ReplayLemmas
 mod Dropped
 mod Swept
 mod Counting
+pub mod Offered

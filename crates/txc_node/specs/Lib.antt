@@ -7,3 +7,4 @@ pub mod Examples
 pub mod Steps
 pub mod Texts
 pub mod Counts
+pub mod CountBounds

@@ -1,7 +1,8 @@
 //! Counts of replies.
 ghost use Rattle.std.specs.Prelude.{◌≡◌, ℕ, ◌+◌, ◌^◌, ◌<◌, ◌≤◌, length, IfSome};
 ghost use Rattle.txc_node.specs.Steps.{function_of};
-ghost use Rattle.txc_node.specs.Counts.{none_counted, counts_of, sum_of, counts_if, own_counts, dropped_function, counts_for, HasRoom, events_by, closed_by, swept_by};
+ghost use Rattle.txc_node.specs.Counts.{none_counted, counts_of, sum_of, counts_if, own_counts, dropped_function, counts_for, events_by, closed_by, swept_by};
+ghost use Rattle.txc_node.specs.CountBounds.{HasRoom};
 
 use crate::node::Inserted;
 use crate::record::Record;
@@ -53,7 +54,8 @@ pub struct Counts {
 }
 
 impl Model for Counts {
-    ghost use Rattle.txc_node.specs.Counts.{Totals, AreWithin};
+    ghost use Rattle.txc_node.specs.Counts.{Totals};
+    ghost use Rattle.txc_node.specs.CountBounds.{AreWithin};
 
     ghost Value = { Totals };
 

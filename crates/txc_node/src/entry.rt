@@ -10,10 +10,10 @@ use txc_tags::{Key, TagSet};
 /// Why there is no such entry.
 #[derive(Clone, Copy, Debug, PartialEq, Eq, Error)]
 pub enum EntryError {
-    /// N2: the result is known to hold up to a stamp below its first one.
+    /// The result is known to hold up to a stamp below its first one.
     #[error("the last stamp known is below the first")]
     BadReach,
-    /// N4: the value has more than [`MAX_VALUE_LEN`] bytes.
+    /// The value has more than [`MAX_VALUE_LEN`] bytes.
     #[error("the value is longer than {MAX_VALUE_LEN} bytes")]
     ValueTooLong,
 }
@@ -48,7 +48,7 @@ impl Entry {
           reach = record { lo = lo; known = known; still = still };
           tags = tags;
         }) }
-        ensures succeeds { IsOk result ↔ ((lo ≤ known) × (vec_len value ≤ MAX_VALUE_LEN)) }
+        ensures only_if { IsOk result ↔ ((lo ≤ known) × (vec_len value ≤ MAX_VALUE_LEN)) }
         ensures bad_reach { (result ≡ Err EntryError.BadReach) ↔ (known < lo) }
         ensures too_long { (result ≡ Err EntryError.ValueTooLong)
             ↔ ((lo ≤ known) × (MAX_VALUE_LEN < vec_len value)) }

@@ -3,8 +3,8 @@
 //! stamps on which it holds; an event of the database closes the entries whose tags it matches.
 //!
 //! A [`NodeCore`] is one list of entries, the most recently used first, the stamp of the last event that it took, and
-//! the tags of the last events. It changes by three steps: [`NodeCore::lookup`], [`NodeCore::insert`] and
-//! [`NodeCore::event`]. The capacity counts entries. The orders among entries, the ties, and the replay of recent events
+//! the tags of the last events. It changes by four steps: [`NodeCore::lookup`], [`NodeCore::insert`],
+//! [`NodeCore::event`] and [`NodeCore::sweep`]; an [`Op`] names a step, and a [`Reply`] is what it is answered. The capacity counts entries. The orders among entries, the ties, and the replay of recent events
 //! at an insertion are this project's own.
 #![tactic(auto)]
 

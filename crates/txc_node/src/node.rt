@@ -28,12 +28,12 @@ pub const MAX_CAPACITY: usize = 65_536;
 /// The most events whose tags a node may be made to keep.
 pub const MAX_RECENT: usize = 4_096;
 
-/// N1: the stamps asked for end before they begin.
+/// The stamps asked for end before they begin.
 #[derive(Clone, Copy, Debug, PartialEq, Eq, Error)]
 #[error("the range of stamps is empty")]
 pub struct EmptyRange;
 
-/// N3: the event is not the one behind the processed stamp.
+/// The event is not the one after the processed stamp.
 #[derive(Clone, Copy, Debug, PartialEq, Eq, Error)]
 #[error("the event is out of order")]
 pub struct OutOfOrder {
@@ -85,6 +85,17 @@ fn invalidate_all(entries: &mut Vec<Entry>, stamp: Stamp, tags: &TagSet) -> usiz
     invalidate(entries, stamp, tags)
 }
 
+// Whether stamps begin before they end.
+fn check_range(lo: Stamp, hi: Stamp) -> Result<(), EmptyRange>
+    ensures only_if { OnOk result (lo ≤ hi) }
+    ensures refused { OnErr result (hi < lo) }
+{
+    if hi < lo {
+        return Err(EmptyRange);
+    }
+    Ok(())
+}
+
 impl NodeCore {
     /// An empty node for at most `capacity` entries, that keeps the tags of the last `recent` events. The room of these
     /// tags is taken now, so that no event needs memory.
@@ -130,9 +141,7 @@ impl NodeCore {
         ensures refused { OnErr result (hi < lo) }
         ensures answer { IfOk result (λ r. option_map seen r ≡ answer self.now key.now lo hi) }
     {
-        if hi < lo {
-            return Err(EmptyRange);
-        }
+        check_range(lo, hi)?;
         let at = best_at(&self.entries, self.processed, key, lo, hi);
         Ok(hit_at(&self.entries, self.processed, at))
     }
@@ -145,9 +154,7 @@ impl NodeCore {
         ensures after { OnOk result (self.new ≡ after_lookup self.old key.now lo hi) }
         ensures place { IfOk result (StandsAt (found self.old key.now lo hi) self.new.entries) }
     {
-        if hi < lo {
-            return Err(EmptyRange);
-        }
+        check_range(lo, hi)?;
         match best_at(&self.entries, self.processed, key, lo, hi) {
             None => Ok(None),
             Some(at) => {

@@ -27,10 +27,10 @@ impl Model for Value {
 }
 
 impl Value {
-    /// The bytes as a value, or none where there are more than [`MAX_VALUE_LEN`].
+    /// The bytes as a value; None if there are more than [`MAX_VALUE_LEN`].
     pub fn new(bytes: Vec<u8>) -> Option<Value>
-        ensures fits { IsSome result ↔ (vec_len bytes ≤ MAX_VALUE_LEN) }
-        ensures bytes { IfSome result (λ v. v ≡ bytes.items) }
+        ensures only_if { IsSome result ↔ (vec_len bytes ≤ MAX_VALUE_LEN) }
+        ensures answer { IfSome result (λ v. v ≡ bytes.items) }
     {
         if bytes.len() > MAX_VALUE_LEN {
             return None;
@@ -40,7 +40,7 @@ impl Value {
 
     /// The bytes.
     pub fn bytes(&self) -> &[u8]
-        ensures value { result.now ≡ self.now }
+        ensures answer { result.now ≡ self.now }
         ensures bound { length self.now ≤ MAX_VALUE_LEN }
     {
         &self.bytes

@@ -1,5 +1,6 @@
 use Rattle.std.proofs.Common.{refl, sym, subst, arith}
-use Rattle.txc_node.specs.Counts.{none_counted, IsAtMost}
+use Rattle.txc_node.specs.CountBounds.{IsAtMost}
+use Rattle.txc_node.specs.Counts.{none_counted}
 use Rattle.txc_node.proofs.Counting.{constant, none_at_most}
 use Rattle.txc_node.proofs.counts.Counts.new.Goals as goal
 
