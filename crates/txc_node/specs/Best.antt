@@ -11,12 +11,15 @@ use Rattle.txc_node.specs.Entries.{meets_range, outlasts}
 pub record IsBestAt (p : ℕ) (key : Call) (lo hi : ℕ) (es : List Entry) (n b : ℕ) : Type 0 where
   pub below : b < n
   pub meets : (d : Entry) → meets_range p key lo hi (get_or es b d) ≡ true
-  pub longest : (k : ℕ) → k < n → (d : Entry) → meets_range p key lo hi (get_or es k d) ≡ true → outlasts p (get_or es k d) (get_or es b d) ≡ false
-  pub first : (k : ℕ) → k < b → (d : Entry) → meets_range p key lo hi (get_or es k d) ≡ true → outlasts p (get_or es b d) (get_or es k d) ≡ true
+  pub longest : (k : ℕ) → k < n → (d : Entry) → meets_range p key lo hi (get_or es k d) ≡ true
+      → outlasts p (get_or es k d) (get_or es b d) ≡ false
+  pub first : (k : ℕ) → k < b → (d : Entry) → meets_range p key lo hi (get_or es k d) ≡ true
+      → outlasts p (get_or es b d) (get_or es k d) ≡ true
 
 -- none of the first n entries meets the range, or the best of them is known
 abbrev pub BestSoFar : ℕ → Call → ℕ → ℕ → List Entry → ℕ → Option ℕ → Type 0
-BestSoFar p key lo hi es n None = (k : ℕ) → k < n → (d : Entry) → meets_range p key lo hi (get_or es k d) ≡ false
+BestSoFar p key lo hi es n None =
+    (k : ℕ) → k < n → (d : Entry) → meets_range p key lo hi (get_or es k d) ≡ false
 BestSoFar p key lo hi es n (Some b) = IsBestAt p key lo hi es n b
 
 -- ---- where an entry stands

@@ -1,4 +1,5 @@
--- The versioned cache, and its steps: a lookup, an insertion and an event. Each step is a function of the whole cache.
+-- The versioned cache, and its steps: a lookup, an insertion and an event. Each step is a function of the
+-- whole cache.
 use Rattle.std.specs.Prelude.{◌≡◌, Option, ℕ, ◌+◌, ◌-◌, ◌<◌, ◌≤◌, Bool, ◌&&◌, nat_lt, nat_le, not, min, List, [], ◌∷◌, ◌++◌, map, length, take, drop, if◌then◌else◌, Some, None, slice_get, false}
 use Rattle.std.specs.List.{find, filter, position, count_by}
 use Rattle.std.specs.Option.{option_map}
@@ -12,8 +13,8 @@ use Rattle.txc_node.specs.declared.node.Inserted.{Inserted}
 use Rattle.txc_node.specs.declared.node.Inserted.TheVariants.{Stored, Kept}
 use Rattle.txc_node.specs.Entries.{same_place, is_best, others, AreApart}
 
--- the entries, the most recently used first; the stamp of the last event that was taken; the tags of the last events, the oldest first;
--- the most entries that it holds; the most events whose tags it keeps
+-- the entries, the most recently used first; the stamp of the last event that was taken; the tags of the
+-- last events, the oldest first; the most entries that it holds; the most events whose tags it keeps
 pub record Cache : Type 0 where
   pub entries : List Entry
   pub processed : ℕ
@@ -23,10 +24,12 @@ pub record Cache : Type 0 where
 
 -- no entry, no event taken, and no tags kept
 abbrev pub empty_cache : ℕ → ℕ → Cache
-empty_cache capacity depth = record { entries = []; processed = 0; recent = []; capacity = capacity; depth = depth }
+empty_cache capacity depth =
+    record { entries = []; processed = 0; recent = []; capacity = capacity; depth = depth }
 
--- what is true of a cache after every list of steps: no two entries have the same key and first stamp, it holds no more than its capacity,
--- and it keeps the tags of its last `depth` events, or of all while there are fewer
+-- what is true of a cache after every list of steps: no two entries have the same key and first stamp, it
+-- holds no more than its capacity, and it keeps the tags of its last `depth` events, or of all while there
+-- are fewer
 pub record IsCache (c : Cache) : Type 0 where
   pub apart : AreApart c.entries
   pub within : length c.entries ≤ c.capacity
@@ -73,12 +76,13 @@ closed_before (Some k) i = closed_at (i.known + k) i
 abbrev pub last_of : {X : Type 0} → ℕ → List X → List X
 last_of n xs = drop (length xs - n) xs
 
--- a still valid reach after the events directly after its `known`: closed just before the first one that matches, if one does
+-- a still valid reach after the events directly after its `known`: closed just before the first one that
+-- matches, if one does
 abbrev pub after_missed : Interval → List Tag → List (List Tag) → Interval
 after_missed i tags missed = closed_before (position (λ t. sets_match t tags) missed) i
 
--- A still valid reach after so many events, of which the last ones are kept: closed at its own `known` where one of them is
--- no longer kept, and else as these events leave it.
+-- A still valid reach after so many events, of which the last ones are kept: closed at its own `known`
+-- where one of them is no longer kept, and else as these events leave it.
 abbrev pub after_kept : Interval → List Tag → ℕ → List (List Tag) → Interval
 after_kept i tags count recent =
     if nat_lt (length recent) count then closed_at i.known i
@@ -86,7 +90,8 @@ after_kept i tags count recent =
 
 -- a still valid reach has missed the events known + 1 to processed; any other has missed none
 abbrev pub reach_after_replay : Interval → List Tag → ℕ → List (List Tag) → Interval
-reach_after_replay i tags processed recent = if i.still then after_kept i tags (processed - i.known) recent else i
+reach_after_replay i tags processed recent =
+    if i.still then after_kept i tags (processed - i.known) recent else i
 
 -- the reach of an entry after the replay of the events that it missed
 abbrev pub replayed_reach : Cache → Entry → Interval
@@ -119,9 +124,11 @@ evicted_entry c e = slice_get (entries_with c e) c.capacity
 
 -- kept, with the entry handed in; or stored, with the reach after the replay and the entry that was dropped
 abbrev pub outcome : Cache → Entry → Inserted
-outcome c e = if is_kept c e then Kept e else Stored (shown c.processed (replayed_reach c e)) (evicted_entry c e)
+outcome c e =
+    if is_kept c e then Kept e
+    else Stored (shown c.processed (replayed_reach c e)) (evicted_entry c e)
 
--- ---- an event: the still valid entries known below it whose tags match are closed just below it, and no entry moves
+-- ---- an event: the still valid entries known below it whose tags match are closed just below it
 
 -- still valid, known below the event, and of tags that match
 abbrev pub is_invalidated : ℕ → List Tag → Entry → Bool
@@ -129,7 +136,8 @@ is_invalidated stamp tags e = e.reach.still && (nat_lt e.reach.known stamp && se
 
 -- an entry that the event invalidates is closed just below it; any other stays as it was
 abbrev pub entry_after : ℕ → List Tag → Entry → Entry
-entry_after stamp tags e = if is_invalidated stamp tags e then record e { reach = closed_at (stamp - 1) e.reach } else e
+entry_after stamp tags e =
+    if is_invalidated stamp tags e then record e { reach = closed_at (stamp - 1) e.reach } else e
 
 -- the cache after an event: no entry moves, and the tags of the last `depth` events are kept
 abbrev pub after_event : Cache → ℕ → List Tag → Cache

@@ -1,5 +1,5 @@
--- What the counts keep, and what private functions ask of them: proofs alone need it. No count exceeds what so many
--- replies can make of it.
+-- What the counts keep, and what private functions ask of them: proofs alone need it. No count exceeds what
+-- so many replies can make of it.
 use Rattle.std.specs.Prelude.{◌≡◌, ℕ, ◌+◌, ◌-◌, ◌*◌, ◌^◌, ◌≤◌, length}
 use Rattle.txc_tags.specs.declared.key.TheConstants.{LAST_FUNCTION}
 use Rattle.txc_node.specs.declared.counts.FunctionCounts.{FunctionCounts}

@@ -6,8 +6,8 @@ use Rattle.txc_node.specs.declared.node.Inserted.TheVariants.{Stored, Kept}
 use Rattle.txc_node.specs.declared.reply.Reply.{Reply}
 use Rattle.txc_node.specs.declared.reply.Reply.TheVariants as replies
 
--- the counts of each function, by its number; how many replies were counted; and in all the events, the entries that they closed, and
--- those that sweeps dropped
+-- the counts of each function, by its number; how many replies were counted; and in all the events, the
+-- entries that they closed, and those that sweeps dropped
 pub record Totals : Type 0 where
   pub functions : List FunctionCounts
   pub replies : ℕ
@@ -58,8 +58,8 @@ abbrev pub dropped_function : {H : Type 0} → Reply H → Option ℕ
 dropped_function (replies.Inserted (Stored reach evicted)) = entry_function evicted
 dropped_function _ = None
 
--- what a reply to a step of that function counts for the function f: its own counts where f is that function, and an
--- eviction where f is that of the entry that was dropped
+-- what a reply to a step of that function counts for the function f: its own counts where f is that
+-- function, and an eviction where f is that of the entry that was dropped
 abbrev pub counts_for : {H : Type 0} → ℕ → Option ℕ → Reply H → FunctionCounts
 counts_for f function reply =
     sum_of (counts_if function f (own_counts reply)) (counts_if (dropped_function reply) f one_evicted)

@@ -29,11 +29,14 @@ pub record IsLongest (c : Cache) (key : Call) (lo hi : ℕ) (e : Entry) : Type 0
 
 -- what a lookup finds is the entry that meets the range and lasts longest
 abbrev pub FindsTheLongest : Type 0
-FindsTheLongest = (c : Cache) (key : Call) (lo hi : ℕ) (e : Entry) → found c key lo hi ≡ Some e → IsLongest c key lo hi e
+FindsTheLongest =
+    (c : Cache) (key : Call) (lo hi : ℕ) (e : Entry) → found c key lo hi ≡ Some e → IsLongest c key lo hi e
 
 -- a lookup misses only where no entry meets the range
 abbrev pub MissesOnlyWhereNone : Type 0
-MissesOnlyWhereNone = (c : Cache) (key : Call) (lo hi : ℕ) → found c key lo hi ≡ None → All (λ o. ¬ (MeetsRange c.processed key lo hi o)) c.entries
+MissesOnlyWhereNone =
+    (c : Cache) (key : Call) (lo hi : ℕ) → found c key lo hi ≡ None
+    → All (λ o. ¬ (MeetsRange c.processed key lo hi o)) c.entries
 
 -- the span of an entry meets a range that is not empty exactly where a stamp of the range lies in the span
 abbrev pub MeetsAtAStamp : Type 0
@@ -42,7 +45,8 @@ MeetsAtAStamp = (processed lo hi : ℕ) (e : Entry) → lo ≤ hi → e.reach.lo
 
 -- a hit shows no stamp beyond the greater of the last one known and the processed one
 abbrev pub ShowsNothingBeyond : Type 0
-ShowsNothingBeyond = (processed : ℕ) (e : Entry) → (shown_of processed e).reach.known ≤ max e.reach.known processed
+ShowsNothingBeyond =
+    (processed : ℕ) (e : Entry) → (shown_of processed e).reach.known ≤ max e.reach.known processed
 
 -- ---- event
 
@@ -66,7 +70,9 @@ EachPlace R (x ∷ xs) (y ∷ ys) = R x y × EachPlace R xs ys
 
 -- an event closes exactly the entries that it hits, and no entry moves
 abbrev pub ClosesExactlyTheHit : Type 0
-ClosesExactlyTheHit = (c : Cache) (stamp : ℕ) (tags : List Tag) → EachPlace (ClosesOnlyIfHit stamp tags) c.entries (after_event c stamp tags).entries
+ClosesExactlyTheHit =
+    (c : Cache) (stamp : ℕ) (tags : List Tag)
+    → EachPlace (ClosesOnlyIfHit stamp tags) c.entries (after_event c stamp tags).entries
 
 -- ---- insertion
 
@@ -75,14 +81,20 @@ abbrev pub after_events : ℕ → List (List Tag) → Entry → Entry
 after_events stamp [] e = e
 after_events stamp (tags ∷ more) e = after_events (stamp + 1) more (entry_after stamp tags e)
 
--- where all the events that a still valid entry has missed are kept, it is stored as if it had been there when they came
+-- where all the events that a still valid entry has missed are kept, it is stored as if it had been there
+-- when they came
 abbrev pub ReplaysAsIfItHadBeenThere : Type 0
-ReplaysAsIfItHadBeenThere = (c : Cache) (e : Entry) → e.reach.still ≡ true → (let missed = c.processed - e.reach.known in
-    missed ≤ length c.recent → replayed_entry c e ≡ after_events (e.reach.known + 1) (last_of missed c.recent) e)
+ReplaysAsIfItHadBeenThere =
+    (c : Cache) (e : Entry) → e.reach.still ≡ true
+    → (let missed = c.processed - e.reach.known in
+    missed ≤ length c.recent
+    → replayed_entry c e ≡ after_events (e.reach.known + 1) (last_of missed c.recent) e)
 
 -- where one of them is no longer kept, it is stored as closed at the last stamp on which it was known
 abbrev pub TrustsNoLostEvent : Type 0
-TrustsNoLostEvent = (c : Cache) (e : Entry) → e.reach.still ≡ true → length c.recent < c.processed - e.reach.known
+TrustsNoLostEvent =
+    (c : Cache) (e : Entry) → e.reach.still ≡ true
+    → length c.recent < c.processed - e.reach.known
     → replayed_reach c e ≡ closed_at e.reach.known e.reach
 
 -- the same key, and the same first stamp
@@ -93,8 +105,8 @@ SamePlace a b = (a.key ≡ b.key) × (a.reach.lo ≡ b.reach.lo)
 abbrev pub IsThere : Entry → List Entry → Type 0
 IsThere e es = (old : Entry) × Contains es old × SamePlace old e
 
--- an entry that is there is kept exactly where it ends no earlier than the new one does after the replay; where none is
--- there, none is kept
+-- an entry that is there is kept exactly where it ends no earlier than the new one does after the replay;
+-- where none is there, none is kept
 pub record KeepsTheLonger (c : Cache) (e : Entry) : Type 0 where
   pub there : (old : Entry) → Contains c.entries old → SamePlace old e
       → (is_kept c e ≡ true) ↔ (end_at c.processed (replayed_reach c e) ≤ end_at c.processed old.reach)
@@ -104,7 +116,8 @@ pub record KeepsTheLonger (c : Cache) (e : Entry) : Type 0 where
 abbrev pub InsertionKeepsTheLonger : Type 0
 InsertionKeepsTheLonger = (c : Cache) (e : Entry) → IsCache c → KeepsTheLonger c e
 
--- an insertion drops nothing where an entry is there, nor where there is room, and else exactly the last entry
+-- an insertion drops nothing where an entry is there, nor where there is room, and else exactly the last
+-- entry
 pub record DropsTheLast (c : Cache) (e : Entry) : Type 0 where
   pub there : IsThere e c.entries → evicted_entry c e ≡ None
   pub not_full : length c.entries < c.capacity → evicted_entry c e ≡ None
@@ -117,7 +130,8 @@ InsertionDropsTheLast = (c : Cache) (e : Entry) → IsCache c → DropsTheLast c
 
 -- ---- sweep
 
--- after a sweep an entry is there exactly where it was there and its span ends after the horizon; and each that is not was counted
+-- after a sweep an entry is there exactly where it was there and its span ends after the horizon; and each
+-- that is not was counted
 pub record DropsTheEnded (c : Cache) (horizon : ℕ) : Type 0 where
   pub left : (e : Entry) → Contains (after_sweep c horizon).entries e
       ↔ (Contains c.entries e × (horizon < end_at c.processed e.reach))

@@ -60,8 +60,8 @@ entry_refusal e =
     if nat_lt e.reach.known e.reach.lo then Some BadReach
     else (if nat_lt MAX_VALUE_LEN (length e.value) then Some ValueTooLong else None)
 
--- Why a step is refused, whatever memory is left: there is no such entry; a lookup's stamps end before they begin; an
--- event is not the next.
+-- Why a step is refused, whatever memory is left: there is no such entry; a lookup's stamps end before they
+-- begin; an event is not the next.
 abbrev pub refusal_of : Cache → Op → Option Refusal
 refusal_of c (Insert e) = entry_refusal e
 refusal_of c (Lookup key lo hi) = if nat_lt hi lo then Some EmptyRange else None
@@ -109,8 +109,8 @@ MayGrow c (Lookup key lo hi) = ⊥
 MayGrow c (Event stamp tags) = ⊥
 MayGrow c (Sweep horizon) = ⊥
 
--- The step has this reply, and leaves that cache: those that it has where memory is at hand; or it may grow, is refused
--- for memory, and changes nothing.
+-- The step has this reply, and leaves that cache: those that it has where memory is at hand; or it may
+-- grow, is refused for memory, and changes nothing.
 abbrev pub MayReply : Cache → Op → Reply Shown → Cache → Type 0
 MayReply c op reply next =
     ((reply ≡ reply_to c op) × (next ≡ after_op c op))

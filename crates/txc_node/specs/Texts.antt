@@ -51,7 +51,8 @@ refusal_text Memory = codes "memory"
 -- a reply, without the end of its line
 abbrev pub reply_text : Reply Shown → List ℕ
 reply_text (replies.Inserted inserted) = inserted_text inserted
-reply_text (replies.Hit shown) = codes "hit " ++ (reach_text shown.reach ++ (codes " " ++ hex_text shown.value))
+reply_text (replies.Hit shown) =
+    codes "hit " ++ (reach_text shown.reach ++ (codes " " ++ hex_text shown.value))
 reply_text replies.Miss = codes "miss"
 reply_text (replies.Closed count) = codes "closed " ++ decimal count
 reply_text (replies.Swept count) = codes "swept " ++ decimal count

@@ -185,7 +185,8 @@ impl Counts {
     pub fn add(&mut self, step: &Record)
         requires room { self.old.replies + 1 < 2 ^ 64 }
         ensures functions { (f : ℕ) → counts_of self.new.functions f
-            ≡ sum_of (counts_of self.old.functions f) (counts_for f (function_of step.now.op) step.now.reply) }
+            ≡ sum_of (counts_of self.old.functions f)
+            (counts_for f (function_of step.now.op) step.now.reply) }
         ensures replies { self.new.replies ≡ self.old.replies + 1 }
         ensures events { self.new.events ≡ self.old.events + events_by step.now.reply }
         ensures closed { self.new.closed ≡ self.old.closed + closed_by step.now.reply }

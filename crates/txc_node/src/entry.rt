@@ -32,8 +32,8 @@ pub struct Entry {
 }
 
 impl Entry {
-    /// A result that holds from `lo` to `known`, and on from there where it is `still` valid, until an event matches
-    /// one of its tags. A reach that is empty is reported before a value that is too long.
+    /// A result that holds from `lo` to `known`, and on from there where it is `still` valid, until an
+    /// event matches one of its tags. A reach that is empty is reported before a value that is too long.
     pub fn new(
         key: Key,
         value: Vec<u8>,

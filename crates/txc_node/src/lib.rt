@@ -1,11 +1,13 @@
-//! The versioned cache of one node, after Ports, Clements, Zhang, Madden and Liskov, "Transactional Consistency and
-//! Automatic Management in an Application Data Cache" (OSDI 2010). Each [`Entry`] is the result of a call with the
-//! stamps on which it holds; an event of the database closes the entries whose tags it matches.
+//! The versioned cache of one node, after Ports, Clements, Zhang, Madden and Liskov, "Transactional
+//! Consistency and Automatic Management in an Application Data Cache" (OSDI 2010). Each [`Entry`] is the
+//! result of a call with the stamps on which it holds; an event of the database closes the entries whose
+//! tags it matches.
 //!
-//! A [`NodeCore`] is one list of entries, the most recently used first, the stamp of the last event that it took, and
-//! the tags of the last events. It changes by four steps: [`NodeCore::lookup`], [`NodeCore::insert`],
-//! [`NodeCore::event`] and [`NodeCore::sweep`]; an [`Op`] names a step, and a [`Reply`] is what it is answered. The capacity counts entries. The orders among entries, the ties, and the replay of recent events
-//! at an insertion are this project's own.
+//! A [`NodeCore`] is one list of entries, the most recently used first, the stamp of the last event that it
+//! took, and the tags of the last events. It changes by four steps: [`NodeCore::lookup`],
+//! [`NodeCore::insert`], [`NodeCore::event`] and [`NodeCore::sweep`]; an [`Op`] names a step, and a
+//! [`Reply`] is what it is answered. The capacity counts entries. The orders among entries, the ties, and
+//! the replay of recent events at an insertion are this project's own.
 #![tactic(auto)]
 
 mod counts;

@@ -51,7 +51,8 @@ pub enum Inserted {
         /// The entry that was dropped to make room for it.
         evicted: Option<Entry>,
     },
-    /// An entry with its key and first stamp is there that ends no earlier, and stays. The new one comes back.
+    /// An entry with its key and first stamp is there that ends no earlier, and stays. The new one comes
+    /// back.
     Kept(Entry),
 }
 
@@ -71,9 +72,21 @@ impl Model for NodeCore {
 
     ghost Value = { Cache };
 
-    ghost view = { λ n. record { entries = n.entries.items; processed = n.processed; recent = n.recent.items; capacity = n.capacity; depth = n.depth } };
+    ghost view = { λ n. record {
+      entries = n.entries.items;
+      processed = n.processed;
+      recent = n.recent.items;
+      capacity = n.capacity;
+      depth = n.depth;
+    } };
 
-    ghost invariant = { λ n. IsHeld (record { entries = n.entries.items; processed = n.processed; recent = n.recent.items; capacity = n.capacity; depth = n.depth }) (vec_capacity n.recent) };
+    ghost invariant = { λ n. IsHeld (record {
+      entries = n.entries.items;
+      processed = n.processed;
+      recent = n.recent.items;
+      capacity = n.capacity;
+      depth = n.depth;
+    }) (vec_capacity n.recent) };
 }
 
 // Closes the entries that an event invalidates just below it, and counts them.
@@ -97,8 +110,8 @@ fn check_range(lo: Stamp, hi: Stamp) -> Result<(), EmptyRange>
 }
 
 impl NodeCore {
-    /// An empty node for at most `capacity` entries, that keeps the tags of the last `recent` events. The room of these
-    /// tags is taken now, so that no event needs memory.
+    /// An empty node for at most `capacity` entries, that keeps the tags of the last `recent` events. The
+    /// room of these tags is taken now, so that no event needs memory.
     pub fn new(alloc: Global, capacity: usize, recent: usize) -> Result<NodeCore, AllocError>
         requires capacity { (1 ≤ capacity) × (capacity ≤ MAX_CAPACITY) }
         requires recent { (1 ≤ recent) × (recent ≤ MAX_RECENT) }
@@ -164,9 +177,10 @@ impl NodeCore {
         }
     }
 
-    /// Looks up the call of `key` at the stamps from `lo` to `hi`, both included. Of the entries of the key whose span
-    /// meets them it lends the one whose span ends latest, and of those the one that begins latest; that one becomes
-    /// the most recently used. None is a miss, which changes nothing. It takes no memory.
+    /// Looks up the call of `key` at the stamps from `lo` to `hi`, both included. Of the entries of the key
+    /// whose span meets them it lends the one whose span ends latest, and of those the one that begins
+    /// latest; that one becomes the most recently used. None is a miss, which changes nothing. It takes no
+    /// memory.
     pub fn lookup(&mut self, key: &Key, lo: Stamp, hi: Stamp) -> Result<Option<Hit<'_>>, EmptyRange>
         ensures only_if { OnOk result (lo ≤ hi) }
         ensures refused { OnErr result (hi < lo) }
@@ -181,8 +195,8 @@ impl NodeCore {
         Ok(hit_at(&self.entries, processed, at))
     }
 
-    /// Takes the next event: closes, just below it, the still valid entries that were known below it and whose tags it
-    /// matches, and counts them. No entry moves. It takes no memory.
+    /// Takes the next event: closes, just below it, the still valid entries that were known below it and
+    /// whose tags it matches, and counts them. No entry moves. It takes no memory.
     pub fn event(&mut self, stamp: Stamp, tags: TagSet) -> Result<usize, OutOfOrder>
         ensures only_if { IsOk result ↔ (stamp ≡ self.old.processed + 1) }
         ensures refused { IfErr result (λ e. e.processed ≡ self.old.processed) }
@@ -201,10 +215,10 @@ impl NodeCore {
         Ok(count)
     }
 
-    /// Inserts an entry, after the replay of the events that came after the last stamp on which it is known. It goes
-    /// to the front. A full node drops its last entry for it; an entry with the same key and first stamp is replaced
-    /// where it ends earlier, and else stays in its place. Only out of memory refuses, never where the old entry stays,
-    /// and gives the entry back.
+    /// Inserts an entry, after the replay of the events that came after the last stamp on which it is
+    /// known. It goes to the front. A full node drops its last entry for it; an entry with the same key and
+    /// first stamp is replaced where it ends earlier, and else stays in its place. Only out of memory
+    /// refuses, never where the old entry stays, and gives the entry back.
     pub fn insert(&mut self, entry: Entry) -> Result<Inserted, AllocFailed<Entry>>
         ensures after { OnOk result (self.new ≡ after_insert self.old entry) }
         ensures answer { IfOk result (λ r. r ≡ outcome self.old entry) }
@@ -234,8 +248,8 @@ impl NodeCore {
         }
     }
 
-    /// Drops exactly the entries whose span ends at the horizon or before it, and counts them. The others keep their
-    /// order. It takes no memory.
+    /// Drops exactly the entries whose span ends at the horizon or before it, and counts them. The others
+    /// keep their order. It takes no memory.
     pub fn sweep(&mut self, horizon: Stamp) -> usize
         ensures after { self.new ≡ after_sweep self.old horizon }
         ensures answer { result ≡ swept_count self.old horizon }

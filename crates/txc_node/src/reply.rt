@@ -9,8 +9,8 @@ use crate::refusal::Refusal;
 use std::alloc::{AllocError, Global};
 use std::fmt;
 
-/// What a step is answered. A node lends what a hit shows, so that it replies with a [`Hit`]; a record keeps a copy of
-/// it, a [`Shown`].
+/// What a step is answered. A node lends what a hit shows, so that it replies with a [`Hit`]; a record
+/// keeps a copy of it, a [`Shown`].
 #[derive(Debug, Drop)]
 pub enum Reply<H> {
     /// What an insertion did.

@@ -78,7 +78,8 @@ fn with_reach(e: Entry, reach: Reach) -> Entry
     }
 }
 
-/// A new entry, in its new reach, in front of all entries at other places, of which as many stay as there is room for.
+/// A new entry, in its new reach, in front of all entries at other places, of which as many stay as there
+/// is room for.
 pub(crate) fn put(
     entries: &mut Vec<Entry>,
     capacity: usize,

@@ -1,9 +1,8 @@
-use Rattle.std.proofs.Common.{◌≡◌, not, refl, sym, subst, ap, arith, rules, length}
+use Rattle.std.proofs.Common.{◌≡◌, not, refl, ap, arith, rules, length}
 use Rattle.std.specs.List.{filter}
 use Rattle.std.proofs.lemmas.Fn.{filter_same}
 use Rattle.std.proofs.lemmas.List.Sums.{length-filter}
 use Rattle.std.proofs.lemmas.List.Filters.{length-filter_both}
-use Rattle.txc_node.specs.Entries.{AreApart}
 use Rattle.txc_node.specs.Cache.{has_ended}
 use Rattle.txc_node.proofs.Apart.{filter_apart}
 use Rattle.txc_node.proofs.sweeping.drop_ended.Goals as goal
@@ -20,5 +19,4 @@ returns-clause-count c =
 
 pub returns-clause-apart : goal.returns-clause-apart
 returns-clause-apart c =
-    let items = returns-clause-items c in
-    subst AreApart (sym items) (filter_apart (λ e. not (has_ended c.args.processed c.args.horizon e)) c.args.entries.now.items c.requires)
+    rw (returns-clause-items c) (filter_apart (λ e. not (has_ended c.args.processed c.args.horizon e)) c.args.entries.now.items c.requires)
