@@ -9,3 +9,4 @@ mod Dropped
 mod Swept
 mod Counting
 pub mod Offered
+mod History

@@ -1,10 +1,13 @@
 -- Counts of replies.
-use Rattle.std.specs.Prelude.{ℕ, ◌+◌, List, Option, Some, None, ◌==◌, if◌then◌else◌, slice_index_or}
+use Rattle.std.specs.Prelude.{ℕ, ◌+◌, List, Option, Some, None, ◌==◌, if◌then◌else◌, slice_index_or, ◌≡◌, length}
+use Rattle.std.specs.List.{sum_by}
 use Rattle.txc_node.specs.declared.counts.FunctionCounts.{FunctionCounts}
 use Rattle.txc_node.specs.declared.entry.Entry.{Entry}
 use Rattle.txc_node.specs.declared.node.Inserted.TheVariants.{Stored, Kept}
+use Rattle.txc_node.specs.declared.record.Record.{Record}
 use Rattle.txc_node.specs.declared.reply.Reply.{Reply}
 use Rattle.txc_node.specs.declared.reply.Reply.TheVariants as replies
+use Rattle.txc_node.specs.Steps.{function_of}
 
 -- the counts of each function, by its number; how many replies were counted; and in all the events, the
 -- entries that they closed, and those that sweeps dropped
@@ -78,3 +81,21 @@ closed_by _ = 0
 abbrev pub swept_by : {H : Type 0} → Reply H → ℕ
 swept_by (replies.Swept count) = count
 swept_by _ = 0
+
+-- ---- a history
+
+-- what a step of a history counts for the function f
+abbrev pub step_counts : ℕ → Record → FunctionCounts
+step_counts f step = counts_for f (function_of step.op) step.reply
+
+-- the totals are the sums over the steps of a history
+pub record AreCountsOf (steps : List Record) (t : Totals) : Type 0 where
+  pub lookups : (f : ℕ) → (counts_of t.functions f).lookups ≡ sum_by (λ s. (step_counts f s).lookups) steps
+  pub hits : (f : ℕ) → (counts_of t.functions f).hits ≡ sum_by (λ s. (step_counts f s).hits) steps
+  pub stored : (f : ℕ) → (counts_of t.functions f).stored ≡ sum_by (λ s. (step_counts f s).stored) steps
+  pub kept : (f : ℕ) → (counts_of t.functions f).kept ≡ sum_by (λ s. (step_counts f s).kept) steps
+  pub evicted : (f : ℕ) → (counts_of t.functions f).evicted ≡ sum_by (λ s. (step_counts f s).evicted) steps
+  pub all : t.replies ≡ length steps
+  pub events : t.events ≡ sum_by (λ s. events_by s.reply) steps
+  pub closed : t.closed ≡ sum_by (λ s. closed_by s.reply) steps
+  pub swept : t.swept ≡ sum_by (λ s. swept_by s.reply) steps

@@ -1,7 +1,8 @@
 //! Counts of replies.
-ghost use Rattle.std.specs.Prelude.{◌≡◌, ℕ, ◌+◌, ◌^◌, ◌<◌, ◌≤◌, length, IfSome};
+ghost use Rattle.std.specs.Prelude.{◌≡◌, ℕ, ◌+◌, ◌^◌, ◌<◌, ◌≤◌, List, [], ◌∷◌, ◌++◌, length, IfSome};
 ghost use Rattle.txc_node.specs.Steps.{function_of};
-ghost use Rattle.txc_node.specs.Counts.{none_counted, counts_of, sum_of, counts_if, own_counts, dropped_function, counts_for, events_by, closed_by, swept_by};
+ghost use Rattle.txc_node.specs.Counts.{none_counted, counts_of, sum_of, counts_if, own_counts, dropped_function, counts_for, events_by, closed_by, swept_by, AreCountsOf};
+ghost use Rattle.txc_node.specs.declared.record.Record.{Record};
 ghost use Rattle.txc_node.specs.CountBounds.{HasRoom};
 
 use crate::node::Inserted;
@@ -151,6 +152,7 @@ impl Counts {
         ensures events { result.events ≡ 0 }
         ensures closed { result.closed ≡ 0 }
         ensures swept { result.swept ≡ 0 }
+        ensures history { AreCountsOf [] result }
     {
         Counts {
             functions: [NONE; FUNCTIONS],
@@ -191,6 +193,8 @@ impl Counts {
         ensures events { self.new.events ≡ self.old.events + events_by step.now.reply }
         ensures closed { self.new.closed ≡ self.old.closed + closed_by step.now.reply }
         ensures swept { self.new.swept ≡ self.old.swept + swept_by step.now.reply }
+        ensures history { (steps : List Record) → AreCountsOf steps self.old
+            → AreCountsOf (steps ++ step.now ∷ []) self.new }
     {
         self.count(step.op.function(), &step.reply);
     }
