@@ -13,8 +13,8 @@ use Rattle.txc_db.specs.DatabaseValue.{DatabaseValue, newest, front_of}
 use Rattle.txc_db.specs.Shared.{MayRefuse}
 
 -- the database under the lock is the one that refuses
-pub may_refuse : {T E : Type 0} (d : DatabaseValue) (row : List ℕ) (refused : DatabaseValue → E → Type 0) (r : Result T E) → d.row ≡ row → IfErr r (refused d) → IfErr r (MayRefuse row refused)
-may_refuse d row refused r named h = IfErr-weaker r (refused d) (MayRefuse row refused) (λ e w. (d, named, w)) h
+pub may_refuse : {T E : Type 0} (d : DatabaseValue) (events : List ℕ) (refused : DatabaseValue → E → Type 0) (r : Result T E) → d.events ≡ events → IfErr r (refused d) → IfErr r (MayRefuse events refused)
+may_refuse d events refused r named h = IfErr-weaker r (refused d) (MayRefuse events refused) (λ e w. (d, named, w)) h
 
 -- what the front shows is the history that was asked
 pub query_result : (d : DatabaseValue) (q : Query) (stamp : ℕ) (r : Result (Answered Found) DbError)

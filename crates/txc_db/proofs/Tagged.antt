@@ -20,8 +20,8 @@ none_more L base t read none off e low high = go (e == t + 1) refl
     go true is = let same : e ≡ t + 1 = eqb-true e (t + 1) is in ap (λ n. sets_match (tags_at L n) read) same ∙ off
     go false is = let up : e ≤ t = let ne = eqb-false e (t + 1) is in omega (arith, high, ne) in none e low up
 
--- a front is its row and its history
-pub front_is : (f : FrontValue) (row : List ℕ) (L : History) → f.row ≡ row → f.history ≡ L → f ≡ record { row = row; history = L }
-front_is f row L same is =
-    let one : f ≡ record { row = row; history = f.history } = ap (λ (r : List ℕ). let g : FrontValue = record { row = r; history = f.history } in g) same in
-    one ∙ ap (λ (l : History). let g : FrontValue = record { row = row; history = l } in g) is
+-- a front is its row of events and its history
+pub front_is : (f : FrontValue) (events : List ℕ) (L : History) → f.events ≡ events → f.history ≡ L → f ≡ record { events = events; history = L }
+front_is f events L same is =
+    let one : f ≡ record { events = events; history = f.history } = ap (λ (r : List ℕ). let g : FrontValue = record { events = r; history = f.history } in g) same in
+    one ∙ ap (λ (l : History). let g : FrontValue = record { events = events; history = l } in g) is

@@ -20,7 +20,7 @@ use Rattle.txc_db.specs.Refusals.{IsOwn, IsConflict, NoneMatches}
 pub record IsBroken (old new : DatabaseValue) : Type 0 where
   pub was : old.broken ≡ false
   pub is : new.broken ≡ true
-  pub row : new.row ≡ old.row
+  pub events : new.events ≡ old.events
   pub history : new.history ≡ old.history
   pub horizon : new.horizon ≡ old.horizon
   pub holds : new.holds ≡ old.holds
@@ -63,7 +63,7 @@ IsVacuumRefused d e = ⊥
 pub record IsPinnable (d : DatabaseValue) (at_least : ℕ) : Type 0 where
   pub whole : d.broken ≡ false
   pub late : at_least ≤ newest d + 1
-  pub room : newest d < length d.row
+  pub room : newest d < length d.events
   pub hold : length d.holds < MAX_HOLDS
 
 -- of a pin: broken, or asked for beyond the next stamp, or the row is full, or too many holds, each where none before it
@@ -71,9 +71,9 @@ pub record IsPinnable (d : DatabaseValue) (at_least : ℕ) : Type 0 where
 abbrev pub IsPinRefused : DatabaseValue → ℕ → DbError → Type 0
 IsPinRefused d at_least Broken = (d.broken ≡ true) ⊎ IsPinnable d at_least
 IsPinRefused d at_least (FutureStamp last) = (d.broken ≡ false) × (newest d + 1 < at_least) × (last ≡ newest d)
-IsPinRefused d at_least Full = (d.broken ≡ false) × (at_least ≤ newest d + 1) × (newest d ≡ length d.row)
+IsPinRefused d at_least Full = (d.broken ≡ false) × (at_least ≤ newest d + 1) × (newest d ≡ length d.events)
 IsPinRefused d at_least HoldsFull =
-    (d.broken ≡ false) × (at_least ≤ newest d + 1) × (newest d < length d.row) × (MAX_HOLDS ≤ length d.holds)
+    (d.broken ≡ false) × (at_least ≤ newest d + 1) × (newest d < length d.events) × (MAX_HOLDS ≤ length d.holds)
 IsPinRefused d at_least Memory = IsPinnable d at_least
 IsPinRefused d at_least e = ⊥
 
@@ -133,21 +133,21 @@ pub record IsUnread (d : DatabaseValue) (base : ℕ) (read : List Tag) : Type 0 
 pub record IsCommittable (d : DatabaseValue) (base : ℕ) (read : List Tag) (changes : List Change) : Type 0 where
   pub unread : IsUnread d base read
   pub few : AreFewNamed d changes
-  pub room : newest_net d changes ≢ [] → newest d < length d.row
+  pub room : newest_net d changes ≢ [] → newest d < length d.events
 
 -- a commit has an event to append, for which there is room
 pub record IsEventDue (d : DatabaseValue) (base : ℕ) (read : List Tag) (changes : List Change) : Type 0 where
   pub unread : IsUnread d base read
   pub few : AreFewNamed d changes
   pub some : newest_net d changes ≢ []
-  pub room : newest d < length d.row
+  pub room : newest d < length d.events
 
 -- a commit has an event to append, and the row is full
 pub record IsEventBarred (d : DatabaseValue) (base : ℕ) (read : List Tag) (changes : List Change) : Type 0 where
   pub unread : IsUnread d base read
   pub few : AreFewNamed d changes
   pub some : newest_net d changes ≢ []
-  pub full : newest d ≡ length d.row
+  pub full : newest d ≡ length d.events
 
 -- the store refused a commit: of a row that it names too many versions are kept; or there are changes, and it refused by
 -- itself

@@ -11,10 +11,10 @@ use Rattle.txc_db.specs.Facts.{EventValue}
 use Rattle.txc_db.specs.Seen.{FrontValue}
 use Rattle.txc_db.specs.History.{History, state_at, AreTagged, pin_event, commit_event}
 
--- the names of its row's cells; the history; the versions that are kept; the horizon; the stamps that are held, one for
+-- the names of the cells for its events; the history; the versions that are kept; the horizon; the stamps that are held, one for
 -- each hold, the earliest hold first; and whether another record was found in its row
 pub record DatabaseValue : Type 0 where
-  pub row : List ℕ
+  pub events : List ℕ
   pub history : History
   pub versions : List Versioned
   pub horizon : ℕ
@@ -23,7 +23,7 @@ pub record DatabaseValue : Type 0 where
 
 -- what a front of the whole history shows
 abbrev pub front_of : DatabaseValue → FrontValue
-front_of d = record { row = d.row; history = d.history }
+front_of d = record { events = d.events; history = d.history }
 
 -- the stamp after all events
 abbrev pub newest : DatabaseValue → ℕ

@@ -2,9 +2,9 @@
 use Rattle.std.specs.Prelude.{ℕ, List, [], fold}
 use Rattle.txc_db.specs.History.{History}
 
--- the names of all cells of the row, and the events that were seen in the first of them
+-- the names of all cells for events, and what was seen in the first of them
 pub record FrontValue : Type 0 where
-  pub row : List ℕ
+  pub events : List ℕ
   pub history : History
 
 -- the events that a feed has seen, and how many of them were taken

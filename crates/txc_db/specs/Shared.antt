@@ -35,9 +35,9 @@ pub record IsEventIn (L : History) (base : ℕ) (read : List Tag) (changes : Lis
 
 -- ---- refusals
 
--- some database of the row refuses so
+-- some database of this row of events refuses so
 abbrev pub MayRefuse : {E : Type 0} → List ℕ → (DatabaseValue → E → Type 0) → E → Type 0
-MayRefuse row refused e = (d : DatabaseValue) × (d.row ≡ row) × refused d e
+MayRefuse events refused e = (d : DatabaseValue) × (d.events ≡ events) × refused d e
 
 -- the first event after the base that matches what was read, and a front of the whole history in which it is
 pub record IsConflictShown (d : DatabaseValue) (base : ℕ) (read : List Tag) (conflict : Answered ℕ) : Type 0 where

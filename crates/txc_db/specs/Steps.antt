@@ -27,8 +27,8 @@ IsNetRefused d changes e = e ≡ Memory
 -- of an event that is to be appended: the row is full; else the store refused by itself, or out of memory, or another record
 -- stands in the row
 abbrev pub IsAppendRefused : DatabaseValue → DbError → Type 0
-IsAppendRefused d Full = newest d ≡ length d.row
-IsAppendRefused d (Store cause) = (newest d < length d.row) × IsOwn cause
-IsAppendRefused d Memory = newest d < length d.row
-IsAppendRefused d Broken = newest d < length d.row
+IsAppendRefused d Full = newest d ≡ length d.events
+IsAppendRefused d (Store cause) = (newest d < length d.events) × IsOwn cause
+IsAppendRefused d Memory = newest d < length d.events
+IsAppendRefused d Broken = newest d < length d.events
 IsAppendRefused d e = ⊥

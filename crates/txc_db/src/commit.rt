@@ -111,13 +111,13 @@ impl DbCore {
         ensures after { OnOk result (self.new
             ≡ after_event_of self.old (record { fact = commit net.changes.items; tags = net.tags }) net.changes.items) }
         ensures answer { IfOk result (λ stamp. stamp ≡ newest self.old + 1) }
-        ensures room { IsOk result → newest self.old < length self.old.row }
+        ensures room { IsOk result → newest self.old < length self.old.events }
         ensures unchanged { IfErr result (IsLeft self.old self.new) }
         ensures refused { IfErr result (IsAppendRefused self.old) }
     {
         versions_keep_states();
         let events = self.front.len();
-        if events == self.front.row().capacity() {
+        if events == self.front.events().capacity() {
             return Err(DbError::Full);
         }
         let event = commit_event(alloc, net)?;

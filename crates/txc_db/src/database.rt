@@ -40,11 +40,11 @@ pub struct Database<J: Naming> {
 impl<J: Naming> Database<J> {
     /// Puts the database under a lock. Its row is the named one. Where memory is refused, the database is dropped.
     pub fn new(alloc: Global, core: DbCore) -> Result<Database<J>, AllocError>
-        requires { core.row ≡ J.database_row }
+        requires { core.events ≡ J.database_row }
     {
-        let events = core.history().row_handle()?;
+        let events = core.history().events_handle()?;
 
-        // The events that are there already have one mark, the others will have one each, so that the row has room.
+        // The events that are there already have one mark, the others will have one each, so that there is room.
         let marks = Arc::new(alloc, EventRow::new(alloc, events.capacity())?)?;
         let locked = Locked::new(alloc, core, Arc::try_clone(&marks)?)?;
         Ok(Database {
@@ -63,7 +63,7 @@ impl<J: Naming> Database<J> {
         query: &Query,
         stamp: Stamp,
     ) -> Result<Answered<Found>, DbError>
-        ensures named { IfOk result (λ answered. answered.front.row ≡ J.database_row) }
+        ensures named { IfOk result (λ answered. answered.front.events ≡ J.database_row) }
         ensures answer { IfOk result (λ answered. (horizon : ℕ) × (let L = answered.front.history
             in IsAnswer (state_at L) query.now stamp horizon (length L) answered.answer)) }
         ensures tag { IfOk result (λ answered. answered.answer.tags ≡ query_tag query.now ∷ []) }
@@ -75,7 +75,7 @@ impl<J: Naming> Database<J> {
     /// Holds the newest stamp, so that no vacuum passes it until the hold is taken away. The front shows the history
     /// up to it.
     pub fn hold(&self, rt: &impl Wait, alloc: Global) -> Result<Answered<Stamp>, DbError>
-        ensures named { IfOk result (λ answered. answered.front.row ≡ J.database_row) }
+        ensures named { IfOk result (λ answered. answered.front.events ≡ J.database_row) }
         ensures answer { IfOk result (λ answered. answered.answer ≡ length answered.front.history) }
         ensures refused { IfErr result (MayRefuse J.database_row IsHoldRefused) }
     {
@@ -92,7 +92,7 @@ impl<J: Naming> Database<J> {
         read: &TagSet,
         changes: &[Change],
     ) -> Result<Answered<Stamp>, CommitError>
-        ensures named { IfOk result (λ answered. answered.front.row ≡ J.database_row) }
+        ensures named { IfOk result (λ answered. answered.front.events ≡ J.database_row) }
         ensures answer { IfOk result (λ answered.
             IsQuietIn answered.front.history base read.now changes.now answered.answer
             ⊎ IsEventIn answered.front.history base read.now changes.now answered.answer) }
@@ -110,7 +110,7 @@ impl<J: Naming> Database<J> {
         now: u64,
         at_least: Stamp,
     ) -> Result<Pinned, DbError>
-        ensures named { IfOk result (λ pinned. pinned.front.row ≡ J.database_row) }
+        ensures named { IfOk result (λ pinned. pinned.front.events ≡ J.database_row) }
         ensures answer { IfOk result (λ pinned. pinned.stamp ≡ length pinned.front.history) }
         ensures event { IfOk result (λ pinned.
             event_at pinned.front.history pinned.stamp ≡ Some (pin_event now)) }
@@ -136,7 +136,7 @@ impl<J: Naming> Database<J> {
     }
 
     /// The row of the events, which anybody reads without the lock.
-    pub fn row(&self) -> &EventRow<Event>
+    pub fn events(&self) -> &EventRow<Event>
         ensures { result.now ≡ J.database_row }
     {
         &self.events
@@ -150,7 +150,7 @@ impl<J: Naming> Database<J> {
 
     /// A front of the history that shows nothing yet. It takes no lock.
     pub fn reader(&self, alloc: Global) -> Result<HistoryFront, AllocError>
-        ensures { IfOk result (λ front. front ≡ record { row = J.database_row; history = [] }) }
+        ensures { IfOk result (λ front. front ≡ record { events = J.database_row; history = [] }) }
     {
         HistoryFront::new(alloc, Arc::try_clone(&self.events)?)
     }

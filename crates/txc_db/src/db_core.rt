@@ -43,25 +43,25 @@ impl Model for DbCore {
 
     ghost Value = { DatabaseValue };
 
-    ghost view = { λ d. record { row = d.front.row; history = d.front.history; versions = d.store; horizon = d.horizon; holds = d.holds.items; broken = d.broken } };
+    ghost view = { λ d. record { events = d.front.events; history = d.front.history; versions = d.store; horizon = d.horizon; holds = d.holds.items; broken = d.broken } };
 
-    ghost invariant = { λ d. d.broken ≡ false → IsSound (record { row = d.front.row; history = d.front.history; versions = d.store; horizon = d.horizon; holds = d.holds.items; broken = d.broken }) };
+    ghost invariant = { λ d. d.broken ≡ false → IsSound (record { events = d.front.events; history = d.front.history; versions = d.store; horizon = d.horizon; holds = d.holds.items; broken = d.broken }) };
 }
 
 impl DbCore {
     ghost use Rattle.txc_db.specs.DatabaseValue.{DatabaseValue, front_of, after_hold, after_pin, after_unpin, after_vacuum, newest, next_horizon, is_held, IsSound};
 
-    /// An empty database with room for `row_cap` events.
-    pub fn new(alloc: Global, row_cap: usize) -> Result<DbCore, DbError>
-        requires least { 1 ≤ row_cap }
-        requires most { row_cap ≤ MAX_CAPACITY }
-        ensures history { IfOk result (λ d. (d.history ≡ []) × (length d.row ≡ row_cap)) }
+    /// An empty database with room for `capacity` events.
+    pub fn new(alloc: Global, capacity: usize) -> Result<DbCore, DbError>
+        requires least { 1 ≤ capacity }
+        requires most { capacity ≤ MAX_CAPACITY }
+        ensures history { IfOk result (λ d. (d.history ≡ []) × (length d.events ≡ capacity)) }
         ensures kept { IfOk result (λ d. (d.versions ≡ []) × (d.horizon ≡ 0)) }
         ensures holds { IfOk result (λ d. (d.holds ≡ []) × (d.broken ≡ false)) }
         ensures refused { IfErr result IsWant }
     {
         versions_keep_states();
-        let events = Arc::new(alloc, EventRow::new(alloc, row_cap)?)?;
+        let events = Arc::new(alloc, EventRow::new(alloc, capacity)?)?;
         let front = HistoryFront::new(alloc, events)?;
         let store = VersionRows::open_in_memory(alloc)?;
         Ok(DbCore {
@@ -104,9 +104,9 @@ impl DbCore {
 
     /// A front of the history that shows nothing yet.
     pub fn reader(&self, alloc: Global) -> Result<HistoryFront, AllocError>
-        ensures { IfOk result (λ front. front ≡ record { row = self.now.row; history = [] }) }
+        ensures { IfOk result (λ front. front ≡ record { events = self.now.events; history = [] }) }
     {
-        HistoryFront::new(alloc, self.front.row_handle()?)
+        HistoryFront::new(alloc, self.front.events_handle()?)
     }
 
     /// A front that shows the whole history.
@@ -117,10 +117,10 @@ impl DbCore {
     }
 
     /// The row of the events. Whoever appends to it breaks the database; tests do.
-    pub fn row(&self) -> &EventRow<Event>
-        ensures { result.now ≡ self.now.row }
+    pub fn events(&self) -> &EventRow<Event>
+        ensures { result.now ≡ self.now.events }
     {
-        self.front.row()
+        self.front.events()
     }
 
     /// The answer of the query at a stamp, with its validity and the query's tag.
@@ -241,7 +241,7 @@ impl DbCore {
         if at_least.number() as usize > events + 1 {
             return Err(DbError::FutureStamp(stamp_after(events)));
         }
-        if events == self.front.row().capacity() {
+        if events == self.front.events().capacity() {
             return Err(DbError::Full);
         }
         if self.has_all_holds() {

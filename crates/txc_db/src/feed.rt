@@ -30,13 +30,13 @@ impl<J: Naming> Model for Mark<J> {
 
     ghost view = { λ m. m.front.history };
 
-    ghost invariant = { λ m. m.front.row ≡ J.database_row };
+    ghost invariant = { λ m. m.front.events ≡ J.database_row };
 }
 
 impl<J: Naming> Mark<J> {
     /// Marks the events that the front shows.
     pub fn new(front: HistoryFront) -> Mark<J>
-        requires { front.row ≡ J.database_row }
+        requires { front.events ≡ J.database_row }
         ensures { result ≡ front.history }
     {
         Mark {
@@ -47,7 +47,7 @@ impl<J: Naming> Mark<J> {
 
     /// Marks the events of a longer front.
     pub(crate) fn lengthen(&mut self, front: &HistoryFront)
-        requires named { front.now.row ≡ J.database_row }
+        requires named { front.now.events ≡ J.database_row }
         requires begins { IsPrefix self.old front.now.history }
         ensures { self.new ≡ front.now.history }
     {
@@ -75,7 +75,7 @@ impl<J: Naming> Model for Feed<J> {
 
     ghost view = { λ f. record { history = f.front.history; taken = f.taken } };
 
-    ghost invariant = { λ f. (f.front.row ≡ J.database_row) × (f.read.row ≡ arc_value f.marks) × (f.taken ≤ length f.front.history) };
+    ghost invariant = { λ f. (f.front.events ≡ J.database_row) × (f.read.row ≡ arc_value f.marks) × (f.taken ≤ length f.front.history) };
 }
 
 impl<J: Naming> Feed<J> {
@@ -84,7 +84,7 @@ impl<J: Naming> Feed<J> {
         front: HistoryFront,
         marks: Arc<EventRow<Mark<J>>>,
     ) -> Result<Feed<J>, AllocError>
-        requires { front.row ≡ J.database_row }
+        requires { front.events ≡ J.database_row }
         ensures { IfOk result (λ feed. (feed.history ≡ front.history) × (feed.taken ≡ 0)) }
     {
         let read = marks.start(alloc)?;
@@ -128,7 +128,7 @@ impl<J: Naming> Feed<J> {
 
     /// Takes over what a front shows beyond the events seen so far. It takes no memory.
     pub fn longer(&mut self, other: &HistoryFront)
-        requires { other.now.row ≡ J.database_row }
+        requires { other.now.events ≡ J.database_row }
         ensures taken { self.new.taken ≡ self.old.taken }
         ensures one { (self.new.history ≡ self.old.history) ⊎ (self.new.history ≡ other.now.history) }
         ensures this { IsPrefix self.old.history self.new.history }
@@ -159,7 +159,7 @@ impl<J: Naming> Feed<J> {
 
     /// A front that shows the events seen so far.
     pub fn front(&self) -> &HistoryFront
-        ensures row { result.now.row ≡ J.database_row }
+        ensures named { result.now.events ≡ J.database_row }
         ensures history { result.now.history ≡ self.now.history }
         ensures taken { self.now.taken ≤ length self.now.history }
     {

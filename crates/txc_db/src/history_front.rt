@@ -32,7 +32,7 @@ impl Model for HistoryFront {
 
     ghost Value = { FrontValue };
 
-    ghost view = { λ f. record { row = f.front.row; history = f.front.list } };
+    ghost view = { λ f. record { events = f.front.row; history = f.front.list } };
 
     ghost invariant = { λ f. (arc_value f.events ≡ f.front.row) × AreTagged f.front.list };
 }
@@ -54,7 +54,7 @@ impl HistoryFront {
         alloc: Global,
         events: Arc<EventRow<Event>>,
     ) -> Result<HistoryFront, AllocError>
-        ensures { IfOk result (λ front. front ≡ record { row = arc_value events; history = [] }) }
+        ensures { IfOk result (λ front. front ≡ record { events = arc_value events; history = [] }) }
     {
         let front = events.start(alloc)?;
         Ok(HistoryFront { events, front })
@@ -70,16 +70,16 @@ impl HistoryFront {
     }
 
     /// A handle of its row.
-    pub(crate) fn row_handle(&self) -> Result<Arc<EventRow<Event>>, AllocError>
-        ensures { IfOk result (λ row. arc_value row ≡ self.now.row) }
+    pub(crate) fn events_handle(&self) -> Result<Arc<EventRow<Event>>, AllocError>
+        ensures { IfOk result (λ events. arc_value events ≡ self.now.events) }
     {
         let _len = self.front.len();
         Ok(Arc::try_clone(&self.events)?)
     }
 
     /// The row of the events. Whoever appends to it breaks the database; tests do.
-    pub fn row(&self) -> &EventRow<Event>
-        ensures { result.now ≡ self.now.row }
+    pub fn events(&self) -> &EventRow<Event>
+        ensures { result.now ≡ self.now.events }
     {
         let _len = self.front.len();
         &self.events
@@ -95,8 +95,8 @@ impl HistoryFront {
     /// How many events it shows.
     pub fn len(&self) -> usize
         ensures shown { result ≡ length self.now.history }
-        ensures room { result ≤ length self.now.row }
-        ensures most { length self.now.row ≤ LAST }
+        ensures room { result ≤ length self.now.events }
+        ensures most { length self.now.events ≤ LAST }
     {
         self.front.len()
     }
@@ -127,8 +127,8 @@ impl HistoryFront {
 
     /// Takes over what the other shows beyond this one, so that this one shows the longer history. It takes no memory.
     pub fn longer(&mut self, other: &HistoryFront)
-        requires { other.now.row ≡ self.old.row }
-        ensures row { self.new.row ≡ self.old.row }
+        requires { other.now.events ≡ self.old.events }
+        ensures events { self.new.events ≡ self.old.events }
         ensures one { (self.new.history ≡ self.old.history) ⊎ (self.new.history ≡ other.now.history) }
         ensures this { IsPrefix self.old.history self.new.history }
         ensures that { IsPrefix other.now.history self.new.history }
@@ -138,7 +138,7 @@ impl HistoryFront {
 
     /// Takes over the whole of a front that goes on from this one.
     pub(crate) fn lengthen(&mut self, whole: &HistoryFront)
-        requires row { self.old.row ≡ whole.now.row }
+        requires events { self.old.events ≡ whole.now.events }
         requires begins { IsPrefix self.old.history whole.now.history }
         ensures { self.new ≡ whole.now }
     {
@@ -147,7 +147,7 @@ impl HistoryFront {
 
     /// Of two fronts of one row, the history of one is a prefix of the other's. It does nothing when it runs.
     pub fn agree(&self, other: &HistoryFront)
-        requires { self.now.row ≡ other.now.row }
+        requires { self.now.events ≡ other.now.events }
         ensures { IsPrefix self.now.history other.now.history ⊎ IsPrefix other.now.history self.now.history }
     {
         self.front.agree(&other.front);
@@ -155,7 +155,7 @@ impl HistoryFront {
 
     /// Appends an event that stands beside its tags. `Broken` where another record stands in its cell.
     pub(crate) fn append(&mut self, event: Box<Event>) -> Result<(), DbError>
-        requires room { length self.old.history < length self.old.row }
+        requires room { length self.old.history < length self.old.events }
         requires tagged { let before = state_at self.old.history (length self.old.history)
             in event.value.tags ≡ tags_between before (after_event before event.value) }
         ensures after { OnOk result (self.new ≡ record self.old { history = self.old.history ++ event.value ∷ [] }) }

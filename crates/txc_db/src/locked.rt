@@ -47,7 +47,7 @@ impl<J: Naming> Model for Locked<J> {
 
     ghost view = { λ l. l.core };
 
-    ghost invariant = { λ l. (l.core.row ≡ J.database_row) × (l.marked.row ≡ arc_value l.marks) × (l.core.broken ≡ false → last_mark l.marked.list ≡ l.core.history) };
+    ghost invariant = { λ l. (l.core.events ≡ J.database_row) × (l.marked.row ≡ arc_value l.marks) × (l.core.broken ≡ false → last_mark l.marked.list ≡ l.core.history) };
 }
 
 impl<J: Naming> Locked<J> {
@@ -57,7 +57,7 @@ impl<J: Naming> Locked<J> {
         mut core: DbCore,
         marks: Arc<EventRow<Mark<J>>>,
     ) -> Result<Locked<J>, AllocError>
-        requires { core.row ≡ J.database_row }
+        requires { core.events ≡ J.database_row }
     {
         let mut marked = marks.start(alloc)?;
         if !core.history().is_empty() {
@@ -79,7 +79,7 @@ impl<J: Naming> Locked<J> {
         query: &Query,
         stamp: Stamp,
     ) -> Result<Answered<Found>, DbError>
-        ensures named { self.old.row ≡ J.database_row }
+        ensures named { self.old.events ≡ J.database_row }
         ensures same { self.new ≡ self.old }
         ensures answer { IfOk result (λ answered.
             IsAnswer (state_at self.old.history) query.now stamp self.old.horizon (newest self.old) answered.answer) }
@@ -95,7 +95,7 @@ impl<J: Naming> Locked<J> {
     }
 
     pub(crate) fn hold(&mut self, alloc: Global) -> Result<Answered<Stamp>, DbError>
-        ensures named { self.old.row ≡ J.database_row }
+        ensures named { self.old.events ≡ J.database_row }
         ensures after { OnOk result (self.new ≡ after_hold self.old) }
         ensures answer { IfOk result (λ answered. answered.answer ≡ newest self.old) }
         ensures front { IfOk result (λ answered. answered.front ≡ front_of self.new) }
@@ -113,7 +113,7 @@ impl<J: Naming> Locked<J> {
     }
 
     pub(crate) fn unpin(&mut self, stamp: Stamp) -> Result<(), DbError>
-        ensures named { self.old.row ≡ J.database_row }
+        ensures named { self.old.events ≡ J.database_row }
         ensures after { OnOk result (self.new ≡ after_unpin self.old stamp) }
         ensures only_if { IsOk result → is_held stamp self.old.holds ≡ true }
         ensures unchanged { OnErr result (self.new ≡ self.old) }
@@ -123,7 +123,7 @@ impl<J: Naming> Locked<J> {
     }
 
     pub(crate) fn vacuum(&mut self) -> Result<Stamp, DbError>
-        ensures named { self.old.row ≡ J.database_row }
+        ensures named { self.old.events ≡ J.database_row }
         ensures after { OnOk result (self.new ≡ after_vacuum self.old) }
         ensures answer { IfOk result (λ horizon. horizon ≡ next_horizon self.old) }
         ensures unchanged { OnErr result (self.new ≡ self.old) }
@@ -138,7 +138,7 @@ impl<J: Naming> Locked<J> {
         now: u64,
         at_least: Stamp,
     ) -> Result<Pinned, DbError>
-        ensures named { self.old.row ≡ J.database_row }
+        ensures named { self.old.events ≡ J.database_row }
         ensures after { OnOk result (self.new ≡ after_pin self.old now) }
         ensures answer { IfOk result (λ pinned. pinned.stamp ≡ newest self.new) }
         ensures moment { IfOk result (λ pinned. pinned.moment ≡ now) }
@@ -164,7 +164,7 @@ impl<J: Naming> Locked<J> {
         read: &TagSet,
         changes: &[Change],
     ) -> Result<Answered<Stamp>, CommitError>
-        ensures named { self.old.row ≡ J.database_row }
+        ensures named { self.old.events ≡ J.database_row }
         ensures after { OnOk result (self.new ≡ after_commit self.old changes.now) }
         ensures answer { IfOk result (λ answered. answered.answer ≡ newest self.new) }
         ensures front { IfOk result (λ answered. answered.front ≡ front_of self.new) }
@@ -205,7 +205,7 @@ fn leave_mark<J: Naming>(
     history: &HistoryFront,
 ) -> bool
     requires row { marked.old.row ≡ marks.now }
-    requires named { history.now.row ≡ J.database_row }
+    requires named { history.now.events ≡ J.database_row }
     requires begins { IsPrefix mark.value history.now.history }
     ensures row { marked.new.row ≡ marked.old.row }
     ensures last { IsTrue result → last_mark marked.new.list ≡ history.now.history }

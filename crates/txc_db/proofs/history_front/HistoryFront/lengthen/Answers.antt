@@ -7,5 +7,5 @@ pub returns : goal.returns
 returns c =
     let was = c.args.self.now.history in
     let whole = c.args.whole.now in
-    front_is c.longer.new.self c.args.whole.now.row c.args.whole.now.history (c.longer.ensures.row ∙ c.requires.row)
+    front_is c.longer.new.self c.args.whole.now.events c.args.whole.now.history (c.longer.ensures.events ∙ c.requires.events)
     (longer_is was c.args.whole.now.history c.longer.new.self.history c.requires.begins c.longer.ensures.one c.longer.ensures.that)
