@@ -227,9 +227,9 @@ fn answer(core: &mut DbCore, alloc: Global, call: Call) -> Result<Reply, DbError
         Call::Query(asked, number) => query_reply(core, alloc, asked, number),
         Call::Reader => Ok(Reply::Events(core.reader(alloc)?.len())),
         Call::Front => Ok(Reply::Events(core.front(alloc)?.len())),
-        Call::Event(number) => Ok(event_reply(alloc, core.row(), number)?.0),
+        Call::Event(number) => Ok(event_reply(alloc, core.events(), number)?.0),
         Call::Foreign => {
-            append_foreign(alloc, core.row())?;
+            append_foreign(alloc, core.events())?;
             Ok(Reply::Done)
         }
         Call::Next | Call::Fed | Call::ForeignMark => Ok(Reply::NoEvent),

@@ -89,12 +89,12 @@ fn answer<J: Naming>(
         Call::Query(asked, number) => query_reply(rt, alloc, database, asked, number),
         Call::Reader => Ok((Reply::Events(database.reader(alloc)?.len()), None)),
         Call::Front => {
-            let (_last, events) = event_reply(alloc, database.row(), LAST_LOOK)?;
+            let (_last, events) = event_reply(alloc, database.events(), LAST_LOOK)?;
             Ok((Reply::Events(events), None))
         }
-        Call::Event(number) => Ok((event_reply(alloc, database.row(), number)?.0, None)),
+        Call::Event(number) => Ok((event_reply(alloc, database.events(), number)?.0, None)),
         Call::Foreign => {
-            append_foreign(alloc, database.row())?;
+            append_foreign(alloc, database.events())?;
             Ok((Reply::Done, None))
         }
         Call::ForeignMark => {
@@ -173,9 +173,9 @@ pub(super) fn feed_of<J: Naming>(
 }
 
 fn events_of<J: Naming>(alloc: Global, database: &Database<J>) -> Result<usize, AllocError> {
-    match event_reply(alloc, database.row(), LAST_LOOK) {
+    match event_reply(alloc, database.events(), LAST_LOOK) {
         Ok((_, events)) => Ok(events),
-        Err(_) => Ok(event_reply(alloc, database.row(), LAST_LOOK)?.1),
+        Err(_) => Ok(event_reply(alloc, database.events(), LAST_LOOK)?.1),
     }
 }
 
@@ -185,7 +185,7 @@ fn is_played<J: Naming, R: Wait + Abort + AllocGlobal>(
     core: DbCore,
     script: Script,
 ) -> Result<bool, Fail>
-    requires { core.row ≡ J.database_row }
+    requires { core.events ≡ J.database_row }
 {
     let alloc = rt.alloc();
     let Ok(database) = Database::<J>::new(alloc, core) else {

@@ -62,7 +62,7 @@ fn history<J: Naming>(
     alloc: Global,
     database: &Database<J>,
 ) -> Result<HistoryFront, DbError>
-    ensures { IfOk result (λ front. front.row ≡ J.database_row) }
+    ensures { IfOk result (λ front. front.events ≡ J.database_row) }
 {
     let found = database.query(rt, alloc, &query(Rows::All(1)), Stamp::ZERO)?;
     Ok(found.front)
@@ -74,7 +74,7 @@ fn work<J: Naming>(
     database: &Database<J>,
     first_id: u32,
 ) -> Option<Seen>
-    ensures { IfSome result (λ seen. seen.front.row ≡ J.database_row) }
+    ensures { IfSome result (λ seen. seen.front.events ≡ J.database_row) }
 {
     let mut commits = [0; ROUNDS];
     let mut id = first_id;
@@ -94,16 +94,16 @@ fn work_in_two_threads<J: Naming + Send + Sync, R: Threads + Wait + Sync>(
     alloc: Global,
     database: &Database<J>,
 ) -> (Option<Seen>, Option<Seen>)
-    ensures one { IfSome result.0 (λ seen. seen.front.row ≡ J.database_row) }
-    ensures other { IfSome result.1 (λ seen. seen.front.row ≡ J.database_row) }
+    ensures one { IfSome result.0 (λ seen. seen.front.events ≡ J.database_row) }
+    ensures other { IfSome result.1 (λ seen. seen.front.events ≡ J.database_row) }
 {
     join(
         rt,
         || -> Option<Seen>
-            ensures { IfSome result (λ seen. seen.front.row ≡ J.database_row) }
+            ensures { IfSome result (λ seen. seen.front.events ≡ J.database_row) }
         { work(rt, alloc, database, 0) },
         || -> Option<Seen>
-            ensures { IfSome result (λ seen. seen.front.row ≡ J.database_row) }
+            ensures { IfSome result (λ seen. seen.front.events ≡ J.database_row) }
         { work(rt, alloc, database, 100) },
     )
 }
@@ -158,8 +158,8 @@ fn meet<J: Naming>(
     mut one: Seen,
     mut other: Seen,
 ) -> Result<(), Fail>
-    requires one { one.front.row ≡ J.database_row }
-    requires other { other.front.row ≡ J.database_row }
+    requires one { one.front.events ≡ J.database_row }
+    requires other { other.front.events ≡ J.database_row }
 {
     one.front.agree(&other.front);
     one.front.longer(&other.front);
@@ -177,7 +177,7 @@ fn two_threads<J: Naming + Send + Sync, R: Threads + Wait + Abort + Sync>(
     alloc: Global,
     core: DbCore,
 ) -> Result<bool, Fail>
-    requires { core.row ≡ J.database_row }
+    requires { core.events ≡ J.database_row }
 {
     let Ok(database) = Database::<J>::new(alloc, core) else {
         return Ok(false);
