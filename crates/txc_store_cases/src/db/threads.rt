@@ -2,16 +2,15 @@
 ghost use Rattle.std.specs.Prelude.{◌≡◌, IfOk, IfSome};
 
 use super::locked::{feed_of, locked_reply};
-use super::{Call, Reply, empty, event_of, query};
+use super::{Call, Reply, empty, event_of};
 use crate::common::{Rows, Shown, Write};
-use std::alloc::Global;
+use std::alloc::{AllocError, Global};
 use std::marker::Brand;
 use std::process::Abort;
 use std::sync::Wait;
 use std::test::Fail;
 use std::thread::{Threads, join};
-use txc_db::{Database, DbCore, DbError, Feed, HistoryFront, Naming};
-use txc_stamp::Stamp;
+use txc_db::{Database, DbCore, Feed, HistoryFront, Naming};
 
 /// How many rounds each thread works, and how many events both leave.
 const ROUNDS: usize = 8;
@@ -56,16 +55,18 @@ fn round<J: Naming>(rt: &impl Wait, alloc: Global, database: &Database<J>, id: u
     (is_new && is_later && is_freed).then_some(at)
 }
 
-/// The whole history, as the answer of a query shows it.
-fn history<J: Naming>(
-    rt: &impl Wait,
-    alloc: Global,
-    database: &Database<J>,
-) -> Result<HistoryFront, DbError>
+/// The history so far, as a feed shows it, which takes no lock.
+fn history<J: Naming>(alloc: Global, database: &Database<J>) -> Result<HistoryFront, AllocError>
     ensures { IfOk result (λ front. front.events ≡ J.database_row) }
 {
-    let found = database.query(rt, alloc, &query(Rows::All(1)), Stamp::ZERO)?;
-    Ok(found.front)
+    let mut feed = feed_of(alloc, database)?;
+    for _ in 0..EVENTS {
+        if !feed.look() {
+            break;
+        }
+        feed.take();
+    }
+    feed.front().again(alloc)
 }
 
 fn work<J: Naming>(
@@ -82,9 +83,9 @@ fn work<J: Naming>(
         *commit = round(rt, alloc, database, id)?;
         id = id.saturating_add(1);
     }
-    let front = match history(rt, alloc, database) {
+    let front = match history(alloc, database) {
         Ok(front) => front,
-        Err(_) => history(rt, alloc, database).ok()?,
+        Err(_) => history(alloc, database).ok()?,
     };
     Some(Seen { commits, front })
 }
