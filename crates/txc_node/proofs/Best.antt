@@ -1,6 +1,6 @@
 -- The best of a list of entries.
-use Rattle.std.proofs.Common.{◌≡◌, ℕ, ◌+◌, ◌<◌, Bool, true, false, not, ◌&&◌, ◌||◌, eqb, ltb, List, [], ◌∷◌, length, get_or, Option, Some, None, refl, subst, sym, ap, ◌∙◌, arith, MatchOption}
-use Rattle.std.specs.List.{find, list_all, HoldsAt}
+use Rattle.std.proofs.Common.{◌≡◌, ℕ, ◌+◌, ◌<◌, Bool, true, false, not, ◌&&◌, ◌||◌, eqb, ltb, List, [], ◌∷◌, length, get_or, Option, Some, None, refl, subst, sym, ap, ◌∙◌, arith}
+use Rattle.std.specs.List.{find, list_all}
 use Rattle.std.proofs.lemmas.Bool.Decides.{nat_tests}
 use Rattle.std.proofs.lemmas.Bool.{false≢true}
 use Rattle.std.proofs.lemmas.List.Recursion.{and_from_places, and_fails_at, found_at, found_nowhere}
@@ -10,7 +10,7 @@ use Rattle.txc_stamp.specs.Interval.{end_at}
 use Rattle.txc_tags.specs.Keys.{Call}
 use Rattle.txc_node.specs.declared.entry.Entry.{Entry}
 use Rattle.txc_node.specs.Entries.{meets_range, outlasts, is_best}
-use Rattle.txc_node.specs.Best.{IsBestAt, BestSoFar}
+use Rattle.txc_node.specs.Best.{IsBestAt, BestSoFar, StandsAt}
 
 -- (x, y) is ahead of (u, v)
 abbrev ahead : ℕ → ℕ → ℕ → ℕ → Bool
@@ -105,8 +105,8 @@ pub best_nowhere : (p : ℕ) (key : Call) (lo hi : ℕ) (es : List Entry) → Be
 best_nowhere p key lo hi [] h = refl
 best_nowhere p key lo hi (e ∷ es) h = nowhere p key lo hi (e ∷ es) (e ∷ es) e (λ k l. h k l e)
 
--- what `best_at` meets_range
-pub best_end : (p : ℕ) (key : Call) (lo hi : ℕ) (es : List Entry) (n : ℕ) (best : Option ℕ) → n ≡ length es → BestSoFar p key lo hi es n best → MatchOption best (find (is_best p key lo hi es) es ≡ None) (λ i. (i < length es) × HoldsAt (λ e. find (is_best p key lo hi es) es ≡ Some e) es i)
+-- where the best entry stands
+pub best_end : (p : ℕ) (key : Call) (lo hi : ℕ) (es : List Entry) (n : ℕ) (best : Option ℕ) → n ≡ length es → BestSoFar p key lo hi es n best → StandsAt (find (is_best p key lo hi es) es) es best
 best_end p key lo hi es n None e h = best_nowhere p key lo hi es (subst (λ m. BestSoFar p key lo hi es m None) e h)
 best_end p key lo hi es n (Some b) e h =
     let h' = subst (λ m. IsBestAt p key lo hi es m b) e h in

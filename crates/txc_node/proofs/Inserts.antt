@@ -16,7 +16,7 @@ use Rattle.txc_tags.proofs.Lists.{both_true}
 use Rattle.txc_tags.specs.Tags.{sets_match}
 use Rattle.txc_tags.specs.declared.tag.Tag.{Tag}
 use Rattle.txc_node.specs.declared.node.Inserted.TheVariants.{Stored, Kept}
-use Rattle.txc_node.specs.Cache.{Cache, Grows, outcome, evicted_entry, reach_after_replay, replayed_reach, replayed_entry, closed_before, ends_no_earlier, is_kept, entries_with, after_insert}
+use Rattle.txc_node.specs.Cache.{Cache, outcome, evicted_entry, reach_after_replay, replayed_reach, replayed_entry, closed_before, ends_no_earlier, is_kept, entries_with, after_insert}
 use Rattle.txc_node.specs.Entries.{same_place, others, AreApart}
 use Rattle.txc_node.proofs.Apart.{remove_is_others, first_apart, take_apart}
 
@@ -51,7 +51,7 @@ at_end a b h = grind (arith, nat_tests)
 pub position_none : {X : Type 0} (p : X → Bool) (es : List X) → position p es ≡ None → AllByRecursion (λ o. p o ≡ false) es
 position_none p es h = nowhere p es (at_end (prefix_len (λ o. not (p o)) es) (length es) h)
 
-find_none : (p : Entry → Bool) (es : List Entry) → AllByRecursion (λ o. p o ≡ false) es → find p es ≡ None
+pub find_none : (p : Entry → Bool) (es : List Entry) → AllByRecursion (λ o. p o ≡ false) es → find p es ≡ None
 find_none p [] h = refl
 find_none p (e ∷ es) h = rw h.0 (find_none p es h.1)
 
@@ -136,7 +136,3 @@ kept_false c e i x r m n h k q em en l =
     let o = old_end c.processed c.entries i x e (position-Some (λ o. same_place o e) c.entries i e h).0 k in
     let t : leb m n ≡ false = grind (arith, nat_tests) in
     kept_is c e i h ∙ ap (λ y. leb (end_at c.processed y) (end_at c.processed (get_or c.entries i e).reach)) (sym q) ∙ ap (λ y. leb (end_at c.processed r) y) (sym o) ∙ ap (λ y. leb (end_at c.processed r) y) (sym en) ∙ ap (λ y. leb y n) (sym em) ∙ t
-
--- where nothing stands at the place of e, and there is room
-pub grows : (c : Cache) (e : Entry) → position (λ o. same_place o e) c.entries ≡ None → length c.entries < c.capacity → Grows c e
-grows c e h l = record { new = find_none (λ o. same_place o e) c.entries (position_none (λ o. same_place o e) c.entries h); not_full = l }

@@ -18,10 +18,11 @@ use Rattle.txc_node.specs.Laws.{MeetsRange, LastsLonger, FindsTheLongest, Misses
 use Rattle.txc_node.proofs.Best.{best_none, best_skips, best_begins, best_keeps, best_takes, best_end, read_test, read_tests}
 use Rattle.txc_node.proofs.Apart.{recursion_at, remove_is_others, first_apart, after_apart}
 use Rattle.txc_node.proofs.Inserts.{cut_apart, replay_lo}
+use Rattle.txc_node.proofs.Swept.{sweep_keeps}
 
 -- ---- tests and what they mean
 
-Decides-leb : (a b : ℕ) → Decides (leb a b) (a ≤ b)
+pub Decides-leb : (a b : ℕ) → Decides (leb a b) (a ≤ b)
 Decides-leb a b = (λ h. grind (arith, nat_tests), λ h. grind (arith, nat_tests))
 
 pub Decides-meets_range : (p : ℕ) (key : Call) (lo hi : ℕ) (e : Entry) → Decides (meets_range p key lo hi e) (MeetsRange p key lo hi e)
@@ -45,7 +46,7 @@ Decides-is_best p key lo hi es e =
 
 -- ---- lookup
 
-find_passes : (p : Entry → Bool) (es : List Entry) (e : Entry) → find p es ≡ Some e → (p e ≡ true) × Contains es e
+pub find_passes : (p : Entry → Bool) (es : List Entry) (e : Entry) → find p es ≡ Some e → (p e ≡ true) × Contains es e
 find_passes p [] e h = cc
 find_passes p (x ∷ xs) e h =
     let go : (b : Bool) → p x ≡ b → cond b (Some x) (find p xs) ≡ Some e → (p e ≡ true) × Contains (x ∷ xs) e = λ b. elim b as (λ v. p x ≡ v → cond v (Some x) (find p xs) ≡ Some e → (p e ≡ true) × Contains (x ∷ xs) e) [
@@ -214,6 +215,7 @@ steps_keep_caches = record {
   lookup = lookup_keeps;
   insert = insert_keeps;
   event = event_keeps;
+  sweep = sweep_keeps;
 }
 
 one_for_each : (es : List Entry) → AreApart es → HasOneForEach es

@@ -1,18 +1,20 @@
--- The versioned cache, and its steps: a lookup, an insertion and an event. Each step is a function of the whole cache.
-use Rattle.std.specs.Prelude.{◌≡◌, Option, ℕ, ◌+◌, ◌-◌, ◌<◌, ◌≤◌, Bool, ◌&&◌, nat_lt, nat_le, min, List, [], ◌∷◌, ◌++◌, map, length, take, drop, if◌then◌else◌, Some, None, slice_get, false}
-use Rattle.std.specs.List.{find, position, count_by}
+-- The versioned cache, and its steps: a lookup, an insertion and an event. Each step is a function of the
+-- whole cache.
+use Rattle.std.specs.Prelude.{◌≡◌, Option, ℕ, ◌+◌, ◌-◌, ◌<◌, ◌≤◌, Bool, ◌&&◌, nat_lt, nat_le, not, min, List, [], ◌∷◌, ◌++◌, map, length, take, drop, if◌then◌else◌, Some, None, slice_get, false}
+use Rattle.std.specs.List.{find, filter, position, count_by}
 use Rattle.std.specs.Option.{option_map}
 use Rattle.txc_stamp.specs.Interval.{Interval, end_at, shown, closed_at}
 use Rattle.txc_tags.specs.declared.tag.Tag.{Tag}
 use Rattle.txc_tags.specs.Tags.{sets_match}
 use Rattle.txc_tags.specs.Keys.{Call}
 use Rattle.txc_node.specs.declared.entry.Entry.{Entry}
+use Rattle.txc_node.specs.declared.hit.Shown.{Shown}
 use Rattle.txc_node.specs.declared.node.Inserted.{Inserted}
 use Rattle.txc_node.specs.declared.node.Inserted.TheVariants.{Stored, Kept}
 use Rattle.txc_node.specs.Entries.{same_place, is_best, others, AreApart}
 
--- the entries, the most recently used first; the stamp of the last event that was taken; the tags of the last events, the oldest first;
--- the most entries that it holds; the most events whose tags it keeps
+-- the entries, the most recently used first; the stamp of the last event that was taken; the tags of the
+-- last events, the oldest first; the most entries that it holds; the most events whose tags it keeps
 pub record Cache : Type 0 where
   pub entries : List Entry
   pub processed : ℕ
@@ -22,10 +24,12 @@ pub record Cache : Type 0 where
 
 -- no entry, no event taken, and no tags kept
 abbrev pub empty_cache : ℕ → ℕ → Cache
-empty_cache capacity depth = record { entries = []; processed = 0; recent = []; capacity = capacity; depth = depth }
+empty_cache capacity depth =
+    record { entries = []; processed = 0; recent = []; capacity = capacity; depth = depth }
 
--- what is true of a cache after every list of steps: no two entries have the same key and first stamp, it holds no more than its capacity,
--- and it keeps the tags of its last `depth` events, or of all while there are fewer
+-- what is true of a cache after every list of steps: no two entries have the same key and first stamp, it
+-- holds no more than its capacity, and it keeps the tags of its last `depth` events, or of all while there
+-- are fewer
 pub record IsCache (c : Cache) : Type 0 where
   pub apart : AreApart c.entries
   pub within : length c.entries ≤ c.capacity
@@ -53,37 +57,41 @@ after_use c (Some e) = record c { entries = e ∷ others e c.entries }
 abbrev pub after_lookup : Cache → Call → ℕ → ℕ → Cache
 after_lookup c key lo hi = after_use c (found c key lo hi)
 
--- what a hit shows
-pub record Answer : Type 0 where
-  pub reach : Interval
-  pub value : List ℕ
-  pub tags : List Tag
-
 -- what a hit shows of an entry, its reach known up to the last stamp of its span
-abbrev pub answer_of : ℕ → Entry → Answer
-answer_of processed e = record { reach = shown processed e.reach; value = e.value; tags = e.tags }
+abbrev pub shown_of : ℕ → Entry → Shown
+shown_of processed e = record { reach = shown processed e.reach; value = e.value; tags = e.tags }
 
 -- the answer of the entry that is found, or none, which is a miss
-abbrev pub answer : Cache → Call → ℕ → ℕ → Option Answer
-answer c key lo hi = option_map (answer_of c.processed) (found c key lo hi)
+abbrev pub answer : Cache → Call → ℕ → ℕ → Option Shown
+answer c key lo hi = option_map (shown_of c.processed) (found c key lo hi)
 
 -- ---- an insertion: the events that the entry missed are replayed first
 
--- closed just before the event with that number behind `known`, if there is one
+-- closed just before the event with that number after `known`, if there is one
 abbrev pub closed_before : Option ℕ → Interval → Interval
 closed_before None i = i
 closed_before (Some k) i = closed_at (i.known + k) i
 
--- A still valid reach has missed the events known + 1 to processed. Where one of them is no longer kept, it is closed at its own known;
--- else just before the first one that matches, if one does.
+-- the last n of a list, or all where there are fewer
+abbrev pub last_of : {X : Type 0} → ℕ → List X → List X
+last_of n xs = drop (length xs - n) xs
+
+-- a still valid reach after the events directly after its `known`: closed just before the first one that
+-- matches, if one does
+abbrev pub after_missed : Interval → List Tag → List (List Tag) → Interval
+after_missed i tags missed = closed_before (position (λ t. sets_match t tags) missed) i
+
+-- A still valid reach after so many events, of which the last ones are kept: closed at its own `known`
+-- where one of them is no longer kept, and else as these events leave it.
+abbrev pub after_kept : Interval → List Tag → ℕ → List (List Tag) → Interval
+after_kept i tags count recent =
+    if nat_lt (length recent) count then closed_at i.known i
+    else after_missed i tags (last_of count recent)
+
+-- a still valid reach has missed the events known + 1 to processed; any other has missed none
 abbrev pub reach_after_replay : Interval → List Tag → ℕ → List (List Tag) → Interval
 reach_after_replay i tags processed recent =
-    let missed = processed - i.known in
-    if i.still
-    then (if nat_lt (length recent) missed
-    then closed_at i.known i
-    else closed_before (position (λ t. sets_match t tags) (drop (length recent - missed) recent)) i)
-    else i
+    if i.still then after_kept i tags (processed - i.known) recent else i
 
 -- the reach of an entry after the replay of the events that it missed
 abbrev pub replayed_reach : Cache → Entry → Interval
@@ -102,7 +110,7 @@ ends_no_earlier processed e (Some old) = nat_le (end_at processed e.reach) (end_
 abbrev pub is_kept : Cache → Entry → Bool
 is_kept c e = ends_no_earlier c.processed (replayed_entry c e) (find (λ o. same_place o e) c.entries)
 
--- the new entry, and behind it all with another key or first stamp
+-- the new entry, and after it all with another key or first stamp
 abbrev pub entries_with : Cache → Entry → List Entry
 entries_with c e = replayed_entry c e ∷ others e c.entries
 
@@ -114,16 +122,13 @@ after_insert c e = if is_kept c e then c else record c { entries = take c.capaci
 abbrev pub evicted_entry : Cache → Entry → Option Entry
 evicted_entry c e = slice_get (entries_with c e) c.capacity
 
--- there is none with the same key and first stamp, and the cache is not full
-pub record Grows (c : Cache) (e : Entry) : Type 0 where
-  pub new : find (λ o. same_place o e) c.entries ≡ None
-  pub not_full : length c.entries < c.capacity
-
 -- kept, with the entry handed in; or stored, with the reach after the replay and the entry that was dropped
 abbrev pub outcome : Cache → Entry → Inserted
-outcome c e = if is_kept c e then Kept e else Stored (shown c.processed (replayed_reach c e)) (evicted_entry c e)
+outcome c e =
+    if is_kept c e then Kept e
+    else Stored (shown c.processed (replayed_reach c e)) (evicted_entry c e)
 
--- ---- an event: the still valid entries known below it whose tags match are closed just below it, and no entry moves
+-- ---- an event: the still valid entries known below it whose tags match are closed just below it
 
 -- still valid, known below the event, and of tags that match
 abbrev pub is_invalidated : ℕ → List Tag → Entry → Bool
@@ -131,11 +136,8 @@ is_invalidated stamp tags e = e.reach.still && (nat_lt e.reach.known stamp && se
 
 -- an entry that the event invalidates is closed just below it; any other stays as it was
 abbrev pub entry_after : ℕ → List Tag → Entry → Entry
-entry_after stamp tags e = if is_invalidated stamp tags e then record e { reach = closed_at (stamp - 1) e.reach } else e
-
--- the last n of a list, or all where there are fewer
-abbrev pub last_of : {X : Type 0} → ℕ → List X → List X
-last_of n xs = drop (length xs - n) xs
+entry_after stamp tags e =
+    if is_invalidated stamp tags e then record e { reach = closed_at (stamp - 1) e.reach } else e
 
 -- the cache after an event: no entry moves, and the tags of the last `depth` events are kept
 abbrev pub after_event : Cache → ℕ → List Tag → Cache
@@ -148,3 +150,17 @@ after_event c stamp tags = record c {
 -- how many entries the event closes
 abbrev pub closed_count : Cache → ℕ → List Tag → ℕ
 closed_count c stamp tags = count_by (is_invalidated stamp tags) c.entries
+
+-- ---- a sweep: the entries whose span ends at the horizon or before it are dropped
+
+-- the span of the entry ends at the horizon or before it
+abbrev pub has_ended : ℕ → ℕ → Entry → Bool
+has_ended processed horizon e = nat_le (end_at processed e.reach) horizon
+
+-- the cache after a sweep: exactly these entries are dropped, and the others keep their order
+abbrev pub after_sweep : Cache → ℕ → Cache
+after_sweep c horizon = record c { entries = filter (λ e. not (has_ended c.processed horizon e)) c.entries }
+
+-- how many entries the sweep drops
+abbrev pub swept_count : Cache → ℕ → ℕ
+swept_count c horizon = count_by (has_ended c.processed horizon) c.entries

@@ -5,8 +5,9 @@ use Rattle.txc_tags.specs.declared.tag.Tag.{Tag}
 use Rattle.txc_tags.specs.declared.tag.Tag.TheVariants.{Wildcard, Id, Group}
 use Rattle.txc_tags.specs.Keys.{Call}
 use Rattle.txc_node.specs.declared.entry.Entry.{Entry}
+use Rattle.txc_node.specs.declared.hit.Shown.{Shown}
 use Rattle.txc_node.specs.declared.node.Inserted.TheVariants.{Stored, Kept}
-use Rattle.txc_node.specs.Cache.{Cache, Answer, empty_cache, answer, after_lookup, outcome, after_insert, closed_count, after_event}
+use Rattle.txc_node.specs.Cache.{Cache, empty_cache, answer, after_lookup, outcome, after_insert, closed_count, after_event}
 
 -- the call of function 1 with one argument
 abbrev pub call_of : ℕ → Call
@@ -22,7 +23,7 @@ closed lo known = record { lo = lo; known = known; still = false }
 abbrev pub entry_of : ℕ → ℕ → Interval → List Tag → Entry
 entry_of n byte reach tags = record { key = call_of n; value = byte ∷ []; reach = reach; tags = tags }
 
-abbrev pub shows : ℕ → Interval → List Tag → Option Answer
+abbrev pub shows : ℕ → Interval → List Tag → Option Shown
 shows byte reach tags = Some (record { reach = reach; value = byte ∷ []; tags = tags })
 
 -- ---- a still valid entry is found as far as events were taken, and an event that matches closes it
@@ -48,7 +49,7 @@ pub record ClosesAtTheMatch : Type 0 where
   pub beyond_its_end : answer two_events (call_of 2) 2 9 ≡ None
   pub found_closed : answer two_events (call_of 2) 0 9 ≡ shows 10 (closed 0 1) (Id 1 2 ∷ [])
 
--- ---- an entry that comes late is closed before the first event that it missed and that matches, or at its own known
+-- ---- an entry that comes late is closed before the first event that it missed and matches, or at its own known
 
 abbrev pub both_events : ℕ → Cache
 both_events depth = after_event (after_event (empty_cache 4 depth) 1 (Id 1 3 ∷ [])) 2 (Id 1 2 ∷ [])
@@ -57,7 +58,7 @@ pub record ReplaysWhatIsKept : Type 0 where
   pub both_kept : outcome (both_events 4) first ≡ Stored (closed 0 1) None
   pub one_kept : outcome (both_events 1) first ≡ Stored (closed 0 0) None
 
--- ---- an entry known beyond the processed stamp is closed by no event up to there, and the wildcard matches each tag of its table
+-- ---- an entry known beyond the processed stamp is closed by no event up to there; the wildcard matches each tag
 
 abbrev pub ahead : Entry
 ahead = entry_of 2 10 (still_valid 1 5) (Wildcard 1 ∷ [])
@@ -72,7 +73,8 @@ pub record WaitsForItsEnd : Type 0 where
   pub stored : outcome quiet ahead ≡ Stored (still_valid 1 5) None
   pub not_beyond : closed_count (after_insert quiet ahead) 3 (Group 1 9 ∷ []) ≡ 0
   pub by_wildcard : closed_count five_events 6 (Id 1 1 ∷ []) ≡ 1
-  pub found_closed : answer (after_event five_events 6 (Id 1 1 ∷ [])) (call_of 2) 0 9 ≡ shows 10 (closed 1 5) (Wildcard 1 ∷ [])
+  pub found_closed : answer (after_event five_events 6 (Id 1 1 ∷ [])) (call_of 2) 0 9
+      ≡ shows 10 (closed 1 5) (Wildcard 1 ∷ [])
 
 -- ---- a full cache drops the entry that was used longest ago
 
@@ -91,10 +93,12 @@ pub record DropsTheLeastRecentlyUsed : Type 0 where
   pub evicted : outcome full_used (number 3 12) ≡ Stored (still_valid 0 0) (Some (number 2 11))
   pub gone : answer (after_insert full_used (number 3 12)) (call_of 2) 0 9 ≡ None
 
--- ---- of two entries that end equally the one that begins later is found, and a longer one replaces a shorter one
+-- ---- of two that end equally the one that begins later is found, and a longer one replaces a shorter one
 
 abbrev pub two_begins : Cache
-two_begins = after_insert (after_insert (after_event (empty_cache 4 4) 1 []) (entry_of 2 10 (still_valid 0 0) [])) (entry_of 2 11 (still_valid 1 1) [])
+two_begins =
+    after_insert (after_insert (after_event (empty_cache 4 4) 1 []) (entry_of 2 10 (still_valid 0 0) []))
+    (entry_of 2 11 (still_valid 1 1) [])
 
 pub record PrefersTheLaterBegin : Type 0 where
   pub later_begin : answer two_begins (call_of 2) 0 9 ≡ shows 11 (still_valid 1 1) []

@@ -1,12 +1,12 @@
 -- What a caller reads off a hit.
 use Rattle.txc_stamp.specs.Interval.{Interval}
 use Rattle.txc_node.specs.declared.hit.Hit.{Hit}
-use Rattle.txc_node.specs.Cache.{Answer}
+use Rattle.txc_node.specs.declared.hit.Shown.{Shown}
 
 -- the reach that is stored, known up to the last stamp of its span
 abbrev pub hit_reach : Hit → Interval
 hit_reach h = record h.stored.now { known = h.last }
 
--- the answer that a hit shows
-abbrev pub seen : Hit → Answer
+-- what a hit shows
+abbrev pub seen : Hit → Shown
 seen h = record { reach = hit_reach h; value = h.value.now; tags = h.tags.now }

@@ -1,11 +1,11 @@
 -- What the steps of the cache mean, in the words of their rules.
-use Rattle.std.specs.Prelude.{◌≡◌, ℕ, ◌+◌, ◌-◌, ◌<◌, ◌≤◌, ◌⊎◌, ◌↔◌, true, max, length, List, [], ◌∷◌, Some, None, All, AllPairs, Contains}
+use Rattle.std.specs.Prelude.{◌≡◌, ℕ, ◌+◌, ◌-◌, ◌<◌, ◌≤◌, ◌⊎◌, ◌↔◌, true, false, max, length, List, [], ◌∷◌, ◌++◌, Some, None, All, AllPairs, Contains}
 use Rattle.txc_stamp.specs.Interval.{end_at, Spans, closed_at}
 use Rattle.txc_tags.specs.declared.tag.Tag.{Tag}
 use Rattle.txc_tags.specs.Tags.{sets_match}
 use Rattle.txc_tags.specs.Keys.{Call}
 use Rattle.txc_node.specs.declared.entry.Entry.{Entry}
-use Rattle.txc_node.specs.Cache.{Cache, IsCache, empty_cache, found, answer_of, after_lookup, replayed_reach, replayed_entry, after_insert, entry_after, last_of, after_event}
+use Rattle.txc_node.specs.Cache.{Cache, IsCache, empty_cache, found, shown_of, answer, after_lookup, replayed_reach, replayed_entry, is_kept, evicted_entry, after_insert, entry_after, last_of, after_event, swept_count, after_sweep}
 
 -- ---- lookup
 
@@ -29,11 +29,14 @@ pub record IsLongest (c : Cache) (key : Call) (lo hi : ℕ) (e : Entry) : Type 0
 
 -- what a lookup finds is the entry that meets the range and lasts longest
 abbrev pub FindsTheLongest : Type 0
-FindsTheLongest = (c : Cache) (key : Call) (lo hi : ℕ) (e : Entry) → found c key lo hi ≡ Some e → IsLongest c key lo hi e
+FindsTheLongest =
+    (c : Cache) (key : Call) (lo hi : ℕ) (e : Entry) → found c key lo hi ≡ Some e → IsLongest c key lo hi e
 
 -- a lookup misses only where no entry meets the range
 abbrev pub MissesOnlyWhereNone : Type 0
-MissesOnlyWhereNone = (c : Cache) (key : Call) (lo hi : ℕ) → found c key lo hi ≡ None → All (λ o. ¬ (MeetsRange c.processed key lo hi o)) c.entries
+MissesOnlyWhereNone =
+    (c : Cache) (key : Call) (lo hi : ℕ) → found c key lo hi ≡ None
+    → All (λ o. ¬ (MeetsRange c.processed key lo hi o)) c.entries
 
 -- the span of an entry meets a range that is not empty exactly where a stamp of the range lies in the span
 abbrev pub MeetsAtAStamp : Type 0
@@ -42,7 +45,8 @@ MeetsAtAStamp = (processed lo hi : ℕ) (e : Entry) → lo ≤ hi → e.reach.lo
 
 -- a hit shows no stamp beyond the greater of the last one known and the processed one
 abbrev pub ShowsNothingBeyond : Type 0
-ShowsNothingBeyond = (processed : ℕ) (e : Entry) → (answer_of processed e).reach.known ≤ max e.reach.known processed
+ShowsNothingBeyond =
+    (processed : ℕ) (e : Entry) → (shown_of processed e).reach.known ≤ max e.reach.known processed
 
 -- ---- event
 
@@ -66,7 +70,9 @@ EachPlace R (x ∷ xs) (y ∷ ys) = R x y × EachPlace R xs ys
 
 -- an event closes exactly the entries that it hits, and no entry moves
 abbrev pub ClosesExactlyTheHit : Type 0
-ClosesExactlyTheHit = (c : Cache) (stamp : ℕ) (tags : List Tag) → EachPlace (ClosesOnlyIfHit stamp tags) c.entries (after_event c stamp tags).entries
+ClosesExactlyTheHit =
+    (c : Cache) (stamp : ℕ) (tags : List Tag)
+    → EachPlace (ClosesOnlyIfHit stamp tags) c.entries (after_event c stamp tags).entries
 
 -- ---- insertion
 
@@ -75,21 +81,76 @@ abbrev pub after_events : ℕ → List (List Tag) → Entry → Entry
 after_events stamp [] e = e
 after_events stamp (tags ∷ more) e = after_events (stamp + 1) more (entry_after stamp tags e)
 
--- where all the events that a still valid entry has missed are kept, it is stored as if it had been there when they came
+-- where all the events that a still valid entry has missed are kept, it is stored as if it had been there
+-- when they came
 abbrev pub ReplaysAsIfItHadBeenThere : Type 0
-ReplaysAsIfItHadBeenThere = (c : Cache) (e : Entry) → e.reach.still ≡ true → (let missed = c.processed - e.reach.known in
-    missed ≤ length c.recent → replayed_entry c e ≡ after_events (e.reach.known + 1) (last_of missed c.recent) e)
+ReplaysAsIfItHadBeenThere =
+    (c : Cache) (e : Entry) → e.reach.still ≡ true
+    → (let missed = c.processed - e.reach.known in
+    missed ≤ length c.recent
+    → replayed_entry c e ≡ after_events (e.reach.known + 1) (last_of missed c.recent) e)
 
 -- where one of them is no longer kept, it is stored as closed at the last stamp on which it was known
 abbrev pub TrustsNoLostEvent : Type 0
-TrustsNoLostEvent = (c : Cache) (e : Entry) → e.reach.still ≡ true → length c.recent < c.processed - e.reach.known
+TrustsNoLostEvent =
+    (c : Cache) (e : Entry) → e.reach.still ≡ true
+    → length c.recent < c.processed - e.reach.known
     → replayed_reach c e ≡ closed_at e.reach.known e.reach
+
+-- the same key, and the same first stamp
+abbrev pub SamePlace : Entry → Entry → Type 0
+SamePlace a b = (a.key ≡ b.key) × (a.reach.lo ≡ b.reach.lo)
+
+-- an entry of the list has the key and the first stamp of e
+abbrev pub IsThere : Entry → List Entry → Type 0
+IsThere e es = (old : Entry) × Contains es old × SamePlace old e
+
+-- an entry that is there is kept exactly where it ends no earlier than the new one does after the replay;
+-- where none is there, none is kept
+pub record KeepsTheLonger (c : Cache) (e : Entry) : Type 0 where
+  pub there : (old : Entry) → Contains c.entries old → SamePlace old e
+      → (is_kept c e ≡ true) ↔ (end_at c.processed (replayed_reach c e) ≤ end_at c.processed old.reach)
+  pub not_there : ¬ (IsThere e c.entries) → is_kept c e ≡ false
+
+-- so does every insertion into a cache
+abbrev pub InsertionKeepsTheLonger : Type 0
+InsertionKeepsTheLonger = (c : Cache) (e : Entry) → IsCache c → KeepsTheLonger c e
+
+-- an insertion drops nothing where an entry is there, nor where there is room, and else exactly the last
+-- entry
+pub record DropsTheLast (c : Cache) (e : Entry) : Type 0 where
+  pub there : IsThere e c.entries → evicted_entry c e ≡ None
+  pub not_full : length c.entries < c.capacity → evicted_entry c e ≡ None
+  pub full : ¬ (IsThere e c.entries) → length c.entries ≡ c.capacity
+      → (others : List Entry) (last : Entry) → c.entries ≡ others ++ last ∷ [] → evicted_entry c e ≡ Some last
+
+-- so does every insertion into a cache
+abbrev pub InsertionDropsTheLast : Type 0
+InsertionDropsTheLast = (c : Cache) (e : Entry) → IsCache c → DropsTheLast c e
+
+-- ---- sweep
+
+-- after a sweep an entry is there exactly where it was there and its span ends after the horizon; and each
+-- that is not was counted
+pub record DropsTheEnded (c : Cache) (horizon : ℕ) : Type 0 where
+  pub left : (e : Entry) → Contains (after_sweep c horizon).entries e
+      ↔ (Contains c.entries e × (horizon < end_at c.processed e.reach))
+  pub counted : length (after_sweep c horizon).entries + swept_count c horizon ≡ length c.entries
+
+-- so does every sweep
+abbrev pub SweepDropsTheEnded : Type 0
+SweepDropsTheEnded = (c : Cache) (horizon : ℕ) → DropsTheEnded c horizon
+
+-- a sweep changes the answer of no lookup from the horizon on
+abbrev pub ChangesNoLaterAnswer : Type 0
+ChangesNoLaterAnswer = (c : Cache) (horizon : ℕ) (key : Call) (lo hi : ℕ) → horizon ≤ lo
+    → answer (after_sweep c horizon) key lo hi ≡ answer c key lo hi
 
 -- ---- all steps
 
 -- no two entries have the same key and the same first stamp
 abbrev pub HasOneForEach : List Entry → Type 0
-HasOneForEach es = AllPairs (λ a b. ¬ ((a.key ≡ b.key) × (a.reach.lo ≡ b.reach.lo))) es
+HasOneForEach es = AllPairs (λ a b. ¬ (SamePlace a b)) es
 
 -- an insertion leaves at most one entry for a key and a first stamp, and never more than the capacity
 pub record FillsNoMore (c : Cache) (e : Entry) : Type 0 where
@@ -106,3 +167,4 @@ pub record StepsKeepCaches : Type 0 where
   pub lookup : (c : Cache) (key : Call) (lo hi : ℕ) → IsCache c → IsCache (after_lookup c key lo hi)
   pub insert : (c : Cache) (e : Entry) → IsCache c → IsCache (after_insert c e)
   pub event : (c : Cache) (tags : List Tag) → IsCache c → IsCache (after_event c (c.processed + 1) tags)
+  pub sweep : (c : Cache) (horizon : ℕ) → IsCache c → IsCache (after_sweep c horizon)

@@ -4,3 +4,7 @@ pub mod Best
 pub mod Hit
 pub mod Laws
 pub mod Examples
+pub mod Steps
+pub mod Texts
+pub mod Counts
+pub mod CountBounds

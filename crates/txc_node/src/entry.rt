@@ -10,10 +10,10 @@ use txc_tags::{Key, TagSet};
 /// Why there is no such entry.
 #[derive(Clone, Copy, Debug, PartialEq, Eq, Error)]
 pub enum EntryError {
-    /// N2: the result is known to hold up to a stamp below its first one.
+    /// The result is known to hold up to a stamp below its first one.
     #[error("the last stamp known is below the first")]
     BadReach,
-    /// N4: the value has more than [`MAX_VALUE_LEN`] bytes.
+    /// The value has more than [`MAX_VALUE_LEN`] bytes.
     #[error("the value is longer than {MAX_VALUE_LEN} bytes")]
     ValueTooLong,
 }
@@ -32,8 +32,8 @@ pub struct Entry {
 }
 
 impl Entry {
-    /// A result that holds from `lo` to `known`, and on from there where it is `still` valid, until an event matches
-    /// one of its tags. A reach that is empty is reported before a value that is too long.
+    /// A result that holds from `lo` to `known`, and on from there where it is `still` valid, until an
+    /// event matches one of its tags. A reach that is empty is reported before a value that is too long.
     pub fn new(
         key: Key,
         value: Vec<u8>,
@@ -42,18 +42,18 @@ impl Entry {
         still: bool,
         tags: TagSet,
     ) -> Result<Entry, EntryError>
-        ensures entry { IfOk result (λ e. e ≡ record {
+        ensures answer { IfOk result (λ e. e ≡ record {
           key = key;
           value = value.items;
           reach = record { lo = lo; known = known; still = still };
           tags = tags;
         }) }
-        ensures succeeds { IsOk result ↔ ((lo ≤ known) × (vec_len value ≤ MAX_VALUE_LEN)) }
+        ensures only_if { IsOk result ↔ ((lo ≤ known) × (vec_len value ≤ MAX_VALUE_LEN)) }
         ensures bad_reach { (result ≡ Err EntryError.BadReach) ↔ (known < lo) }
         ensures too_long { (result ≡ Err EntryError.ValueTooLong)
             ↔ ((lo ≤ known) × (MAX_VALUE_LEN < vec_len value)) }
     {
-        let Some(reach) = Reach::from_stamps(lo, known, still) else {
+        let Ok(reach) = Reach::from_stamps(lo, known, still) else {
             return Err(EntryError::BadReach);
         };
         let Some(value) = Value::new(value) else {

@@ -1,7 +1,9 @@
 //! What a lookup lends.
-ghost use Rattle.std.specs.Prelude.{◌≡◌, ◌≤◌};
+ghost use Rattle.std.specs.Prelude.{◌≡◌, ◌≤◌, IfOk};
+ghost use Rattle.txc_stamp.specs.declared.stamp.TheConstants.{LAST_STAMP};
 
 use crate::value::Value;
+use std::alloc::{AllocError, Global};
 use txc_stamp::Reach;
 use txc_tags::TagSet;
 
@@ -15,16 +17,38 @@ pub struct Hit<'a> {
     /// What it depends on.
     pub tags: &'a TagSet,
     ghost ordered: { stored.now.lo ≤ last },
-    ghost bounded: { last ≤ 1048576 },
+    ghost bounded: { last ≤ LAST_STAMP },
+}
+
+/// What a hit shows: a value that holds on a reach, and what it depends on.
+#[derive(Debug, Drop)]
+pub struct Shown {
+    /// The reach of the result, known up to the last stamp of its span.
+    pub reach: Reach,
+    /// The result.
+    pub value: Value,
+    /// What it depends on.
+    pub tags: TagSet,
 }
 
 impl Hit<'_> {
-    ghost use Rattle.txc_node.specs.Hit.{hit_reach};
+    ghost use Rattle.txc_node.specs.Hit.{hit_reach, seen};
 
     /// The reach of the result, known up to the last stamp of its span.
     pub fn reach(&self) -> Reach
         ensures { result ≡ hit_reach self.now }
     {
         self.stored.with_known(self.last)
+    }
+
+    /// A copy of what it shows.
+    pub fn copy(&self, alloc: Global) -> Result<Shown, AllocError>
+        ensures { IfOk result (λ shown. shown ≡ seen self.now) }
+    {
+        Ok(Shown {
+            reach: self.reach(),
+            value: self.value.copy(alloc)?,
+            tags: self.tags.copy(alloc)?,
+        })
     }
 }

@@ -1,9 +1,10 @@
-//! What the steps of the cache mean, in the words of their rules, each the contract of a function that does nothing.
-ghost use Rattle.txc_node.specs.Laws.{FindsTheLongest, MissesOnlyWhereNone, MeetsAtAStamp, ShowsNothingBeyond, ClosesExactlyTheHit, ReplaysAsIfItHadBeenThere, TrustsNoLostEvent, InsertsWithinBounds, StepsKeepCaches};
+//! What the steps of the cache mean, in the words of their rules, each the contract of a function that does
+//! nothing.
+ghost use Rattle.txc_node.specs.Laws.{FindsTheLongest, MissesOnlyWhereNone, MeetsAtAStamp, ShowsNothingBeyond, ClosesExactlyTheHit, ReplaysAsIfItHadBeenThere, TrustsNoLostEvent, InsertsWithinBounds, InsertionKeepsTheLonger, InsertionDropsTheLast, SweepDropsTheEnded, ChangesNoLaterAnswer, StepsKeepCaches};
 ghost use Rattle.txc_node.specs.Examples.{ClosesAtTheMatch, ReplaysWhatIsKept, WaitsForItsEnd, DropsTheLeastRecentlyUsed, PrefersTheLaterBegin};
 
-/// A lookup finds the entry of the key whose span meets the range such that no other such entry ends later, nor ends
-/// equally and begins later. It misses only where no entry meets the range.
+/// A lookup finds the entry of the key whose span meets the range such that no other such entry ends later,
+/// nor ends equally and begins later. It misses only where no entry meets the range.
 pub fn lookup_finds_the_longest()
     ensures longest { FindsTheLongest }
     ensures miss { MissesOnlyWhereNone }
@@ -24,8 +25,8 @@ pub fn event_closes_exactly_the_hit()
     ensures { ClosesExactlyTheHit }
 {}
 
-/// A late entry is stored as if it had been there when the events came that it missed. Where one of them is no longer
-/// kept, it is stored as closed at the last stamp on which it was known.
+/// A late entry is stored as if it had been there when the events came that it missed. Where one of them is
+/// no longer kept, it is stored as closed at the last stamp on which it was known.
 pub fn insertion_replays_what_was_missed()
     ensures kept { ReplaysAsIfItHadBeenThere }
     ensures lost { TrustsNoLostEvent }
@@ -36,8 +37,26 @@ pub fn insertion_stays_within_bounds()
     ensures { InsertsWithinBounds }
 {}
 
-/// Every step leaves a cache: one entry for a key and a first stamp, no more than the capacity, and the tags of the
-/// last events.
+/// An insertion keeps the entry that has its key and first stamp exactly where that one ends no earlier.
+pub fn insertion_keeps_the_longer()
+    ensures { InsertionKeepsTheLonger }
+{}
+
+/// An insertion drops nothing where an entry has its key and first stamp or where there is room, and else
+/// exactly the entry that was used longest ago.
+pub fn insertion_drops_the_last()
+    ensures { InsertionDropsTheLast }
+{}
+
+/// A sweep drops exactly the entries whose span ends at the horizon or before it. No lookup from the
+/// horizon on finds anything else than before.
+pub fn sweep_drops_the_ended()
+    ensures ended { SweepDropsTheEnded }
+    ensures later { ChangesNoLaterAnswer }
+{}
+
+/// Every step leaves a cache: one entry for a key and a first stamp, no more than the capacity, and the
+/// tags of the last events.
 pub fn steps_keep_caches()
     ensures { StepsKeepCaches }
 {}

@@ -1,24 +1,37 @@
-//! The versioned cache of one node, after Ports, Clements, Zhang, Madden and Liskov, "Transactional Consistency and
-//! Automatic Management in an Application Data Cache" (OSDI 2010). Each [`Entry`] is the result of a call with the
-//! stamps on which it holds; an event of the database closes the entries whose tags it matches.
+//! The versioned cache of one node, after Ports, Clements, Zhang, Madden and Liskov, "Transactional
+//! Consistency and Automatic Management in an Application Data Cache" (OSDI 2010). Each [`Entry`] is the
+//! result of a call with the stamps on which it holds; an event of the database closes the entries whose
+//! tags it matches.
 //!
-//! A [`NodeCore`] is one list of entries, the most recently used first, the stamp of the last event that it took, and
-//! the tags of the last events. It changes by three steps: [`NodeCore::lookup`], [`NodeCore::insert`] and
-//! [`NodeCore::event`]. The capacity counts entries. The orders among entries, the ties, and the replay of recent events
-//! at an insertion are this project's own.
+//! A [`NodeCore`] is one list of entries, the most recently used first, the stamp of the last event that it
+//! took, and the tags of the last events. It changes by four steps: [`NodeCore::lookup`],
+//! [`NodeCore::insert`], [`NodeCore::event`] and [`NodeCore::sweep`]; an [`Op`] names a step, and a
+//! [`Reply`] is what it is answered. The capacity counts entries. The orders among entries, the ties, and
+//! the replay of recent events at an insertion are this project's own.
 #![tactic(auto)]
 
+mod counts;
 mod entry;
 mod hit;
 mod invalidation;
 pub mod laws;
 mod node;
+mod op;
+mod record;
+mod refusal;
 mod replay;
+mod reply;
 mod room;
 mod search;
+mod sweeping;
 mod value;
 
+pub use counts::{Counts, FunctionCounts};
 pub use entry::{Entry, EntryError};
-pub use hit::Hit;
+pub use hit::{Hit, Shown};
 pub use node::{EmptyRange, Inserted, MAX_CAPACITY, MAX_RECENT, NodeCore, OutOfOrder};
+pub use op::Op;
+pub use record::Record;
+pub use refusal::Refusal;
+pub use reply::Reply;
 pub use value::{MAX_VALUE_LEN, Value};

@@ -1,11 +1,12 @@
 //! The node: its entries, and the tags of the last events.
-ghost use Rattle.std.specs.Prelude.{◌≡◌, ◌+◌, ◌<◌, ◌≤◌, ◌↔◌, map, Ok, Err, IfOk, IfErr, OnOk, OnErr, IsOk, MatchResult, is_some, vec_len};
+ghost use Rattle.std.specs.Prelude.{◌≡◌, ◌+◌, ◌<◌, ◌≤◌, ◌↔◌, map, length, [], IsTrue, Ok, Err, IfOk, IfErr, OnOk, OnErr, IsOk, MatchResult, false, vec_len};
 ghost use Rattle.std.specs.List.{count_by};
 ghost use Rattle.std.specs.Option.{option_map};
 ghost use Rattle.std.specs.Borrow.{sem};
 ghost use Rattle.std.specs.Io.BufRead.{Rests};
 ghost use Rattle.txc_node.specs.contracts.node.NodeCore.{the_row};
-ghost use Rattle.txc_node.specs.Cache.{empty_cache, Grows, found, answer, after_lookup, after_insert, outcome, is_invalidated, entry_after, after_event, closed_count};
+ghost use Rattle.txc_node.specs.Cache.{empty_cache, found, answer, after_lookup, is_kept, after_insert, outcome, is_invalidated, entry_after, after_event, closed_count, after_sweep, swept_count};
+ghost use Rattle.txc_node.specs.Best.{StandsAt};
 ghost use Rattle.txc_node.specs.Hit.{seen};
 
 use crate::entry::Entry;
@@ -13,7 +14,8 @@ use crate::hit::Hit;
 use crate::invalidation::invalidate;
 use crate::replay::replay_for;
 use crate::room::{keep_last, make_room, move_to_front, put};
-use crate::search::{best_at, hit_at_front, place_of};
+use crate::search::{best_at, hit_at, place_of};
+use crate::sweeping::drop_ended;
 use std::alloc::{AllocError, AllocFailed, Global};
 use std::marker::Model;
 use thiserror::Error;
@@ -26,12 +28,12 @@ pub const MAX_CAPACITY: usize = 65_536;
 /// The most events whose tags a node may be made to keep.
 pub const MAX_RECENT: usize = 4_096;
 
-/// N1: the stamps asked for end before they begin.
+/// The stamps asked for end before they begin.
 #[derive(Clone, Copy, Debug, PartialEq, Eq, Error)]
 #[error("the range of stamps is empty")]
 pub struct EmptyRange;
 
-/// N3: the event is not the one behind the processed stamp.
+/// The event is not the one after the processed stamp.
 #[derive(Clone, Copy, Debug, PartialEq, Eq, Error)]
 #[error("the event is out of order")]
 pub struct OutOfOrder {
@@ -49,7 +51,8 @@ pub enum Inserted {
         /// The entry that was dropped to make room for it.
         evicted: Option<Entry>,
     },
-    /// An entry with its key and first stamp is there that ends no earlier, and stays. The new one comes back.
+    /// An entry with its key and first stamp is there that ends no earlier, and stays. The new one comes
+    /// back.
     Kept(Entry),
 }
 
@@ -69,9 +72,21 @@ impl Model for NodeCore {
 
     ghost Value = { Cache };
 
-    ghost view = { λ n. record { entries = n.entries.items; processed = n.processed; recent = n.recent.items; capacity = n.capacity; depth = n.depth } };
+    ghost view = { λ n. record {
+      entries = n.entries.items;
+      processed = n.processed;
+      recent = n.recent.items;
+      capacity = n.capacity;
+      depth = n.depth;
+    } };
 
-    ghost invariant = { λ n. IsHeld (record { entries = n.entries.items; processed = n.processed; recent = n.recent.items; capacity = n.capacity; depth = n.depth }) (vec_capacity n.recent) };
+    ghost invariant = { λ n. IsHeld (record {
+      entries = n.entries.items;
+      processed = n.processed;
+      recent = n.recent.items;
+      capacity = n.capacity;
+      depth = n.depth;
+    }) (vec_capacity n.recent) };
 }
 
 // Closes the entries that an event invalidates just below it, and counts them.
@@ -83,9 +98,20 @@ fn invalidate_all(entries: &mut Vec<Entry>, stamp: Stamp, tags: &TagSet) -> usiz
     invalidate(entries, stamp, tags)
 }
 
+// Whether stamps begin before they end.
+fn check_range(lo: Stamp, hi: Stamp) -> Result<(), EmptyRange>
+    ensures only_if { OnOk result (lo ≤ hi) }
+    ensures refused { OnErr result (hi < lo) }
+{
+    if hi < lo {
+        return Err(EmptyRange);
+    }
+    Ok(())
+}
+
 impl NodeCore {
-    /// An empty node for at most `capacity` entries, that keeps the tags of the last `recent` events. The room of these
-    /// tags is taken now, so that no event needs memory.
+    /// An empty node for at most `capacity` entries, that keeps the tags of the last `recent` events. The
+    /// room of these tags is taken now, so that no event needs memory.
     pub fn new(alloc: Global, capacity: usize, recent: usize) -> Result<NodeCore, AllocError>
         requires capacity { (1 ≤ capacity) × (capacity ≤ MAX_CAPACITY) }
         requires recent { (1 ≤ recent) × (recent ≤ MAX_RECENT) }
@@ -101,51 +127,82 @@ impl NodeCore {
         })
     }
 
-    // Looks an entry up and moves it to the front, and says whether there is one.
-    fn touch(&mut self, key: &Key, lo: Stamp, hi: Stamp) -> Result<bool, EmptyRange>
-        ensures in_order { OnOk result (lo ≤ hi) }
-        ensures empty { OnErr result (hi < lo) }
-        ensures err { OnErr result (self.new ≡ self.old) }
-        ensures after { OnOk result (self.new ≡ after_lookup self.old key.now lo hi) }
-        ensures answer { IfOk result (λ b. b ≡ is_some (found self.old key.now lo hi)) }
+    /// The stamp of the last event that was taken.
+    pub fn processed(&self) -> Stamp
+        ensures { result ≡ self.now.processed }
     {
-        if hi < lo {
-            return Err(EmptyRange);
-        }
+        self.processed
+    }
+
+    /// How many entries it holds.
+    pub fn len(&self) -> usize
+        ensures { result ≡ length self.now.entries }
+    {
+        self.entries.len()
+    }
+
+    /// Whether it holds no entry.
+    pub fn is_empty(&self) -> bool
+        ensures { IsTrue result ↔ (self.now.entries ≡ []) }
+    {
+        self.entries.is_empty()
+    }
+
+    /// Answers and refuses as [`NodeCore::lookup`] does, and changes nothing. It takes no memory.
+    pub fn find(&self, key: &Key, lo: Stamp, hi: Stamp) -> Result<Option<Hit<'_>>, EmptyRange>
+        ensures only_if { OnOk result (lo ≤ hi) }
+        ensures refused { OnErr result (hi < lo) }
+        ensures answer { IfOk result (λ r. option_map seen r ≡ answer self.now key.now lo hi) }
+    {
+        check_range(lo, hi)?;
+        let at = best_at(&self.entries, self.processed, key, lo, hi);
+        Ok(hit_at(&self.entries, self.processed, at))
+    }
+
+    // Looks an entry up and moves it to the front, and says where it then stands.
+    fn touch(&mut self, key: &Key, lo: Stamp, hi: Stamp) -> Result<Option<usize>, EmptyRange>
+        ensures only_if { OnOk result (lo ≤ hi) }
+        ensures refused { OnErr result (hi < lo) }
+        ensures unchanged { OnErr result (self.new ≡ self.old) }
+        ensures after { OnOk result (self.new ≡ after_lookup self.old key.now lo hi) }
+        ensures place { IfOk result (StandsAt (found self.old key.now lo hi) self.new.entries) }
+    {
+        check_range(lo, hi)?;
         match best_at(&self.entries, self.processed, key, lo, hi) {
-            None => Ok(false),
+            None => Ok(None),
             Some(at) => {
                 move_to_front(&mut self.entries, at);
-                Ok(true)
+                Ok(Some(0))
             }
         }
     }
 
-    /// Looks up the call of `key` at the stamps from `lo` to `hi`, both included. Of the entries of the key whose span
-    /// meets them it lends the one whose span ends latest, and of those the one that begins latest; that one becomes
-    /// the most recently used. None is a miss, which changes nothing. It takes no memory.
+    /// Looks up the call of `key` at the stamps from `lo` to `hi`, both included. Of the entries of the key
+    /// whose span meets them it lends the one whose span ends latest, and of those the one that begins
+    /// latest; that one becomes the most recently used. None is a miss, which changes nothing. It takes no
+    /// memory.
     pub fn lookup(&mut self, key: &Key, lo: Stamp, hi: Stamp) -> Result<Option<Hit<'_>>, EmptyRange>
-        ensures in_order { OnOk result (lo ≤ hi) }
-        ensures empty { OnErr result (hi < lo) }
+        ensures only_if { OnOk result (lo ≤ hi) }
+        ensures refused { OnErr result (hi < lo) }
         ensures answer { IfOk result (λ r. option_map seen r ≡ answer self.old key.now lo hi) }
         // after an Ok the node is that after the lookup, and after an Err as it was
         ensures* after { sem 𝓛 (Rests the_row self.entry (λ new. MatchResult result
             (λ _. new ≡ after_lookup self.old key.now lo hi)
             (λ _. new ≡ self.old))) }
     {
-        let is_hit = self.touch(key, lo, hi)?;
+        let at = self.touch(key, lo, hi)?;
         let processed = self.processed;
-        Ok(hit_at_front(&self.entries, processed, is_hit))
+        Ok(hit_at(&self.entries, processed, at))
     }
 
-    /// Takes the next event: closes, just below it, the still valid entries that were known below it and whose tags it
-    /// matches, and counts them. No entry moves. It takes no memory.
+    /// Takes the next event: closes, just below it, the still valid entries that were known below it and
+    /// whose tags it matches, and counts them. No entry moves. It takes no memory.
     pub fn event(&mut self, stamp: Stamp, tags: TagSet) -> Result<usize, OutOfOrder>
-        ensures next { IsOk result ↔ (stamp ≡ self.old.processed + 1) }
-        ensures out_of_order { IfErr result (λ e. e.processed ≡ self.old.processed) }
-        ensures err { OnErr result (self.new ≡ self.old) }
+        ensures only_if { IsOk result ↔ (stamp ≡ self.old.processed + 1) }
+        ensures refused { IfErr result (λ e. e.processed ≡ self.old.processed) }
+        ensures unchanged { OnErr result (self.new ≡ self.old) }
         ensures after { OnOk result (self.new ≡ after_event self.old stamp tags) }
-        ensures count { IfOk result (λ n. n ≡ closed_count self.old stamp tags) }
+        ensures answer { IfOk result (λ n. n ≡ closed_count self.old stamp tags) }
     {
         if stamp.number() != self.processed.number() + 1 {
             return Err(OutOfOrder {
@@ -158,16 +215,16 @@ impl NodeCore {
         Ok(count)
     }
 
-    /// Inserts an entry, after the replay of the events that came behind the last stamp on which it is known. It goes
-    /// to the front. A full node drops its last entry for it; an entry with the same key and first stamp is replaced
-    /// where it ends earlier, and else stays in its place. Only want of memory refuses,
-    /// where the list has to grow, and gives the entry back.
+    /// Inserts an entry, after the replay of the events that came after the last stamp on which it is
+    /// known. It goes to the front. A full node drops its last entry for it; an entry with the same key and
+    /// first stamp is replaced where it ends earlier, and else stays in its place. Only out of memory
+    /// refuses, never where the old entry stays, and gives the entry back.
     pub fn insert(&mut self, entry: Entry) -> Result<Inserted, AllocFailed<Entry>>
         ensures after { OnOk result (self.new ≡ after_insert self.old entry) }
-        ensures outcome { IfOk result (λ r. r ≡ outcome self.old entry) }
+        ensures answer { IfOk result (λ r. r ≡ outcome self.old entry) }
+        ensures refused { OnErr result (is_kept self.old entry ≡ false) }
+        ensures unchanged { OnErr result (self.new ≡ self.old) }
         ensures handed_back { IfErr result (λ e. e.value ≡ entry) }
-        ensures only_to_grow { OnErr result (Grows self.old entry) }
-        ensures err { OnErr result (self.new ≡ self.old) }
     {
         let reach = replay_for(&entry, self.processed, &self.recent);
         match place_of(&self.entries, &entry) {
@@ -189,5 +246,14 @@ impl NodeCore {
                 Ok(Inserted::Stored { reach, evicted })
             }
         }
+    }
+
+    /// Drops exactly the entries whose span ends at the horizon or before it, and counts them. The others
+    /// keep their order. It takes no memory.
+    pub fn sweep(&mut self, horizon: Stamp) -> usize
+        ensures after { self.new ≡ after_sweep self.old horizon }
+        ensures answer { result ≡ swept_count self.old horizon }
+    {
+        drop_ended(&mut self.entries, self.processed, horizon)
     }
 }

@@ -15,7 +15,7 @@ fn first_match(events: &[TagSet], tags: &TagSet) -> Option<usize>
     events.iter().position(|t| t.matches(tags))
 }
 
-// The reach after the events behind `known`, up to `processed`, of which the last ones are kept.
+// The reach after the events that came after `known`, up to `processed`, of which the last ones are kept.
 fn replay(reach: Reach, tags: &TagSet, processed: Stamp, recent: &[TagSet]) -> Reach
     ensures value { result ≡ reach_after_replay reach tags.now processed recent.now }
     ensures lo { result.lo ≡ reach.lo }

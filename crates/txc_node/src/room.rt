@@ -78,7 +78,8 @@ fn with_reach(e: Entry, reach: Reach) -> Entry
     }
 }
 
-/// A new entry, in its new reach, in front of all entries at other places, of which as many stay as there is room for.
+/// A new entry, in its new reach, in front of all entries at other places, of which as many stay as there
+/// is room for.
 pub(crate) fn put(
     entries: &mut Vec<Entry>,
     capacity: usize,
@@ -116,7 +117,6 @@ pub(crate) fn make_room(entries: &mut Vec<Entry>, capacity: usize) -> bool
     ensures len { vec_len entries.new ≡ vec_len entries.old }
     ensures room { result ≡ true → vec_len entries.old < capacity
         → vec_len entries.new < vec_capacity entries.new }
-    ensures no_room { result ≡ false → vec_len entries.old < capacity }
 {
     if entries.len() < capacity {
         entries.reserve(1).is_ok()

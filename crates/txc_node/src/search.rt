@@ -1,11 +1,12 @@
 //! Searches in the list of entries.
-ghost use Rattle.std.specs.Prelude.{◌≡◌, ◌+◌, ◌<◌, ◌&&◌, ◌==◌, length, Some, None, MatchOption, true, false};
-ghost use Rattle.std.specs.List.{find, position, HoldsAt};
+ghost use Rattle.std.specs.Prelude.{◌≡◌, ◌+◌, ◌<◌, ◌&&◌, ◌==◌, Option, length, IfSome};
+ghost use Rattle.std.specs.List.{find, position};
 ghost use Rattle.std.specs.Option.{option_map};
 ghost use Rattle.txc_tags.specs.Keys.{same_call};
 ghost use Rattle.txc_node.specs.Entries.{same_place, meets_range, outlasts, is_best};
-ghost use Rattle.txc_node.specs.Best.{BestSoFar};
-ghost use Rattle.txc_node.specs.Cache.{answer_of};
+ghost use Rattle.txc_node.specs.declared.entry.Entry.{Entry};
+ghost use Rattle.txc_node.specs.Best.{BestSoFar, StandsAt};
+ghost use Rattle.txc_node.specs.Cache.{shown_of};
 ghost use Rattle.txc_node.specs.Hit.{seen};
 
 use crate::entry::Entry;
@@ -72,10 +73,8 @@ pub(crate) fn best_at(
     lo: Stamp,
     hi: Stamp,
 ) -> Option<usize>
-    ensures { MatchOption result
-        (find (is_best processed key.now lo hi entries.now) entries.now ≡ None)
-        (λ i. (i < length entries.now) × HoldsAt (λ e.
-        find (is_best processed key.now lo hi entries.now) entries.now ≡ Some e) entries.now i) }
+    ensures { StandsAt (find (is_best processed key.now lo hi entries.now) entries.now)
+        entries.now result }
 {
     let mut best: Option<usize> = None;
     for i in 0..entries.len() {
@@ -98,17 +97,14 @@ fn place_at(entries: &[Entry], key: &Key, lo: Stamp) -> Option<usize>
     entries.iter().position(|e| stands_at(e, key, lo))
 }
 
-/// The hit of the first entry, or none.
-pub(crate) fn hit_at_front(entries: &[Entry], processed: Stamp, is_hit: bool) -> Option<Hit<'_>>
-    requires { is_hit ≡ true → 0 < length entries.now }
-    ensures none { is_hit ≡ false → result ≡ None }
-    ensures some { is_hit ≡ true
-        → HoldsAt (λ e. option_map seen result ≡ Some (answer_of processed e)) entries.now 0 }
+/// The hit of the entry at a place, or none.
+pub(crate) fn hit_at(entries: &[Entry], processed: Stamp, at: Option<usize>) -> Option<Hit<'_>>
+    requires { IfSome at (λ i. i < length entries.now) }
+    ensures { (o : Option Entry) → StandsAt o entries.now at
+        → option_map seen result ≡ option_map (shown_of processed) o }
 {
-    if !is_hit {
-        return None;
-    }
-    let e = &entries[0];
+    let at = at?;
+    let e = &entries[at];
     let _known = e.reach.known();
     let last = e.reach.end(processed) - 1;
     Some(Hit {

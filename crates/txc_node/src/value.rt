@@ -1,7 +1,9 @@
 //! The bytes of a cached result.
-ghost use Rattle.std.specs.Prelude.{◌≡◌, ◌≤◌, ◌↔◌, length, IsSome, IfSome, IfOk, vec_len};
+ghost use Rattle.std.specs.Prelude.{◌≡◌, ◌≤◌, ◌<◌, ◌↔◌, [], ◌∷◌, length, encode_utf8, IsSome, IfSome, IfOk, vec_len};
+ghost use Rattle.txc_node.specs.Texts.{digit_of};
 
 use std::alloc::{AllocError, Global};
+use std::fmt;
 use std::marker::Model;
 
 /// The most bytes of a value.
@@ -15,19 +17,20 @@ pub struct Value {
 
 impl Model for Value {
     ghost use Rattle.std.specs.Prelude.{List, ℕ, ◌≤◌, length};
+    ghost use Rattle.txc_node.specs.declared.value.TheConstants.{MAX_VALUE_LEN};
 
     ghost Value = { List ℕ };
 
     ghost view = { λ v. v.bytes.items };
 
-    ghost invariant = { λ v. length v.bytes.items ≤ 1024 };
+    ghost invariant = { λ v. length v.bytes.items ≤ MAX_VALUE_LEN };
 }
 
 impl Value {
-    /// The bytes as a value, or none where there are more than [`MAX_VALUE_LEN`].
+    /// The bytes as a value; None if there are more than [`MAX_VALUE_LEN`].
     pub fn new(bytes: Vec<u8>) -> Option<Value>
-        ensures fits { IsSome result ↔ (vec_len bytes ≤ MAX_VALUE_LEN) }
-        ensures bytes { IfSome result (λ v. v ≡ bytes.items) }
+        ensures only_if { IsSome result ↔ (vec_len bytes ≤ MAX_VALUE_LEN) }
+        ensures answer { IfSome result (λ v. v ≡ bytes.items) }
     {
         if bytes.len() > MAX_VALUE_LEN {
             return None;
@@ -37,7 +40,7 @@ impl Value {
 
     /// The bytes.
     pub fn bytes(&self) -> &[u8]
-        ensures value { result.now ≡ self.now }
+        ensures answer { result.now ≡ self.now }
         ensures bound { length self.now ≤ MAX_VALUE_LEN }
     {
         &self.bytes
@@ -58,5 +61,55 @@ impl Value {
         Ok(Value {
             bytes: Vec::from_slice(alloc, &self.bytes)?,
         })
+    }
+}
+
+// A hexadecimal digit.
+fn digit(n: u8) -> char
+    requires { n < 16 }
+    ensures value { result ≡ digit_of n }
+    ensures text { encode_utf8 result ≡ digit_of n ∷ [] }
+{
+    if n < 10 {
+        char::from(b'0' + n)
+    } else {
+        char::from(b'a' + (n - 10))
+    }
+}
+
+// The two hexadecimal digits of a byte.
+#[derive(Drop)]
+struct Digits(u8);
+
+impl fmt::Display for Digits {
+    ghost use Rattle.std.specs.Prelude.{Some};
+    ghost use Rattle.txc_node.specs.Texts.{digits_of};
+
+    ghost output = { λ d. Some (digits_of d.0) };
+
+    fn fmt<W: fmt::Write>(&self, f: &mut fmt::Formatter<W>) -> fmt::Result {
+        let high = digit(self.0 / 16);
+        let low = digit(self.0 % 16);
+        write!(f, "{high}{low}")
+    }
+}
+
+/// A dash for no bytes, or two hexadecimal digits for each.
+impl fmt::Display for Value {
+    ghost use Rattle.std.specs.Prelude.{Some};
+    ghost use Rattle.txc_node.specs.Texts.{hex_text};
+
+    ghost output = { λ v. Some (hex_text v) };
+
+    fn fmt<W: fmt::Write>(&self, f: &mut fmt::Formatter<W>) -> fmt::Result {
+        let bytes = self.bytes();
+        if bytes.is_empty() {
+            return write!(f, "-");
+        }
+        for byte in bytes {
+            let digits = Digits(*byte);
+            write!(f, "{digits}")?;
+        }
+        Ok(())
     }
 }

@@ -1,14 +1,16 @@
-ghost use Rattle.std.specs.Prelude.{◌≡◌, ◌+◌, ◌-◌, ◌<◌, ◌≤◌, Err, IfOk, OnOk, IsOk, IfSome, OnSome, IfNone};
-ghost use Rattle.txc_stamp.specs.Interval.{end_at, span_of, shown, closed_at, holds, meet_of};
-ghost use Rattle.txc_stamp.specs.declared.stamp.TheConstants.{LAST};
+ghost use Rattle.std.specs.Prelude.{◌≡◌, ◌+◌, ◌-◌, ◌<◌, ◌≤◌, ◌↔◌, IfOk, OnOk, IfErr, IsTrue};
+ghost use Rattle.txc_stamp.specs.Interval.{end_at, span_of, shown, closed_at, Holds, meet_of};
+ghost use Rattle.txc_stamp.specs.Refusals.{IsReachRefusal};
+ghost use Rattle.txc_stamp.specs.declared.stamp.TheConstants.{LAST_STAMP};
 
 use crate::error::StampError;
 use crate::span::Span;
 use crate::stamp::Stamp;
+use std::fmt;
 use std::marker::Model;
 
-/// Where a result is known to hold: at every stamp from `lo` to `known`. If it is *still* valid, no later event that was
-/// processed has changed it, and its span grows with what is processed.
+/// Where a result is known to hold: at every stamp from `lo` to `known`. If it is *still* valid, no later
+/// event that was processed has changed it, and its span grows with what is processed.
 #[derive(Clone, Copy, Debug, PartialEq, Eq)]
 pub struct Reach {
     lo: Stamp,
@@ -32,30 +34,23 @@ impl Model for Reach {
 impl Reach {
     /// From the stamp `lo` to the stamp `known`, given as numbers.
     pub fn new(lo: u32, known: u32, still: bool) -> Result<Reach, StampError>
-        ensures lo_too_large { LAST < lo → result ≡ Err (StampError.TooLarge lo) }
-        ensures known_too_large { lo ≤ LAST → LAST < known
-            → result ≡ Err (StampError.TooLarge known) }
-        ensures empty { lo ≤ LAST → known < lo → result ≡ Err StampError.Empty }
-        ensures success { lo ≤ known → known ≤ LAST → IsOk result }
-        ensures value { IfOk result (λ r. r ≡ record { lo = lo; known = known; still = still }) }
-        ensures ordered { OnOk result (lo ≤ known) }
-        ensures bound { OnOk result (known ≤ LAST) }
+        ensures answer { IfOk result (λ r. r ≡ record { lo = lo; known = known; still = still }) }
+        ensures only_if { OnOk result ((lo ≤ known) × (known ≤ LAST_STAMP)) }
+        ensures refused { IfErr result (IsReachRefusal lo known) }
     {
-        let lo = Stamp::new(lo)?;
-        let known = Stamp::new(known)?;
-        Reach::from_stamps(lo, known, still).ok_or(StampError::Empty)
+        Reach::from_stamps(Stamp::new(lo)?, Stamp::new(known)?, still)
     }
 
-    /// From `lo` to `known`; none where `known` lies below `lo`.
-    pub fn from_stamps(lo: Stamp, known: Stamp, still: bool) -> Option<Reach>
-        ensures value { IfSome result (λ r. r ≡ record { lo = lo; known = known; still = still }) }
-        ensures ordered { OnSome result (lo ≤ known) }
-        ensures none { IfNone result (known < lo) }
+    /// From `lo` to `known`.
+    pub fn from_stamps(lo: Stamp, known: Stamp, still: bool) -> Result<Reach, StampError>
+        ensures answer { IfOk result (λ r. r ≡ record { lo = lo; known = known; still = still }) }
+        ensures only_if { OnOk result (lo ≤ known) }
+        ensures refused { IfErr result (λ error. (error ≡ StampError.Empty) × (known < lo)) }
     {
         if known < lo {
-            return None;
+            return Err(StampError::Empty);
         }
-        Some(Reach { lo, known, still })
+        Ok(Reach { lo, known, still })
     }
 
     /// The first stamp at which the result is known to hold.
@@ -67,13 +62,13 @@ impl Reach {
 
     /// The last stamp at which the result is known to hold.
     pub fn known(self) -> Stamp
-        ensures value { result ≡ self.known }
+        ensures answer { result ≡ self.known }
         ensures ordered { self.lo ≤ self.known }
     {
         self.known
     }
 
-    /// Whether the result is still valid behind `known`, as far as events were processed.
+    /// Whether the result is still valid after `known`, as far as events were processed.
     pub fn is_still(self) -> bool
         ensures { result ≡ self.still }
     {
@@ -82,7 +77,7 @@ impl Reach {
 
     /// Whether the result is known to hold at the stamp.
     pub fn holds(self, stamp: Stamp) -> bool
-        ensures { result ≡ holds self stamp }
+        ensures { IsTrue result ↔ Holds self stamp }
     {
         stamp >= self.lo && stamp <= self.known
     }
@@ -93,7 +88,7 @@ impl Reach {
     {
         let lo = self.lo.max(other.lo);
         let known = self.known.min(other.known);
-        Reach::from_stamps(lo, known, self.still && other.still)
+        Reach::from_stamps(lo, known, self.still && other.still).ok()
     }
 
     /// The stamps at which the result holds once the events up to `processed` are processed.
@@ -108,8 +103,8 @@ impl Reach {
 
     /// The end of its span.
     pub fn end(self, processed: Stamp) -> u32
-        ensures value { result ≡ end_at processed self }
-        ensures bound { result ≤ LAST + 1 }
+        ensures answer { result ≡ end_at processed self }
+        ensures bound { result ≤ LAST_STAMP + 1 }
     {
         self.shown(processed).known.number() + 1
     }
@@ -130,7 +125,7 @@ impl Reach {
     /// The reach with another last stamp at which the result is known to hold.
     pub fn with_known(self, known: u32) -> Reach
         requires ordered { self.lo ≤ known }
-        requires bound { known ≤ LAST }
+        requires bound { known ≤ LAST_STAMP }
         ensures { result ≡ record self { known = known } }
     {
         Reach {
@@ -139,7 +134,7 @@ impl Reach {
         }
     }
 
-    /// The reach, no longer valid behind `known`.
+    /// The reach, no longer valid after `known`.
     pub fn closed(self) -> Reach
         ensures { result ≡ closed_at self.known self }
     {
@@ -149,19 +144,29 @@ impl Reach {
         }
     }
 
-    /// The reach up to `known`, and no longer valid behind it.
-    pub fn close(self, known: Stamp) -> Reach
-        requires { self.lo ≤ known }
-        ensures { result ≡ closed_at known self }
-    {
-        Reach { known, ..self }.closed()
-    }
-
     /// The reach up to the stamp before this one, from which on the result is no longer valid.
     pub fn close_before(self, stamp: Stamp) -> Reach
         requires { self.known < stamp }
         ensures { result ≡ closed_at (stamp - 1) self }
     {
         self.with_known(stamp.number() - 1).closed()
+    }
+}
+
+impl fmt::Display for Reach {
+    ghost use Rattle.std.specs.Prelude.{Some};
+    ghost use Rattle.txc_stamp.specs.Texts.{reach_text};
+
+    ghost output = { λ reach. Some (reach_text reach) };
+
+    /// `[0,3) still`, or `closed`.
+    fn fmt<W: fmt::Write>(&self, f: &mut fmt::Formatter<W>) -> fmt::Result {
+        let lo = self.lo();
+        let end = self.known().number() + 1;
+        if self.is_still() {
+            write!(f, "[{lo},{end}) still")
+        } else {
+            write!(f, "[{lo},{end}) closed")
+        }
     }
 }

@@ -1,8 +1,11 @@
-ghost use Rattle.std.specs.Prelude.{◌≡◌, ◌+◌, ◌<◌, ◌≤◌, Err, IfOk, OnOk, IsOk};
-ghost use Rattle.txc_stamp.specs.Interval.{is_between};
+ghost use Rattle.std.specs.Prelude.{◌≡◌, ◌+◌, ◌<◌, ◌≤◌, ◌↔◌, IfOk, OnOk, IfErr, IsTrue};
+ghost use Rattle.txc_stamp.specs.Interval.{IsWithin};
+ghost use Rattle.txc_stamp.specs.Refusals.{IsSpanRefusal};
+ghost use Rattle.txc_stamp.specs.declared.stamp.TheConstants.{LAST_STAMP};
 
 use crate::error::StampError;
-use crate::stamp::{LAST, Stamp};
+use crate::stamp::{LAST_STAMP, Stamp};
+use std::fmt;
 use std::marker::Model;
 
 /// The stamps from a first one up to, and without, an end. It holds at least one stamp.
@@ -13,14 +16,15 @@ pub struct Span {
 }
 
 impl Model for Span {
-    ghost use Rattle.std.specs.Prelude.{◌<◌, ◌≤◌};
+    ghost use Rattle.std.specs.Prelude.{◌+◌, ◌<◌, ◌≤◌};
     ghost use Rattle.txc_stamp.specs.Interval.{Bounds};
+    ghost use Rattle.txc_stamp.specs.declared.stamp.TheConstants.{LAST_STAMP};
 
     ghost Value = { Bounds };
 
     ghost view = { λ s. record { lo = s.lo; end = s.end } };
 
-    ghost invariant = { λ s. (s.lo < s.end) × (s.end ≤ 1048577) };
+    ghost invariant = { λ s. (s.lo < s.end) × (s.end ≤ LAST_STAMP + 1) };
 
     ghost inverse = { λ b. record { lo = b.lo; end = b.end } };
 }
@@ -28,17 +32,12 @@ impl Model for Span {
 impl Span {
     /// The stamps from `lo` to `end - 1`.
     pub fn new(lo: u32, end: u32) -> Result<Span, StampError>
-        ensures lo_too_large { LAST < lo → result ≡ Err (StampError.TooLarge lo) }
-        ensures end_too_large { lo ≤ LAST → LAST + 1 < end
-            → result ≡ Err (StampError.TooLarge end) }
-        ensures empty { lo ≤ LAST → end ≤ lo → result ≡ Err StampError.Empty }
-        ensures success { lo < end → end ≤ LAST + 1 → IsOk result }
-        ensures value { IfOk result (λ s. s ≡ record { lo = lo; end = end }) }
-        ensures ordered { OnOk result (lo < end) }
-        ensures bound { OnOk result (end ≤ LAST + 1) }
+        ensures answer { IfOk result (λ s. s ≡ record { lo = lo; end = end }) }
+        ensures only_if { OnOk result ((lo < end) × (end ≤ LAST_STAMP + 1)) }
+        ensures refused { IfErr result (IsSpanRefusal lo end) }
     {
         let lo = Stamp::new(lo)?;
-        if end > LAST + 1 {
+        if end > LAST_STAMP + 1 {
             return Err(StampError::TooLarge(end));
         }
         if end <= lo.number() {
@@ -49,7 +48,7 @@ impl Span {
 
     /// The first stamp.
     pub fn lo(self) -> Stamp
-        ensures value { result ≡ self.lo }
+        ensures answer { result ≡ self.lo }
         ensures below_end { self.lo < self.end }
     {
         self.lo
@@ -57,16 +56,29 @@ impl Span {
 
     /// The stamp after the last one, which may be one more than there are stamps.
     pub fn end(self) -> u32
-        ensures value { result ≡ self.end }
-        ensures bound { self.end ≤ LAST + 1 }
+        ensures answer { result ≡ self.end }
+        ensures bound { self.end ≤ LAST_STAMP + 1 }
     {
         self.end
     }
 
     /// Whether the stamp lies in it.
     pub fn contains(self, stamp: Stamp) -> bool
-        ensures { result ≡ is_between self.lo self.end stamp }
+        ensures { IsTrue result ↔ IsWithin self stamp }
     {
         stamp >= self.lo && stamp.number() < self.end
+    }
+}
+
+impl fmt::Display for Span {
+    ghost use Rattle.std.specs.Prelude.{Some};
+    ghost use Rattle.txc_stamp.specs.Texts.{span_text};
+
+    ghost output = { λ span. Some (span_text span) };
+
+    /// `[0,3)`.
+    fn fmt<W: fmt::Write>(&self, f: &mut fmt::Formatter<W>) -> fmt::Result {
+        let Span { lo, end } = *self;
+        write!(f, "[{lo},{end})")
     }
 }

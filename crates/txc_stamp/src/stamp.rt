@@ -1,25 +1,28 @@
-ghost use Rattle.std.specs.Prelude.{◌≡◌, ◌+◌, ◌<◌, ◌≤◌, Err, IfOk, OnOk, OnErr};
+ghost use Rattle.std.specs.Prelude.{◌≡◌, ◌≤◌, IfOk, OnOk, IfErr};
+ghost use Rattle.txc_stamp.specs.Refusals.{IsStampRefusal};
 
 use crate::error::StampError;
+use std::fmt;
 use std::marker::Model;
 
 /// The greatest stamp.
-pub const LAST: u32 = 1_048_576;
+pub const LAST_STAMP: u32 = 1_048_576;
 
 /// The state after that many events of the history; a contract sees the number.
-#[derive(Clone, Copy, Debug, PartialEq, Eq, PartialOrd, Ord)]
+#[derive(Clone, Copy, Debug, PartialEq, Eq, PartialOrd, Ord, Hash)]
 pub struct Stamp {
     pub(crate) number: u32,
 }
 
 impl Model for Stamp {
     ghost use Rattle.std.specs.Prelude.{ℕ, ◌≤◌};
+    ghost use Rattle.txc_stamp.specs.declared.stamp.TheConstants.{LAST_STAMP};
 
     ghost Value = { ℕ };
 
     ghost view = { λ s. s.number };
 
-    ghost invariant = { λ s. s.number ≤ 1048576 };
+    ghost invariant = { λ s. s.number ≤ LAST_STAMP };
 
     ghost inverse = { λ n. record { number = n } };
 }
@@ -30,22 +33,44 @@ impl Stamp {
 
     /// The state after `number` events.
     pub fn new(number: u32) -> Result<Stamp, StampError>
-        ensures value { IfOk result (λ s. s ≡ number) }
-        ensures bound { OnOk result (number ≤ LAST) }
-        ensures too_large { OnErr result (LAST < number) }
-        ensures named { OnErr result (result ≡ Err (StampError.TooLarge number)) }
+        ensures answer { IfOk result (λ s. s ≡ number) }
+        ensures only_if { OnOk result (number ≤ LAST_STAMP) }
+        ensures refused { IfErr result (IsStampRefusal number) }
     {
-        if number > LAST {
+        if number > LAST_STAMP {
             return Err(StampError::TooLarge(number));
         }
         Ok(Stamp { number })
     }
 
+    /// The state after so many events, for a caller who knows that there are so few.
+    pub fn after(events: usize) -> Stamp
+        requires { events ≤ LAST_STAMP }
+        ensures { result ≡ events }
+    {
+        Stamp {
+            number: events as u32,
+        }
+    }
+
     /// The number of events before it.
     pub fn number(self) -> u32
-        ensures value { result ≡ self }
-        ensures bound { self ≤ LAST }
+        ensures answer { result ≡ self }
+        ensures bound { self ≤ LAST_STAMP }
     {
         self.number
+    }
+}
+
+impl fmt::Display for Stamp {
+    ghost use Rattle.std.specs.Prelude.{Some};
+    ghost use Rattle.std.specs.Fmt.{decimal};
+
+    ghost output = { λ stamp. Some (decimal stamp) };
+
+    /// Its number.
+    fn fmt<W: fmt::Write>(&self, f: &mut fmt::Formatter<W>) -> fmt::Result {
+        let number = self.number();
+        write!(f, "{number}")
     }
 }

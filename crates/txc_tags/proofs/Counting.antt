@@ -4,8 +4,7 @@ use Rattle.std.proofs.lemmas.List.Sums.{sum_by-append, sum_by-cons}
 use Rattle.std.proofs.lemmas.Bool.Decides.{nat_tests}
 use borrow.Author.Tests.{eq-eqb}
 use Rattle.txc_tags.specs.declared.tag.Tag.{Tag}
-use Rattle.txc_tags.specs.declared.tag.Tag.TheVariants.{Wildcard}
-use Rattle.txc_tags.specs.Tags.{table_of, has_tag, tag_before, is_of, put_in, wildcarded}
+use Rattle.txc_tags.specs.Tags.{has_tag, tag_before, is_of, put_in, wildcarded, wildcard}
 use Rattle.txc_tags.proofs.Lists.{bool_cases, IsIn, count_no}
 use Rattle.txc_tags.proofs.Placing.{behind_it}
 
@@ -47,10 +46,10 @@ pub count_put : (f : Tag → Bool) (tag : Tag) (set : List Tag) → has_tag set 
 count_put f tag set absent =
     omega (arith, counted_round (λ x. tag_before x tag) (tag_before tag) f tag set, counted_apart (λ x. tag_before x tag) (tag_before tag) f f set (λ x k. one_side (tag_before x tag) (tag_before tag x) (f x) (behind_it tag set absent x k)))
 
-none_here : (table : ℕ) (x : Tag) → cond (nat_lt (table_of x) table && is_of table x) 1 0 + cond (nat_lt table (table_of x) && is_of table x) 1 0 ≡ cond false 1 0
+none_here : (table : ℕ) (x : Tag) → cond (nat_lt x.table table && is_of table x) 1 0 + cond (nat_lt table x.table && is_of table x) 1 0 ≡ cond false 1 0
 none_here table x = grind (arith, nat_tests)
 
-all_elsewhere : (table other : ℕ) (x : Tag) → (other == table) ≡ false → cond (nat_lt (table_of x) table && is_of other x) 1 0 + cond (nat_lt table (table_of x) && is_of other x) 1 0 ≡ cond (is_of other x) 1 0
+all_elsewhere : (table other : ℕ) (x : Tag) → (other == table) ≡ false → cond (nat_lt x.table table && is_of other x) 1 0 + cond (nat_lt table x.table && is_of other x) 1 0 ≡ cond (is_of other x) 1 0
 all_elsewhere table other x e = grind (arith, nat_tests)
 
 count_nothing : (xs : List Tag) → count_by (λ x. false) xs ≡ 0
@@ -61,10 +60,10 @@ count_nothing (x ∷ xs) = count_no (λ y. false) x xs refl ∙ count_nothing xs
 pub count_wild : (table : ℕ) (set : List Tag) → count_by (is_of table) (wildcarded table set) ≡ 1
 count_wild table set =
     let itself : ◌≡◌ {A = ℕ} (cond (table == table) 1 0) 1 = rw (eq-eqb table table refl) refl in
-    omega (arith, itself, count_nothing set, counted_round (λ x. nat_lt (table_of x) table) (λ x. nat_lt table (table_of x)) (is_of table) (Wildcard table) set, counted_apart (λ x. nat_lt (table_of x) table) (λ x. nat_lt table (table_of x)) (is_of table) (λ x. false) set (λ x k. none_here table x))
+    omega (arith, itself, count_nothing set, counted_round (λ x. nat_lt x.table table) (λ x. nat_lt table x.table) (is_of table) (wildcard table) set, counted_apart (λ x. nat_lt x.table table) (λ x. nat_lt table x.table) (is_of table) (λ x. false) set (λ x k. none_here table x))
 
 -- the other tables keep their tags
 pub count_wild_elsewhere : (table other : ℕ) (set : List Tag) → (other == table) ≡ false → count_by (is_of other) (wildcarded table set) ≡ count_by (is_of other) set
 count_wild_elsewhere table other set apart =
     let itself : ◌≡◌ {A = ℕ} (cond (table == other) 1 0) 0 = grind (arith, nat_tests) in
-    omega (arith, itself, counted_round (λ x. nat_lt (table_of x) table) (λ x. nat_lt table (table_of x)) (is_of other) (Wildcard table) set, counted_apart (λ x. nat_lt (table_of x) table) (λ x. nat_lt table (table_of x)) (is_of other) (is_of other) set (λ x k. all_elsewhere table other x apart))
+    omega (arith, itself, counted_round (λ x. nat_lt x.table table) (λ x. nat_lt table x.table) (is_of other) (wildcard table) set, counted_apart (λ x. nat_lt x.table table) (λ x. nat_lt table x.table) (is_of other) (is_of other) set (λ x k. all_elsewhere table other x apart))

@@ -5,7 +5,6 @@ pub mod Placing
 pub mod Counting
 pub mod Canonical
 pub mod Covering
-pub mod Commuting
 pub mod Calls
 pub mod TextDigits
 pub mod TextPrefixes
@@ -13,4 +12,6 @@ pub mod TextJoined
 pub mod TextTags
 pub mod TextKeys
 pub mod TextSets
-pub mod TextCanonical
+pub mod Sixteen
+pub mod Merging
+pub mod Offered

@@ -3,8 +3,9 @@ use Rattle.std.proofs.Common.{◌≡◌, inl, inr, ℕ, zero, suc, List, [], ◌
 use Rattle.std.specs.List.{list_all, insert}
 use Rattle.std.proofs.lemmas.Bool.Decides.{nat_tests}
 use Rattle.txc_tags.specs.declared.tag.Tag.{Tag}
-use Rattle.txc_tags.specs.declared.tag.Tag.TheVariants.{Id, Group, Wildcard}
-use Rattle.txc_tags.specs.Tags.{table_of, has_tag, tag_before, is_in_order, put_in, wildcarded}
+use Rattle.txc_tags.specs.declared.tag.Rows.{Rows}
+use Rattle.txc_tags.specs.declared.tag.Rows.TheVariants.{All, Id, Group}
+use Rattle.txc_tags.specs.Tags.{has_tag, tag_before, is_in_order, put_in, wildcarded, wildcard}
 use Rattle.txc_tags.proofs.Lists.{bool_cases, both_true, not_both, IsIn, all_at, filter_alike, count_yes, count_no}
 use Rattle.txc_tags.proofs.TagOrder.{before_trans, before_cases}
 use Rattle.txc_tags.proofs.TagSets.{in_has, before_not, in_order_filter}
@@ -72,15 +73,22 @@ inserted tag set n e absent h =
 
 -- ---- a wildcard, where the tags of its table are taken out
 
-below_alike : (table : ℕ) (x : Tag) → not (table_of x == table) && tag_before x (Wildcard table) ≡ nat_lt (table_of x) table
-below_alike table (Wildcard t) = grind (arith, nat_tests)
-below_alike table (Id t n) = grind (arith, nat_tests)
-below_alike table (Group t n) = grind (arith, nat_tests)
+-- of the tags of other tables, those before a wildcard are those of lower tables
+below_rows : (table other : ℕ) (rows : Rows) → not (other == table) && tag_before (record { table = other; rows = rows }) (wildcard table) ≡ nat_lt other table
+below_rows table other All = grind (arith, nat_tests)
+below_rows table other (Id n) = grind (arith, nat_tests)
+below_rows table other (Group n) = grind (arith, nat_tests)
 
-above_alike : (table : ℕ) (x : Tag) → not (table_of x == table) && not (tag_before x (Wildcard table)) ≡ nat_lt table (table_of x)
-above_alike table (Wildcard t) = grind (arith, nat_tests)
-above_alike table (Id t n) = grind (arith, nat_tests)
-above_alike table (Group t n) = grind (arith, nat_tests)
+below_alike : (table : ℕ) (x : Tag) → not (x.table == table) && tag_before x (wildcard table) ≡ nat_lt x.table table
+below_alike table x = below_rows table x.table x.rows
+
+above_rows : (table other : ℕ) (rows : Rows) → not (other == table) && not (tag_before (record { table = other; rows = rows }) (wildcard table)) ≡ nat_lt table other
+above_rows table other All = grind (arith, nat_tests)
+above_rows table other (Id n) = grind (arith, nat_tests)
+above_rows table other (Group n) = grind (arith, nat_tests)
+
+above_alike : (table : ℕ) (x : Tag) → not (x.table == table) && not (tag_before x (wildcard table)) ≡ nat_lt table x.table
+above_alike table x = above_rows table x.table x.rows
 
 filter_twice : (p q : Tag → Bool) (xs : List Tag) → filter q (filter p xs) ≡ filter (λ x. p x && q x) xs
 filter_twice p q [] = refl
@@ -89,10 +97,10 @@ filter_twice p q (x ∷ xs) = elim (bool_cases (p x)) [
   | inr e ↦ rw (e, filter_twice p q xs) refl
 ]
 
-pub wild_inserted : (table : ℕ) (set others : List Tag) (n : ℕ) → is_in_order set ≡ true → others ≡ filter (λ x. not (table_of x == table)) set → n ≡ count_by (λ x. tag_before x (Wildcard table)) others → insert others n (Wildcard table) ≡ wildcarded table set
+pub wild_inserted : (table : ℕ) (set others : List Tag) (n : ℕ) → is_in_order set ≡ true → others ≡ filter (λ x. not (x.table == table)) set → n ≡ count_by (λ x. tag_before x (wildcard table)) others → insert others n (wildcard table) ≡ wildcarded table set
 wild_inserted table set others n e is h =
-    let kept = filter (λ (x : Tag). not (table_of x == table)) set in
-    let cut = cut_at (Wildcard table) kept n (in_order_filter (λ x. not (table_of x == table)) set e) (h ∙ ap (count_by (λ x. tag_before x (Wildcard table))) is) in
-    let low = filter_twice (λ x. not (table_of x == table)) (λ x. tag_before x (Wildcard table)) set ∙ filter_alike (λ x. not (table_of x == table) && tag_before x (Wildcard table)) (λ x. nat_lt (table_of x) table) set (λ x k. below_alike table x) in
-    let high = filter_twice (λ x. not (table_of x == table)) (λ x. not (tag_before x (Wildcard table))) set ∙ filter_alike (λ x. not (table_of x == table) && not (tag_before x (Wildcard table))) (λ x. nat_lt table (table_of x)) set (λ x k. above_alike table x) in
+    let kept = filter (λ (x : Tag). not (x.table == table)) set in
+    let cut = cut_at (wildcard table) kept n (in_order_filter (λ x. not (x.table == table)) set e) (h ∙ ap (count_by (λ x. tag_before x (wildcard table))) is) in
+    let low = filter_twice (λ x. not (x.table == table)) (λ x. tag_before x (wildcard table)) set ∙ filter_alike (λ x. not (x.table == table) && tag_before x (wildcard table)) (λ x. nat_lt x.table table) set (λ x k. below_alike table x) in
+    let high = filter_twice (λ x. not (x.table == table)) (λ x. not (tag_before x (wildcard table))) set ∙ filter_alike (λ x. not (x.table == table) && not (tag_before x (wildcard table))) (λ x. nat_lt table x.table) set (λ x k. above_alike table x) in
     rw (is, cut.low ∙ low, cut.high ∙ high) refl

@@ -3,8 +3,7 @@ use Rattle.std.proofs.Common.{◌≡◌, ◌⊎◌, inl, inr, ℕ, List, [], ◌
 use Rattle.std.specs.List.{list_all}
 use Rattle.std.proofs.lemmas.Bool.Decides.{nat_tests}
 use Rattle.txc_tags.specs.declared.tag.Tag.{Tag}
-use Rattle.txc_tags.specs.declared.tag.Tag.TheVariants.{Wildcard}
-use Rattle.txc_tags.specs.Tags.{table_of, same_tag, has_tag, covers, tag_before, is_in_order, put_in, wildcarded}
+use Rattle.txc_tags.specs.Tags.{same_tag, has_tag, covers, tag_before, is_in_order, put_in, wildcarded, wildcard}
 use Rattle.txc_tags.proofs.Lists.{both_true, and_true, one_true, or_left, or_right, bool_cases, not_both, IsIn, in_left, in_right, in_either, any_there, any_found, all_at, all_from, in_filter, from_filter}
 use Rattle.txc_tags.proofs.TagOrder.{same_itself, same_is, before_trans, before_itself, before_cases}
 
@@ -16,22 +15,22 @@ has_in set tag e = let it = any_found (same_tag tag) set e in subst (λ (t : Tag
 pub in_has : (set : List Tag) (tag : Tag) → IsIn tag set → has_tag set tag ≡ true
 in_has set tag h = any_there (same_tag tag) tag set h (same_itself tag)
 
-pub cover_cases : (set : List Tag) (tag : Tag) → covers set tag ≡ true → IsIn tag set ⊎ IsIn (Wildcard (table_of tag)) set
-cover_cases set tag e = elim (one_true (has_tag set tag) (has_tag set (Wildcard (table_of tag))) e) [
+pub cover_cases : (set : List Tag) (tag : Tag) → covers set tag ≡ true → IsIn tag set ⊎ IsIn (wildcard tag.table) set
+cover_cases set tag e = elim (one_true (has_tag set tag) (has_tag set (wildcard tag.table)) e) [
   | inl here ↦ inl (has_in set tag here)
-  | inr wild ↦ inr (has_in set (Wildcard (table_of tag)) wild)
+  | inr wild ↦ inr (has_in set (wildcard tag.table) wild)
 ]
 
 pub covers_held : (set : List Tag) (tag : Tag) → IsIn tag set → covers set tag ≡ true
-covers_held set tag h = or_left (has_tag set tag) (has_tag set (Wildcard (table_of tag))) (in_has set tag h)
+covers_held set tag h = or_left (has_tag set tag) (has_tag set (wildcard tag.table)) (in_has set tag h)
 
-pub covers_by_wildcard : (set : List Tag) (tag : Tag) → IsIn (Wildcard (table_of tag)) set → covers set tag ≡ true
-covers_by_wildcard set tag h = or_right (has_tag set tag) (has_tag set (Wildcard (table_of tag))) (in_has set (Wildcard (table_of tag)) h)
+pub covers_by_wildcard : (set : List Tag) (tag : Tag) → IsIn (wildcard tag.table) set → covers set tag ≡ true
+covers_by_wildcard set tag h = or_right (has_tag set tag) (has_tag set (wildcard tag.table)) (in_has set (wildcard tag.table) h)
 
 pub not_held : {P : Type 0} (set : List Tag) (tag : Tag) → covers set tag ≡ false → IsIn tag set → P
 not_held set tag e h = not_both (covers set tag) (covers_held set tag h) e
 
-pub no_wildcard : {P : Type 0} (set : List Tag) (tag : Tag) → covers set tag ≡ false → IsIn (Wildcard (table_of tag)) set → P
+pub no_wildcard : {P : Type 0} (set : List Tag) (tag : Tag) → covers set tag ≡ false → IsIn (wildcard tag.table) set → P
 no_wildcard set tag e h = not_both (covers set tag) (covers_by_wildcard set tag h) e
 
 -- ---- a tag put in
@@ -74,24 +73,24 @@ less_apart a b e = grind (arith, nat_tests)
 more_apart : (a b : ℕ) → nat_lt b a ≡ true → (a == b) ≡ false
 more_apart a b e = grind (arith, nat_tests)
 
-pub wild_new : (table : ℕ) (set : List Tag) → IsIn (Wildcard table) (wildcarded table set)
-wild_new table set = in_right (Wildcard table) (filter (λ x. nat_lt (table_of x) table) set) (Wildcard table ∷ filter (λ x. nat_lt table (table_of x)) set) (inl refl)
+pub wild_new : (table : ℕ) (set : List Tag) → IsIn (wildcard table) (wildcarded table set)
+wild_new table set = in_right (wildcard table) (filter (λ x. nat_lt x.table table) set) (wildcard table ∷ filter (λ x. nat_lt table x.table) set) (inl refl)
 
-pub wild_keeps : (table : ℕ) (set : List Tag) (other : Tag) → (table_of other == table) ≡ false → IsIn other set → IsIn other (wildcarded table set)
+pub wild_keeps : (table : ℕ) (set : List Tag) (other : Tag) → (other.table == table) ≡ false → IsIn other set → IsIn other (wildcarded table set)
 wild_keeps table set other apart h =
-    let low = filter (λ x. nat_lt (table_of x) table) set in
-    let high = filter (λ x. nat_lt table (table_of x)) set in
-    elim (apart_cases (table_of other) table apart) [
-      | inl below ↦ in_left other low (Wildcard table ∷ high) (in_filter (λ (x : Tag). nat_lt (table_of x) table) other set h below)
-      | inr above ↦ in_right other low (Wildcard table ∷ high) (inr (in_filter (λ (x : Tag). nat_lt table (table_of x)) other set h above))
+    let low = filter (λ x. nat_lt x.table table) set in
+    let high = filter (λ x. nat_lt table x.table) set in
+    elim (apart_cases other.table table apart) [
+      | inl below ↦ in_left other low (wildcard table ∷ high) (in_filter (λ (x : Tag). nat_lt x.table table) other set h below)
+      | inr above ↦ in_right other low (wildcard table ∷ high) (inr (in_filter (λ (x : Tag). nat_lt table x.table) other set h above))
     ]
 
-pub wild_only : (table : ℕ) (set : List Tag) (other : Tag) → IsIn other (wildcarded table set) → (other ≡ Wildcard table) ⊎ (IsIn other set × ((table_of other == table) ≡ false))
-wild_only table set other h = elim (in_either other (filter (λ x. nat_lt (table_of x) table) set) (Wildcard table ∷ filter (λ x. nat_lt table (table_of x)) set) h) [
-  | inl low ↦ let it = from_filter (λ (x : Tag). nat_lt (table_of x) table) other set low in inr (it.0, less_apart (table_of other) table it.1)
+pub wild_only : (table : ℕ) (set : List Tag) (other : Tag) → IsIn other (wildcarded table set) → (other ≡ wildcard table) ⊎ (IsIn other set × ((other.table == table) ≡ false))
+wild_only table set other h = elim (in_either other (filter (λ x. nat_lt x.table table) set) (wildcard table ∷ filter (λ x. nat_lt table x.table) set) h) [
+  | inl low ↦ let it = from_filter (λ (x : Tag). nat_lt x.table table) other set low in inr (it.0, less_apart other.table table it.1)
   | inr rest ↦ elim rest [
     | inl same ↦ inl same
-    | inr high ↦ let it = from_filter (λ (x : Tag). nat_lt table (table_of x)) other set high in inr (it.0, more_apart (table_of other) table it.1)
+    | inr high ↦ let it = from_filter (λ (x : Tag). nat_lt table x.table) other set high in inr (it.0, more_apart other.table table it.1)
   ]
 ]
 
@@ -130,9 +129,9 @@ put_in_order tag set e = in_order_round (λ x. tag_before x tag) (tag_before tag
 
 pub wild_in_order : (table : ℕ) (set : List Tag) → is_in_order set ≡ true → is_in_order (wildcarded table set) ≡ true
 wild_in_order table set e =
-    in_order_round (λ x. nat_lt (table_of x) table) (λ x. nat_lt table (table_of x)) (Wildcard table) set e
-    (λ x k. or_left (nat_lt (table_of x) table) _ k)
-    (λ x k. or_left (nat_lt table (table_of x)) _ k)
+    in_order_round (λ x. nat_lt x.table table) (λ x. nat_lt table x.table) (wildcard table) set e
+    (λ x k. or_left (nat_lt x.table table) _ k)
+    (λ x k. or_left (nat_lt table x.table) _ k)
 
 -- ---- sets in order that hold the same are equal
 

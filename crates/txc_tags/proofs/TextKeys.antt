@@ -16,7 +16,7 @@ use Rattle.txc_tags.specs.TextKey.{key_text, IsKeyInRange}
 use Rattle.txc_tags.specs.TextKeyFront.{each_with_comma, front_text, finished_key, IsFrontInRange, EndsArgument}
 use Rattle.txc_tags.proofs.TextDigits.{split_digits, small_number}
 use Rattle.txc_tags.proofs.TextJoined.{All-back, one_left, join_push, join_others}
-use Rattle.txc_tags.proofs.TextPrefixes.{NoneGoesOn, none_goes_on, stopped, no_text, ended}
+use Rattle.txc_tags.proofs.TextPrefixes.{stopped_front, ended_front}
 
 -- numbers joined by commas
 abbrev args_text : List ℕ → List ℕ
@@ -130,7 +130,7 @@ open_stops function args byte h l stops other key rest behind k nb e =
         let w = stops y rest (behind_arg ys behind) small (no_digit_behind ys behind) (q ∙ args_parts y ys behind) in
         let z : ◌≡◌ {A = Option ℕ} None (Some y) = w.0 in absurd (cc)
 
-pub argument_stops : (function : ℕ) (args : List ℕ) (n byte : ℕ) → function ≤ 31 → All IsArg args → IsArg n → EndsBefore (λ n. n ≤ 4294967295) decimal (Some n) (digits_read (Some n)) byte → (byte ≡ 41 → ⊥) → (byte ≡ 44 → length args ≡ 3) → EndsBefore IsKeyInRange key_text None (front_text (InArguments function args (Some n))) byte
+pub argument_stops : (function : ℕ) (args : List ℕ) (n byte : ℕ) → function ≤ 31 → All IsArg args → IsArg n → EndsBefore (λ n. n ≤ 4294967295) decimal (Some n) (digits_read (Some n)) byte → (byte ≡ 41 → ⊥) → (byte ≡ 44 → length args + 1 ≡ 4) → EndsBefore IsKeyInRange key_text None (front_text (InArguments function args (Some n))) byte
 argument_stops function args n byte h l small stops paren comma key rest behind k nb e =
     let p = arguments_begin function args (Some n) byte key rest behind h l k e in
     let few : length (args ++ p.0) ≤ 4 = subst (λ (xs : List ℕ). length xs ≤ 4) p.1 k.few in
@@ -257,17 +257,10 @@ same_key_text a b h k e =
 -- ---- what `Key::read` answers where it refuses
 
 pub stopped_key : (front : KeyFront) (text : List ℕ) (i byte : ℕ) → IsFrontInRange front → take i text ≡ front_text front → i < length text → byte ≡ get_or text i 0 → EndsBefore IsKeyInRange key_text (finished_key front) (front_text front) byte → IsLongestPrefix IsKeyInRange key_text text i × (IsText IsKeyInRange key_text text → ⊥)
-stopped_key front text i byte h read l b stops =
-    let none : NoneGoesOn IsKeyInRange key_text (take i text) byte = rw read (none_goes_on IsKeyInRange key_text (finished_key front) (front_text front) byte stops) in
-    (stopped IsKeyInRange key_text text i byte l b none (rw read (front_is_prefix front h)), no_text IsKeyInRange key_text text i byte l b none)
+stopped_key front text i byte h read l b stops = stopped_front IsKeyInRange key_text (finished_key front) (front_text front) text i byte (front_is_prefix front h) read l b stops
 
 pub ended_key : (front : KeyFront) (text : List ℕ) → IsFrontInRange front → text ≡ front_text front → finished_key front ≡ None → IsLongestPrefix IsKeyInRange key_text text (length text) × (IsText IsKeyInRange key_text text → ⊥)
-ended_key front text h read open_end = (ended IsKeyInRange key_text text (rw read (front_is_prefix front h)), none)
-  where
-    none : IsText IsKeyInRange key_text text → ⊥
-    none (key, (k, e)) =
-        let q : ◌≡◌ {A = Option Call} None (Some key) = sym open_end ∙ finished_by front key h k (sym read ∙ e) in
-        absurd (cc)
+ended_key front text h read open_end = ended_front IsKeyInRange key_text (finished_key front) (front_text front) text (front_is_prefix front h) (λ key k e. finished_by front key h k e) read open_end
 
 -- ---- the text of a key, as it is written
 

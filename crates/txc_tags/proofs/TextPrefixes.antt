@@ -1,5 +1,5 @@
 -- Where a reader stops: from one byte that no text goes on with, to the longest prefix.
-use Rattle.std.proofs.Common.{◌≡◌, ℕ, ◌+◌, ◌<◌, ◌≤◌, Option, List, [], ◌∷◌, ◌++◌, length, take, drop, get_or, sym, ap, subst, ◌∙◌, arith, append_assoc, append-nil}
+use Rattle.std.proofs.Common.{◌≡◌, ℕ, ◌+◌, ◌<◌, ◌≤◌, Option, None, Some, List, [], ◌∷◌, ◌++◌, length, take, drop, get_or, sym, ap, subst, ◌∙◌, arith, append_assoc, append-nil}
 use Rattle.std.proofs.lemmas.List.{take-append-drop, take-take, drop_more, get_or-take, take_all, length-take-le}
 use Rattle.txc_tags.specs.TextGrammar.{IsText, IsPrefix, IsLongestPrefix}
 use Rattle.txc_tags.specs.TextNumber.{EndsBefore}
@@ -46,3 +46,18 @@ ended Allowed write text front = record {
   is_prefix = subst (IsPrefix Allowed write) (sym (take_all (length text) text (omega arith))) front;
   no_longer = λ k l h _. absurd (omega arith);
 }
+
+-- a reader that stops at a byte: its front begins a text, and none goes on with that byte
+pub stopped_front : {V : Type 0} (Allowed : V → Type 0) (write : V → List ℕ) (finished : Option V) (front text : List ℕ) (i byte : ℕ) → IsPrefix Allowed write front → take i text ≡ front → i < length text → byte ≡ get_or text i 0 → EndsBefore Allowed write finished front byte → IsLongestPrefix Allowed write text i × (IsText Allowed write text → ⊥)
+stopped_front Allowed write finished front text i byte begins read l b stops =
+    let none : NoneGoesOn Allowed write (take i text) byte = rw read (none_goes_on Allowed write finished front byte stops) in
+    (stopped Allowed write text i byte l b none (rw read begins), no_text Allowed write text i byte l b none)
+
+-- a reader that comes to the end with nothing finished
+pub ended_front : {V : Type 0} (Allowed : V → Type 0) (write : V → List ℕ) (finished : Option V) (front text : List ℕ) → IsPrefix Allowed write front → ((v : V) → Allowed v → front ≡ write v → finished ≡ Some v) → text ≡ front → finished ≡ None → IsLongestPrefix Allowed write text (length text) × (IsText Allowed write text → ⊥)
+ended_front {V} Allowed write finished front text begins known read open_end = (ended Allowed write text (rw read begins), none)
+  where
+    none : IsText Allowed write text → ⊥
+    none (v, (k, e)) =
+        let q : ◌≡◌ {A = Option V} None (Some v) = sym open_end ∙ known v k (sym read ∙ e) in
+        absurd (cc)

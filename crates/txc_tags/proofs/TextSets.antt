@@ -1,20 +1,20 @@
 -- Tags joined by commas: where their text stops, what it finishes, how it goes on.
-use Rattle.std.proofs.Common.{◌≡◌, ℕ, ◌+◌, ◌<◌, Option, None, Some, IsSome, List, [], ◌∷◌, ◌++◌, map, length, take, get_or, refl, sym, ap, subst, ◌∙◌, arith, suc, zero, append_assoc, append-nil, length-append, ◌⊎◌, inl, inr}
+use Rattle.std.proofs.Common.{Result, Ok, Err, IfOk, ◌≡◌, ℕ, ◌+◌, ◌<◌, Option, None, Some, IsSome, List, [], ◌∷◌, ◌++◌, map, length, take, get_or, refl, sym, ap, subst, ◌∙◌, arith, suc, zero, append_assoc, append-nil, length-append, ◌⊎◌, inl, inr}
+use Rattle.std.specs.Result.{IsOkAnd}
 use Rattle.std.specs.List.{flat_map, join_with_byte}
 use Rattle.std.proofs.lemmas.List.{flat_map_more}
 use Rattle.std.proofs.lemmas.List.Elements.{All-head, All-tail, All-nil, All-push}
 use Rattle.txc_tags.specs.declared.tag.Tag.{Tag}
-use Rattle.txc_tags.specs.declared.tag.Tag.TheVariants.{Wildcard, Id, Group}
 use Rattle.txc_tags.specs.declared.text.tag.TagFront.{TagFront}
 use Rattle.txc_tags.specs.declared.text.tag.TagFront.TheVariants.{Nothing}
-use Rattle.txc_tags.specs.Tags.{with_tag, with_tags, set_of, IsCanonical}
-use Rattle.txc_tags.specs.TextGrammar.{IsText, IsPrefix, IsLongestPrefix}
+use Rattle.txc_tags.specs.Tags.{with_tag, set_of, IsCanonical}
+use Rattle.txc_tags.specs.TextGrammar.{IsText, IsTextOf, IsPrefix, IsLongestPrefix}
 use Rattle.txc_tags.specs.TextNumber.{BeginsWithNoDigit, EndsBefore}
 use Rattle.txc_tags.specs.TextTag.{tag_text, IsTagInRange}
 use Rattle.txc_tags.specs.TextTagFront.{front_text, finished_tag, IsFrontInRange}
 use Rattle.txc_tags.specs.TextSet.{tags_text, AreTagsInRange, IsSetOfText}
 use Rattle.txc_tags.specs.TextSetFront.{PushesByte, with_ended}
-use Rattle.txc_tags.proofs.TextCanonical.{set_of_set}
+use Rattle.txc_tags.proofs.Sixteen.{set_of_set, with_tags_push}
 use Rattle.txc_tags.proofs.TextJoined.{All-back, one_left, join_push}
 use Rattle.txc_tags.proofs.TextPrefixes.{NoneGoesOn, stopped, no_text, ended}
 use Rattle.txc_tags.proofs.TextTags.{tag_text_known, finished_by, finished_text, front_is_prefix}
@@ -41,9 +41,7 @@ no_digit_behind [] = tt
 no_digit_behind (tag ∷ more) = λ d. omega (arith, d.0)
 
 first_letter : (tag : Tag) (r : List ℕ) → (more : List ℕ) × (tag_text tag ++ r ≡ 116 ∷ more)
-first_letter (Wildcard t) r = (_, refl)
-first_letter (Id t n) r = (_, refl)
-first_letter (Group t n) r = (_, refl)
+first_letter tag r = (_, refl)
 
 not_nothing : (tag : Tag) (r : List ℕ) → tag_text tag ++ r ≡ [] → ⊥
 not_nothing tag r e = let p = first_letter tag r in let q : 116 ∷ p.0 ≡ [] = sym p.1 ∙ e in cc
@@ -85,9 +83,11 @@ pub record HasRead (read : List ℕ) (front : TagFront) (set : List Tag) : Type 
   pub text : read ≡ each_with_comma tags ++ front_text front
   pub set_is : set ≡ set_of tags
 
-with_tags_push : (tags set : List Tag) (tag : Tag) → with_tags (tags ++ tag ∷ []) set ≡ with_tag tag (with_tags tags set)
-with_tags_push [] set tag = refl
-with_tags_push (a ∷ tags) set tag = with_tags_push tags (with_tag a set) tag
+-- what a step makes of a set that is there, it makes of the set that is meant
+pub carried : {E : Type 0} (f : List Tag → List Tag) (meant : List Tag) (old new : Result (List Tag) E) → IfOk new (λ n. IsOkAnd old (λ o. n ≡ f o)) → IfOk old (λ o. o ≡ meant) → IfOk new (λ n. n ≡ f meant)
+carried f meant (Ok o) (Ok n) h k = h ∙ ap f k
+carried f meant (Err e) (Ok n) h k = absurd h
+carried f meant old (Err e) h k = tt
 
 pub nothing_read : HasRead [] Nothing []
 nothing_read = record { tags = []; in_range = All-nil IsTagInRange; text = refl; set_is = refl }
@@ -216,7 +216,11 @@ same_tags_text [] (y ∷ ys) h k e = absurd (dash_no_tag y ys e)
 same_tags_text (x ∷ xs) [] h k e = absurd (dash_no_tag x xs (sym e))
 same_tags_text (x ∷ xs) (y ∷ ys) h k e = joined_known (x ∷ xs) (y ∷ ys) h k e
 
+read_back : (text : List ℕ) (set tags : List Tag) → IsSetOfText text set → IsCanonical tags → IsTextOf AreTagsInRange tags_text text tags → set ≡ tags
+read_back text set tags (read, (in_range, e), made) c w =
+    made ∙ ap set_of (same_tags_text read tags in_range w.0 (sym e ∙ w.1)) ∙ set_of_set tags c
+
 -- a set is read back from its text
-pub read_back : (text : List ℕ) (set tags : List Tag) → IsSetOfText text set → IsCanonical tags → AreTagsInRange tags → text ≡ tags_text tags → set ≡ tags
-read_back text set tags (read, (in_range, e), made) c h w =
-    made ∙ ap set_of (same_tags_text read tags in_range h (sym e ∙ w)) ∙ set_of_set tags c
+pub known_set : {E : Type 0} (text : List ℕ) (tags : List Tag) (result : Result (List Tag) E) → IfOk result (IsSetOfText text) → IsCanonical tags → IsTextOf AreTagsInRange tags_text text tags → IfOk result (λ set. set ≡ tags)
+known_set text tags (Ok set) h c w = read_back text set tags h c w
+known_set text tags (Err e) h c w = tt

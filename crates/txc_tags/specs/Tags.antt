@@ -1,46 +1,53 @@
 -- Tags: what they match and cover, and the sets of them, each table's at most sixteen.
 use Rattle.std.specs.Prelude.{◌≡◌, ℕ, ◌≤◌, Bool, true, false, ◌&&◌, ◌||◌, ◌==◌, nat_le, nat_lt, List, [], ◌∷◌, ◌++◌, filter, count_by, if◌then◌else◌}
 use Rattle.std.specs.List.{list_any, list_all}
+use Rattle.txc_tags.specs.declared.tag.Rows.{Rows}
+use Rattle.txc_tags.specs.declared.tag.Rows.TheVariants.{All, Id, Group}
 use Rattle.txc_tags.specs.declared.tag.Tag.{Tag}
-use Rattle.txc_tags.specs.declared.tag.Tag.TheVariants.{Wildcard, Id, Group}
+use Rattle.txc_tags.specs.declared.adding.TheConstants.{MAX_TAGS}
 
--- the table of a tag
-abbrev pub table_of : Tag → ℕ
-table_of (Wildcard table) = table
-table_of (Id table id) = table
-table_of (Group table group) = table
+-- every row of the table
+abbrev pub wildcard : ℕ → Tag
+wildcard table = record { table = table; rows = All }
 
--- the tag of all rows of its table
+-- the row of the table with that id
+abbrev pub id_tag : ℕ → ℕ → Tag
+id_tag table id = record { table = table; rows = Id id }
+
+-- the rows of that group of the table
+abbrev pub group_tag : ℕ → ℕ → Tag
+group_tag table group = record { table = table; rows = Group group }
+
+-- every row
+abbrev pub are_all : Rows → Bool
+are_all All = true
+are_all (Id id) = false
+are_all (Group group) = false
+
+-- the tag names every row of its table
 abbrev pub is_wildcard : Tag → Bool
-is_wildcard (Wildcard table) = true
-is_wildcard (Id table id) = false
-is_wildcard (Group table group) = false
+is_wildcard tag = are_all tag.rows
 
--- the tags are equal but for the table
-abbrev pub equal_rows : Tag → Tag → Bool
-equal_rows (Wildcard t) (Wildcard u) = true
-equal_rows (Wildcard t) (Id u m) = false
-equal_rows (Wildcard t) (Group u m) = false
-equal_rows (Id t n) (Wildcard u) = false
-equal_rows (Id t n) (Id u m) = n == m
-equal_rows (Id t n) (Group u m) = false
-equal_rows (Group t n) (Wildcard u) = false
-equal_rows (Group t n) (Id u m) = false
-equal_rows (Group t n) (Group u m) = n == m
+-- the rows are named alike
+abbrev pub same_rows : Rows → Rows → Bool
+same_rows All All = true
+same_rows (Id n) (Id m) = n == m
+same_rows (Group n) (Group m) = n == m
+same_rows rows others = false
 
 -- the tags are equal
 abbrev pub same_tag : Tag → Tag → Bool
-same_tag a b = table_of a == table_of b && equal_rows a b
+same_tag a b = a.table == b.table && same_rows a.rows b.rows
 
 -- ---- matching
 
--- either is the wildcard, or they are equal but for the table
-abbrev pub rows_match : Tag → Tag → Bool
-rows_match a b = is_wildcard a || (is_wildcard b || equal_rows a b)
+-- either is every row, or they are named alike
+abbrev pub rows_match : Rows → Rows → Bool
+rows_match rows others = are_all rows || (are_all others || same_rows rows others)
 
 -- two tags match where the tables are equal and either is the wildcard or they are equal
 abbrev pub tags_match : Tag → Tag → Bool
-tags_match a b = table_of a == table_of b && rows_match a b
+tags_match a b = a.table == b.table && rows_match a.rows b.rows
 
 -- two sets match where a tag of one matches a tag of the other
 abbrev pub sets_match : List Tag → List Tag → Bool
@@ -54,44 +61,37 @@ has_tag set tag = list_any (same_tag tag) set
 
 -- the set holds the tag or the wildcard of its table
 abbrev pub covers : List Tag → Tag → Bool
-covers set tag = has_tag set tag || has_tag set (Wildcard (table_of tag))
+covers set tag = has_tag set tag || has_tag set (wildcard tag.table)
 
 -- ---- the order of a set
 
--- in one table: the wildcard, then the ids by number, then the groups by number
-abbrev pub rows_before : Tag → Tag → Bool
-rows_before (Wildcard t) (Wildcard u) = false
-rows_before (Wildcard t) (Id u m) = true
-rows_before (Wildcard t) (Group u m) = true
-rows_before (Id t n) (Wildcard u) = false
-rows_before (Id t n) (Id u m) = nat_lt n m
-rows_before (Id t n) (Group u m) = true
-rows_before (Group t n) (Wildcard u) = false
-rows_before (Group t n) (Id u m) = false
-rows_before (Group t n) (Group u m) = nat_lt n m
+-- every row, then the ids by number, then the groups by number
+abbrev pub rows_before : Rows → Rows → Bool
+rows_before rows All = false
+rows_before All others = true
+rows_before (Id n) (Id m) = nat_lt n m
+rows_before (Id n) (Group m) = true
+rows_before (Group n) (Id m) = false
+rows_before (Group n) (Group m) = nat_lt n m
 
 -- by table, and in a table by the rows
 abbrev pub tag_before : Tag → Tag → Bool
-tag_before a b = nat_lt (table_of a) (table_of b) || (table_of a == table_of b && rows_before a b)
+tag_before a b = nat_lt a.table b.table || (a.table == b.table && rows_before a.rows b.rows)
 
--- each tag stands before all those behind it, and so stands once
+-- each tag stands before all those after it, and so stands once
 abbrev pub is_in_order : List Tag → Bool
 is_in_order [] = true
 is_in_order (x ∷ xs) = list_all (tag_before x) xs && is_in_order xs
 
 -- the tag is of the table
 abbrev pub is_of : ℕ → Tag → Bool
-is_of table tag = table_of tag == table
-
--- the most tags of one table in a set
-abbrev pub most_tags : ℕ
-most_tags = 16
+is_of table tag = tag.table == table
 
 -- the one list of a set: in order, a wildcard alone in its table, and of each table at most sixteen tags
 pub record IsCanonical (set : List Tag) : Type 0 where
   pub in_order : is_in_order set ≡ true
-  pub alone : (tag : Tag) → has_tag set tag ≡ true → has_tag set (Wildcard (table_of tag)) ≡ true → is_wildcard tag ≡ true
-  pub few : (table : ℕ) → count_by (is_of table) set ≤ most_tags
+  pub alone : (tag : Tag) → has_tag set tag ≡ true → has_tag set (wildcard tag.table) ≡ true → is_wildcard tag ≡ true
+  pub few : (table : ℕ) → count_by (is_of table) set ≤ MAX_TAGS
 
 -- ---- adding
 
@@ -101,17 +101,17 @@ put_in tag set = filter (λ x. tag_before x tag) set ++ tag ∷ filter (tag_befo
 
 -- the wildcard in the place of its table's tags
 abbrev pub wildcarded : ℕ → List Tag → List Tag
-wildcarded table set = filter (λ x. nat_lt (table_of x) table) set ++ Wildcard table ∷ filter (λ x. nat_lt table (table_of x)) set
+wildcarded table set = filter (λ x. nat_lt x.table table) set ++ wildcard table ∷ filter (λ x. nat_lt table x.table) set
 
 -- the set holds as many tags of the table as it may
 abbrev pub is_full : ℕ → List Tag → Bool
-is_full table set = nat_le most_tags (count_by (is_of table) set)
+is_full table set = nat_le MAX_TAGS (count_by (is_of table) set)
 
--- the set with one tag more: a wildcard, and a seventeenth tag of its table, makes the table's wildcard of them
+-- the set with one more tag: a wildcard, and a seventeenth tag of its table, makes the table's wildcard of them
 abbrev pub with_tag : Tag → List Tag → List Tag
 with_tag tag set =
     if covers set tag then set
-    else (if is_wildcard tag || is_full (table_of tag) set then wildcarded (table_of tag) set
+    else (if is_wildcard tag || is_full tag.table set then wildcarded tag.table set
     else put_in tag set)
 
 -- the set with all of these, one after the other
@@ -122,3 +122,19 @@ with_tags (tag ∷ tags) set = with_tags tags (with_tag tag set)
 -- the set of these tags
 abbrev pub set_of : List Tag → List Tag
 set_of tags = with_tags tags []
+
+-- ---- what a set means
+
+-- each tag once: the last of those that are equal
+abbrev pub different : List Tag → List Tag
+different [] = []
+different (tag ∷ tags) = if has_tag tags tag then different tags else tag ∷ different tags
+
+-- the list has the wildcard of the table, or more than sixteen different tags of it
+abbrev pub overflows : ℕ → List Tag → Bool
+overflows table tags = has_tag tags (wildcard table) || nat_lt MAX_TAGS (count_by (is_of table) (different tags))
+
+-- of the table the set holds the wildcard alone where the list overflows, and else exactly the tags of the list
+pub record KeepsSixteen (table : ℕ) (tags set : List Tag) : Type 0 where
+  pub wild : overflows table tags ≡ true → filter (is_of table) set ≡ wildcard table ∷ []
+  pub kept : overflows table tags ≡ false → (tag : Tag) → is_of table tag ≡ true → has_tag set tag ≡ has_tag tags tag

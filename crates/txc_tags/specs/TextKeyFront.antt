@@ -5,6 +5,8 @@ use Rattle.std.specs.Fmt.{decimal}
 use Rattle.txc_tags.specs.declared.text.key.KeyFront.{KeyFront}
 use Rattle.txc_tags.specs.declared.text.key.KeyFront.TheVariants.{Nothing, InFunction, InArguments, Closed}
 use Rattle.txc_tags.specs.Keys.{Call}
+use Rattle.txc_tags.specs.declared.key.TheConstants.{LAST_FUNCTION, MAX_ARGS}
+use Rattle.txc_tags.specs.declared.text.number.TheConstants.{LAST_NUMBER}
 use Rattle.txc_tags.specs.TextNumber.{digits_read}
 use Rattle.txc_tags.specs.TextKey.{key_text, IsKeyInRange}
 
@@ -27,13 +29,13 @@ finished_key front = None
 -- its numbers are in range, and there are not too many
 abbrev pub IsFrontInRange : KeyFront → Type 0
 IsFrontInRange Nothing = ⊤
-IsFrontInRange (InFunction number) = IfSome number (λ n. n ≤ 31)
-IsFrontInRange (InArguments function args number) = (function ≤ 31) × (length args < 4) × All (λ arg. arg ≤ 4294967295) args × IfSome number (λ n. n ≤ 4294967295)
+IsFrontInRange (InFunction number) = IfSome number (λ n. n ≤ LAST_FUNCTION)
+IsFrontInRange (InArguments function args number) = (function ≤ LAST_FUNCTION) × (length args < MAX_ARGS) × All (λ arg. arg ≤ LAST_NUMBER) args × IfSome number (λ n. n ≤ LAST_NUMBER)
 IsFrontInRange (Closed function args) = IsKeyInRange (record { function = function; args = args })
 
 -- the front behind a whole argument: `)` closes the text, and a comma leaves room for one argument more
 abbrev pub EndsArgument : ℕ → List ℕ → ℕ → KeyFront → Type 0
 EndsArgument function args byte Nothing = ⊥
 EndsArgument function args byte (InFunction number) = ⊥
-EndsArgument function args byte (InArguments f xs number) = (byte ≡ 44) × (length args < 4) × (f ≡ function) × (xs ≡ args) × (number ≡ None)
+EndsArgument function args byte (InArguments f xs number) = (byte ≡ 44) × (length args < MAX_ARGS) × (f ≡ function) × (xs ≡ args) × (number ≡ None)
 EndsArgument function args byte (Closed f xs) = (byte ≡ 41) × (f ≡ function) × (xs ≡ args)

@@ -1,53 +1,64 @@
 //! Adding a tag to the list of a set.
-ghost use Rattle.std.specs.Prelude.{◌≡◌, ◌≤◌, true, false, ◌==◌, ◌||◌, not, IsOk, OnOk, OnErr, length, filter, count_by, vec_len, vec_capacity};
-ghost use Rattle.txc_tags.specs.Tags.{table_of, is_wildcard, has_tag, covers, is_of, is_full, tag_before, put_in, wildcarded, with_tag, IsCanonical};
+ghost use Rattle.std.specs.Prelude.{◌≡◌, ◌+◌, ◌≤◌, ◌<◌, ◌==◌, ◌||◌, not, true, false, IsOk, OnOk, OnErr, length, filter, count_by, vec_len, vec_capacity};
+ghost use Rattle.std.specs.List.{list_all};
+ghost use Rattle.txc_tags.specs.Tags.{wildcard, is_wildcard, has_tag, covers, is_of, is_full, tag_before, put_in, wildcarded, with_tag, with_tags, IsCanonical};
 
-use crate::tag::{Table, Tag};
+use crate::tag::{Rows, Table, Tag};
 use std::alloc::AllocError;
 
 /// The most tags of one table in a set.
-const MOST: usize = 16;
+pub const MAX_TAGS: usize = 16;
 
 /// Adds the tag to the tags of a set.
 pub fn add_tag(tags: &mut Vec<Tag>, tag: Tag) -> Result<(), AllocError>
     requires { IsCanonical tags.old.items }
-    ensures ok { OnOk result (tags.new.items ≡ with_tag tag tags.old.items) }
-    ensures err { OnErr result (tags.new.items ≡ tags.old.items) }
-    ensures covered { covers tags.old.items tag ≡ true → IsOk result }
+    ensures after { OnOk result (tags.new.items ≡ with_tag tag tags.old.items) }
+    ensures unchanged { OnErr result (tags.new.items ≡ tags.old.items) }
+    ensures no_memory { covers tags.old.items tag ≡ true → IsOk result }
+    ensures room { vec_len tags.old < vec_capacity tags.old → IsOk result }
+    ensures capacity { vec_capacity tags.old ≤ vec_capacity tags.new }
+    ensures grows { vec_len tags.new ≤ vec_len tags.old + 1 }
 {
-    if covers_tag(tags, tag) {
+    if covers_tag(tags, &tag) {
         return Ok(());
     }
-    if becomes_wildcard(tags, tag) {
-        return put_wildcard(tags, tag.table());
+    if becomes_wildcard(tags, &tag) {
+        return put_wildcard(tags, tag.table);
     }
     put_tag(tags, tag)
 }
 
-fn has(tags: &[Tag], tag: Tag) -> bool
-    ensures { result ≡ has_tag tags.now tag }
+fn has(tags: &[Tag], tag: &Tag) -> bool
+    ensures { result ≡ has_tag tags.now tag.now }
 {
-    tags.iter().any(|t| tag.is_same(t))
+    tags.iter().any(|t| tag == t)
 }
 
 /// Whether the tag or the wildcard of its table is there.
-pub fn covers_tag(tags: &[Tag], tag: Tag) -> bool
-    ensures { result ≡ covers tags.now tag }
+pub fn covers_tag(tags: &[Tag], tag: &Tag) -> bool
+    ensures { result ≡ covers tags.now tag.now }
 {
-    has(tags, tag) || has(tags, Tag::Wildcard(tag.table()))
+    has(tags, tag) || has(tags, &Tag::wildcard(tag.table))
+}
+
+/// Whether each of the other tags, or the wildcard of its table, is there.
+pub fn covers_all(tags: &[Tag], others: &[Tag]) -> bool
+    ensures { result ≡ list_all (covers tags.now) others.now }
+{
+    others.iter().all(|t| covers_tag(tags, t))
 }
 
 fn count_of(tags: &[Tag], table: Table) -> usize
     ensures { result ≡ count_by (is_of table) tags.now }
 {
-    tags.iter().filter(|t| t.table() == table).count()
+    tags.iter().filter(|t| t.table == table).count()
 }
 
 /// Whether adding the tag leaves its table's wildcard.
-fn becomes_wildcard(tags: &[Tag], tag: Tag) -> bool
-    ensures { result ≡ is_wildcard tag || is_full (table_of tag) tags.now }
+fn becomes_wildcard(tags: &[Tag], tag: &Tag) -> bool
+    ensures { result ≡ is_wildcard tag.now || is_full tag.now.table tags.now }
 {
-    tag.is_wildcard() || count_of(tags, tag.table()) >= MOST
+    tag.is_wildcard() || count_of(tags, tag.table) >= MAX_TAGS
 }
 
 /// How many of the tags stand before this one.
@@ -55,37 +66,63 @@ fn place_of(tags: &[Tag], tag: &Tag) -> usize
     ensures value { result ≡ count_by (λ x. tag_before x tag.now) tags.now }
     ensures bound { result ≤ length tags.now }
 {
-    tags.iter().filter(|t| t.comes_before(tag)).count()
+    tags.iter().filter(|t| *t < tag).count()
 }
 
+/// Puts the tag, which is not there, at its place.
 fn put_tag(tags: &mut Vec<Tag>, tag: Tag) -> Result<(), AllocError>
     requires canonical { IsCanonical tags.old.items }
     requires absent { has_tag tags.old.items tag ≡ false }
-    ensures ok { OnOk result (tags.new.items ≡ put_in tag tags.old.items) }
-    ensures err { OnErr result (tags.new.items ≡ tags.old.items) }
+    ensures after { OnOk result (tags.new.items ≡ put_in tag tags.old.items) }
+    ensures unchanged { OnErr result (tags.new.items ≡ tags.old.items) }
+    ensures room { vec_len tags.old < vec_capacity tags.old → IsOk result }
+    ensures capacity { vec_capacity tags.old ≤ vec_capacity tags.new }
+    ensures grows { vec_len tags.new ≤ vec_len tags.old + 1 }
 {
     let place = place_of(tags, &tag);
     tags.insert(place, tag)?;
     Ok(())
 }
 
+/// Takes the tags of the table out.
 fn take_out(tags: &mut Vec<Tag>, table: Table)
-    ensures others { tags.new.items ≡ filter (λ x. not (table_of x == table)) tags.old.items }
+    ensures others { tags.new.items ≡ filter (λ x. not (x.table == table)) tags.old.items }
     ensures bound { vec_len tags.new ≤ vec_len tags.old }
     ensures capacity { vec_capacity tags.new ≡ vec_capacity tags.old }
 {
-    tags.retain(|t| t.table() != table);
+    tags.retain(|t| t.table != table);
 }
 
+/// Puts the wildcard in the place of its table's tags.
 fn put_wildcard(tags: &mut Vec<Tag>, table: Table) -> Result<(), AllocError>
     requires canonical { IsCanonical tags.old.items }
-    ensures ok { OnOk result (tags.new.items ≡ wildcarded table tags.old.items) }
-    ensures err { OnErr result (tags.new.items ≡ tags.old.items) }
+    ensures after { OnOk result (tags.new.items ≡ wildcarded table tags.old.items) }
+    ensures unchanged { OnErr result (tags.new.items ≡ tags.old.items) }
+    ensures room { vec_len tags.old < vec_capacity tags.old → IsOk result }
+    ensures capacity { vec_capacity tags.old ≤ vec_capacity tags.new }
+    ensures grows { vec_len tags.new ≤ vec_len tags.old + 1 }
 {
     tags.reserve(1)?;
     take_out(tags, table);
-    let wildcard = Tag::Wildcard(table);
+    let wildcard = Tag {
+        table,
+        rows: Rows::All,
+    };
     let place = place_of(tags, &wildcard);
     tags.insert(place, wildcard)?;
     Ok(())
+}
+
+/// Adds the tags one after the other, where there is room for them.
+pub fn add_all(tags: &mut Vec<Tag>, more: &[Tag])
+    requires canonical { IsCanonical tags.old.items }
+    requires room { vec_len tags.old + length more.now ≤ vec_capacity tags.old }
+    ensures { tags.new.items ≡ with_tags more.now tags.old.items }
+{
+    for tag in more {
+        match add_tag(tags, *tag) {
+            Ok(()) => {}
+            Err(_) => unreachable!(),
+        }
+    }
 }

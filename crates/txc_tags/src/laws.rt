@@ -1,8 +1,10 @@
-//! What the definitions come to, each the contract of a function that does nothing.
-ghost use Rattle.std.specs.Prelude.{◌≡◌, ◌⊎◌, ◌↔◌, ◌<◌, ◌==◌, ◌||◌, ℕ, true, false, List, [], ◌∷◌, filter, count_by};
+//! What the definitions come to. Each is a lemma: it has no code.
+ghost use Rattle.std.specs.Prelude.{◌≡◌, ◌⊎◌, ◌↔◌, ◌++◌, ℕ, true, List};
 ghost use Rattle.txc_tags.specs.declared.tag.Tag.{Tag};
-ghost use Rattle.txc_tags.specs.Tags.{table_of, is_wildcard, same_tag, tags_match, sets_match, has_tag, covers, tag_before, is_of, most_tags, is_full, IsCanonical, with_tag, with_tags};
+ghost use Rattle.txc_tags.specs.Tags.{tags_match, sets_match, has_tag, covers, tag_before, IsCanonical, KeepsSixteen, with_tag, with_tags};
 ghost use Rattle.txc_tags.specs.Keys.{Call, same_call};
+ghost use Rattle.txc_tags.specs.TextGrammar.{IsTextOf};
+ghost use Rattle.txc_tags.specs.TextKey.{IsKeyInRange, key_text};
 
 /// Of two tags one stands before the other or they are equal.
 pub fn tags_stand_in_order()
@@ -26,6 +28,14 @@ pub fn adding_keeps_cover()
         → covers set other ≡ true → covers (with_tag tag set) other ≡ true }
 {}
 
+/// Joining loses no cover, of neither set.
+pub fn joining_keeps_cover()
+    ensures first { (tags set : List Tag) (other : Tag)
+        → covers set other ≡ true → covers (with_tags tags set) other ≡ true }
+    ensures second { (tags set : List Tag) (other : Tag)
+        → covers tags other ≡ true → covers (with_tags tags set) other ≡ true }
+{}
+
 /// Sets that cover tags which match, match.
 pub fn sets_match_where_covered_tags_do()
     ensures { (xs ys : List Tag) (a b : Tag)
@@ -33,10 +43,12 @@ pub fn sets_match_where_covered_tags_do()
         → sets_match xs ys ≡ true }
 {}
 
-/// The order in which two tags are added does not matter.
-pub fn adding_commutes()
-    ensures { (a b : Tag) (set : List Tag) → IsCanonical set
-        → with_tag a (with_tag b set) ≡ with_tag b (with_tag a set) }
+/// The rule of sixteen, where tags are added to a set: of each table the set then holds the wildcard alone
+/// where all the tags, the old ones too, have it or are more than sixteen different ones of the table, and
+/// else exactly these.
+pub fn sets_keep_the_rule_of_sixteen()
+    ensures { (set tags : List Tag) (table : ℕ) → IsCanonical set
+        → KeepsSixteen table (set ++ tags) (with_tags tags set) }
 {}
 
 /// A set is what was added to it: the same tags, in any order and any number of times, make the same set.
@@ -45,28 +57,15 @@ pub fn the_same_tags_make_the_same_set()
         → ((tag : Tag) → has_tag xs tag ≡ has_tag ys tag) → with_tags xs set ≡ with_tags ys set }
 {}
 
-/// A tag for which there is room is there beside all that was there before.
-pub fn up_to_sixteen_tags_stay()
-    ensures { (tag other : Tag) (set : List Tag) → is_wildcard tag ≡ false
-        → count_by (is_of (table_of tag)) set < most_tags → covers set tag ≡ false
-        → has_tag (with_tag tag set) other ≡ same_tag other tag || has_tag set other }
-{}
-
-/// A wildcard, and a seventeenth tag of a table, leaves the table's wildcard alone in it.
-pub fn a_seventeenth_tag_leaves_the_wildcard()
-    ensures { (tag : Tag) (set : List Tag) → IsCanonical set → covers set tag ≡ false
-        → is_wildcard tag || is_full (table_of tag) set ≡ true
-        → filter (is_of (table_of tag)) (with_tag tag set) ≡ Tag.Wildcard (table_of tag) ∷ [] }
-{}
-
-/// The tags of other tables stay as they are.
-pub fn other_tables_keep_their_tags()
-    ensures { (tag : Tag) (set : List Tag) (table : ℕ) → IsCanonical set
-        → (table == table_of tag) ≡ false
-        → filter (is_of table) (with_tag tag set) ≡ filter (is_of table) set }
-{}
-
 /// Two keys are the same exactly where they are equal.
 pub fn same_calls_are_equal()
     ensures { (a b : Call) → (same_call a b ≡ true) ↔ (a ≡ b) }
+{}
+
+/// A key's text is the only one of that key, and no other key has it.
+pub fn keys_have_one_text()
+    ensures only { (key : Call) (a b : List ℕ)
+        → IsTextOf IsKeyInRange key_text a key → IsTextOf IsKeyInRange key_text b key → a ≡ b }
+    ensures known { (text : List ℕ) (a b : Call)
+        → IsTextOf IsKeyInRange key_text text a → IsTextOf IsKeyInRange key_text text b → a ≡ b }
 {}

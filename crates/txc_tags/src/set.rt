@@ -1,16 +1,17 @@
-ghost use Rattle.std.specs.Prelude.{◌≡◌, true, [], ◌==◌, IsOk, IfOk, OnOk, OnErr, length};
-ghost use Rattle.std.specs.List.{list_any};
-ghost use Rattle.txc_tags.specs.Tags.{tags_match, sets_match, covers, with_tag, IsCanonical};
+ghost use Rattle.std.specs.Prelude.{◌≡◌, ◌≤◌, true, [], ◌==◌, IsOk, IfOk, OnOk, OnErr, length};
+ghost use Rattle.std.specs.List.{list_all};
+ghost use Rattle.txc_tags.specs.Tags.{sets_match, covers, with_tag, with_tags, is_in_order, IsCanonical};
 
-use crate::adding::{add_tag, covers_tag};
+use crate::adding::{add_all, add_tag, covers_all, covers_tag};
 use crate::tag::Tag;
 use std::alloc::{AllocError, Global};
 use std::marker::Model;
 
-/// The tags that a result depends on, or that an event changed: of each table at most sixteen, or its wildcard alone.
+/// The tags that a result depends on, or that an event changed: of each table at most sixteen, or its
+/// wildcard alone.
 ///
-/// A contract sees the list of its tags by table, in a table the wildcard alone, or the ids by number and then the
-/// groups by number. So sets of the same tags are equal, in whatever order the tags came.
+/// A contract sees the list of its tags by table, in a table the wildcard alone, or the ids by number and
+/// then the groups by number. So sets of the same tags are equal, in whatever order the tags came.
 #[derive(Debug, Drop)]
 pub struct TagSet {
     tags: Vec<Tag>,
@@ -40,7 +41,7 @@ impl TagSet {
 
     /// The tags in their order.
     pub fn tags(&self) -> &[Tag]
-        ensures value { result.now ≡ self.now }
+        ensures answer { result.now ≡ self.now }
         ensures canonical { IsCanonical self.now }
     {
         &self.tags
@@ -57,7 +58,7 @@ impl TagSet {
     pub fn covers(&self, tag: Tag) -> bool
         ensures { result ≡ covers self.now tag }
     {
-        covers_tag(&self.tags, tag)
+        covers_tag(&self.tags, &tag)
     }
 
     /// Whether a tag of one matches a tag of the other. It takes no memory.
@@ -67,17 +68,32 @@ impl TagSet {
         slices_match(&self.tags, &other.tags)
     }
 
-    /// Adds a tag. A tag that is covered changes nothing and takes no memory; a wildcard, and a seventeenth tag of a table,
-    /// takes the place of the table's tags. Only want of memory refuses, and leaves the set as it was.
+    /// Adds a tag. A tag that is covered changes nothing; a wildcard, and a seventeenth tag of a table,
+    /// takes the place of the table's tags. It is refused only where memory was.
     pub fn add(&mut self, tag: Tag) -> Result<(), AllocError>
-        ensures ok { OnOk result (self.new ≡ with_tag tag self.old) }
-        ensures err { OnErr result (self.new ≡ self.old) }
-        ensures covered { covers self.old tag ≡ true → IsOk result }
+        ensures after { OnOk result (self.new ≡ with_tag tag self.old) }
+        ensures unchanged { OnErr result (self.new ≡ self.old) }
+        ensures no_memory { covers self.old tag ≡ true → IsOk result }
     {
         add_tag(&mut self.tags, tag)
     }
 
-    /// An equal set. Only want of memory refuses.
+    /// Adds the other set's tags one after the other. It is refused only where memory was, and takes none
+    /// where each of them is covered.
+    pub fn join(&mut self, other: &TagSet) -> Result<(), AllocError>
+        ensures after { OnOk result (self.new ≡ with_tags other.now self.old) }
+        ensures unchanged { OnErr result (self.new ≡ self.old) }
+        ensures no_memory { list_all (covers self.old) other.now ≡ true → IsOk result }
+    {
+        if covers_all(&self.tags, &other.tags) {
+            return Ok(());
+        }
+        self.tags.reserve(other.tags.len())?;
+        add_all(&mut self.tags, &other.tags);
+        Ok(())
+    }
+
+    /// An equal set. It is refused only where memory was.
     pub fn copy(&self, alloc: Global) -> Result<TagSet, AllocError>
         ensures { IfOk result (λ set. set ≡ self.now) }
     {
@@ -86,14 +102,23 @@ impl TagSet {
     }
 }
 
-fn any_matches(tags: &[Tag], tag: Tag) -> bool
-    ensures { result ≡ list_any (tags_match tag) tags.now }
-{
-    tags.iter().any(|t| tag.matches(t))
-}
-
+/// Whether a tag of one matches a tag of the other, found in one pass over both.
 fn slices_match(a: &[Tag], b: &[Tag]) -> bool
+    requires first { is_in_order a.now ≡ true }
+    requires second { is_in_order b.now ≡ true }
     ensures { result ≡ sets_match a.now b.now }
 {
-    a.iter().any(|t| any_matches(b, *t))
+    let (mut i, mut j) = (0, 0);
+    while i < a.len() && j < b.len() {
+        let (x, y) = (a[i], b[j]);
+        if x.matches(&y) {
+            return true;
+        }
+        if x.comes_before(&y) {
+            i += 1;
+        } else {
+            j += 1;
+        }
+    }
+    false
 }

@@ -7,13 +7,14 @@
 //! | set of tags | `-` for the empty set, or tags joined by `,`, in any order and with repeats |
 //! | key | `f` F `(` ARGS `)`; F is 0 to 31; ARGS is nothing, or 1 to 4 numbers joined by `,` |
 //!
-//! Ids, groups and arguments are numbers up to 4294967295. No blanks stand anywhere. What `write` writes is one spelling: a
-//! set's tags by table, in a table the wildcard alone, or ids by number and then groups by number.
+//! Ids, groups and arguments are numbers up to 4294967295. No blanks stand anywhere. What `write` writes is
+//! one spelling: a set's tags by table, in a table the wildcard alone, or ids by number and then groups by
+//! number.
 //!
 //! Texts are read from bytes, since a script's line may be no UTF-8.
 
 pub mod key;
-pub mod laws;
 pub mod number;
+mod range;
 pub mod set;
 pub mod tag;

@@ -1,114 +1,56 @@
 //! Texts of keys: `f3(1,2)`.
-ghost use Rattle.std.specs.Prelude.{◌≡◌, ◌<◌, ◌≤◌, ◌↔◌, [], ◌∷◌, ◌++◌, IsOk, IfOk, IfErr, IsSome, IfSome, IfNone, length, string_bytes};
+ghost use Rattle.std.specs.Prelude.{◌≡◌, ◌+◌, ◌<◌, ◌≤◌, ◌↔◌, [], ◌∷◌, ◌++◌, IsOk, IfOk, IfErr, IsSome, IfSome, IfNone, length, string_bytes};
 ghost use Rattle.txc_tags.specs.Keys.{Call};
 ghost use Rattle.txc_tags.specs.TextGrammar.{IsText, IsTextOf, IsLongestPrefix};
 ghost use Rattle.txc_tags.specs.TextKey.{key_text, IsKeyInRange};
 ghost use Rattle.txc_tags.specs.TextKeyFront.{front_text, finished_key, IsFrontInRange, EndsArgument};
 ghost use Rattle.txc_tags.specs.TextNumber.{EndsBefore};
 
-use crate::key::Key;
-use crate::text::number::push_digit;
+use crate::key::{Arguments, Key, LAST_FUNCTION, MAX_ARGS};
+use crate::text::number::{LAST_NUMBER, push_digit};
+use crate::text::range::key_is_in_range;
 use std::alloc::{AllocError, Global};
 use std::fmt;
-use std::marker::Model;
 
-/// The greatest number of a function.
-const MOST_FUNCTION: u64 = 31;
-
-/// The greatest argument.
-const MOST_ARGUMENT: u64 = 4294967295;
-
-/// G2: the text is not that of a key.
+/// The text is not that of a key.
 #[derive(Debug, Clone, Copy, PartialEq, Eq, thiserror::Error)]
-#[error("no text of a key: it goes wrong behind {at} bytes")]
+#[error("no text of a key: it goes wrong after {at} bytes")]
 pub struct BadKey {
     /// The length in bytes of the longest prefix of the text that is also a prefix of some key's text.
     pub at: usize,
 }
 
-/// Up to four arguments.
-#[derive(Debug, Drop)]
-struct Arguments {
-    count: usize,
-    numbers: [u32; 4],
-}
-
-impl Model for Arguments {
-    ghost use Rattle.std.specs.Prelude.{◌≡◌, ◌≤◌, ℕ, List, length, take};
-
-    ghost Value = { List ℕ };
-
-    ghost view = { λ a. take a.count a.numbers };
-
-    ghost invariant = { λ a. (a.count ≤ 4) × (length a.numbers ≡ 4) };
-}
-
-impl Arguments {
-    fn new() -> Arguments
-        ensures { result ≡ [] }
-    {
-        Arguments {
-            count: 0,
-            numbers: [0; 4],
-        }
-    }
-
-    fn len(&self) -> usize
-        ensures count { result ≡ length self.now }
-        ensures few { length self.now ≤ 4 }
-    {
-        self.count
-    }
-
-    fn as_slice(&self) -> &[u32]
-        ensures value { result.now ≡ self.now }
-        ensures few { length self.now ≤ 4 }
-    {
-        &self.numbers[..self.count]
-    }
-
-    /// The arguments with one more behind them.
-    fn with(mut self, number: u32) -> Arguments
-        requires { length self < 4 }
-        ensures { result ≡ self ++ number ∷ [] }
-    {
-        self.numbers[self.count] = number;
-        self.count += 1;
-        self
-    }
-}
-
-/// The front of a key's text, by what stands in it.
+/// The beginning of a key's text, by what stands in it.
 #[derive(Debug, Drop)]
 enum KeyFront {
     /// No byte.
     Nothing,
     /// `f` and digits.
     InFunction(Option<u64>),
-    /// `f3(`, arguments with a comma behind each, and digits.
+    /// `f3(`, arguments with a comma after each, and digits.
     InArguments(u8, Arguments, Option<u64>),
     /// The whole text.
     Closed(u8, Arguments),
 }
 
-/// The front of a function's part with one byte more behind it.
+/// The beginning of a function's part with one byte more.
 fn push_to_function(number: Option<u64>, byte: u8) -> Option<KeyFront>
-    requires { IfSome number (λ n. n ≤ 31) }
+    requires { IfSome number (λ n. n ≤ LAST_FUNCTION) }
     ensures within { IfSome result IsFrontInRange }
     ensures more { IfSome result (λ more.
         front_text more ≡ front_text (KeyFront.InFunction number) ++ byte ∷ []) }
     ensures none { IfNone result (EndsBefore IsKeyInRange key_text None
         (front_text (KeyFront.InFunction number)) byte) }
 {
-    match push_digit(number, byte, MOST_FUNCTION) {
+    match push_digit(number, byte, LAST_FUNCTION as u64) {
         Some(more) => Some(KeyFront::InFunction(Some(more))),
         None => end_function(number, byte),
     }
 }
 
-/// The front behind a whole function's number, with one byte more.
+/// The beginning after a whole function's number, with one byte more.
 fn end_function(number: Option<u64>, byte: u8) -> Option<KeyFront>
-    requires { IfSome number (λ n. n ≤ 31) }
+    requires { IfSome number (λ n. n ≤ LAST_FUNCTION) }
     ensures some { IsSome result → IsSome number }
     ensures more { IfSome result (λ more. IfSome number (λ n.
         (byte ≡ 40) × (more ≡ KeyFront.InArguments n [] None))) }
@@ -125,7 +67,7 @@ fn end_function(number: Option<u64>, byte: u8) -> Option<KeyFront>
     }
 }
 
-/// The front of the arguments with one byte more behind it.
+/// The beginning of the arguments with one byte more.
 fn push_to_arguments(
     function: u8,
     arguments: Arguments,
@@ -139,7 +81,7 @@ fn push_to_arguments(
     ensures none { IfNone result (EndsBefore IsKeyInRange key_text None
         (front_text (KeyFront.InArguments function arguments number)) byte) }
 {
-    match push_digit(number, byte, MOST_ARGUMENT) {
+    match push_digit(number, byte, LAST_NUMBER) {
         Some(more) => Some(KeyFront::InArguments(function, arguments, Some(more))),
         None => match number {
             None => end_none(function, arguments, byte),
@@ -148,7 +90,7 @@ fn push_to_arguments(
     }
 }
 
-/// The front behind `(` or a comma, with one byte more that is no digit.
+/// The beginning after `(` or a comma, with one byte more that is no digit.
 fn end_none(function: u8, arguments: Arguments, byte: u8) -> Option<KeyFront>
     ensures some { IfSome result (λ more.
         (byte ≡ 41) × (arguments ≡ []) × (more ≡ KeyFront.Closed function [])) }
@@ -163,11 +105,11 @@ fn end_none(function: u8, arguments: Arguments, byte: u8) -> Option<KeyFront>
     Some(KeyFront::Closed(function, arguments))
 }
 
-/// The front behind a whole argument, with one byte more.
+/// The beginning after a whole argument, with one byte more.
 fn end_argument(function: u8, arguments: Arguments, number: u32, byte: u8) -> Option<KeyFront>
-    requires { length arguments < 4 }
+    requires { length arguments < MAX_ARGS }
     ensures some { IfSome result (EndsArgument function (arguments ++ number ∷ []) byte) }
-    ensures none { IfNone result ((byte ≡ 41 → ⊥) × (byte ≡ 44 → length arguments ≡ 3)) }
+    ensures none { IfNone result ((byte ≡ 41 → ⊥) × (byte ≡ 44 → length arguments + 1 ≡ MAX_ARGS)) }
 {
     if byte == b')' {
         return Some(KeyFront::Closed(function, arguments.with(number)));
@@ -175,14 +117,14 @@ fn end_argument(function: u8, arguments: Arguments, number: u32, byte: u8) -> Op
     if byte != b',' {
         return None;
     }
-    if arguments.len() == 3 {
+    if arguments.len() + 1 == MAX_ARGS {
         return None;
     }
     Some(KeyFront::InArguments(function, arguments.with(number), None))
 }
 
 impl KeyFront {
-    /// The front with one byte more behind it. `None` where no key's text begins so.
+    /// The beginning with one byte more. `None` where no key's text begins so.
     fn push(self, byte: u8) -> Option<KeyFront>
         requires { IsFrontInRange self }
         ensures within { IfSome result IsFrontInRange }
@@ -211,9 +153,7 @@ impl KeyFront {
         ensures { result ≡ finished_key self }
     {
         match self {
-            KeyFront::Closed(function, arguments) => {
-                Some(Key::new(function, arguments.as_slice()).unwrap())
-            }
+            KeyFront::Closed(function, arguments) => { Some(Key::from_parts(function, arguments)) }
             _ => None,
         }
     }
@@ -241,11 +181,10 @@ impl fmt::Display for Key {
 impl Key {
     /// The key that the whole text is: `f3(1,2)`. It takes no memory.
     pub fn read(text: &[u8]) -> Result<Key, BadKey>
-        ensures grammar { IsOk result ↔ IsText IsKeyInRange key_text text.now }
-        ensures key { IfOk result (IsTextOf IsKeyInRange key_text text.now) }
-        ensures at { IfErr result (λ bad. IsLongestPrefix IsKeyInRange key_text text.now bad.at) }
-        ensures written { (key : Call) → IsKeyInRange key
-            → text.now ≡ key_text key → result ≡ Ok key }
+        ensures answer { IfOk result (IsTextOf IsKeyInRange key_text text.now) }
+        ensures only_if { IsOk result ↔ IsText IsKeyInRange key_text text.now }
+        ensures refused { IfErr result (λ bad. IsLongestPrefix IsKeyInRange key_text text.now bad.at) }
+        ensures read_back { (key : Call) → IsTextOf IsKeyInRange key_text text.now key → result ≡ Ok key }
     {
         let mut front = KeyFront::Nothing;
         for (i, byte) in text.iter().enumerate() {
@@ -260,10 +199,12 @@ impl Key {
         }
     }
 
-    /// The key's text. [`Key::read`] gives the key back, and reads it from no other text. Only want of memory refuses.
+    /// The key's text. [`Key::read`] gives the key back, and reads it from no other text. It is refused
+    /// only where memory was.
     pub fn write(&self, alloc: Global) -> Result<String, AllocError>
-        ensures { IfOk result (λ text. string_bytes text ≡ key_text self.now) }
+        ensures { IfOk result (λ text. IsTextOf IsKeyInRange key_text (string_bytes text) self.now) }
     {
+        key_is_in_range(self);
         self.to_string(alloc)
     }
 }

@@ -4,6 +4,9 @@ ghost use Rattle.std.specs.Fmt.{decimal};
 ghost use Rattle.txc_tags.specs.TextGrammar.{IsTextOf, IsText};
 ghost use Rattle.txc_tags.specs.TextNumber.{digits_read, IsDigit, EndsBefore};
 
+/// The greatest id, group and argument.
+pub const LAST_NUMBER: u64 = 4_294_967_295;
+
 fn is_digit(byte: u8) -> bool
     ensures digit { result ≡ true → IsDigit byte }
     ensures other { result ≡ false → IsDigit byte → ⊥ }
@@ -11,7 +14,7 @@ fn is_digit(byte: u8) -> bool
     byte >= b'0' && byte <= b'9'
 }
 
-/// The number with one digit more behind it. `None` where no number of at most `most` goes on so.
+/// The number with one more digit. `None` where no number of at most `most` goes on so.
 pub(crate) fn push_digit(number: Option<u64>, byte: u8, most: u64) -> Option<u64>
     requires { IfSome number (λ n. n ≤ most) }
     ensures within { IfSome result (λ n. n ≤ most) }

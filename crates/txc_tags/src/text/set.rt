@@ -1,8 +1,8 @@
 //! Texts of sets of tags: `-`, `t1:id=7,t1:grp=2,t2:?`.
-ghost use Rattle.std.specs.Prelude.{◌≡◌, ◌≢◌, ◌↔◌, [], ◌∷◌, ◌++◌, List, codes, IsTrue, IsOk, IfOk, OnOk, OnErr, IfErr, IsSome, IfSome, IfNone, slice_index, string_bytes};
+ghost use Rattle.std.specs.Prelude.{◌≡◌, ◌≢◌, ◌↔◌, [], ◌∷◌, ◌++◌, List, codes, IsTrue, IsOk, IsOkAnd, IfOk, IfErr, IsSome, IfSome, IfNone, slice_index, string_bytes};
 ghost use Rattle.txc_tags.specs.declared.tag.Tag.{Tag};
-ghost use Rattle.txc_tags.specs.Tags.{IsCanonical};
-ghost use Rattle.txc_tags.specs.TextGrammar.{IsText, IsLongestPrefix};
+ghost use Rattle.txc_tags.specs.Tags.{with_tag, IsCanonical};
+ghost use Rattle.txc_tags.specs.TextGrammar.{IsText, IsTextOf, IsLongestPrefix};
 ghost use Rattle.txc_tags.specs.TextNumber.{EndsBefore};
 ghost use Rattle.txc_tags.specs.TextSet.{tags_text, AreTagsInRange, IsSetOfText, IsSetRefusal};
 ghost use Rattle.txc_tags.specs.TextSetFront.{PushesByte, with_ended};
@@ -11,6 +11,7 @@ ghost use Rattle.txc_tags.specs.TextTagFront.{front_text, finished_tag, IsFrontI
 
 use crate::set::TagSet;
 use crate::tag::Tag;
+use crate::text::range::set_is_in_range;
 use crate::text::tag::{BadTag, TagFront};
 use std::alloc::{AllocError, Global};
 use std::fmt;
@@ -18,7 +19,7 @@ use std::fmt;
 /// Why no set of tags was read.
 #[derive(Debug, Drop, thiserror::Error)]
 pub enum SetError {
-    /// G1: the text is not that of a set of tags.
+    /// The text is not that of a set of tags.
     #[error(transparent)]
     BadTag(BadTag),
     /// A growth was refused.
@@ -35,8 +36,8 @@ fn begins_with_dash(text: &[u8]) -> bool
     }
 }
 
-/// One byte more of tags joined by commas: the last tag's front behind it, and the tag that a comma ended. `None` where no
-/// tags go on so.
+/// One byte more of tags joined by commas: the beginning of the last tag after it, and the tag that a comma
+/// ended. `None` where no tags go on so.
 fn push_byte(front: TagFront, byte: u8) -> Option<(TagFront, Option<Tag>)>
     requires { IsFrontInRange front }
     ensures within { IfSome result (λ pushed. IsFrontInRange pushed.0) }
@@ -51,7 +52,7 @@ fn push_byte(front: TagFront, byte: u8) -> Option<(TagFront, Option<Tag>)>
     }
 }
 
-/// The front behind a whole tag, with one byte more.
+/// A whole tag, with one byte more.
 fn end_tag(front: &TagFront, byte: u8) -> Option<(TagFront, Option<Tag>)>
     requires { IsFrontInRange front.now }
     ensures within { IfSome result (λ pushed. IsFrontInRange pushed.0) }
@@ -69,58 +70,49 @@ fn end_tag(front: &TagFront, byte: u8) -> Option<(TagFront, Option<Tag>)>
     }
 }
 
-/// Whether the text, which does not begin with a dash, is that of tags. It takes no memory.
-fn check_tags(text: &[u8]) -> Result<(), BadTag>
-    requires { slice_index text.now 0 ≢ 45 }
-    ensures ok { OnOk result (IsText AreTagsInRange tags_text text.now) }
-    ensures none { OnErr result (IsText AreTagsInRange tags_text text.now → ⊥) }
-    ensures at { IfErr result (λ bad. IsLongestPrefix AreTagsInRange tags_text text.now bad.at) }
+/// The set with the tag, where memory was not refused before.
+fn with_one(set: Result<TagSet, AllocError>, tag: Tag) -> Result<TagSet, AllocError>
+    ensures { IfOk result (λ new. IsOkAnd set (λ old. new ≡ with_tag tag old)) }
 {
+    let mut set = set?;
+    set.add(tag)?;
+    Ok(set)
+}
+
+/// The set with the tag that a comma ended, if one did.
+fn with_ended(set: Result<TagSet, AllocError>, ended: Option<Tag>) -> Result<TagSet, AllocError>
+    ensures { IfOk result (λ new. IsOkAnd set (λ old. new ≡ with_ended ended old)) }
+{
+    match ended {
+        Some(tag) => with_one(set, tag),
+        None => set,
+    }
+}
+
+/// The set of the tags of a text that does not begin with a dash, made while the text is read. Where memory
+/// is refused the text is read to its end all the same, so that one outside the grammar is refused as such.
+fn read_tags(alloc: Global, text: &[u8]) -> Result<TagSet, SetError>
+    requires { slice_index text.now 0 ≢ 45 }
+    ensures answer { IfOk result (IsSetOfText text.now) }
+    ensures refused { IfErr result (IsSetRefusal text.now) }
+{
+    let mut set = Ok(TagSet::new(alloc));
     let mut front = TagFront::Nothing;
     for (i, byte) in text.iter().enumerate() {
         match push_byte(front, *byte) {
-            Some((more, _)) => front = more,
-            None => return Err(BadTag { at: i }),
-        }
-    }
-    match front.finished() {
-        Some(_) => Ok(()),
-        None => Err(BadTag { at: text.len() }),
-    }
-}
-
-fn add_ended(set: &mut TagSet, ended: Option<Tag>) -> Result<(), AllocError>
-    ensures { OnOk result (set.new ≡ with_ended ended set.old) }
-{
-    match ended {
-        Some(tag) => set.add(tag),
-        None => Ok(()),
-    }
-}
-
-/// The set of the tags of a text that `check_tags` found good.
-fn read_tags(alloc: Global, text: &[u8]) -> Result<TagSet, AllocError>
-    requires no_dash { slice_index text.now 0 ≢ 45 }
-    requires good { IsText AreTagsInRange tags_text text.now }
-    ensures { IfOk result (IsSetOfText text.now) }
-{
-    let mut set = TagSet::new(alloc);
-    let mut front = TagFront::Nothing;
-    for byte in text {
-        match push_byte(front, *byte) {
-            None => unreachable!(),
+            None => return Err(SetError::BadTag(BadTag { at: i })),
             Some((more, ended)) => {
-                add_ended(&mut set, ended)?;
+                set = with_ended(set, ended);
                 front = more;
             }
         }
     }
     match front.finished() {
-        None => unreachable!(),
-        Some(tag) => {
-            set.add(tag)?;
-            Ok(set)
-        }
+        None => Err(SetError::BadTag(BadTag { at: text.len() })),
+        Some(tag) => match with_one(set, tag) {
+            Ok(set) => Ok(set),
+            Err(error) => Err(SetError::Memory(error)),
+        },
     }
 }
 
@@ -143,35 +135,32 @@ impl fmt::Display for TagSet {
 }
 
 impl TagSet {
-    /// The set that the whole text is: `-` for the empty set, or what adding the text's tags one after the other gives. A
-    /// text that is none is refused as [`SetError::BadTag`], before memory is asked for; `-` takes none.
+    /// The set that the whole text is: `-` for the empty set, or what adding the text's tags one after the
+    /// other gives. A text that is none is refused as [`SetError::BadTag`], whatever memory is left; `-`
+    /// takes none.
     pub fn read(alloc: Global, text: &[u8]) -> Result<TagSet, SetError>
-        ensures set { IfOk result (IsSetOfText text.now) }
+        ensures answer { IfOk result (IsSetOfText text.now) }
         ensures refused { IfErr result (IsSetRefusal text.now) }
-        ensures written { (tags : List Tag) → IsCanonical tags → AreTagsInRange tags
-            → text.now ≡ tags_text tags → IfOk result (λ set. set ≡ tags) }
-        ensures dash { text.now ≡ codes "-" → IsOk result }
+        ensures read_back { (tags : List Tag) → IsCanonical tags
+            → IsTextOf AreTagsInRange tags_text text.now tags → IfOk result (λ set. set ≡ tags) }
+        ensures no_memory { text.now ≡ codes "-" → IsOk result }
     {
-        if begins_with_dash(text) {
-            if text.len() > 1 {
-                return Err(SetError::BadTag(BadTag { at: 1 }));
-            }
-            return Ok(TagSet::new(alloc));
+        if !begins_with_dash(text) {
+            return read_tags(alloc, text);
         }
-        match check_tags(text) {
-            Err(bad) => Err(SetError::BadTag(bad)),
-            Ok(()) => match read_tags(alloc, text) {
-                Ok(set) => Ok(set),
-                Err(error) => Err(SetError::Memory(error)),
-            },
+        if text.len() > 1 {
+            return Err(SetError::BadTag(BadTag { at: 1 }));
         }
+        Ok(TagSet::new(alloc))
     }
 
-    /// The set's one spelling: by table, in a table the wildcard alone, or ids by number and then groups by number.
-    /// [`TagSet::read`] gives the set back. Only want of memory refuses.
+    /// The set's one spelling: by table, in a table the wildcard alone, or ids by number and then groups by
+    /// number. [`TagSet::read`] gives the set back. It is refused only where memory was.
     pub fn write(&self, alloc: Global) -> Result<String, AllocError>
-        ensures { IfOk result (λ text. string_bytes text ≡ tags_text self.now) }
+        ensures { IfOk result
+            (λ text. IsTextOf AreTagsInRange tags_text (string_bytes text) self.now) }
     {
+        set_is_in_range(self);
         self.to_string(alloc)
     }
 }

@@ -1,5 +1,5 @@
-use Rattle.txc_tags.proofs.TextSets.{read_back}
+use Rattle.txc_tags.proofs.TextSets.{known_set}
 use Rattle.txc_tags.proofs.set.TagSet.read.Goals as goal
 
-pub returns-in-Ok-read_tags-clause-written : goal.returns-in-Ok-read_tags-clause-written
-returns-in-Ok-read_tags-clause-written c = λ tags canonical in_range written. read_back c.args.text.now c.in-Ok-read_tags.set tags c.in-Ok-read_tags.ensures canonical in_range written
+pub returns-then-not-begins_with_dash-clause-read_back : goal.returns-then-not-begins_with_dash-clause-read_back
+returns-then-not-begins_with_dash-clause-read_back c = λ tags canonical written. known_set c.args.text.now tags c.read_tags.result c.read_tags.ensures.answer canonical written

@@ -1,4 +1,4 @@
-use Rattle.std.proofs.Common.{◌≡◌, ◌∷◌, ◌++◌, [], Option, None, Some, IfSome, IfNone, length}
+use Rattle.std.proofs.Common.{◌≡◌, ◌+◌, ◌∷◌, ◌++◌, [], Option, None, Some, IfSome, IfNone, length}
 use Rattle.txc_tags.specs.declared.text.key.KeyFront.{KeyFront}
 use Rattle.txc_tags.specs.declared.text.key.KeyFront.TheVariants.{InArguments}
 use Rattle.txc_tags.specs.TextNumber.{EndsBefore}
@@ -24,7 +24,7 @@ returns-in-Some-number-clause-more c = by_end c.end_argument.result c.end_argume
 pub returns-in-Some-number-clause-none : goal.returns-in-Some-number-clause-none
 returns-in-Some-number-clause-none c = by_end c.end_argument.result c.end_argument.ensures.none
   where
-    by_end : (end : Option KeyFront) → IfNone end ((c.args.byte ≡ 41 → ⊥) × (c.args.byte ≡ 44 → length c.args.arguments ≡ 3)) → IfNone end (EndsBefore IsKeyInRange key_text None (front_text (InArguments c.args.function c.args.arguments c.args.number)) c.args.byte)
+    by_end : (end : Option KeyFront) → IfNone end ((c.args.byte ≡ 41 → ⊥) × (c.args.byte ≡ 44 → length c.args.arguments + 1 ≡ 4)) → IfNone end (EndsBefore IsKeyInRange key_text None (front_text (InArguments c.args.function c.args.arguments c.args.number)) c.args.byte)
     by_end None other =
         let small = rw c.in-Some-number.is at c.requires.3 in
         rw c.in-Some-number.is (argument_stops c.args.function c.args.arguments c.in-Some-number.n c.args.byte c.requires.0 c.requires.2 small (rw c.in-Some-number.is at c.in-None.ensures.none) other.0 other.1)

@@ -12,9 +12,9 @@ returns-clause-writes g c = λ plain ok.
     let others = c.loop-arg.invariant one.plain in
     let last = c.write-3.ensures.writes others.plain ok in
     let whole : take c.loop-arg.arg-index c.in-Some.others.now ≡ c.in-Some.others.now = take_all c.loop-arg.arg-index c.in-Some.others.now (omega arith) in
-    let parts : c.args.self.now.args ≡ c.in-Some.first.now ∷ c.in-Some.others.now = sym c.args-2.ensures.value ∙ c.in-Some.ensures.cases.0 in
+    let parts : c.args.self.now.args ≡ c.in-Some.first.now ∷ c.in-Some.others.now = sym c.args-2.ensures.answer ∙ c.in-Some.ensures.cases.0 in
     has_written_of_eq _ _ _ _ _
-    (ap (λ (n : ℕ). ((102 ∷ (decimal n ++ 40 ∷ decimal c.in-Some.first.now)) ++ flat_map (λ arg. 44 ∷ decimal arg) (take c.loop-arg.arg-index c.in-Some.others.now)) ++ 41 ∷ []) c.function-function.ensures.value
+    (ap (λ (n : ℕ). ((102 ∷ (decimal n ++ 40 ∷ decimal c.in-Some.first.now)) ++ flat_map (λ arg. 44 ∷ decimal arg) (take c.loop-arg.arg-index c.in-Some.others.now)) ++ 41 ∷ []) c.function-function.ensures.answer
     ∙ ap (λ xs. ((102 ∷ (decimal c.args.self.now.function ++ 40 ∷ decimal c.in-Some.first.now)) ++ flat_map (λ arg. 44 ∷ decimal arg) xs) ++ 41 ∷ []) whole
     ∙ written_key c.args.self.now c.in-Some.first.now c.in-Some.others.now parts)
     (has_written_append _ _ _ _ _ _ (has_written_append _ _ _ _ _ _ one others) last)

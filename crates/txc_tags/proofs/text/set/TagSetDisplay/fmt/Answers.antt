@@ -12,6 +12,6 @@ returns-clause-writes g c = λ plain ok.
     let one = c.in_ok-write.ensures.writes plain refl in
     let others = c.loop-tag.invariant one.plain in
     let whole : take c.loop-tag.tag-index c.in-Some.others.now ≡ c.in-Some.others.now = take_all c.loop-tag.tag-index c.in-Some.others.now (omega arith) in
-    let parts : c.args.self.now ≡ c.in-Some.first.now ∷ c.in-Some.others.now = sym c.tags.ensures.value ∙ c.in-Some.ensures.cases.0 in
+    let parts : c.args.self.now ≡ c.in-Some.first.now ∷ c.in-Some.others.now = sym c.tags.ensures.answer ∙ c.in-Some.ensures.cases.0 in
     has_written_of_eq _ _ _ _ _ (ap (λ xs. tag_text c.in-Some.first.now ++ flat_map (λ tag. 44 ∷ tag_text tag) xs) whole ∙ sym (join_others tag_text c.in-Some.first.now c.in-Some.others.now) ∙ ap tags_text (sym parts))
     (has_written_append _ _ _ _ _ _ one others)

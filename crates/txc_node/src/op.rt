@@ -1,0 +1,35 @@
+//! What a node is asked for.
+ghost use Rattle.std.specs.Prelude.{◌≡◌, ◌≤◌, IfSome};
+ghost use Rattle.txc_node.specs.Steps.{function_of};
+
+use crate::entry::Entry;
+use txc_stamp::Stamp;
+use txc_tags::{Key, LAST_FUNCTION, TagSet};
+
+/// A step of the cache.
+#[derive(Debug, Drop)]
+pub enum Op {
+    /// Inserts an entry, as it was handed in.
+    Insert(Entry),
+    /// Looks a call up at the stamps from `lo` to `hi`, both included.
+    Lookup { key: Key, lo: Stamp, hi: Stamp },
+    /// Takes the event of that stamp.
+    Event { stamp: Stamp, tags: TagSet },
+    /// Drops the entries whose span ends at the horizon or before it.
+    Sweep { horizon: Stamp },
+}
+
+impl Op {
+    /// The function whose call it looks up or inserts; none for an event and a sweep.
+    pub fn function(&self) -> Option<u8>
+        ensures answer { result ≡ function_of self.now }
+        ensures bound { IfSome result (λ f. f ≤ LAST_FUNCTION) }
+    {
+        match self {
+            Op::Insert(entry) => Some(entry.key.function()),
+            Op::Lookup { key, .. } => Some(key.function()),
+            Op::Event { .. } => None,
+            Op::Sweep { .. } => None,
+        }
+    }
+}

@@ -1,0 +1,121 @@
+//! What a node answers.
+ghost use Rattle.std.specs.Prelude.{◌≡◌, IfOk};
+ghost use Rattle.txc_node.specs.Steps.{is_refusal, seen_reply};
+
+use crate::entry::Entry;
+use crate::hit::{Hit, Shown};
+use crate::node::Inserted;
+use crate::refusal::Refusal;
+use std::alloc::{AllocError, Global};
+use std::fmt;
+
+/// What a step is answered. A node lends what a hit shows, so that it replies with a [`Hit`]; a record
+/// keeps a copy of it, a [`Shown`].
+#[derive(Debug, Drop)]
+pub enum Reply<H> {
+    /// What an insertion did.
+    Inserted(Inserted),
+    /// What a lookup found.
+    Hit(H),
+    /// A lookup found nothing.
+    Miss,
+    /// How many entries an event closed.
+    Closed(usize),
+    /// How many entries a sweep dropped.
+    Swept(usize),
+    /// Why the step was refused.
+    Refused(Refusal),
+}
+
+impl<H> Reply<H> {
+    /// Whether the step was refused.
+    pub fn is_refusal(&self) -> bool
+        ensures { result ≡ is_refusal self.now }
+    {
+        match self {
+            Reply::Refused(_) => true,
+            _ => false,
+        }
+    }
+}
+
+impl Reply<Hit<'_>> {
+    /// The reply with a copy of what its hit shows. Only a hit takes memory.
+    pub fn into_owned(self, alloc: Global) -> Result<Reply<Shown>, AllocError>
+        ensures { IfOk result (λ r. r ≡ seen_reply self.entry) }
+    {
+        match self {
+            Reply::Inserted(inserted) => Ok(Reply::Inserted(inserted)),
+            Reply::Hit(hit) => {
+                let shown = hit.copy(alloc)?;
+                Ok(Reply::Hit(shown))
+            }
+            Reply::Miss => Ok(Reply::Miss),
+            Reply::Closed(count) => Ok(Reply::Closed(count)),
+            Reply::Swept(count) => Ok(Reply::Swept(count)),
+            Reply::Refused(refusal) => Ok(Reply::Refused(refusal)),
+        }
+    }
+}
+
+// The entry that was dropped, if one was, after the reach of the one that was stored.
+#[derive(Drop)]
+struct Evicted<'a>(&'a Option<Entry>);
+
+impl fmt::Display for Evicted<'_> {
+    ghost use Rattle.std.specs.Prelude.{Some};
+    ghost use Rattle.txc_node.specs.Texts.{evicted_text};
+
+    ghost output = { λ e. Some (evicted_text e.0.now) };
+
+    fn fmt<W: fmt::Write>(&self, f: &mut fmt::Formatter<W>) -> fmt::Result {
+        match self.0 {
+            None => Ok(()),
+            Some(entry) => {
+                let key = &entry.key;
+                let lo = entry.reach.lo();
+                write!(f, " evicted {key}@{lo}")
+            }
+        }
+    }
+}
+
+impl fmt::Display for Inserted {
+    ghost use Rattle.std.specs.Prelude.{Some};
+    ghost use Rattle.txc_node.specs.Texts.{inserted_text};
+
+    ghost output = { λ i. Some (inserted_text i) };
+
+    fn fmt<W: fmt::Write>(&self, f: &mut fmt::Formatter<W>) -> fmt::Result {
+        match self {
+            Inserted::Stored { reach, evicted } => {
+                let evicted = Evicted(evicted);
+                write!(f, "stored {reach}{evicted}")
+            }
+            Inserted::Kept(_) => write!(f, "kept"),
+        }
+    }
+}
+
+impl fmt::Display for Reply<Hit<'_>> {
+    ghost use Rattle.std.specs.Prelude.{Some};
+    ghost use Rattle.txc_node.specs.Steps.{seen_reply};
+    ghost use Rattle.txc_node.specs.Texts.{reply_text};
+
+    ghost output = { λ r. Some (reply_text (seen_reply r)) };
+
+    fn fmt<W: fmt::Write>(&self, f: &mut fmt::Formatter<W>) -> fmt::Result {
+        match self {
+            Reply::Inserted(inserted) => write!(f, "{inserted}"),
+            Reply::Hit(hit) => {
+                let reach = hit.reach();
+                let value = hit.value;
+                write!(f, "hit {reach} {value}")
+            }
+            Reply::Miss => write!(f, "miss"),
+            Reply::Closed(count) => write!(f, "closed {count}"),
+            Reply::Swept(count) => write!(f, "swept {count}"),
+            Reply::Refused(refusal) => write!(f, "refused {refusal}"),
+        }
+    }
+}
