@@ -2,7 +2,7 @@
 use Rattle.std.specs.Prelude.{◌≡◌, ℕ, true, false, List, [], ◌∷◌, Option, Some, None}
 use Rattle.txc_stamp.specs.Interval.{Interval}
 use Rattle.txc_tags.specs.declared.tag.Tag.{Tag}
-use Rattle.txc_tags.specs.declared.tag.Tag.TheVariants.{Wildcard, Id, Group}
+use Rattle.txc_tags.specs.Tags.{wildcard, id_tag, group_tag}
 use Rattle.txc_tags.specs.Keys.{Call}
 use Rattle.txc_node.specs.declared.entry.Entry.{Entry}
 use Rattle.txc_node.specs.declared.hit.Shown.{Shown}
@@ -29,30 +29,30 @@ shows byte reach tags = Some (record { reach = reach; value = byte ∷ []; tags 
 -- ---- a still valid entry is found as far as events were taken, and an event that matches closes it
 
 abbrev pub first : Entry
-first = entry_of 2 10 (still_valid 0 0) (Id 1 2 ∷ [])
+first = entry_of 2 10 (still_valid 0 0) (id_tag 1 2 ∷ [])
 
 abbrev pub one_entry : Cache
 one_entry = after_insert (empty_cache 4 4) first
 
 abbrev pub one_event : Cache
-one_event = after_event one_entry 1 (Id 1 3 ∷ [])
+one_event = after_event one_entry 1 (id_tag 1 3 ∷ [])
 
 abbrev pub two_events : Cache
-two_events = after_event one_event 2 (Id 1 2 ∷ [])
+two_events = after_event one_event 2 (id_tag 1 2 ∷ [])
 
 pub record ClosesAtTheMatch : Type 0 where
   pub stored : outcome (empty_cache 4 4) first ≡ Stored (still_valid 0 0) None
-  pub found_at_once : answer one_entry (call_of 2) 0 9 ≡ shows 10 (still_valid 0 0) (Id 1 2 ∷ [])
-  pub no_match : closed_count one_entry 1 (Id 1 3 ∷ []) ≡ 0
-  pub found_later : answer one_event (call_of 2) 0 9 ≡ shows 10 (still_valid 0 1) (Id 1 2 ∷ [])
-  pub match : closed_count one_event 2 (Id 1 2 ∷ []) ≡ 1
+  pub found_at_once : answer one_entry (call_of 2) 0 9 ≡ shows 10 (still_valid 0 0) (id_tag 1 2 ∷ [])
+  pub no_match : closed_count one_entry 1 (id_tag 1 3 ∷ []) ≡ 0
+  pub found_later : answer one_event (call_of 2) 0 9 ≡ shows 10 (still_valid 0 1) (id_tag 1 2 ∷ [])
+  pub match : closed_count one_event 2 (id_tag 1 2 ∷ []) ≡ 1
   pub beyond_its_end : answer two_events (call_of 2) 2 9 ≡ None
-  pub found_closed : answer two_events (call_of 2) 0 9 ≡ shows 10 (closed 0 1) (Id 1 2 ∷ [])
+  pub found_closed : answer two_events (call_of 2) 0 9 ≡ shows 10 (closed 0 1) (id_tag 1 2 ∷ [])
 
 -- ---- an entry that comes late is closed before the first event that it missed and matches, or at its own known
 
 abbrev pub both_events : ℕ → Cache
-both_events depth = after_event (after_event (empty_cache 4 depth) 1 (Id 1 3 ∷ [])) 2 (Id 1 2 ∷ [])
+both_events depth = after_event (after_event (empty_cache 4 depth) 1 (id_tag 1 3 ∷ [])) 2 (id_tag 1 2 ∷ [])
 
 pub record ReplaysWhatIsKept : Type 0 where
   pub both_kept : outcome (both_events 4) first ≡ Stored (closed 0 1) None
@@ -61,25 +61,25 @@ pub record ReplaysWhatIsKept : Type 0 where
 -- ---- an entry known beyond the processed stamp is closed by no event up to there; the wildcard matches each tag
 
 abbrev pub ahead : Entry
-ahead = entry_of 2 10 (still_valid 1 5) (Wildcard 1 ∷ [])
+ahead = entry_of 2 10 (still_valid 1 5) (wildcard 1 ∷ [])
 
 abbrev pub quiet : Cache
 quiet = after_event (after_event (empty_cache 4 4) 1 []) 2 []
 
 abbrev pub five_events : Cache
-five_events = after_event (after_event (after_event (after_insert quiet ahead) 3 (Group 1 9 ∷ [])) 4 []) 5 []
+five_events = after_event (after_event (after_event (after_insert quiet ahead) 3 (group_tag 1 9 ∷ [])) 4 []) 5 []
 
 pub record WaitsForItsEnd : Type 0 where
   pub stored : outcome quiet ahead ≡ Stored (still_valid 1 5) None
-  pub not_beyond : closed_count (after_insert quiet ahead) 3 (Group 1 9 ∷ []) ≡ 0
-  pub by_wildcard : closed_count five_events 6 (Id 1 1 ∷ []) ≡ 1
-  pub found_closed : answer (after_event five_events 6 (Id 1 1 ∷ [])) (call_of 2) 0 9
-      ≡ shows 10 (closed 1 5) (Wildcard 1 ∷ [])
+  pub not_beyond : closed_count (after_insert quiet ahead) 3 (group_tag 1 9 ∷ []) ≡ 0
+  pub by_wildcard : closed_count five_events 6 (id_tag 1 1 ∷ []) ≡ 1
+  pub found_closed : answer (after_event five_events 6 (id_tag 1 1 ∷ [])) (call_of 2) 0 9
+      ≡ shows 10 (closed 1 5) (wildcard 1 ∷ [])
 
 -- ---- a full cache drops the entry that was used longest ago
 
 abbrev pub number : ℕ → ℕ → Entry
-number n byte = entry_of n byte (still_valid 0 0) (Id 1 n ∷ [])
+number n byte = entry_of n byte (still_valid 0 0) (id_tag 1 n ∷ [])
 
 abbrev pub full : Cache
 full = after_insert (after_insert (empty_cache 2 4) (number 1 10)) (number 2 11)
@@ -89,7 +89,7 @@ full_used = after_lookup full (call_of 1) 0 9
 
 pub record DropsTheLeastRecentlyUsed : Type 0 where
   pub kept : outcome (after_insert (empty_cache 2 4) (number 1 10)) (number 1 10) ≡ Kept (number 1 10)
-  pub used : answer full (call_of 1) 0 9 ≡ shows 10 (still_valid 0 0) (Id 1 1 ∷ [])
+  pub used : answer full (call_of 1) 0 9 ≡ shows 10 (still_valid 0 0) (id_tag 1 1 ∷ [])
   pub evicted : outcome full_used (number 3 12) ≡ Stored (still_valid 0 0) (Some (number 2 11))
   pub gone : answer (after_insert full_used (number 3 12)) (call_of 2) 0 9 ≡ None
 

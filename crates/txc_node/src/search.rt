@@ -18,14 +18,14 @@ use txc_tags::Key;
 fn stands_at(e: &Entry, key: &Key, lo: Stamp) -> bool
     ensures { result ≡ (same_call e.now.key key.now && e.now.reach.lo == lo) }
 {
-    e.key.is_same(key) && e.reach.lo() == lo
+    e.key == *key && e.reach.lo() == lo
 }
 
 // Whether an entry is of the key, and its span meets the stamps from `lo` to `hi`.
 fn meets_range(e: &Entry, processed: Stamp, key: &Key, lo: Stamp, hi: Stamp) -> bool
     ensures { result ≡ meets_range processed key.now lo hi e.now }
 {
-    e.key.is_same(key) && e.reach.lo() <= hi && lo.number() < e.reach.end(processed)
+    e.key == *key && e.reach.lo() <= hi && lo.number() < e.reach.end(processed)
 }
 
 // Whether the span of one entry ends later than that of another, or equally and begins later.
