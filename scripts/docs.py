@@ -1,6 +1,6 @@
 #!/usr/bin/env python3
-"""Writes the parts of docs/ that are made by script: docs/DEFINITIONS.md, from the comments of the crates' specs/, and the
-lists of docs/WRONG_BODIES.md, from their edits.
+"""Writes the parts of docs/ that are made by script: docs/DEFINITIONS.md, from the comments of the crates' specs/, the
+lists of docs/WRONG_BODIES.md, from their edits, and the examples of docs/SCRIPTS.md, from examples/.
 
 usage: docs.py [--check]      --check writes nothing, and ends with 1 where a file is not what would be written
 """
@@ -8,6 +8,9 @@ import pathlib, re, sys
 
 ROOT = pathlib.Path(__file__).resolve().parent.parent
 LISTS = "## All of them, by crate"
+EXAMPLES = "## The examples, with the replies beside their lines"
+# Of more commands in a row than this, only the first and the last are shown.
+MOST_SHOWN = 12
 DEFINITIONS = """# Definitions
 
 Every word that a contract uses, beside what it says: of each crate first the words of its public clauses, each after those
@@ -142,8 +145,35 @@ def wrong_bodies(text):
     return start + LISTS + after.partition("\n### ")[0].rstrip() + "\n" + lists()
 
 
+def beside(script, output):
+    """The lines of a script, each command with its reply beside it."""
+    replies, shown, row = iter(output.split("\n")), [], []
+
+    def end_row():
+        shown.extend(row if len(row) <= MOST_SHOWN else [row[0], "..", row[-1]])
+        row.clear()
+
+    for line in script.rstrip("\n").split("\n"):
+        if line and not line.startswith("#"):
+            row.append(f"{line:<37} {next(replies)}")
+        else:
+            end_row()
+            shown.append(line)
+    end_row()
+    return "".join(f"    {line}".rstrip() + "\n" for line in shown)
+
+
+def scripts(text):
+    start, _, after = text.partition(EXAMPLES)
+    text = start + EXAMPLES + after.partition("\n### ")[0].rstrip() + "\n"
+    for script in sorted((ROOT / "examples").glob("*.txc")):
+        text += f"\n### {script.stem}\n\n" + beside(script.read_text(), script.with_suffix(".out").read_text())
+    return text
+
+
 def main():
-    wanted = {"DEFINITIONS.md": definitions(), "WRONG_BODIES.md": wrong_bodies((ROOT / "docs/WRONG_BODIES.md").read_text())}
+    made = {"DEFINITIONS.md": lambda _: definitions(), "WRONG_BODIES.md": wrong_bodies, "SCRIPTS.md": scripts}
+    wanted = {name: make((ROOT / "docs" / name).read_text()) for name, make in made.items()}
     for name, text in wanted.items():
         path = ROOT / "docs" / name
         if "--check" not in sys.argv[1:]:
