@@ -3,6 +3,7 @@ use Rattle.std.specs.Prelude.{◌≡◌, ◌≢◌, ◌<◌, ◌≤◌, ⊤, ℕ
 use Rattle.std.specs.declared.cmp.Ordering.{Ordering}
 use Rattle.std.specs.Ordering.{nat_cmp, ordering_then}
 use Rattle.std.specs.List.{AllByRecursion}
+use Rattle.txc_stamp.specs.declared.stamp.TheConstants.{LAST_STAMP}
 use Rattle.txc_rows.specs.declared.version.Versioned.{Versioned}
 use Rattle.txc_rows.specs.declared.query.Query.{Query}
 use Rattle.txc_rows.specs.declared.query.Change.{Change}
@@ -82,15 +83,11 @@ purged horizon = filter (λ v. not (has_died_by horizon v))
 
 -- ---- what a list of versions keeps
 
--- the greatest stamp
-abbrev pub greatest_stamp : ℕ
-greatest_stamp = 1048576
-
 -- a row that stands for some stamps
 pub record IsVersion (v : Versioned) : Type 0 where
   pub row : IsRow v.row
-  pub born : v.born ≤ greatest_stamp
-  pub life : (d : ℕ) → v.died ≡ Some d → (v.born < d) × (d ≤ greatest_stamp)
+  pub born : v.born ≤ LAST_STAMP
+  pub life : (d : ℕ) → v.died ≡ Some d → (v.born < d) × (d ≤ LAST_STAMP)
 
 -- of two versions of a table and id the one before died by the other's birth, and where it died then they differ
 pub record Follows (v w : Versioned) : Type 0 where

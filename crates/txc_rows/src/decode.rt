@@ -2,9 +2,10 @@
 
 ghost use Rattle.std.specs.Prelude.{◌≡◌, ◌<◌, ◌≤◌, IfOk, Some, map, filter, length};
 ghost use Rattle.std.specs.List.{AllByRecursion};
+ghost use Rattle.txc_stamp.specs.declared.stamp.TheConstants.{LAST_STAMP};
 ghost use Rattle.txc_rows.specs.States.{query_table};
 ghost use Rattle.txc_rows.specs.Values.{IsBody};
-ghost use Rattle.txc_rows.specs.Versions.{suits, greatest_stamp};
+ghost use Rattle.txc_rows.specs.Versions.{suits};
 ghost use Rattle.txc_rows.specs.Stored.{version_shown};
 ghost use Rattle.txc_rows.specs.Kept.{IsShown};
 
@@ -19,23 +20,12 @@ use txc_tags::Table;
 /// How many versions may match a query.
 pub(crate) const MOST_VERSIONS: usize = 1024;
 
-/// A stamp that was stored.
-fn stamp_from(number: u32) -> Stamp
-    requires { number ≤ greatest_stamp }
-    ensures { result ≡ number }
-{
-    match Stamp::new(number) {
-        Ok(stamp) => stamp,
-        Err(_) => unreachable!(),
-    }
-}
-
 fn death_from(number: Option<u32>) -> Option<Stamp>
-    requires { (d : _) → number ≡ Some d → d ≤ greatest_stamp }
+    requires { (d : _) → number ≡ Some d → d ≤ LAST_STAMP }
     ensures { result ≡ number }
 {
     match number {
-        Some(number) => Some(stamp_from(number)),
+        Some(number) => Some(Stamp::after(number as usize)),
         None => None,
     }
 }
@@ -62,7 +52,7 @@ fn version_from(table: Table, shown: &sqlite::Row) -> Result<Versioned, sqlite::
     let died: Option<u32> = shown.get(4)?;
     Ok(Versioned {
         row: row_from(table, id, group, body),
-        born: stamp_from(born),
+        born: Stamp::after(born as usize),
         died: death_from(died),
     })
 }

@@ -43,9 +43,9 @@ impl Query {
         ensures { result ≡ query_tag self.now }
     {
         match *self {
-            Query::ById(table, id) => Tag::Id(table, id),
-            Query::ByGroup(table, group) => Tag::Group(table, group),
-            Query::All(table) => Tag::Wildcard(table),
+            Query::ById(table, id) => Tag::id(table, id),
+            Query::ByGroup(table, group) => Tag::group(table, group),
+            Query::All(table) => Tag::wildcard(table),
         }
     }
 }

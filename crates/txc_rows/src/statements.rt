@@ -3,8 +3,9 @@
 ghost use Rattle.std.specs.Prelude.{◌≡◌, ◌++◌, ◌∷◌, [], ◌≤◌, true, OnOk, None};
 ghost use Rattle.sqlite.specs.Held.{state};
 ghost use Rattle.sqlite.specs.Steps.{over_memory, IsEmpty};
+ghost use Rattle.txc_stamp.specs.declared.stamp.TheConstants.{LAST_STAMP};
 ghost use Rattle.txc_rows.specs.Values.{IsRow};
-ghost use Rattle.txc_rows.specs.Versions.{removed, purged, after_write, after_net, greatest_stamp};
+ghost use Rattle.txc_rows.specs.Versions.{removed, purged, after_write, after_net};
 ghost use Rattle.txc_rows.specs.Holdable.{AreHeld, IsWritable};
 ghost use Rattle.txc_rows.specs.Kept.{versions_of, HasTable, IsKept, IsStep, IsCall, IsReading};
 
@@ -76,7 +77,7 @@ fn end_version(
     requires inside { tx.old.conn.now.in_transaction ≡ true }
     requires held { AreHeld (versions_of tx.old.conn.now) }
     ensures same_reference { tx.new.conn.ghost_name ≡ tx.old.conn.ghost_name }
-    ensures stamp { stamp ≤ greatest_stamp }
+    ensures stamp { stamp ≤ LAST_STAMP }
     ensures step { IsStep
         (removed table id stamp (versions_of tx.old.conn.now))
         tx.old.conn.now tx.new.conn.now result }

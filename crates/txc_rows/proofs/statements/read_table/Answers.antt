@@ -13,7 +13,7 @@ returns c =
     let old = c.args.conn.now in
     let new = c.query_all.new.self in
     let ok : IfOk c.query_all.result (λ rows. Shown select_text (number c.args.table ∷ []) (state over_memory old) (state over_memory new) rows.items)
-    = rw (c.params-to_sql.ensures, c.from.ensures, c.number.ensures.value) at (c.query_all.ensures.ok (memory_is_clean new)) in
+    = rw (c.params-to_sql.ensures, c.from.ensures, c.number.ensures.answer) at (c.query_all.ensures.ok (memory_is_clean new)) in
     let err : IfErr c.query_all.result (FailsToQuery select_text (number c.args.table ∷ []) (state over_memory old) (state over_memory new))
-    = rw (c.params-to_sql.ensures, c.from.ensures, c.number.ensures.value) at (c.query_all.ensures.err (memory_is_clean new)) in
+    = rw (c.params-to_sql.ensures, c.from.ensures, c.number.ensures.answer) at (c.query_all.ensures.err (memory_is_clean new)) in
     lists old new c.args.table c.query_all.result c.requires ok err
