@@ -1,5 +1,4 @@
 ghost use Rattle.std.specs.Prelude.{◌≡◌, ◌≢◌, ◌↔◌, ◌≤◌, ◌<◌, ◌⊎◌, ◌-◌, ◌+◌, ◌∷◌, [], ℕ, IsTrue, IfOk, IfErr, IsErrOf};
-ghost use Rattle.txc_stamp.specs.declared.stamp.TheConstants.{LAST};
 ghost use Rattle.txc_rows.specs.States.{State};
 ghost use Rattle.txc_rows.specs.RowTags.{query_tag};
 ghost use Rattle.txc_rows.specs.Versions.{shown_at, AreVersions};
@@ -19,13 +18,6 @@ pub struct Found {
     pub rows: Vec<Row>,
     pub reach: Reach,
     pub tags: TagSet,
-}
-
-fn stamp_of(number: u32) -> Stamp
-    requires { number ≤ LAST }
-    ensures { result ≡ number }
-{
-    Stamp::new(number).unwrap()
 }
 
 /// The rows that the query shows at a stamp, by id where the versions are.
@@ -93,7 +85,7 @@ fn first_shown(
 {
     let mut first = stamp;
     'down: while horizon < first {
-        let before = stamp_of(first.number() - 1);
+        let before = Stamp::after(first.number() as usize - 1);
         if !shows(alloc, versions, query, before, rows)? {
             return Ok(first);
         }
@@ -121,7 +113,7 @@ fn last_shown(
 {
     let mut last = stamp;
     'up: while last < newest {
-        let after = stamp_of(last.number() + 1);
+        let after = Stamp::after(last.number() as usize + 1);
         if !shows(alloc, versions, query, after, rows)? {
             return Ok(last);
         }
