@@ -1,5 +1,5 @@
 -- What a connection over the table of versions keeps.
-use Rattle.std.specs.Prelude.{◌≡◌, ℕ, true, false, List, map, filter, Result, Vec, OnOk, OnErr, IfOk}
+use Rattle.std.specs.Prelude.{◌≡◌, ℕ, Bool, true, false, List, map, filter, Result, Vec, OnOk, OnErr, IfOk}
 use Rattle.std.specs.declared.alloc.Global.{Global}
 use Rattle.sqlite.specs.declared.error.Error.{Error}
 use Rattle.std.specs.List.{AllByRecursion}
@@ -11,7 +11,6 @@ use Rattle.sqlite_trees.specs.declared.memory.MemStore.{MemStore}
 use Rattle.txc_rows.specs.declared.version.Versioned.{Versioned}
 use Rattle.txc_rows.specs.Versions.{version_cmp}
 use Rattle.txc_rows.specs.Holdable.{IsHoldable, AreHeld}
-use Rattle.txc_rows.specs.Found.{is_in}
 use Rattle.txc_rows.specs.Texts.{version_schema}
 use Rattle.txc_rows.specs.Stored.{versions_in, AreStored, shown, version_shown}
 
@@ -53,14 +52,15 @@ pub record IsShown (table : ℕ) (r : Row) : Type 0 where
   pub is : r ≡ shown (version_shown table r)
   pub version : IsHoldable (version_shown table r)
 
--- the rows show the versions of the table, by id and birth
-pub record IsListing (table : ℕ) (versions : List Versioned) (rows : List Row) : Type 0 where
+-- the rows show the versions that pass a test, all of one table, by id and birth
+pub record IsListing (table : ℕ) (passes : Versioned → Bool) (versions : List Versioned) (rows : List Row) : Type 0 where
   pub each : AllByRecursion (IsShown table) rows
-  pub same : IsPermutation (filter (is_in table) versions) (map (version_shown table) rows)
+  pub same : IsPermutation (filter passes versions) (map (version_shown table) rows)
   pub sorted : IsSorted version_cmp (map (version_shown table) rows)
 
--- a reading of a table: the rows show its versions, or it is refused. All versions are as they were.
-pub record IsReading (table : ℕ) (old new : Held MemStore) (outcome : Result (Vec Row Global) Error) : Type 0 where
+-- a reading of a table: the rows show its versions that pass, or it is refused. All versions are as they were.
+pub record IsReading (table : ℕ) (passes : Versioned → Bool) (old new : Held MemStore)
+    (outcome : Result (Vec Row Global) Error) : Type 0 where
   pub kept : IsKept new
   pub same : versions_of new ≡ versions_of old
-  pub lists : IfOk outcome (λ rows. IsListing table (versions_of old) rows.items)
+  pub lists : IfOk outcome (λ rows. IsListing table passes (versions_of old) rows.items)

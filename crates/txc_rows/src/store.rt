@@ -10,7 +10,7 @@ ghost use Rattle.txc_rows.specs.StoreErrors.{IsStoreRefusal};
 
 use crate::decode::select;
 use crate::query::{Change, Query};
-use crate::statements::{create, delete_dead, read_table, write_all};
+use crate::statements::{create, delete_dead, read, write_all};
 use crate::store_error::StoreError;
 use crate::version::Versioned;
 use sqlite::{Connection, MemStore};
@@ -68,7 +68,7 @@ impl VersionRows {
         ensures many { result ≡ Err StoreError.TooManyRows
             → 1024 < length (filter (suits query.now) self.old) }
     {
-        let rows = read_table(&mut self.conn, query.table())?;
+        let rows = read(&mut self.conn, query)?;
         select(self.alloc, query, rows.as_slice())
     }
 
