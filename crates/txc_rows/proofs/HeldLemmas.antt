@@ -144,7 +144,7 @@ refused_same old new kept (inl same) = kept_same old new kept same.0.now_is same
 refused_same old new kept (inr back) = kept_same old new kept ((back.undone refl).0 ∙ kept.settled) (back.undone refl).1 back.autocommit
 
 pub refused_call : {X : Type 0} (versions : List Versioned) (old new : Held MemStore) (e : Error) → IsKept old → Refused (state over_memory old) (state over_memory new) → IsCall {X = X} versions old new (Err e)
-refused_call versions old new e kept how = let same = refused_same old new kept how in record { kept = same.0; ok = tt; err = same.1 }
+refused_call versions old new e kept how = let same = refused_same old new kept how in record { kept = same.0; after = tt; unchanged = same.1 }
 
 pub makes : (old new : Held MemStore) (r : Result ℕ Error) → IsEmpty (state over_memory old) → Executes create_text [] (state over_memory old) (state over_memory new) r → OnOk r (IsKept new) × OnOk r (versions_of new ≡ [])
 makes old new (Err e) empty h = (tt, tt)
@@ -178,8 +178,8 @@ clears old new h (Ok count) kept ran =
         settled = shown.committed_is;
         versions = rw left (held_kept (λ v. not (has_died_by h v)) (versions_of old) kept.versions);
       };
-      ok = left;
-      err = tt;
+      after = left;
+      unchanged = tt;
     }
 
 -- ---- the end of a transaction
@@ -203,11 +203,11 @@ ended_call old mid end (Ok _) versions kept table apart base are idle ok err ins
         settled = ok.1.committed_is ∙ sym now;
         versions = subst (λ x. AreHeld (versions_in x)) (sym rows) apart;
       };
-      ok = ap versions_in rows ∙ are;
-      err = tt;
+      after = ap versions_in rows ∙ are;
+      unchanged = tt;
     }
 ended_call old mid end (Err e) versions kept table apart base are idle ok (inl fails) inside =
-    let same = undone_call old mid end kept base fails.3 in record { kept = same.0; ok = tt; err = same.1 }
+    let same = undone_call old mid end kept base fails.3 in record { kept = same.0; after = tt; unchanged = same.1 }
 ended_call old mid end (Err e) versions kept table apart base are idle ok (inr late) inside = absurd (let off = late.1 in cc)
 
 -- ---- versions of a table

@@ -1,11 +1,11 @@
 -- The tags of queries and of changed rows.
 use Rattle.std.specs.Prelude.{Bool, ◌&&◌, ◌==◌, not, List, [], ◌∷◌, ◌++◌, filter}
 use Rattle.std.specs.List.{list_any, flat_map}
-use Rattle.std.specs.Str.{bytes_eq}
 use Rattle.txc_tags.specs.declared.tag.Tag.{Tag}
 use Rattle.txc_tags.specs.Tags.{wildcard, id_tag, group_tag, covers, set_of}
 use Rattle.txc_rows.specs.declared.query.Query.{Query}
 use Rattle.txc_rows.specs.declared.query.Query.TheVariants.{ById, ByGroup, All}
+use Rattle.txc_rows.specs.Values.{same_row}
 use Rattle.txc_rows.specs.States.{RowValue, State}
 
 -- the one tag of a query
@@ -17,10 +17,6 @@ query_tag (All table) = wildcard table
 -- a set covers a query where it covers its tag
 abbrev pub covers_query : List Tag → Query → Bool
 covers_query set q = covers set (query_tag q)
-
--- the rows are equal
-abbrev pub same_row : RowValue → RowValue → Bool
-same_row r s = (r.table == s.table) && ((r.id == s.id) && ((r.group == s.group) && bytes_eq r.body s.body))
 
 -- the state has the row
 abbrev pub has_row : State → RowValue → Bool
@@ -34,6 +30,7 @@ lost old new = filter (λ r. not (has_row new r)) old
 abbrev pub tags_of_row : RowValue → List Tag
 tags_of_row r = id_tag r.table r.id ∷ group_tag r.table r.group ∷ []
 
--- for each table and id at which two states differ its id's tag and the tags of its old and its new group, as one set
+-- for each table and id at which two states differ its id's tag and the tags of its old and its new group, as
+-- one set
 abbrev pub tags_between : State → State → List Tag
 tags_between old new = set_of (flat_map tags_of_row (lost old new ++ lost new old))

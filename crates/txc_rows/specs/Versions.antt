@@ -48,7 +48,8 @@ is_current v = is_none v.died
 
 -- the version after a change of the table and id at the stamp: the current one ends there
 abbrev pub closed : ℕ → ℕ → ℕ → Versioned → Versioned
-closed table id stamp v = record v { died = if is_at table id v.row && is_current v then Some stamp else v.died }
+closed table id stamp v =
+    record v { died = if is_at table id v.row && is_current v then Some stamp else v.died }
 
 -- the versions after a removal
 abbrev pub removed : ℕ → ℕ → ℕ → List Versioned → List Versioned
@@ -89,7 +90,8 @@ pub record IsVersion (v : Versioned) : Type 0 where
   pub born : v.born ≤ LAST_STAMP
   pub life : (d : ℕ) → v.died ≡ Some d → (v.born < d) × (d ≤ LAST_STAMP)
 
--- of two versions of a table and id the one before died by the other's birth, and where it died then they differ
+-- of two versions of a table and id the one before died by the other's birth, and where it died then they
+-- differ
 pub record Follows (v w : Versioned) : Type 0 where
   pub died : v.row.table ≡ w.row.table → v.row.id ≡ w.row.id
       → (d : ℕ) × (v.died ≡ Some d) × (d ≤ w.born) × (d ≡ w.born → v.row ≢ w.row)

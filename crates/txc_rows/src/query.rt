@@ -18,6 +18,7 @@ pub enum Query {
 }
 
 impl Query {
+    /// The table that it asks.
     pub fn table(&self) -> Table
         ensures { result ≡ query_table self.now }
     {
@@ -28,6 +29,7 @@ impl Query {
         }
     }
 
+    /// Whether the row is one of those that it asks for.
     pub fn matches(&self, row: &Row) -> bool
         ensures { result ≡ matches self.now row.now }
     {

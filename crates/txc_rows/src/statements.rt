@@ -20,7 +20,9 @@ use txc_tags::Table;
 
 /// A row for each version.
 const CREATE_TABLE: &str =
-    "CREATE TABLE version (table_number INTEGER NOT NULL, id INTEGER NOT NULL, born INTEGER NOT NULL, group_number INTEGER NOT NULL, body BLOB NOT NULL, died INTEGER, PRIMARY KEY (table_number, id, born)) STRICT";
+    "CREATE TABLE version (table_number INTEGER NOT NULL, id INTEGER NOT NULL, born INTEGER NOT NULL, \
+     group_number INTEGER NOT NULL, body BLOB NOT NULL, died INTEGER, \
+     PRIMARY KEY (table_number, id, born)) STRICT";
 
 /// A version that has not died.
 const ADD_VERSION: &str =
@@ -39,7 +41,8 @@ const READ_TABLE: &str =
 
 /// The versions of a table and id, by birth.
 const READ_ROW: &str =
-    "SELECT id, group_number, body, born, died FROM version WHERE table_number = ?1 AND id = ?2 ORDER BY id, born";
+    "SELECT id, group_number, body, born, died FROM version \
+     WHERE table_number = ?1 AND id = ?2 ORDER BY id, born";
 
 /// Makes the table in a store that has none.
 pub(crate) fn create(conn: &mut Connection<MemStore>) -> Result<usize, Error>
