@@ -38,20 +38,6 @@ pub fn rows_at(
     Ok(rows)
 }
 
-fn are_same(a: &[Row], b: &[Row]) -> bool
-    ensures { IsTrue result ↔ (a.now ≡ b.now) }
-{
-    if a.len() != b.len() {
-        return false;
-    }
-    for (i, row) in a.iter().enumerate() {
-        if !row.is_same(&b[i]) {
-            return false;
-        }
-    }
-    true
-}
-
 /// Whether the query shows these rows at the stamp.
 fn shows(
     alloc: Global,
@@ -63,7 +49,7 @@ fn shows(
     ensures { IfOk result (λ b. IsTrue b ↔ (shown_at query.now stamp versions.now ≡ rows.now)) }
 {
     let there = rows_at(alloc, versions, query, stamp)?;
-    Ok(are_same(&there, rows))
+    Ok(there.as_slice() == rows)
 }
 
 /// The first stamp from which on the rows are shown, not below the horizon.
