@@ -1,6 +1,6 @@
 -- A history worked by hand: put the id 7 in group 2 of table 1, pin 1000, put the id 8 there, pin 2000.
 use Rattle.std.specs.Prelude.{◌≡◌, ℕ, [], ◌∷◌, Some, None}
-use Rattle.txc_tags.specs.declared.tag.Tag.TheVariants.{Id, Group}
+use Rattle.txc_tags.specs.Tags.{id_tag, group_tag}
 use Rattle.txc_rows.specs.declared.query.Query.TheVariants.{ById, ByGroup}
 use Rattle.txc_rows.specs.declared.query.Change.TheVariants.{Put, Remove}
 use Rattle.txc_rows.specs.States.{RowValue, answer}
@@ -15,9 +15,9 @@ row_of id byte = record { table = 1; id = id; group = 2; body = byte ∷ [] }
 -- the id 7 holds an a, and the id 8 a b
 abbrev pub worked : History
 worked =
-    record { fact = commit (Put (row_of 7 97) ∷ []); tags = Id 1 7 ∷ Group 1 2 ∷ [] }
+    record { fact = commit (Put (row_of 7 97) ∷ []); tags = id_tag 1 7 ∷ group_tag 1 2 ∷ [] }
     ∷ record { fact = pin 1000; tags = [] }
-    ∷ record { fact = commit (Put (row_of 8 98) ∷ []); tags = Id 1 8 ∷ Group 1 2 ∷ [] }
+    ∷ record { fact = commit (Put (row_of 8 98) ∷ []); tags = id_tag 1 8 ∷ group_tag 1 2 ∷ [] }
     ∷ record { fact = pin 2000; tags = [] }
     ∷ []
 
@@ -31,9 +31,9 @@ pub record WorkedStates : Type 0 where
 
 -- the tags of its events
 pub record WorkedTags : Type 0 where
-  pub put : tags_at worked 1 ≡ Id 1 7 ∷ Group 1 2 ∷ []
+  pub put : tags_at worked 1 ≡ id_tag 1 7 ∷ group_tag 1 2 ∷ []
   pub pinned : tags_at worked 2 ≡ []
-  pub put_again : tags_at worked 3 ≡ Id 1 8 ∷ Group 1 2 ∷ []
+  pub put_again : tags_at worked 3 ≡ id_tag 1 8 ∷ group_tag 1 2 ∷ []
   pub newest : tags_at worked 4 ≡ []
 
 -- the moments of its pins
@@ -56,7 +56,7 @@ pub record WorkedNet : Type 0 where
   -- the last change of a row counts
   pub last : net_changes (state_at worked 4) (Put (row_of 8 99) ∷ Remove 1 8 ∷ []) ≡ Remove 1 8 ∷ []
   -- a row that goes to group 3: its id, its old group and its new one
-  pub moved : (commit_event (state_at worked 4) (Put (record { table = 1; id = 7; group = 3; body = 97 ∷ [] }) ∷ [])).tags ≡ Id 1 7 ∷ Group 1 2 ∷ Group 1 3 ∷ []
+  pub moved : (commit_event (state_at worked 4) (Put (record { table = 1; id = 7; group = 3; body = 97 ∷ [] }) ∷ [])).tags ≡ id_tag 1 7 ∷ group_tag 1 2 ∷ group_tag 1 3 ∷ []
 
 -- all of these
 pub record WorkedHistory : Type 0 where

@@ -16,7 +16,7 @@ ghost use Rattle.txc_db.specs.Steps.{IsBaseRefused, IsReadRefused, IsNetRefused,
 use crate::db_core::DbCore;
 use crate::error::DbError;
 use crate::event::{Event, What};
-use crate::history_front::{HistoryFront, stamp_after};
+use crate::history_front::HistoryFront;
 use crate::settled::{add_puts, add_rows, id_of, makes_another, settle, table_of};
 use std::alloc::{AllocError, Global};
 use txc_rows::{
@@ -121,7 +121,7 @@ impl DbCore {
             return Err(DbError::Full);
         }
         let event = commit_event(alloc, net)?;
-        let stamp = stamp_after(events + 1);
+        let stamp = Stamp::after(events + 1);
         self.store.write(event.net(), stamp)?;
         match self.front.append(event) {
             Ok(()) => Ok(stamp),
@@ -168,7 +168,7 @@ impl DbCore {
         let newest = self.check_base(base)?;
         let base = base.number() as usize;
         if let Some(first) = first_conflict(&self.front, base, read) {
-            return Err(DbError::Conflict(stamp_after(first)));
+            return Err(DbError::Conflict(Stamp::after(first)));
         }
         let net = self.net_of(alloc, changes)?;
         if net.changes.is_empty() {

@@ -9,7 +9,7 @@ ghost use Rattle.txc_db.specs.Calls.{IsLeft, IsHoldable, IsHoldRefused, IsUnpinR
 
 use crate::error::DbError;
 use crate::event::{Event, What};
-use crate::history_front::{HistoryFront, stamp_after};
+use crate::history_front::HistoryFront;
 use crate::holds::{MAX_HOLDS, least_held, place_of};
 use crate::pinned::Pinned;
 use std::alloc::{AllocError, Global};
@@ -239,7 +239,7 @@ impl DbCore {
         }
         let events = self.front.len();
         if at_least.number() as usize > events + 1 {
-            return Err(DbError::FutureStamp(stamp_after(events)));
+            return Err(DbError::FutureStamp(Stamp::after(events)));
         }
         if events == self.front.events().capacity() {
             return Err(DbError::Full);
@@ -267,7 +267,7 @@ impl DbCore {
         self.holds.reserve(1)?;
         let event = pin_event(alloc, now)?;
         let mut front = self.front.again(alloc)?;
-        let stamp = stamp_after(events + 1);
+        let stamp = Stamp::after(events + 1);
         match self.front.append(event) {
             Ok(()) => {
                 self.holds.push_reserved(stamp);

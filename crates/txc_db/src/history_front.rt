@@ -2,7 +2,7 @@
 ghost use Rattle.std.specs.Prelude.{◌≡◌, ◌+◌, ◌<◌, ◌≤◌, ◌⊎◌, ◌++◌, ◌∷◌, [], length, Some, IfOk, OnOk, IfErr, IsTrue, ◌↔◌};
 ghost use Rattle.std.specs.Arc.{arc_value};
 ghost use mathlib.Core.List.{IsPrefix};
-ghost use Rattle.txc_stamp.specs.declared.stamp.TheConstants.{LAST};
+ghost use Rattle.txc_stamp.specs.declared.stamp.TheConstants.{LAST_STAMP};
 ghost use Rattle.txc_rows.specs.RowTags.{tags_between};
 ghost use Rattle.txc_db.specs.History.{AreTagged, after_event, state_at, tags_at, event_at};
 
@@ -35,17 +35,6 @@ impl Model for HistoryFront {
     ghost view = { λ f. record { events = f.front.row; history = f.front.list } };
 
     ghost invariant = { λ f. (arc_value f.events ≡ f.front.row) × AreTagged f.front.list };
-}
-
-/// The stamp after so many events.
-pub(crate) fn stamp_after(events: usize) -> Stamp
-    requires { events ≤ LAST }
-    ensures { result ≡ events }
-{
-    match Stamp::new(events as u32) {
-        Ok(stamp) => stamp,
-        Err(_) => unreachable!(),
-    }
 }
 
 impl HistoryFront {
@@ -96,7 +85,7 @@ impl HistoryFront {
     pub fn len(&self) -> usize
         ensures shown { result ≡ length self.now.history }
         ensures room { result ≤ length self.now.events }
-        ensures most { length self.now.events ≤ LAST }
+        ensures most { length self.now.events ≤ LAST_STAMP }
     {
         self.front.len()
     }
@@ -112,7 +101,7 @@ impl HistoryFront {
     pub fn newest(&self) -> Stamp
         ensures { result ≡ length self.now.history }
     {
-        stamp_after(self.len())
+        Stamp::after(self.len())
     }
 
     /// One of the events that it shows, by its number, from 1 on, and its tags.

@@ -99,8 +99,8 @@ pub(crate) fn makes_another(change: &Change, rows: &[Row]) -> bool
 fn add_row(tags: &mut TagSet, row: &Row) -> Result<(), AllocError>
     ensures { OnOk result (tags.new ≡ with_tags (tags_of_row row.now) tags.old) }
 {
-    tags.add(Tag::Id(row.table(), row.id()))?;
-    tags.add(Tag::Group(row.table(), row.group()))?;
+    tags.add(Tag::id(row.table(), row.id()))?;
+    tags.add(Tag::group(row.table(), row.group()))?;
     Ok(())
 }
 

@@ -1,12 +1,13 @@
 -- What the query shows, and what a refusal leaves.
-use Rattle.std.proofs.Common.{◌≡◌, ◌⊎◌, inl, inr, ℕ, ◌+◌, ◌<◌, List, [], ◌∷◌, map, filter, length, get_or, cond, Bool, true, false, Err, Result, refl, sym, ap, subst, ◌∙◌, arith}
+use Rattle.std.proofs.Common.{◌≡◌, ◌⊎◌, inl, inr, ℕ, ℤ, ◌+◌, ◌<◌, List, [], ◌∷◌, map, filter, length, get_or, cond, Bool, true, false, Err, Result, refl, sym, ap, subst, ◌∙◌, arith}
 use Rattle.std.proofs.lemmas.List.{length-map}
 use Rattle.std.proofs.Math.ListN.{get_or-map}
 use Rattle.std.specs.Ordering.{is_lt, ordering_then, nat_cmp}
-use Rattle.std.specs.List.{AllByRecursion}
+use Rattle.std.specs.List.{AllByRecursion, list_all}
 use Rattle.std.specs.List.Sorted.{IsPermutation, IsSorted}
 use Rattle.sqlite.specs.Order.{Row}
 use Rattle.sqlite.specs.Command.TheVariants.{Select}
+use Rattle.sqlite.specs.Term.{Term, holds}
 use Rattle.sqlite.specs.Query.{Output, output, output_cmp}
 use Rattle.sqlite.specs.declared.error.Error.{Error}
 use Rattle.sqlite.specs.Listing.{understood}
@@ -25,51 +26,54 @@ use Rattle.txc_rows.specs.Kept.{IsShown, IsListing}
 use borrow.Author.Tests.{eqb-true}
 use Rattle.txc_rows.specs.Texts.{version_schema}
 use Rattle.txc_rows.specs.Stored.{stored, number, version_in, versions_in, shown, version_shown, IsStored, AreStored}
-use Rattle.txc_rows.proofs.Commands.{alone, select_text, select_filter, select_query, select_names, select_is, select_plain}
-use Rattle.txc_rows.proofs.StoredRows.{number_cmp, select_test, select_stored, shown_again, answered, IsPage}
+use Rattle.txc_rows.proofs.Commands.{alone, shown_columns, shown_order, listed, shown_names, IsListingOf}
+use Rattle.txc_rows.proofs.StoredRows.{number_cmp, select_stored, shown_again, answered, IsPage}
 
 -- what the query sorts by, and what it shows
 abbrev out : Versioned → Output
 out v = (number v.row.id ∷ number v.born ∷ [], shown v)
 
-outputs : (t : ℕ) (rows : List Row) → AllByRecursion IsStored rows → (p : Row → Bool) → map (λ r. output select_query ((number t ∷ []) ∷ r ∷ [])) (filter p rows) ≡ map out (map version_in (filter p rows))
-outputs t [] all p = refl
-outputs t (r ∷ rows) all p =
-    let here : output select_query ((number t ∷ []) ∷ r ∷ []) ≡ out (version_in r) = ap (λ x. output select_query ((number t ∷ []) ∷ x ∷ [])) all.0 in
-    elim (p r) as (λ b. map (λ x. output select_query ((number t ∷ []) ∷ x ∷ [])) (cond b (r ∷ filter p rows) (filter p rows)) ≡ map out (map version_in (cond b (r ∷ filter p rows) (filter p rows))))
-    [ true ↦ rw (here, outputs t rows all.1 p) refl | false ↦ outputs t rows all.1 p ]
-
-sorted_as : (v w : Versioned) → output_cmp select_query (out v) (out w) ≡ version_cmp v w
-sorted_as v w = rw (number_cmp v.row.id w.row.id, number_cmp v.born w.born) (ap (ordering_then (nat_cmp v.row.id w.row.id)) (then-Equal (nat_cmp v.born w.born)))
-
-sorted_back : (vs : List Versioned) → IsSorted (output_cmp select_query) (map out vs) → IsSorted version_cmp vs
-sorted_back vs up k d low high =
-    let fits : k + 1 < length (map out vs) = omega (arith, length-map vs out) in
-    let at = up k (out d) low fits in
-    ap is_lt (sym (sorted_as (get_or vs (k + 1) d) (get_or vs k d))) ∙ rw (get_or-map out vs (k + 1) d, get_or-map out vs k d) at at
-
--- the rows show the versions of the table, by id and birth
-pub record Lists (t : ℕ) (versions : List Versioned) (rows : List Row) : Type 0 where
+-- versions that pass, by id and birth
+pub record Lists (passes : Versioned → Bool) (versions : List Versioned) (rows : List Row) : Type 0 where
   pub found : List Versioned
-  pub same : IsPermutation (filter (is_in t) versions) found
+  pub same : IsPermutation (filter passes versions) found
   pub sorted : IsSorted version_cmp found
   pub rows_are : rows ≡ map shown found
 
-pub lists_page : (t : ℕ) (table rows : List Row) → AreStored table → IsPage select_filter select_query.project select_query.order (number t ∷ []) table rows → Lists t (versions_in table) rows
-lists_page t table rows stored page =
-    let passed = select_stored _ (is_in t) (select_test t) table stored.each in
-    let moved : IsPermutation (map out (filter (is_in t) (versions_in table))) page.ordered =
-    subst (λ xs. IsPermutation xs page.ordered) (outputs t table stored.each _ ∙ ap (map out) (sym (filter-map (is_in t) version_in table)))
-    (subst (λ xs. IsPermutation (map (λ r. output select_query ((number t ∷ []) ∷ r ∷ [])) xs) page.ordered) passed page.same) in
-    let back = pull_back out _ page.ordered moved (filter (is_in t) (versions_in table)) refl in
-    let sorted : IsSorted version_cmp back.0 = sorted_back back.0 (subst (IsSorted (output_cmp select_query)) back.2 page.sorted) in
-    record { found = back.0; same = back.1; sorted = sorted; rows_are = page.rows ∙ ap (map (λ (o : Output). o.1)) back.2 ∙ map-map (λ (o : Output). o.1) out back.0 }
+module _ (fs : List Term) (params : Row) where
+  outputs : (rows : List Row) → AllByRecursion IsStored rows → (p : Row → Bool) → map (λ r. output (listed fs) (params ∷ r ∷ [])) (filter p rows) ≡ map out (map version_in (filter p rows))
+  outputs [] all p = refl
+  outputs (r ∷ rows) all p =
+      let here : output (listed fs) (params ∷ r ∷ []) ≡ out (version_in r) = ap (λ x. output (listed fs) (params ∷ x ∷ [])) all.0 in
+      elim (p r) as (λ b. map (λ x. output (listed fs) (params ∷ x ∷ [])) (cond b (r ∷ filter p rows) (filter p rows)) ≡ map out (map version_in (cond b (r ∷ filter p rows) (filter p rows))))
+      [ true ↦ rw (here, outputs rows all.1 p) refl | false ↦ outputs rows all.1 p ]
 
-pub selects : (old new : State) (t : ℕ) (rows : List Row) → old.now.schema ≡ version_schema → AreStored (old.now.trees 0) → Shown select_text (number t ∷ []) old new rows
-    → Lists t (versions_in (old.now.trees 0)) rows
-selects old new t rows has stored h =
-    let read = reads_as select_text (number t ∷ []) old new version_schema has (Select (alone select_query) select_names) select_is.0 select_plain select_is.1 rows h in
-    lists_page t (old.now.trees 0) rows stored (answered select_filter select_query.project select_query.order old.now (number t ∷ []) rows read)
+  sorted_as : (v w : Versioned) → output_cmp (listed fs) (out v) (out w) ≡ version_cmp v w
+  sorted_as v w = rw (number_cmp v.row.id w.row.id, number_cmp v.born w.born) (ap (ordering_then (nat_cmp v.row.id w.row.id)) (then-Equal (nat_cmp v.born w.born)))
+
+  sorted_back : (vs : List Versioned) → IsSorted (output_cmp (listed fs)) (map out vs) → IsSorted version_cmp vs
+  sorted_back vs up k d low high =
+      let fits : k + 1 < length (map out vs) = omega (arith, length-map vs out) in
+      let at = up k (out d) low fits in
+      ap is_lt (sym (sorted_as (get_or vs (k + 1) d) (get_or vs k d))) ∙ rw (get_or-map out vs (k + 1) d, get_or-map out vs k d) at at
+
+  lists_page : (P : Versioned → Bool) → ((id : ℤ) (v : Versioned) → list_all (holds (params ∷ stored id v ∷ [])) fs ≡ P v) → (table rows : List Row) → AreStored table
+      → IsPage fs shown_columns shown_order params table rows → Lists P (versions_in table) rows
+  lists_page P test table rows stored page =
+      let passed = select_stored _ P test table stored.each in
+      let moved : IsPermutation (map out (filter P (versions_in table))) page.ordered =
+      subst (λ xs. IsPermutation xs page.ordered) (outputs table stored.each _ ∙ ap (map out) (sym (filter-map P version_in table)))
+      (subst (λ xs. IsPermutation (map (λ r. output (listed fs) (params ∷ r ∷ [])) xs) page.ordered) passed page.same) in
+      let back = pull_back out _ page.ordered moved (filter P (versions_in table)) refl in
+      let sorted : IsSorted version_cmp back.0 = sorted_back back.0 (subst (IsSorted (output_cmp (listed fs))) back.2 page.sorted) in
+      record { found = back.0; same = back.1; sorted = sorted; rows_are = page.rows ∙ ap (map (λ (o : Output). o.1)) back.2 ∙ map-map (λ (o : Output). o.1) out back.0 }
+
+  pub selects : (text : List ℕ) (P : Versioned → Bool) → ((id : ℤ) (v : Versioned) → list_all (holds (params ∷ stored id v ∷ [])) fs ≡ P v) → IsListingOf fs text
+      → (old new : State) (rows : List Row) → old.now.schema ≡ version_schema → AreStored (old.now.trees 0) → Shown text params old new rows
+      → Lists P (versions_in (old.now.trees 0)) rows
+  selects text P test is old new rows has stored h =
+      let read = reads_as text params old new version_schema has (Select (alone (listed fs)) shown_names) is.command is.plain is.rows rows h in
+      lists_page P test (old.now.trees 0) rows stored (answered fs shown_columns shown_order old.now params rows read)
 
 -- a plain query changes nothing
 pub shown_same : (sql : List ℕ) (params : Row) (old new : State) (rows : List Row) → IsPlain (understood old.now.schema sql) → Shown sql params old new rows → IsUnchanged old new
@@ -112,17 +116,17 @@ read_back t (v ∷ vs) all =
     let more = read_back t vs all.1 in
     (rw (one, more.0) refl, (record { is = ap shown (sym one); version = subst IsHoldable (sym one) all.0.1 }, more.1))
 
-of_table : (t : ℕ) (vs : List Versioned) → AllByRecursion IsHoldable vs → AllByRecursion (λ v. (v.row.table ≡ t) × IsHoldable v) (filter (is_in t) vs)
-of_table t [] all = tt
-of_table t (v ∷ vs) all = go (is_in t v) refl (of_table t vs all.1)
+of_table : (t : ℕ) (P : Versioned → Bool) → ((v : Versioned) → P v ≡ true → is_in t v ≡ true) → (vs : List Versioned) → AllByRecursion IsHoldable vs → AllByRecursion (λ v. (v.row.table ≡ t) × IsHoldable v) (filter P vs)
+of_table t P inside [] all = tt
+of_table t P inside (v ∷ vs) all = go (P v) refl (of_table t P inside vs all.1)
   where
-    go : (b : Bool) → is_in t v ≡ b → AllByRecursion (λ w. (w.row.table ≡ t) × IsHoldable w) (filter (is_in t) vs) → AllByRecursion (λ w. (w.row.table ≡ t) × IsHoldable w) (cond b (v ∷ filter (is_in t) vs) (filter (is_in t) vs))
-    go true e more = ((eqb-true _ _ e, all.0), more)
+    go : (b : Bool) → P v ≡ b → AllByRecursion (λ w. (w.row.table ≡ t) × IsHoldable w) (filter P vs) → AllByRecursion (λ w. (w.row.table ≡ t) × IsHoldable w) (cond b (v ∷ filter P vs) (filter P vs))
+    go true e more = ((eqb-true _ _ (inside v e), all.0), more)
     go false e more = more
 
-pub listing : (t : ℕ) (versions : List Versioned) (rows : List Row) → AllByRecursion IsHoldable versions → Lists t versions rows → IsListing t versions rows
-listing t versions rows each h =
-    let all = all-permutation _ (filter (is_in t) versions) h.found h.same (of_table t versions each) in
+pub listing : (t : ℕ) (P : Versioned → Bool) → ((v : Versioned) → P v ≡ true → is_in t v ≡ true) → (versions : List Versioned) (rows : List Row) → AllByRecursion IsHoldable versions → Lists P versions rows → IsListing t P versions rows
+listing t P inside versions rows each h =
+    let all = all-permutation _ (filter P versions) h.found h.same (of_table t P inside versions each) in
     let back = read_back t h.found all in
     let found : map (version_shown t) rows ≡ h.found = ap (map (version_shown t)) h.rows_are ∙ back.0 in
     record { each = subst (AllByRecursion (IsShown t)) (sym h.rows_are) back.1; same = rw found h.same; sorted = rw found h.sorted }

@@ -11,10 +11,11 @@ use Rattle.sqlite_sql.specs.declared.ops.BinaryOp.TheVariants.{Compare, Is}
 use Rattle.sqlite_sql.specs.declared.ops.CompareOp.TheVariants.{Eq, Le}
 use Rattle.sqlite.specs.Collation.TheVariants.{Binary}
 use Rattle.sqlite_value.specs.Keys.{ascending}
+use Rattle.sqlite_value.specs.declared.keys.Key.{Key}
 use Rattle.sqlite_tied.specs.Compute.{everything}
 use Rattle.sqlite.specs.Listing.{understood, reads_listing}
 use Rattle.sqlite.proofs.Callers.{command_of, statement_of, IsPlain}
-use Rattle.txc_rows.specs.declared.statements.TheConstants.{CREATE_TABLE, ADD_VERSION, END_VERSION, DELETE_DEAD, READ_TABLE}
+use Rattle.txc_rows.specs.declared.statements.TheConstants.{CREATE_TABLE, ADD_VERSION, END_VERSION, DELETE_DEAD, READ_TABLE, READ_ROW}
 use Rattle.txc_rows.specs.Texts.{version_table, version_schema, no_schema}
 
 abbrev pub create_text : List ℕ
@@ -29,8 +30,11 @@ close_text = END_VERSION.now
 abbrev pub purge_text : List ℕ
 purge_text = DELETE_DEAD.now
 
-abbrev pub select_text : List ℕ
-select_text = READ_TABLE.now
+abbrev pub table_text : List ℕ
+table_text = READ_TABLE.now
+
+abbrev pub row_text : List ℕ
+row_text = READ_ROW.now
 
 pub create_is : (command_of (understood no_schema create_text) ≡ CreateTable) × (statement_of create_text (understood no_schema create_text) ≡ create_text) × (table_defined_by create_text ≡ Ok version_table)
 unfolding understood everything
@@ -93,19 +97,35 @@ pub purge_plain : IsPlain (understood version_schema purge_text)
 unfolding understood everything
 purge_plain = (refl, refl)
 
-abbrev pub select_filter : List Term
-select_filter = op2 (Compare Eq Binary) (col 1 1) (col 0 0) ∷ []
+-- versions that pass, by id and birth
+abbrev pub shown_columns : List Term
+shown_columns = col 1 2 ∷ col 1 4 ∷ col 1 5 ∷ col 1 3 ∷ col 1 6 ∷ []
 
-abbrev pub select_query : Query
-select_query = record (whole select_filter (col 1 2 ∷ col 1 4 ∷ col 1 5 ∷ col 1 3 ∷ col 1 6 ∷ [])) { order = (col 1 2, ascending Binary) ∷ (col 1 3, ascending Binary) ∷ [] }
+abbrev pub shown_order : List (Term × Key)
+shown_order = (col 1 2, ascending Binary) ∷ (col 1 3, ascending Binary) ∷ []
 
-abbrev pub select_names : List (List ℕ)
-select_names = codes "id" ∷ codes "group_number" ∷ codes "body" ∷ codes "born" ∷ codes "died" ∷ []
+abbrev pub listed : List Term → Query
+listed filter = record (whole filter shown_columns) { order = shown_order }
 
-pub select_is : (command_of (understood version_schema select_text) ≡ Select (alone select_query) select_names) × (reads_listing version_schema select_text ≡ false)
+abbrev pub shown_names : List (List ℕ)
+shown_names = codes "id" ∷ codes "group_number" ∷ codes "body" ∷ codes "born" ∷ codes "died" ∷ []
+
+-- the text lists the versions that pass
+pub record IsListingOf (filter : List Term) (text : List ℕ) : Type 0 where
+  pub command : command_of (understood version_schema text) ≡ Select (alone (listed filter)) shown_names
+  pub rows : reads_listing version_schema text ≡ false
+  pub plain : IsPlain (understood version_schema text)
+
+abbrev pub table_filter : List Term
+table_filter = op2 (Compare Eq Binary) (col 1 1) (col 0 0) ∷ []
+
+pub table_is : IsListingOf table_filter table_text
 unfolding understood everything
-select_is = (refl, refl)
+table_is = record { command = refl; rows = refl; plain = (refl, refl) }
 
-pub select_plain : IsPlain (understood version_schema select_text)
+abbrev pub row_filter : List Term
+row_filter = op2 (Compare Eq Binary) (col 1 1) (col 0 0) ∷ op2 (Compare Eq Binary) (col 1 2) (col 0 1) ∷ []
+
+pub row_is : IsListingOf row_filter row_text
 unfolding understood everything
-select_plain = (refl, refl)
+row_is = record { command = refl; rows = refl; plain = (refl, refl) }

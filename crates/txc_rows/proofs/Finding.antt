@@ -20,7 +20,7 @@ use Rattle.txc_rows.specs.declared.query.Query.{Query}
 use Rattle.txc_rows.specs.declared.query.Query.TheVariants.{ById, ByGroup, All}
 use Rattle.txc_rows.specs.Values.{RowValue}
 use Rattle.txc_rows.specs.States.{query_table}
-use Rattle.txc_rows.specs.Found.{is_in, Finds}
+use Rattle.txc_rows.specs.Found.{is_in, is_read_for, Finds}
 use Rattle.txc_rows.specs.Versions.{is_visible, lives_at, shown_at, suits, version_cmp, Follows, Pairwise, IsVersion, AreVersions}
 use Rattle.txc_rows.specs.Says.{IdsRise}
 use Rattle.txc_rows.proofs.VersionLemmas.{kept_versions}
@@ -40,9 +40,14 @@ of_its_table (ById t i) v e = front _ _ e
 of_its_table (ByGroup t g) v e = front _ _ e
 of_its_table (All t) v e = e
 
-pub finds_in : (q : Query) (vs listed : List Versioned) → IsPermutation (filter (is_in (query_table q)) vs) listed → IsSorted version_cmp listed → Finds q vs (filter (suits q) listed)
+is_read : (q : Query) (v : Versioned) → suits q v ≡ true → is_read_for q v ≡ true
+is_read (ById t i) v e = e
+is_read (ByGroup t g) v e = of_its_table (ByGroup t g) v e
+is_read (All t) v e = e
+
+pub finds_in : (q : Query) (vs listed : List Versioned) → IsPermutation (filter (is_read_for q) vs) listed → IsSorted version_cmp listed → Finds q vs (filter (suits q) listed)
 finds_in q vs listed same sorted = record {
-  same = subst (λ xs. IsPermutation xs (filter (suits q) listed)) (filter-filter (suits q) (is_in (query_table q)) (of_its_table q) vs) (IsPermutation-filter (suits q) _ listed same);
+  same = subst (λ xs. IsPermutation xs (filter (suits q) listed)) (filter-filter (suits q) (is_read_for q) (is_read q) vs) (IsPermutation-filter (suits q) _ listed same);
   sorted = IsSortedBy-filter _ version_ranks (suits q) listed sorted;
 }
 

@@ -1,8 +1,9 @@
 -- What the statements do to a connection over the table.
-use Rattle.std.proofs.Common.{◌≡◌, inl, inr, ℕ, ℤ, ◌≤◌, List, [], ◌∷◌, ◌++◌, map, filter, length, Bool, true, false, not, ◌&&◌, None, Ok, Err, Result, OnOk, IfErr, IfOk, refl, sym, ap, subst, ◌∙◌, arith, IsTrue}
+use Rattle.std.proofs.Common.{◌≡◌, inl, inr, ℕ, ℤ, ◌≤◌, List, [], ◌∷◌, ◌++◌, map, filter, length, Bool, true, false, not, ◌&&◌, ◌==◌, None, Ok, Err, Result, OnOk, IfErr, IfOk, refl, sym, ap, subst, ◌∙◌, arith, IsTrue}
 use Rattle.std.proofs.lemmas.List.{length-map, map-append}
-use Rattle.std.specs.List.{AllByRecursion}
+use Rattle.std.specs.List.{AllByRecursion, list_all}
 use Rattle.sqlite.specs.Order.{Row, value_cmp}
+use Rattle.sqlite.specs.Term.{Term, holds}
 use Rattle.sqlite.specs.Tree.{rowid, put_row, IsTable}
 use Rattle.sqlite.specs.Edit.{id_in, next_rowid}
 use Rattle.sqlite.specs.declared.error.Error.{Error}
@@ -22,15 +23,16 @@ use Rattle.std.specs.declared.cmp.Ordering.TheVariants.{Less}
 use Rattle.txc_rows.specs.declared.version.Versioned.{Versioned}
 use Rattle.txc_rows.specs.States.{is_at}
 use Rattle.txc_rows.specs.Versions.{is_current, closed, removed, purged, has_died_by, Pairwise}
-use Rattle.txc_rows.proofs.Members.{bool_cases}
+use Rattle.txc_rows.specs.Found.{is_in, is_of}
+use Rattle.txc_rows.proofs.Members.{bool_cases, both_true}
 use Rattle.txc_rows.proofs.StoredVersions.{hit_is, held_kept}
 use Rattle.txc_rows.specs.Texts.{version_schema, no_schema}
 use Rattle.txc_rows.specs.Stored.{stored, number, version_in, versions_in, IsStored, AreStored}
 use Rattle.txc_rows.specs.Holdable.{AreHeld, HasEnded}
 use Rattle.txc_rows.specs.Kept.{rows_in, versions_of, HasTable, IsKept, IsStep, IsCall, IsReading}
-use Rattle.txc_rows.proofs.Commands.{insert_text, close_text, create_text, create_is, create_plain, purge_text, purge_is, purge_plain, select_text, select_plain}
+use Rattle.txc_rows.proofs.Commands.{insert_text, close_text, create_text, create_is, create_plain, purge_text, purge_is, purge_plain, IsListingOf, table_text, table_filter, table_is, row_text, row_filter, row_is}
 use Rattle.txc_rows.proofs.Steps.{insert_params, inserts, creates}
-use Rattle.txc_rows.proofs.StoredRows.{version_again}
+use Rattle.txc_rows.proofs.StoredRows.{version_again, table_test, row_test}
 use Rattle.txc_rows.proofs.Tables.{next_above, put_row_last}
 use Rattle.txc_rows.proofs.Writes.{keyed_all, is_hit, ended, close_params, closes, purges}
 use Rattle.txc_rows.proofs.Answering.{Refused, execute_refused, query_refused, shown_same, selects, listing}
@@ -142,7 +144,7 @@ refused_same old new kept (inl same) = kept_same old new kept same.0.now_is same
 refused_same old new kept (inr back) = kept_same old new kept ((back.undone refl).0 ∙ kept.settled) (back.undone refl).1 back.autocommit
 
 pub refused_call : {X : Type 0} (versions : List Versioned) (old new : Held MemStore) (e : Error) → IsKept old → Refused (state over_memory old) (state over_memory new) → IsCall {X = X} versions old new (Err e)
-refused_call versions old new e kept how = let same = refused_same old new kept how in record { kept = same.0; ok = tt; err = same.1 }
+refused_call versions old new e kept how = let same = refused_same old new kept how in record { kept = same.0; after = tt; unchanged = same.1 }
 
 pub makes : (old new : Held MemStore) (r : Result ℕ Error) → IsEmpty (state over_memory old) → Executes create_text [] (state over_memory old) (state over_memory new) r → OnOk r (IsKept new) × OnOk r (versions_of new ≡ [])
 makes old new (Err e) empty h = (tt, tt)
@@ -176,8 +178,8 @@ clears old new h (Ok count) kept ran =
         settled = shown.committed_is;
         versions = rw left (held_kept (λ v. not (has_died_by h v)) (versions_of old) kept.versions);
       };
-      ok = left;
-      err = tt;
+      after = left;
+      unchanged = tt;
     }
 
 -- ---- the end of a transaction
@@ -201,23 +203,36 @@ ended_call old mid end (Ok _) versions kept table apart base are idle ok err ins
         settled = ok.1.committed_is ∙ sym now;
         versions = subst (λ x. AreHeld (versions_in x)) (sym rows) apart;
       };
-      ok = ap versions_in rows ∙ are;
-      err = tt;
+      after = ap versions_in rows ∙ are;
+      unchanged = tt;
     }
 ended_call old mid end (Err e) versions kept table apart base are idle ok (inl fails) inside =
-    let same = undone_call old mid end kept base fails.3 in record { kept = same.0; ok = tt; err = same.1 }
+    let same = undone_call old mid end kept base fails.3 in record { kept = same.0; after = tt; unchanged = same.1 }
 ended_call old mid end (Err e) versions kept table apart base are idle ok (inr late) inside = absurd (let off = late.1 in cc)
 
--- ---- the versions of a table
+-- ---- versions of a table
 
-pub lists : (old new : Held MemStore) (t : ℕ) (r : Result (Vec Row Global) Error) → IsKept old
-    → IfOk r (λ rows. Shown select_text (number t ∷ []) (state over_memory old) (state over_memory new) rows.items) → IfErr r (FailsToQuery select_text (number t ∷ []) (state over_memory old) (state over_memory new))
-    → IsReading t old new r
-lists old new t (Ok rows) kept ok err =
-    let plain = subst (λ s. IsPlain (understood s select_text)) (sym kept.table.schema) select_plain in
-    let same = refused_same old new kept (inl (shown_same select_text (number t ∷ []) (state over_memory old) (state over_memory new) rows.items plain ok)) in
-    record { kept = same.0; same = same.1; lists = listing t (versions_of old) rows.items kept.versions.each (selects (state over_memory old) (state over_memory new) t rows.items kept.table.schema kept.table.rows ok) }
-lists old new t (Err e) kept ok err =
-    let plain = subst (λ s. IsPlain (understood s select_text)) (sym kept.table.schema) select_plain in
-    let same = refused_same old new kept (query_refused select_text (number t ∷ []) (state over_memory old) (state over_memory new) e plain err) in
-    record { kept = same.0; same = same.1; lists = tt }
+module _ (t : ℕ) (P : Versioned → Bool) (inside : (v : Versioned) → P v ≡ true → is_in t v ≡ true) (fs : List Term) (text : List ℕ) (is : IsListingOf fs text)
+    (params : Row) (test : (id : ℤ) (v : Versioned) → list_all (holds (params ∷ stored id v ∷ [])) fs ≡ P v) (old new : Held MemStore) (kept : IsKept old) where
+  plain : IsPlain (understood (state over_memory old).now.schema text)
+  plain = subst (λ s. IsPlain (understood s text)) (sym kept.table.schema) is.plain
+
+  pub lists : (r : Result (Vec Row Global) Error) → IfOk r (λ rows. Shown text params (state over_memory old) (state over_memory new) rows.items)
+      → IfErr r (FailsToQuery text params (state over_memory old) (state over_memory new)) → IsReading t P old new r
+  lists (Ok rows) ok err =
+      let same = refused_same old new kept (inl (shown_same text params (state over_memory old) (state over_memory new) rows.items plain ok)) in
+      let found = selects fs params text P test is (state over_memory old) (state over_memory new) rows.items kept.table.schema kept.table.rows ok in
+      record { kept = same.0; same = same.1; lists = listing t P inside (versions_of old) rows.items kept.versions.each found }
+  lists (Err e) ok err =
+      let same = refused_same old new kept (query_refused text params (state over_memory old) (state over_memory new) e plain err) in
+      record { kept = same.0; same = same.1; lists = tt }
+
+pub lists_table : (t : ℕ) (old new : Held MemStore) → IsKept old → (r : Result (Vec Row Global) Error)
+    → IfOk r (λ rows. Shown table_text (number t ∷ []) (state over_memory old) (state over_memory new) rows.items)
+    → IfErr r (FailsToQuery table_text (number t ∷ []) (state over_memory old) (state over_memory new)) → IsReading t (is_in t) old new r
+lists_table t old new kept = lists t (is_in t) (λ v e. e) table_filter table_text table_is (number t ∷ []) (table_test t) old new kept
+
+pub lists_row : (t i : ℕ) (old new : Held MemStore) → IsKept old → (r : Result (Vec Row Global) Error)
+    → IfOk r (λ rows. Shown row_text (number t ∷ number i ∷ []) (state over_memory old) (state over_memory new) rows.items)
+    → IfErr r (FailsToQuery row_text (number t ∷ number i ∷ []) (state over_memory old) (state over_memory new)) → IsReading t (is_of t i) old new r
+lists_row t i old new kept = lists t (is_of t i) (λ v e. (both_true (v.row.table == t) (v.row.id == i) e).0) row_filter row_text row_is (number t ∷ number i ∷ []) (row_test t i) old new kept

@@ -22,3 +22,4 @@ pub mod Finding
 pub mod KeepingLemmas
 pub mod Listed
 pub mod UsesLemmas
+pub mod Offered

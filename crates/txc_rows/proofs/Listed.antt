@@ -5,24 +5,25 @@ use Rattle.std.specs.declared.alloc.Global.{Global}
 use Rattle.std.proofs.lemmas.Result.{IfOk-weaker}
 use Rattle.sqlite.specs.Order.{Row}
 use Rattle.txc_rows.specs.declared.store_error.StoreError.{StoreError}
+use Rattle.txc_rows.specs.declared.store_error.TheConstants.{MAX_MATCHING}
 use Rattle.txc_rows.specs.declared.version.Versioned.{Versioned}
 use Rattle.txc_rows.specs.declared.query.Query.{Query}
 use Rattle.txc_rows.specs.States.{query_table}
 use Rattle.txc_rows.specs.Versions.{suits}
-use Rattle.txc_rows.specs.Found.{Finds}
+use Rattle.txc_rows.specs.Found.{is_read_for, Finds}
 use Rattle.txc_rows.specs.Keeping.{AnswersStates}
 use Rattle.txc_rows.specs.Stored.{version_shown}
 use Rattle.txc_rows.specs.Kept.{IsListing}
 use Rattle.txc_rows.proofs.Finding.{finds_in, found_length}
 use Rattle.txc_rows.proofs.KeepingLemmas.{found_answers}
 
-pub finds_listed : (q : Query) (vs : List Versioned) (rows : List Row) (r : Result (Vec Versioned Global) StoreError) → IsListing (query_table q) vs rows
+pub finds_listed : (q : Query) (vs : List Versioned) (rows : List Row) (r : Result (Vec Versioned Global) StoreError) → IsListing (query_table q) (is_read_for q) vs rows
     → IfOk r (λ v. v.items ≡ filter (suits q) (map (version_shown (query_table q)) rows)) → IfOk r (λ v. Finds q vs v.items)
 finds_listed q vs rows r h = IfOk-weaker r _ (λ v. Finds q vs v.items) (λ v is. rw is (finds_in q vs _ h.same h.sorted))
 
-pub answers_listed : (q : Query) (vs : List Versioned) (rows : List Row) (r : Result (Vec Versioned Global) StoreError) → IsListing (query_table q) vs rows
+pub answers_listed : (q : Query) (vs : List Versioned) (rows : List Row) (r : Result (Vec Versioned Global) StoreError) → IsListing (query_table q) (is_read_for q) vs rows
     → IfOk r (λ v. v.items ≡ filter (suits q) (map (version_shown (query_table q)) rows)) → IfOk r (λ v. AnswersStates q vs v.items)
 answers_listed q vs rows r h = IfOk-weaker r _ (λ v. AnswersStates q vs v.items) (λ v is. found_answers q vs v.items (rw is (finds_in q vs _ h.same h.sorted)))
 
-pub many_listed : (q : Query) (vs : List Versioned) (rows : List Row) → IsListing (query_table q) vs rows → 1024 < length (filter (suits q) (map (version_shown (query_table q)) rows)) → 1024 < length (filter (suits q) vs)
+pub many_listed : (q : Query) (vs : List Versioned) (rows : List Row) → IsListing (query_table q) (is_read_for q) vs rows → MAX_MATCHING < length (filter (suits q) (map (version_shown (query_table q)) rows)) → MAX_MATCHING < length (filter (suits q) vs)
 many_listed q vs rows h many = omega (arith, found_length q vs _ (finds_in q vs _ h.same h.sorted))

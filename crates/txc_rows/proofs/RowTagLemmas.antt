@@ -2,14 +2,14 @@
 use Rattle.std.proofs.Common.{◌≡◌, inl, inr, List, [], ◌∷◌, ◌++◌, filter, Bool, true, false, true≢false, not, ◌==◌, refl, sym, ap, subst, ◌∙◌}
 use Rattle.std.specs.List.{flat_map}
 use Rattle.txc_tags.specs.declared.tag.Tag.{Tag}
-use Rattle.txc_tags.specs.declared.tag.Tag.TheVariants.{Id, Group}
-use Rattle.txc_tags.specs.Tags.{tags_match, sets_match}
-use Rattle.txc_tags.proofs.Covering.{all_covered, covered_match}
+use Rattle.txc_tags.specs.Tags.{id_tag, group_tag, tags_match, sets_match}
+use Rattle.txc_tags.proofs.Offered.{all_covered, covered_match}
 use Rattle.txc_rows.specs.declared.query.Query.{Query}
 use Rattle.txc_rows.specs.declared.query.Query.TheVariants.{ById, ByGroup, All}
 use Rattle.txc_rows.specs.Members.{IsIn}
+use Rattle.txc_rows.specs.Values.{same_row}
 use Rattle.txc_rows.specs.States.{RowValue, State, matches, answer}
-use Rattle.txc_rows.specs.RowTags.{query_tag, covers_query, same_row, has_row, lost, tags_of_row, tags_between}
+use Rattle.txc_rows.specs.RowTags.{query_tag, covers_query, has_row, lost, tags_of_row, tags_between}
 use Rattle.txc_rows.specs.Laws.{TagsAreSound, NoTagsBetween}
 use Rattle.txc_rows.proofs.Members.{bool_cases, and_true, any_there, in_filter, from_filter, in_left, in_right}
 use Rattle.txc_rows.proofs.RowTests.{has_row_in, row_itself}
@@ -22,9 +22,9 @@ in_flat f x (z ∷ zs) y (inr later) k = in_right y (f z) (flat_map f zs) (in_fl
 
 -- one of a row's tags matches the tag of a query that the row matches
 tag_met : (q : Query) (r : RowValue) → matches q r ≡ true → (tag : Tag) × IsIn tag (tags_of_row r) × (tags_match tag (query_tag q) ≡ true)
-tag_met (ById table id) r e = (Id r.table r.id, inl refl, e)
-tag_met (ByGroup table group) r e = (Group r.table r.group, inr (inl refl), e)
-tag_met (All table) r e = (Id r.table r.id, inl refl, and_true (r.table == table) _ e refl)
+tag_met (ById table id) r e = (id_tag r.table r.id, inl refl, e)
+tag_met (ByGroup table group) r e = (group_tag r.table r.group, inr (inl refl), e)
+tag_met (All table) r e = (id_tag r.table r.id, inl refl, and_true (r.table == table) _ e refl)
 
 -- a row that one state lost and that the query matches shows itself in the tags
 shown : (old new : State) (q : Query) (set : List Tag) (r : RowValue) → IsIn r (lost old new ++ lost new old) → matches q r ≡ true → covers_query set q ≡ true → sets_match (tags_between old new) set ≡ true

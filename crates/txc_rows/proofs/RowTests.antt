@@ -2,10 +2,12 @@
 use Rattle.std.proofs.Common.{◌≡◌, true, ◌&&◌, ◌==◌, refl, sym, subst}
 use borrow.Author.Tests.{eqb-true, eq-eqb}
 use Rattle.std.proofs.lemmas.Slice.Eq.{bytes_eq-Decides}
+use Rattle.std.specs.Bool.{Decides}
 use Rattle.std.specs.Str.{bytes_eq}
 use Rattle.txc_rows.specs.Members.{IsIn}
+use Rattle.txc_rows.specs.Values.{same_row}
 use Rattle.txc_rows.specs.States.{RowValue, State}
-use Rattle.txc_rows.specs.RowTags.{same_row, has_row}
+use Rattle.txc_rows.specs.RowTags.{has_row}
 use Rattle.txc_rows.proofs.Members.{both_true, and_true, any_there, any_found}
 
 pub same_row_is : (r s : RowValue) → same_row r s ≡ true → r ≡ s
@@ -30,3 +32,7 @@ row_itself r = and_true _ _ (eq-eqb r.table r.table refl) (and_true _ _ (eq-eqb 
 
 pub has_there : (s : State) (r : RowValue) → IsIn r s → has_row s r ≡ true
 has_there s r h = any_there (same_row r) r s h (row_itself r)
+
+-- the test of two rows decides whether they are equal
+pub same_row_decides : (r s : RowValue) → Decides (same_row r s) (r ≡ s)
+same_row_decides r s = (same_row_is r s, λ e. subst (λ (x : RowValue). same_row r x ≡ true) e (row_itself r))

@@ -23,7 +23,7 @@ use Rattle.txc_rows.specs.declared.version.Versioned.{Versioned}
 use Rattle.txc_rows.specs.States.{is_at}
 use Rattle.txc_rows.specs.Versions.{is_current, has_died_by, died_by}
 use Rattle.txc_rows.specs.Stored.{stored, number, death, IsStored, death_in, version_in, shown, version_shown}
-use Rattle.txc_rows.proofs.Commands.{close_filter, purge_filter, select_filter, whole, alone}
+use Rattle.txc_rows.proofs.Commands.{close_filter, purge_filter, table_filter, row_filter, whole, alone}
 
 pub int_cmp-pos : (a b : ℕ) → int_cmp (pos a) (pos b) ≡ nat_cmp a b
 int_cmp-pos a b = grind (arith, nat_tests)
@@ -75,8 +75,16 @@ close_test t i s id v = all_three _ _ _ _ _ _ (eq_test v.row.table t) (eq_test v
 pub purge_test : (h : ℕ) (id : ℤ) (v : Versioned) → list_all (holds ((number h ∷ []) ∷ stored id v ∷ [])) purge_filter ≡ has_died_by h v
 purge_test h id v = one _ _ (le_test v.died h)
 
-pub select_test : (t : ℕ) (id : ℤ) (v : Versioned) → list_all (holds ((number t ∷ []) ∷ stored id v ∷ [])) select_filter ≡ (v.row.table == t)
-select_test t id v = one _ _ (eq_test v.row.table t)
+pub table_test : (t : ℕ) (id : ℤ) (v : Versioned) → list_all (holds ((number t ∷ []) ∷ stored id v ∷ [])) table_filter ≡ (v.row.table == t)
+table_test t id v = one _ _ (eq_test v.row.table t)
+
+both : (A B a b : Bool) → A ≡ a → B ≡ b → (A && (B && true)) ≡ (a && b)
+both A B true true p q = rw (p, q) refl
+both A B true false p q = rw (p, q) refl
+both A B false b p q = rw p refl
+
+pub row_test : (t i : ℕ) (id : ℤ) (v : Versioned) → list_all (holds ((number t ∷ number i ∷ []) ∷ stored id v ∷ [])) row_filter ≡ is_at t i v.row
+row_test t i id v = both _ _ _ _ (eq_test v.row.table t) (eq_test v.row.id i)
 
 -- ---- rows that are stored versions
 

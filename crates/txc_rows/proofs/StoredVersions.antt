@@ -2,12 +2,13 @@
 use Rattle.std.proofs.Common.{◌≡◌, ◌≢◌, ℕ, ◌≤◌, List, [], ◌∷◌, filter, Bool, true, false, cond, ◌&&◌, ◌==◌, Option, None, Some, is_none, refl, arith}
 use borrow.Author.Tests.{eqb-true, eq-eqb}
 use Rattle.std.specs.List.{AllByRecursion}
+use Rattle.txc_stamp.specs.declared.stamp.TheConstants.{LAST_STAMP}
 use Rattle.txc_rows.specs.declared.version.Versioned.{Versioned}
 use Rattle.txc_rows.specs.declared.query.Change.{Change}
 use Rattle.txc_rows.specs.declared.query.Change.TheVariants.{Put, Remove}
 use Rattle.txc_rows.specs.Values.{RowValue, IsRow}
 use Rattle.txc_rows.specs.States.{is_at}
-use Rattle.txc_rows.specs.Versions.{is_current, closed, removed, put, after_write, greatest_stamp}
+use Rattle.txc_rows.specs.Versions.{is_current, closed, removed, put, after_write}
 use Rattle.txc_rows.specs.Holdable.{IsHoldable, HasEnded, AreHeld, IsWritable}
 use Rattle.txc_rows.proofs.Members.{both_true}
 use Rattle.txc_rows.proofs.Pairs.{all_mapped, pairs_mapped, all_pushed, pairs_pushed, all_left, pairs_left}
@@ -26,10 +27,10 @@ hit_is t i v e =
 pub hit_from : (t i : ℕ) (v : Versioned) → v.row.table ≡ t → v.row.id ≡ i → v.died ≡ None → is_at t i v.row && is_current v ≡ true
 hit_from t i v a b c = rw (eq-eqb _ _ a, eq-eqb _ _ b, c) refl
 
-holdable_closed : (t i s : ℕ) → s ≤ greatest_stamp → (v : Versioned) → IsHoldable v → IsHoldable (closed t i s v)
+holdable_closed : (t i s : ℕ) → s ≤ LAST_STAMP → (v : Versioned) → IsHoldable v → IsHoldable (closed t i s v)
 holdable_closed t i s low v is = record { row = is.row; born = is.born; died = λ d e. go (is_at t i v.row && is_current v) d e }
   where
-    go : (b : Bool) → (d : ℕ) → cond b (Some s) v.died ≡ Some d → d ≤ greatest_stamp
+    go : (b : Bool) → (d : ℕ) → cond b (Some s) v.died ≡ Some d → d ≤ LAST_STAMP
     go true d e = let same : s ≡ d = cc in omega arith
     go false d e = is.died d e
 
@@ -41,7 +42,7 @@ closed_dead t i s v dead = go (is_at t i v.row && is_current v)
     go true e = cc
     go false e = dead e
 
-held_removed : (t i s : ℕ) → s ≤ greatest_stamp → (vs : List Versioned) → AreHeld vs → AreHeld (removed t i s vs)
+held_removed : (t i s : ℕ) → s ≤ LAST_STAMP → (vs : List Versioned) → AreHeld vs → AreHeld (removed t i s vs)
 held_removed t i s low vs h = record {
   each = all_mapped IsHoldable (closed t i s) (holdable_closed t i s low) vs h.each;
   ended = pairs_mapped HasEnded (closed t i s) (λ v w dead a b. closed_dead t i s v (dead a b)) vs h.ended;
@@ -56,7 +57,7 @@ none_current s row (v ∷ vs) = (λ a b. go (is_at row.table row.id v.row && is_
     go true hit a b e = cc
     go false off a b e = let hit = hit_from row.table row.id v a b e in cc
 
-held_put : (s : ℕ) → s ≤ greatest_stamp → (row : RowValue) → IsRow row → (vs : List Versioned) → AreHeld vs → AreHeld (put row s vs)
+held_put : (s : ℕ) → s ≤ LAST_STAMP → (row : RowValue) → IsRow row → (vs : List Versioned) → AreHeld vs → AreHeld (put row s vs)
 held_put s low row is vs h =
     let new : Versioned = record { row = row; born = s; died = None } in
     let before = held_removed row.table row.id s low vs h in

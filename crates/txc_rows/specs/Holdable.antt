@@ -1,17 +1,18 @@
 -- The versions that a store can hold.
 use Rattle.std.specs.Prelude.{◌≡◌, ◌≢◌, ◌≤◌, ℕ, List, Some, None}
 use Rattle.std.specs.List.{AllByRecursion}
+use Rattle.txc_stamp.specs.declared.stamp.TheConstants.{LAST_STAMP}
 use Rattle.txc_rows.specs.declared.version.Versioned.{Versioned}
 use Rattle.txc_rows.specs.declared.query.Change.{Change}
 use Rattle.txc_rows.specs.declared.query.Change.TheVariants.{Put, Remove}
 use Rattle.txc_rows.specs.Values.{IsRow}
-use Rattle.txc_rows.specs.Versions.{Pairwise, greatest_stamp}
+use Rattle.txc_rows.specs.Versions.{Pairwise}
 
 -- a row, and stamps that can be
 pub record IsHoldable (v : Versioned) : Type 0 where
   pub row : IsRow v.row
-  pub born : v.born ≤ greatest_stamp
-  pub died : (d : ℕ) → v.died ≡ Some d → d ≤ greatest_stamp
+  pub born : v.born ≤ LAST_STAMP
+  pub died : (d : ℕ) → v.died ≡ Some d → d ≤ LAST_STAMP
 
 -- of two versions of a table and id the one before has died
 abbrev pub HasEnded : Versioned → Versioned → Type 0
@@ -24,5 +25,5 @@ pub record AreHeld (vs : List Versioned) : Type 0 where
 
 -- the change writes what can be held
 abbrev pub IsWritable : ℕ → Change → Type 0
-IsWritable stamp (Put row) = (stamp ≤ greatest_stamp) × IsRow row
-IsWritable stamp (Remove table id) = stamp ≤ greatest_stamp
+IsWritable stamp (Put row) = (stamp ≤ LAST_STAMP) × IsRow row
+IsWritable stamp (Remove table id) = stamp ≤ LAST_STAMP

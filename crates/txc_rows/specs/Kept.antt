@@ -1,5 +1,5 @@
--- What a connection over the table of versions keeps.
-use Rattle.std.specs.Prelude.{◌≡◌, ℕ, true, false, List, map, filter, Result, Vec, OnOk, OnErr, IfOk}
+-- What a connection over the table of versions keeps. Words for private functions alone.
+use Rattle.std.specs.Prelude.{◌≡◌, ℕ, Bool, true, false, List, map, filter, Result, Vec, OnOk, OnErr, IfOk}
 use Rattle.std.specs.declared.alloc.Global.{Global}
 use Rattle.sqlite.specs.declared.error.Error.{Error}
 use Rattle.std.specs.List.{AllByRecursion}
@@ -11,7 +11,6 @@ use Rattle.sqlite_trees.specs.declared.memory.MemStore.{MemStore}
 use Rattle.txc_rows.specs.declared.version.Versioned.{Versioned}
 use Rattle.txc_rows.specs.Versions.{version_cmp}
 use Rattle.txc_rows.specs.Holdable.{IsHoldable, AreHeld}
-use Rattle.txc_rows.specs.Found.{is_in}
 use Rattle.txc_rows.specs.Texts.{version_schema}
 use Rattle.txc_rows.specs.Stored.{versions_in, AreStored, shown, version_shown}
 
@@ -36,31 +35,36 @@ pub record IsKept (h : Held MemStore) : Type 0 where
   pub versions : AreHeld (versions_of h)
 
 -- one statement of a transaction: these are the versions then, or it is refused. What is committed stays.
-pub record IsStep {X : Type 0} (versions : List Versioned) (old new : Held MemStore) (outcome : Result X Error) : Type 0 where
+pub record IsStep {X : Type 0} (versions : List Versioned) (old new : Held MemStore)
+    (outcome : Result X Error) : Type 0 where
   pub table : OnOk outcome (HasTable new)
   pub inside : OnOk outcome (new.in_transaction ≡ true)
   pub versions_are : OnOk outcome (versions_of new ≡ versions)
   pub base : (state over_memory new).committed ≡ (state over_memory old).committed
 
 -- a call on the connection: these are the versions then, or it is refused and they are as they were
-pub record IsCall {X : Type 0} (versions : List Versioned) (old new : Held MemStore) (outcome : Result X Error) : Type 0 where
+pub record IsCall {X : Type 0} (versions : List Versioned) (old new : Held MemStore)
+    (outcome : Result X Error) : Type 0 where
   pub kept : IsKept new
-  pub ok : OnOk outcome (versions_of new ≡ versions)
-  pub err : OnErr outcome (versions_of new ≡ versions_of old)
+  pub after : OnOk outcome (versions_of new ≡ versions)
+  pub unchanged : OnErr outcome (versions_of new ≡ versions_of old)
 
 -- the row shows a version of the table
 pub record IsShown (table : ℕ) (r : Row) : Type 0 where
   pub is : r ≡ shown (version_shown table r)
   pub version : IsHoldable (version_shown table r)
 
--- the rows show the versions of the table, by id and birth
-pub record IsListing (table : ℕ) (versions : List Versioned) (rows : List Row) : Type 0 where
+-- the rows show the versions that pass a test, all of one table, by id and birth
+pub record IsListing (table : ℕ) (passes : Versioned → Bool) (versions : List Versioned) (rows : List Row)
+    : Type 0 where
   pub each : AllByRecursion (IsShown table) rows
-  pub same : IsPermutation (filter (is_in table) versions) (map (version_shown table) rows)
+  pub same : IsPermutation (filter passes versions) (map (version_shown table) rows)
   pub sorted : IsSorted version_cmp (map (version_shown table) rows)
 
--- a reading of a table: the rows show its versions, or it is refused. All versions are as they were.
-pub record IsReading (table : ℕ) (old new : Held MemStore) (outcome : Result (Vec Row Global) Error) : Type 0 where
+-- a reading of a table: the rows show its versions that pass, or it is refused. All versions are as they
+-- were.
+pub record IsReading (table : ℕ) (passes : Versioned → Bool) (old new : Held MemStore)
+    (outcome : Result (Vec Row Global) Error) : Type 0 where
   pub kept : IsKept new
   pub same : versions_of new ≡ versions_of old
-  pub lists : IfOk outcome (λ rows. IsListing table (versions_of old) rows.items)
+  pub lists : IfOk outcome (λ rows. IsListing table passes (versions_of old) rows.items)

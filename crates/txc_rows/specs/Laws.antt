@@ -42,7 +42,8 @@ ChangeUpdates = (c : Change) (s : State) (table id : ℕ) → IsState s
 
 -- they lead from the state before all changes to the state after them
 abbrev pub NetLeads : Type 0
-NetLeads = (s : State) (changes : List Change) → IsState s → IsNet s (net_changes s changes) (after_changes changes s)
+NetLeads = (s : State) (changes : List Change) → IsState s
+    → IsNet s (net_changes s changes) (after_changes changes s)
 
 -- a table and id has a net change exactly where the states before and after differ
 abbrev pub NetIsDifference : Type 0
@@ -81,8 +82,8 @@ SaysAgree = (states others : ℕ → State) (horizon newest : ℕ) (vs : List Ve
 
 -- a write of net changes at the next stamp says the state that they lead to, and all those before it
 abbrev pub SaysWritten : Type 0
-SaysWritten = (states : ℕ → State) (horizon newest : ℕ) (net : List Change) (vs : List Versioned) → horizon ≤ newest
-    → states (suc newest) ≡ after_changes net (states newest) → SaysStates states horizon newest vs
+SaysWritten = (states : ℕ → State) (horizon newest : ℕ) (net : List Change) (vs : List Versioned)
+    → horizon ≤ newest → states (suc newest) ≡ after_changes net (states newest) → SaysStates states horizon newest vs
     → SaysStates states horizon (suc newest) (after_net (suc newest) net vs)
 
 -- a stamp at which no state changes
@@ -105,6 +106,6 @@ SaysAnswer = (q : Query) (t : ℕ) (vs found : List Versioned) (s : State) → I
 
 -- net changes of the newest state that versions say may be written over them at the next stamp
 abbrev pub NetIsWritable : Type 0
-NetIsWritable = (states : ℕ → State) (horizon newest : ℕ) (net : List Change) (vs : List Versioned) (new : State)
-    → horizon ≤ newest → SaysStates states horizon newest vs → IsNet (states newest) net new
+NetIsWritable = (states : ℕ → State) (horizon newest : ℕ) (net : List Change) (vs : List Versioned)
+    (new : State) → horizon ≤ newest → SaysStates states horizon newest vs → IsNet (states newest) net new
     → AreChanges (suc newest) net vs

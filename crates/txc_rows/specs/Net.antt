@@ -25,7 +25,7 @@ abbrev pub key_before : Change → Change → Bool
 key_before c d = nat_lt (change_table c) (change_table d)
     || ((change_table c == change_table d) && nat_lt (change_id c) (change_id d))
 
--- a put of a row that isn't there, or a removal of one that is
+-- a put of a row that is not there, or a removal of one that is
 abbrev pub changes_state : State → Change → Bool
 changes_state s (Put row) = not (has_row s row)
 changes_state s (Remove table id) = list_any (is_at table id) s
@@ -33,7 +33,8 @@ changes_state s (Remove table id) = list_any (is_at table id) s
 -- a change at its place, unless a later one has its key
 abbrev pub placed : Change → List Change → List Change
 placed c [] = c ∷ []
-placed c (d ∷ ds) = if same_key c d then d ∷ ds else (if key_before c d then c ∷ (d ∷ ds) else d ∷ placed c ds)
+placed c (d ∷ ds) =
+    if same_key c d then d ∷ ds else (if key_before c d then c ∷ (d ∷ ds) else d ∷ placed c ds)
 
 -- the last change of each key, by table and id
 abbrev pub settled : List Change → List Change

@@ -1,27 +1,22 @@
 -- The tags of queries and of changed rows.
 use Rattle.std.specs.Prelude.{Bool, ◌&&◌, ◌==◌, not, List, [], ◌∷◌, ◌++◌, filter}
 use Rattle.std.specs.List.{list_any, flat_map}
-use Rattle.std.specs.Str.{bytes_eq}
 use Rattle.txc_tags.specs.declared.tag.Tag.{Tag}
-use Rattle.txc_tags.specs.declared.tag.Tag.TheVariants.{Id, Group, Wildcard}
-use Rattle.txc_tags.specs.Tags.{covers, set_of}
+use Rattle.txc_tags.specs.Tags.{wildcard, id_tag, group_tag, covers, set_of}
 use Rattle.txc_rows.specs.declared.query.Query.{Query}
 use Rattle.txc_rows.specs.declared.query.Query.TheVariants.{ById, ByGroup, All}
+use Rattle.txc_rows.specs.Values.{same_row}
 use Rattle.txc_rows.specs.States.{RowValue, State}
 
 -- the one tag of a query
 abbrev pub query_tag : Query → Tag
-query_tag (ById table id) = Id table id
-query_tag (ByGroup table group) = Group table group
-query_tag (All table) = Wildcard table
+query_tag (ById table id) = id_tag table id
+query_tag (ByGroup table group) = group_tag table group
+query_tag (All table) = wildcard table
 
 -- a set covers a query where it covers its tag
 abbrev pub covers_query : List Tag → Query → Bool
 covers_query set q = covers set (query_tag q)
-
--- the rows are equal
-abbrev pub same_row : RowValue → RowValue → Bool
-same_row r s = (r.table == s.table) && ((r.id == s.id) && ((r.group == s.group) && bytes_eq r.body s.body))
 
 -- the state has the row
 abbrev pub has_row : State → RowValue → Bool
@@ -33,8 +28,9 @@ lost old new = filter (λ r. not (has_row new r)) old
 
 -- its id's tag and its group's
 abbrev pub tags_of_row : RowValue → List Tag
-tags_of_row r = Id r.table r.id ∷ Group r.table r.group ∷ []
+tags_of_row r = id_tag r.table r.id ∷ group_tag r.table r.group ∷ []
 
--- for each table and id at which two states differ its id's tag and the tags of its old and its new group, as one set
+-- for each table and id at which two states differ its id's tag and the tags of its old and its new group, as
+-- one set
 abbrev pub tags_between : State → State → List Tag
 tags_between old new = set_of (flat_map tags_of_row (lost old new ++ lost new old))

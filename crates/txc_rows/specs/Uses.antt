@@ -25,7 +25,8 @@ after_use vs (purge horizon) = purged horizon vs
 abbrev pub versions_after : List Use → List Versioned
 versions_after = fold after_use []
 
--- what a use makes of the state at a stamp: a write changes it from its own stamp on, and a purge changes no state
+-- what a use makes of the state at a stamp: a write changes it from its own stamp on, and a purge changes no
+-- state
 abbrev pub use_at : ℕ → State → Use → State
 use_at t s (write net stamp) = if nat_le stamp t then after_changes net s else s
 use_at t s (purge horizon) = s

@@ -1,6 +1,9 @@
 -- A row as contracts see it.
-use Rattle.std.specs.Prelude.{ℕ, ◌<◌, ◌≤◌, ◌^◌, List, length}
+use Rattle.std.specs.Prelude.{ℕ, ◌<◌, ◌≤◌, ◌^◌, Bool, ◌&&◌, ◌==◌, List, length}
 use Rattle.std.specs.List.{AllByRecursion}
+use Rattle.std.specs.Str.{bytes_eq}
+use Rattle.txc_tags.specs.declared.tag.TheConstants.{LAST_TABLE}
+use Rattle.txc_rows.specs.declared.row.TheConstants.{MAX_BODY_LEN, FIRST_BODY_BYTE, LAST_BODY_BYTE}
 
 -- its table, its id in the table, its group and its body
 pub record RowValue : Type 0 where
@@ -9,15 +12,19 @@ pub record RowValue : Type 0 where
   pub group : ℕ
   pub body : List ℕ
 
--- 1 to 256 bytes, each from 0x21 to 0x7E
+-- the rows are equal
+abbrev pub same_row : RowValue → RowValue → Bool
+same_row r s = r.table == s.table && (r.id == s.id && (r.group == s.group && bytes_eq r.body s.body))
+
+-- 1 byte to the most there may be, each of those that print and are no blank
 pub record IsBody (body : List ℕ) : Type 0 where
   pub some : 1 ≤ length body
-  pub most : length body ≤ 256
-  pub each : AllByRecursion (λ byte. (33 ≤ byte) × (byte ≤ 126)) body
+  pub most : length body ≤ MAX_BODY_LEN
+  pub each : AllByRecursion (λ byte. (FIRST_BODY_BYTE ≤ byte) × (byte ≤ LAST_BODY_BYTE)) body
 
--- a table 0 to 15, an id and a group of 32 bits, and a body
+-- one of the tables, an id and a group of 32 bits, and a body
 pub record IsRow (r : RowValue) : Type 0 where
-  pub table : r.table < 16
+  pub table : r.table ≤ LAST_TABLE
   pub id : r.id < 2 ^ 32
   pub group : r.group < 2 ^ 32
   pub body : IsBody r.body

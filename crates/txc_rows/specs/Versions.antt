@@ -3,6 +3,7 @@ use Rattle.std.specs.Prelude.{◌≡◌, ◌≢◌, ◌<◌, ◌≤◌, ⊤, ℕ
 use Rattle.std.specs.declared.cmp.Ordering.{Ordering}
 use Rattle.std.specs.Ordering.{nat_cmp, ordering_then}
 use Rattle.std.specs.List.{AllByRecursion}
+use Rattle.txc_stamp.specs.declared.stamp.TheConstants.{LAST_STAMP}
 use Rattle.txc_rows.specs.declared.version.Versioned.{Versioned}
 use Rattle.txc_rows.specs.declared.query.Query.{Query}
 use Rattle.txc_rows.specs.declared.query.Change.{Change}
@@ -47,7 +48,8 @@ is_current v = is_none v.died
 
 -- the version after a change of the table and id at the stamp: the current one ends there
 abbrev pub closed : ℕ → ℕ → ℕ → Versioned → Versioned
-closed table id stamp v = record v { died = if is_at table id v.row && is_current v then Some stamp else v.died }
+closed table id stamp v =
+    record v { died = if is_at table id v.row && is_current v then Some stamp else v.died }
 
 -- the versions after a removal
 abbrev pub removed : ℕ → ℕ → ℕ → List Versioned → List Versioned
@@ -82,17 +84,14 @@ purged horizon = filter (λ v. not (has_died_by horizon v))
 
 -- ---- what a list of versions keeps
 
--- the greatest stamp
-abbrev pub greatest_stamp : ℕ
-greatest_stamp = 1048576
-
 -- a row that stands for some stamps
 pub record IsVersion (v : Versioned) : Type 0 where
   pub row : IsRow v.row
-  pub born : v.born ≤ greatest_stamp
-  pub life : (d : ℕ) → v.died ≡ Some d → (v.born < d) × (d ≤ greatest_stamp)
+  pub born : v.born ≤ LAST_STAMP
+  pub life : (d : ℕ) → v.died ≡ Some d → (v.born < d) × (d ≤ LAST_STAMP)
 
--- of two versions of a table and id the one before died by the other's birth, and where it died then they differ
+-- of two versions of a table and id the one before died by the other's birth, and where it died then they
+-- differ
 pub record Follows (v w : Versioned) : Type 0 where
   pub died : v.row.table ≡ w.row.table → v.row.id ≡ w.row.id
       → (d : ℕ) × (v.died ≡ Some d) × (d ≤ w.born) × (d ≡ w.born → v.row ≢ w.row)

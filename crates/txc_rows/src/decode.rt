@@ -1,41 +1,29 @@
 //! Versions from the rows that the store shows.
 
-ghost use Rattle.std.specs.Prelude.{◌≡◌, ◌<◌, ◌≤◌, IfOk, Some, map, filter, length};
+ghost use Rattle.std.specs.Prelude.{◌≡◌, ◌⊎◌, ◌<◌, ◌≤◌, Err, IfOk, IfErr, Some, map, filter, length};
 ghost use Rattle.std.specs.List.{AllByRecursion};
+ghost use Rattle.txc_stamp.specs.declared.stamp.TheConstants.{LAST_STAMP};
 ghost use Rattle.txc_rows.specs.States.{query_table};
 ghost use Rattle.txc_rows.specs.Values.{IsBody};
-ghost use Rattle.txc_rows.specs.Versions.{suits, greatest_stamp};
+ghost use Rattle.txc_rows.specs.Versions.{suits};
 ghost use Rattle.txc_rows.specs.Stored.{version_shown};
 ghost use Rattle.txc_rows.specs.Kept.{IsShown};
+ghost use Rattle.txc_rows.specs.declared.store_error.TheConstants.{MAX_MATCHING};
 
 use crate::query::Query;
 use crate::row::Row;
-use crate::store_error::StoreError;
+use crate::store_error::{MAX_MATCHING, StoreError};
 use crate::version::Versioned;
 use std::alloc::Global;
 use txc_stamp::Stamp;
 use txc_tags::Table;
 
-/// How many versions may match a query.
-pub(crate) const MOST_VERSIONS: usize = 1024;
-
-/// A stamp that was stored.
-fn stamp_from(number: u32) -> Stamp
-    requires { number ≤ greatest_stamp }
-    ensures { result ≡ number }
-{
-    match Stamp::new(number) {
-        Ok(stamp) => stamp,
-        Err(_) => unreachable!(),
-    }
-}
-
 fn death_from(number: Option<u32>) -> Option<Stamp>
-    requires { (d : _) → number ≡ Some d → d ≤ greatest_stamp }
+    requires { (d : _) → number ≡ Some d → d ≤ LAST_STAMP }
     ensures { result ≡ number }
 {
     match number {
-        Some(number) => Some(stamp_from(number)),
+        Some(number) => Some(Stamp::after(number as usize)),
         None => None,
     }
 }
@@ -62,7 +50,7 @@ fn version_from(table: Table, shown: &sqlite::Row) -> Result<Versioned, sqlite::
     let died: Option<u32> = shown.get(4)?;
     Ok(Versioned {
         row: row_from(table, id, group, body),
-        born: stamp_from(born),
+        born: Stamp::after(born as usize),
         died: death_from(died),
     })
 }
@@ -74,18 +62,22 @@ pub(crate) fn select(
     rows: &[sqlite::Row],
 ) -> Result<Vec<Versioned>, StoreError>
     requires { AllByRecursion (IsShown (query_table query.now)) rows.now }
-    ensures found { IfOk result (λ vs. vs.items
+    ensures answer { IfOk result (λ vs. vs.items
         ≡ filter (suits query.now) (map (version_shown (query_table query.now)) rows.now)) }
-    ensures most { IfOk result (λ vs. length vs.items ≤ 1024) }
-    ensures many { result ≡ Err StoreError.TooManyRows
-        → 1024 < length (filter (suits query.now) (map (version_shown (query_table query.now)) rows.now)) }
+    ensures bound { IfOk result (λ vs. length vs.items ≤ MAX_MATCHING) }
+    ensures refused { result ≡ Err StoreError.TooManyRows → MAX_MATCHING
+        < length (filter (suits query.now) (map (version_shown (query_table query.now)) rows.now)) }
+    ensures only { IfErr result (λ e. (e ≡ StoreError.TooManyRows) ⊎ (e ≡ StoreError.Memory)) }
 {
     let table = query.table();
     let mut found = Vec::new(alloc);
     for shown in rows {
-        let version = version_from(table, shown)?;
+        // What is stored can be read back, where there is memory for it.
+        let Ok(version) = version_from(table, shown) else {
+            return Err(StoreError::Memory);
+        };
         if query.matches(&version.row) {
-            if found.len() == MOST_VERSIONS {
+            if found.len() == MAX_MATCHING {
                 return Err(StoreError::TooManyRows);
             }
             found.push(version)?;

@@ -18,6 +18,7 @@ pub enum Query {
 }
 
 impl Query {
+    /// The table that it asks.
     pub fn table(&self) -> Table
         ensures { result ≡ query_table self.now }
     {
@@ -28,6 +29,7 @@ impl Query {
         }
     }
 
+    /// Whether the row is one of those that it asks for.
     pub fn matches(&self, row: &Row) -> bool
         ensures { result ≡ matches self.now row.now }
     {
@@ -43,9 +45,9 @@ impl Query {
         ensures { result ≡ query_tag self.now }
     {
         match *self {
-            Query::ById(table, id) => Tag::Id(table, id),
-            Query::ByGroup(table, group) => Tag::Group(table, group),
-            Query::All(table) => Tag::Wildcard(table),
+            Query::ById(table, id) => Tag::id(table, id),
+            Query::ByGroup(table, group) => Tag::group(table, group),
+            Query::All(table) => Tag::wildcard(table),
         }
     }
 }

@@ -6,14 +6,19 @@ use std::marker::Model;
 use thiserror::Error;
 use txc_tags::Table;
 
-/// The longest body, in bytes.
-pub const LONGEST_BODY: usize = 256;
+/// The most bytes of a body.
+pub const MAX_BODY_LEN: usize = 256;
+
+/// The first and the last byte that a body may hold: those that print and are no blank.
+pub const FIRST_BODY_BYTE: u8 = 0x21;
+pub const LAST_BODY_BYTE: u8 = 0x7e;
 
 /// Why a row cannot be made.
 #[derive(Clone, Copy, Debug, PartialEq, Eq, Error)]
 pub enum RowError {
-    /// The body is empty, longer than 256 bytes, or has a byte outside 0x21 to 0x7E (R1).
-    #[error("a body is 1 to 256 bytes, each from 0x21 to 0x7E")]
+    /// The body is empty, longer than [`MAX_BODY_LEN`], or has a byte outside [`FIRST_BODY_BYTE`] to
+    /// [`LAST_BODY_BYTE`].
+    #[error("a body is 1 to {MAX_BODY_LEN} bytes, each from 0x21 to 0x7E")]
     BadBody,
 }
 
@@ -41,19 +46,20 @@ impl Model for Row {
 fn is_body(body: &[u8]) -> bool
     ensures { IsTrue result ↔ IsBody body.now }
 {
-    if body.is_empty() || body.len() > LONGEST_BODY {
+    if body.is_empty() || body.len() > MAX_BODY_LEN {
         return false;
     }
-    body.iter().all(|byte| *byte >= 0x21 && *byte <= 0x7e)
+    body.iter()
+        .all(|byte| *byte >= FIRST_BODY_BYTE && *byte <= LAST_BODY_BYTE)
 }
 
 impl Row {
-    /// A body is 1 to 256 bytes, each one that prints and is no blank; any other is `BadBody`, and is dropped.
+    /// A row with that body. A body that is refused is dropped.
     pub fn new(table: Table, id: u32, group: u32, body: Vec<u8>) -> Result<Row, RowError>
-        ensures row { IfOk result (λ r. r
+        ensures answer { IfOk result (λ r. r
             ≡ record { table = table; id = id; group = group; body = body.items }) }
-        ensures good { IsOk result ↔ IsBody body.items }
-        ensures bad { IsErrOf result RowError.BadBody ↔ (IsBody body.items → ⊥) }
+        ensures only_if { IsOk result ↔ IsBody body.items }
+        ensures refused { IsErrOf result RowError.BadBody ↔ (¬ IsBody body.items) }
     {
         if !is_body(&body) {
             return Err(RowError::BadBody);
@@ -66,38 +72,33 @@ impl Row {
         })
     }
 
+    /// The table in which it stands.
     pub fn table(&self) -> Table
         ensures { result ≡ self.now.table }
     {
         self.table
     }
 
+    /// Its number in the table.
     pub fn id(&self) -> u32
         ensures { result ≡ self.now.id }
     {
         self.id
     }
 
+    /// The number of its group.
     pub fn group(&self) -> u32
         ensures { result ≡ self.now.group }
     {
         self.group
     }
 
+    /// The bytes that it holds.
     pub fn body(&self) -> &[u8]
-        ensures body { result.now ≡ self.now.body }
-        ensures row { IsRow self.now }
+        ensures answer { result.now ≡ self.now.body }
+        ensures bounds { IsRow self.now }
     {
         &self.body
-    }
-
-    pub fn is_same(&self, other: &Row) -> bool
-        ensures { IsTrue result ↔ (self.now ≡ other.now) }
-    {
-        self.table == other.table
-            && self.id == other.id
-            && self.group == other.group
-            && self.body.as_slice() == other.body.as_slice()
     }
 
     /// An equal row.
@@ -111,4 +112,26 @@ impl Row {
             body: Vec::from_slice(alloc, &self.body)?,
         })
     }
+}
+
+impl PartialEq for Row {
+    ghost use Rattle.std.proofs.Common.{rules};
+    ghost use Rattle.std.specs.Cmp.Rules.{comparing};
+    ghost use Rattle.txc_rows.specs.Values.{same_row};
+
+    ghost eq = { same_row };
+
+    ghost laws = { Prim.search (comparing, rules) };
+
+    fn eq(&self, other: &Row) -> bool {
+        let (table, id, group, body) = (self.table(), self.id(), self.group(), self.body());
+        table == other.table() && id == other.id() && group == other.group() && body == other.body()
+    }
+}
+
+impl Eq for Row {
+    ghost use Rattle.std.proofs.Common.{rules};
+    ghost use Rattle.std.specs.Cmp.Rules.{comparing};
+
+    ghost laws = { Prim.search (comparing, rules) };
 }

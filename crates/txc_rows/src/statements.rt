@@ -3,12 +3,15 @@
 ghost use Rattle.std.specs.Prelude.{◌≡◌, ◌++◌, ◌∷◌, [], ◌≤◌, true, OnOk, None};
 ghost use Rattle.sqlite.specs.Held.{state};
 ghost use Rattle.sqlite.specs.Steps.{over_memory, IsEmpty};
+ghost use Rattle.txc_stamp.specs.declared.stamp.TheConstants.{LAST_STAMP};
 ghost use Rattle.txc_rows.specs.Values.{IsRow};
-ghost use Rattle.txc_rows.specs.Versions.{removed, purged, after_write, after_net, greatest_stamp};
+ghost use Rattle.txc_rows.specs.Versions.{removed, purged, after_write, after_net};
 ghost use Rattle.txc_rows.specs.Holdable.{AreHeld, IsWritable};
+ghost use Rattle.txc_rows.specs.States.{query_table};
+ghost use Rattle.txc_rows.specs.Found.{is_in, is_of, is_read_for};
 ghost use Rattle.txc_rows.specs.Kept.{versions_of, HasTable, IsKept, IsStep, IsCall, IsReading};
 
-use crate::query::Change;
+use crate::query::{Change, Query};
 use crate::row::Row;
 use sqlite::{Connection, Error, MemStore, Transaction, params};
 use std::alloc::Global;
@@ -17,7 +20,9 @@ use txc_tags::Table;
 
 /// A row for each version.
 const CREATE_TABLE: &str =
-    "CREATE TABLE version (table_number INTEGER NOT NULL, id INTEGER NOT NULL, born INTEGER NOT NULL, group_number INTEGER NOT NULL, body BLOB NOT NULL, died INTEGER, PRIMARY KEY (table_number, id, born)) STRICT";
+    "CREATE TABLE version (table_number INTEGER NOT NULL, id INTEGER NOT NULL, born INTEGER NOT NULL, \
+     group_number INTEGER NOT NULL, body BLOB NOT NULL, died INTEGER, \
+     PRIMARY KEY (table_number, id, born)) STRICT";
 
 /// A version that has not died.
 const ADD_VERSION: &str =
@@ -33,6 +38,11 @@ const DELETE_DEAD: &str = "DELETE FROM version WHERE died <= ?1";
 /// The versions of a table, by id and birth.
 const READ_TABLE: &str =
     "SELECT id, group_number, body, born, died FROM version WHERE table_number = ?1 ORDER BY id, born";
+
+/// The versions of a table and id, by birth.
+const READ_ROW: &str =
+    "SELECT id, group_number, body, born, died FROM version \
+     WHERE table_number = ?1 AND id = ?2 ORDER BY id, born";
 
 /// Makes the table in a store that has none.
 pub(crate) fn create(conn: &mut Connection<MemStore>) -> Result<usize, Error>
@@ -76,7 +86,7 @@ fn end_version(
     requires inside { tx.old.conn.now.in_transaction ≡ true }
     requires held { AreHeld (versions_of tx.old.conn.now) }
     ensures same_reference { tx.new.conn.ghost_name ≡ tx.old.conn.ghost_name }
-    ensures stamp { stamp ≤ greatest_stamp }
+    ensures stamp { stamp ≤ LAST_STAMP }
     ensures step { IsStep
         (removed table id stamp (versions_of tx.old.conn.now))
         tx.old.conn.now tx.new.conn.now result }
@@ -138,12 +148,36 @@ pub(crate) fn delete_dead(conn: &mut Connection<MemStore>, horizon: Stamp) -> Re
 }
 
 /// The versions of a table, by id and birth.
-pub(crate) fn read_table(
-    conn: &mut Connection<MemStore>,
-    table: Table,
-) -> Result<Vec<sqlite::Row>, Error>
+fn read_table(conn: &mut Connection<MemStore>, table: Table) -> Result<Vec<sqlite::Row>, Error>
     requires { IsKept conn.old }
-    ensures { IsReading table conn.old conn.new result }
+    ensures { IsReading table (is_in table) conn.old conn.new result }
 {
     conn.query_all(READ_TABLE, params![u32::from(table.number())])
+}
+
+/// The versions of a table and id, by birth. The store finds them by the key of its table.
+fn read_row(
+    conn: &mut Connection<MemStore>,
+    table: Table,
+    id: u32,
+) -> Result<Vec<sqlite::Row>, Error>
+    requires { IsKept conn.old }
+    ensures { IsReading table (is_of table id) conn.old conn.new result }
+{
+    conn.query_all(READ_ROW, params![u32::from(table.number()), id])
+}
+
+/// Versions of the query's table, by id and birth, with all those that match among them.
+pub(crate) fn read(
+    conn: &mut Connection<MemStore>,
+    query: &Query,
+) -> Result<Vec<sqlite::Row>, Error>
+    requires { IsKept conn.old }
+    ensures { IsReading (query_table query.now) (is_read_for query.now) conn.old conn.new result }
+{
+    match *query {
+        Query::ById(table, id) => read_row(conn, table, id),
+        Query::ByGroup(table, _) => read_table(conn, table),
+        Query::All(table) => read_table(conn, table),
+    }
 }

@@ -7,10 +7,11 @@ ghost use Rattle.txc_rows.specs.Found.{Finds};
 ghost use Rattle.txc_rows.specs.Keeping.{KeepsStates, KeepsWritten, KeepsPurged, AnswersStates};
 ghost use Rattle.txc_rows.specs.Kept.{IsKept, versions_of};
 ghost use Rattle.txc_rows.specs.StoreErrors.{IsStoreRefusal};
+ghost use Rattle.txc_rows.specs.declared.store_error.TheConstants.{MAX_MATCHING};
 
 use crate::decode::select;
 use crate::query::{Change, Query};
-use crate::statements::{create, delete_dead, read_table, write_all};
+use crate::statements::{create, delete_dead, read, write_all};
 use crate::store_error::StoreError;
 use crate::version::Versioned;
 use sqlite::{Connection, MemStore};
@@ -48,37 +49,38 @@ fn open_table(alloc: Global) -> Result<Connection<MemStore>, sqlite::Error>
 }
 
 impl VersionRows {
-    /// A store that has no version. It is refused for want of memory, which is `Store`.
+    /// A store that has no version. It is refused where the store is out of memory.
     pub fn open_in_memory(alloc: Global) -> Result<VersionRows, StoreError>
-        ensures ok { IfOk result (λ rows. rows ≡ []) }
+        ensures answer { IfOk result (λ rows. rows ≡ []) }
         ensures keeps { IfOk result (λ rows.
             (states : ℕ → State) → states 0 ≡ [] → KeepsStates states 0 0 rows) }
-        ensures cause { IfErr result IsStoreRefusal }
+        ensures refused { IfErr result IsStoreRefusal }
     {
         let conn = open_table(alloc)?;
         Ok(VersionRows { conn, alloc })
     }
 
-    /// The versions that match, by id and then by birth.
+    /// The versions that match, by id and then by birth. Those of one row are found by the key of the table,
+    /// others by a look at the whole table.
     pub fn matching(&mut self, query: &Query) -> Result<Vec<Versioned>, StoreError>
         ensures same { self.new ≡ self.old }
-        ensures found { IfOk result (λ found. Finds query.now self.old found.items) }
-        ensures most { IfOk result (λ found. length found.items ≤ 1024) }
+        ensures answer { IfOk result (λ found. Finds query.now self.old found.items) }
+        ensures bound { IfOk result (λ found. length found.items ≤ MAX_MATCHING) }
         ensures answers { IfOk result (λ found. AnswersStates query.now self.old found.items) }
-        ensures many { result ≡ Err StoreError.TooManyRows
-            → 1024 < length (filter (suits query.now) self.old) }
+        ensures refused { result ≡ Err StoreError.TooManyRows
+            → MAX_MATCHING < length (filter (suits query.now) self.old) }
     {
-        let rows = read_table(&mut self.conn, query.table())?;
+        let rows = read(&mut self.conn, query)?;
         select(self.alloc, query, rows.as_slice())
     }
 
-    /// Writes the net changes of the commit with this stamp, all or none. A change ends the current version of its
-    /// table and id at the stamp; a put adds one that is born there.
+    /// Writes the net changes of the commit with this stamp, all or none. A change ends the current version
+    /// of its table and id at the stamp; a put adds one that is born there.
     pub fn write(&mut self, net: &[Change], stamp: Stamp) -> Result<(), StoreError>
-        ensures ok { OnOk result (self.new ≡ after_net stamp net.now self.old) }
+        ensures after { OnOk result (self.new ≡ after_net stamp net.now self.old) }
         ensures keeps { OnOk result (KeepsWritten net.now stamp self.old self.new) }
-        ensures err { OnErr result (self.new ≡ self.old) }
-        ensures cause { IfErr result IsStoreRefusal }
+        ensures unchanged { OnErr result (self.new ≡ self.old) }
+        ensures refused { IfErr result IsStoreRefusal }
     {
         write_all(&mut self.conn, net, stamp)?;
         Ok(())
@@ -86,17 +88,17 @@ impl VersionRows {
 
     /// Deletes the versions that died at the horizon or before: no stamp from the horizon on has shown them.
     pub fn purge(&mut self, horizon: Stamp) -> Result<(), StoreError>
-        ensures ok { OnOk result (self.new ≡ purged horizon self.old) }
+        ensures after { OnOk result (self.new ≡ purged horizon self.old) }
         ensures keeps { OnOk result (KeepsPurged horizon self.old self.new) }
-        ensures err { OnErr result (self.new ≡ self.old) }
-        ensures cause { IfErr result IsStoreRefusal }
+        ensures unchanged { OnErr result (self.new ≡ self.old) }
+        ensures refused { IfErr result IsStoreRefusal }
     {
         delete_dead(&mut self.conn, horizon)?;
         Ok(())
     }
 
-    /// Limits the steps of each later statement of the store, or takes the limit away. It is for tests: it stops a
-    /// statement in the middle, with an error of the store, and nothing of that call is left written.
+    /// Limits the steps of each later statement of the store, or takes the limit away. It is for tests: it
+    /// stops a statement in the middle, with an error of the store, and nothing of that call is left written.
     pub fn set_step_limit(&mut self, limit: Option<u64>)
         ensures { self.new ≡ self.old }
     {

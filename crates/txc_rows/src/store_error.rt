@@ -1,27 +1,35 @@
 use std::alloc::{AllocError, AllocFailed};
 use thiserror::Error;
 
-/// What a call of the store of row versions is refused for. After it the versions are as they were.
+/// The most versions that may match a query.
+pub const MAX_MATCHING: usize = 1024;
+
+/// Why a call of the store of row versions was refused. After it the versions are as they were.
 #[derive(Clone, Copy, Debug, PartialEq, Eq, Error)]
 pub enum StoreError {
-    /// Over 1,024 versions match the query (R2).
+    /// More than [`MAX_MATCHING`] versions match the query.
     #[error("over 1,024 versions match")]
     TooManyRows,
-    /// The store refused, for want of memory of its own too (R3). Its transaction was rolled back.
+    /// The store refused for another reason than memory. Its transaction was rolled back.
     #[error("the store refused: {0}")]
     Store(sqlite::Error),
-    /// There is no memory for the answer.
+    /// The store was out of memory for its own work. Its transaction was rolled back.
+    #[error("the store refused: out of memory")]
+    StoreMemory,
+    /// The allocator had no memory for the answer.
     #[error("out of memory")]
     Memory,
 }
 
 impl From<sqlite::Error> for StoreError {
-    ghost use Rattle.std.specs.Prelude.{◌≡◌};
-    ghost use Rattle.txc_rows.specs.declared.store_error.StoreError.TheVariants.{Store};
+    ghost use Rattle.txc_rows.specs.StoreErrors.{IsRefusalBy};
 
-    ghost from_gives = { λ cause it. it ≡ Store cause };
+    ghost from_gives = { IsRefusalBy };
 
     fn from(cause: sqlite::Error) -> StoreError {
+        if cause == sqlite::Error::SqliteFailure(sqlite::ErrorCode::OutOfMemory) {
+            return StoreError::StoreMemory;
+        }
         StoreError::Store(cause)
     }
 }

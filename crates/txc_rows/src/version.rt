@@ -4,7 +4,8 @@ ghost use Rattle.txc_rows.specs.Versions.{is_visible};
 use crate::row::Row;
 use txc_stamp::Stamp;
 
-/// A row with the stamps at which it stands: from `born` to the stamp before `died`, or on while that is `None`.
+/// A row with the stamps at which it stands: from `born` to the stamp before `died`, or on while that is
+/// None.
 #[derive(Debug, Drop)]
 pub struct Versioned {
     pub row: Row,

@@ -1,4 +1,4 @@
--- What is said of validities alone.
+-- What the definition of a validity comes to.
 use Rattle.std.specs.Prelude.{◌≡◌, ◌≢◌, ℕ, ◌≤◌, ◌<◌, ◌+◌, ◌-◌, List}
 use Rattle.txc_stamp.specs.Interval.{Interval}
 use Rattle.txc_rows.specs.Values.{RowValue}

@@ -1,5 +1,4 @@
 ghost use Rattle.std.specs.Prelude.{◌≡◌, ◌≢◌, ◌↔◌, ◌≤◌, ◌<◌, ◌⊎◌, ◌-◌, ◌+◌, ◌∷◌, [], ℕ, IsTrue, IfOk, IfErr, IsErrOf};
-ghost use Rattle.txc_stamp.specs.declared.stamp.TheConstants.{LAST};
 ghost use Rattle.txc_rows.specs.States.{State};
 ghost use Rattle.txc_rows.specs.RowTags.{query_tag};
 ghost use Rattle.txc_rows.specs.Versions.{shown_at, AreVersions};
@@ -21,13 +20,6 @@ pub struct Found {
     pub tags: TagSet,
 }
 
-fn stamp_of(number: u32) -> Stamp
-    requires { number ≤ LAST }
-    ensures { result ≡ number }
-{
-    Stamp::new(number).unwrap()
-}
-
 /// The rows that the query shows at a stamp, by id where the versions are.
 pub fn rows_at(
     alloc: Global,
@@ -46,20 +38,6 @@ pub fn rows_at(
     Ok(rows)
 }
 
-fn are_same(a: &[Row], b: &[Row]) -> bool
-    ensures { IsTrue result ↔ (a.now ≡ b.now) }
-{
-    if a.len() != b.len() {
-        return false;
-    }
-    for (i, row) in a.iter().enumerate() {
-        if !row.is_same(&b[i]) {
-            return false;
-        }
-    }
-    true
-}
-
 /// Whether the query shows these rows at the stamp.
 fn shows(
     alloc: Global,
@@ -71,7 +49,7 @@ fn shows(
     ensures { IfOk result (λ b. IsTrue b ↔ (shown_at query.now stamp versions.now ≡ rows.now)) }
 {
     let there = rows_at(alloc, versions, query, stamp)?;
-    Ok(are_same(&there, rows))
+    Ok(there.as_slice() == rows)
 }
 
 /// The first stamp from which on the rows are shown, not below the horizon.
@@ -93,7 +71,7 @@ fn first_shown(
 {
     let mut first = stamp;
     'down: while horizon < first {
-        let before = stamp_of(first.number() - 1);
+        let before = Stamp::after(first.number() as usize - 1);
         if !shows(alloc, versions, query, before, rows)? {
             return Ok(first);
         }
@@ -121,7 +99,7 @@ fn last_shown(
 {
     let mut last = stamp;
     'up: while last < newest {
-        let after = stamp_of(last.number() + 1);
+        let after = Stamp::after(last.number() as usize + 1);
         if !shows(alloc, versions, query, after, rows)? {
             return Ok(last);
         }

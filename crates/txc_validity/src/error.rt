@@ -5,9 +5,11 @@ use txc_stamp::Stamp;
 /// Why there is no answer.
 #[derive(Clone, Copy, Debug, PartialEq, Eq, Error)]
 pub enum ValidityError {
-    /// The stamp lies outside the kept stamps, which go from the first one named, the horizon, to the second, the newest (V1).
+    /// The stamp lies outside the kept stamps, which go from the first one named, the horizon, to the second,
+    /// the newest.
     #[error("the stamp lies outside the kept stamps")]
     OutsideKept(Stamp, Stamp),
+    /// The allocator had no memory for the answer.
     #[error("out of memory")]
     Memory,
 }

@@ -15,6 +15,6 @@ returns-clause-step c =
     let new = c.execute.new.self.conn.now in
     let v : Versioned = record { row = c.args.row.now; born = c.args.stamp; died = None } in
     let ran : ExecutesInside 0 insert_text (insert_params v) (state over_memory old) (state over_memory new) c.execute.result
-    = rw (c.params-to_sql.ensures, c.params-to_sql-2.ensures, c.params-to_sql-3.ensures, c.params-to_sql-4.ensures, c.params-to_sql-5.ensures, c.from.ensures, c.number.ensures.value, c.table.ensures, c.id.ensures, c.number-2.ensures.value, c.group.ensures, c.body.ensures.body)
+    = rw (c.params-to_sql.ensures, c.params-to_sql-2.ensures, c.params-to_sql-3.ensures, c.params-to_sql-4.ensures, c.params-to_sql-5.ensures, c.from.ensures, c.number.ensures.answer, c.table.ensures, c.id.ensures, c.number-2.ensures.answer, c.group.ensures, c.body.ensures.answer)
     at (c.execute.ensures.runs (memory_is_clean new) c.requires.inside) in
     puts old new v c.execute.result c.requires.table refl ran

@@ -11,5 +11,5 @@ use Rattle.txc_rows.proofs.statements.delete_dead.Goals as goal
 pub returns : goal.returns
 returns c =
     let ran : Executes purge_text (number c.args.horizon ∷ []) (state over_memory c.args.conn.now) (state over_memory c.execute.new.self) c.execute.result
-    = rw (c.params-to_sql.ensures, c.number.ensures.value) at (c.execute.ensures.runs (memory_is_clean c.execute.new.self)) in
+    = rw (c.params-to_sql.ensures, c.number.ensures.answer) at (c.execute.ensures.runs (memory_is_clean c.execute.new.self)) in
     clears c.args.conn.now c.execute.new.self c.args.horizon c.execute.result c.requires ran

@@ -12,5 +12,5 @@ returns-clause-step c =
     let old = c.args.tx.now.conn.now in
     let new = c.execute.new.self.conn.now in
     let ran : ExecutesInside 0 close_text (close_params c.args.table c.args.id c.args.stamp) (state over_memory old) (state over_memory new) c.execute.result
-    = rw (c.params-to_sql.ensures, c.params-to_sql-2.ensures, c.params-to_sql-3.ensures, c.from.ensures, c.number.ensures.value, c.number-2.ensures.value) at (c.execute.ensures.runs (memory_is_clean new) c.requires.inside) in
+    = rw (c.params-to_sql.ensures, c.params-to_sql-2.ensures, c.params-to_sql-3.ensures, c.from.ensures, c.number.ensures.answer, c.number-2.ensures.answer) at (c.execute.ensures.runs (memory_is_clean new) c.requires.inside) in
     ends old new c.args.table c.args.id c.args.stamp c.execute.result c.requires.table c.requires.held ran

@@ -20,7 +20,7 @@ returns-in_err-write_change c =
     let base : (state over_memory mid).committed ≡ (state over_memory old).committed = c.in_err-write_change.ensures.step.base ∙ c.loop-change.invariant.base in
     let kept = undone_call old mid end c.requires base (c.drop-tx.ensures.undone (memory_is_clean end)) in
     let p = err_from_is_err_and c.from_residual.result c.from_residual.ensures.1 in
-    rw p.1 (subst (λ h. IsCall (after_net c.args.stamp c.args.net.now (versions_of old)) old h (Err p.0)) same (record { kept = kept.0; ok = tt; err = kept.1 }))
+    rw p.1 (subst (λ h. IsCall (after_net c.args.stamp c.args.net.now (versions_of old)) old h (Err p.0)) same (record { kept = kept.0; after = tt; unchanged = kept.1 }))
 
 pub returns : goal.returns
 returns c =

@@ -3,4 +3,4 @@ use Rattle.txc_validity.proofs.OneTag.{with_tag-empty}
 use Rattle.txc_validity.proofs.answer.tags_of.Goals as goal
 
 pub returns : goal.returns
-returns c = rw (c.in_ok-add.ensures.ok, c.tag.ensures, c.new-tags.ensures) (with_tag-empty (query_tag c.args.query.now))
+returns c = rw (c.in_ok-add.ensures.after, c.tag.ensures, c.new-tags.ensures) (with_tag-empty (query_tag c.args.query.now))

@@ -17,10 +17,10 @@ pub invariant_of-self-in-Ok : goal.invariant_of-self-in-Ok
 invariant_of-self-in-Ok c = λ whole.
     let events : c.append.new.self.events ≡ c.self.inside.front.events = ap (λ (f : FrontValue). f.events) c.in-Ok.ensures.after in
     let list : c.append.new.self.history ≡ c.self.inside.front.history ++ pin_event c.args.now ∷ [] = ap (λ (f : FrontValue). f.history) c.in-Ok.ensures.after ∙ ap (λ (e : EventValue). c.self.inside.front.history ++ e ∷ []) c.in_ok-event.ensures in
-    let holds : c.push_reserved.new.self.items ≡ c.self.inside.holds.items ++ c.stamp_after-stamp.result ∷ [] = c.push_reserved.ensures.items ∙ ap (λ (xs : List ℕ). xs ++ c.stamp_after-stamp.result ∷ []) c.in_ok-reserve.ensures.items in
-    let stamp : c.stamp_after-stamp.result ≡ length c.self.inside.front.history + 1 = c.stamp_after-stamp.ensures ∙ ap (λ (n : ℕ). n + 1) c.len-events.ensures.shown in
+    let holds : c.push_reserved.new.self.items ≡ c.self.inside.holds.items ++ c.after-stamp.result ∷ [] = c.push_reserved.ensures.items ∙ ap (λ (xs : List ℕ). xs ++ c.after-stamp.result ∷ []) c.in_ok-reserve.ensures.items in
+    let stamp : c.after-stamp.result ≡ length c.self.inside.front.history + 1 = c.after-stamp.ensures ∙ ap (λ (n : ℕ). n + 1) c.len-events.ensures.shown in
     let laws = c.versions_keep_states.ensures in
-    rw (events, list, holds) (pin_sound laws.agreed laws.quiet c.tags_are_sound.ensures.none _ c.args.now c.stamp_after-stamp.result stamp (c.self.invariant whole))
+    rw (events, list, holds) (pin_sound laws.agreed laws.quiet c.tags_are_sound.ensures.none _ c.args.now c.after-stamp.result stamp (c.self.invariant whole))
 
 pub lengthen-requires-clause-begins : goal.lengthen-requires-clause-begins
 lengthen-requires-clause-begins c =
