@@ -1,12 +1,5 @@
 pub mod Cuts
 pub mod Streams
-pub mod Answered
-pub mod Hearing
-pub mod Obeying
 pub mod Blanks
-pub mod Reading
-pub mod Turning
-pub mod Arguments
 pub mod HexDigits
-pub mod OneThing
-pub mod OneWay
+pub mod Named
