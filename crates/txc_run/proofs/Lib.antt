@@ -3,3 +3,9 @@ pub mod Streams
 pub mod Blanks
 pub mod HexDigits
 pub mod Named
+pub mod Answered
+pub mod LineRead
+pub mod Hearing
+pub mod Turning
+pub mod OneThing
+pub mod OneWay

@@ -1,0 +1,52 @@
+-- Lines are answered in one way, where no step is refused for memory.
+use Rattle.std.proofs.Common.{◌≡◌, ◌≢◌, ℕ, ◌+◌, List, [], ◌∷◌, refl, sym, ap, subst, ◌∙◌}
+use Rattle.std.specs.List.{AllByRecursion}
+use Rattle.std.proofs.lemmas.List.Elements.{recursion_from_All}
+use Rattle.txc_node.specs.declared.op.Op.{Op}
+use Rattle.txc_node.specs.declared.refusal.Refusal.TheVariants.{Memory}
+use Rattle.txc_node.specs.declared.reply.Reply.TheVariants.{Refused}
+use Rattle.txc_node.specs.Cache.{Cache}
+use Rattle.txc_node.specs.Steps.{MayReply}
+use Rattle.txc_node.proofs.Offered.{replied_one_way}
+use Rattle.txc_run.specs.Runs.{Given, Nothing, Replied, Malformed, Gives, AreGiven}
+use Rattle.txc_run.specs.Laws.{HadMemory}
+use Rattle.txc_run.proofs.OneThing.{no_quiet_step, one_step}
+
+record SameGiven (a b : Given) (next other : Cache) : Type 0 where
+  given : a ≡ b
+  state : next ≡ other
+
+same_given : (c : Cache) (n : ℕ) (line : List ℕ) (a b : Given) (next other : Cache) → a ≢ Replied (Refused Memory) → b ≢ Replied (Refused Memory)
+    → Gives c n line a next → Gives c n line b other → SameGiven a b next other
+same_given c n line Nothing Nothing next other u v h k = record { given = refl; state = h.1 ∙ sym k.1 }
+same_given c n line (Malformed m) (Malformed l) next other u v h k = record { given = ap Malformed (h.1 ∙ sym k.1); state = h.2 ∙ sym k.2 }
+same_given c n line (Replied r) (Replied s) next other u v h k =
+    let same : k.0 ≡ h.0 = one_step line k.0 h.0 k.1 h.1 in
+    let may : MayReply c h.0 s other = subst (λ (op : Op). MayReply c op s other) same k.2 in
+    let p = replied_one_way c h.0 r next (λ e. u (ap Replied e)) h.2 in
+    let q = replied_one_way c h.0 s other (λ e. v (ap Replied e)) may in
+    record { given = ap Replied (p.0 ∙ sym q.0); state = p.1 ∙ sym q.1 }
+same_given c n line Nothing (Replied s) next other u v h k = absurd (no_quiet_step line k.0 h.0 k.1)
+same_given c n line Nothing (Malformed l) next other u v h k = absurd (k.0.not_quiet h.0)
+same_given c n line (Replied r) Nothing next other u v h k = absurd (no_quiet_step line h.0 k.0 h.1)
+same_given c n line (Replied r) (Malformed l) next other u v h k = absurd (k.0.no_step h.0 h.1)
+same_given c n line (Malformed m) Nothing next other u v h k = absurd (h.0.not_quiet k.0)
+same_given c n line (Malformed m) (Replied s) next other u v h k = absurd (h.0.no_step k.0 k.1)
+
+one_way : (c : Cache) (n : ℕ) (lines : List (List ℕ)) (a b : List Given) (end other : Cache) → AreGiven c n lines a end → AreGiven c n lines b other
+    → AllByRecursion (λ g. g ≢ Replied (Refused Memory)) a → AllByRecursion (λ g. g ≢ Replied (Refused Memory)) b → (a ≡ b) × (end ≡ other)
+one_way c n [] [] [] end other h k u v = (refl, h ∙ sym k)
+one_way c n [] [] (g ∷ b) end other h k u v = absurd k
+one_way c n [] (g ∷ a) b end other h k u v = absurd h
+one_way c n (line ∷ lines) [] b end other h k u v = absurd h
+one_way c n (line ∷ lines) (g ∷ a) [] end other h k u v = absurd k
+one_way c n (line ∷ lines) (f ∷ a) (g ∷ b) end other h k u v =
+    let p = same_given c n line f g h.0 k.0 u.0 v.0 h.1 k.1 in
+    let rest : AreGiven h.0 (n + 1) lines b other = subst (λ (s : Cache). AreGiven s (n + 1) lines b other) (sym p.state) k.3 in
+    let q = one_way h.0 (n + 1) lines a b end other h.3 rest u.1 v.1 in
+    (ap (λ (x : Given). x ∷ a) p.given ∙ ap (λ (xs : List Given). g ∷ xs) q.0, q.1)
+
+pub answered_one_way : (c : Cache) (number : ℕ) (lines : List (List ℕ)) (a b : List Given) (end other : Cache)
+    → AreGiven c number lines a end → AreGiven c number lines b other → HadMemory a → HadMemory b → (a ≡ b) × (end ≡ other)
+answered_one_way c number lines a b end other h k u v =
+    one_way c number lines a b end other h k (recursion_from_All (λ g. g ≢ Replied (Refused Memory)) a u) (recursion_from_All (λ g. g ≢ Replied (Refused Memory)) b v)
