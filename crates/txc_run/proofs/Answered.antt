@@ -7,9 +7,10 @@ use Rattle.std.proofs.lemmas.List.Folds.{list_any-append}
 use Rattle.std.proofs.lemmas.Grind.{flat_map-append}
 use Rattle.txc_node.specs.Cache.{Cache}
 use Rattle.txc_run.specs.Script.{BeginsWithLines, HasNoEnd, ended}
-use Rattle.txc_run.specs.Lines.{IsPlain, IsQuiet, IsCommandLine}
+use Rattle.txc_run.specs.Lines.{IsPlain, IsQuiet, IsStepLine}
 use Rattle.txc_run.specs.Runs.{Given, Nothing, Replied, Malformed, Gives, GoesOn, AreGiven, given_text, output_of, is_malformed}
 use Rattle.txc_run.specs.Sessions.{kept_of}
+use Rattle.txc_run.specs.declared.piece.TheConstants.{MAX_KEPT}
 
 goes_on : (g : Given) (lines : List (List ℕ)) → is_malformed g ≡ false → GoesOn g lines
 goes_on Nothing lines h = tt
@@ -67,18 +68,18 @@ kept_append (suc n) [] b = refl
 kept_append (suc n) (x ∷ a) b = ap (λ (xs : List ℕ). x ∷ xs) (kept_append n a b)
 
 plain_kept : (line : List ℕ) → IsPlain (kept_of line) → kept_of line ≡ line
-plain_kept line h = take_all 4097 line (omega (arith, length-take 4097 line, h.few))
+plain_kept line h = take_all MAX_KEPT line (omega (arith, length-take MAX_KEPT line, h.few))
 
 plain_whole : (line : List ℕ) → IsPlain line → kept_of line ≡ line
-plain_whole line h = take_all 4097 line (omega (arith, h.few))
+plain_whole line h = take_all MAX_KEPT line (omega (arith, h.few))
 
 pub gives_whole : (c : Cache) (n : ℕ) (line : List ℕ) (g : Given) (next : Cache) → Gives c n (kept_of line) g next → Gives c n line g next
 gives_whole c n line Nothing next h = (subst IsQuiet (plain_kept line h.0.0) h.0, h.1)
-gives_whole c n line (Replied reply) next h = (h.0, subst (λ l. IsCommandLine l h.0) (plain_kept line h.1.0) h.1, h.2)
+gives_whole c n line (Replied reply) next h = (h.0, subst (λ l. IsStepLine l h.0) (plain_kept line h.1.0) h.1, h.2)
 gives_whole c n line (Malformed k) next h = (
   record {
     not_quiet = λ quiet. h.0.not_quiet (subst IsQuiet (sym (plain_whole line quiet.0)) quiet);
-    no_command = λ command is. h.0.no_command command (subst (λ l. IsCommandLine l command) (sym (plain_whole line is.0)) is);
+    no_step = λ op is. h.0.no_step op (subst (λ l. IsStepLine l op) (sym (plain_whole line is.0)) is);
   },
   h.1,
   h.2,

@@ -1,83 +1,65 @@
--- Words and the blanks between them.
-use Rattle.std.proofs.Common.{◌≡◌, ◌≢◌, ℕ, List, [], ◌∷◌, ◌++◌, refl, sym, ap, subst, ◌∙◌}
-use Rattle.std.specs.List.{All, AllByRecursion, join_with_byte}
+-- The words of a text, as its parts between blanks.
+use Rattle.std.proofs.Common.{◌≡◌, ◌≢◌, ℕ, ◌-◌, ◌<◌, Bool, true, false, zero, suc, eqb, List, [], ◌∷◌, ◌++◌, length, take, refl, sym, ap, subst, ◌∙◌, arith}
+use Rattle.std.specs.List.{All, AllByRecursion, onto_first, join_with_byte, slice_split}
+use Rattle.std.proofs.lemmas.Bool.Decides.{nat_tests}
 use Rattle.std.proofs.lemmas.List.Elements.{All-cons, All-nil, recursion_from_All}
-use Rattle.txc_run.specs.Words.{HasNoBlank, HasWords}
+use Rattle.std.proofs.lemmas.List.Splits.{slice_split_at, slice_split_none, join_with_byte-slice_split}
+use Rattle.txc_run.specs.Words.{HasNoBlank, HasWords, is_blank, words_of}
 
-no_blanks : (xs : List ℕ) → HasNoBlank xs → AllByRecursion (λ b. b ≢ 32) xs
-no_blanks xs h = recursion_from_All (λ b. b ≢ 32) xs h
+is_other : (b : ℕ) → b ≢ 32 → is_blank b ≡ false
+is_other b other = grind (arith, nat_tests)
 
-blank_in : (w v s : List ℕ) → AllByRecursion (λ b. b ≢ 32) w → w ≡ v ++ 32 ∷ s → ⊥
-blank_in [] [] s h e = cc
-blank_in [] (y ∷ v) s h e = cc
-blank_in (x ∷ w) [] s h e = let same : x ≡ 32 = cc in h.0 same
-blank_in (x ∷ w) (y ∷ v) s h e = let same : w ≡ v ++ 32 ∷ s = cc in blank_in w v s h.1 same
+not_blanks : (xs : List ℕ) → HasNoBlank xs → All (λ b. is_blank b ≡ false) xs
+not_blanks xs h = λ k d l. is_other _ (h k d l)
 
-record SameCut (a b c d : List ℕ) : Type 0 where
-  front : a ≡ c
-  behind : b ≡ d
+-- a text whose first blank stands after w
+pub words_cut : (text w rest : List ℕ) → text ≡ w ++ 32 ∷ rest → HasNoBlank w → words_of text ≡ w ∷ words_of rest
+words_cut text w rest e bare = ap words_of e ∙ slice_split_at is_blank w 32 rest (not_blanks w bare) refl
 
-same_cut : (a b c d : List ℕ) → AllByRecursion (λ x. x ≢ 32) a → AllByRecursion (λ x. x ≢ 32) c → a ++ 32 ∷ b ≡ c ++ 32 ∷ d → SameCut a b c d
-same_cut [] b [] d h k e = record { front = refl; behind = cc }
-same_cut [] b (y ∷ c) d h k e = let same : y ≡ 32 = cc in absurd (k.0 same)
-same_cut (x ∷ a) b [] d h k e = let same : x ≡ 32 = cc in absurd (h.0 same)
-same_cut (x ∷ a) b (y ∷ c) d h k e =
-    let rest : a ++ 32 ∷ b ≡ c ++ 32 ∷ d = cc in
-    let first : x ≡ y = cc in
-    let cut = same_cut a b c d h.1 k.1 rest in
-    record { front = ap (λ (z : ℕ). z ∷ a) first ∙ ap (λ (xs : List ℕ). y ∷ xs) cut.front; behind = cut.behind }
+-- a text without a blank is one word
+pub words_alone : (text : List ℕ) → HasNoBlank text → words_of text ≡ text ∷ []
+words_alone text bare = slice_split_none is_blank text (not_blanks text bare)
 
--- ---- the words of a text
+-- ---- the definition of the words of a text
 
-pub words_one : (text : List ℕ) → HasNoBlank text → HasWords text (text ∷ [])
-words_one text h = record { joined = refl; each_is_one = All-cons HasNoBlank text [] h (All-nil HasNoBlank) }
+bare_more : (x : ℕ) (parts : List (List ℕ)) → x ≢ 32 → AllByRecursion HasNoBlank parts → AllByRecursion HasNoBlank (onto_first x parts)
+bare_more x [] other h = (All-cons (λ b. b ≢ 32) x [] other (All-nil (λ b. b ≢ 32)), tt)
+bare_more x (part ∷ parts) other h = (All-cons (λ b. b ≢ 32) x part other h.0, h.1)
 
-pub words_more : (text w rest v : List ℕ) (words : List (List ℕ)) → text ≡ w ++ 32 ∷ rest → HasNoBlank w → HasWords rest (v ∷ words) → HasWords text (w ∷ v ∷ words)
-words_more text w rest v words e h is = record {
-  joined = e ∙ ap (λ (xs : List ℕ). w ++ 32 ∷ xs) is.joined;
-  each_is_one = All-cons HasNoBlank w (v ∷ words) h is.each_is_one;
-}
+bare_parts : (text : List ℕ) → AllByRecursion HasNoBlank (words_of text)
+bare_parts [] = (All-nil (λ b. b ≢ 32), tt)
+bare_parts (x ∷ text) =
+    let go : (b : Bool) → is_blank x ≡ b → AllByRecursion HasNoBlank (words_of (x ∷ text)) = λ b. elim b as (λ v. is_blank x ≡ v → AllByRecursion HasNoBlank (words_of (x ∷ text))) [
+      | true ↦ (λ e. rw e (All-nil (λ b. b ≢ 32), bare_parts text))
+      | false ↦ (λ e. let other : x ≢ 32 = grind (arith, nat_tests) in rw e (bare_more x (words_of text) other (bare_parts text)))
+    ] in
+    go (is_blank x) refl
 
-first_of_all : (w : List ℕ) (words : List (List ℕ)) → All HasNoBlank (w ∷ words) → AllByRecursion HasNoBlank (w ∷ words)
-first_of_all w words h = recursion_from_All HasNoBlank (w ∷ words) h
+all_parts : (parts : List (List ℕ)) → AllByRecursion HasNoBlank parts → All HasNoBlank parts
+all_parts [] h = All-nil HasNoBlank
+all_parts (part ∷ parts) h = All-cons HasNoBlank part parts h.0 (all_parts parts h.1)
 
--- the first word, and the others
-pub words_first : (text w rest v u : List ℕ) (words : List (List ℕ)) → text ≡ w ++ 32 ∷ rest → HasNoBlank w → HasWords text (v ∷ u ∷ words) → w ≡ v
-words_first text w rest v u words e h is =
-    (same_cut w rest v (join_with_byte 32 (u ∷ words)) (no_blanks w h) (no_blanks v ((first_of_all v (u ∷ words) is.each_is_one).0)) (sym e ∙ is.joined)).front
+pub has_words : (text : List ℕ) → HasWords text (words_of text)
+has_words text = record { joined = sym (join_with_byte-slice_split 32 text); each_is_one = all_parts (words_of text) (bare_parts text) }
 
-all_others : (w : List ℕ) (words : List (List ℕ)) → AllByRecursion HasNoBlank words → All HasNoBlank words
-all_others w [] h = All-nil HasNoBlank
-all_others w (v ∷ words) h = All-cons HasNoBlank v words h.0 (all_others v words h.1)
+joined_are : (w : List ℕ) (words : List (List ℕ)) → AllByRecursion HasNoBlank (w ∷ words) → words_of (join_with_byte 32 (w ∷ words)) ≡ w ∷ words
+joined_are w [] h = words_alone w h.0
+joined_are w (v ∷ words) h = words_cut _ w (join_with_byte 32 (v ∷ words)) refl h.0 ∙ ap (λ (vs : List (List ℕ)). w ∷ vs) (joined_are v words h.1)
 
-pub words_others : (text w rest v u : List ℕ) (words : List (List ℕ)) → text ≡ w ++ 32 ∷ rest → HasNoBlank w → HasWords text (v ∷ u ∷ words) → HasWords rest (u ∷ words)
-words_others text w rest v u words e h is =
-    let all = first_of_all v (u ∷ words) is.each_is_one in
-    record {
-      joined = (same_cut w rest v (join_with_byte 32 (u ∷ words)) (no_blanks w h) (no_blanks v all.0) (sym e ∙ is.joined)).behind;
-      each_is_one = all_others v (u ∷ words) all.1;
-    }
+pub words_are : (text w : List ℕ) (words : List (List ℕ)) → HasWords text (w ∷ words) → words_of text ≡ w ∷ words
+words_are text w words h = ap words_of h.joined ∙ joined_are w words (recursion_from_All HasNoBlank (w ∷ words) h.each_is_one)
 
--- one word has no blank, and so is not more words
-pub words_no_more : (text v u : List ℕ) (words : List (List ℕ)) → HasNoBlank text → HasWords text (v ∷ u ∷ words) → ⊥
-words_no_more text v u words h is = blank_in text v (join_with_byte 32 (u ∷ words)) (no_blanks text h) is.joined
+-- ---- words that are taken one after the other
 
-pub words_not_one : (text w rest v : List ℕ) → text ≡ w ++ 32 ∷ rest → HasWords text (v ∷ []) → ⊥
-words_not_one text w rest v e is =
-    blank_in v w rest (no_blanks v ((first_of_all v [] is.each_is_one).0)) (sym is.joined ∙ e)
+pub some_left : (n : ℕ) (words : List (List ℕ)) → 0 < length (take n words) → 0 < n
+some_left zero words h = h
+some_left (suc n) words h = omega arith
 
--- a text is words in one way
-pub same_words : (text v w : List ℕ) (vs ws : List (List ℕ)) → HasWords text (v ∷ vs) → HasWords text (w ∷ ws) → v ∷ vs ≡ w ∷ ws
-same_words text v w [] [] h k = ap (λ (x : List ℕ). x ∷ []) (sym h.joined ∙ k.joined)
-same_words text v w [] (u ∷ ws) h k =
-    let bare : HasNoBlank text = subst HasNoBlank (sym h.joined) ((first_of_all v [] h.each_is_one).0) in
-    absurd (words_no_more text w u ws bare k)
-same_words text v w (u ∷ vs) [] h k =
-    let bare : HasNoBlank text = subst HasNoBlank (sym k.joined) ((first_of_all w [] k.each_is_one).0) in
-    absurd (words_no_more text v u vs bare h)
-same_words text v w (u ∷ vs) (t ∷ ws) h k =
-    let all = first_of_all v (u ∷ vs) h.each_is_one in
-    let rest = join_with_byte 32 (u ∷ vs) in
-    let first : v ≡ w = words_first text v rest w t ws h.joined all.0 k in
-    let behind : u ∷ vs ≡ t ∷ ws = same_words rest u t vs ws (record { joined = refl; each_is_one = all_others v (u ∷ vs) all.1 }) (words_others text v rest w t ws h.joined all.0 k) in
-    ap (λ (x : List ℕ). x ∷ u ∷ vs) first ∙ ap (λ (xs : List (List ℕ)). w ∷ xs) behind
+pub take_first : (n : ℕ) (w : List ℕ) (words : List (List ℕ)) → 0 < n → take n (w ∷ words) ≡ w ∷ take (n - 1) words
+take_first zero w words h = absurd (omega arith)
+take_first (suc n) w words h = let same : suc n - 1 ≡ n = omega arith in ap (λ (k : ℕ). w ∷ take k words) (sym same)
+
+pub take_one : (n : ℕ) (w : List ℕ) → 0 < n → take n (w ∷ []) ≡ w ∷ []
+take_one zero w h = absurd (omega arith)
+take_one (suc zero) w h = refl
+take_one (suc (suc n)) w h = refl

@@ -10,6 +10,7 @@ use Rattle.txc_node.specs.Cache.{Cache}
 use Rattle.txc_run.specs.Script.{BeginsWithLines, HasNoEnd, last_line}
 use Rattle.txc_run.specs.Runs.{Given, Gives, AreGiven, is_malformed, is_refused, output_of}
 use Rattle.txc_run.specs.Sessions.{kept_of, flow_of, AnswersLine, Heard, IsStopped, IsHalted, HasEnded, HearsAs}
+use Rattle.txc_run.specs.declared.piece.TheConstants.{MAX_KEPT}
 use Rattle.txc_run.specs.declared.session.Session.{Session}
 use Rattle.txc_run.specs.declared.session.Flow.{Flow}
 use Rattle.txc_run.specs.declared.session.Flow.TheVariants.{GoesOn, Stopped}
@@ -41,10 +42,10 @@ no_end = λ k d l. absurd (omega arith)
 
 -- the line that ends behind `front` was answered
 pub heard_line : (start : Cache) (read written front x : List ℕ) (s next : Session) (flow : Flow) (h : Heard start read written s) → HasNoEnd front
-    → x ≡ take 4097 (s.line ++ front) → AnswersLine (record s { line = x }) next flow → HearsAs start (read ++ (front ++ 10 ∷ [])) written next (Ok flow)
+    → x ≡ take MAX_KEPT (s.line ++ front) → AnswersLine (record s { line = x }) next flow → HearsAs start (read ++ (front ++ 10 ∷ [])) written next (Ok flow)
 heard_line start read written front x s next flow h bare is a =
     let line = h.rest ++ front in
-    let whole : x ≡ kept_of line = is ∙ ap (λ (l : List ℕ). take 4097 (l ++ front)) h.kept ∙ kept_append 4097 h.rest front in
+    let whole : x ≡ kept_of line = is ∙ ap (λ (l : List ℕ). take MAX_KEPT (l ++ front)) h.kept ∙ kept_append MAX_KEPT h.rest front in
     let told = told_line start read written front x s next flow h whole a in
     let begins = begins_more read h.lines h.rest front h.begins h.not_ended bare in
     let malformed : list_any is_malformed (h.given ++ a.given ∷ []) ≡ is_malformed a.given = any_more is_malformed h.given a.given ∙ ap (λ (b : Bool). b || is_malformed a.given) h.well_formed in
@@ -76,7 +77,7 @@ heard_line start read written front x s next flow h bare is a =
     subst (λ (f : Flow). HearsAs start (read ++ (front ++ 10 ∷ [])) written next (Ok f)) (sym a.flow_is) (go (is_malformed a.given) refl)
 
 -- a line goes on
-pub heard_front : (start : Cache) (read written front x : List ℕ) (s : Session) → Heard start read written s → HasNoEnd front → x ≡ take 4097 (s.line ++ front)
+pub heard_front : (start : Cache) (read written front x : List ℕ) (s : Session) → Heard start read written s → HasNoEnd front → x ≡ take MAX_KEPT (s.line ++ front)
     → Heard start (read ++ front) written (record s { line = x })
 heard_front start read written front x s h bare is = record {
   lines = h.lines;
@@ -85,7 +86,7 @@ heard_front start read written front x s h bare is = record {
   are_given = h.are_given;
   begins = begins_longer read h.lines h.rest front h.begins;
   not_ended = All-append (λ b. b ≢ 10) h.rest front h.not_ended bare;
-  kept = is ∙ ap (λ (l : List ℕ). take 4097 (l ++ front)) h.kept ∙ kept_append 4097 h.rest front;
+  kept = is ∙ ap (λ (l : List ℕ). take MAX_KEPT (l ++ front)) h.kept ∙ kept_append MAX_KEPT h.rest front;
   text = h.text;
   count = h.count;
   refused = h.refused;
@@ -105,7 +106,7 @@ halted start read written more s next h e = record {
 }
 
 pub heard_answer : (start : Cache) (read written front x : List ℕ) (s next : Session) (r : Result Flow AllocError) → HasNoEnd front
-    → x ≡ take 4097 (s.line ++ front) → IfOk r (AnswersLine (record s { line = x }) next) → OnErr r (string_bytes next.output ≡ string_bytes s.output)
+    → x ≡ take MAX_KEPT (s.line ++ front) → IfOk r (AnswersLine (record s { line = x }) next) → OnErr r (string_bytes next.output ≡ string_bytes s.output)
     → Heard start read written s → HearsAs start (read ++ (front ++ 10 ∷ [])) written next r
 heard_answer start read written front x s next (Ok flow) bare is a e h = heard_line start read written front x s next flow h bare is a
 heard_answer start read written front x s next (Err error) bare is a e h = halted start read written (front ++ 10 ∷ []) s next h e
@@ -181,7 +182,7 @@ ended_line start read written s next flow h some a =
 
 kept_nothing : (rest : List ℕ) → kept_of rest ≡ [] → rest ≡ []
 kept_nothing [] e = refl
-kept_nothing (b ∷ rest) e = absurd (let l : length (kept_of (b ∷ rest)) ≡ 0 = ap length e in omega (arith, length-take 4097 (b ∷ rest)))
+kept_nothing (b ∷ rest) e = absurd (let l : length (kept_of (b ∷ rest)) ≡ 0 = ap length e in omega (arith, length-take MAX_KEPT (b ∷ rest)))
 
 -- no byte stands behind the last line feed
 pub ended_before : (start : Cache) (read written : List ℕ) (s : Session) → Heard start read written s → s.line ≡ [] → HasEnded start read written s

@@ -1,12 +1,11 @@
 pub mod Cuts
 pub mod Streams
-pub mod Answered
-pub mod Hearing
-pub mod Obeying
 pub mod Blanks
-pub mod Reading
-pub mod Turning
-pub mod Arguments
 pub mod HexDigits
+pub mod Named
+pub mod Answered
+pub mod LineRead
+pub mod Hearing
+pub mod Turning
 pub mod OneThing
 pub mod OneWay

@@ -1,23 +1,27 @@
 -- A line is one thing.
-use Rattle.std.proofs.Common.{◌≡◌, ◌<◌, ◌/◌, ◌%◌, ℕ, Bool, true, false, List, [], ◌∷◌, refl, sym, ap, subst, ◌∙◌, arith}
+use Rattle.std.proofs.Common.{◌≡◌, ◌<◌, ◌/◌, ◌%◌, ℕ, Bool, true, false, List, [], ◌∷◌, Some, None, refl, sym, ap, subst, ◌∙◌, arith}
 use Rattle.std.specs.List.{AllByRecursion, flat_map, join_with_byte}
 use Rattle.std.proofs.lemmas.Bool.Decides.{nat_tests}
 use Rattle.std.proofs.lemmas.Fmt.{decimal_injective}
 use Rattle.std.proofs.lemmas.List.Elements.{recursion_from_All}
+use Rattle.txc_stamp.specs.Interval.{Interval}
 use Rattle.txc_tags.specs.declared.tag.Tag.{Tag}
 use Rattle.txc_tags.specs.Keys.{Call}
 use Rattle.txc_tags.specs.Tags.{set_of}
-use Rattle.txc_tags.proofs.TextKeys.{same_key_text}
-use Rattle.txc_tags.proofs.TextSets.{same_tags_text}
-use Rattle.txc_run.specs.Hex.{digit_of, digits_of, IsHexWord}
-use Rattle.txc_run.specs.Insertion.{NewEntry}
-use Rattle.txc_run.specs.Lines.{IsKeyWord, IsStampWord, IsTagsWord, still_text, AreLookupWords, AreEventWords, AreInsertWords, AreWordsBehind, name_of, Spells, IsQuiet, IsCommandLine}
-use Rattle.txc_run.specs.Reading.{IsLine}
-use Rattle.txc_run.specs.declared.command.Command.{Command}
-use Rattle.txc_run.specs.declared.command.Command.TheVariants.{Insert, Lookup, Event}
+use Rattle.txc_tags.proofs.Offered.{same_key_text, same_tags_text}
+use Rattle.txc_node.specs.declared.entry.Entry.{Entry}
+use Rattle.txc_node.specs.declared.entry.EntryError.{EntryError}
+use Rattle.txc_node.specs.declared.entry.EntryError.TheVariants as errors
+use Rattle.txc_node.specs.declared.op.Op.{Op}
+use Rattle.txc_node.specs.declared.op.Op.TheVariants.{Insert, Lookup, Event, Sweep}
+use Rattle.txc_node.specs.Steps.{entry_refusal, refusal_by}
+use Rattle.txc_node.specs.Texts.{digit_of, digits_of}
+use Rattle.txc_run.specs.Hex.{IsHexWord}
+use Rattle.txc_run.specs.Lines.{IsKeyWord, IsStampWord, IsTagsWord, still_text, AreLookupWords, AreEventWords, AreSweepWords, AreInsertWords, AreWordsAfter, name_of, Spells, IsQuiet, IsStepLine}
+use Rattle.txc_run.specs.Reading.{IsLine, CanBeMade}
 use Rattle.txc_run.specs.declared.line.Line.{Line}
-use Rattle.txc_run.specs.declared.line.Line.TheVariants.{Quiet, Command as Asks, Malformed}
-use Rattle.txc_run.proofs.Blanks.{same_words}
+use Rattle.txc_run.specs.declared.line.Line.TheVariants.{Quiet, Step, Unmade, Malformed}
+use Rattle.txc_run.proofs.Blanks.{words_are}
 
 -- ---- a word has one meaning
 
@@ -62,7 +66,7 @@ hex_known v w (a ∷ xs) [] e h k = let same : flat_map digits_of (a ∷ xs) ≡
 hex_known v w (a ∷ xs) (b ∷ ys) e h k =
     bytes_known (a ∷ xs) (b ∷ ys) (recursion_from_All (λ x. x < 256) (a ∷ xs) h.0) (recursion_from_All (λ x. x < 256) (b ∷ ys) k.0) (sym h.1 ∙ e ∙ k.1)
 
--- ---- words are one command
+-- ---- words are one step
 
 same_lookup : (words : List (List ℕ)) (a b : Call) (lo low hi high : ℕ) → AreLookupWords a lo hi words → AreLookupWords b low high words → Lookup a lo hi ≡ Lookup b low high
 same_lookup words a b lo low hi high p q =
@@ -79,73 +83,118 @@ same_event words s t a b p q =
     let second : a ≡ b = tags_known p.tags_word q.tags_word a b (cc) p.are_tags q.are_tags in
     cc
 
-same_insert : (words : List (List ℕ)) (a b : NewEntry) → AreInsertWords a words → AreInsertWords b words → a ≡ b
+same_sweep : (words : List (List ℕ)) (a b : ℕ) → AreSweepWords a words → AreSweepWords b words → Sweep a ≡ Sweep b
+same_sweep words a b p q =
+    let same : p.horizon_word ∷ [] ≡ q.horizon_word ∷ [] = sym p.are ∙ q.are in
+    ap Sweep (stamp_known p.horizon_word q.horizon_word a b (cc) p.is_horizon q.is_horizon)
+
+same_insert : (words : List (List ℕ)) (a b : Entry) → AreInsertWords a words → AreInsertWords b words → a ≡ b
 same_insert words a b p q =
-    let v = still_text a.still in
-    let w = still_text b.still in
+    let v = still_text a.reach.still in
+    let w = still_text b.reach.still in
     let same : p.key_word ∷ p.lo_word ∷ p.known_word ∷ v ∷ p.tags_word ∷ p.value_word ∷ [] ≡ q.key_word ∷ q.lo_word ∷ q.known_word ∷ w ∷ q.tags_word ∷ q.value_word ∷ [] =
     sym p.are ∙ q.are in
     let key : a.key ≡ b.key = key_known p.key_word q.key_word a.key b.key (cc) p.is_key q.is_key in
-    let lo : a.lo ≡ b.lo = stamp_known p.lo_word q.lo_word a.lo b.lo (cc) p.is_lo q.is_lo in
-    let known : a.known ≡ b.known = stamp_known p.known_word q.known_word a.known b.known (cc) p.is_known q.is_known in
+    let lo : a.reach.lo ≡ b.reach.lo = stamp_known p.lo_word q.lo_word a.reach.lo b.reach.lo (cc) p.is_lo q.is_lo in
+    let known : a.reach.known ≡ b.reach.known = stamp_known p.known_word q.known_word a.reach.known b.reach.known (cc) p.is_known q.is_known in
     let words_alike : v ≡ w = cc in
-    let still : a.still ≡ b.still = still_known a.still b.still words_alike in
+    let still : a.reach.still ≡ b.reach.still = still_known a.reach.still b.reach.still words_alike in
     let tags : a.tags ≡ b.tags = tags_known p.tags_word q.tags_word a.tags b.tags (cc) p.are_tags q.are_tags in
     let value : a.value ≡ b.value = hex_known p.value_word q.value_word a.value b.value (cc) p.is_value q.is_value in
-    let made : ◌≡◌ {A = NewEntry} (record { key = a.key; value = a.value; lo = a.lo; known = a.known; still = a.still; tags = a.tags }) (record { key = b.key; value = b.value; lo = b.lo; known = b.known; still = b.still; tags = b.tags }) = cc in
+    let reach : ◌≡◌ {A = Interval} (record { lo = a.reach.lo; known = a.reach.known; still = a.reach.still }) (record { lo = b.reach.lo; known = b.reach.known; still = b.reach.still }) = cc in
+    let made : ◌≡◌ {A = Entry} (record { key = a.key; value = a.value; reach = a.reach; tags = a.tags }) (record { key = b.key; value = b.value; reach = b.reach; tags = b.tags }) = cc in
     made
 
-same_behind : (a b : Command) (words : List (List ℕ)) → name_of a ≡ name_of b → AreWordsBehind a words → AreWordsBehind b words → a ≡ b
-same_behind (Insert x) (Insert y) words e p q = ap Insert (same_insert words x y p q)
-same_behind (Lookup x lo hi) (Lookup y low high) words e p q = same_lookup words x y lo low hi high p q
-same_behind (Event s x) (Event t y) words e p q = same_event words s t x y p q
-same_behind (Insert x) (Lookup y low high) words e p q = cc
-same_behind (Insert x) (Event t y) words e p q = cc
-same_behind (Lookup x lo hi) (Insert y) words e p q = cc
-same_behind (Lookup x lo hi) (Event t y) words e p q = cc
-same_behind (Event s x) (Insert y) words e p q = cc
-same_behind (Event s x) (Lookup y low high) words e p q = cc
+same_after : (a b : Op) (words : List (List ℕ)) → name_of a ≡ name_of b → AreWordsAfter a words → AreWordsAfter b words → a ≡ b
+same_after (Insert x) (Insert y) words e p q = ap Insert (same_insert words x y p q)
+same_after (Lookup x lo hi) (Lookup y low high) words e p q = same_lookup words x y lo low hi high p q
+same_after (Event s x) (Event t y) words e p q = same_event words s t x y p q
+same_after (Sweep x) (Sweep y) words e p q = same_sweep words x y p q
+same_after (Insert x) (Lookup y low high) words e p q = cc
+same_after (Insert x) (Event t y) words e p q = cc
+same_after (Insert x) (Sweep y) words e p q = cc
+same_after (Lookup x lo hi) (Insert y) words e p q = cc
+same_after (Lookup x lo hi) (Event t y) words e p q = cc
+same_after (Lookup x lo hi) (Sweep y) words e p q = cc
+same_after (Event s x) (Insert y) words e p q = cc
+same_after (Event s x) (Lookup y low high) words e p q = cc
+same_after (Event s x) (Sweep y) words e p q = cc
+same_after (Sweep x) (Insert y) words e p q = cc
+same_after (Sweep x) (Lookup y low high) words e p q = cc
+same_after (Sweep x) (Event t y) words e p q = cc
 
-same_spelled : (line : List ℕ) (a b : Command) → Spells line a → Spells line b → a ≡ b
+same_spelled : (line : List ℕ) (a b : Op) → Spells line a → Spells line b → a ≡ b
 same_spelled line a b h k =
-    let same : name_of a ∷ h.0 ≡ name_of b ∷ k.0 = same_words line (name_of a) (name_of b) h.0 k.0 h.1 k.1 in
+    let same : name_of a ∷ h.0 ≡ name_of b ∷ k.0 = sym (words_are line (name_of a) h.0 h.1) ∙ words_are line (name_of b) k.0 k.1 in
     let names : name_of a ≡ name_of b = cc in
-    let behind : k.0 ≡ h.0 = cc in
-    same_behind a b h.0 names h.2 (subst (AreWordsBehind b) behind k.2)
+    let others : k.0 ≡ h.0 = cc in
+    same_after a b h.0 names h.2 (subst (AreWordsAfter b) others k.2)
 
 -- ---- lines
 
--- a command begins with a letter
-begins_with_letter : (command : Command) (words : List (List ℕ)) (b : ℕ) (line : List ℕ) → b ∷ line ≡ join_with_byte 32 (name_of command ∷ words) → b ≡ 35 → ⊥
+-- a name begins with a letter
+begins_with_letter : (op : Op) (words : List (List ℕ)) (b : ℕ) (line : List ℕ) → b ∷ line ≡ join_with_byte 32 (name_of op ∷ words) → b ≡ 35 → ⊥
 begins_with_letter (Insert x) [] b line e h = omega (arith, h, (let first : b ≡ 105 = cc in first))
 begins_with_letter (Insert x) (w ∷ words) b line e h = omega (arith, h, (let first : b ≡ 105 = cc in first))
 begins_with_letter (Lookup x lo hi) [] b line e h = omega (arith, h, (let first : b ≡ 108 = cc in first))
 begins_with_letter (Lookup x lo hi) (w ∷ words) b line e h = omega (arith, h, (let first : b ≡ 108 = cc in first))
 begins_with_letter (Event s x) [] b line e h = omega (arith, h, (let first : b ≡ 101 = cc in first))
 begins_with_letter (Event s x) (w ∷ words) b line e h = omega (arith, h, (let first : b ≡ 101 = cc in first))
+begins_with_letter (Sweep x) [] b line e h = omega (arith, h, (let first : b ≡ 115 = cc in first))
+begins_with_letter (Sweep x) (w ∷ words) b line e h = omega (arith, h, (let first : b ≡ 115 = cc in first))
 
-is_not_empty : (command : Command) (words : List (List ℕ)) → [] ≡ join_with_byte 32 (name_of command ∷ words) → ⊥
+is_not_empty : (op : Op) (words : List (List ℕ)) → [] ≡ join_with_byte 32 (name_of op ∷ words) → ⊥
 is_not_empty (Insert x) [] e = cc
 is_not_empty (Insert x) (w ∷ words) e = cc
 is_not_empty (Lookup x lo hi) [] e = cc
 is_not_empty (Lookup x lo hi) (w ∷ words) e = cc
 is_not_empty (Event s x) [] e = cc
 is_not_empty (Event s x) (w ∷ words) e = cc
+is_not_empty (Sweep x) [] e = cc
+is_not_empty (Sweep x) (w ∷ words) e = cc
 
-pub no_quiet_command : (line : List ℕ) (command : Command) → IsQuiet line → IsCommandLine line command → ⊥
-no_quiet_command [] command quiet (plain, (words, is, behind)) = is_not_empty command words is.joined
-no_quiet_command (b ∷ line) command quiet (plain, (words, is, behind)) = begins_with_letter command words b line is.joined quiet.1
+pub no_quiet_step : (line : List ℕ) (op : Op) → IsQuiet line → IsStepLine line op → ⊥
+no_quiet_step [] op quiet (plain, (words, is, after)) = is_not_empty op words is.joined
+no_quiet_step (b ∷ line) op quiet (plain, (words, is, after)) = begins_with_letter op words b line is.joined quiet.1
 
-pub one_command : (line : List ℕ) (a b : Command) → IsCommandLine line a → IsCommandLine line b → a ≡ b
-one_command line a b h k = same_spelled line a b h.1 k.1
+pub one_step : (line : List ℕ) (a b : Op) → IsStepLine line a → IsStepLine line b → a ≡ b
+one_step line a b h k = same_spelled line a b h.1 k.1
+
+same_error : (a b : EntryError) → refusal_by a ≡ refusal_by b → a ≡ b
+same_error errors.BadReach errors.BadReach e = refl
+same_error errors.ValueTooLong errors.ValueTooLong e = refl
+same_error errors.BadReach errors.ValueTooLong e = cc
+same_error errors.ValueTooLong errors.BadReach e = cc
+
+-- an entry that can be made is not refused
+made_unmade : (line : List ℕ) (op : Op) (e : Entry) (error : EntryError) → IsLine line (Step op) → IsStepLine line (Insert e) → entry_refusal e ≡ Some (refusal_by error) → ⊥
+made_unmade line op e error h is refused =
+    let same : op ≡ Insert e = one_step line op (Insert e) h.0 is in
+    let made : entry_refusal e ≡ None = subst CanBeMade same h.1 in
+    let apart : None ≡ Some (refusal_by error) = sym made ∙ refused in
+    cc
+
+same_unmade : (line : List ℕ) (a b : EntryError) → IsLine line (Unmade a) → IsLine line (Unmade b) → a ≡ b
+same_unmade line a b h k =
+    let steps : Insert h.0 ≡ Insert k.0 = one_step line (Insert h.0) (Insert k.0) h.1 k.1 in
+    let same : h.0 ≡ k.0 = cc in
+    let refusals : Some (refusal_by a) ≡ Some (refusal_by b) = sym h.2 ∙ ap entry_refusal same ∙ k.2 in
+    same_error a b (cc)
 
 pub one_thing : (line : List ℕ) (a b : Line) → IsLine line a → IsLine line b → a ≡ b
 one_thing line Quiet Quiet h k = refl
-one_thing line (Asks a) (Asks b) h k = ap Asks (one_command line a b h k)
+one_thing line (Step a) (Step b) h k = ap Step (one_step line a b h.0 k.0)
+one_thing line (Unmade a) (Unmade b) h k = ap Unmade (same_unmade line a b h k)
 one_thing line Malformed Malformed h k = refl
-one_thing line Quiet (Asks b) h k = absurd (no_quiet_command line b h k)
+one_thing line Quiet (Step b) h k = absurd (no_quiet_step line b h k.0)
+one_thing line Quiet (Unmade b) h k = absurd (no_quiet_step line (Insert k.0) h k.1)
 one_thing line Quiet Malformed h k = absurd (k.not_quiet h)
-one_thing line (Asks a) Quiet h k = absurd (no_quiet_command line a k h)
-one_thing line (Asks a) Malformed h k = absurd (k.no_command a h)
+one_thing line (Step a) Quiet h k = absurd (no_quiet_step line a k h.0)
+one_thing line (Step a) (Unmade b) h k = absurd (made_unmade line a k.0 b h k.1 k.2)
+one_thing line (Step a) Malformed h k = absurd (k.no_step a h.0)
+one_thing line (Unmade a) Quiet h k = absurd (no_quiet_step line (Insert h.0) k h.1)
+one_thing line (Unmade a) (Step b) h k = absurd (made_unmade line b h.0 a k h.1 h.2)
+one_thing line (Unmade a) Malformed h k = absurd (k.no_step (Insert h.0) h.1)
 one_thing line Malformed Quiet h k = absurd (h.not_quiet k)
-one_thing line Malformed (Asks b) h k = absurd (h.no_command b k)
+one_thing line Malformed (Step b) h k = absurd (h.no_step b k.0)
+one_thing line Malformed (Unmade b) h k = absurd (h.no_step (Insert k.0) k.1)

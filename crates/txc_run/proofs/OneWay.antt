@@ -1,39 +1,16 @@
--- Lines are answered in one way, where no memory is wanted.
-use Rattle.std.proofs.Common.{◌≡◌, ◌≢◌, ℕ, ◌+◌, List, [], ◌∷◌, Option, Some, None, refl, sym, ap, subst, ◌∙◌, ◌⊎◌, inl, inr}
+-- Lines are answered in one way, where no step is refused for memory.
+use Rattle.std.proofs.Common.{◌≡◌, ◌≢◌, ℕ, ◌+◌, List, [], ◌∷◌, refl, sym, ap, subst, ◌∙◌}
 use Rattle.std.specs.List.{AllByRecursion}
 use Rattle.std.proofs.lemmas.List.Elements.{recursion_from_All}
+use Rattle.txc_node.specs.declared.op.Op.{Op}
+use Rattle.txc_node.specs.declared.refusal.Refusal.TheVariants.{Memory}
+use Rattle.txc_node.specs.declared.reply.Reply.TheVariants.{Refused}
 use Rattle.txc_node.specs.Cache.{Cache}
-use Rattle.txc_run.specs.Replies.{Reply, Refused, Obeys, IsObeyed, WantsMemory, refusal_of, reply_of_step, state_of_step}
+use Rattle.txc_node.specs.Steps.{MayReply}
+use Rattle.txc_node.proofs.Offered.{replied_one_way}
 use Rattle.txc_run.specs.Runs.{Given, Nothing, Replied, Malformed, Gives, AreGiven}
-use Rattle.txc_run.specs.Laws.{WantNoMemory}
-use Rattle.txc_run.specs.declared.command.Command.{Command}
-use Rattle.txc_run.specs.declared.command.Command.TheVariants.{Insert, Lookup, Event}
-use Rattle.txc_run.specs.declared.reply.Refusal.{Refusal}
-use Rattle.txc_run.specs.declared.reply.Refusal.TheVariants.{Memory}
-use Rattle.txc_run.proofs.OneThing.{no_quiet_command, one_command}
-
-no_want : (command : Command) (reply : Reply) → reply ≢ Refused Memory → WantsMemory command reply → ⊥
-no_want (Insert new) reply other h = other h
-no_want (Lookup key lo hi) reply other h = h
-no_want (Event stamp tags) reply other h = h
-
-record SameReply (a b : Reply) (next other : Cache) : Type 0 where
-  reply : a ≡ b
-  state : next ≡ other
-
-stepped : (c : Cache) (command : Command) (reply : Reply) (next : Cache) → reply ≢ Refused Memory
-    → ((reply ≡ reply_of_step c command) × (next ≡ state_of_step c command)) ⊎ (WantsMemory command reply × (next ≡ c))
-    → SameReply reply (reply_of_step c command) next (state_of_step c command)
-stepped c command reply next other (inl h) = record { reply = h.0; state = h.1 }
-stepped c command reply next other (inr h) = absurd (no_want command reply other h.0)
-
-same_reply : (c : Cache) (command : Command) (o : Option Refusal) (a b : Reply) (next other : Cache) → a ≢ Refused Memory → b ≢ Refused Memory
-    → IsObeyed c command o a next → IsObeyed c command o b other → SameReply a b next other
-same_reply c command (Some refusal) a b next other u v h k = record { reply = h.0 ∙ sym k.0; state = h.1 ∙ sym k.1 }
-same_reply c command None a b next other u v h k =
-    let p = stepped c command a next u h in
-    let q = stepped c command b other v k in
-    record { reply = p.reply ∙ sym q.reply; state = p.state ∙ sym q.state }
+use Rattle.txc_run.specs.Laws.{HadMemory}
+use Rattle.txc_run.proofs.OneThing.{no_quiet_step, one_step}
 
 record SameGiven (a b : Given) (next other : Cache) : Type 0 where
   given : a ≡ b
@@ -44,16 +21,17 @@ same_given : (c : Cache) (n : ℕ) (line : List ℕ) (a b : Given) (next other :
 same_given c n line Nothing Nothing next other u v h k = record { given = refl; state = h.1 ∙ sym k.1 }
 same_given c n line (Malformed m) (Malformed l) next other u v h k = record { given = ap Malformed (h.1 ∙ sym k.1); state = h.2 ∙ sym k.2 }
 same_given c n line (Replied r) (Replied s) next other u v h k =
-    let same : k.0 ≡ h.0 = one_command line k.0 h.0 k.1 h.1 in
-    let obeys : Obeys c h.0 s other = subst (λ (command : Command). Obeys c command s other) same k.2 in
-    let p = same_reply c h.0 (refusal_of c h.0) r s next other (λ e. u (ap Replied e)) (λ e. v (ap Replied e)) h.2 obeys in
-    record { given = ap Replied p.reply; state = p.state }
-same_given c n line Nothing (Replied s) next other u v h k = absurd (no_quiet_command line k.0 h.0 k.1)
+    let same : k.0 ≡ h.0 = one_step line k.0 h.0 k.1 h.1 in
+    let may : MayReply c h.0 s other = subst (λ (op : Op). MayReply c op s other) same k.2 in
+    let p = replied_one_way c h.0 r next (λ e. u (ap Replied e)) h.2 in
+    let q = replied_one_way c h.0 s other (λ e. v (ap Replied e)) may in
+    record { given = ap Replied (p.0 ∙ sym q.0); state = p.1 ∙ sym q.1 }
+same_given c n line Nothing (Replied s) next other u v h k = absurd (no_quiet_step line k.0 h.0 k.1)
 same_given c n line Nothing (Malformed l) next other u v h k = absurd (k.0.not_quiet h.0)
-same_given c n line (Replied r) Nothing next other u v h k = absurd (no_quiet_command line h.0 k.0 h.1)
-same_given c n line (Replied r) (Malformed l) next other u v h k = absurd (k.0.no_command h.0 h.1)
+same_given c n line (Replied r) Nothing next other u v h k = absurd (no_quiet_step line h.0 k.0 h.1)
+same_given c n line (Replied r) (Malformed l) next other u v h k = absurd (k.0.no_step h.0 h.1)
 same_given c n line (Malformed m) Nothing next other u v h k = absurd (h.0.not_quiet k.0)
-same_given c n line (Malformed m) (Replied s) next other u v h k = absurd (h.0.no_command k.0 k.1)
+same_given c n line (Malformed m) (Replied s) next other u v h k = absurd (h.0.no_step k.0 k.1)
 
 one_way : (c : Cache) (n : ℕ) (lines : List (List ℕ)) (a b : List Given) (end other : Cache) → AreGiven c n lines a end → AreGiven c n lines b other
     → AllByRecursion (λ g. g ≢ Replied (Refused Memory)) a → AllByRecursion (λ g. g ≢ Replied (Refused Memory)) b → (a ≡ b) × (end ≡ other)
@@ -69,6 +47,6 @@ one_way c n (line ∷ lines) (f ∷ a) (g ∷ b) end other h k u v =
     (ap (λ (x : Given). x ∷ a) p.given ∙ ap (λ (xs : List Given). g ∷ xs) q.0, q.1)
 
 pub answered_one_way : (c : Cache) (number : ℕ) (lines : List (List ℕ)) (a b : List Given) (end other : Cache)
-    → AreGiven c number lines a end → AreGiven c number lines b other → WantNoMemory a → WantNoMemory b → (a ≡ b) × (end ≡ other)
+    → AreGiven c number lines a end → AreGiven c number lines b other → HadMemory a → HadMemory b → (a ≡ b) × (end ≡ other)
 answered_one_way c number lines a b end other h k u v =
     one_way c number lines a b end other h k (recursion_from_All (λ g. g ≢ Replied (Refused Memory)) a u) (recursion_from_All (λ g. g ≢ Replied (Refused Memory)) b v)

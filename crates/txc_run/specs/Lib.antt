@@ -2,7 +2,6 @@ pub mod Script
 pub mod Hex
 pub mod Words
 pub mod Written
-pub mod Insertion
 pub mod Lines
 pub mod Replies
 pub mod Runs

@@ -2,16 +2,18 @@
 use Rattle.std.specs.Prelude.{◌≡◌, ℕ, ◌≤◌, Bool, true, false, List, [], ◌∷◌, length, codes}
 use Rattle.std.specs.List.{All}
 use Rattle.std.specs.Fmt.{decimal}
+use Rattle.txc_stamp.specs.declared.stamp.TheConstants.{LAST_STAMP}
 use Rattle.txc_tags.specs.declared.tag.Tag.{Tag}
 use Rattle.txc_tags.specs.Keys.{Call}
 use Rattle.txc_tags.specs.TextGrammar.{IsTextOf}
 use Rattle.txc_tags.specs.TextKey.{key_text, IsKeyInRange}
 use Rattle.txc_tags.specs.TextSet.{IsSetOfText}
+use Rattle.txc_node.specs.declared.entry.Entry.{Entry}
+use Rattle.txc_node.specs.declared.op.Op.{Op}
+use Rattle.txc_node.specs.declared.op.Op.TheVariants.{Insert, Lookup, Event, Sweep}
+use Rattle.txc_run.specs.declared.line.TheConstants.{MAX_LINE_LEN}
 use Rattle.txc_run.specs.Hex.{IsHexWord}
 use Rattle.txc_run.specs.Words.{HasWords}
-use Rattle.txc_run.specs.Insertion.{NewEntry}
-use Rattle.txc_run.specs.declared.command.Command.{Command}
-use Rattle.txc_run.specs.declared.command.Command.TheVariants.{Insert, Lookup, Event}
 
 -- ---- words
 
@@ -19,9 +21,9 @@ use Rattle.txc_run.specs.declared.command.Command.TheVariants.{Insert, Lookup, E
 abbrev pub IsKeyWord : List ℕ → Call → Type 0
 IsKeyWord word key = IsTextOf IsKeyInRange key_text word key
 
--- a stamp is a number from 0 to 1048576
+-- a stamp is a number of at most the last one
 abbrev pub IsStampWord : List ℕ → ℕ → Type 0
-IsStampWord word stamp = IsTextOf (λ n. n ≤ 1048576) decimal word stamp
+IsStampWord word stamp = IsTextOf (λ n. n ≤ LAST_STAMP) decimal word stamp
 
 -- tags in any order and with repeats; the set is what adding them one after the other gives
 abbrev pub IsTagsWord : List ℕ → List Tag → Type 0
@@ -32,9 +34,9 @@ abbrev pub still_text : Bool → List ℕ
 still_text true = codes "still"
 still_text false = codes "closed"
 
--- ---- commands
+-- ---- steps
 
--- the words behind the command's name
+-- a key and two stamps
 pub record AreLookupWords (key : Call) (lo hi : ℕ) (words : List (List ℕ)) : Type 0 where
   pub key_word : List ℕ
   pub lo_word : List ℕ
@@ -52,47 +54,53 @@ pub record AreEventWords (stamp : ℕ) (tags : List Tag) (words : List (List ℕ
   pub is_stamp : IsStampWord stamp_word stamp
   pub are_tags : IsTagsWord tags_word tags
 
+-- a stamp
+pub record AreSweepWords (horizon : ℕ) (words : List (List ℕ)) : Type 0 where
+  pub horizon_word : List ℕ
+  pub are : words ≡ horizon_word ∷ []
+  pub is_horizon : IsStampWord horizon_word horizon
+
 -- a key, two stamps, `still` or `closed`, tags and bytes
-pub record AreInsertWords (new : NewEntry) (words : List (List ℕ)) : Type 0 where
+pub record AreInsertWords (e : Entry) (words : List (List ℕ)) : Type 0 where
   pub key_word : List ℕ
   pub lo_word : List ℕ
   pub known_word : List ℕ
   pub tags_word : List ℕ
   pub value_word : List ℕ
-  pub are : words ≡ key_word ∷ lo_word ∷ known_word ∷ still_text new.still ∷ tags_word ∷ value_word ∷ []
-  pub is_key : IsKeyWord key_word new.key
-  pub is_lo : IsStampWord lo_word new.lo
-  pub is_known : IsStampWord known_word new.known
-  pub are_tags : IsTagsWord tags_word new.tags
-  pub is_value : IsHexWord value_word new.value
+  pub are : words ≡ key_word ∷ lo_word ∷ known_word ∷ still_text e.reach.still ∷ tags_word ∷ value_word ∷ []
+  pub is_key : IsKeyWord key_word e.key
+  pub is_lo : IsStampWord lo_word e.reach.lo
+  pub is_known : IsStampWord known_word e.reach.known
+  pub are_tags : IsTagsWord tags_word e.tags
+  pub is_value : IsHexWord value_word e.value
 
--- the name of a command
-abbrev pub name_of : Command → List ℕ
-name_of (Insert new) = codes "insert"
+-- the name of a step
+abbrev pub name_of : Op → List ℕ
+name_of (Insert e) = codes "insert"
 name_of (Lookup key lo hi) = codes "lookup"
 name_of (Event stamp tags) = codes "event"
+name_of (Sweep horizon) = codes "sweep"
 
--- the words behind the name of that command
-abbrev pub AreWordsBehind : Command → List (List ℕ) → Type 0
-AreWordsBehind (Insert new) words = AreInsertWords new words
-AreWordsBehind (Lookup key lo hi) words = AreLookupWords key lo hi words
-AreWordsBehind (Event stamp tags) words = AreEventWords stamp tags words
+-- the words after the name of that step
+abbrev pub AreWordsAfter : Op → List (List ℕ) → Type 0
+AreWordsAfter (Insert e) words = AreInsertWords e words
+AreWordsAfter (Lookup key lo hi) words = AreLookupWords key lo hi words
+AreWordsAfter (Event stamp tags) words = AreEventWords stamp tags words
+AreWordsAfter (Sweep horizon) words = AreSweepWords horizon words
 
--- the text is the command's words behind its name
-abbrev pub IsArgumentsOf : Command → List ℕ → Type 0
-IsArgumentsOf command text =
-    (words : List (List ℕ)) × HasWords text words × AreWordsBehind command words
+-- the text is the step's words after its name
+abbrev pub IsTextAfter : Op → List ℕ → Type 0
+IsTextAfter op text = (words : List (List ℕ)) × HasWords text words × AreWordsAfter op words
 
--- the line is the command's name and its words
-abbrev pub Spells : List ℕ → Command → Type 0
-Spells line command =
-    (words : List (List ℕ)) × HasWords line (name_of command ∷ words) × AreWordsBehind command words
+-- the line is the step's name and its words
+abbrev pub Spells : List ℕ → Op → Type 0
+Spells line op = (words : List (List ℕ)) × HasWords line (name_of op ∷ words) × AreWordsAfter op words
 
 -- ---- lines
 
--- at most 4,096 bytes, each from 0x20 to 0x7E
+-- few bytes, each from 0x20 to 0x7E
 pub record IsPlain (line : List ℕ) : Type 0 where
-  pub few : length line ≤ 4096
+  pub few : length line ≤ MAX_LINE_LEN
   pub bytes : All (λ b. (32 ≤ b) × (b ≤ 126)) line
 
 -- empty, or a comment, which begins with `#`
@@ -104,11 +112,11 @@ IsBlankOrComment (b ∷ bytes) = b ≡ 35
 abbrev pub IsQuiet : List ℕ → Type 0
 IsQuiet line = IsPlain line × IsBlankOrComment line
 
--- a line that is a command
-abbrev pub IsCommandLine : List ℕ → Command → Type 0
-IsCommandLine line command = IsPlain line × Spells line command
+-- a line that names a step
+abbrev pub IsStepLine : List ℕ → Op → Type 0
+IsStepLine line op = IsPlain line × Spells line op
 
 -- a line that is neither
 pub record IsMalformed (line : List ℕ) : Type 0 where
   pub not_quiet : IsQuiet line → ⊥
-  pub no_command : (command : Command) → IsCommandLine line command → ⊥
+  pub no_step : (op : Op) → IsStepLine line op → ⊥

@@ -1,11 +1,53 @@
 -- What reading a line gives.
-use Rattle.std.specs.Prelude.{ℕ, List}
-use Rattle.txc_run.specs.Lines.{IsQuiet, IsCommandLine, IsMalformed}
+use Rattle.std.specs.Prelude.{◌≡◌, ⊤, ℕ, List, Some, None}
+use Rattle.txc_tags.specs.declared.text.set.SetError.{SetError}
+use Rattle.txc_tags.specs.declared.text.set.SetError.TheVariants as sets
+use Rattle.txc_node.specs.declared.entry.Entry.{Entry}
+use Rattle.txc_node.specs.declared.entry.EntryError.{EntryError}
+use Rattle.txc_node.specs.declared.op.Op.{Op}
+use Rattle.txc_node.specs.declared.op.Op.TheVariants.{Insert, Lookup, Event, Sweep}
+use Rattle.txc_node.specs.Steps.{refusal_by, entry_refusal}
+use Rattle.txc_run.specs.Lines.{IsQuiet, IsStepLine, IsMalformed, IsTextAfter, name_of}
 use Rattle.txc_run.specs.declared.line.Line.{Line}
-use Rattle.txc_run.specs.declared.line.Line.TheVariants.{Quiet, Command, Malformed}
+use Rattle.txc_run.specs.declared.line.Line.TheVariants.{Quiet, Step, Unmade, Malformed}
+use Rattle.txc_run.specs.declared.unread.NoStep.{NoStep}
+use Rattle.txc_run.specs.declared.unread.NoStep.TheVariants as reasons
+
+-- the reason that a refused set of tags gives
+abbrev pub set_reason : SetError → NoStep
+set_reason (sets.BadTag bad) = reasons.Malformed
+set_reason (sets.Memory error) = reasons.Memory
+
+-- a word that is not such a word is malformed; a growth may be refused for any word
+abbrev pub IsNoWord : {V : Type 0} → (V → Type 0) → NoStep → Type 0
+IsNoWord {V} Is reasons.Malformed = (v : V) → Is v → ⊥
+IsNoWord Is (reasons.Unmade error) = ⊥
+IsNoWord Is reasons.Memory = ⊤
+
+-- the step has this name, and the text is its words after it
+abbrev pub IsNamed : List ℕ → List ℕ → Op → Type 0
+IsNamed name text op = (name_of op ≡ name) × IsTextAfter op text
+
+-- an insertion's entry can be made
+abbrev pub CanBeMade : Op → Type 0
+CanBeMade (Insert e) = entry_refusal e ≡ None
+CanBeMade (Lookup key lo hi) = ⊤
+CanBeMade (Event stamp tags) = ⊤
+CanBeMade (Sweep horizon) = ⊤
+
+-- the step is such a one, and can be made
+abbrev pub NamesStep : (Op → Type 0) → Op → Type 0
+NamesStep Is op = Is op × CanBeMade op
+
+-- there is no such step; or there is an insertion of an entry that cannot be made; or a growth was refused
+abbrev pub NamesNone : (Op → Type 0) → NoStep → Type 0
+NamesNone Is reasons.Malformed = (op : Op) → Is op → ⊥
+NamesNone Is (reasons.Unmade error) = (e : Entry) × Is (Insert e) × (entry_refusal e ≡ Some (refusal_by error))
+NamesNone Is reasons.Memory = ⊤
 
 -- the bytes are such a line
 abbrev pub IsLine : List ℕ → Line → Type 0
 IsLine bytes Quiet = IsQuiet bytes
-IsLine bytes (Command command) = IsCommandLine bytes command
+IsLine bytes (Step op) = NamesStep (IsStepLine bytes) op
+IsLine bytes (Unmade error) = (e : Entry) × IsStepLine bytes (Insert e) × (entry_refusal e ≡ Some (refusal_by error))
 IsLine bytes Malformed = IsMalformed bytes

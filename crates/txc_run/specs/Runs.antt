@@ -3,11 +3,14 @@ use Rattle.std.specs.Prelude.{◌≡◌, ℕ, ◌+◌, Bool, true, false, List, 
 use Rattle.std.specs.List.{flat_map, list_any}
 use Rattle.std.specs.Fmt.{decimal}
 use Rattle.std.specs.Io.KnownBytes.{Appends, Consumes, IsAtEnd}
+use Rattle.txc_node.specs.declared.hit.Shown.{Shown}
+use Rattle.txc_node.specs.declared.op.Op.{Op}
+use Rattle.txc_node.specs.declared.reply.Reply.{Reply}
 use Rattle.txc_node.specs.Cache.{Cache}
+use Rattle.txc_node.specs.Steps.{is_refusal, MayReply}
+use Rattle.txc_node.specs.Texts.{reply_text}
 use Rattle.txc_run.specs.Script.{BeginsWithLines, HasNoEnd, AreLinesOf}
-use Rattle.txc_run.specs.Lines.{IsQuiet, IsCommandLine, IsMalformed}
-use Rattle.txc_run.specs.Replies.{Reply, reply_text, is_refusal, Obeys}
-use Rattle.txc_run.specs.declared.command.Command.{Command}
+use Rattle.txc_run.specs.Lines.{IsQuiet, IsStepLine, IsMalformed}
 use Rattle.txc_run.specs.declared.fault.Status.{Status}
 use Rattle.txc_run.specs.declared.fault.Status.TheVariants.{Done, Refused}
 use Rattle.txc_run.specs.declared.fault.RunFault.{RunFault}
@@ -15,16 +18,16 @@ use Rattle.txc_run.specs.declared.fault.RunFault.TheVariants.{Read, Write, Memor
 
 -- ---- lines and what they give
 
--- a line gives no reply, or the reply to a command, or is malformed and has this number
+-- a line gives no reply, or the reply to a step, or is malformed and has this number
 pub data Given : Type 0 where
   Nothing : Given
-  Replied : Reply → Given
+  Replied : Reply Shown → Given
   Malformed : ℕ → Given
 
 -- what is written of it
 abbrev pub given_text : Given → List ℕ
 given_text Nothing = []
-given_text (Replied reply) = reply_text reply
+given_text (Replied reply) = reply_text reply ++ 10 ∷ []
 given_text (Malformed number) =
     codes "line " ++ (decimal number ++ (codes ": malformed" ++ 10 ∷ []))
 
@@ -38,7 +41,7 @@ is_refused (Malformed number) = true
 abbrev pub Gives : Cache → ℕ → List ℕ → Given → Cache → Type 0
 Gives c number line Nothing next = IsQuiet line × (next ≡ c)
 Gives c number line (Replied reply) next =
-    (command : Command) × IsCommandLine line command × Obeys c command reply next
+    (op : Op) × IsStepLine line op × MayReply c op reply next
 Gives c number line (Malformed k) next = IsMalformed line × (k ≡ number) × (next ≡ c)
 
 -- no line is read behind a malformed one

@@ -5,18 +5,27 @@ use Rattle.std.specs.declared.alloc.AllocError.{AllocError}
 use Rattle.txc_node.specs.Cache.{Cache}
 use Rattle.txc_run.specs.Script.{BeginsWithLines, HasNoEnd, AreLinesOf}
 use Rattle.txc_run.specs.Runs.{Given, Gives, AreGiven, Answers, given_text, output_of, is_refused, is_malformed}
+use Rattle.txc_run.specs.declared.piece.TheConstants.{MAX_KEPT}
+use Rattle.txc_run.specs.declared.reply.ReplyLine.{ReplyLine}
 use Rattle.txc_run.specs.declared.session.Session.{Session}
 use Rattle.txc_run.specs.declared.session.Flow.{Flow}
 use Rattle.txc_run.specs.declared.session.Flow.TheVariants.{GoesOn, Stopped}
 
 -- how much of a line is kept
 abbrev pub kept_of : List ℕ → List ℕ
-kept_of line = take 4097 line
+kept_of line = take MAX_KEPT line
 
 -- whether the run goes on behind a line that gives this
 abbrev pub flow_of : Bool → Flow
 flow_of false = GoesOn
 flow_of true = Stopped
+
+-- the reply's text is at hand after those before it
+pub record AddsReply (old new : Session) (reply : ReplyLine) : Type 0 where
+  pub text : string_bytes new.output ≡ string_bytes old.output ++ string_bytes reply.text
+  pub refused : new.is_refused ≡ (old.is_refused || reply.is_refusal)
+  pub node : new.node ≡ old.node
+  pub line : new.line ≡ old.line
 
 -- the line that ended was answered
 pub record AnswersLine (old new : Session) (flow : Flow) : Type 0 where

@@ -1,17 +1,16 @@
-//! What the lines of a script are and what they give, in the words of their rules, each the contract of a
-//! function that does nothing.
-ghost use Rattle.txc_run.specs.Laws.{NoQuietLineIsACommand, SpellsOneCommand, IsOneThing, AreAnsweredOneWay};
+//! What the lines of a script are and what they give. Each is a lemma: it has no code.
+ghost use Rattle.txc_run.specs.Laws.{NoQuietLineNamesAStep, NamesOneStep, IsOneThing, AreAnsweredOneWay};
 
-/// A line is one thing at most: it has no reply, or is one command, or is malformed. That it is one of
-/// these, `read_line` shows for every line.
+/// A line is one thing at most: it has no reply, or names one step, or is malformed. Reading it shows which
+/// of these it is.
 pub fn a_line_is_one_thing()
-    ensures no_quiet_command { NoQuietLineIsACommand }
-    ensures one_command { SpellsOneCommand }
+    ensures no_quiet_step { NoQuietLineNamesAStep }
+    ensures one_step { NamesOneStep }
     ensures one_thing { IsOneThing }
 {}
 
-/// But where an insertion wants memory, lines are answered in one way: the state that they find and their
-/// bytes alone say what is replied, and the state that they leave.
+/// Where no insertion is refused for memory, lines are answered in one way: the cache that they find and
+/// their bytes alone say what is replied, and the cache that they leave.
 pub fn lines_are_answered_one_way()
     ensures { AreAnsweredOneWay }
 {}

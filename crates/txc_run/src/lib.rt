@@ -1,17 +1,17 @@
 //! Runs of scripts: modes, settings, sessions, lines and replies, and the status that a program ends with.
 #![tactic(auto)]
 
-mod command;
 mod fault;
 mod hex;
 mod laws;
 mod line;
-mod obey;
 mod piece;
+mod reading;
 mod reply;
 mod script;
 mod session;
 mod settings;
+mod unread;
 mod words;
 mod writer;
 

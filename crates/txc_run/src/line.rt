@@ -3,20 +3,24 @@ ghost use Rattle.std.specs.Prelude.{◌≡◌, ◌≤◌, ◌↔◌, true, false
 ghost use Rattle.txc_run.specs.Lines.{IsPlain, IsBlankOrComment};
 ghost use Rattle.txc_run.specs.Reading.{IsLine};
 
-use crate::command::{Command, read_command};
+use crate::reading::read_step;
+use crate::unread::NoStep;
 use std::alloc::{AllocError, Global};
+use txc_node::{EntryError, Op};
 
 /// The most bytes of a line, its line feed not counted.
-pub const MOST_BYTES: usize = 4_096;
+pub const MAX_LINE_LEN: usize = 4_096;
 
 /// What a line is.
 #[derive(Debug, Drop)]
 pub enum Line {
     /// Empty, or a comment. It has no reply.
     Quiet,
-    /// A command.
-    Command(Command),
-    /// Neither, or too long, or with a byte outside 0x20 to 0x7E.
+    /// A step of the node.
+    Step(Op),
+    /// An insertion of an entry that cannot be made.
+    Unmade(EntryError),
+    /// None of these, or too long, or with a byte outside 0x20 to 0x7E.
     Malformed,
 }
 
@@ -32,7 +36,7 @@ fn is_plain(bytes: &[u8]) -> bool
     ensures plain { result ≡ true → IsPlain bytes.now }
     ensures other { result ≡ false → IsPlain bytes.now → ⊥ }
 {
-    if bytes.len() > MOST_BYTES {
+    if bytes.len() > MAX_LINE_LEN {
         return false;
     }
     are_plain(bytes)
@@ -59,8 +63,10 @@ pub fn read_line(alloc: Global, bytes: &[u8]) -> Result<Line, AllocError>
     if is_quiet(bytes) {
         return Ok(Line::Quiet);
     }
-    match read_command(alloc, bytes)? {
-        Some(command) => Ok(Line::Command(command)),
-        None => Ok(Line::Malformed),
+    match read_step(alloc, bytes) {
+        Ok(op) => Ok(Line::Step(op)),
+        Err(NoStep::Unmade(error)) => Ok(Line::Unmade(error)),
+        Err(NoStep::Malformed) => Ok(Line::Malformed),
+        Err(NoStep::Memory) => Err(AllocError),
     }
 }

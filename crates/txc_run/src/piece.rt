@@ -2,16 +2,17 @@
 ghost use Rattle.std.specs.Prelude.{◌≡◌, ◌≤◌, [], ◌++◌, ◌∷◌, ◌==◌, position, length, take, vec_len, OnOk, IfOk, IfSome, IfNone};
 ghost use Rattle.txc_run.specs.Script.{HasNoEnd};
 
+use crate::line::MAX_LINE_LEN;
 use std::alloc::{AllocError, Global};
 use std::marker::Model;
 
 /// How much of a line is kept: enough to tell that it is too long.
-pub const KEPT_BYTES: usize = 4_097;
+pub const MAX_KEPT: usize = MAX_LINE_LEN + 1;
 
-/// The bytes before the first line feed, and those behind it.
+/// The bytes before the first line feed, and those after it.
 pub fn cut_line(bytes: &[u8]) -> Option<(&[u8], &[u8])>
-    ensures some { IfSome result (λ r. (bytes.now ≡ r.0.now ++ 10 ∷ r.1.now) × HasNoEnd r.0.now) }
-    ensures none { IfNone result (HasNoEnd bytes.now) }
+    ensures answer { IfSome result (λ r. (bytes.now ≡ r.0.now ++ 10 ∷ r.1.now) × HasNoEnd r.0.now) }
+    ensures refused { IfNone result (HasNoEnd bytes.now) }
 {
     match line_end(bytes) {
         Some(i) => Some((&bytes[..i], &bytes[i + 1..])),
@@ -33,12 +34,13 @@ pub struct LineStart {
 
 impl Model for LineStart {
     ghost use Rattle.std.specs.Prelude.{List, ℕ, ◌≤◌, vec_len};
+    ghost use Rattle.txc_run.specs.declared.piece.TheConstants.{MAX_KEPT};
 
     ghost Value = { List ℕ };
 
     ghost view = { λ l. l.bytes.items };
 
-    ghost invariant = { λ l. vec_len l.bytes ≤ 4097 };
+    ghost invariant = { λ l. vec_len l.bytes ≤ MAX_KEPT };
 }
 
 impl LineStart {
@@ -46,7 +48,7 @@ impl LineStart {
     pub fn new(alloc: Global) -> Result<LineStart, AllocError>
         ensures { IfOk result (λ l. l ≡ []) }
     {
-        let bytes = Vec::with_capacity(alloc, KEPT_BYTES)?;
+        let bytes = Vec::with_capacity(alloc, MAX_KEPT)?;
         Ok(LineStart { bytes })
     }
 
@@ -64,7 +66,7 @@ impl LineStart {
 
     /// The line goes on with these bytes.
     pub fn add(&mut self, bytes: &[u8]) -> Result<(), AllocError>
-        ensures { OnOk result (self.new ≡ take KEPT_BYTES (self.old ++ bytes.now)) }
+        ensures { OnOk result (self.new ≡ take MAX_KEPT (self.old ++ bytes.now)) }
     {
         add_to_line(&mut self.bytes, bytes)
     }
@@ -79,11 +81,11 @@ impl LineStart {
 
 /// Adds bytes to what is kept of a line.
 fn add_to_line(line: &mut Vec<u8>, bytes: &[u8]) -> Result<(), AllocError>
-    requires { vec_len line.old ≤ KEPT_BYTES }
-    ensures ok { OnOk result (line.new.items ≡ take KEPT_BYTES (line.old.items ++ bytes.now)) }
-    ensures short { vec_len line.new ≤ KEPT_BYTES }
+    requires { vec_len line.old ≤ MAX_KEPT }
+    ensures after { OnOk result (line.new.items ≡ take MAX_KEPT (line.old.items ++ bytes.now)) }
+    ensures bound { vec_len line.new ≤ MAX_KEPT }
 {
-    let room = KEPT_BYTES - line.len();
+    let room = MAX_KEPT - line.len();
     if bytes.len() <= room {
         line.extend_from_slice(bytes)
     } else {

@@ -4,17 +4,17 @@ ghost use Rattle.std.specs.Io.KnownBytes.{Appends};
 ghost use Rattle.txc_node.specs.Cache.{Cache, empty_cache};
 ghost use Rattle.txc_run.specs.Script.{HasNoEnd};
 ghost use Rattle.txc_run.specs.Written.{AppendsFront};
-ghost use Rattle.txc_run.specs.Sessions.{AnswersLine, Heard, HearsAs, EndsAs, IsKeptBeside};
+ghost use Rattle.txc_run.specs.Sessions.{AddsReply, AnswersLine, Heard, HearsAs, EndsAs, IsKeptBeside};
 
 use crate::fault::{RunFault, Status};
 use crate::line::{Line, read_line};
-use crate::obey::obey;
 use crate::piece::{LineStart, cut_line};
+use crate::reply::{ReplyLine, make_step, refuse};
 use crate::settings::Settings;
 use crate::writer::write_text;
 use std::alloc::{AllocError, Global};
 use std::io::Write;
-use txc_node::NodeCore;
+use txc_node::{NodeCore, Refusal};
 
 /// Whether a run goes on behind a line.
 #[derive(Clone, Copy, Debug, PartialEq, Eq)]
@@ -36,12 +36,6 @@ pub struct Session {
     line: LineStart,
     /// The texts of replies that are not written yet.
     output: String,
-}
-
-fn either(a: bool, b: bool) -> bool
-    ensures { result ≡ (a || b) }
-{
-    a || b
 }
 
 impl Session {
@@ -72,6 +66,18 @@ impl Session {
         }
     }
 
+    /// Adds the line of a reply to those that are not written yet.
+    fn add_reply(&mut self, reply: &ReplyLine) -> Result<Flow, AllocError>
+        ensures answer { IfOk result (λ flow. flow ≡ Flow.GoesOn) }
+        ensures after { OnOk result (AddsReply self.old self.new reply.now) }
+        ensures unchanged { OnErr result (string_bytes self.new.output ≡ string_bytes self.old.output) }
+        ensures count { self.new.lines ≡ self.old.lines }
+    {
+        self.output.push_str(reply.text.as_str())?;
+        self.is_refused |= reply.is_refusal;
+        Ok(Flow::GoesOn)
+    }
+
     /// Answers the line that has ended.
     fn answer_line(&mut self, alloc: Global) -> Result<Flow, AllocError>
         requires { self.old.lines + 1 < 2 ^ 64 }
@@ -85,11 +91,13 @@ impl Session {
         self.line.clear();
         match line {
             Line::Quiet => Ok(Flow::GoesOn),
-            Line::Command(command) => {
-                let reply = obey(alloc, &mut self.node, command)?;
-                self.output.push_str(reply.text.as_str())?;
-                self.is_refused = either(self.is_refused, reply.is_refusal);
-                Ok(Flow::GoesOn)
+            Line::Step(op) => {
+                let reply = make_step(alloc, &mut self.node, op)?;
+                self.add_reply(&reply)
+            }
+            Line::Unmade(error) => {
+                let reply = refuse(alloc, Refusal::of_entry(error))?;
+                self.add_reply(&reply)
             }
             Line::Malformed => {
                 let number = self.lines;

@@ -1,19 +1,14 @@
 //! The words of a line.
-ghost use Rattle.std.specs.Prelude.{◌≡◌, ◌==◌, List, ℕ, [], ◌∷◌, ◌++◌, position, true, false, IfSome, IfNone};
-ghost use Rattle.txc_run.specs.Words.{HasNoBlank, HasWords};
+ghost use Rattle.std.specs.Prelude.{◌≡◌, ◌≢◌, ◌<◌, ◌==◌, ◌∷◌, ◌++◌, count_by, length, position, IfOk, OnOk, OnErr, IfSome, IfNone};
+ghost use Rattle.txc_run.specs.Words.{HasNoBlank, words_of, words_left, is_blank};
 
-/// Whether the texts are the same.
-pub fn is_same(text: &[u8], other: &[u8]) -> bool
-    ensures same { result ≡ true → text.now ≡ other.now }
-    ensures other { result ≡ false → text.now ≡ other.now → ⊥ }
-{
-    text == other
-}
+use crate::unread::Malformed;
 
-/// The word before the first blank, and what stands behind that blank. None where there is no blank.
+/// The word before the first blank, and what comes after that blank.
 pub fn first_word(text: &[u8]) -> Option<(&[u8], &[u8])>
-    ensures some { IfSome result (λ w. (text.now ≡ w.0.now ++ 32 ∷ w.1.now) × HasNoBlank w.0.now) }
-    ensures none { IfNone result (HasNoBlank text.now) }
+    ensures answer { IfSome result (λ w.
+        (text.now ≡ w.0.now ++ 32 ∷ w.1.now) × HasNoBlank w.0.now) }
+    ensures refused { IfNone result (HasNoBlank text.now) }
 {
     match blank_at(text) {
         Some(i) => Some((&text[..i], &text[i + 1..])),
@@ -27,70 +22,47 @@ fn blank_at(text: &[u8]) -> Option<usize>
     text.iter().position(|b| *b == b' ')
 }
 
-/// The words of a text of two words.
-pub fn two_words(text: &[u8]) -> Option<(&[u8], &[u8])>
-    ensures some { IfSome result (λ w. HasWords text.now (w.0.now ∷ w.1.now ∷ [])) }
-    ensures none { IfNone result ((a b : List ℕ) → HasWords text.now (a ∷ b ∷ []) → ⊥) }
+fn count_blanks(text: &[u8]) -> usize
+    ensures { result ≡ count_by is_blank text.now }
 {
-    match first_word(text) {
-        None => None,
-        Some((first, second)) => match first_word(second) {
-            None => Some((first, second)),
-            Some(_) => None,
-        },
-    }
+    text.iter().filter(|b| **b == b' ').count()
 }
 
-/// The words of a text of three words.
-pub fn three_words(text: &[u8]) -> Option<(&[u8], &[u8], &[u8])>
-    ensures some { IfSome result (λ w. HasWords text.now (w.0.now ∷ w.1.now ∷ w.2.now ∷ [])) }
-    ensures none { IfNone result ((a b d : List ℕ) → HasWords text.now (a ∷ b ∷ d ∷ []) → ⊥) }
-{
-    match first_word(text) {
-        None => None,
-        Some((first, rest)) => match two_words(rest) {
-            None => None,
-            Some((second, third)) => Some((first, second, third)),
-        },
-    }
-}
-
-/// Six words.
+/// Words of a text that were not taken yet.
 #[derive(Clone, Copy, Debug)]
-pub struct SixWords<'a> {
-    pub first: &'a [u8],
-    pub second: &'a [u8],
-    pub third: &'a [u8],
-    pub fourth: &'a [u8],
-    pub fifth: &'a [u8],
-    pub sixth: &'a [u8],
+pub struct WordsLeft<'a> {
+    rest: &'a [u8],
+    count: usize,
 }
 
-/// The words of a text of six words.
-pub fn six_words(text: &[u8]) -> Option<SixWords<'_>>
-    ensures some { IfSome result (λ w. HasWords text.now
-        (w.first.now ∷ w.second.now ∷ w.third.now ∷ w.fourth.now ∷ w.fifth.now ∷ w.sixth.now ∷ [])) }
-    ensures none { IfNone result
-        ((a b d e f g : List ℕ) → HasWords text.now (a ∷ b ∷ d ∷ e ∷ f ∷ g ∷ []) → ⊥) }
+/// The words of a text that has exactly so many.
+pub fn words(text: &[u8], count: usize) -> Result<WordsLeft<'_>, Malformed>
+    ensures answer { IfOk result (λ words. words_left words ≡ words_of text.now) }
+    ensures only_if { OnOk result (length (words_of text.now) ≡ count) }
+    ensures refused { OnErr result (length (words_of text.now) ≢ count) }
 {
-    match first_word(text) {
-        None => None,
-        Some((first, behind_first)) => match first_word(behind_first) {
-            None => None,
-            Some((second, behind_second)) => match first_word(behind_second) {
-                None => None,
-                Some((third, rest)) => match three_words(rest) {
-                    None => None,
-                    Some((fourth, fifth, sixth)) => Some(SixWords {
-                        first,
-                        second,
-                        third,
-                        fourth,
-                        fifth,
-                        sixth,
-                    }),
-                },
-            },
-        },
+    if count_blanks(text) + 1 != count {
+        return Err(Malformed);
+    }
+    Ok(WordsLeft { rest: text, count })
+}
+
+impl<'a> WordsLeft<'a> {
+    /// The next word.
+    pub fn next(&mut self) -> &'a [u8]
+        requires { 0 < length (words_left self.old) }
+        ensures { words_left self.old ≡ result.now ∷ words_left self.new }
+    {
+        match first_word(self.rest) {
+            Some((word, rest)) => {
+                self.rest = rest;
+                self.count -= 1;
+                word
+            }
+            None => {
+                self.count = 0;
+                self.rest
+            }
+        }
     }
 }

@@ -1,6 +1,7 @@
 use Rattle.std.proofs.Common.{◌≡◌, ◌++◌, length}
 use Rattle.std.specs.List.{flat_map}
-use Rattle.txc_run.specs.Hex.{digits_of, IsBytes}
+use Rattle.txc_node.specs.Texts.{digits_of}
+use Rattle.txc_run.specs.Hex.{IsBytes}
 use Rattle.txc_run.proofs.hex.read_digits.Given as goal
 
 abbrev pub invariant-digits : goal.invariant-digits

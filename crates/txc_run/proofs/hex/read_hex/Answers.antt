@@ -1,7 +1,9 @@
 use Rattle.std.proofs.Common.{sym, ◌∙◌}
-use Rattle.txc_run.proofs.Hearing.{not_nothing}
-use Rattle.txc_run.proofs.HexDigits.{hex_of}
+use Rattle.std.specs.Prelude.{codes}
+use Rattle.txc_run.proofs.HexDigits.{hex_unread}
+use Rattle.txc_run.proofs.Named.{other_text}
 use Rattle.txc_run.proofs.hex.read_hex.Goals as goal
 
-pub returns : goal.returns
-returns c = hex_of c.args.text.now c.read_digits.result (c.is_same.ensures.other c.if-is_same.false) (not_nothing c.args.text.now (sym c.is_empty.ensures ∙ c.if-is_empty.false)) c.read_digits.ensures
+pub returns-clause-refused : goal.returns-clause-refused
+returns-clause-refused c =
+    hex_unread c.args.text.now c.read_digits.result (other_text c.args.text.now c.as_slice.result.now (codes "-") c.eq.result c.as_slice.ensures c.eq.ensures c.if-eq.false) c.read_digits.ensures.refused

@@ -1,8 +1,9 @@
-use Rattle.txc_run.proofs.Reading.{line_spelled, line_unspelled}
+use Rattle.std.proofs.Common.{subst}
+use Rattle.txc_run.specs.Lines.{Spells}
+use Rattle.txc_run.specs.Reading.{NamesNone}
+use Rattle.txc_run.proofs.LineRead.{no_line}
 use Rattle.txc_run.proofs.line.read_line.Goals as goal
 
-pub returns-in-Some : goal.returns-in-Some
-returns-in-Some c = line_spelled c.args.bytes.now c.in_ok-command.field-0 c.in-Some.command (c.is_plain.ensures.plain c.if-not-is_plain.false) c.in-Some.is c.in_ok-command.ensures
-
-pub returns-in-None : goal.returns-in-None
-returns-in-None c = line_unspelled c.args.bytes.now c.in_ok-command.field-0 (c.is_quiet.ensures.other c.if-is_quiet.false) c.in-None.is c.in_ok-command.ensures
+pub returns-in-Err-Malformed : goal.returns-in-Err-Malformed
+returns-in-Err-Malformed c =
+    no_line c.args.bytes.now (c.is_quiet.ensures.other c.if-is_quiet.false) (subst (NamesNone (Spells c.args.bytes.now)) c.in-Err-Malformed.field-0-is c.in-Err-Malformed.ensures.refused)

@@ -1,11 +1,12 @@
 use Rattle.std.proofs.Common.{arith, ◌∙◌}
+use Rattle.txc_run.specs.declared.piece.TheConstants.{MAX_KEPT}
 use Rattle.txc_run.proofs.Cuts.{kept_all, kept_front_at, on_ok}
 use Rattle.txc_run.proofs.piece.add_to_line.Goals as goal
 
-pub returns-then-bytes-room-clause-ok : goal.returns-then-bytes-room-clause-ok
-returns-then-bytes-room-clause-ok c = on_ok c.extend_from_slice.result _ _ _ _ c.extend_from_slice.ensures.items (kept_all 4097 c.args.line.now.items c.args.bytes.now (omega arith))
+pub returns-then-bytes-room-clause-after : goal.returns-then-bytes-room-clause-after
+returns-then-bytes-room-clause-after c = on_ok c.extend_from_slice.result _ _ _ _ c.extend_from_slice.ensures.items (kept_all MAX_KEPT c.args.line.now.items c.args.bytes.now (omega arith))
 
-pub returns-else-bytes-room-clause-ok : goal.returns-else-bytes-room-clause-ok
-returns-else-bytes-room-clause-ok c =
+pub returns-else-bytes-room-clause-after : goal.returns-else-bytes-room-clause-after
+returns-else-bytes-room-clause-after c =
     on_ok c.extend_from_slice-else-bytes-room.result _ _ _ _ c.extend_from_slice-else-bytes-room.ensures.items
-    (kept_front_at 4097 _ c.args.line.now.items c.args.bytes.now (omega (arith, c.args.line.now.ok.0)) (c.len-room.ensures ∙ c.args.line.now.ok.0))
+    (kept_front_at MAX_KEPT _ c.args.line.now.items c.args.bytes.now (omega (arith, c.args.line.now.ok.0)) (c.len-room.ensures ∙ c.args.line.now.ok.0))

@@ -2,8 +2,8 @@ use Rattle.std.proofs.Common.{sym}
 use Rattle.txc_run.proofs.Cuts.{cut_at, no_cut}
 use Rattle.txc_run.proofs.piece.cut_line.Goals as goal
 
-pub returns-in-Some-clause-some : goal.returns-in-Some-clause-some
-returns-in-Some-clause-some c = let cut = cut_at 10 c.args.bytes.now c.in-Some.i (sym c.in-Some.ensures) in (cut.joined, cut.not_before)
+pub returns-in-Some-clause-answer : goal.returns-in-Some-clause-answer
+returns-in-Some-clause-answer c = let cut = cut_at 10 c.args.bytes.now c.in-Some.i (sym c.in-Some.ensures) in (cut.joined, cut.not_before)
 
-pub returns-in-None-clause-none : goal.returns-in-None-clause-none
-returns-in-None-clause-none c = no_cut 10 c.args.bytes.now (sym c.in-None.ensures)
+pub returns-in-None-clause-refused : goal.returns-in-None-clause-refused
+returns-in-None-clause-refused c = no_cut 10 c.args.bytes.now (sym c.in-None.ensures)

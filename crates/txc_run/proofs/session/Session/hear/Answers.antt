@@ -6,7 +6,7 @@ use Rattle.txc_run.proofs.session.Session.hear.Goals as goal
 pub returns-in-Ok-Stopped-clause-heard : goal.returns-in-Ok-Stopped-clause-heard
 returns-in-Ok-Stopped-clause-heard c start read written h =
     let i = c.lines.invariant in
-    let cut = c.in-Some.ensures.some in
+    let cut = c.in-Some.ensures.answer in
     stopped_longer start _ written c.in-Some.behind.now _ c.hear_line.new.self
     (rejoined read i.done c.in-Some.front.now c.in-Some.behind.now c.lines.rest.now c.args.bytes.now i.split cut.0)
     (stopped_of start _ written c.hear_line.new.self c.in-Ok-Stopped.field-0 c.in-Ok-Stopped.field-0-is (c.in-Ok-Stopped.ensures.heard start (read ++ i.done) written (i.heard start read written h)))
@@ -14,7 +14,7 @@ returns-in-Ok-Stopped-clause-heard c start read written h =
 pub returns-in-Err-clause-heard : goal.returns-in-Err-clause-heard
 returns-in-Err-clause-heard c start read written h =
     let i = c.lines.invariant in
-    let cut = c.in-Some.ensures.some in
+    let cut = c.in-Some.ensures.answer in
     halted_longer start _ written c.in-Some.behind.now _ c.hear_line.new.self
     (rejoined read i.done c.in-Some.front.now c.in-Some.behind.now c.lines.rest.now c.args.bytes.now i.split cut.0)
     (c.in-Err.ensures.heard start (read ++ i.done) written (i.heard start read written h))
@@ -28,7 +28,7 @@ returns-in-None-clause-heard c start read written h =
 pub lines-preserved : goal.lines-preserved
 lines-preserved c =
     let i = c.lines.invariant in
-    let cut = c.in-Some.ensures.some in
+    let cut = c.in-Some.ensures.answer in
     let front = c.in-Some.front.now in
     let behind = c.in-Some.behind.now in
     record {

@@ -1,0 +1,210 @@
+-- The steps that the words of a line name.
+use Rattle.std.proofs.Common.{◌≡◌, ◌<◌, ◌≤◌, lit<, ℕ, Bool, true, false, List, [], ◌∷◌, ◌++◌, Option, Some, None, Result, Ok, Err, IfOk, IfErr, get_or, length, refl, arith, sym, ap, subst, ◌∙◌}
+use Rattle.std.specs.Prelude.{codes, ◌↔◌, IsErr, IsErrAnd}
+use Rattle.std.specs.Str.{bytes_eq}
+use Rattle.std.proofs.lemmas.Slice.Eq.{bytes_eq-Decides}
+use Rattle.std.proofs.lemmas.List.{append-nil, length-append}
+use Rattle.txc_tags.specs.declared.tag.Tag.{Tag}
+use Rattle.txc_tags.specs.Keys.{Call}
+use Rattle.txc_tags.specs.TextSet.{IsSetRefusal}
+use Rattle.txc_tags.specs.declared.text.set.SetError.{SetError}
+use Rattle.txc_tags.specs.declared.text.set.SetError.TheVariants as sets
+use Rattle.txc_node.specs.declared.entry.Entry.{Entry}
+use Rattle.txc_node.specs.declared.entry.EntryError.{EntryError}
+use Rattle.txc_node.specs.declared.entry.EntryError.TheVariants as errors
+use Rattle.txc_node.specs.declared.op.Op.{Op}
+use Rattle.txc_node.specs.declared.op.Op.TheVariants.{Insert, Lookup, Event, Sweep}
+use Rattle.txc_node.specs.declared.value.TheConstants.{MAX_VALUE_LEN}
+use Rattle.txc_node.specs.Steps.{entry_refusal, refusal_by}
+use Rattle.txc_node.proofs.Offered.{entry_is_made, entry_has_no_reach, entry_is_too_long}
+use Rattle.txc_run.specs.Words.{HasNoBlank, HasWords, words_of}
+use Rattle.txc_run.specs.Hex.{IsHexWord}
+use Rattle.txc_run.specs.Lines.{IsKeyWord, IsStampWord, IsTagsWord, still_text, AreLookupWords, AreEventWords, AreSweepWords, AreInsertWords, name_of, AreWordsAfter, Spells}
+use Rattle.txc_run.specs.Reading.{IsNoWord, IsNamed, NamesStep, NamesNone, set_reason}
+use Rattle.txc_run.specs.declared.unread.NoStep.{NoStep}
+use Rattle.txc_run.specs.declared.unread.NoStep.TheVariants as reasons
+use Rattle.txc_run.proofs.Blanks.{words_cut, words_alone, has_words, words_are}
+
+-- ---- texts that are compared
+
+pub same_text : (text other word : List ℕ) (r : Bool) → other ≡ word → r ≡ bytes_eq text other → r ≡ true → text ≡ word
+same_text text other word r is e h = (bytes_eq-Decides text other).0 (sym e ∙ h) ∙ is
+
+pub other_text : (text other word : List ℕ) (r : Bool) → other ≡ word → r ≡ bytes_eq text other → r ≡ false → text ≡ word → ⊥
+other_text text other word r is e h same = let k : r ≡ true = e ∙ (bytes_eq-Decides text other).1 (same ∙ sym is) in cc
+
+-- ---- what is refused
+
+pub none_named : {T E : Type 0} (r : Result T E) (name text : List ℕ) → ((op : Op) → IsNamed name text op → ⊥) → IfErr r (λ _. (op : Op) → IsNamed name text op → ⊥)
+none_named (Ok x) name text h = tt
+none_named (Err e) name text h = h
+
+pub malformed : {T : Type 0} (r : Result T NoStep) (Is : Op → Type 0) → IsErr r × IsErrAnd r (λ reason. reason ≡ reasons.Malformed) → ((op : Op) → Is op → ⊥) → IfErr r (NamesNone Is)
+malformed (Ok x) Is h none = tt
+malformed (Err reason) Is h none = subst (NamesNone Is) (sym h.1) none
+
+-- a set of tags that was refused is no word of any such step, or a growth was refused
+pub tags_unread : {T : Type 0} (r : Result T NoStep) (Is : Op → Type 0) (word : List ℕ) (error : SetError) → IsErr r × IsErrAnd r (λ reason. reason ≡ set_reason error) → IsSetRefusal word error
+    → ((op : Op) → Is op → (tags : List Tag) × IsTagsWord word tags) → IfErr r (NamesNone Is)
+tags_unread (Ok x) Is word error h refused some = tt
+tags_unread (Err reason) Is word (sets.BadTag bad) h refused some =
+    subst (NamesNone Is) (sym h.1) (λ op is. let tags = some op is in refused.1 (tags.1.0, tags.1.1))
+tags_unread (Err reason) Is word (sets.Memory error) h refused some = subst (NamesNone Is) (sym h.1) tt
+
+pub word_unread : {T V : Type 0} (r : Result T NoStep) (Is : Op → Type 0) (IsWord : V → Type 0) (error : NoStep) → IsErr r × IsErrAnd r (λ reason. reason ≡ error) → IsNoWord IsWord error
+    → ((op : Op) → Is op → (v : V) × IsWord v) → IfErr r (NamesNone Is)
+word_unread (Ok x) Is IsWord error h refused some = tt
+word_unread (Err reason) Is IsWord reasons.Malformed h refused some = subst (NamesNone Is) (sym h.1) (λ op is. let v = some op is in refused v.0 v.1)
+word_unread (Err reason) Is IsWord (reasons.Unmade error) h refused some = absurd refused
+word_unread (Err reason) Is IsWord reasons.Memory h refused some = subst (NamesNone Is) (sym h.1) tt
+
+pub unmade : {T : Type 0} (r : Result T NoStep) (Is : Op → Type 0) (e : Entry) (error : EntryError) → IsErr r × IsErrAnd r (λ reason. reason ≡ reasons.Unmade error) → Is (Insert e)
+    → entry_refusal e ≡ Some (refusal_by error) → IfErr r (NamesNone Is)
+unmade (Ok x) Is e error h is refused = tt
+unmade (Err reason) Is e error h is refused = subst (NamesNone Is) (sym h.1) (e, is, refused)
+
+-- ---- words that are taken one after the other
+
+no_more : (words : List (List ℕ)) → length words ≡ 0 → words ≡ []
+no_more [] e = refl
+no_more (w ∷ words) e = absurd (omega (arith, e))
+
+pub all_taken : (all taken left : List (List ℕ)) → all ≡ taken ++ left → length all ≡ length taken → all ≡ taken
+all_taken all taken left e n =
+    let none : length left ≡ 0 = omega (arith, n, ap length e, length-append taken left) in
+    e ∙ ap (λ (ws : List (List ℕ)). taken ++ ws) (no_more left none) ∙ append-nil taken
+
+-- ---- steps by their names
+
+first_byte : {xs ys : List ℕ} → xs ≡ ys → get_or xs 0 0 ≡ get_or ys 0 0
+first_byte e = ap (λ (xs : List ℕ). get_or xs 0 0) e
+
+below_apart : (a b : ℕ) → a < b → a ≡ b → ⊥
+below_apart a b l e = omega arith
+
+some_words : (op : Op) → AreWordsAfter op [] → ⊥
+some_words (Insert e) h = let e = h.are in cc
+some_words (Lookup key lo hi) h = let e = h.are in cc
+some_words (Event stamp tags) h = let e = h.are in cc
+some_words (Sweep horizon) h = let e = h.are in cc
+
+-- the words after a step's name are those of the text
+words_after : (op : Op) (text : List ℕ) (words : List (List ℕ)) → HasWords text words → AreWordsAfter op words → AreWordsAfter op (words_of text)
+words_after op text [] has are = absurd (some_words op are)
+words_after op text (w ∷ words) has are = subst (AreWordsAfter op) (sym (words_are text w words has)) are
+
+pub record LookupIn (text : List ℕ) : Type 0 where
+  pub key : Call
+  pub lo : ℕ
+  pub hi : ℕ
+  pub words : AreLookupWords key lo hi (words_of text)
+
+pub lookup_in : (text : List ℕ) (op : Op) → IsNamed (codes "lookup") text op → LookupIn text
+lookup_in text (Insert e) h = absurd (below_apart 105 108 (lit< tt) (first_byte h.0))
+lookup_in text (Lookup key lo hi) h = record { key = key; lo = lo; hi = hi; words = words_after (Lookup key lo hi) text h.1.0 h.1.1 h.1.2 }
+lookup_in text (Event stamp tags) h = absurd (below_apart 101 108 (lit< tt) (first_byte h.0))
+lookup_in text (Sweep horizon) h = absurd (below_apart 108 115 (lit< tt) (first_byte (sym h.0)))
+
+pub record SweepIn (text : List ℕ) : Type 0 where
+  pub horizon : ℕ
+  pub words : AreSweepWords horizon (words_of text)
+
+pub sweep_in : (text : List ℕ) (op : Op) → IsNamed (codes "sweep") text op → SweepIn text
+sweep_in text (Insert e) h = absurd (below_apart 105 115 (lit< tt) (first_byte h.0))
+sweep_in text (Lookup key lo hi) h = absurd (below_apart 108 115 (lit< tt) (first_byte h.0))
+sweep_in text (Event stamp tags) h = absurd (below_apart 101 115 (lit< tt) (first_byte h.0))
+sweep_in text (Sweep horizon) h = record { horizon = horizon; words = words_after (Sweep horizon) text h.1.0 h.1.1 h.1.2 }
+
+pub record EventIn (text : List ℕ) : Type 0 where
+  pub stamp : ℕ
+  pub tags : List Tag
+  pub words : AreEventWords stamp tags (words_of text)
+
+pub event_in : (text : List ℕ) (op : Op) → IsNamed (codes "event") text op → EventIn text
+event_in text (Insert e) h = absurd (below_apart 101 105 (lit< tt) (first_byte (sym h.0)))
+event_in text (Lookup key lo hi) h = absurd (below_apart 101 108 (lit< tt) (first_byte (sym h.0)))
+event_in text (Event stamp tags) h = record { stamp = stamp; tags = tags; words = words_after (Event stamp tags) text h.1.0 h.1.1 h.1.2 }
+event_in text (Sweep horizon) h = absurd (below_apart 101 115 (lit< tt) (first_byte (sym h.0)))
+
+pub record InsertIn (text : List ℕ) : Type 0 where
+  pub entry : Entry
+  pub words : AreInsertWords entry (words_of text)
+
+pub insert_in : (text : List ℕ) (op : Op) → IsNamed (codes "insert") text op → InsertIn text
+insert_in text (Insert e) h = record { entry = e; words = words_after (Insert e) text h.1.0 h.1.1 h.1.2 }
+insert_in text (Lookup key lo hi) h = absurd (below_apart 105 108 (lit< tt) (first_byte (sym h.0)))
+insert_in text (Event stamp tags) h = absurd (below_apart 101 105 (lit< tt) (first_byte h.0))
+insert_in text (Sweep horizon) h = absurd (below_apart 105 115 (lit< tt) (first_byte (sym h.0)))
+
+pub insertion_named : (text : List ℕ) (e : Entry) (key lo known still tags value : List ℕ) → words_of text ≡ key ∷ lo ∷ known ∷ still ∷ tags ∷ value ∷ []
+    → IsKeyWord key e.key → IsStampWord lo e.reach.lo → IsStampWord known e.reach.known → still ≡ still_text e.reach.still → IsTagsWord tags e.tags → IsHexWord value e.value
+    → IsNamed (codes "insert") text (Insert e)
+insertion_named text e key lo known still tags value are is_key is_lo is_known is_still are_tags is_value =
+    (refl, (words_of text, has_words text, record {
+      key_word = key;
+      lo_word = lo;
+      known_word = known;
+      tags_word = tags;
+      value_word = value;
+      are = are ∙ ap (λ (w : List ℕ). key ∷ lo ∷ known ∷ w ∷ tags ∷ value ∷ []) is_still;
+      is_key = is_key;
+      is_lo = is_lo;
+      is_known = is_known;
+      are_tags = are_tags;
+      is_value = is_value;
+    }))
+
+-- ---- entries that cannot be made
+
+pub entry_refused : (e : Entry) (error : EntryError) → ((error ≡ errors.BadReach) → e.reach.known < e.reach.lo) → ((error ≡ errors.ValueTooLong) → (e.reach.lo ≤ e.reach.known) × (MAX_VALUE_LEN < length e.value))
+    → entry_refusal e ≡ Some (refusal_by error)
+entry_refused e errors.BadReach reach long = entry_has_no_reach e (reach refl)
+entry_refused e errors.ValueTooLong reach long = let l = long refl in entry_is_too_long e l.0 l.1
+
+-- ---- the step of a line
+
+-- a line is its name and the words of the rest
+line_words : (line name text : List ℕ) → line ≡ name ++ 32 ∷ text → HasNoBlank name → HasWords line (name ∷ words_of text)
+line_words line name text e bare = subst (λ (ws : List (List ℕ)). HasWords line ws) (words_cut line name text e bare) (has_words line)
+
+pub spelled : (line name text : List ℕ) → line ≡ name ++ 32 ∷ text → HasNoBlank name → (op : Op) → IsNamed name text op → Spells line op
+spelled line name text e bare op h =
+    (words_of text, subst (λ (n : List ℕ). HasWords line (n ∷ words_of text)) (sym h.0) (line_words line name text e bare), words_after op text h.1.0 h.1.1 h.1.2)
+
+record SameWords (name text : List ℕ) (op : Op) (words : List (List ℕ)) : Type 0 where
+  names : name_of op ≡ name
+  others : words ≡ words_of text
+
+same_words : (line name text : List ℕ) (op : Op) (words : List (List ℕ)) → line ≡ name ++ 32 ∷ text → HasNoBlank name → HasWords line (name_of op ∷ words) → SameWords name text op words
+same_words line name text op words e bare has =
+    let same : name_of op ∷ words ≡ name ∷ words_of text = sym (words_are line (name_of op) words has) ∙ words_cut line name text e bare in
+    record { names = cc; others = cc }
+
+pub named : (line name text : List ℕ) → line ≡ name ++ 32 ∷ text → HasNoBlank name → (op : Op) → Spells line op → IsNamed name text op
+named line name text e bare op s =
+    let same = same_words line name text op s.0 e bare s.1 in
+    (same.names, (words_of text, has_words text, subst (AreWordsAfter op) same.others s.2))
+
+-- a line without a blank names no step
+pub unnamed : (line : List ℕ) (op : Op) → HasNoBlank line → Spells line op → ⊥
+unnamed line op bare s =
+    let same : name_of op ∷ s.0 ≡ line ∷ [] = sym (words_are line (name_of op) s.0 s.1) ∙ words_alone line bare in
+    let none : s.0 ≡ [] = cc in
+    some_words op (subst (AreWordsAfter op) none s.2)
+
+pub names_as : {T : Type 0} (Is Js : Op → Type 0) (r : Result Op T) → ((op : Op) → Is op → Js op) → IfOk r (NamesStep Is) → IfOk r (NamesStep Js)
+names_as Is Js (Ok op) there h = (there op h.0, h.1)
+names_as Is Js (Err reason) there h = tt
+
+pub names_none_as : {T : Type 0} (Is Js : Op → Type 0) (r : Result T NoStep) → ((op : Op) → Is op → Js op) → ((op : Op) → Js op → Is op) → IfErr r (NamesNone Is) → IfErr r (NamesNone Js)
+names_none_as Is Js (Ok x) there back h = tt
+names_none_as Is Js (Err reasons.Malformed) there back h = λ op js. h op (back op js)
+names_none_as Is Js (Err (reasons.Unmade error)) there back h = (h.0, there (Insert h.0) h.1, h.2)
+names_none_as Is Js (Err reasons.Memory) there back h = tt
+
+-- there is no step of another name
+pub no_step : (name text : List ℕ) (op : Op) → (name ≡ codes "insert" → ⊥) → (name ≡ codes "lookup" → ⊥) → (name ≡ codes "event" → ⊥) → (name ≡ codes "sweep" → ⊥) → IsNamed name text op → ⊥
+no_step name text (Insert e) i l v s h = i (sym h.0)
+no_step name text (Lookup key lo hi) i l v s h = l (sym h.0)
+no_step name text (Event stamp tags) i l v s h = v (sym h.0)
+no_step name text (Sweep horizon) i l v s h = s (sym h.0)
