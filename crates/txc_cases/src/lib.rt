@@ -11,4 +11,6 @@ mod script;
 #[cfg(test)]
 mod stamp;
 #[cfg(test)]
+mod stream;
+#[cfg(test)]
 mod tags;
