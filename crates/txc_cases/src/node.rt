@@ -1,398 +1,302 @@
-//! Scripts of a node's calls with what they answer.
-ghost use Rattle.std.specs.Prelude.{◌≤◌};
-
-use crate::common::{play_texts, stamp};
+//! Scripts of a node's steps with what they are answered.
+use crate::script::{Player, byte, number, play, show, show_change, word};
+use crate::stamp::stamp;
+use crate::tags::set_of;
 use std::alloc::{AllocError, Global};
-use std::process::Abort;
+use std::fmt::Write;
 use txc_node::{
-    EmptyRange, Entry, EntryError, Inserted, MAX_CAPACITY, MAX_RECENT, NodeCore, OutOfOrder, Value,
+    Counts, Entry, EntryError, Hit, NodeCore, Op, OutOfOrder, Record, Refusal, Reply, Shown,
 };
-use txc_stamp::{Reach, Stamp};
-use txc_tags::{Key, Table, Tag, TagSet};
+use txc_stamp::Stamp;
+use txc_tags::{Key, TagSet};
 
-/// Rows of table 1.
-#[derive(Clone, Copy)]
-enum Rows {
-    None,
-    Id(u32),
-    Group(u32),
-    All,
-}
-
-/// The first stamp of a reach, the end of its span, and whether it is still valid.
-type Shown = (u32, u32, bool);
-
-#[derive(Clone, Copy)]
-enum Call {
-    /// An entry of function 1 with this argument: the length of the value and the byte that fills
-    /// it, the first stamp, the last one known and whether it is still valid, and its tags.
-    Insert(u32, (usize, u8), (u32, u32, bool), Rows),
-    /// The argument, and the first and the last stamp asked for.
-    Lookup(u32, u32, u32),
-    Event(u32, Rows),
-}
-
-#[derive(Clone, Copy, Debug, PartialEq, Eq)]
-enum Reply {
-    Stored(Shown),
-    /// With the argument and the first stamp of the entry that was dropped.
-    Evicting(Shown, u32, u32),
-    Kept,
-    Refused(EntryError),
-    /// With the length of the value and its first byte.
-    Hit(Shown, usize, u8),
-    Miss,
-    EmptyRange,
-    Closed(usize),
-    OutOfOrder(u32),
-}
-
-fn shown(reach: Reach) -> Shown {
-    (
-        reach.lo().number(),
-        reach.known().number() + 1,
-        reach.is_still(),
-    )
-}
-
-fn key(argument: u32) -> Key {
-    Key::new(1, &[argument]).unwrap()
-}
-
-fn argument(key: &Key) -> u32 {
-    key.args().first().copied().unwrap_or(0)
-}
-
-fn tag(rows: Rows) -> Option<Tag> {
-    let table = Table::new(1)?;
-    match rows {
-        Rows::None => None,
-        Rows::Id(id) => Some(Tag::Id(table, id)),
-        Rows::Group(group) => Some(Tag::Group(table, group)),
-        Rows::All => Some(Tag::Wildcard(table)),
+/// The key that the second word is, else that of function 0.
+fn key(call: &str) -> Key {
+    match Key::read(word(call, 1).as_bytes()) {
+        Ok(key) => key,
+        Err(_) => Key::new(0, &[]).unwrap(),
     }
 }
 
-fn tags(alloc: Global, rows: Rows) -> Result<TagSet, AllocError> {
-    let mut tags = TagSet::new(alloc);
-    if let Some(tag) = tag(rows) {
-        tags.add(tag)?;
-    }
-    Ok(tags)
-}
-
-fn reply_of(inserted: Inserted) -> Reply {
-    match inserted {
-        Inserted::Kept(_) => Reply::Kept,
-        Inserted::Stored { reach, evicted } => match evicted {
-            None => Reply::Stored(shown(reach)),
-            Some(old) => {
-                let lo = old.reach.lo().number();
-                Reply::Evicting(shown(reach), argument(&old.key), lo)
-            }
-        },
-    }
-}
-
-fn is_same(one: &Entry, other: &Entry) -> bool {
-    one.key.is_same(&other.key)
-        && one.value.bytes() == other.value.bytes()
-        && one.reach == other.reach
-        && one.tags.tags() == other.tags.tags()
-}
-
-/// Inserts a copy of the entry, which comes back where the insertion is refused.
-fn insert_copy(
-    rt: &(impl Abort + AllocGlobal),
-    node: &mut NodeCore,
-    entry: &Entry,
-) -> Result<Reply, AllocError> {
-    match node.insert(entry.copy(rt.alloc())?) {
-        Ok(inserted) => Ok(reply_of(inserted)),
-        Err(refused) => {
-            assert!(rt; is_same(&refused.value, entry));
-            Err(AllocError)
-        }
-    }
-}
-
-fn insert(
-    rt: &(impl Abort + AllocGlobal),
-    node: &mut NodeCore,
-    key: Key,
-    value: (usize, u8),
-    reach: (u32, u32, bool),
-    rows: Rows,
-) -> Result<Reply, AllocError> {
-    let ((len, byte), (lo, known, still)) = (value, reach);
-    let value = vec![in rt.alloc(); byte; len]?;
-    let tags = tags(rt.alloc(), rows)?;
-    match Entry::new(key, value, stamp(lo), stamp(known), still, tags) {
-        Ok(entry) => insert_copy(rt, node, &entry),
-        Err(error) => Ok(Reply::Refused(error)),
-    }
-}
-
-fn lookup(node: &mut NodeCore, key: &Key, lo: u32, hi: u32) -> Reply {
-    match node.lookup(key, stamp(lo), stamp(hi)) {
-        Ok(Some(hit)) => {
-            let bytes = hit.value.bytes();
-            let first = bytes.first().copied().unwrap_or(0);
-            Reply::Hit(shown(hit.reach()), bytes.len(), first)
-        }
+fn lookup<'a>(node: &'a mut NodeCore, call: &str) -> Reply<Hit<'a>> {
+    match node.lookup(&key(call), stamp(call, 2), stamp(call, 3)) {
+        Ok(Some(hit)) => Reply::Hit(hit),
         Ok(None) => Reply::Miss,
-        Err(EmptyRange) => Reply::EmptyRange,
+        Err(_) => Reply::Refused(Refusal::EmptyRange),
     }
 }
 
-fn event(node: &mut NodeCore, number: u32, tags: TagSet) -> Reply {
-    match node.event(stamp(number), tags) {
+fn event(node: &mut NodeCore, stamp: Stamp, tags: TagSet) -> Reply<Hit<'_>> {
+    match node.event(stamp, tags) {
         Ok(count) => Reply::Closed(count),
-        Err(error) => Reply::OutOfOrder(error.processed.number()),
+        Err(error) => Reply::Refused(Refusal::OutOfOrder(error.processed)),
     }
 }
 
-fn try_answer(
-    rt: &(impl Abort + AllocGlobal),
+fn new_entry(call: &str, value: Vec<u8>, tags: TagSet) -> Result<Entry, EntryError> {
+    let (lo, known, still) = (stamp(call, 2), stamp(call, 3), word(call, 4) == "still");
+    Entry::new(key(call), value, lo, known, still, tags)
+}
+
+/// All that the node holds, and the entry, as text.
+fn state(alloc: Global, node: &NodeCore, entry: &Entry) -> Result<String, AllocError> {
+    format!(in alloc; "{node:?} {entry:?}")
+}
+
+/// Inserts the entry. Where memory is refused, the node is as it was and the entry comes back, and it is
+/// inserted once more.
+fn insert(
     node: &mut NodeCore,
-    call: Call,
-) -> Result<Reply, AllocError> {
-    match call {
-        Call::Insert(argument, value, reach, rows) => {
-            insert(rt, node, key(argument), value, reach, rows)
-        }
-        Call::Lookup(argument, lo, hi) => Ok(lookup(node, &key(argument), lo, hi)),
-        Call::Event(number, rows) => Ok(event(node, number, tags(rt.alloc(), rows)?)),
+    alloc: Global,
+    entry: Entry,
+    out: &mut String,
+) -> Result<(), AllocError> {
+    let before = state(alloc, node, &entry.copy(alloc)?)?;
+    match node.insert(entry) {
+        Ok(inserted) => show(out, &inserted),
+        Err(refused) => insert_again(node, alloc, refused.value, before.as_str(), out),
     }
 }
 
-/// All that the node holds, as text.
-fn state(alloc: Global, node: &NodeCore) -> Result<String, AllocError> {
-    format!(in alloc; "{node:?}").or_else(|_| format!(in alloc; "{node:?}"))
-}
-
-/// The answer to the call. Where memory is refused the node is as it was, and the call is made once
-/// more.
-fn answer(
-    rt: &(impl Abort + AllocGlobal),
+fn insert_again(
     node: &mut NodeCore,
-    call: Call,
-) -> Result<Reply, AllocError> {
-    let before = state(rt.alloc(), node)?;
-    match try_answer(rt, node, call) {
-        Ok(reply) => Ok(reply),
-        Err(_) => {
-            let after = state(rt.alloc(), node)?;
-            assert!(rt; after.as_str() == before.as_str());
-            try_answer(rt, node, call)
-        }
+    alloc: Global,
+    entry: Entry,
+    before: &str,
+    out: &mut String,
+) -> Result<(), AllocError> {
+    let after = state(alloc, node, &entry)?;
+    show_change(out, after.as_str() == before)?;
+    match node.insert(entry) {
+        Ok(inserted) => show(out, &inserted),
+        Err(_) => Err(AllocError),
     }
 }
 
-/// Goes through the calls from an empty node for so many entries, which keeps the tags of so many
-/// events.
-fn play(
-    rt: &(impl Abort + AllocGlobal),
-    capacity: usize,
-    recent: usize,
-    rows: &[(Call, Reply)],
-) -> Result<(), AllocError>
-    requires capacity { (1 ≤ capacity) × (capacity ≤ MAX_CAPACITY) }
-    requires recent { (1 ≤ recent) × (recent ≤ MAX_RECENT) }
-{
-    let alloc = rt.alloc();
-    let node = NodeCore::new(alloc, capacity, recent);
-    let mut node = node.or_else(|_| NodeCore::new(alloc, capacity, recent))?;
-    for (i, (call, wanted)) in rows.iter().enumerate() {
-        let given = answer(rt, &mut node, *call)?;
-        assert_eq!(rt; given, *wanted, "row {i}");
+/// Counts what was answered to a lookup, an event that closed two entries, and a sweep of three.
+fn counted(call: &str, reply: Reply<Shown>) -> Counts {
+    let op = Op::Lookup {
+        key: key(call),
+        lo: stamp(call, 2),
+        hi: stamp(call, 3),
+    };
+    let mut counts = Counts::new();
+    counts.count(None, &Reply::<Shown>::Closed(2));
+    counts.count(None, &Reply::<Shown>::Swept(3));
+    counts.add(&Record {
+        pass: 0,
+        turn: 2,
+        op,
+        reply,
+    });
+    counts
+}
+
+fn show_counts(out: &mut String, counts: &Counts) -> Result<(), AllocError> {
+    let (events, closed, swept) = (counts.events(), counts.closed(), counts.swept());
+    let function = counts.of(1);
+    write!(out, "{function:?}, {events} events, {closed} closed, {swept} swept")
+}
+
+fn show_shown(out: &mut String, shown: Shown) -> Result<(), AllocError> {
+    let Shown { reach, value, tags } = shown;
+    let len = value.into_bytes().len();
+    write!(out, "{reach} {tags} {len} bytes")
+}
+
+/// The player of a node.
+#[derive(Drop)]
+struct OneNode {
+    node: NodeCore,
+}
+
+impl OneNode {
+    /// Begins anew with an empty node.
+    fn begin(&mut self, alloc: Global, call: &str, out: &mut String) -> Result<(), AllocError> {
+        let (capacity, recent) = (byte(call, 1).max(1), byte(call, 2).max(1));
+        self.node = NodeCore::new(alloc, capacity as usize, recent as usize)?;
+        self.len(out)
     }
-    Ok(())
+
+    fn len(&self, out: &mut String) -> Result<(), AllocError> {
+        let (len, processed) = (self.node.len(), self.node.processed());
+        let is_empty = self.node.is_empty();
+        write!(out, "{len} up to {processed}, {is_empty}")
+    }
+
+    /// Inserts an entry with a value of so many equal bytes.
+    fn insert(&mut self, alloc: Global, call: &str, out: &mut String) -> Result<(), AllocError> {
+        let value = vec![in alloc; byte(call, 7); number(call, 6) as usize]?;
+        let tags = set_of(alloc, word(call, 5))?;
+        match new_entry(call, value, tags) {
+            Ok(entry) => insert(&mut self.node, alloc, entry, out),
+            Err(error) => {
+                let refusal = Refusal::of_entry(error);
+                write!(out, "{refusal}: {error}")
+            }
+        }
+    }
+
+    fn event(&mut self, alloc: Global, call: &str, out: &mut String) -> Result<(), AllocError> {
+        let tags = set_of(alloc, word(call, 2))?;
+        show(out, &event(&mut self.node, stamp(call, 1), tags))
+    }
+
+    /// Shows what a lookup finds, without a lookup.
+    fn find(&self, alloc: Global, call: &str, out: &mut String) -> Result<(), AllocError> {
+        match self.node.find(&key(call), stamp(call, 2), stamp(call, 3)) {
+            Ok(Some(hit)) => show_shown(out, hit.copy(alloc)?),
+            Ok(None) => show(out, &"none"),
+            Err(error) => show(out, &error),
+        }
+    }
+
+    fn count(&mut self, alloc: Global, call: &str, out: &mut String) -> Result<(), AllocError> {
+        let reply = lookup(&mut self.node, call).into_owned(alloc)?;
+        show_counts(out, &counted(call, reply))
+    }
+}
+
+impl Player for OneNode {
+    fn new(alloc: Global) -> Result<OneNode, AllocError> {
+        let node = NodeCore::new(alloc, 1, 1)?;
+        Ok(OneNode { node })
+    }
+
+    fn answer(&mut self, alloc: Global, call: &str, out: &mut String) -> Result<(), AllocError> {
+        match word(call, 0) {
+            "insert" => self.insert(alloc, call, out),
+            "lookup" => show(out, &lookup(&mut self.node, call)),
+            "event" => self.event(alloc, call, out),
+            "sweep" => show(out, &Reply::<Hit<'_>>::Swept(self.node.sweep(stamp(call, 1)))),
+            "find" => self.find(alloc, call, out),
+            "count" => self.count(alloc, call, out),
+            "len" => self.len(out),
+            "out_of_order" => show(out, &OutOfOrder { processed: stamp(call, 1) }),
+            _ => self.begin(alloc, call, out),
+        }
+    }
 }
 
 #[test]
 fn an_event_closes_at_the_match(rt: HostRuntime) -> Result<(), AllocError> {
-    play(&rt, 4, 4, &CLOSING)
+    play::<OneNode>(&rt, CLOSING)
 }
 
-const CLOSING: [(Call, Reply); 17] = [
-    (
-        Call::Insert(2, (1, 10), (0, 0, true), Rows::Id(2)),
-        Reply::Stored((0, 1, true)),
-    ),
-    (Call::Lookup(2, 0, 9), Reply::Hit((0, 1, true), 1, 10)),
-    (Call::Event(1, Rows::Id(3)), Reply::Closed(0)),
-    (Call::Lookup(2, 0, 9), Reply::Hit((0, 2, true), 1, 10)),
-    (Call::Event(2, Rows::Id(2)), Reply::Closed(1)),
-    (Call::Lookup(2, 2, 9), Reply::Miss),
-    (Call::Lookup(2, 0, 9), Reply::Hit((0, 2, false), 1, 10)),
-    (Call::Event(5, Rows::None), Reply::OutOfOrder(2)),
-    (Call::Event(0, Rows::None), Reply::OutOfOrder(2)),
-    (Call::Event(2, Rows::All), Reply::OutOfOrder(2)),
-    (Call::Lookup(2, 5, 4), Reply::EmptyRange),
-    (
-        Call::Insert(2, (1, 10), (3, 2, false), Rows::None),
-        Reply::Refused(EntryError::BadReach),
-    ),
-    (
-        Call::Insert(2, (1025, 7), (3, 2, false), Rows::None),
-        Reply::Refused(EntryError::BadReach),
-    ),
-    (
-        Call::Insert(2, (1025, 7), (2, 2, false), Rows::None),
-        Reply::Refused(EntryError::ValueTooLong),
-    ),
-    (
-        Call::Insert(2, (1024, 7), (2, 2, false), Rows::None),
-        Reply::Stored((2, 3, false)),
-    ),
-    (Call::Lookup(2, 2, 2), Reply::Hit((2, 3, false), 1024, 7)),
-    (Call::Lookup(2, 0, 1), Reply::Hit((0, 2, false), 1, 10)),
-];
+const CLOSING: &str = "\
+node 4 4 = 0 up to 0, true
+insert f1(2) 0 0 still t1:id=2 1 10 = stored [0,1) still
+len = 1 up to 0, false
+lookup f1(2) 0 9 = hit [0,1) still 0a
+event 1 t1:id=3 = closed 0
+lookup f1(2) 0 9 = hit [0,2) still 0a
+event 2 t1:id=2 = closed 1
+len = 1 up to 2, false
+lookup f1(2) 2 9 = miss
+lookup f1(2) 0 9 = hit [0,2) closed 0a
+event 5 - = refused N3 2
+event 0 - = refused N3 2
+event 2 t1:? = refused N3 2
+out_of_order = the event is out of order
+lookup f1(2) 5 4 = refused N1
+find f1(2) 5 4 = the range of stamps is empty
+insert f1(2) 3 2 closed - 1 10 = N2: the last stamp known is below the first
+insert f1(2) 3 2 closed - 1025 7 = N2: the last stamp known is below the first
+insert f1(2) 2 2 closed - 1025 7 = N4: the value is longer than 1024 bytes
+insert f1(2) 2 2 closed t1:?,t0:? 1024 7 = stored [2,3) closed
+find f1(2) 2 2 = [2,3) closed t0:?,t1:? 1024 bytes
+find f1(2) 0 1 = [0,2) closed t1:id=2 1 bytes
+find f1(2) 3 9 = none
+lookup f1(2) 0 1 = hit [0,2) closed 0a
+";
 
 #[test]
 fn no_event_closes_an_entry_known_beyond_it(rt: HostRuntime) -> Result<(), AllocError> {
-    play(&rt, 4, 4, &KNOWN_BEYOND)
+    play::<OneNode>(&rt, KNOWN_BEYOND)
 }
 
-const KNOWN_BEYOND: [(Call, Reply); 8] = [
-    (Call::Event(1, Rows::None), Reply::Closed(0)),
-    (Call::Event(2, Rows::None), Reply::Closed(0)),
-    (
-        Call::Insert(2, (1, 10), (1, 5, true), Rows::All),
-        Reply::Stored((1, 6, true)),
-    ),
-    (Call::Event(3, Rows::Group(9)), Reply::Closed(0)),
-    (Call::Event(4, Rows::None), Reply::Closed(0)),
-    (Call::Event(5, Rows::None), Reply::Closed(0)),
-    (Call::Event(6, Rows::Id(1)), Reply::Closed(1)),
-    (Call::Lookup(2, 0, 9), Reply::Hit((1, 6, false), 1, 10)),
-];
+const KNOWN_BEYOND: &str = "\
+node 4 4 = 0 up to 0, true
+event 1 - = closed 0
+event 2 - = closed 0
+insert f1(2) 1 5 still t1:? 1 10 = stored [1,6) still
+event 3 t1:grp=9 = closed 0
+event 4 - = closed 0
+event 5 - = closed 0
+event 6 t1:id=1 = closed 1
+lookup f1(2) 0 9 = hit [1,6) closed 0a
+";
 
 #[test]
 fn the_longest_entry_is_found(rt: HostRuntime) -> Result<(), AllocError> {
-    play(&rt, 4, 4, &LONGEST)
+    play::<OneNode>(&rt, LONGEST)
 }
 
-const LONGEST: [(Call, Reply); 9] = [
-    (
-        Call::Insert(2, (0, 0), (0, 0, false), Rows::None),
-        Reply::Stored((0, 1, false)),
-    ),
-    (Call::Lookup(2, 0, 9), Reply::Hit((0, 1, false), 0, 0)),
-    (Call::Event(1, Rows::None), Reply::Closed(0)),
-    (
-        Call::Insert(2, (1, 10), (0, 0, true), Rows::None),
-        Reply::Stored((0, 2, true)),
-    ),
-    (
-        Call::Insert(2, (1, 11), (1, 1, true), Rows::None),
-        Reply::Stored((1, 2, true)),
-    ),
-    (Call::Lookup(2, 0, 9), Reply::Hit((1, 2, true), 1, 11)),
-    (Call::Lookup(2, 0, 0), Reply::Hit((0, 2, true), 1, 10)),
-    (
-        Call::Insert(2, (1, 12), (0, 3, false), Rows::None),
-        Reply::Stored((0, 4, false)),
-    ),
-    (Call::Lookup(2, 0, 9), Reply::Hit((0, 4, false), 1, 12)),
-];
+const LONGEST: &str = "\
+node 4 4 = 0 up to 0, true
+insert f1(2) 0 0 closed - 0 0 = stored [0,1) closed
+lookup f1(2) 0 9 = hit [0,1) closed -
+event 1 - = closed 0
+insert f1(2) 0 0 still - 1 10 = stored [0,2) still
+insert f1(2) 1 1 still - 1 11 = stored [1,2) still
+find f1(2) 0 0 = [0,2) still - 1 bytes
+lookup f1(2) 0 9 = hit [1,2) still 0b
+lookup f1(2) 0 0 = hit [0,2) still 0a
+insert f1(2) 0 3 closed - 1 12 = stored [0,4) closed
+lookup f1(2) 0 9 = hit [0,4) closed 0c
+";
 
+/// An event that the node still keeps closes a late entry; one that it no longer keeps is not trusted.
 #[test]
-fn a_late_entry_misses_no_event_that_is_kept(rt: HostRuntime) -> Result<(), AllocError> {
-    play(&rt, 4, 4, &LATE)
+fn a_late_entry_misses_no_event(rt: HostRuntime) -> Result<(), AllocError> {
+    play::<OneNode>(&rt, LATE)
 }
 
-const LATE: [(Call, Reply); 3] = [
-    (Call::Event(1, Rows::Id(3)), Reply::Closed(0)),
-    (Call::Event(2, Rows::Id(2)), Reply::Closed(0)),
-    (
-        Call::Insert(2, (1, 10), (0, 0, true), Rows::Id(2)),
-        Reply::Stored((0, 2, false)),
-    ),
-];
-
-#[test]
-fn an_event_that_is_no_longer_kept_is_not_trusted(rt: HostRuntime) -> Result<(), AllocError> {
-    play(&rt, 4, 1, &TOO_LATE)
-}
-
-const TOO_LATE: [(Call, Reply); 3] = [
-    (Call::Event(1, Rows::Id(3)), Reply::Closed(0)),
-    (Call::Event(2, Rows::Id(2)), Reply::Closed(0)),
-    (
-        Call::Insert(2, (1, 10), (0, 0, true), Rows::Id(2)),
-        Reply::Stored((0, 1, false)),
-    ),
-];
+const LATE: &str = "\
+node 4 4 = 0 up to 0, true
+event 1 t1:id=3 = closed 0
+event 2 t1:id=2 = closed 0
+insert f1(2) 0 0 still t1:id=2 1 10 = stored [0,2) closed
+node 4 1 = 0 up to 0, true
+event 1 t1:id=3 = closed 0
+event 2 t1:id=2 = closed 0
+insert f1(2) 0 0 still t1:id=2 1 10 = stored [0,1) closed
+";
 
 #[test]
 fn a_full_node_drops_the_least_recently_used(rt: HostRuntime) -> Result<(), AllocError> {
-    play(&rt, 2, 4, &CROWDED)
+    play::<OneNode>(&rt, CROWDED)
 }
 
-const CROWDED: [(Call, Reply); 6] = [
-    (
-        Call::Insert(1, (1, 10), (0, 0, true), Rows::Id(1)),
-        Reply::Stored((0, 1, true)),
-    ),
-    (
-        Call::Insert(1, (1, 10), (0, 0, true), Rows::Id(1)),
-        Reply::Kept,
-    ),
-    (
-        Call::Insert(2, (1, 11), (0, 0, true), Rows::Id(2)),
-        Reply::Stored((0, 1, true)),
-    ),
-    (Call::Lookup(1, 0, 9), Reply::Hit((0, 1, true), 1, 10)),
-    (
-        Call::Insert(3, (1, 12), (0, 0, true), Rows::Id(3)),
-        Reply::Evicting((0, 1, true), 2, 0),
-    ),
-    (Call::Lookup(2, 0, 9), Reply::Miss),
-];
-
-fn bytes_of_a_copy(alloc: Global, bytes: &[u8]) -> Result<Option<Vec<u8>>, AllocError> {
-    match Value::new(Vec::from_slice(alloc, bytes)?) {
-        Some(value) => Ok(Some(value.copy(alloc)?.into_bytes())),
-        None => Ok(None),
-    }
-}
+const CROWDED: &str = "\
+node 2 4 = 0 up to 0, true
+insert f1(1) 0 0 still t1:id=1 1 10 = stored [0,1) still
+insert f1(1) 0 0 still t1:id=1 1 10 = kept
+insert f1(2) 0 0 still t1:id=2 1 11 = stored [0,1) still
+lookup f1(1) 0 9 = hit [0,1) still 0a
+insert f1(3) 0 0 still t1:id=3 1 12 = stored [0,1) still evicted f1(2)@0
+lookup f1(2) 0 9 = miss
+len = 2 up to 0, false
+";
 
 #[test]
-fn a_value_gives_its_bytes_back(rt: HostRuntime) -> Result<(), AllocError> {
-    let alloc = rt.alloc();
-    let bytes = bytes_of_a_copy(alloc, b"page").or_else(|_| bytes_of_a_copy(alloc, b"page"))?;
-    assert!(rt; matches!(&bytes, Some(bytes) if bytes.as_slice() == b"page".as_slice()));
-    Ok(())
+fn a_sweep_drops_what_has_ended(rt: HostRuntime) -> Result<(), AllocError> {
+    play::<OneNode>(&rt, SWEPT)
 }
 
-#[test]
-fn refused_entries_print_their_reason(rt: HostRuntime) -> Result<(), AllocError> {
-    play_texts(&rt, &ENTRY_ERRORS)
-}
-
-const ENTRY_ERRORS: [(EntryError, &str); 2] = [
-    (
-        EntryError::BadReach,
-        "the last stamp known is below the first",
-    ),
-    (
-        EntryError::ValueTooLong,
-        "the value is longer than 1024 bytes",
-    ),
-];
-
-#[test]
-fn refused_lookups_print_their_reason(rt: HostRuntime) -> Result<(), AllocError> {
-    play_texts(&rt, &[(EmptyRange, "the range of stamps is empty")])
-}
-
-#[test]
-fn refused_events_print_their_reason(rt: HostRuntime) -> Result<(), AllocError> {
-    let processed = Stamp::ZERO;
-    play_texts(
-        &rt,
-        &[(OutOfOrder { processed }, "the event is out of order")],
-    )
-}
+const SWEPT: &str = "\
+node 4 4 = 0 up to 0, true
+insert f1(1) 0 2 closed t1:id=1 1 10 = stored [0,3) closed
+insert f1(2) 0 3 closed t1:id=1 1 11 = stored [0,4) closed
+insert f1(3) 0 0 still t1:id=1 1 12 = stored [0,1) still
+sweep 0 = swept 0
+sweep 3 = swept 2
+len = 1 up to 0, false
+find f1(1) 0 9 = none
+lookup f1(2) 0 9 = hit [0,4) closed 0b
+sweep 4 = swept 1
+len = 0 up to 0, true
+count f1(1) 0 9 = FunctionCounts { lookups: 1, hits: 0, stored: 0, kept: 0, evicted: 0 }, 1 events, 2 closed, 3 swept
+insert f1(1) 0 2 closed t1:id=1 1 10 = stored [0,3) closed
+count f1(1) 0 9 = FunctionCounts { lookups: 1, hits: 1, stored: 0, kept: 0, evicted: 0 }, 1 events, 2 closed, 3 swept
+";

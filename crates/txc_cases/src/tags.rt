@@ -1,419 +1,326 @@
 //! Texts of numbers, tags, keys and sets of tags, and sets worked by hand.
-ghost use Rattle.std.specs.Prelude.{◌≡◌, [], ◌∷◌, true, false};
-ghost use Rattle.txc_tags.specs.Tags.{sets_match, set_of, with_tag};
-ghost use Rattle.txc_tags.specs.declared.tag.Tag.{Tag};
-
-use crate::common::{assert_prints, play_texts};
+use crate::script::{
+    Player, byte, number, play, show, show_change, show_option, show_result, text, word,
+};
 use std::alloc::{AllocError, Global};
-use std::process::Abort;
-use std::test::Fail;
-use txc_tags::text_laws::{keys_are_read_back, sets_are_read_back, tags_are_read_back};
-use txc_tags::{BadKey, BadTag, Key, KeyError, SetError, Tag, TagSet, read_number};
+use txc_tags::{
+    BadKey, BadTag, Key, KeyError, LAST_NUMBER, SetError, Table, Tag, TagSet, read_number,
+};
 
-#[test]
-fn numbers_have_no_leading_zero_and_a_greatest(rt: HostRuntime) {
-    for (text, most, wanted) in NUMBERS {
-        assert_eq!(rt; read_number(text.as_bytes(), most), wanted, "{text}");
+fn read_key(text: &str) -> Result<Key, BadKey> {
+    Key::read(text.as_bytes())
+}
+
+fn read_tag(text: &str) -> Result<Tag, BadTag> {
+    Tag::read(text.as_bytes())
+}
+
+/// Reads a key, and writes it.
+fn show_key(out: &mut String, alloc: Global, text: &str) -> Result<(), AllocError> {
+    match read_key(text) {
+        Ok(key) => show(out, &key.write(alloc)?),
+        Err(bad) => show(out, &bad),
     }
 }
 
-const NUMBERS: [(&str, u64, Option<u64>); 8] = [
-    ("0", 4294967295, Some(0)),
-    ("4294967295", 4294967295, Some(4294967295)),
-    ("4294967296", 4294967295, None),
-    ("18446744073709551615", u64::MAX, Some(u64::MAX)),
-    ("18446744073709551616", u64::MAX, None),
-    ("02", 9, None),
-    ("", 9, None),
-    ("1 ", 9, None),
-];
-
-/// What a text of a tag is read as: the table, and the number of the id or the group.
-#[derive(Clone, Copy, Debug, PartialEq, Eq)]
-enum Read {
-    All(u8),
-    Id(u8, u32),
-    Group(u8, u32),
-    /// The first bytes, so many, begin a tag, and the next one does not go on with it.
-    WrongAfter(usize),
-}
-
-fn read_of(tag: Tag) -> Read {
-    let table = tag.table().number();
-    match tag {
-        Tag::Wildcard(_) => Read::All(table),
-        Tag::Id(_, id) => Read::Id(table, id),
-        Tag::Group(_, group) => Read::Group(table, group),
+/// Reads a tag, and writes it.
+fn show_tag(out: &mut String, alloc: Global, text: &str) -> Result<(), AllocError> {
+    match read_tag(text) {
+        Ok(tag) => show(out, &tag.write(alloc)?),
+        Err(bad) => show(out, &bad),
     }
 }
 
-#[test]
-fn tags_are_read_up_to_where_they_go_wrong(rt: HostRuntime) {
-    for (text, wanted) in TAGS {
-        let given = match Tag::read(text.as_bytes()) {
-            Ok(tag) => read_of(tag),
-            Err(bad) => Read::WrongAfter(bad.at),
-        };
-        assert_eq!(rt; given, wanted, "{text}");
-    }
+/// Reads a set, without a second try.
+fn show_set(out: &mut String, alloc: Global, text: &str) -> Result<(), AllocError> {
+    show_result(out, &TagSet::read(alloc, text.as_bytes()))
 }
 
-const TAGS: [(&str, Read); 14] = [
-    ("t15:?", Read::All(15)),
-    ("t15:id=4294967295", Read::Id(15, 4294967295)),
-    ("t15:grp=0", Read::Group(15, 0)),
-    ("t0:grp=20", Read::Group(0, 20)),
-    ("", Read::WrongAfter(0)),
-    ("t16:?", Read::WrongAfter(2)),
-    ("t1:id=", Read::WrongAfter(6)),
-    ("t1:id=4294967296", Read::WrongAfter(15)),
-    ("t1:?x", Read::WrongAfter(4)),
-    ("t1:?,", Read::WrongAfter(4)),
-    ("t01:?", Read::WrongAfter(2)),
-    ("t1:gid=1", Read::WrongAfter(4)),
-    ("1", Read::WrongAfter(0)),
-    (" t1:?", Read::WrongAfter(0)),
-];
-
-#[test]
-fn tags_are_written_as_they_are_read(rt: HostRuntime) -> Result<(), Fail> {
-    let alloc = rt.alloc();
-    for text in ["t15:?", "t15:id=4294967295", "t15:grp=20"] {
-        let tag = Tag::read(text.as_bytes())?;
-        let written = tag.write(alloc).or_else(|_| tag.write(alloc))?;
-        assert_eq!(rt; written.as_str(), text);
-        let back = tags_are_read_back(alloc, tag).or_else(|_| tags_are_read_back(alloc, tag))?;
-        assert_eq!(rt; back, tag);
-    }
-    Ok(())
-}
-
-fn key_refused_at(text: &str) -> Option<usize> {
-    match Key::read(text.as_bytes()) {
-        Ok(_) => None,
-        Err(BadKey { at }) => Some(at),
-    }
-}
-
-#[test]
-fn keys_are_refused_where_they_go_wrong(rt: HostRuntime) {
-    for (text, wanted) in BAD_KEYS {
-        assert!(rt; key_refused_at(text) == Some(wanted), "{text}");
-    }
-}
-
-const BAD_KEYS: [(&str, usize); 9] = [
-    ("", 0),
-    ("f1(1,2,3,4,5)", 10),
-    ("f32()", 2),
-    ("f1(02)", 4),
-    ("f1(1,)", 5),
-    ("f1(,1)", 3),
-    ("f1(1", 4),
-    ("f1()x", 4),
-    ("f1(4294967296)", 12),
-];
-
-/// Asserts that the key is written as the text, and read back from it.
-fn assert_key_text(
-    rt: &(impl Abort + AllocGlobal),
-    key: &Key,
-    text: &str,
-) -> Result<(), AllocError> {
-    let alloc = rt.alloc();
-    let written = key.write(alloc).or_else(|_| key.write(alloc))?;
-    assert!(rt; written.as_str() == text);
-    let back = keys_are_read_back(alloc, key).or_else(|_| keys_are_read_back(alloc, key))?;
-    assert!(rt; back.is_same(key) && key.is_same(&key.copy()));
-    Ok(())
-}
-
-#[test]
-fn keys_are_written_as_they_are_read(rt: HostRuntime) -> Result<(), Fail> {
-    for (text, function, args) in KEYS {
-        let key = Key::read(text.as_bytes())?;
-        assert!(rt; key.function() == function && key.args() == args);
-        assert_key_text(&rt, &key, text)?;
-    }
-    Ok(())
-}
-
-const KEYS: [(&str, u8, &[u32]); 3] = [
-    ("f0()", 0, &[]),
-    ("f3(1,2)", 3, &[1, 2]),
-    ("f31(0,1,20,4294967295)", 31, &[0, 1, 20, 4294967295]),
-];
-
-/// Why there is no key of the function with the first arguments of five, so many.
-fn key_refusal(function: u8, count: usize) -> Option<KeyError> {
+/// The key of a function with the first of five numbers, so many.
+fn new_key(function: u8, count: u8) -> Result<Key, KeyError> {
     let args = [1, 2, 3, 4, 5];
-    Key::new(function, args.get(..count)?).err()
+    Key::new(function, &args[..count.min(5) as usize])
 }
 
-#[test]
-fn a_function_is_refused_before_its_arguments(rt: HostRuntime) {
-    for (function, count, wanted) in NEW_KEYS {
-        assert!(rt; key_refusal(function, count) == wanted, "f{function}");
+fn new_tag(call: &str) -> Option<Tag> {
+    let table = Table::new(byte(call, 1))?;
+    match word(call, 0) {
+        "id" => Some(Tag::id(table, number(call, 2))),
+        "group" => Some(Tag::group(table, number(call, 2))),
+        _ => Some(Tag::wildcard(table)),
     }
 }
 
-const NEW_KEYS: [(u8, usize, Option<KeyError>); 4] = [
-    (32, 5, Some(KeyError::BadFunction(32))),
-    (31, 5, Some(KeyError::TooManyArgs)),
-    (31, 4, None),
-    (0, 0, None),
-];
-
-#[test]
-fn keys_are_the_same_by_function_and_arguments(rt: HostRuntime) -> Result<(), Fail> {
-    for (one, other, wanted) in SAME_KEYS {
-        let (one, other) = (Key::read(one.as_bytes())?, Key::read(other.as_bytes())?);
-        assert!(rt; one.is_same(&other) == wanted, "{one} and {other}");
+/// Whether both are keys, and equal.
+fn are_same(one: &str, other: &str) -> bool {
+    match (read_key(one), read_key(other)) {
+        (Ok(one), Ok(other)) => one == other && one.copy() == other.copy(),
+        _ => false,
     }
-    Ok(())
 }
 
-const SAME_KEYS: [(&str, &str, bool); 3] = [
-    ("f31(1,2,3,4)", "f31(1,2,3,4)", true),
-    ("f31(1,2,3,4)", "f31(1,2,3)", false),
-    ("f31(1,2,3,4)", "f30(1,2,3,4)", false),
-];
+fn node_of(text: &str, nodes: u8) -> Option<usize> {
+    let key = read_key(text).ok()?;
+    Some(key.node_of(nodes.max(1) as usize))
+}
 
-/// The set that the text is read as.
-fn read_set(alloc: Global, text: &str) -> Result<TagSet, SetError> {
+/// The player of calls that keep nothing.
+#[derive(Drop)]
+struct Texts;
+
+impl Player for Texts {
+    fn new(_: Global) -> Result<Texts, AllocError> {
+        Ok(Texts)
+    }
+
+    fn answer(&mut self, alloc: Global, call: &str, out: &mut String) -> Result<(), AllocError> {
+        let text = text(call);
+        match word(call, 0) {
+            "u32" => show_option(out, &read_number(text.as_bytes(), LAST_NUMBER)),
+            "u64" => show_option(out, &read_number(text.as_bytes(), u64::MAX)),
+            "key" => show_key(out, alloc, text),
+            "tag" => show_tag(out, alloc, text),
+            "bad_set" => show_set(out, alloc, text),
+            "no_memory" => show(out, &SetError::Memory(AllocError)),
+            "new_key" => show_result(out, &new_key(byte(call, 1), byte(call, 2))),
+            "same_key" => show(out, &are_same(word(call, 1), word(call, 2))),
+            "node_of" => show_option(out, &node_of(word(call, 1), byte(call, 2))),
+            _ => show_option(out, &new_tag(call)),
+        }
+    }
+}
+
+#[test]
+fn numbers_have_no_leading_zero_and_a_greatest(rt: HostRuntime) -> Result<(), AllocError> {
+    play::<Texts>(&rt, NUMBERS)
+}
+
+const NUMBERS: &str = "\
+u32 0 = 0
+u32 4294967295 = 4294967295
+u32 4294967296 = none
+u64 18446744073709551615 = 18446744073709551615
+u64 18446744073709551616 = none
+u32 02 = none
+u32  = none
+u32 1  = none
+";
+
+#[test]
+fn keys_are_refused_where_they_go_wrong(rt: HostRuntime) -> Result<(), AllocError> {
+    play::<Texts>(&rt, KEYS)
+}
+
+const KEYS: &str = "\
+key f0() = f0()
+key f3(1,2) = f3(1,2)
+key f31(0,1,20,4294967295) = f31(0,1,20,4294967295)
+key  = no text of a key: it goes wrong after 0 bytes
+key f1(1,2,3,4,5) = no text of a key: it goes wrong after 10 bytes
+key f32() = no text of a key: it goes wrong after 2 bytes
+key f1(02) = no text of a key: it goes wrong after 4 bytes
+key f1(1,) = no text of a key: it goes wrong after 5 bytes
+key f1(,1) = no text of a key: it goes wrong after 3 bytes
+key f1(1 = no text of a key: it goes wrong after 4 bytes
+key f1()x = no text of a key: it goes wrong after 4 bytes
+key f1(4294967296) = no text of a key: it goes wrong after 12 bytes
+new_key 32 5 = there is no function 32
+new_key 31 5 = a call has at most 4 arguments
+new_key 31 4 = f31(1,2,3,4)
+new_key 0 0 = f0()
+same_key f31(1,2,3,4) f31(1,2,3,4) = true
+same_key f31(1,2,3,4) f31(1,2,3) = false
+same_key f31(1,2,3,4) f30(1,2,3,4) = false
+node_of f31(1,2,3,4) 4 = 1
+node_of f0() 4 = 0
+node_of f31(4294967295,4294967295) 7 = 2
+";
+
+#[test]
+fn tags_are_read_up_to_where_they_go_wrong(rt: HostRuntime) -> Result<(), AllocError> {
+    play::<Texts>(&rt, TAGS)
+}
+
+const TAGS: &str = "\
+id 15 4294967295 = t15:id=4294967295
+group 15 0 = t15:grp=0
+wildcard 15 = t15:?
+wildcard 16 = none
+tag t15:? = t15:?
+tag t15:id=4294967295 = t15:id=4294967295
+tag t15:grp=0 = t15:grp=0
+tag t0:grp=20 = t0:grp=20
+tag  = no text of a tag: it goes wrong after 0 bytes
+tag t16:? = no text of a tag: it goes wrong after 2 bytes
+tag t1:id= = no text of a tag: it goes wrong after 6 bytes
+tag t1:id=4294967296 = no text of a tag: it goes wrong after 15 bytes
+tag t1:?x = no text of a tag: it goes wrong after 4 bytes
+tag t1:?, = no text of a tag: it goes wrong after 4 bytes
+tag t01:? = no text of a tag: it goes wrong after 2 bytes
+tag t1:gid=1 = no text of a tag: it goes wrong after 4 bytes
+tag 1 = no text of a tag: it goes wrong after 0 bytes
+tag  t1:? = no text of a tag: it goes wrong after 0 bytes
+";
+
+#[test]
+fn sets_are_refused_where_they_go_wrong(rt: HostRuntime) -> Result<(), AllocError> {
+    play::<Texts>(&rt, BAD_SETS)
+}
+
+const BAD_SETS: &str = "\
+bad_set  = no text of a tag: it goes wrong after 0 bytes
+bad_set t1:?, = no text of a tag: it goes wrong after 5 bytes
+bad_set -, = no text of a tag: it goes wrong after 1 bytes
+bad_set t1:id=1,- = no text of a tag: it goes wrong after 8 bytes
+bad_set ,t1:? = no text of a tag: it goes wrong after 0 bytes
+bad_set t1:?;t2:? = no text of a tag: it goes wrong after 4 bytes
+no_memory = memory allocation failed
+";
+
+/// The player of calls on a set.
+#[derive(Drop)]
+struct OneSet {
+    set: TagSet,
+}
+
+/// The set that the text is read as; the empty one where it is none.
+pub fn set_of(alloc: Global, text: &str) -> Result<TagSet, AllocError> {
     match TagSet::read(alloc, text.as_bytes()) {
-        Err(SetError::Memory(_)) => TagSet::read(alloc, text.as_bytes()),
-        read => read,
+        Ok(set) => Ok(set),
+        Err(SetError::Memory(error)) => Err(error),
+        Err(SetError::BadTag(_)) => Ok(TagSet::new(alloc)),
     }
 }
 
-fn copied(alloc: Global, set: &TagSet) -> Result<TagSet, AllocError> {
-    set.copy(alloc).or_else(|_| set.copy(alloc))
-}
-
-#[test]
-fn sets_are_refused_where_they_go_wrong(rt: HostRuntime) {
-    for (text, wanted) in BAD_SETS {
-        let given = match TagSet::read(rt.alloc(), text.as_bytes()) {
-            Err(SetError::BadTag(bad)) => Some(bad.at),
-            _ => None,
-        };
-        assert_eq!(rt; given, Some(wanted), "{text}");
+/// Joins the other set, or adds its first tag.
+fn grow(set: &mut TagSet, joins: bool, other: &TagSet) -> Result<(), AllocError> {
+    if joins {
+        return set.join(other);
+    }
+    match other.tags().first() {
+        Some(tag) => set.add(*tag),
+        None => Ok(()),
     }
 }
 
-const BAD_SETS: [(&str, usize); 6] = [
-    ("", 0),
-    ("t1:?,", 5),
-    ("-,", 1),
-    ("t1:id=1,-", 8),
-    (",t1:?", 0),
-    ("t1:?;t2:?", 4),
-];
-
-#[test]
-fn sets_have_one_spelling(rt: HostRuntime) -> Result<(), Fail> {
-    let alloc = rt.alloc();
-    for (text, wanted) in SPELLED {
-        let set = read_set(alloc, text)?;
-        let written = set.write(alloc).or_else(|_| set.write(alloc))?;
-        assert_eq!(rt; written.as_str(), wanted);
+impl OneSet {
+    /// Lets a copy grow, which has no room for more tags. Where memory is refused the copy is as it was,
+    /// and grows once more.
+    fn grow(
+        &mut self,
+        alloc: Global,
+        joins: bool,
+        other: &TagSet,
+        out: &mut String,
+    ) -> Result<(), AllocError> {
+        let mut copy = self.set.copy(alloc)?;
+        if grow(&mut copy, joins, other).is_err() {
+            show_change(out, copy.tags() == self.set.tags())?;
+            grow(&mut copy, joins, other)?;
+        }
+        self.set = copy;
+        show(out, &self.set)
     }
-    Ok(())
-}
 
-const SPELLED: [(&str, &str); 6] = [
-    ("-", "-"),
-    ("t2:?,t1:grp=2,t1:id=7", "t1:id=7,t1:grp=2,t2:?"),
-    ("t1:id=7,t1:id=7", "t1:id=7"),
-    ("t1:id=7,t1:?,t1:grp=2", "t1:?"),
-    (SIXTEEN_IDS, SIXTEEN_IDS),
-    (SEVENTEEN_IDS, "t1:?"),
-];
+    /// Begins anew with the other set.
+    fn begin(
+        &mut self,
+        alloc: Global,
+        other: &TagSet,
+        out: &mut String,
+    ) -> Result<(), AllocError> {
+        self.set = other.copy(alloc)?;
+        show(out, &self.set.write(alloc)?)
+    }
 
-const FIFTEEN_IDS: &str = "t1:id=0,t1:id=1,t1:id=2,t1:id=3,t1:id=4,t1:id=5,t1:id=6,t1:id=7,\
-    t1:id=8,t1:id=9,t1:id=10,t1:id=11,t1:id=12,t1:id=13,t1:id=14";
+    fn is(&self, other: &TagSet) -> bool {
+        let is_empty = other.tags().is_empty();
+        self.set.tags() == other.tags() && self.set.is_empty() == is_empty
+    }
 
-const SIXTEEN_IDS: &str = "t1:id=0,t1:id=1,t1:id=2,t1:id=3,t1:id=4,t1:id=5,t1:id=6,t1:id=7,\
-    t1:id=8,t1:id=9,t1:id=10,t1:id=11,t1:id=12,t1:id=13,t1:id=14,t1:id=15";
+    fn covers(&self, other: &TagSet) -> bool {
+        other.tags().iter().all(|tag| self.set.covers(*tag))
+    }
 
-const SEVENTEEN_IDS: &str = "t1:id=0,t1:id=1,t1:id=2,t1:id=3,t1:id=4,t1:id=5,t1:id=6,t1:id=7,\
-    t1:id=8,t1:id=9,t1:id=10,t1:id=11,t1:id=12,t1:id=13,t1:id=14,t1:id=15,t1:id=16";
-
-fn read_back(alloc: Global, set: &TagSet) -> Result<TagSet, SetError> {
-    match sets_are_read_back(alloc, set) {
-        Err(SetError::Memory(_)) => sets_are_read_back(alloc, set),
-        back => back,
+    /// Shows what is asked of the set, or of both.
+    fn show(&self, asked: &str, other: &TagSet, out: &mut String) -> Result<(), AllocError> {
+        match asked {
+            "is" => show(out, &self.is(other)),
+            "covers" => show(out, &self.covers(other)),
+            _ => show(out, &self.set.matches(other)),
+        }
     }
 }
 
-/// Asserts that the set is read back from its text, and copied.
-fn assert_set(rt: &(impl Abort + AllocGlobal), set: &TagSet) -> Result<(), SetError> {
-    let back = read_back(rt.alloc(), set)?;
-    assert!(rt; back.tags() == set.tags());
-    let copy = copied(rt.alloc(), set).map_err(SetError::Memory)?;
-    assert!(rt; copy.tags() == set.tags());
-    Ok(())
-}
-
-#[test]
-fn sets_are_read_back_and_copied(rt: HostRuntime) -> Result<(), SetError> {
-    for (text, count) in [("-", 0), ("t2:?,t1:grp=2,t1:id=7", 3), (SIXTEEN_IDS, 16)] {
-        let set = read_set(rt.alloc(), text)?;
-        assert!(rt; set.tags().len() == count && set.is_empty() == (count == 0));
-        assert_set(&rt, &set)?;
+impl Player for OneSet {
+    fn new(alloc: Global) -> Result<OneSet, AllocError> {
+        let set = TagSet::new(alloc);
+        Ok(OneSet { set })
     }
-    Ok(())
-}
 
-/// Adds the tag of that text.
-fn add(set: &mut TagSet, text: &str) -> Result<(), SetError> {
-    let tag = Tag::read(text.as_bytes()).map_err(SetError::BadTag)?;
-    set.add(tag).map_err(SetError::Memory)
-}
-
-/// The set with one tag more. The copy has no room for it, so that the tag takes memory; where that
-/// is refused the copy is still the same, and the tag is added once more.
-fn longer_set(
-    rt: &(impl Abort + AllocGlobal),
-    set: &TagSet,
-    text: &str,
-) -> Result<TagSet, SetError> {
-    let mut copy = copied(rt.alloc(), set).map_err(SetError::Memory)?;
-    if add(&mut copy, text).is_err() {
-        assert!(rt; copy.tags() == set.tags());
-        add(&mut copy, text)?;
+    fn answer(&mut self, alloc: Global, call: &str, out: &mut String) -> Result<(), AllocError> {
+        let other = set_of(alloc, word(call, 1))?;
+        match word(call, 0) {
+            "set" => self.begin(alloc, &other, out),
+            "add" => self.grow(alloc, false, &other, out),
+            "join" => self.grow(alloc, true, &other, out),
+            asked => self.show(asked, &other, out),
+        }
     }
-    Ok(copy)
-}
-
-/// Adds one tag after the other to the set, and compares its text after each.
-fn play_adding(
-    rt: &(impl Abort + AllocGlobal),
-    text: &str,
-    rows: &[(&str, &str)],
-) -> Result<(), SetError> {
-    let mut set = read_set(rt.alloc(), text)?;
-    for (text, wanted) in rows {
-        set = longer_set(rt, &set, text)?;
-        assert_prints(rt, &set, wanted).map_err(SetError::Memory)?;
-    }
-    Ok(())
 }
 
 #[test]
-fn tags_stand_by_table_and_number(rt: HostRuntime) -> Result<(), SetError> {
-    play_adding(&rt, "-", &ORDERED)
+fn sets_have_one_spelling(rt: HostRuntime) -> Result<(), AllocError> {
+    play::<OneSet>(&rt, SPELLED)
 }
 
-const ORDERED: [(&str, &str); 7] = [
-    ("t2:id=1", "t2:id=1"),
-    ("t1:grp=2", "t1:grp=2,t2:id=1"),
-    ("t1:id=9", "t1:id=9,t1:grp=2,t2:id=1"),
-    ("t1:id=3", "t1:id=3,t1:id=9,t1:grp=2,t2:id=1"),
-    ("t1:id=9", "t1:id=3,t1:id=9,t1:grp=2,t2:id=1"),
-    ("t1:?", "t1:?,t2:id=1"),
-    ("t1:id=5", "t1:?,t2:id=1"),
-];
+const SPELLED: &str = "\
+set - = -
+is - = true
+set t2:?,t1:grp=2,t1:id=7 = t1:id=7,t1:grp=2,t2:?
+is t1:id=7,t1:grp=2,t2:? = true
+is - = false
+set t1:id=7,t1:id=7 = t1:id=7
+set t1:id=7,t1:?,t1:grp=2 = t1:?
+";
 
 #[test]
-fn a_seventeenth_tag_of_a_table_leaves_its_wildcard(rt: HostRuntime) -> Result<(), SetError> {
-    play_adding(
-        &rt,
-        FIFTEEN_IDS,
-        &[("t1:id=15", SIXTEEN_IDS), ("t1:id=16", "t1:?")],
-    )?;
-    play_adding(&rt, SEVEN_IDS_AND_EIGHT_GROUPS, &BOTH_KINDS)
+fn tags_stand_by_table_and_number(rt: HostRuntime) -> Result<(), AllocError> {
+    play::<OneSet>(&rt, ORDERED)
 }
 
-const SEVEN_IDS_AND_EIGHT_GROUPS: &str = "t1:id=1,t1:id=2,t1:id=3,t1:id=4,t1:id=5,t1:id=6,t1:id=7,\
-    t1:grp=0,t1:grp=1,t1:grp=2,t1:grp=3,t1:grp=4,t1:grp=5,t1:grp=6,t1:grp=7";
-
-const BOTH_KINDS: [(&str, &str); 3] = [
-    (
-        "t1:id=0",
-        "t1:id=0,t1:id=1,t1:id=2,t1:id=3,t1:id=4,t1:id=5,t1:id=6,t1:id=7,\
-        t1:grp=0,t1:grp=1,t1:grp=2,t1:grp=3,t1:grp=4,t1:grp=5,t1:grp=6,t1:grp=7",
-    ),
-    (
-        "t2:id=0",
-        "t1:id=0,t1:id=1,t1:id=2,t1:id=3,t1:id=4,t1:id=5,t1:id=6,t1:id=7,\
-        t1:grp=0,t1:grp=1,t1:grp=2,t1:grp=3,t1:grp=4,t1:grp=5,t1:grp=6,t1:grp=7,t2:id=0",
-    ),
-    ("t1:grp=8", "t1:?,t2:id=0"),
-];
+const ORDERED: &str = "\
+add t2:id=1 = t2:id=1
+add t1:grp=2 = t1:grp=2,t2:id=1
+add t1:id=9 = t1:id=9,t1:grp=2,t2:id=1
+add t1:id=3 = t1:id=3,t1:id=9,t1:grp=2,t2:id=1
+add t1:id=9 = t1:id=3,t1:id=9,t1:grp=2,t2:id=1
+is t2:id=1,t1:grp=2,t1:id=9,t1:id=3 = true
+covers t1:id=9 = true
+covers t1:id=2 = false
+add t1:? = t1:?,t2:id=1
+add t1:id=5 = t1:?,t2:id=1
+is t2:id=1,t1:? = true
+covers t1:id=2 = true
+covers t2:? = false
+join t2:grp=1,t0:? = t0:?,t1:?,t2:id=1,t2:grp=1
+join t0:id=4,t2:id=1 = t0:?,t1:?,t2:id=1,t2:grp=1
+join t2:?,t3:id=1 = t0:?,t1:?,t2:?,t3:id=1
+";
 
 #[test]
-fn sets_match_by_table_and_number_or_wildcard(rt: HostRuntime) -> Result<(), Fail> {
-    for (one, other, wanted) in MATCHES {
-        let (one, other) = (read_set(rt.alloc(), one)?, read_set(rt.alloc(), other)?);
-        assert!(rt; one.matches(&other) == wanted, "{one} and {other}");
-    }
-    Ok(())
+fn sets_match_by_table_and_number_or_wildcard(rt: HostRuntime) -> Result<(), AllocError> {
+    play::<OneSet>(&rt, MATCHES)
 }
 
-const MATCHES: [(&str, &str, bool); 6] = [
-    ("t1:?", "t1:id=7", true),
-    ("t1:id=7", "t1:?", true),
-    ("t1:grp=7,t2:id=7", "t1:?", true),
-    ("t1:id=7", "t1:id=7", true),
-    ("t1:id=7", "t1:grp=7,t2:id=7", false),
-    ("t1:id=7", "-", false),
-];
-
-#[test]
-fn keys_and_tags_print_as_they_are_written(rt: HostRuntime) -> Result<(), Fail> {
-    assert_prints(&rt, &Key::read(b"f3(1,2)")?, "f3(1,2)")?;
-    assert_prints(&rt, &Tag::read(b"t1:id=7")?, "t1:id=7")?;
-    Ok(())
-}
-
-#[test]
-fn refused_keys_print_their_reason(rt: HostRuntime) -> Result<(), AllocError> {
-    play_texts(&rt, &KEY_ERRORS)
-}
-
-const KEY_ERRORS: [(KeyError, &str); 2] = [
-    (KeyError::TooManyArgs, "a call has at most 4 arguments"),
-    (KeyError::BadFunction(32), "there is no function 32"),
-];
-
-#[test]
-fn bad_texts_of_keys_print_where_they_go_wrong(rt: HostRuntime) -> Result<(), AllocError> {
-    play_texts(&rt, &[(BadKey { at: 10 }, BAD_KEY)])
-}
-
-const BAD_KEY: &str = "no text of a key: it goes wrong behind 10 bytes";
-
-#[test]
-fn bad_texts_of_tags_print_where_they_go_wrong(rt: HostRuntime) -> Result<(), AllocError> {
-    play_texts(&rt, &[(BadTag { at: 4 }, BAD_TAG)])
-}
-
-const BAD_TAG: &str = "no text of a tag: it goes wrong behind 4 bytes";
-
-#[test]
-fn refused_sets_print_their_reason(rt: HostRuntime) -> Result<(), AllocError> {
-    assert_prints(&rt, &SetError::BadTag(BadTag { at: 4 }), BAD_TAG)?;
-    assert_prints(
-        &rt,
-        &SetError::Memory(AllocError),
-        "memory allocation failed",
-    )
-}
-
-/// The definition's own sets: t2:id=1, t1:grp=2, t1:id=3 in their order; the wildcard alone; and
-/// what they match.
-fn definitions_are_as_worked()
-    ensures order { set_of (Tag.Id 2 1 ∷ Tag.Group 1 2 ∷ Tag.Id 1 3 ∷ [])
-        ≡ Tag.Id 1 3 ∷ Tag.Group 1 2 ∷ Tag.Id 2 1 ∷ [] }
-    ensures repeated { set_of (Tag.Id 1 3 ∷ Tag.Id 1 3 ∷ []) ≡ Tag.Id 1 3 ∷ [] }
-    ensures swallowed { set_of (Tag.Id 1 3 ∷ Tag.Wildcard 1 ∷ Tag.Id 1 4 ∷ [])
-        ≡ Tag.Wildcard 1 ∷ [] }
-    ensures sixteen { with_tag (Tag.Id 1 16) (set_of (
-        Tag.Id 1 0 ∷ Tag.Id 1 1 ∷ Tag.Id 1 2 ∷ Tag.Id 1 3 ∷ Tag.Id 1 4 ∷ Tag.Id 1 5 ∷ Tag.Id 1 6
-        ∷ Tag.Id 1 7 ∷ Tag.Id 1 8 ∷ Tag.Id 1 9 ∷ Tag.Id 1 10 ∷ Tag.Id 1 11 ∷ Tag.Id 1 12
-        ∷ Tag.Id 1 13 ∷ Tag.Id 1 14 ∷ Tag.Id 1 15 ∷ [])) ≡ Tag.Wildcard 1 ∷ [] }
-    ensures matched { sets_match (Tag.Id 1 2 ∷ []) (Tag.Wildcard 1 ∷ []) ≡ true }
-    ensures kinds { sets_match (Tag.Id 1 2 ∷ []) (Tag.Group 1 2 ∷ []) ≡ false }
-{}
+const MATCHES: &str = "\
+set t1:? = t1:?
+matches t1:id=7 = true
+set t1:id=7 = t1:id=7
+matches t1:? = true
+matches t1:id=7 = true
+matches t1:grp=7,t2:id=7 = false
+matches - = false
+set t1:grp=7,t2:id=7 = t1:grp=7,t2:id=7
+matches t1:? = true
+";
