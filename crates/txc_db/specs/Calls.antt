@@ -6,6 +6,7 @@ use Rattle.txc_rows.specs.declared.query.Query.TheVariants.{ById}
 use Rattle.txc_rows.specs.declared.query.Change.{Change}
 use Rattle.txc_rows.specs.declared.store_error.StoreError.{StoreError}
 use Rattle.txc_rows.specs.declared.store_error.StoreError.TheVariants as store
+use Rattle.txc_rows.specs.declared.store_error.TheConstants.{MAX_MATCHING}
 use Rattle.txc_rows.specs.Members.{IsIn}
 use Rattle.txc_rows.specs.Net.{change_table, change_id}
 use Rattle.txc_rows.specs.Versions.{suits}
@@ -79,18 +80,15 @@ IsPinRefused d at_least e = ⊥
 
 -- ---- queries
 
--- the most versions that a look at the rows of a query may find
-abbrev pub max_matching : ℕ
-max_matching = 1024
-
 -- how many of the kept versions a query has to look at
 abbrev pub matching_of : DatabaseValue → Query → ℕ
 matching_of d q = length (filter (suits q) d.versions)
 
 -- the store refused to read the versions that match: there are too many of them, or it refused by itself
 abbrev pub IsStoreRefused : DatabaseValue → Query → StoreError → Type 0
-IsStoreRefused d q store.TooManyRows = max_matching < matching_of d q
+IsStoreRefused d q store.TooManyRows = MAX_MATCHING < matching_of d q
 IsStoreRefused d q (store.Store cause) = ⊤
+IsStoreRefused d q store.StoreMemory = ⊤
 IsStoreRefused d q store.Memory = ⊥
 
 -- a query can be answered at the stamp
@@ -115,7 +113,7 @@ row_query c = ById (change_table c) (change_id c)
 
 -- of no row that the changes name are too many versions kept
 abbrev pub AreFewNamed : DatabaseValue → List Change → Type 0
-AreFewNamed d changes = (c : Change) → IsIn c changes → matching_of d (row_query c) ≤ max_matching
+AreFewNamed d changes = (c : Change) → IsIn c changes → matching_of d (row_query c) ≤ MAX_MATCHING
 
 -- the database is whole and knows the base
 pub record IsBase (d : DatabaseValue) (base : ℕ) : Type 0 where
@@ -152,8 +150,9 @@ pub record IsEventBarred (d : DatabaseValue) (base : ℕ) (read : List Tag) (cha
 -- the store refused a commit: of a row that it names too many versions are kept; or there are changes, and it refused by
 -- itself
 abbrev pub IsStoreRefusedIn : DatabaseValue → List Change → StoreError → Type 0
-IsStoreRefusedIn d changes store.TooManyRows = (c : Change) × IsIn c changes × (max_matching < matching_of d (row_query c))
+IsStoreRefusedIn d changes store.TooManyRows = (c : Change) × IsIn c changes × (MAX_MATCHING < matching_of d (row_query c))
 IsStoreRefusedIn d changes (store.Store cause) = changes ≢ []
+IsStoreRefusedIn d changes store.StoreMemory = changes ≢ []
 IsStoreRefusedIn d changes store.Memory = ⊥
 
 -- of a commit: broken, or beyond the newest stamp, or a conflict with what was read; then the store, or the row is full; out

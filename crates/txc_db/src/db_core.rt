@@ -5,7 +5,8 @@ ghost use Rattle.txc_rows.specs.RowTags.{query_tag};
 ghost use Rattle.txc_validity.specs.Answers.{IsAnswer};
 ghost use Rattle.txc_db.specs.History.{state_at, pin_event};
 ghost use Rattle.txc_db.specs.Refusals.{IsWant};
-ghost use Rattle.txc_db.specs.Calls.{IsLeft, IsHoldable, IsHoldRefused, IsUnpinRefused, IsVacuumRefused, IsPinnable, IsPinRefused, IsAnswerable, matching_of, max_matching, IsQueryRefused};
+ghost use Rattle.txc_db.specs.Calls.{IsLeft, IsHoldable, IsHoldRefused, IsUnpinRefused, IsVacuumRefused, IsPinnable, IsPinRefused, IsAnswerable, matching_of, IsQueryRefused};
+ghost use Rattle.txc_rows.specs.declared.store_error.TheConstants.{MAX_MATCHING};
 
 use crate::error::DbError;
 use crate::event::{Event, What};
@@ -130,7 +131,7 @@ impl DbCore {
             IsAnswer (state_at self.old.history) query.now stamp self.old.horizon (newest self.old) found) }
         ensures tag { IfOk result (λ found. found.tags ≡ query_tag query.now ∷ []) }
         ensures only_if { IsOk result → IsAnswerable self.old stamp }
-        ensures few { IsOk result → matching_of self.old query.now ≤ max_matching }
+        ensures few { IsOk result → matching_of self.old query.now ≤ MAX_MATCHING }
         ensures refused { IfErr result (IsQueryRefused self.old query.now stamp) }
     {
         if self.broken {

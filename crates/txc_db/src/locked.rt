@@ -7,7 +7,8 @@ ghost use Rattle.txc_validity.specs.Answers.{IsAnswer};
 ghost use Rattle.txc_db.specs.History.{state_at};
 ghost use Rattle.txc_db.specs.Seen.{last_mark};
 ghost use Rattle.txc_db.specs.DatabaseValue.{DatabaseValue, front_of, after_hold, after_unpin, after_vacuum, after_pin, after_commit, newest, next_horizon, is_held};
-ghost use Rattle.txc_db.specs.Calls.{IsHoldable, IsHoldRefused, IsUnpinRefused, IsVacuumRefused, IsAnswerable, matching_of, max_matching, IsQueryRefused, IsPinnable, IsPinRefused, IsCommittable};
+ghost use Rattle.txc_db.specs.Calls.{IsHoldable, IsHoldRefused, IsUnpinRefused, IsVacuumRefused, IsAnswerable, matching_of, IsQueryRefused, IsPinnable, IsPinRefused, IsCommittable};
+ghost use Rattle.txc_rows.specs.declared.store_error.TheConstants.{MAX_MATCHING};
 ghost use Rattle.txc_db.specs.Shared.{IsSharedCommitRefused};
 ghost use Rattle.txc_db.specs.Locked.{IsLockedLeft, IsCommitLeft, IsRefusalWith};
 
@@ -86,7 +87,7 @@ impl<J: Naming> Locked<J> {
         ensures tag { IfOk result (λ answered. answered.answer.tags ≡ query_tag query.now ∷ []) }
         ensures front { IfOk result (λ answered. answered.front ≡ front_of self.old) }
         ensures only_if { IsOk result → IsAnswerable self.old stamp }
-        ensures few { IsOk result → matching_of self.old query.now ≤ max_matching }
+        ensures few { IsOk result → matching_of self.old query.now ≤ MAX_MATCHING }
         ensures refused { IfErr result (IsQueryRefused self.old query.now stamp) }
     {
         let answer = self.core.query(alloc, query, stamp)?;

@@ -4,7 +4,8 @@ ghost use Rattle.std.specs.List.{insert, list_any};
 ghost use Rattle.txc_tags.specs.Tags.{with_tags};
 ghost use Rattle.txc_rows.specs.declared.query.Query.TheVariants.{ById};
 ghost use Rattle.txc_rows.specs.States.{State, answer};
-ghost use Rattle.txc_rows.specs.RowTags.{tags_of_row, same_row};
+ghost use Rattle.txc_rows.specs.Values.{same_row};
+ghost use Rattle.txc_rows.specs.RowTags.{tags_of_row};
 ghost use Rattle.txc_rows.specs.Net.{change_table, change_id, same_key, key_before, changes_state, placed, settled, puts_of};
 
 use std::alloc::{AllocError, Global};
@@ -73,16 +74,10 @@ pub(crate) fn settle(alloc: Global, changes: &[Change]) -> Result<Vec<Change>, A
     Ok(last)
 }
 
-fn is_same(one: &Row, other: &Row) -> bool
-    ensures { result ≡ same_row one.now other.now }
-{
-    one.is_same(other)
-}
-
 fn has_row(rows: &[Row], row: &Row) -> bool
     ensures { result ≡ list_any (same_row row.now) rows.now }
 {
-    rows.iter().any(|old| is_same(row, old))
+    rows.iter().any(|old| row == old)
 }
 
 /// Whether the change makes another state, where these are the rows at its table and id.
