@@ -43,9 +43,11 @@ fn is_key_before(one: &Change, other: &Change) -> bool
     table < other_table || table == other_table && id_of(one) < id_of(other)
 }
 
-/// Where the change belongs among those that settle later ones, or none where one of them has its table and id.
+/// Where the change belongs among those that settle later ones, or none where one of them has its table and
+/// id.
 fn place_of(change: &Change, settled: &[Change]) -> Option<usize>
-    ensures { MatchOption result (placed change.now settled.now ≡ settled.now) (λ at. (at ≤ length settled.now) × (insert settled.now at change.now ≡ placed change.now settled.now)) }
+    ensures { MatchOption result (placed change.now settled.now ≡ settled.now) (λ at. (at ≤ length settled.now)
+        × (insert settled.now at change.now ≡ placed change.now settled.now)) }
 {
     for (at, other) in settled.iter().enumerate() {
         if is_same_key(change, other) {
@@ -82,7 +84,8 @@ fn has_row(rows: &[Row], row: &Row) -> bool
 
 /// Whether the change makes another state, where these are the rows at its table and id.
 pub(crate) fn makes_another(change: &Change, rows: &[Row]) -> bool
-    ensures { (s : State) → rows.now ≡ answer (ById (change_table change.now) (change_id change.now)) s → result ≡ changes_state s change.now }
+    ensures { (s : State) → rows.now ≡ answer (ById (change_table change.now) (change_id change.now)) s
+        → result ≡ changes_state s change.now }
 {
     match change {
         Change::Put(row) => !has_row(rows, row),
