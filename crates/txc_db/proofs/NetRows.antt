@@ -10,10 +10,11 @@ use Rattle.txc_rows.specs.States.{RowValue, State, IsState, row_before, is_at, a
 use Rattle.txc_rows.specs.RowTags.{tags_of_row, tags_between}
 use Rattle.txc_rows.specs.Net.{change_table, change_id, same_key, key_before, changes_state, placed, settled, net_changes, KeysRise, puts_of, rows_at}
 use Rattle.txc_rows.specs.Laws.{NetTags, NetLeads}
-use Rattle.txc_rows.proofs.Members.{any_there, any_found, both_true, in_filter, from_filter, in_left, in_right}
-use Rattle.txc_rows.proofs.Rising.{same_rows, filter_state}
+use Rattle.txc_rows.proofs.Offered.{any_there, any_found, both_true, in_filter, from_filter, in_left, in_right}
+use Rattle.txc_rows.proofs.Offered.{same_rows, filter_state}
 use Rattle.txc_db.specs.DatabaseValue.{DatabaseValue}
-use Rattle.txc_db.specs.Calls.{matching_of, max_matching, row_query, AreFewNamed}
+use Rattle.txc_db.specs.Calls.{matching_of, row_query, AreFewNamed}
+use Rattle.txc_rows.specs.declared.store_error.TheConstants.{MAX_MATCHING}
 use Rattle.txc_db.specs.NetWith.{found_rows, IsNetWith}
 use Rattle.txc_db.proofs.Settling.{tags_then, flat_then}
 
@@ -188,10 +189,10 @@ settled_has c (d ∷ cs) (inr later) =
     record { change = it.change; one = placed_keeps d it.change (settled cs) it.one; table = it.table; id = it.id }
 
 -- what is so of each key that settles is so of each that a change names
-pub few_named : (d : DatabaseValue) (changes : List Change) → ((x : Change) → IsIn x (settled changes) → matching_of d (row_query x) ≤ max_matching) → AreFewNamed d changes
+pub few_named : (d : DatabaseValue) (changes : List Change) → ((x : Change) → IsIn x (settled changes) → matching_of d (row_query x) ≤ MAX_MATCHING) → AreFewNamed d changes
 few_named d changes few c one =
     let it = settled_has c changes one in
-    subst (λ (i : ℕ). matching_of d (ById (change_table c) i) ≤ max_matching) it.id (subst (λ (t : ℕ). matching_of d (ById t (change_id it.change)) ≤ max_matching) it.table (few it.change it.one))
+    subst (λ (i : ℕ). matching_of d (ById (change_table c) i) ≤ MAX_MATCHING) it.id (subst (λ (t : ℕ). matching_of d (ById t (change_id it.change)) ≤ MAX_MATCHING) it.table (few it.change it.one))
 
 -- what is among one more was among them, or is the one
 pub taken_in : (cs : List Change) (i : ℕ) (c x : Change) → slice_get cs i ≡ Some c → IsIn x (take (i + 1) cs) → IsIn x (take i cs) ⊎ (x ≡ c)

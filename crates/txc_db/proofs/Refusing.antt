@@ -44,6 +44,7 @@ some_in c (x ∷ xs) is none = let f = none in absurd cc
 pub read_refused : (d : DatabaseValue) (changes : List Change) (c : Change) → IsIn c changes → (e : DbError) → IsReadRefused d (row_query c) e → IsNetRefused d changes e
 read_refused d changes c one (Store store.TooManyRows) h = (c, one, h)
 read_refused d changes c one (Store (store.Store cause)) h = some_in c changes one
+read_refused d changes c one (Store store.StoreMemory) h = some_in c changes one
 read_refused d changes c one (Store store.Memory) h = h
 read_refused d changes c one e h = h
 

@@ -7,9 +7,10 @@ use Rattle.txc_rows.specs.declared.query.Change.{Change}
 use Rattle.txc_rows.specs.declared.query.Change.TheVariants.{Put, Remove}
 use Rattle.txc_rows.specs.declared.query.Query.TheVariants.{ById}
 use Rattle.txc_rows.specs.States.{RowValue, State, answer, is_at}
-use Rattle.txc_rows.specs.RowTags.{same_row, has_row, tags_of_row}
-use Rattle.txc_rows.proofs.RowTests.{same_row_is, row_itself}
-use Rattle.txc_rows.proofs.Members.{bool_cases, both_true, and_true}
+use Rattle.txc_rows.specs.Values.{same_row}
+use Rattle.txc_rows.specs.RowTags.{has_row, tags_of_row}
+use Rattle.txc_rows.proofs.Offered.{same_row_is}
+use Rattle.txc_rows.proofs.Offered.{bool_cases, both_true, and_true}
 use Rattle.txc_rows.specs.Net.{same_key, key_before, placed, puts_of}
 
 -- ---- where a change belongs
@@ -123,12 +124,3 @@ puts_suc (d ∷ ds) (suc i) c set at =
 pub puts_more : (cs : List Change) (i : ℕ) (c : Change) (set : List Tag) → slice_get cs i ≡ Some c
     → with_tags (flat_map tags_of_row (puts_of (c ∷ []))) (with_tags (flat_map tags_of_row (puts_of (take i cs))) set) ≡ with_tags (flat_map tags_of_row (puts_of (take (i + 1) cs))) set
 puts_more cs i c set at = puts_suc cs i c set at ∙ ap (λ n. with_tags (flat_map tags_of_row (puts_of (take n cs))) set) (sym (add-one i))
-
--- ---- a test of two rows
-
-pub same_test : (b : Bool) (r s : RowValue) → (b ≡ true → r ≡ s) → (r ≡ s → b ≡ true) → b ≡ same_row r s
-same_test true r s to from = sym (ap (same_row r) (sym (to refl)) ∙ row_itself r)
-same_test false r s to from = elim (bool_cases (same_row r s)) [
-  | inl same ↦ absurd (true≢false (sym (from (same_row_is r s same))))
-  | inr other ↦ sym other
-]

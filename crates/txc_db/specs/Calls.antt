@@ -6,6 +6,7 @@ use Rattle.txc_rows.specs.declared.query.Query.TheVariants.{ById}
 use Rattle.txc_rows.specs.declared.query.Change.{Change}
 use Rattle.txc_rows.specs.declared.store_error.StoreError.{StoreError}
 use Rattle.txc_rows.specs.declared.store_error.StoreError.TheVariants as store
+use Rattle.txc_rows.specs.declared.store_error.TheConstants.{MAX_MATCHING}
 use Rattle.txc_rows.specs.Members.{IsIn}
 use Rattle.txc_rows.specs.Net.{change_table, change_id}
 use Rattle.txc_rows.specs.Versions.{suits}
@@ -15,8 +16,8 @@ use Rattle.txc_db.specs.declared.holds.TheConstants.{MAX_HOLDS}
 use Rattle.txc_db.specs.DatabaseValue.{DatabaseValue, newest, newest_net, is_held, IsReadable}
 use Rattle.txc_db.specs.Refusals.{IsOwn, IsConflict, NoneMatches}
 
--- the call found another record in the row after the history: the history, the horizon and the holds are as they were,
--- and each later call is refused
+-- the call found another record in the row after the history: the history, the horizon and the holds are as
+-- they were, and each later call is refused
 pub record IsBroken (old new : DatabaseValue) : Type 0 where
   pub was : old.broken ≡ false
   pub is : new.broken ≡ true
@@ -25,14 +26,15 @@ pub record IsBroken (old new : DatabaseValue) : Type 0 where
   pub horizon : new.horizon ≡ old.horizon
   pub holds : new.holds ≡ old.holds
 
--- what a refusal leaves: the database as it was; and refused as broken, it was broken before, or is so from now on
+-- what a refusal leaves: the database as it was; and refused as broken, it was broken before, or is so from
+-- now on
 abbrev pub IsLeft : DatabaseValue → DatabaseValue → DbError → Type 0
 IsLeft old new Broken = ((new ≡ old) × (old.broken ≡ true)) ⊎ IsBroken old new
 IsLeft old new e = new ≡ old
 
 -- ---- holds
 
--- a hold can be had: the database is whole, and there is room for one hold more
+-- a hold can be had: the database is whole, and there is room for one more hold
 pub record IsHoldable (d : DatabaseValue) : Type 0 where
   pub whole : d.broken ≡ false
   pub room : length d.holds < MAX_HOLDS
@@ -47,7 +49,8 @@ IsHoldRefused d e = ⊥
 -- of taking a hold away: broken, or the stamp is not held
 abbrev pub IsUnpinRefused : DatabaseValue → ℕ → DbError → Type 0
 IsUnpinRefused d stamp Broken = d.broken ≡ true
-IsUnpinRefused d stamp (NotPinned named) = (d.broken ≡ false) × (is_held stamp d.holds ≡ false) × (named ≡ stamp)
+IsUnpinRefused d stamp (NotPinned named) =
+    (d.broken ≡ false) × (is_held stamp d.holds ≡ false) × (named ≡ stamp)
 IsUnpinRefused d stamp e = ⊥
 
 -- of a vacuum: broken; and then the store refused by itself
@@ -58,30 +61,28 @@ IsVacuumRefused d e = ⊥
 
 -- ---- pins
 
--- a pin can be appended: the database is whole, the stamp asked for is at most the next one, and there is room for its event
--- and for its hold
+-- a pin can be appended: the database is whole, the stamp asked for is at most the next one, and there is
+-- room for its event and for its hold
 pub record IsPinnable (d : DatabaseValue) (at_least : ℕ) : Type 0 where
   pub whole : d.broken ≡ false
   pub late : at_least ≤ newest d + 1
   pub room : newest d < length d.events
   pub hold : length d.holds < MAX_HOLDS
 
--- of a pin: broken, or asked for beyond the next stamp, or the row is full, or too many holds, each where none before it
--- comes; and then out of memory, or another record stands in the row
+-- of a pin: broken, or asked for beyond the next stamp, or the row is full, or too many holds, each where
+-- none before it comes; and then out of memory, or another record stands in the row
 abbrev pub IsPinRefused : DatabaseValue → ℕ → DbError → Type 0
 IsPinRefused d at_least Broken = (d.broken ≡ true) ⊎ IsPinnable d at_least
-IsPinRefused d at_least (FutureStamp last) = (d.broken ≡ false) × (newest d + 1 < at_least) × (last ≡ newest d)
+IsPinRefused d at_least (FutureStamp last) =
+    (d.broken ≡ false) × (newest d + 1 < at_least) × (last ≡ newest d)
 IsPinRefused d at_least Full = (d.broken ≡ false) × (at_least ≤ newest d + 1) × (newest d ≡ length d.events)
 IsPinRefused d at_least HoldsFull =
-    (d.broken ≡ false) × (at_least ≤ newest d + 1) × (newest d < length d.events) × (MAX_HOLDS ≤ length d.holds)
+    (d.broken ≡ false) × (at_least ≤ newest d + 1) × (newest d < length d.events)
+    × (MAX_HOLDS ≤ length d.holds)
 IsPinRefused d at_least Memory = IsPinnable d at_least
 IsPinRefused d at_least e = ⊥
 
 -- ---- queries
-
--- the most versions that a look at the rows of a query may find
-abbrev pub max_matching : ℕ
-max_matching = 1024
 
 -- how many of the kept versions a query has to look at
 abbrev pub matching_of : DatabaseValue → Query → ℕ
@@ -89,8 +90,9 @@ matching_of d q = length (filter (suits q) d.versions)
 
 -- the store refused to read the versions that match: there are too many of them, or it refused by itself
 abbrev pub IsStoreRefused : DatabaseValue → Query → StoreError → Type 0
-IsStoreRefused d q store.TooManyRows = max_matching < matching_of d q
+IsStoreRefused d q store.TooManyRows = MAX_MATCHING < matching_of d q
 IsStoreRefused d q (store.Store cause) = ⊤
+IsStoreRefused d q store.StoreMemory = ⊤
 IsStoreRefused d q store.Memory = ⊥
 
 -- a query can be answered at the stamp
@@ -102,7 +104,8 @@ pub record IsAnswerable (d : DatabaseValue) (stamp : ℕ) : Type 0 where
 abbrev pub IsQueryRefused : DatabaseValue → Query → ℕ → DbError → Type 0
 IsQueryRefused d q stamp Broken = d.broken ≡ true
 IsQueryRefused d q stamp (FutureStamp last) = (d.broken ≡ false) × (newest d < stamp) × (last ≡ newest d)
-IsQueryRefused d q stamp (SnapshotGone horizon) = (d.broken ≡ false) × (stamp < d.horizon) × (horizon ≡ d.horizon)
+IsQueryRefused d q stamp (SnapshotGone horizon) =
+    (d.broken ≡ false) × (stamp < d.horizon) × (horizon ≡ d.horizon)
 IsQueryRefused d q stamp (Store cause) = IsAnswerable d stamp × IsStoreRefused d q cause
 IsQueryRefused d q stamp Memory = IsAnswerable d stamp
 IsQueryRefused d q stamp e = ⊥
@@ -115,7 +118,7 @@ row_query c = ById (change_table c) (change_id c)
 
 -- of no row that the changes name are too many versions kept
 abbrev pub AreFewNamed : DatabaseValue → List Change → Type 0
-AreFewNamed d changes = (c : Change) → IsIn c changes → matching_of d (row_query c) ≤ max_matching
+AreFewNamed d changes = (c : Change) → IsIn c changes → matching_of d (row_query c) ≤ MAX_MATCHING
 
 -- the database is whole and knows the base
 pub record IsBase (d : DatabaseValue) (base : ℕ) : Type 0 where
@@ -128,9 +131,10 @@ pub record IsUnread (d : DatabaseValue) (base : ℕ) (read : List Tag) : Type 0 
   pub known : base ≤ newest d
   pub apart : NoneMatches d.history base (newest d) read
 
--- a commit can be done: what was read is as it was, the rows that the changes name can be looked up, and there is room for
--- its event, where it has one
-pub record IsCommittable (d : DatabaseValue) (base : ℕ) (read : List Tag) (changes : List Change) : Type 0 where
+-- a commit can be done: what was read is as it was, the rows that the changes name can be looked up, and
+-- there is room for its event, where it has one
+pub record IsCommittable (d : DatabaseValue) (base : ℕ) (read : List Tag) (changes : List Change)
+    : Type 0 where
   pub unread : IsUnread d base read
   pub few : AreFewNamed d changes
   pub room : newest_net d changes ≢ [] → newest d < length d.events
@@ -143,24 +147,28 @@ pub record IsEventDue (d : DatabaseValue) (base : ℕ) (read : List Tag) (change
   pub room : newest d < length d.events
 
 -- a commit has an event to append, and the row is full
-pub record IsEventBarred (d : DatabaseValue) (base : ℕ) (read : List Tag) (changes : List Change) : Type 0 where
+pub record IsEventBarred (d : DatabaseValue) (base : ℕ) (read : List Tag) (changes : List Change)
+    : Type 0 where
   pub unread : IsUnread d base read
   pub few : AreFewNamed d changes
   pub some : newest_net d changes ≢ []
   pub full : newest d ≡ length d.events
 
--- the store refused a commit: of a row that it names too many versions are kept; or there are changes, and it refused by
--- itself
+-- the store refused a commit: of a row that it names too many versions are kept; or there are changes, and
+-- it refused by itself
 abbrev pub IsStoreRefusedIn : DatabaseValue → List Change → StoreError → Type 0
-IsStoreRefusedIn d changes store.TooManyRows = (c : Change) × IsIn c changes × (max_matching < matching_of d (row_query c))
+IsStoreRefusedIn d changes store.TooManyRows =
+    (c : Change) × IsIn c changes × (MAX_MATCHING < matching_of d (row_query c))
 IsStoreRefusedIn d changes (store.Store cause) = changes ≢ []
+IsStoreRefusedIn d changes store.StoreMemory = changes ≢ []
 IsStoreRefusedIn d changes store.Memory = ⊥
 
--- of a commit: broken, or beyond the newest stamp, or a conflict with what was read; then the store, or the row is full; out
--- of memory as soon as there is no conflict; and last another record stands in the row
+-- of a commit: broken, or beyond the newest stamp, or a conflict with what was read; then the store, or the
+-- row is full; out of memory as soon as there is no conflict; and last another record stands in the row
 abbrev pub IsCommitRefused : DatabaseValue → ℕ → List Tag → List Change → DbError → Type 0
 IsCommitRefused d base read changes Broken = (d.broken ≡ true) ⊎ IsEventDue d base read changes
-IsCommitRefused d base read changes (FutureStamp last) = (d.broken ≡ false) × (newest d < base) × (last ≡ newest d)
+IsCommitRefused d base read changes (FutureStamp last) =
+    (d.broken ≡ false) × (newest d < base) × (last ≡ newest d)
 IsCommitRefused d base read changes (Conflict first) = IsBase d base × IsConflict d.history base read first
 IsCommitRefused d base read changes (Store cause) = IsUnread d base read × IsStoreRefusedIn d changes cause
 IsCommitRefused d base read changes Full = IsEventBarred d base read changes

@@ -11,8 +11,9 @@ use Rattle.txc_db.specs.Facts.{EventValue}
 use Rattle.txc_db.specs.Seen.{FrontValue}
 use Rattle.txc_db.specs.History.{History, state_at, AreTagged, pin_event, commit_event}
 
--- the names of the cells for its events; the history; the versions that are kept; the horizon; the stamps that are held, one for
--- each hold, the earliest hold first; and whether another record was found in its row
+-- the names of the cells for its events; the history; the versions that are kept; the horizon; the stamps
+-- that are held, one for each hold, the earliest hold first; and whether another record was found in its
+-- row
 pub record DatabaseValue : Type 0 where
   pub events : List ℕ
   pub history : History
@@ -62,8 +63,8 @@ pub record IsReadable (horizon newest stamp : ℕ) : Type 0 where
   pub low : horizon ≤ stamp
   pub high : stamp ≤ newest
 
--- what every database keeps: each event stands beside its tags, the versions say each state from the horizon to the
--- newest stamp, and no held stamp is below the horizon
+-- what every database keeps: each event stands beside its tags, the versions say each state from the
+-- horizon to the newest stamp, and no held stamp is below the horizon
 pub record IsSound (d : DatabaseValue) : Type 0 where
   pub tagged : AreTagged d.history
   pub kept : KeepsStates (state_at d.history) d.horizon (newest d) d.versions
@@ -72,11 +73,11 @@ pub record IsSound (d : DatabaseValue) : Type 0 where
 
 -- ---- after the calls
 
--- one hold more, of the newest stamp
+-- one more hold, of the newest stamp
 abbrev pub after_hold : DatabaseValue → DatabaseValue
 after_hold d = record d { holds = d.holds ++ newest d ∷ [] }
 
--- one hold of the stamp fewer
+-- one fewer hold of the stamp
 abbrev pub after_unpin : DatabaseValue → ℕ → DatabaseValue
 after_unpin d stamp = record d { holds = without stamp d.holds }
 
@@ -88,23 +89,26 @@ next_horizon d = least (newest d) d.holds
 abbrev pub after_vacuum : DatabaseValue → DatabaseValue
 after_vacuum d = record d { horizon = next_horizon d; versions = purged (next_horizon d) d.versions }
 
--- one event more, a pin of the moment, whose stamp is held
+-- one more event, a pin of the moment, whose stamp is held
 abbrev pub after_pin : DatabaseValue → ℕ → DatabaseValue
-after_pin d moment = record d { history = d.history ++ pin_event moment ∷ []; holds = d.holds ++ (newest d + 1) ∷ [] }
+after_pin d moment =
+    record d { history = d.history ++ pin_event moment ∷ []; holds = d.holds ++ (newest d + 1) ∷ [] }
 
 -- what the changes come to over the newest state
 abbrev pub newest_net : DatabaseValue → List Change → List Change
 newest_net d changes = net_changes (newest_state d) changes
 
--- one event more, whose net changes are written at its stamp
+-- one more event, whose net changes are written at its stamp
 abbrev pub after_event_of : DatabaseValue → EventValue → List Change → DatabaseValue
-after_event_of d e net = record d { history = d.history ++ e ∷ []; versions = after_net (newest d + 1) net d.versions }
+after_event_of d e net =
+    record d { history = d.history ++ e ∷ []; versions = after_net (newest d + 1) net d.versions }
 
 -- d itself where there is no net change, else the other
 abbrev pub where_some : List Change → DatabaseValue → DatabaseValue → DatabaseValue
 where_some [] d other = d
 where_some (c ∷ cs) d other = other
 
--- the commit of the changes is one event more; where they change nothing, d stays
+-- the commit of the changes is one more event; where they change nothing, d stays
 abbrev pub after_commit : DatabaseValue → List Change → DatabaseValue
-after_commit d changes = where_some (newest_net d changes) d (after_event_of d (commit_event (newest_state d) changes) (newest_net d changes))
+after_commit d changes = where_some (newest_net d changes) d
+    (after_event_of d (commit_event (newest_state d) changes) (newest_net d changes))

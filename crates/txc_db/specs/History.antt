@@ -58,10 +58,11 @@ pin_event moment = record { fact = pin moment; tags = [] }
 
 -- the event of a commit: the net changes over the state before it, and the tags of what they change
 abbrev pub commit_event : State → List Change → EventValue
-commit_event s changes = record { fact = commit (net_changes s changes); tags = tags_between s (after_changes changes s) }
+commit_event s changes =
+    record { fact = commit (net_changes s changes); tags = tags_between s (after_changes changes s) }
 
--- a transaction with these bounds may be serialised at this stamp: it was pinned, at a moment that is no more than
--- `staleness` before `now`, and it isn't below the stamp asked for
+-- a transaction with these bounds may be serialised at this stamp: it was pinned, at a moment that is no
+-- more than `staleness` before `now`, and it isn't below the stamp asked for
 pub record IsAllowed (L : History) (t now staleness at_least : ℕ) : Type 0 where
   pub moment : ℕ
   pub pinned : moment_at L t ≡ Some moment

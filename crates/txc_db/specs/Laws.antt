@@ -1,4 +1,4 @@
--- What is said of histories alone.
+-- What the definitions of histories come to.
 use Rattle.std.specs.Prelude.{ℕ, suc, ◌≡◌, ◌≤◌, ◌+◌, true, false, List, [], ◌++◌, length, Some, if◌then◌else◌, ◌==◌}
 use Rattle.txc_tags.specs.declared.tag.Tag.{Tag}
 use Rattle.txc_tags.specs.Tags.{sets_match}
@@ -11,7 +11,8 @@ use Rattle.txc_db.specs.DatabaseValue.{without, is_held, holds_of}
 -- an event whose tags do not match a set that covers a query leaves the query's answer
 abbrev pub EventTagsAreSound : Type 0
 EventTagsAreSound = (L : History) (t : ℕ) (q : Query) (set : List Tag)
-    → sets_match (tags_at L (suc t)) set ≡ false → covers_query set q ≡ true → answer q (state_at L t) ≡ answer q (state_at L (suc t))
+    → sets_match (tags_at L (suc t)) set ≡ false → covers_query set q ≡ true
+    → answer q (state_at L t) ≡ answer q (state_at L (suc t))
 
 -- a longer history has the same states
 abbrev pub StatesStay : Type 0
@@ -23,9 +24,11 @@ TagsStay = (L more : History) (e : ℕ) → e ≤ length L → tags_at (L ++ mor
 
 -- a pin has no tags and leaves the state
 abbrev pub PinsChangeNothing : Type 0
-PinsChangeNothing = (L : History) (t moment : ℕ) → moment_at L (suc t) ≡ Some moment → (state_at L (suc t) ≡ state_at L t) × (tags_at L (suc t) ≡ [])
+PinsChangeNothing = (L : History) (t moment : ℕ) → moment_at L (suc t) ≡ Some moment
+    → (state_at L (suc t) ≡ state_at L t) × (tags_at L (suc t) ≡ [])
 
--- without one hold of a stamp there is one hold of it less, where there was one, and as many of each other stamp
+-- without one hold of a stamp there is one fewer hold of it, where there was one, and as many of each other
+-- stamp
 abbrev pub OneHoldLess : Type 0
 OneHoldLess = (holds : List ℕ) (stamp other : ℕ) → is_held stamp holds ≡ true
     → holds_of other (without stamp holds) + (if stamp == other then 1 else 0) ≡ holds_of other holds

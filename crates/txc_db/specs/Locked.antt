@@ -7,10 +7,11 @@ use Rattle.txc_db.specs.declared.answered.CommitError.TheVariants as commits
 use Rattle.txc_db.specs.Seen.{FrontValue}
 use Rattle.txc_db.specs.DatabaseValue.{DatabaseValue}
 
--- what a refusal leaves: the database as it was; and refused as broken, it was broken before, or is so from now on, where
--- another record stood in one of its rows
+-- what a refusal leaves: the database as it was; and refused as broken, it was broken before, or is so from
+-- now on, where another record stood in one of its rows
 abbrev pub IsLockedLeft : DatabaseValue → DatabaseValue → DbError → Type 0
-IsLockedLeft old new Broken = ((new ≡ old) × (old.broken ≡ true)) ⊎ ((old.broken ≡ false) × (new.broken ≡ true))
+IsLockedLeft old new Broken =
+    ((new ≡ old) × (old.broken ≡ true)) ⊎ ((old.broken ≡ false) × (new.broken ≡ true))
 IsLockedLeft old new e = new ≡ old
 
 -- what a refused commit leaves

@@ -12,12 +12,14 @@ use Rattle.txc_db.specs.History.{History, tags_at}
 abbrev pub IsRefusalOf : StoreError → DbError → Type 0
 IsRefusalOf store.TooManyRows e = e ≡ refusals.Store store.TooManyRows
 IsRefusalOf (store.Store cause) e = e ≡ refusals.Store (store.Store cause)
+IsRefusalOf store.StoreMemory e = e ≡ refusals.Store store.StoreMemory
 IsRefusalOf store.Memory e = e ≡ refusals.Memory
 
 -- the store refused by itself, whatever the call
 abbrev pub IsOwn : StoreError → Type 0
 IsOwn store.TooManyRows = ⊥
 IsOwn (store.Store cause) = ⊤
+IsOwn store.StoreMemory = ⊤
 IsOwn store.Memory = ⊥
 
 -- a growth was refused, or the store refused by itself: no argument decides these

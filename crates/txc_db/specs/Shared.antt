@@ -16,15 +16,17 @@ use Rattle.txc_db.specs.Calls.{IsBase, IsCommitRefused}
 -- ---- answers of a commit
 
 -- nothing changed: there is no net change over the newest state, which the stamp names
-pub record IsQuietIn (L : History) (base : ℕ) (read : List Tag) (changes : List Change) (stamp : ℕ) : Type 0 where
+pub record IsQuietIn (L : History) (base : ℕ) (read : List Tag) (changes : List Change) (stamp : ℕ)
+    : Type 0 where
   pub newest : stamp ≡ length L
   pub known : base ≤ stamp
   pub apart : NoneMatches L base stamp read
   pub none : net_changes (state_at L stamp) changes ≡ []
 
--- the last event is the commit of the net changes over the state before it, and none from the base up to it matches what
--- was read
-pub record IsEventIn (L : History) (base : ℕ) (read : List Tag) (changes : List Change) (stamp : ℕ) : Type 0 where
+-- the last event is the commit of the net changes over the state before it, and none from the base up to it
+-- matches what was read
+pub record IsEventIn (L : History) (base : ℕ) (read : List Tag) (changes : List Change) (stamp : ℕ)
+    : Type 0 where
   pub before : ℕ
   pub next : stamp ≡ before + 1
   pub newest : stamp ≡ length L
@@ -40,15 +42,17 @@ abbrev pub MayRefuse : {E : Type 0} → List ℕ → (DatabaseValue → E → Ty
 MayRefuse events refused e = (d : DatabaseValue) × (d.events ≡ events) × refused d e
 
 -- the first event after the base that matches what was read, and a front of the whole history in which it is
-pub record IsConflictShown (d : DatabaseValue) (base : ℕ) (read : List Tag) (conflict : Answered ℕ) : Type 0 where
+pub record IsConflictShown (d : DatabaseValue) (base : ℕ) (read : List Tag) (conflict : Answered ℕ)
+    : Type 0 where
   pub known : IsBase d base
   pub first : IsConflict d.history base read conflict.answer
   pub front : conflict.front ≡ front_of d
 
--- a commit is refused as it is without a lock, but that it may be out of memory as soon as the base is known; a conflict
--- comes with a front
+-- a commit is refused as it is without a lock, but that it may be out of memory as soon as the base is
+-- known; a conflict comes with a front
 abbrev pub IsSharedCommitRefused : DatabaseValue → ℕ → List Tag → List Change → CommitError → Type 0
 IsSharedCommitRefused d base read changes (commits.Conflict conflict) = IsConflictShown d base read conflict
 IsSharedCommitRefused d base read changes (commits.Database (Conflict first)) = ⊥
 IsSharedCommitRefused d base read changes (commits.Database Memory) = IsBase d base
-IsSharedCommitRefused d base read changes (commits.Database refusal) = IsCommitRefused d base read changes refusal
+IsSharedCommitRefused d base read changes (commits.Database refusal) =
+    IsCommitRefused d base read changes refusal

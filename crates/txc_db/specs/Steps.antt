@@ -24,8 +24,8 @@ abbrev pub IsNetRefused : DatabaseValue → List Change → DbError → Type 0
 IsNetRefused d changes (Store cause) = IsStoreRefusedIn d changes cause
 IsNetRefused d changes e = e ≡ Memory
 
--- of an event that is to be appended: the row is full; else the store refused by itself, or out of memory, or another record
--- stands in the row
+-- of an event that is to be appended: the row is full; else the store refused by itself, or out of memory,
+-- or another record stands in the row
 abbrev pub IsAppendRefused : DatabaseValue → DbError → Type 0
 IsAppendRefused d Full = newest d ≡ length d.events
 IsAppendRefused d (Store cause) = (newest d < length d.events) × IsOwn cause

@@ -56,7 +56,9 @@ pub record WorkedNet : Type 0 where
   -- the last change of a row counts
   pub last : net_changes (state_at worked 4) (Put (row_of 8 99) ∷ Remove 1 8 ∷ []) ≡ Remove 1 8 ∷ []
   -- a row that goes to group 3: its id, its old group and its new one
-  pub moved : (commit_event (state_at worked 4) (Put (record { table = 1; id = 7; group = 3; body = 97 ∷ [] }) ∷ [])).tags ≡ id_tag 1 7 ∷ group_tag 1 2 ∷ group_tag 1 3 ∷ []
+  pub moved : (commit_event (state_at worked 4)
+      (Put (record { table = 1; id = 7; group = 3; body = 97 ∷ [] }) ∷ [])).tags
+      ≡ id_tag 1 7 ∷ group_tag 1 2 ∷ group_tag 1 3 ∷ []
 
 -- all of these
 pub record WorkedHistory : Type 0 where

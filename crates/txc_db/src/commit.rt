@@ -1,4 +1,5 @@
-//! Commits: conflicts with what was read, net changes against the newest state, and the event that is appended.
+//! Commits: conflicts with what was read, net changes against the newest state, and the event that is
+//! appended.
 ghost use Rattle.std.specs.Prelude.{◌≡◌, ◌≢◌, ◌+◌, ◌<◌, ◌≤◌, ◌++◌, ◌∷◌, [], ℕ, true, false, length, Ok, Err, IfOk, OnOk, OnErr, IfErr, IfSome, IfNone, IsOk, ◌↔◌};
 ghost use Rattle.txc_rows.specs.declared.query.Query.TheVariants.{ById};
 ghost use Rattle.txc_rows.specs.States.{answer, after_changes};
@@ -10,7 +11,8 @@ ghost use Rattle.txc_db.specs.History.{commit_event};
 ghost use Rattle.txc_db.specs.Facts.{commit};
 ghost use Rattle.txc_db.specs.NetWith.{IsNetWith};
 ghost use Rattle.txc_db.specs.Refusals.{IsConflict, NoneMatches};
-ghost use Rattle.txc_db.specs.Calls.{IsLeft, IsBase, AreFewNamed, row_query, matching_of, max_matching, IsCommittable, IsCommitRefused};
+ghost use Rattle.txc_db.specs.Calls.{IsLeft, IsBase, AreFewNamed, row_query, matching_of, IsCommittable, IsCommitRefused};
+ghost use Rattle.txc_rows.specs.declared.store_error.TheConstants.{MAX_MATCHING};
 ghost use Rattle.txc_db.specs.Steps.{IsBaseRefused, IsReadRefused, IsNetRefused, IsAppendRefused};
 
 use crate::db_core::DbCore;
@@ -52,7 +54,7 @@ impl DbCore {
         requires { self.old.broken ≡ false }
         ensures same { self.new ≡ self.old }
         ensures rows { IfOk result (λ rows. rows.items ≡ answer (ById table id) (newest_state self.old)) }
-        ensures few { IsOk result → matching_of self.old (ById table id) ≤ max_matching }
+        ensures few { IsOk result → matching_of self.old (ById table id) ≤ MAX_MATCHING }
         ensures refused { IfErr result (IsReadRefused self.old (ById table id)) }
     {
         let newest = self.front.newest();
@@ -61,12 +63,14 @@ impl DbCore {
         Ok(rows_at(alloc, &versions, &query, newest)?)
     }
 
-    /// Takes the change into the net changes, where it makes another state, and the tags of the rows that it finds.
+    /// Takes the change into the net changes, where it makes another state, and the tags of the rows that
+    /// it finds.
     fn add_change(&mut self, alloc: Global, net: &mut Net, change: &Change) -> Result<(), DbError>
         requires { self.old.broken ≡ false }
         ensures same { self.new ≡ self.old }
-        ensures net { OnOk result (IsNetWith (newest_state self.old) change.now net.old.changes.items net.new.changes.items net.old.tags net.new.tags) }
-        ensures few { IsOk result → matching_of self.old (row_query change.now) ≤ max_matching }
+        ensures net { OnOk result (IsNetWith (newest_state self.old) change.now
+            net.old.changes.items net.new.changes.items net.old.tags net.new.tags) }
+        ensures few { IsOk result → matching_of self.old (row_query change.now) ≤ MAX_MATCHING }
         ensures refused { IfErr result (IsReadRefused self.old (row_query change.now)) }
     {
         let rows = self.rows_now(alloc, table_of(change), id_of(change))?;
@@ -82,7 +86,8 @@ impl DbCore {
         requires { self.old.broken ≡ false }
         ensures same { self.new ≡ self.old }
         ensures changes { IfOk result (λ net. net.changes.items ≡ newest_net self.old changes.now) }
-        ensures tags { IfOk result (λ net. net.tags ≡ tags_between (newest_state self.old) (after_changes changes.now (newest_state self.old))) }
+        ensures tags { IfOk result (λ net. net.tags
+            ≡ tags_between (newest_state self.old) (after_changes changes.now (newest_state self.old))) }
         ensures few { IsOk result → AreFewNamed self.old changes.now }
         ensures refused { IfErr result (IsNetRefused self.old changes.now) }
     {
@@ -106,10 +111,13 @@ impl DbCore {
     /// Appends the commit of net changes of the newest state, with their tags.
     fn append_commit(&mut self, alloc: Global, net: Net) -> Result<Stamp, DbError>
         requires whole { self.old.broken ≡ false }
-        requires net { IsNet (newest_state self.old) net.changes.items (after_changes net.changes.items (newest_state self.old)) }
-        requires tags { net.tags ≡ tags_between (newest_state self.old) (after_changes net.changes.items (newest_state self.old)) }
+        requires net { let before = newest_state self.old
+            in IsNet before net.changes.items (after_changes net.changes.items before) }
+        requires tags { let before = newest_state self.old
+            in net.tags ≡ tags_between before (after_changes net.changes.items before) }
         ensures after { OnOk result (self.new
-            ≡ after_event_of self.old (record { fact = commit net.changes.items; tags = net.tags }) net.changes.items) }
+            ≡ after_event_of self.old (record { fact = commit net.changes.items; tags = net.tags })
+                net.changes.items) }
         ensures answer { IfOk result (λ stamp. stamp ≡ newest self.old + 1) }
         ensures room { IsOk result → newest self.old < length self.old.events }
         ensures unchanged { IfErr result (IsLeft self.old self.new) }
@@ -148,8 +156,8 @@ impl DbCore {
         Ok(newest)
     }
 
-    /// Commits the changes, where no event after the base has tags that match those read. It answers the newest stamp
-    /// that it leaves. Changes that change nothing add no event.
+    /// Commits the changes, where no event after the base has tags that match those read. It answers the
+    /// newest stamp that it leaves. Changes that change nothing add no event.
     pub fn commit(
         &mut self,
         alloc: Global,
@@ -180,7 +188,8 @@ impl DbCore {
 
 /// The event of a commit.
 fn commit_event(alloc: Global, net: Net) -> Result<Box<Event>, AllocError>
-    ensures { IfOk result (λ event. event.value ≡ record { fact = commit net.changes.items; tags = net.tags }) }
+    ensures { IfOk result (λ event. event.value
+        ≡ record { fact = commit net.changes.items; tags = net.tags }) }
 {
     let Net { changes, tags } = net;
     let event = Event {

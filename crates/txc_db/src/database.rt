@@ -26,9 +26,10 @@ use txc_validity::Found;
 
 /// A database that threads share.
 ///
-/// Each call that waits for the lock does the call of [`DbCore`] of its name and refuses as that does, for some history
-/// of the named row; what an answer says of the history, the front beside it shows. The front's room is a growth like
-/// any other. A database that was found `Broken` refuses each such call so from then on, whatever memory there is.
+/// Each call that waits for the lock does the call of [`DbCore`] of its name and refuses as that does, for
+/// some history of the named row; what an answer says of the history, the front beside it shows. The
+/// front's room is a growth like any other. A database that was found `Broken` refuses each such call so
+/// from then on, whatever memory there is.
 #[derive(Drop)]
 pub struct Database<J: Naming> {
     events: Arc<EventRow<Event>>,
@@ -38,13 +39,15 @@ pub struct Database<J: Naming> {
 }
 
 impl<J: Naming> Database<J> {
-    /// Puts the database under a lock. Its row is the named one. Where memory is refused, the database is dropped.
+    /// Puts the database under a lock. Its row is the named one. Where memory is refused, the database is
+    /// dropped.
     pub fn new(alloc: Global, core: DbCore) -> Result<Database<J>, AllocError>
         requires { core.events ≡ J.database_row }
     {
         let events = core.history().events_handle()?;
 
-        // The events that are there already have one mark, the others will have one each, so that there is room.
+        // The events that are there already have one mark, the others will have one each, so that there is
+        // room.
         let marks = Arc::new(alloc, EventRow::new(alloc, events.capacity())?)?;
         let locked = Locked::new(alloc, core, Arc::try_clone(&marks)?)?;
         Ok(Database {
@@ -54,8 +57,8 @@ impl<J: Naming> Database<J> {
         })
     }
 
-    /// The answer of the query at a stamp, with its validity up to the newest stamp, and the query's tag. The front
-    /// shows the whole history.
+    /// The answer of the query at a stamp, with its validity up to the newest stamp, and the query's tag.
+    /// The front shows the whole history.
     pub fn query(
         &self,
         rt: &impl Wait,
@@ -72,8 +75,8 @@ impl<J: Naming> Database<J> {
         self.lock.lock(rt).query(alloc, query, stamp)
     }
 
-    /// Holds the newest stamp, so that no vacuum passes it until the hold is taken away. The front shows the history
-    /// up to it.
+    /// Holds the newest stamp, so that no vacuum passes it until the hold is taken away. The front shows
+    /// the history up to it.
     pub fn hold(&self, rt: &impl Wait, alloc: Global) -> Result<Answered<Stamp>, DbError>
         ensures named { IfOk result (λ answered. answered.front.events ≡ J.database_row) }
         ensures answer { IfOk result (λ answered. answered.answer ≡ length answered.front.history) }
@@ -82,8 +85,9 @@ impl<J: Naming> Database<J> {
         self.lock.lock(rt).hold(alloc)
     }
 
-    /// Commits the changes, where no event after the base has tags that match those read. It answers the newest stamp
-    /// that it leaves, and the front shows the history up to it. Changes that change nothing add no event.
+    /// Commits the changes, where no event after the base has tags that match those read. It answers the
+    /// newest stamp that it leaves, and the front shows the history up to it. Changes that change nothing
+    /// add no event.
     pub fn commit(
         &self,
         rt: &impl Wait,
@@ -102,7 +106,8 @@ impl<J: Naming> Database<J> {
         self.lock.lock(rt).commit(alloc, base, read, changes)
     }
 
-    /// Appends a pin of the moment `now`, in milliseconds, and holds its stamp, which is not below `at_least`.
+    /// Appends a pin of the moment `now`, in milliseconds, and holds its stamp, which is not below
+    /// `at_least`.
     pub fn pin(
         &self,
         rt: &impl Wait,
@@ -142,8 +147,8 @@ impl<J: Naming> Database<J> {
         &self.events
     }
 
-    /// The row of the marks that the feeds read. Whoever appends to it breaks the database; tests do. No clause
-    /// names this row: nothing that callers see has a name for it.
+    /// The row of the marks that the feeds read. Whoever appends to it breaks the database; tests do. No
+    /// clause names this row: nothing that callers see has a name for it.
     pub fn marks(&self) -> &EventRow<Mark<J>> {
         &self.marks
     }

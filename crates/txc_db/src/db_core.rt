@@ -5,7 +5,8 @@ ghost use Rattle.txc_rows.specs.RowTags.{query_tag};
 ghost use Rattle.txc_validity.specs.Answers.{IsAnswer};
 ghost use Rattle.txc_db.specs.History.{state_at, pin_event};
 ghost use Rattle.txc_db.specs.Refusals.{IsWant};
-ghost use Rattle.txc_db.specs.Calls.{IsLeft, IsHoldable, IsHoldRefused, IsUnpinRefused, IsVacuumRefused, IsPinnable, IsPinRefused, IsAnswerable, matching_of, max_matching, IsQueryRefused};
+ghost use Rattle.txc_db.specs.Calls.{IsLeft, IsHoldable, IsHoldRefused, IsUnpinRefused, IsVacuumRefused, IsPinnable, IsPinRefused, IsAnswerable, matching_of, IsQueryRefused};
+ghost use Rattle.txc_rows.specs.declared.store_error.TheConstants.{MAX_MATCHING};
 
 use crate::error::DbError;
 use crate::event::{Event, What};
@@ -21,12 +22,12 @@ use txc_stream::{EventRow, MAX_CAPACITY};
 use txc_tags::TagSet;
 use txc_validity::{Found, answer_at};
 
-/// A versioned database for one thread: one history of commits and pins, the versions of the rows from the horizon on,
-/// and the stamps that are held.
+/// A versioned database for one thread: one history of commits and pins, the versions of the rows from the
+/// horizon on, and the stamps that are held.
 ///
-/// A stamp names the state after so many events of the history. `Memory` and `Store`, where the store refused by
-/// itself, may be answered by any call that needs memory or the store; every other refusal comes exactly where the
-/// clauses say.
+/// A stamp names the state after so many events of the history. `Memory` and `Store`, where the store
+/// refused by itself, may be answered by any call that needs memory or the store; every other refusal comes
+/// exactly where the clauses say.
 #[derive(Drop)]
 pub struct DbCore {
     pub(crate) store: VersionRows,
@@ -43,9 +44,15 @@ impl Model for DbCore {
 
     ghost Value = { DatabaseValue };
 
-    ghost view = { λ d. record { events = d.front.events; history = d.front.history; versions = d.store; horizon = d.horizon; holds = d.holds.items; broken = d.broken } };
+    ghost view = { λ d. record {
+        events = d.front.events; history = d.front.history; versions = d.store;
+        horizon = d.horizon; holds = d.holds.items; broken = d.broken
+    } };
 
-    ghost invariant = { λ d. d.broken ≡ false → IsSound (record { events = d.front.events; history = d.front.history; versions = d.store; horizon = d.horizon; holds = d.holds.items; broken = d.broken }) };
+    ghost invariant = { λ d. d.broken ≡ false → IsSound (record {
+        events = d.front.events; history = d.front.history; versions = d.store;
+        horizon = d.horizon; holds = d.holds.items; broken = d.broken
+    }) };
 }
 
 impl DbCore {
@@ -73,8 +80,9 @@ impl DbCore {
         })
     }
 
-    /// What holds of every database that is whole: each event stands beside its tags, the versions say each state from
-    /// the horizon to the newest stamp, and no held stamp is below the horizon. It does nothing when it runs.
+    /// What holds of every database that is whole: each event stands beside its tags, the versions say each
+    /// state from the horizon to the newest stamp, and no held stamp is below the horizon. It does nothing
+    /// when it runs.
     pub fn is_sound(&self)
         ensures { self.now.broken ≡ false → IsSound self.now }
     {
@@ -130,7 +138,7 @@ impl DbCore {
             IsAnswer (state_at self.old.history) query.now stamp self.old.horizon (newest self.old) found) }
         ensures tag { IfOk result (λ found. found.tags ≡ query_tag query.now ∷ []) }
         ensures only_if { IsOk result → IsAnswerable self.old stamp }
-        ensures few { IsOk result → matching_of self.old query.now ≤ max_matching }
+        ensures few { IsOk result → matching_of self.old query.now ≤ MAX_MATCHING }
         ensures refused { IfErr result (IsQueryRefused self.old query.now stamp) }
     {
         if self.broken {
@@ -151,7 +159,7 @@ impl DbCore {
         }
     }
 
-    /// Whether there is no room for one hold more.
+    /// Whether there is no room for one more hold.
     fn has_all_holds(&self) -> bool
         ensures { IsTrue result ↔ (MAX_HOLDS ≤ length self.now.holds) }
     {
@@ -210,8 +218,8 @@ impl DbCore {
         Ok(())
     }
 
-    /// Makes the horizon the least held stamp, or the newest where none is held, and drops the versions that no stamp
-    /// from there on shows.
+    /// Makes the horizon the least held stamp, or the newest where none is held, and drops the versions
+    /// that no stamp from there on shows.
     pub fn vacuum(&mut self) -> Result<Stamp, DbError>
         ensures after { OnOk result (self.new ≡ after_vacuum self.old) }
         ensures answer { IfOk result (λ horizon. horizon ≡ next_horizon self.old) }
@@ -250,7 +258,8 @@ impl DbCore {
         Ok(())
     }
 
-    /// Appends a pin of the moment `now`, in milliseconds, and holds its stamp, which is not below `at_least`.
+    /// Appends a pin of the moment `now`, in milliseconds, and holds its stamp, which is not below
+    /// `at_least`.
     pub fn pin(&mut self, alloc: Global, now: u64, at_least: Stamp) -> Result<Pinned, DbError>
         ensures after { OnOk result (self.new ≡ after_pin self.old now) }
         ensures answer { IfOk result (λ pinned. pinned.stamp ≡ newest self.new) }

@@ -3,7 +3,8 @@ use thiserror::Error;
 use txc_rows::StoreError;
 use txc_stamp::Stamp;
 
-/// Why a call of the database was refused. After it the database is as it was, but where a call found it `Broken`.
+/// Why a call of the database was refused. After it the database is as it was, but where a call found it
+/// `Broken`.
 #[derive(Clone, Copy, Debug, PartialEq, Eq, Error)]
 pub enum DbError {
     /// The stamp lies below the horizon, which is given.
@@ -15,8 +16,8 @@ pub enum DbError {
     /// The history has as many events as its row has cells.
     #[error("the history is full")]
     Full,
-    /// The store of the row versions refused: over 1,024 versions match, or it refused by itself, also
-    /// where it was out of memory of its own.
+    /// The store of the row versions refused: too many versions match, or it refused by itself, out of memory
+    /// for its own work or for another reason.
     #[error("{0}")]
     Store(StoreError),
     /// Another record stood in the row after the history. From then on each call is refused so.
@@ -28,10 +29,10 @@ pub enum DbError {
     /// The stamp lies beyond the newest one, which is given.
     #[error("the newest stamp is {0:?}")]
     FutureStamp(Stamp),
-    /// There are 65,536 holds.
+    /// There are [`crate::MAX_HOLDS`] holds.
     #[error("too many stamps are held")]
     HoldsFull,
-    /// A growth was refused.
+    /// The allocator had no memory.
     #[error("out of memory")]
     Memory,
 }
@@ -44,7 +45,9 @@ impl From<StoreError> for DbError {
     fn from(cause: StoreError) -> DbError {
         match cause {
             StoreError::Memory => DbError::Memory,
-            StoreError::TooManyRows | StoreError::Store(_) => DbError::Store(cause),
+            StoreError::TooManyRows | StoreError::Store(_) | StoreError::StoreMemory => {
+                DbError::Store(cause)
+            }
         }
     }
 }

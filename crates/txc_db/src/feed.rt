@@ -14,8 +14,8 @@ use txc_stream::{EventRow, Front, prefix_of_itself, prefix_of_prefix};
 
 /// A front of the named row, left for others to read.
 ///
-/// The database makes one for each event that it appends, and leaves it in a second row. Whoever reads it there knows
-/// by its type what the database knew, and needs no lock for it.
+/// The database makes one for each event that it appends, and leaves it in a second row. Whoever reads it
+/// there knows by its type what the database knew, and needs no lock for it.
 #[derive(Drop)]
 pub struct Mark<J: Naming> {
     front: HistoryFront,
@@ -75,7 +75,8 @@ impl<J: Naming> Model for Feed<J> {
 
     ghost view = { λ f. record { history = f.front.history; taken = f.taken } };
 
-    ghost invariant = { λ f. (f.front.events ≡ J.database_row) × (f.read.row ≡ arc_value f.marks) × (f.taken ≤ length f.front.history) };
+    ghost invariant = { λ f. (f.front.events ≡ J.database_row) × (f.read.row ≡ arc_value f.marks)
+        × (f.taken ≤ length f.front.history) };
 }
 
 impl<J: Naming> Feed<J> {
@@ -108,8 +109,8 @@ impl<J: Naming> Feed<J> {
         true
     }
 
-    /// Looks whether there is an event after those that were taken. It takes no lock and no memory. That `false`
-    /// means that none was there yet is no clause, since one may be appended at any moment.
+    /// Looks whether there is an event after those that were taken. It takes no lock and no memory. That
+    /// `false` means that none was there yet is no clause, since one may be appended at any moment.
     pub fn look(&mut self) -> bool
         ensures next { IsTrue result ↔ (self.new.taken < length self.new.history) }
         ensures taken { self.new.taken ≡ self.old.taken }

@@ -16,8 +16,8 @@ use txc_stream::{EventRow, Front};
 
 /// A prefix of the history of a database, as somebody has seen it. Each event in it stands beside its tags.
 ///
-/// Contracts see the names of the row's cells and the events seen. It has a handle of the row, so that whoever has one
-/// can read it, copy it and compare it with others of its row.
+/// Contracts see the names of the row's cells and the events seen. It has a handle of the row, so that
+/// whoever has one can read it, copy it and compare it with others of its row.
 #[derive(Drop)]
 pub struct HistoryFront {
     events: Arc<EventRow<Event>>,
@@ -114,7 +114,8 @@ impl HistoryFront {
         self.events.get(&self.front, number - 1)
     }
 
-    /// Takes over what the other shows beyond this one, so that this one shows the longer history. It takes no memory.
+    /// Takes over what the other shows beyond this one, so that this one shows the longer history. It takes
+    /// no memory.
     pub fn longer(&mut self, other: &HistoryFront)
         requires { other.now.events ≡ self.old.events }
         ensures events { self.new.events ≡ self.old.events }
@@ -147,7 +148,8 @@ impl HistoryFront {
         requires room { length self.old.history < length self.old.events }
         requires tagged { let before = state_at self.old.history (length self.old.history)
             in event.value.tags ≡ tags_between before (after_event before event.value) }
-        ensures after { OnOk result (self.new ≡ record self.old { history = self.old.history ++ event.value ∷ [] }) }
+        ensures after { OnOk result (self.new
+            ≡ record self.old { history = self.old.history ++ event.value ∷ [] }) }
         ensures unchanged { IfErr result (λ refusal. self.new ≡ self.old) }
         ensures refused { IfErr result (λ refusal. refusal ≡ DbError.Broken) }
     {

@@ -1,10 +1,11 @@
-//! Laws over the definitions alone. None has anything to run: each one's contract is the law.
+//! What the definitions come to. Each is a lemma: it has no code.
 ghost use Rattle.txc_db.specs.Laws.{EventTagsAreSound, StatesStay, TagsStay, PinsChangeNothing, OneHoldLess};
 ghost use Rattle.txc_db.specs.Worked.{WorkedHistory};
 
 use txc_rows::states_are_maps;
 
-/// Where an event's tags do not match a set that covers a query, its answer is the same before and after the event.
+/// Where an event's tags do not match a set that covers a query, its answer is the same before and after
+/// the event.
 pub fn tags_are_sound()
     ensures { EventTagsAreSound }
 {

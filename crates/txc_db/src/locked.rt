@@ -7,7 +7,8 @@ ghost use Rattle.txc_validity.specs.Answers.{IsAnswer};
 ghost use Rattle.txc_db.specs.History.{state_at};
 ghost use Rattle.txc_db.specs.Seen.{last_mark};
 ghost use Rattle.txc_db.specs.DatabaseValue.{DatabaseValue, front_of, after_hold, after_unpin, after_vacuum, after_pin, after_commit, newest, next_horizon, is_held};
-ghost use Rattle.txc_db.specs.Calls.{IsHoldable, IsHoldRefused, IsUnpinRefused, IsVacuumRefused, IsAnswerable, matching_of, max_matching, IsQueryRefused, IsPinnable, IsPinRefused, IsCommittable};
+ghost use Rattle.txc_db.specs.Calls.{IsHoldable, IsHoldRefused, IsUnpinRefused, IsVacuumRefused, IsAnswerable, matching_of, IsQueryRefused, IsPinnable, IsPinRefused, IsCommittable};
+ghost use Rattle.txc_rows.specs.declared.store_error.TheConstants.{MAX_MATCHING};
 ghost use Rattle.txc_db.specs.Shared.{IsSharedCommitRefused};
 ghost use Rattle.txc_db.specs.Locked.{IsLockedLeft, IsCommitLeft, IsRefusalWith};
 
@@ -28,8 +29,8 @@ use txc_stream::{EventRow, Front};
 use txc_tags::TagSet;
 use txc_validity::Found;
 
-/// What lies under the lock: the named database, and the marks that it left for the feeds. While it is whole, the last
-/// mark shows its whole history.
+/// What lies under the lock: the named database, and the marks that it left for the feeds. While it is
+/// whole, the last mark shows its whole history.
 #[derive(Drop)]
 pub(crate) struct Locked<J: Naming> {
     core: DbCore,
@@ -47,7 +48,8 @@ impl<J: Naming> Model for Locked<J> {
 
     ghost view = { λ l. l.core };
 
-    ghost invariant = { λ l. (l.core.events ≡ J.database_row) × (l.marked.row ≡ arc_value l.marks) × (l.core.broken ≡ false → last_mark l.marked.list ≡ l.core.history) };
+    ghost invariant = { λ l. (l.core.events ≡ J.database_row) × (l.marked.row ≡ arc_value l.marks)
+        × (l.core.broken ≡ false → last_mark l.marked.list ≡ l.core.history) };
 }
 
 impl<J: Naming> Locked<J> {
@@ -81,12 +83,12 @@ impl<J: Naming> Locked<J> {
     ) -> Result<Answered<Found>, DbError>
         ensures named { self.old.events ≡ J.database_row }
         ensures same { self.new ≡ self.old }
-        ensures answer { IfOk result (λ answered.
-            IsAnswer (state_at self.old.history) query.now stamp self.old.horizon (newest self.old) answered.answer) }
+        ensures answer { IfOk result (λ answered. IsAnswer (state_at self.old.history) query.now stamp
+            self.old.horizon (newest self.old) answered.answer) }
         ensures tag { IfOk result (λ answered. answered.answer.tags ≡ query_tag query.now ∷ []) }
         ensures front { IfOk result (λ answered. answered.front ≡ front_of self.old) }
         ensures only_if { IsOk result → IsAnswerable self.old stamp }
-        ensures few { IsOk result → matching_of self.old query.now ≤ max_matching }
+        ensures few { IsOk result → matching_of self.old query.now ≤ MAX_MATCHING }
         ensures refused { IfErr result (IsQueryRefused self.old query.now stamp) }
     {
         let answer = self.core.query(alloc, query, stamp)?;

@@ -4,7 +4,8 @@ ghost use Rattle.std.specs.List.{insert, list_any};
 ghost use Rattle.txc_tags.specs.Tags.{with_tags};
 ghost use Rattle.txc_rows.specs.declared.query.Query.TheVariants.{ById};
 ghost use Rattle.txc_rows.specs.States.{State, answer};
-ghost use Rattle.txc_rows.specs.RowTags.{tags_of_row, same_row};
+ghost use Rattle.txc_rows.specs.Values.{same_row};
+ghost use Rattle.txc_rows.specs.RowTags.{tags_of_row};
 ghost use Rattle.txc_rows.specs.Net.{change_table, change_id, same_key, key_before, changes_state, placed, settled, puts_of};
 
 use std::alloc::{AllocError, Global};
@@ -42,9 +43,11 @@ fn is_key_before(one: &Change, other: &Change) -> bool
     table < other_table || table == other_table && id_of(one) < id_of(other)
 }
 
-/// Where the change belongs among those that settle later ones, or none where one of them has its table and id.
+/// Where the change belongs among those that settle later ones, or none where one of them has its table and
+/// id.
 fn place_of(change: &Change, settled: &[Change]) -> Option<usize>
-    ensures { MatchOption result (placed change.now settled.now ≡ settled.now) (λ at. (at ≤ length settled.now) × (insert settled.now at change.now ≡ placed change.now settled.now)) }
+    ensures { MatchOption result (placed change.now settled.now ≡ settled.now) (λ at. (at ≤ length settled.now)
+        × (insert settled.now at change.now ≡ placed change.now settled.now)) }
 {
     for (at, other) in settled.iter().enumerate() {
         if is_same_key(change, other) {
@@ -73,21 +76,16 @@ pub(crate) fn settle(alloc: Global, changes: &[Change]) -> Result<Vec<Change>, A
     Ok(last)
 }
 
-fn is_same(one: &Row, other: &Row) -> bool
-    ensures { result ≡ same_row one.now other.now }
-{
-    one.is_same(other)
-}
-
 fn has_row(rows: &[Row], row: &Row) -> bool
     ensures { result ≡ list_any (same_row row.now) rows.now }
 {
-    rows.iter().any(|old| is_same(row, old))
+    rows.iter().any(|old| row == old)
 }
 
 /// Whether the change makes another state, where these are the rows at its table and id.
 pub(crate) fn makes_another(change: &Change, rows: &[Row]) -> bool
-    ensures { (s : State) → rows.now ≡ answer (ById (change_table change.now) (change_id change.now)) s → result ≡ changes_state s change.now }
+    ensures { (s : State) → rows.now ≡ answer (ById (change_table change.now) (change_id change.now)) s
+        → result ≡ changes_state s change.now }
 {
     match change {
         Change::Put(row) => !has_row(rows, row),

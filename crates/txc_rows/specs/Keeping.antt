@@ -16,8 +16,8 @@ pub record KeepsStates (states : ℕ → State) (horizon newest : ℕ) (vs : Lis
   pub says : SaysStates states horizon newest vs
   pub versions : AreVersions vs
 
--- after the newest stamp the state stays up to the one before the stamp, and there the net changes lead to the
--- next
+-- after the newest stamp the state stays up to the one before the stamp, and there the net changes lead to
+-- the next
 pub record Leads (states : ℕ → State) (newest stamp : ℕ) (net : List Change) : Type 0 where
   pub later : newest < stamp
   pub quiet : (t : ℕ) → newest ≤ t → t < stamp → states t ≡ states newest
@@ -27,7 +27,8 @@ pub record Leads (states : ℕ → State) (newest stamp : ℕ) (net : List Chang
 -- the new ones keep the states up to it
 abbrev pub KeepsWritten : List Change → ℕ → List Versioned → List Versioned → Type 0
 KeepsWritten net stamp old new = (states : ℕ → State) (horizon newest : ℕ)
-    → KeepsStates states horizon newest old → Leads states newest stamp net → KeepsStates states horizon stamp new
+    → KeepsStates states horizon newest old → Leads states newest stamp net
+    → KeepsStates states horizon stamp new
 
 -- where the old versions keep the states up to a stamp not before the next horizon,
 -- the new ones keep those from that horizon on
@@ -35,9 +36,9 @@ abbrev pub KeepsPurged : ℕ → List Versioned → List Versioned → Type 0
 KeepsPurged next old new = (states : ℕ → State) (horizon newest : ℕ) → KeepsStates states horizon newest old
     → horizon ≤ next → next ≤ newest → KeepsStates states next newest new
 
--- what is visible of the found versions at a kept stamp is the query's answer in its state. Of one table and
--- id the found versions follow one another: one at most is visible, and where one is born as another dies they
--- differ.
+-- what is visible of the found versions at a kept stamp is the query's answer in its state. Of one table
+-- and id the found versions follow one another: one at most is visible, and where one is born as another
+-- dies they differ.
 pub record ShowsAnswers (q : Query) (states : ℕ → State) (horizon newest : ℕ) (found : List Versioned)
     : Type 0 where
   pub answers : (t : ℕ) → horizon ≤ t → t ≤ newest → shown_at q t found ≡ answer q (states t)

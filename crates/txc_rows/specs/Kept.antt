@@ -1,4 +1,4 @@
--- What a connection over the table of versions keeps. Words for private functions alone.
+-- What a connection over the table of versions keeps: words that only this crate's private functions promise.
 use Rattle.std.specs.Prelude.{◌≡◌, ℕ, Bool, true, false, List, map, filter, Result, Vec, OnOk, OnErr, IfOk}
 use Rattle.std.specs.declared.alloc.Global.{Global}
 use Rattle.sqlite.specs.declared.error.Error.{Error}

@@ -1,4 +1,4 @@
--- What is said of states, answers, net changes and versions alone.
+-- What the definitions of states, answers, net changes and versions come to.
 use Rattle.std.specs.Prelude.{ℕ, suc, ◌≡◌, ◌≢◌, ◌≤◌, ◌↔◌, ◌&&◌, ◌==◌, true, Bool, List, [], ◌++◌, false, Option, Some, None, if◌then◌else◌}
 use Rattle.std.specs.List.{list_any, flat_map}
 use Rattle.txc_tags.specs.declared.tag.Tag.{Tag}
@@ -83,7 +83,8 @@ SaysAgree = (states others : ℕ → State) (horizon newest : ℕ) (vs : List Ve
 -- a write of net changes at the next stamp says the state that they lead to, and all those before it
 abbrev pub SaysWritten : Type 0
 SaysWritten = (states : ℕ → State) (horizon newest : ℕ) (net : List Change) (vs : List Versioned)
-    → horizon ≤ newest → states (suc newest) ≡ after_changes net (states newest) → SaysStates states horizon newest vs
+    → horizon ≤ newest → states (suc newest) ≡ after_changes net (states newest)
+    → SaysStates states horizon newest vs
     → SaysStates states horizon (suc newest) (after_net (suc newest) net vs)
 
 -- a stamp at which no state changes

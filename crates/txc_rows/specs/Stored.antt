@@ -1,4 +1,5 @@
--- How a version stands in the table, and how it is read back.
+-- How a version stands in the table, and how it is read back: words that only this crate's private functions
+-- promise.
 use Rattle.std.specs.Prelude.{◌≡◌, ℕ, ℤ, pos, negsuc, List, [], ◌∷◌, map, Option, Some, None}
 use Rattle.std.specs.List.{AllByRecursion}
 use Rattle.sqlite.specs.Tree.{rowid, IsTable}

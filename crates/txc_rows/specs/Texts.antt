@@ -1,4 +1,4 @@
--- The table of the versions in the store.
+-- The table of the versions in the store: words that only this crate's private functions promise.
 use Rattle.std.specs.Prelude.{Bool, true, false, [], ◌∷◌, None, codes, List, ℕ}
 use Rattle.sqlite.specs.Collation.TheVariants.{Binary}
 use Rattle.sqlite.specs.declared.types.Value.TheVariants.{Null}

@@ -7,8 +7,8 @@ use Rattle.txc_rows.specs.Values.{RowValue}
 abbrev pub HoldsOn : (ℕ → List RowValue) → ℕ → ℕ → ℕ → Type 0
 HoldsOn answers t first last = (s : ℕ) → first ≤ s → s ≤ last → answers s ≡ answers t
 
--- the largest interval of stamps around t, from the horizon to the newest stamp, on which the answer is the same
--- list; it is known to its last stamp, and still valid where that is the newest
+-- the largest interval of stamps around t, from the horizon to the newest stamp, on which the answer is the
+-- same list; it is known to its last stamp, and still valid where that is the newest
 pub record IsValidity (answers : ℕ → List RowValue) (t horizon newest : ℕ) (reach : Interval) : Type 0 where
   pub low : horizon ≤ reach.lo
   pub around : (reach.lo ≤ t) × (t ≤ reach.known)

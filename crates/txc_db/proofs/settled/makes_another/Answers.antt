@@ -3,7 +3,7 @@ use Rattle.std.specs.List.{list_any}
 use Rattle.txc_rows.specs.Values.{RowValue}
 use Rattle.txc_rows.specs.States.{answer}
 use Rattle.txc_rows.specs.Net.{change_table, change_id, changes_state}
-use Rattle.txc_rows.specs.RowTags.{same_row}
+use Rattle.txc_rows.specs.Values.{same_row}
 use Rattle.txc_rows.specs.declared.query.Change.{Change}
 use Rattle.txc_rows.specs.declared.query.Query.TheVariants.{ById}
 use Rattle.txc_db.proofs.Settling.{has_at, some_at}

@@ -6,7 +6,8 @@ use Rattle.txc_rows.specs.Keeping.{ShowsAnswers}
 use Rattle.txc_validity.specs.Answers.{IsAnswer}
 use Rattle.txc_db.specs.History.{state_at}
 use Rattle.txc_db.specs.DatabaseValue.{DatabaseValue, newest}
-use Rattle.txc_db.specs.Calls.{matching_of, max_matching}
+use Rattle.txc_db.specs.Calls.{matching_of}
+use Rattle.txc_rows.specs.declared.store_error.TheConstants.{MAX_MATCHING}
 use Rattle.txc_db.proofs.db_core.DbCore.query.Goals as goal
 
 pub answer_at-requires : goal.answer_at-requires
@@ -29,5 +30,5 @@ returns-in-Ok-clause-answer c =
 
 pub returns-in-Ok-clause-few : goal.returns-in-Ok-clause-few
 returns-in-Ok-clause-few c = λ _.
-    subst (λ (v : DatabaseValue). matching_of v c.args.query.now ≤ max_matching) c.self.view_is
-    (subst (λ (n : ℕ). n ≤ max_matching) (length_permutation (filter (suits c.args.query.now) c.self.inside.store) c.in_ok-versions.versions.items c.in_ok-versions.ensures.found.same) c.in_ok-versions.ensures.most)
+    subst (λ (v : DatabaseValue). matching_of v c.args.query.now ≤ MAX_MATCHING) c.self.view_is
+    (subst (λ (n : ℕ). n ≤ MAX_MATCHING) (length_permutation (filter (suits c.args.query.now) c.self.inside.store) c.in_ok-versions.versions.items c.in_ok-versions.ensures.answer.same) c.in_ok-versions.ensures.bound)

@@ -7,7 +7,8 @@ use Rattle.txc_rows.specs.Versions.{shown_at, suits}
 use Rattle.txc_rows.specs.Keeping.{ShowsAnswers}
 use Rattle.txc_db.specs.History.{state_at}
 use Rattle.txc_db.specs.DatabaseValue.{DatabaseValue, newest_state}
-use Rattle.txc_db.specs.Calls.{matching_of, max_matching}
+use Rattle.txc_db.specs.Calls.{matching_of}
+use Rattle.txc_rows.specs.declared.store_error.TheConstants.{MAX_MATCHING}
 use Rattle.txc_db.proofs.db_core.DbCore.rows_now.Goals as goal
 
 pub returns-clause-rows : goal.returns-clause-rows
@@ -23,5 +24,5 @@ returns-clause-rows c =
 pub returns-clause-few : goal.returns-clause-few
 returns-clause-few c = λ _.
     let query = ById c.args.table c.args.id in
-    subst (λ (v : DatabaseValue). matching_of v (ById c.args.table c.args.id) ≤ max_matching) c.self.view_is
-    (subst (λ (n : ℕ). n ≤ max_matching) (length_permutation (filter (suits query) c.self.inside.store) c.in_ok-versions.versions.items c.in_ok-versions.ensures.found.same) c.in_ok-versions.ensures.most)
+    subst (λ (v : DatabaseValue). matching_of v (ById c.args.table c.args.id) ≤ MAX_MATCHING) c.self.view_is
+    (subst (λ (n : ℕ). n ≤ MAX_MATCHING) (length_permutation (filter (suits query) c.self.inside.store) c.in_ok-versions.versions.items c.in_ok-versions.ensures.answer.same) c.in_ok-versions.ensures.bound)
