@@ -10,6 +10,7 @@ pub mod TextReading
 pub mod TextDigits
 pub mod TextJoined
 pub mod TextTags
+pub mod TextKeys
 pub mod Sixteen
 pub mod Merging
 pub mod Offered

@@ -338,3 +338,33 @@ longest Allowed write text rest g = record {
 pub handed_on : {T E : Type 0} (P : E → Type 0) (r : Result T E) (error : E) → IsErrAnd r (λ e. e ≡ error) → P error → IfErr r P
 handed_on P (Ok value) error is h = absurd is
 handed_on P (Err e) error is h = subst P (sym is) h
+
+-- ---- one byte alone, or something else
+
+-- a text where the byte alone goes wrong goes wrong at once, and does not begin with it
+pub other_byte : (byte : ℕ) (text rest : List ℕ) → GoesWrong (IsWord (byte ∷ [])) text rest → (text ≡ rest) × ((others : List ℕ) → text ≡ byte ∷ others → ⊥)
+other_byte byte text rest g = by_read g.stops.read g.stops.parts g.stops.begins.1 g.stops.no_more g.open_end
+  where
+    by_read : (read : List ℕ) → text ≡ read ++ rest → read ++ g.stops.begins.0 ≡ byte ∷ [] → NoneGoesOn (IsWord (byte ∷ [])) read rest → (read ≡ byte ∷ [] → ⊥) → (text ≡ rest) × ((others : List ℕ) → text ≡ byte ∷ others → ⊥)
+    by_read [] parts whole none no_end = (parts, λ others e. none byte others [] (sym parts ∙ e) refl)
+    by_read (b ∷ []) parts whole none no_end = absurd (no_end (let f : b ≡ byte = cc in ap (λ (c : ℕ). c ∷ []) f))
+    by_read (b ∷ c ∷ read) parts whole none no_end = absurd (cc)
+
+module _ (byte : ℕ) (Second : List ℕ → Type 0) (text : List ℕ) where
+  pub other_refused : (rest : List ℕ) → ((others : List ℕ) → text ≡ byte ∷ others → ⊥) → IsRefused Second text rest → IsRefused (Either (IsWord (byte ∷ [])) Second) text rest
+  other_refused rest other g = record {
+    stops = record { read = g.stops.read; parts = g.stops.parts; begins = (g.stops.begins.0, inr g.stops.begins.1); no_more = no_more };
+    none = none;
+  }
+    where
+      by_read : (read : List ℕ) (b : ℕ) (others more : List ℕ) → text ≡ read ++ rest → rest ≡ b ∷ others → read ++ b ∷ more ≡ byte ∷ [] → ⊥
+      by_read [] b others more parts e k = other others (parts ∙ e ∙ ap (λ (c : ℕ). c ∷ others) (let f : b ≡ byte = cc in f))
+      by_read (c ∷ read) b others more parts e k = other (read ++ rest) (parts ∙ ap (λ (d : ℕ). d ∷ (read ++ rest)) (let f : c ≡ byte = cc in f))
+
+      no_more : NoneGoesOn (Either (IsWord (byte ∷ [])) Second) g.stops.read rest
+      no_more b others more e (inl k) = by_read g.stops.read b others more g.stops.parts e k
+      no_more b others more e (inr k) = g.stops.no_more b others more e k
+
+      none : Either (IsWord (byte ∷ [])) Second text → ⊥
+      none (inl k) = other [] k
+      none (inr k) = g.none k

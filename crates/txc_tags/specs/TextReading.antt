@@ -1,5 +1,5 @@
 -- Only proofs need this file: what the readers of a piece of text come to. A language is a set of texts.
-use Rattle.std.specs.Prelude.{◌≡◌, ◌+◌, ◌≤◌, ◌⊎◌, ℕ, List, ◌∷◌, ◌++◌, length, All}
+use Rattle.std.specs.Prelude.{◌≡◌, ◌+◌, ◌≤◌, ◌⊎◌, ℕ, List, [], ◌∷◌, ◌++◌, length, All}
 use Rattle.std.specs.List.{flat_map}
 use Rattle.std.specs.Fmt.{decimal}
 use Rattle.txc_tags.specs.TextGrammar.{IsText}
@@ -54,3 +54,9 @@ pub record GoesWrong (Language : List ℕ → Type 0) (text rest : List ℕ) : T
 pub record IsRefused (Language : List ℕ → Type 0) (text rest : List ℕ) : Type 0 where
   pub stops : Stops Language text rest
   pub none : Language text → ⊥
+
+-- items were read, each with a comma after it; where the rest is refused, the text is
+pub record HasRead {V : Type 0} (Allowed : V → Type 0) (write : V → List ℕ) (end : List ℕ) (Few : ℕ → Type 0) (text rest : List ℕ) (items : List V) : Type 0 where
+  pub all : All Allowed items
+  pub parts : text ≡ flat_map (λ item. write item ++ 44 ∷ []) items ++ rest
+  pub refused : (last : List ℕ) → IsRefused (IsJoined Allowed write end Few (length items)) rest last → IsRefused (IsJoined Allowed write end Few 0) text last
