@@ -12,5 +12,6 @@ pub mod TextJoined
 pub mod TextTags
 pub mod TextKeys
 pub mod Sixteen
+pub mod TextSets
 pub mod Merging
 pub mod Offered

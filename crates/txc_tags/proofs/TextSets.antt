@@ -1,0 +1,129 @@
+-- The text of a set of tags: a dash, or tags joined by commas.
+use Rattle.std.proofs.Common.{◌≡◌, Result, Ok, Err, IfOk, ⊤, ℕ, ◌+◌, inl, inr, false, ◌==◌, All, List, [], ◌∷◌, ◌++◌, map, codes, length, refl, sym, ap, subst, ◌∙◌, arith, append_assoc, append-nil}
+use Rattle.std.specs.Result.{IsOkAnd}
+use Rattle.std.specs.List.{flat_map, join_with_byte}
+use Rattle.std.proofs.lemmas.List.Elements.{All-head, All-tail, All-nil, All-cons, All-push}
+use Rattle.std.proofs.lemmas.Bool.Decides.{nat_tests}
+use Rattle.txc_tags.specs.declared.tag.Tag.{Tag}
+use Rattle.txc_tags.specs.declared.text.tag.Spelling.TheVariants.{Usual}
+use Rattle.txc_tags.specs.Tags.{with_tag, set_of, IsCanonical}
+use Rattle.txc_tags.specs.TextGrammar.{IsText, IsTextOf}
+use Rattle.txc_tags.specs.TextReading.{IsWord, Either, Reads, GoesWrong, IsRefused, IsMore, IsJoined, HasRead}
+use Rattle.txc_tags.specs.TextTag.{tag_text, IsTagInRange}
+use Rattle.txc_tags.specs.TextSet.{tags_text, AreTagsInRange, IsSetOfText}
+use Rattle.txc_tags.proofs.Sixteen.{set_of_set, with_tags_push}
+use Rattle.txc_tags.proofs.TextReading.{Distinct, Solid, alike_refused, first_reads, trailing_refused, other_refused, other_byte}
+use Rattle.txc_tags.proofs.TextJoined as joined
+use Rattle.txc_tags.proofs.TextJoined.{join_others}
+use Rattle.txc_tags.proofs.TextTags.{spelled_solid, same_spelled}
+
+-- any number of tags
+abbrev pub Any : ℕ → Type 0
+Any n = ⊤
+
+abbrev IsTag : List ℕ → Type 0
+IsTag = IsText IsTagInRange tag_text
+
+tag_solid : Solid IsTag
+tag_solid = spelled_solid Usual
+
+no_comma : (rest : List ℕ) → ◌≡◌ {A = List ℕ} [] (44 ∷ rest) → ⊥
+no_comma rest e = cc
+
+abbrev pub Tags : List ℕ → Type 0
+Tags = IsJoined IsTagInRange tag_text [] Any 0
+
+-- ---- a set is a dash, or tags
+
+abbrev IsSet : List ℕ → Type 0
+IsSet = IsText AreTagsInRange tags_text
+
+tags_parts : (tag : Tag) (tags : List Tag) → tags_text (tag ∷ tags) ≡ tag_text tag ++ (flat_map (λ t. 44 ∷ tag_text t) tags ++ [])
+tags_parts tag tags = join_others tag_text tag tags ∙ ap (λ xs. tag_text tag ++ xs) (sym (append-nil (flat_map (λ t. 44 ∷ tag_text t) tags)))
+
+to_tags : (text : List ℕ) → IsSet text → Either (IsWord (45 ∷ [])) Tags text
+to_tags text ([], h) = inl h.1
+to_tags text (tag ∷ tags, (all, e)) = inr (tag_text tag, flat_map (λ t. 44 ∷ tag_text t) tags ++ [], (tag, (All-head IsTagInRange tag tags all, refl)), (tags, All-tail IsTagInRange tag tags all, tt, refl), e ∙ tags_parts tag tags)
+
+from_tags : (text : List ℕ) → Either (IsWord (45 ∷ [])) Tags text → IsSet text
+from_tags text (inl e) = ([], (All-nil IsTagInRange, e))
+from_tags text (inr (x, y, (tag, (l, d)), (tags, all, few, f), e)) = (tag ∷ tags, (All-cons IsTagInRange tag tags l all, e ∙ ap (λ t. t ++ y) d ∙ ap (λ t. tag_text tag ++ t) f ∙ sym (tags_parts tag tags)))
+
+letter_first : (tag : Tag) (r s : List ℕ) → tag_text tag ++ r ≡ 45 ∷ s → ⊥
+letter_first tag r s e = let w : ◌≡◌ {A = ℕ} 116 45 = cc in omega (arith, w)
+
+dash_apart : Distinct (IsWord (45 ∷ [])) Tags
+dash_apart x y h (u, v, (tag, (l, d)), k, e) = letter_first tag v y (ap (λ t. t ++ v) (sym d) ∙ sym e ∙ ap (λ t. t ++ y) h)
+
+-- a dash, and something after it
+pub dash_refused : (text rest : List ℕ) → false ≡ (length rest == 0) → Reads (IsWord (45 ∷ [])) text (45 ∷ []) rest → IsRefused IsSet text rest
+dash_refused text rest left r = alike_refused (Either (IsWord (45 ∷ [])) Tags) IsSet from_tags to_tags text rest
+    (trailing_refused (Either (IsWord (45 ∷ [])) Tags) text (45 ∷ []) rest left (first_reads (IsWord (45 ∷ [])) Tags dash_apart text (45 ∷ []) rest r))
+
+-- ---- the tags
+
+some_tags : (tags : List Tag) (tag : Tag) → tags_text (tags ++ tag ∷ []) ≡ join_with_byte 44 (map tag_text (tags ++ tag ∷ []))
+some_tags [] tag = refl
+some_tags (a ∷ tags) tag = refl
+
+-- tags were read, and the set is that of them
+pub record HasTags (text rest : List ℕ) (set : List Tag) : Type 0 where
+  pub tags : List Tag
+  pub read : HasRead IsTagInRange tag_text [] Any text rest tags
+  pub set_is : set ≡ set_of tags
+
+pub no_tags : (text : List ℕ) → HasTags text text []
+no_tags text = record { tags = []; read = joined.nothing_read IsTagInRange tag_text [] Any tag_solid tt no_comma text; set_is = refl }
+
+module _ (text rest : List ℕ) (set : List Tag) (read : HasTags text rest set) (no_dash : (others : List ℕ) → text ≡ 45 ∷ others → ⊥) where
+  refused : (last : List ℕ) → IsRefused (IsJoined IsTagInRange tag_text [] Any (length read.tags)) rest last → IsRefused IsSet text last
+  refused last g = alike_refused (Either (IsWord (45 ∷ [])) Tags) IsSet from_tags to_tags text last (other_refused 45 Tags text last no_dash (read.read.refused last g))
+
+  pub tag_wrong : (last : List ℕ) → GoesWrong IsTag rest last → IsRefused IsSet text last
+  tag_wrong last g = refused last (joined.item_refused IsTagInRange tag_text [] Any tag_solid tt no_comma (length read.tags) rest last tt g)
+
+  module _ (tag : Tag) (after : List ℕ) (in_range : IsTagInRange tag) (one : Reads IsTag rest (tag_text tag) after) where
+    -- something else than a comma
+    pub comma_wrong : (last : List ℕ) → false ≡ (length after == 0) → GoesWrong (IsWord (44 ∷ [])) after last → IsRefused IsSet text last
+    comma_wrong last left g =
+        let other = other_byte 44 after last g in
+        let some : after ≡ [] → ⊥ = λ e. (let n : length after ≡ 0 = ap length e in grind (arith, n, left, nat_tests)) in
+        subst (IsRefused IsSet text) other.0
+        (refused after (joined.after_refused IsTagInRange tag_text [] Any tag_solid tt no_comma (length read.tags) rest (tag_text tag) after after one
+          (joined.neither_refused IsTagInRange tag_text [] Any tag_solid tt no_comma (length read.tags + 1) after tt some (λ byte others more e is. absurd (cc)) (λ others n e few. other.1 others e))))
+
+    pub one_more : (next : List ℕ) → after ≡ 44 ∷ next → HasTags text next (with_tag tag set)
+    one_more next e = record {
+      tags = read.tags ++ tag ∷ [];
+      read = joined.read_more IsTagInRange tag_text [] Any tag_solid tt no_comma text rest after next read.tags tag read.read in_range one e;
+      set_is = ap (with_tag tag) read.set_is ∙ sym (with_tags_push read.tags [] tag);
+    }
+
+    pub all_tags : after ≡ [] → IsSetOfText text (with_tag tag set)
+    all_tags e = (
+      read.tags ++ tag ∷ [],
+      (All-push IsTagInRange read.tags tag read.read.all in_range, joined.read_all IsTagInRange tag_text [] Any tag_solid tt no_comma text rest after read.tags tag read.read one e ∙ append-nil (join_with_byte 44 (map tag_text (read.tags ++ tag ∷ []))) ∙ sym (some_tags read.tags tag)),
+      ap (with_tag tag) read.set_is ∙ sym (with_tags_push read.tags [] tag),
+    )
+
+-- what a step makes of a set that is there, it makes of the set that is meant
+pub carried : {E : Type 0} (f : List Tag → List Tag) (meant : List Tag) (old new : Result (List Tag) E) → IfOk new (λ n. IsOkAnd old (λ o. n ≡ f o)) → IfOk old (λ o. o ≡ meant) → IfOk new (λ n. n ≡ f meant)
+carried f meant (Ok o) (Ok n) h k = h ∙ ap f k
+carried f meant (Err e) (Ok n) h k = absurd h
+carried f meant old (Err e) h k = tt
+
+-- ---- tags are known by their text
+
+pub same_tags_text : (xs ys : List Tag) → AreTagsInRange xs → AreTagsInRange ys → tags_text xs ≡ tags_text ys → xs ≡ ys
+same_tags_text [] [] h k e = refl
+same_tags_text [] (y ∷ ys) h k e = absurd (letter_first y (flat_map (λ t. 44 ∷ tag_text t) ys ++ []) [] (sym (tags_parts y ys) ∙ sym e))
+same_tags_text (x ∷ xs) [] h k e = absurd (letter_first x (flat_map (λ t. 44 ∷ tag_text t) xs ++ []) [] (sym (tags_parts x xs) ∙ e))
+same_tags_text (x ∷ xs) (y ∷ ys) h k e =
+    joined.joined_known IsTagInRange tag_text [] Any tag_solid tt no_comma (same_spelled Usual) x y xs ys (All-head IsTagInRange x xs h) (All-head IsTagInRange y ys k) (All-tail IsTagInRange x xs h) (All-tail IsTagInRange y ys k)
+    (sym (tags_parts x xs) ∙ e ∙ tags_parts y ys)
+
+-- a set is read back from its text
+pub known_set : {E : Type 0} (text : List ℕ) (tags : List Tag) (result : Result (List Tag) E) → IfOk result (IsSetOfText text) → IsCanonical tags → IsTextOf AreTagsInRange tags_text text tags → IfOk result (λ set. set ≡ tags)
+known_set text tags (Ok set) (read, (in_range, e), made) c w =
+    made ∙ ap set_of (same_tags_text read tags in_range w.0 (sym e ∙ w.1)) ∙ set_of_set tags c
+known_set text tags (Err e) h c w = tt

@@ -1,0 +1,10 @@
+use Rattle.std.proofs.Common.{◌≡◌, List, IfOk, length}
+use Rattle.txc_tags.specs.declared.tag.Tag.{Tag}
+use Rattle.txc_tags.proofs.TextSets.{HasTags}
+use Rattle.txc_tags.proofs.text.set.read_tags.Given as goal
+
+abbrev pub invariant-loop : goal.invariant-loop
+invariant-loop l = (set : List Tag) × HasTags l.text l.rest set × IfOk l.set (λ s. s ≡ set)
+
+abbrev pub decreases-loop : goal.decreases-loop
+decreases-loop l = length l.rest
