@@ -1,5 +1,5 @@
 -- Digits: where a number's text ends, and which numbers begin so.
-use Rattle.std.proofs.Common.{◌≡◌, ℕ, ◌+◌, ◌-◌, ◌*◌, ◌/◌, ◌%◌, ◌^◌, ◌<◌, ◌≤◌, Option, None, Some, IfSome, List, [], ◌∷◌, ◌++◌, length, take, get_or, refl, sym, ap, subst, ◌∙◌, arith, suc, zero, append_assoc, length-append}
+use Rattle.std.proofs.Common.{◌≡◌, ℕ, ◌+◌, ◌-◌, ◌*◌, ◌/◌, ◌%◌, ◌^◌, ◌<◌, ◌≤◌, Option, None, Some, List, [], ◌∷◌, ◌++◌, length, take, get_or, refl, sym, ap, subst, ◌∙◌, arith, suc, zero, append_assoc, length-append}
 use Rattle.std.specs.Fmt.{decimal}
 use Rattle.std.specs.Str.Parse.{AllDigits, digits_value}
 use Rattle.std.proofs.lemmas.List.{take_at}
@@ -8,7 +8,7 @@ use Rattle.std.proofs.lemmas.Str.{digit_value_digit}
 use Rattle.std.proofs.lemmas.Str.Parse.{digits_value-take-le, digit_from_value}
 use Rattle.std.proofs.lemmas.Int.Digits.{digits_value_push}
 use Rattle.txc_tags.specs.TextNumber.{IsDigit, digits_read}
-use Rattle.txc_tags.specs.TextReading.{IsNumber, NoneGoesOn, Reads, GoesWrong}
+use Rattle.txc_tags.specs.TextReading.{IsNumber, NoneGoesOn, GoesWrong}
 use Rattle.txc_tags.proofs.TextReading.{Solid}
 
 -- what stands in a text of digits is a digit

@@ -1,11 +1,11 @@
 -- Lists whose texts are joined by commas, up to an end.
-use Rattle.std.proofs.Common.{◌≡◌, inl, inr, ℕ, ◌+◌, All, List, [], ◌∷◌, ◌++◌, map, length, refl, sym, ap, subst, ◌∙◌, arith, append_assoc, append-nil, length-append}
+use Rattle.std.proofs.Common.{◌≡◌, ℕ, ◌+◌, All, List, [], ◌∷◌, ◌++◌, map, length, refl, sym, ap, subst, ◌∙◌, arith, append_assoc, append-nil, length-append}
 use Rattle.std.specs.List.{flat_map, join_with_byte}
 use Rattle.std.proofs.lemmas.List.{flat_map_more}
 use Rattle.std.proofs.lemmas.List.Elements.{All-head, All-tail, All-nil, All-cons, All-push}
 use Rattle.txc_tags.specs.TextGrammar.{IsText}
-use Rattle.txc_tags.specs.TextNumber.{IsDigit, BeginsWithNoDigit}
-use Rattle.txc_tags.specs.TextReading.{Then, NoneGoesOn, Stops, Reads, GoesWrong, IsRefused, IsMore, IsJoined, HasRead}
+use Rattle.txc_tags.specs.TextNumber.{BeginsWithNoDigit}
+use Rattle.txc_tags.specs.TextReading.{NoneGoesOn, Reads, GoesWrong, IsRefused, IsMore, IsJoined, HasRead}
 use Rattle.txc_tags.proofs.TextReading.{Apart, Solid, solid_apart, solid_none, split, first_wrong, wrong_refused, then_refused}
 
 -- they are the first, and each other with a comma before it

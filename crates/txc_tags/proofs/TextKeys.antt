@@ -1,5 +1,5 @@
 -- The text of a key, piece by piece.
-use Rattle.std.proofs.Common.{◌≡◌, ℕ, ◌+◌, ◌<◌, ◌≤◌, false, ◌==◌, inl, inr, All, List, [], ◌∷◌, ◌++◌, map, codes, length, refl, sym, ap, subst, ◌∙◌, arith, append_assoc, append-nil, length-append}
+use Rattle.std.proofs.Common.{◌≡◌, ℕ, ◌+◌, ◌<◌, ◌≤◌, false, ◌==◌, inl, inr, All, List, [], ◌∷◌, ◌++◌, map, length, refl, sym, ap, subst, ◌∙◌, arith, append_assoc, length-append}
 use Rattle.std.specs.List.{flat_map, join_with_byte}
 use Rattle.std.specs.Fmt.{decimal}
 use Rattle.std.proofs.lemmas.Fmt.{decimal_injective, decimal_is_IsNumeral, decimal_nonempty}
@@ -12,7 +12,7 @@ use Rattle.txc_tags.specs.TextGrammar.{IsText, IsTextOf}
 use Rattle.txc_tags.specs.TextNumber.{IsDigit}
 use Rattle.txc_tags.specs.TextKey.{key_text, IsKeyInRange}
 use Rattle.txc_tags.specs.TextKeyReading.{closed_text, AreArguments, AreSome}
-use Rattle.txc_tags.specs.TextReading.{IsWord, IsNumber, Then, Either, NoneGoesOn, Reads, GoesWrong, IsRefused, IsMore, HasRead}
+use Rattle.txc_tags.specs.TextReading.{IsWord, IsNumber, Then, Either, Reads, GoesWrong, IsRefused, IsMore, HasRead}
 use Rattle.txc_tags.proofs.TextReading.{Apart, Distinct, Solid, solid_apart, solid_none, split, word_apart, alike_refused, first_wrong, first_reads, then_refused, wrong_refused, trailing_refused, other_refused, other_byte}
 use Rattle.txc_tags.proofs.TextDigits.{number_solid}
 use Rattle.txc_tags.proofs.TextJoined as joined

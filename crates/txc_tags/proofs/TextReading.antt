@@ -1,6 +1,7 @@
 -- Texts read piece by piece: where a text stops that is one piece and then another, or one of two.
-use Rattle.std.proofs.Common.{◌≡◌, Result, Ok, Err, IfErr, ◌⊎◌, inl, inr, ℕ, ◌+◌, ◌-◌, ◌<◌, ◌≤◌, List, [], ◌∷◌, ◌++◌, false, true≢false, ◌==◌, length, take, drop, get_or, refl, sym, ap, subst, ◌∙◌, arith, append_assoc, append-nil, length-append}
-use Rattle.std.proofs.lemmas.List.{take-append-drop, take_at, drop_more, length-take-le, append_cancel_left}
+use Rattle.std.proofs.Common.{◌≡◌, Result, Ok, Err, IfErr, ◌⊎◌, inl, inr, true, ℕ, ◌+◌, ◌-◌, ◌<◌, ◌≤◌, List, [], ◌∷◌, ◌++◌, false, true≢false, ◌==◌, length, take, drop, get_or, refl, sym, ap, subst, ◌∙◌, arith, append_assoc, append-nil, length-append}
+use Rattle.std.proofs.lemmas.List.{take-append-drop, take_at, drop_more, length-take-le, append_cancel_left, nil_from_length}
+use Rattle.std.proofs.lemmas.Bool.Decides.{nat_tests}
 use Rattle.std.specs.Result.{IsErrAnd}
 use Rattle.txc_tags.specs.TextGrammar.{IsText, IsPrefix, IsLongestPrefix}
 use Rattle.txc_tags.specs.TextNumber.{IsDigit, BeginsWithNoDigit}
@@ -225,6 +226,9 @@ further_wrong First Second text r s rest g h (inr p) = subst (GoesWrong (Either 
     other_way : {A B : Type 0} → A ⊎ B → B ⊎ A
     other_way (inl a) = inr a
     other_way (inr b) = inl b
+
+pub empty : (rest : List ℕ) → true ≡ (length rest == 0) → rest ≡ []
+empty rest e = let none : length rest ≡ 0 = grind (arith, nat_tests) in nil_from_length rest none
 
 -- nothing goes on where nothing is left
 pub nothing_left : (Language : List ℕ → Type 0) (read rest : List ℕ) → length rest ≡ 0 → NoneGoesOn Language read rest

@@ -1,5 +1,6 @@
 -- The text of a set of tags: a dash, or tags joined by commas.
-use Rattle.std.proofs.Common.{◌≡◌, Result, Ok, Err, IfOk, ⊤, ℕ, ◌+◌, inl, inr, false, ◌==◌, All, List, [], ◌∷◌, ◌++◌, map, codes, length, refl, sym, ap, subst, ◌∙◌, arith, append_assoc, append-nil}
+use Rattle.std.proofs.Common.{◌≡◌, Result, Ok, Err, IfOk, ℕ, ◌+◌, inl, inr, false, ◌==◌, List, [], ◌∷◌, ◌++◌, map, length, refl, sym, ap, subst, ◌∙◌, arith, append-nil}
+use Rattle.std.specs.Bool.{⊤}
 use Rattle.std.specs.Result.{IsOkAnd}
 use Rattle.std.specs.List.{flat_map, join_with_byte}
 use Rattle.std.proofs.lemmas.List.Elements.{All-head, All-tail, All-nil, All-cons, All-push}
@@ -8,7 +9,7 @@ use Rattle.txc_tags.specs.declared.tag.Tag.{Tag}
 use Rattle.txc_tags.specs.declared.text.tag.Spelling.TheVariants.{Usual}
 use Rattle.txc_tags.specs.Tags.{with_tag, set_of, IsCanonical}
 use Rattle.txc_tags.specs.TextGrammar.{IsText, IsTextOf}
-use Rattle.txc_tags.specs.TextReading.{IsWord, Either, Reads, GoesWrong, IsRefused, IsMore, IsJoined, HasRead}
+use Rattle.txc_tags.specs.TextReading.{IsWord, Either, Reads, GoesWrong, IsRefused, IsJoined, HasRead}
 use Rattle.txc_tags.specs.TextTag.{tag_text, IsTagInRange}
 use Rattle.txc_tags.specs.TextSet.{tags_text, AreTagsInRange, IsSetOfText}
 use Rattle.txc_tags.proofs.Sixteen.{set_of_set, with_tags_push}

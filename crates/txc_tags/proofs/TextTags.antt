@@ -1,5 +1,5 @@
 -- The text of a tag, piece by piece.
-use Rattle.std.proofs.Common.{◌≡◌, ℕ, ◌<◌, ◌≤◌, ◌^◌, inl, inr, List, [], ◌∷◌, ◌++◌, codes, refl, sym, ap, subst, ◌∙◌, arith, append_assoc, append-nil}
+use Rattle.std.proofs.Common.{◌≡◌, ℕ, inl, inr, List, [], ◌∷◌, ◌++◌, refl, sym, ap, subst, ◌∙◌, arith, append-nil}
 use Rattle.std.specs.Fmt.{decimal}
 use Rattle.std.proofs.lemmas.Fmt.{decimal_injective}
 use Rattle.std.proofs.lemmas.List.{append_cancel_left}
@@ -8,10 +8,9 @@ use Rattle.txc_tags.specs.declared.tag.Rows.TheVariants as rows
 use Rattle.txc_tags.specs.declared.tag.Tag.{Tag}
 use Rattle.txc_tags.specs.declared.text.tag.Spelling.{Spelling}
 use Rattle.txc_tags.specs.declared.text.tag.Spelling.TheVariants.{Usual}
-use Rattle.txc_tags.specs.TextGrammar.{IsText, IsTextOf}
 use Rattle.txc_tags.specs.TextNumber.{IsDigit, BeginsWithNoDigit}
 use Rattle.txc_tags.specs.TextReading.{IsWord, IsNumber, Then, Either, Reads, GoesWrong}
-use Rattle.txc_tags.specs.TextTag.{opening, all_word, id_word, group_word, rows_text, spelled, tag_text, AreRowsInRange, IsTagInRange}
+use Rattle.txc_tags.specs.TextTag.{opening, all_word, id_word, group_word, rows_text, spelled, AreRowsInRange, IsTagInRange}
 use Rattle.txc_tags.specs.TextTagReading.{IsNumbered, IsRows, IsSpelled}
 use Rattle.txc_tags.proofs.TextReading.{IsFurther, Apart, Distinct, Differ, Solid, distinct, word_begins, then_begins, split, solid_none, solid_apart, word_apart, word_solid, then_solid, either_solid, alike_reads, alike_wrong, first_reads, second_reads, further_wrong, then_reads, then_wrong, first_wrong}
 use Rattle.txc_tags.proofs.TextDigits.{number_solid}

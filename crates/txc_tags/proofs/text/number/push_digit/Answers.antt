@@ -1,4 +1,4 @@
-use Rattle.std.proofs.Common.{arith, ◌≤◌, ◌∙◌, sym}
+use Rattle.std.proofs.Common.{arith, ◌≤◌}
 use Rattle.txc_tags.specs.TextNumber.{IsDigit}
 use Rattle.txc_tags.proofs.TextDigits.{no_digit, zero_alone, too_large, too_large_first, step_none, step_some}
 use Rattle.txc_tags.proofs.text.number.push_digit.Goals as goal

@@ -3,8 +3,8 @@ use Rattle.txc_tags.specs.declared.tag.Tag.{Tag}
 use Rattle.txc_tags.proofs.TextSets.{HasTags}
 use Rattle.txc_tags.proofs.text.set.read_tags.Given as goal
 
-abbrev pub invariant-loop : goal.invariant-loop
-invariant-loop l = (set : List Tag) × HasTags l.text l.rest set × IfOk l.set (λ s. s ≡ set)
+abbrev pub invariant-loop-read : goal.invariant-loop-read
+invariant-loop-read l = (set : List Tag) × HasTags l.text l.rest set × IfOk l.set (λ s. s ≡ set)
 
-abbrev pub decreases-loop : goal.decreases-loop
-decreases-loop l = length l.rest
+abbrev pub decreases-loop-read : goal.decreases-loop-read
+decreases-loop-read l = length l.rest

@@ -3,7 +3,6 @@ use Rattle.std.specs.Fmt.{decimal}
 use Rattle.txc_tags.specs.TextReading.{IsWord, IsNumber, GoesWrong}
 use Rattle.txc_tags.specs.TextTagReading.{IsNumbered}
 use Rattle.txc_tags.proofs.TextReading.{first_wrong, then_wrong, then_reads, word_apart, handed_on}
-use Rattle.txc_tags.proofs.TextTags.{to_pieces}
 use Rattle.txc_tags.proofs.text.tag.read_numbered.Goals as goal
 
 pub returns-in_err-rest-clause-wrong : goal.returns-in_err-rest-clause-wrong

@@ -1,0 +1,30 @@
+use Rattle.std.proofs.Common.{Ok, sym, subst}
+use Rattle.txc_tags.specs.Tags.{with_tag}
+use Rattle.txc_tags.specs.TextSet.{IsSetOfText}
+use Rattle.txc_tags.proofs.TextReading.{empty}
+use Rattle.txc_tags.proofs.TextSets.{tag_wrong, comma_wrong, one_more, all_tags, carried}
+use Rattle.txc_tags.proofs.text.set.read_tags.Goals as goal
+
+pub bad_tag-requires : goal.bad_tag-requires
+bad_tag-requires c = tag_wrong c.args.text.now c.loop-read.rest.now c.loop-read.invariant.0 c.loop-read.invariant.1 c.requires c.in-Err.wrong.now c.in-Err.ensures.wrong
+
+pub bad_tag-requires-in-Err-read_word : goal.bad_tag-requires-in-Err-read_word
+bad_tag-requires-in-Err-read_word c =
+    comma_wrong c.args.text.now c.loop-read.rest.now c.loop-read.invariant.0 c.loop-read.invariant.1 c.requires c.in-Ok.read.0 c.in-Ok.read.1.now c.in-Ok.ensures.tag.0 c.in-Ok.ensures.tag.1 c.in-Err-read_word.wrong.now c.if-is_empty.ensures c.in-Err-read_word.ensures.wrong
+
+pub loop-read-preserved : goal.loop-read-preserved
+loop-read-preserved c = (
+  with_tag c.in-Ok.read.0 c.loop-read.invariant.0,
+  one_more c.args.text.now c.loop-read.rest.now c.loop-read.invariant.0 c.loop-read.invariant.1 c.requires c.in-Ok.read.0 c.in-Ok.read.1.now c.in-Ok.ensures.tag.0 c.in-Ok.ensures.tag.1 c.in-Ok-read_word.more.now c.in-Ok-read_word.ensures.after.parts,
+  carried (with_tag c.in-Ok.read.0) c.loop-read.invariant.0 c.loop-read.set c.with_one-set.result c.with_one-set.ensures c.loop-read.invariant.2,
+)
+
+pub returns-in-Ok-set-clause-answer : goal.returns-in-Ok-set-clause-answer
+returns-in-Ok-set-clause-answer c =
+    subst (IsSetOfText c.args.text.now) (sym (carried (with_tag c.in-Ok.read.0) c.loop-read.invariant.0 c.loop-read.set (Ok c.in-Ok-set.set) c.in-Ok-set.ensures c.loop-read.invariant.2))
+    (all_tags c.args.text.now c.loop-read.rest.now c.loop-read.invariant.0 c.loop-read.invariant.1 c.requires c.in-Ok.read.0 c.in-Ok.read.1.now c.in-Ok.ensures.tag.0 c.in-Ok.ensures.tag.1 (empty c.in-Ok.read.1.now c.if-is_empty.ensures))
+
+pub returns-in-Err-set-clause-refused : goal.returns-in-Err-set-clause-refused
+returns-in-Err-set-clause-refused c =
+    let p = all_tags c.args.text.now c.loop-read.rest.now c.loop-read.invariant.0 c.loop-read.invariant.1 c.requires c.in-Ok.read.0 c.in-Ok.read.1.now c.in-Ok.ensures.tag.0 c.in-Ok.ensures.tag.1 (empty c.in-Ok.read.1.now c.if-is_empty.ensures) in
+    (p.0, p.1)
