@@ -2,14 +2,14 @@
 use Rattle.std.proofs.Common.{◌≡◌, ℕ, ◌+◌, ◌-◌, ◌*◌, ◌/◌, ◌%◌, ◌^◌, ◌<◌, ◌≤◌, Option, None, Some, List, [], ◌∷◌, ◌++◌, length, take, get_or, refl, sym, ap, subst, ◌∙◌, arith, suc, zero, append_assoc, length-append}
 use Rattle.std.specs.Fmt.{decimal}
 use Rattle.std.specs.Str.Parse.{AllDigits, digits_value}
-use Rattle.std.proofs.lemmas.List.{take_at}
-use Rattle.std.proofs.lemmas.Fmt.{decimal_is_IsNumeral, decimal_step, decimal_digit, first_decimal, decimal_nonempty}
+use Rattle.std.proofs.lemmas.List.{take_at, append_cancel_left}
+use Rattle.std.proofs.lemmas.Fmt.{decimal_is_IsNumeral, decimal_step, decimal_digit, first_decimal, decimal_injective, decimal_nonempty}
 use Rattle.std.proofs.lemmas.Str.{digit_value_digit}
 use Rattle.std.proofs.lemmas.Str.Parse.{digits_value-take-le, digit_from_value}
 use Rattle.std.proofs.lemmas.Int.Digits.{digits_value_push}
 use Rattle.txc_tags.specs.TextNumber.{IsDigit, digits_read}
-use Rattle.txc_tags.specs.TextReading.{IsNumber, NoneGoesOn, GoesWrong}
-use Rattle.txc_tags.proofs.TextReading.{Solid}
+use Rattle.txc_tags.specs.TextReading.{IsWord, IsNumber, IsNumbered, NoneGoesOn, GoesWrong}
+use Rattle.txc_tags.proofs.TextReading.{Solid, split, solid_apart, then_solid, word_apart, word_solid}
 
 -- what stands in a text of digits is a digit
 pub digit_within : (xs ys : List ℕ) (b : ℕ) → AllDigits 10 (xs ++ b ∷ ys) → IsDigit b
@@ -73,3 +73,19 @@ module _ (most : ℕ) (text rest : List ℕ) (l : most < 2 ^ 64) where
     open_end = λ k. (let z : length (decimal k.0) ≡ 0 = ap length (sym k.1.1) in omega (arith, decimal_nonempty k.0 (omega (arith, k.1.0, l)), z));
   })
   no_digits (Some m) parts none r e = absurd (let q = e.0 in cc)
+
+-- ---- a word and a number
+
+pub numbered_solid : (word : List ℕ) (most : ℕ) → most < 2 ^ 64 → Solid (IsNumbered word most)
+numbered_solid word most l = then_solid (IsWord word) (IsNumber most) (word_apart word (IsNumber most)) (word_solid word) (number_solid most l)
+
+-- they are known by their text, whatever stands after them that begins with no digit
+pub numbered_known : (word : List ℕ) (most : ℕ) → most < 2 ^ 64 → (Second : List ℕ → Type 0) → ((b : ℕ) (z : List ℕ) → Second (b ∷ z) → IsDigit b → ⊥) → (n m : ℕ) (r s : List ℕ)
+    → n ≤ most → m ≤ most → Second r → Second s → word ++ (decimal n ++ r) ≡ word ++ (decimal m ++ s) → (n ≡ m) × (r ≡ s)
+numbered_known word most l Second other n m r s h k rs ss e =
+    let t = append_cancel_left word (decimal n ++ r) (decimal m ++ s) e in
+    let p = split (IsNumber most) Second (solid_apart (IsNumber most) Second (number_solid most l) other) (decimal n) r (decimal m) s (n, (h, refl)) none (m, (k, refl)) ss t in
+    (decimal_injective n m (omega (arith, h, l)) (omega (arith, k, l)) p.0, p.1)
+  where
+    none : NoneGoesOn (IsNumber most) (decimal n) r
+    none b others more is q = other b others (subst Second is rs) (number_solid most l (decimal n) more b (n, (h, refl)) q)

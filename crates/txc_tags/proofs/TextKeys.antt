@@ -12,9 +12,9 @@ use Rattle.txc_tags.specs.TextGrammar.{IsText, IsTextOf}
 use Rattle.txc_tags.specs.TextNumber.{IsDigit}
 use Rattle.txc_tags.specs.TextKey.{key_text, IsKeyInRange}
 use Rattle.txc_tags.specs.TextKeyReading.{closed_text, AreArguments, AreSome}
-use Rattle.txc_tags.specs.TextReading.{IsWord, IsNumber, Then, Either, Reads, GoesWrong, IsRefused, IsMore, HasRead}
+use Rattle.txc_tags.specs.TextReading.{IsWord, IsNumber, IsNumbered, Then, Either, Reads, GoesWrong, IsRefused, IsMore, HasRead}
 use Rattle.txc_tags.proofs.TextReading.{Apart, Distinct, Solid, solid_apart, solid_none, split, word_apart, alike_refused, first_wrong, first_reads, then_refused, wrong_refused, trailing_refused, other_refused, other_byte}
-use Rattle.txc_tags.proofs.TextDigits.{number_solid}
+use Rattle.txc_tags.proofs.TextDigits.{number_solid, numbered_solid, numbered_known}
 use Rattle.txc_tags.proofs.TextJoined as joined
 use Rattle.txc_tags.proofs.TextJoined.{join_others}
 
@@ -133,72 +133,51 @@ closed_refused text rest l r = alike_refused (Either (IsWord (41 ∷ [])) AreSom
 abbrev Args : List ℕ → Type 0
 Args = Then (IsWord (40 ∷ [])) IsArguments
 
-abbrev Numbered : List ℕ → Type 0
-Numbered = Then (IsNumber 31) Args
-
 abbrev IsKey : List ℕ → Type 0
 IsKey = IsText IsKeyInRange key_text
 
+abbrev Opened : List ℕ → Type 0
+Opened = IsNumbered (102 ∷ []) 31
+
 abbrev KeyPieces : List ℕ → Type 0
-KeyPieces = Then (IsWord (102 ∷ [])) Numbered
+KeyPieces = Then Opened Args
 
 to_pieces : (text : List ℕ) → IsKey text → KeyPieces text
-to_pieces text (key, (h, e)) = (102 ∷ [], decimal key.function ++ 40 ∷ closed_text key.args, refl,
-    (decimal key.function, 40 ∷ closed_text key.args, (key.function, (h.function, refl)), (40 ∷ [], closed_text key.args, refl, (key.args, ((h.few, h.args), refl)), refl), refl), e)
+to_pieces text (key, (h, e)) = (102 ∷ decimal key.function, 40 ∷ closed_text key.args, (102 ∷ [], decimal key.function, refl, (key.function, (h.function, refl)), refl), (40 ∷ [], closed_text key.args, refl, (key.args, ((h.few, h.args), refl)), refl), e)
 
 from_pieces : (text : List ℕ) → KeyPieces text → IsKey text
-from_pieces text (x, y, w, (u, v, (n, (l, d)), (p, q, o, (args, ((few, all), f)), g), i), e) = (
+from_pieces text (x, y, (u, v, w, (n, (l, d)), i), (p, q, o, (args, ((few, all), f)), g), e) = (
   record { function = n; args = args },
-  (
-    record { function = l; few = few; args = all },
-    e ∙ ap (λ t. t ++ y) w ∙ ap (λ t. 102 ∷ t) (i ∙ ap (λ t. t ++ v) d ∙ ap (λ t. decimal n ++ t) (g ∙ ap (λ t. t ++ q) o ∙ ap (λ t. 40 ∷ t) f)),
-  ),
+  (record { function = l; few = few; args = all }, e ∙ ap (λ t. t ++ y) (i ∙ ap (λ t. t ++ v) w ∙ ap (λ t. 102 ∷ t) d) ∙ ap (λ t. 102 ∷ (decimal n ++ t)) (g ∙ ap (λ t. t ++ q) o ∙ ap (λ t. 40 ∷ t) f)),
 )
 
-number_apart : Apart (IsNumber 31) Args
-number_apart = solid_apart (IsNumber 31) Args (number_solid 31 (omega arith)) other
-  where
-    other : (b : ℕ) (z : List ℕ) → Args (b ∷ z) → IsDigit b → ⊥
-    other b z (x, y, w, h, e) d = let f : b ∷ z ≡ 40 ∷ y = e ∙ ap (λ t. t ++ y) w in let g : b ≡ 40 = cc in omega (arith, d.0, g)
+paren_first : (b : ℕ) (z : List ℕ) → Args (b ∷ z) → IsDigit b → ⊥
+paren_first b z (x, y, w, h, e) d = let f : b ∷ z ≡ 40 ∷ y = e ∙ ap (λ t. t ++ y) w in let g : b ≡ 40 = cc in omega (arith, d.0, g)
 
-letter_apart : Apart (IsWord (102 ∷ [])) Numbered
-letter_apart = word_apart (102 ∷ []) Numbered
+opened_apart : Apart Opened Args
+opened_apart = solid_apart Opened Args (numbered_solid (102 ∷ []) 31 (omega arith)) paren_first
 
 open_apart : Apart (IsWord (40 ∷ [])) IsArguments
 open_apart = word_apart (40 ∷ []) IsArguments
 
-no_arguments : Args (40 ∷ 41 ∷ [])
-no_arguments = (40 ∷ [], 41 ∷ [], refl, ([], ((omega arith, All-nil IsArg), refl)), refl)
+no_arguments : IsArguments (41 ∷ [])
+no_arguments = ([], ((omega arith, All-nil IsArg), refl))
 
 key_refused : (text rest : List ℕ) → IsRefused KeyPieces text rest → IsRefused IsKey text rest
 key_refused text rest g = alike_refused KeyPieces IsKey from_pieces to_pieces text rest g
 
-pub letter_wrong : (text rest : List ℕ) → GoesWrong (IsWord (102 ∷ [])) text rest → IsRefused IsKey text rest
-letter_wrong text rest g = key_refused text rest (wrong_refused KeyPieces text rest (first_wrong (IsWord (102 ∷ [])) Numbered letter_apart text rest (decimal 0 ++ 40 ∷ 41 ∷ []) (decimal 0, 40 ∷ 41 ∷ [], (0, (omega arith, refl)), no_arguments, refl) g))
+pub function_wrong : (text rest : List ℕ) → GoesWrong Opened text rest → IsRefused IsKey text rest
+function_wrong text rest g = key_refused text rest (wrong_refused KeyPieces text rest (first_wrong Opened Args opened_apart text rest (40 ∷ 41 ∷ []) (40 ∷ [], 41 ∷ [], refl, no_arguments, refl) g))
 
-module _ (text after : List ℕ) (letter : Reads (IsWord (102 ∷ [])) text (102 ∷ []) after) where
-  inside : (rest : List ℕ) → IsRefused Numbered after rest → IsRefused IsKey text rest
-  inside rest g = key_refused text rest (then_refused (IsWord (102 ∷ [])) Numbered letter_apart text (102 ∷ []) after letter rest g)
+module _ (text after : List ℕ) (function : ℕ) (read : Reads Opened text (102 ∷ decimal function) after) where
+  inside : (rest : List ℕ) → IsRefused Args after rest → IsRefused IsKey text rest
+  inside rest g = key_refused text rest (then_refused Opened Args opened_apart text (102 ∷ decimal function) after read rest g)
 
-  pub function_wrong : (rest : List ℕ) → GoesWrong (IsNumber 31) after rest → IsRefused IsKey text rest
-  function_wrong rest g = inside rest (wrong_refused Numbered after rest (first_wrong (IsNumber 31) Args number_apart after rest (40 ∷ 41 ∷ []) no_arguments g))
+  pub open_wrong : (rest : List ℕ) → GoesWrong (IsWord (40 ∷ [])) after rest → IsRefused IsKey text rest
+  open_wrong rest g = inside rest (wrong_refused Args after rest (first_wrong (IsWord (40 ∷ [])) IsArguments open_apart after rest (41 ∷ []) no_arguments g))
 
-  module _ (function : ℕ) (opened : List ℕ) (number : Reads (IsNumber 31) after (decimal function) opened) where
-    further_inside : (rest : List ℕ) → IsRefused Args opened rest → IsRefused IsKey text rest
-    further_inside rest g = inside rest (then_refused (IsNumber 31) Args number_apart after (decimal function) opened number rest g)
-
-    pub open_wrong : (rest : List ℕ) → GoesWrong (IsWord (40 ∷ [])) opened rest → IsRefused IsKey text rest
-    open_wrong rest g = further_inside rest (wrong_refused Args opened rest (first_wrong (IsWord (40 ∷ [])) IsArguments open_apart opened rest (41 ∷ []) ([], ((omega arith, All-nil IsArg), refl)) g))
-
-    module _ (last : List ℕ) (paren : Reads (IsWord (40 ∷ [])) opened (40 ∷ []) last) where
-      pub arguments_refused : (rest : List ℕ) → IsRefused IsArguments last rest → IsRefused IsKey text rest
-      arguments_refused rest g = further_inside rest (then_refused (IsWord (40 ∷ [])) IsArguments open_apart opened (40 ∷ []) last paren rest g)
-
-      pub key_read : (args : List ℕ) → function ≤ 31 → IsTextOf AreArguments closed_text last args → IsTextOf IsKeyInRange key_text text (record { function = function; args = args })
-      key_read args l h = (
-        record { function = l; few = h.0.0; args = h.0.1 },
-        letter.parts ∙ ap (λ t. 102 ∷ t) (number.parts ∙ ap (λ t. decimal function ++ t) (paren.parts ∙ ap (λ t. 40 ∷ t) h.1)),
-      )
+  pub arguments_refused : (last rest : List ℕ) → Reads (IsWord (40 ∷ [])) after (40 ∷ []) last → IsRefused IsArguments last rest → IsRefused IsKey text rest
+  arguments_refused last rest paren g = inside rest (then_refused (IsWord (40 ∷ [])) IsArguments open_apart after (40 ∷ []) last paren rest g)
 
 -- ---- a key is known by its text
 
@@ -215,14 +194,11 @@ args_known (x ∷ xs) (y ∷ ys) h k e =
 
 pub same_key_text : (a b : Call) → IsKeyInRange a → IsKeyInRange b → key_text a ≡ key_text b → a ≡ b
 same_key_text a b h k e =
-    let l : a.function ≤ 31 = h.function in
-    let m : b.function ≤ 31 = k.function in
-    let none = solid_none (IsNumber 31) (number_solid 31 (omega arith)) (decimal a.function) (40 ∷ closed_text a.args) (a.function, (l, refl)) (λ d. omega (arith, d.0)) in
-    let t : decimal a.function ++ 40 ∷ closed_text a.args ≡ decimal b.function ++ 40 ∷ closed_text b.args = cc in
-    let p = split (IsNumber 31) Args number_apart (decimal a.function) (40 ∷ closed_text a.args) (decimal b.function) (40 ∷ closed_text b.args) (a.function, (l, refl)) none (b.function, (m, refl)) (40 ∷ [], closed_text b.args, refl, (b.args, ((k.few, k.args), refl)), refl) t in
+    let p = numbered_known (102 ∷ []) 31 (omega arith) Args paren_first a.function b.function (40 ∷ closed_text a.args) (40 ∷ closed_text b.args) h.function k.function
+        (40 ∷ [], closed_text a.args, refl, (a.args, ((h.few, h.args), refl)), refl) (40 ∷ [], closed_text b.args, refl, (b.args, ((k.few, k.args), refl)), refl) e in
     let q : 40 ∷ closed_text a.args ≡ 40 ∷ closed_text b.args = p.1 in
     let r : closed_text a.args ≡ closed_text b.args = cc in
-    ap (λ (f : ℕ). call f a.args) (decimal_injective a.function b.function (omega (arith, l)) (omega (arith, m)) p.0) ∙ ap (λ (xs : List ℕ). call b.function xs) (args_known a.args b.args h.args k.args r)
+    ap (λ (f : ℕ). call f a.args) p.0 ∙ ap (λ (xs : List ℕ). call b.function xs) (args_known a.args b.args h.args k.args r)
   where
     call : ℕ → List ℕ → Call
     call f xs = record { function = f; args = xs }

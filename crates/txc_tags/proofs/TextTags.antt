@@ -1,5 +1,5 @@
 -- The text of a tag, piece by piece.
-use Rattle.std.proofs.Common.{◌≡◌, ℕ, inl, inr, List, [], ◌∷◌, ◌++◌, refl, sym, ap, subst, ◌∙◌, arith, append-nil}
+use Rattle.std.proofs.Common.{◌≡◌, ℕ, inl, inr, List, [], ◌∷◌, ◌++◌, refl, sym, ap, subst, ◌∙◌, arith, append_assoc, append-nil}
 use Rattle.std.specs.Fmt.{decimal}
 use Rattle.std.proofs.lemmas.Fmt.{decimal_injective}
 use Rattle.std.proofs.lemmas.List.{append_cancel_left}
@@ -9,11 +9,11 @@ use Rattle.txc_tags.specs.declared.tag.Tag.{Tag}
 use Rattle.txc_tags.specs.declared.text.tag.Spelling.{Spelling}
 use Rattle.txc_tags.specs.declared.text.tag.Spelling.TheVariants.{Usual}
 use Rattle.txc_tags.specs.TextNumber.{IsDigit, BeginsWithNoDigit}
-use Rattle.txc_tags.specs.TextReading.{IsWord, IsNumber, Then, Either, Reads, GoesWrong}
+use Rattle.txc_tags.specs.TextReading.{IsWord, IsNumbered, Then, Either, Reads, GoesWrong}
 use Rattle.txc_tags.specs.TextTag.{opening, all_word, id_word, group_word, rows_text, spelled, AreRowsInRange, IsTagInRange}
-use Rattle.txc_tags.specs.TextTagReading.{IsNumbered, IsRows, IsSpelled}
+use Rattle.txc_tags.specs.TextTagReading.{IsRows, IsSpelled}
 use Rattle.txc_tags.proofs.TextReading.{IsFurther, Apart, Distinct, Differ, Solid, distinct, word_begins, then_begins, split, solid_none, solid_apart, word_apart, word_solid, then_solid, either_solid, alike_reads, alike_wrong, first_reads, second_reads, further_wrong, then_reads, then_wrong, first_wrong}
-use Rattle.txc_tags.proofs.TextDigits.{number_solid}
+use Rattle.txc_tags.proofs.TextDigits.{numbered_solid, numbered_known}
 
 -- ---- the rows
 
@@ -41,7 +41,7 @@ module _ (s : Spelling) where
   AllRows = IsWord (all_word s)
 
   abbrev Numbered : List ℕ → Type 0
-  Numbered = Either (IsNumbered (id_word s)) (IsNumbered (group_word s))
+  Numbered = Either (IsNumbered (id_word s) 4294967295) (IsNumbered (group_word s) 4294967295)
 
   -- rows are one of three pieces
   abbrev pub Pieces : List ℕ → Type 0
@@ -57,10 +57,10 @@ module _ (s : Spelling) where
   from_pieces text (inr (inl (x, y, w, n, e))) = (rows.Id n.0, (n.1.0, e ∙ ap (λ t. t ++ y) w ∙ ap (λ t. id_word s ++ t) n.1.1))
   from_pieces text (inr (inr (x, y, w, n, e))) = (rows.Group n.0, (n.1.0, e ∙ ap (λ t. t ++ y) w ∙ ap (λ t. group_word s ++ t) n.1.1))
 
-  ids_apart : Distinct (IsNumbered (id_word s)) (IsNumbered (group_word s))
+  ids_apart : Distinct (IsNumbered (id_word s) 4294967295) (IsNumbered (group_word s) 4294967295)
   ids_apart = distinct (id_word s) (group_word s) _ _ (id_from_group s) (then_begins (id_word s) _) (then_begins (group_word s) _)
 
-  groups_apart : Distinct (IsNumbered (group_word s)) (IsNumbered (id_word s))
+  groups_apart : Distinct (IsNumbered (group_word s) 4294967295) (IsNumbered (id_word s) 4294967295)
   groups_apart = distinct (group_word s) (id_word s) _ _ (other_way _ _ (id_from_group s)) (then_begins (group_word s) _) (then_begins (id_word s) _)
 
   all_apart : Distinct AllRows Numbered
@@ -71,12 +71,9 @@ module _ (s : Spelling) where
   numbers_apart x y (inl h) k = distinct (id_word s) (all_word s) _ _ (other_way _ _ (all_from_id s)) (then_begins (id_word s) _) (word_begins (all_word s)) x y h k
   numbers_apart x y (inr h) k = distinct (group_word s) (all_word s) _ _ (other_way _ _ (all_from_group s)) (then_begins (group_word s) _) (word_begins (all_word s)) x y h k
 
-  numbered_solid : (word : List ℕ) → Solid (IsNumbered word)
-  numbered_solid word = then_solid (IsWord word) (IsNumber 4294967295) (word_apart word (IsNumber 4294967295)) (word_solid word) (number_solid 4294967295 (omega arith))
-
   pieces_solid : Solid Pieces
   pieces_solid = either_solid AllRows Numbered all_apart numbers_apart (word_solid (all_word s))
-      (either_solid (IsNumbered (id_word s)) (IsNumbered (group_word s)) ids_apart groups_apart (numbered_solid (id_word s)) (numbered_solid (group_word s)))
+      (either_solid (IsNumbered (id_word s) 4294967295) (IsNumbered (group_word s) 4294967295) ids_apart groups_apart (numbered_solid (id_word s) 4294967295 (omega arith)) (numbered_solid (group_word s) 4294967295 (omega arith)))
 
   rows_solid : Solid (IsRows s)
   rows_solid x y b h k = pieces_solid x y b (to_pieces x h) (to_pieces (x ++ b ∷ y) k)
@@ -86,75 +83,62 @@ module _ (s : Spelling) where
   pub reads_all : (text rest : List ℕ) → Reads AllRows text (all_word s) rest → Reads (IsRows s) text (all_word s) rest
   reads_all text rest r = alike_reads Pieces (IsRows s) from_pieces to_pieces text (all_word s) rest (first_reads AllRows Numbered all_apart text (all_word s) rest r)
 
-  pub reads_id : (text piece rest : List ℕ) → Reads (IsNumbered (id_word s)) text piece rest → Reads (IsRows s) text piece rest
+  pub reads_id : (text piece rest : List ℕ) → Reads (IsNumbered (id_word s) 4294967295) text piece rest → Reads (IsRows s) text piece rest
   reads_id text piece rest r = alike_reads Pieces (IsRows s) from_pieces to_pieces text piece rest
-      (second_reads AllRows Numbered numbers_apart text piece rest (first_reads (IsNumbered (id_word s)) (IsNumbered (group_word s)) ids_apart text piece rest r))
+      (second_reads AllRows Numbered numbers_apart text piece rest (first_reads (IsNumbered (id_word s) 4294967295) (IsNumbered (group_word s) 4294967295) ids_apart text piece rest r))
 
-  pub reads_group : (text piece rest : List ℕ) → Reads (IsNumbered (group_word s)) text piece rest → Reads (IsRows s) text piece rest
+  pub reads_group : (text piece rest : List ℕ) → Reads (IsNumbered (group_word s) 4294967295) text piece rest → Reads (IsRows s) text piece rest
   reads_group text piece rest r = alike_reads Pieces (IsRows s) from_pieces to_pieces text piece rest
-      (second_reads AllRows Numbered numbers_apart text piece rest (second_reads (IsNumbered (id_word s)) (IsNumbered (group_word s)) groups_apart text piece rest r))
+      (second_reads AllRows Numbered numbers_apart text piece rest (second_reads (IsNumbered (id_word s) 4294967295) (IsNumbered (group_word s) 4294967295) groups_apart text piece rest r))
 
-  pub rows_wrong : (text all id group numbered rest : List ℕ) → GoesWrong AllRows text all → GoesWrong (IsNumbered (id_word s)) text id → GoesWrong (IsNumbered (group_word s)) text group
+  pub rows_wrong : (text all id group numbered rest : List ℕ) → GoesWrong AllRows text all → GoesWrong (IsNumbered (id_word s) 4294967295) text id → GoesWrong (IsNumbered (group_word s) 4294967295) text group
       → IsFurther id group numbered → IsFurther all numbered rest → GoesWrong (IsRows s) text rest
   rows_wrong text all id group numbered rest g h k later latest = alike_wrong Pieces (IsRows s) from_pieces to_pieces text rest
-      (further_wrong AllRows Numbered text all numbered rest g (further_wrong (IsNumbered (id_word s)) (IsNumbered (group_word s)) text id group numbered h k later) latest)
+      (further_wrong AllRows Numbered text all numbered rest g (further_wrong (IsNumbered (id_word s) 4294967295) (IsNumbered (group_word s) 4294967295) text id group numbered h k later) latest)
 
   -- ---- the tag
 
   no_digit_first : (b : ℕ) (z : List ℕ) → IsRows s (b ∷ z) → IsDigit b → ⊥
   no_digit_first b z (r, h) = subst BeginsWithNoDigit (append-nil (rows_text s r) ∙ sym h.1) (rows_begin s r [])
 
-  abbrev pub TableRows : List ℕ → Type 0
-  TableRows = Then (IsNumber 15) (IsRows s)
+  abbrev Opened : List ℕ → Type 0
+  Opened = IsNumbered (opening s) 15
 
-  abbrev pub TagPieces : List ℕ → Type 0
-  TagPieces = Then (IsWord (opening s)) TableRows
+  abbrev TagPieces : List ℕ → Type 0
+  TagPieces = Then Opened (IsRows s)
 
   to_tag_pieces : (text : List ℕ) → IsSpelled s text → TagPieces text
-  to_tag_pieces text (tag, ((t, r), e)) = (opening s, decimal tag.table ++ rows_text s tag.rows, refl, (decimal tag.table, rows_text s tag.rows, (tag.table, (t, refl)), (tag.rows, (r, refl)), refl), e)
+  to_tag_pieces text (tag, ((t, r), e)) = (opening s ++ decimal tag.table, rows_text s tag.rows, (opening s, decimal tag.table, refl, (tag.table, (t, refl)), refl), (tag.rows, (r, refl)), e ∙ sym (append_assoc (opening s) (decimal tag.table) (rows_text s tag.rows)))
 
   from_tag_pieces : (text : List ℕ) → TagPieces text → IsSpelled s text
-  from_tag_pieces text (x, y, w, (u, v, n, r, f), e) = (
+  from_tag_pieces text (x, y, (u, v, w, n, d), r, e) = (
     record { table = n.0; rows = r.0 },
-    ((n.1.0, r.1.0), e ∙ ap (λ t. t ++ y) w ∙ ap (λ t. opening s ++ t) (f ∙ ap (λ t. t ++ v) n.1.1 ∙ ap (λ t. decimal n.0 ++ t) r.1.1)),
+    ((n.1.0, r.1.0), e ∙ ap (λ t. t ++ y) (d ∙ ap (λ t. t ++ v) w ∙ ap (λ t. opening s ++ t) n.1.1) ∙ ap (λ t. (opening s ++ decimal n.0) ++ t) r.1.1 ∙ append_assoc (opening s) (decimal n.0) (rows_text s r.0)),
   )
 
-  number_apart : Apart (IsNumber 15) (IsRows s)
-  number_apart = solid_apart (IsNumber 15) (IsRows s) (number_solid 15 (omega arith)) no_digit_first
+  opened_solid : Solid Opened
+  opened_solid = numbered_solid (opening s) 15 (omega arith)
 
-  opening_apart : Apart (IsWord (opening s)) TableRows
-  opening_apart = word_apart (opening s) TableRows
+  opened_apart : Apart Opened (IsRows s)
+  opened_apart = solid_apart Opened (IsRows s) opened_solid no_digit_first
 
   pub spelled_solid : Solid (IsSpelled s)
-  spelled_solid x y b h k =
-      then_solid (IsWord (opening s)) TableRows opening_apart (word_solid (opening s)) (then_solid (IsNumber 15) (IsRows s) number_apart (number_solid 15 (omega arith)) rows_solid)
-      x y b (to_tag_pieces x h) (to_tag_pieces (x ++ b ∷ y) k)
+  spelled_solid x y b h k = then_solid Opened (IsRows s) opened_apart opened_solid rows_solid x y b (to_tag_pieces x h) (to_tag_pieces (x ++ b ∷ y) k)
 
   -- ---- what `read_spelled` answers
 
-  some_rows : TableRows (decimal 0 ++ all_word s)
-  some_rows = (decimal 0, all_word s, (0, (omega arith, refl)), (rows.All, (tt, refl)), refl)
-
-  pub opening_wrong : (text rest : List ℕ) → GoesWrong (IsWord (opening s)) text rest → GoesWrong (IsSpelled s) text rest
+  pub opening_wrong : (text rest : List ℕ) → GoesWrong Opened text rest → GoesWrong (IsSpelled s) text rest
   opening_wrong text rest g = alike_wrong TagPieces (IsSpelled s) from_tag_pieces to_tag_pieces text rest
-      (first_wrong (IsWord (opening s)) TableRows opening_apart text rest (decimal 0 ++ all_word s) some_rows g)
+      (first_wrong Opened (IsRows s) opened_apart text rest (all_word s) (rows.All, (tt, refl)) g)
 
-  module _ (text after : List ℕ) (read : Reads (IsWord (opening s)) text (opening s) after) where
-    inside : (rest : List ℕ) → GoesWrong TableRows after rest → GoesWrong (IsSpelled s) text rest
-    inside rest g = alike_wrong TagPieces (IsSpelled s) from_tag_pieces to_tag_pieces text rest
-        (then_wrong (IsWord (opening s)) TableRows opening_apart text (opening s) after read rest g)
+  module _ (text after : List ℕ) (table : ℕ) (read : Reads Opened text (opening s ++ decimal table) after) where
+    pub last_wrong : (rest : List ℕ) → GoesWrong (IsRows s) after rest → GoesWrong (IsSpelled s) text rest
+    last_wrong rest g = alike_wrong TagPieces (IsSpelled s) from_tag_pieces to_tag_pieces text rest (then_wrong Opened (IsRows s) opened_apart text (opening s ++ decimal table) after read rest g)
 
-    pub table_wrong : (rest : List ℕ) → GoesWrong (IsNumber 15) after rest → GoesWrong (IsSpelled s) text rest
-    table_wrong rest g = inside rest (first_wrong (IsNumber 15) (IsRows s) number_apart after rest (all_word s) (rows.All, (tt, refl)) g)
-
-    module _ (table : ℕ) (last : List ℕ) (number : Reads (IsNumber 15) after (decimal table) last) where
-      pub last_wrong : (rest : List ℕ) → GoesWrong (IsRows s) last rest → GoesWrong (IsSpelled s) text rest
-      last_wrong rest g = inside rest (then_wrong (IsNumber 15) (IsRows s) number_apart after (decimal table) last number rest g)
-
-      pub reads_tag : (r : Rows) (rest : List ℕ) → Reads (IsRows s) last (rows_text s r) rest → Reads (IsSpelled s) text (spelled s (record { table = table; rows = r })) rest
-      reads_tag r rest k = alike_reads TagPieces (IsSpelled s) from_tag_pieces to_tag_pieces text (spelled s (record { table = table; rows = r })) rest
-          (then_reads (IsWord (opening s)) TableRows opening_apart text (opening s) after read (decimal table ++ rows_text s r) rest
-          (then_reads (IsNumber 15) (IsRows s) number_apart after (decimal table) last number (rows_text s r) rest k))
+    pub reads_tag : (r : Rows) (rest : List ℕ) → Reads (IsRows s) after (rows_text s r) rest → Reads (IsSpelled s) text (spelled s (record { table = table; rows = r })) rest
+    reads_tag r rest k = alike_reads TagPieces (IsSpelled s) from_tag_pieces to_tag_pieces text (spelled s (record { table = table; rows = r })) rest
+        (subst (λ (piece : List ℕ). Reads TagPieces text piece rest) (append_assoc (opening s) (decimal table) (rows_text s r))
+        (then_reads Opened (IsRows s) opened_apart text (opening s ++ decimal table) after read (rows_text s r) rest k))
 
   -- ---- a tag is known by its text
 
@@ -171,11 +155,8 @@ module _ (s : Spelling) where
 
   pub same_spelled : (a b : Tag) → IsTagInRange a → IsTagInRange b → spelled s a ≡ spelled s b → a ≡ b
   same_spelled a b h k e =
-      let after = append_cancel_left (opening s) (decimal a.table ++ rows_text s a.rows) (decimal b.table ++ rows_text s b.rows) e in
-      let none = solid_none (IsNumber 15) (number_solid 15 (omega arith)) (decimal a.table) (rows_text s a.rows) (a.table, (h.0, refl)) (subst BeginsWithNoDigit (append-nil (rows_text s a.rows)) (rows_begin s a.rows [])) in
-      let p = split (IsNumber 15) (IsRows s) number_apart (decimal a.table) (rows_text s a.rows) (decimal b.table) (rows_text s b.rows) (a.table, (h.0, refl)) none (b.table, (k.0, refl)) (b.rows, (k.1, refl)) after in
-      let table : a.table ≡ b.table = decimal_injective a.table b.table (omega (arith, h.0)) (omega (arith, k.0)) p.0 in
-      ap (λ (n : ℕ). tag n a.rows) table ∙ ap (λ (r : Rows). tag b.table r) (rows_known a.rows b.rows h.1 k.1 p.1)
+      let p = numbered_known (opening s) 15 (omega arith) (IsRows s) no_digit_first a.table b.table (rows_text s a.rows) (rows_text s b.rows) h.0 k.0 (a.rows, (h.1, refl)) (b.rows, (k.1, refl)) e in
+      ap (λ (n : ℕ). tag n a.rows) p.0 ∙ ap (λ (r : Rows). tag b.table r) (rows_known a.rows b.rows h.1 k.1 p.1)
     where
       tag : ℕ → Rows → Tag
       tag n r = record { table = n; rows = r }

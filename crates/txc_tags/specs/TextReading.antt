@@ -16,6 +16,10 @@ IsNumber most = IsText (λ n. n ≤ most) decimal
 abbrev pub Then : (List ℕ → Type 0) → (List ℕ → Type 0) → List ℕ → Type 0
 Then First Second text = (x y : List ℕ) × First x × Second y × (text ≡ x ++ y)
 
+-- the word and a number of at most `most`
+abbrev pub IsNumbered : List ℕ → ℕ → List ℕ → Type 0
+IsNumbered word most = Then (IsWord word) (IsNumber most)
+
 -- a text of either language
 abbrev pub Either : (List ℕ → Type 0) → (List ℕ → Type 0) → List ℕ → Type 0
 Either First Second text = First text ⊎ Second text

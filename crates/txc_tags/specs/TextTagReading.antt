@@ -1,14 +1,8 @@
 -- Only proofs need this file: the pieces of a tag's text, as the readers see them.
 use Rattle.std.specs.Prelude.{ℕ, List}
-use Rattle.txc_tags.specs.declared.text.number.TheConstants.{LAST_NUMBER}
 use Rattle.txc_tags.specs.declared.text.tag.Spelling.{Spelling}
 use Rattle.txc_tags.specs.TextGrammar.{IsText}
-use Rattle.txc_tags.specs.TextReading.{IsWord, IsNumber, Then}
 use Rattle.txc_tags.specs.TextTag.{rows_text, spelled, AreRowsInRange, IsTagInRange}
-
--- the word and a number
-abbrev pub IsNumbered : List ℕ → List ℕ → Type 0
-IsNumbered word = Then (IsWord word) (IsNumber LAST_NUMBER)
 
 -- rows in that spelling
 abbrev pub IsRows : Spelling → List ℕ → Type 0

@@ -7,7 +7,7 @@ ghost use Rattle.txc_tags.specs.TextKeyReading.{closed_text, AreArguments, AreSo
 ghost use Rattle.txc_tags.specs.TextReading.{IsRefused};
 
 use crate::key::{Arguments, Key, LAST_FUNCTION, MAX_ARGS};
-use crate::text::number::{LAST_NUMBER, read_digits};
+use crate::text::number::{LAST_NUMBER, read_digits, read_numbered};
 use crate::text::range::key_is_in_range;
 use crate::text::read::read_word;
 use std::alloc::{AllocError, Global};
@@ -69,8 +69,7 @@ fn read_whole(text: &[u8]) -> Result<Key, &[u8]>
     ensures answer { IfOk result (IsTextOf IsKeyInRange key_text text.now) }
     ensures refused { IfErr result (λ rest. IsRefused (IsText IsKeyInRange key_text) text.now rest.now) }
 {
-    let rest = read_word(text, b"f")?;
-    let (function, rest) = read_digits(rest, LAST_FUNCTION as u64)?;
+    let (function, rest) = read_numbered(text, b"f", LAST_FUNCTION as u64)?;
     let rest = read_word(rest, b"(")?;
     let args = read_arguments(rest)?;
     Ok(Key::from_parts(function as u8, args))

@@ -3,7 +3,9 @@ ghost use Rattle.std.specs.Prelude.{◌≡◌, ℕ, ◌≤◌, [], ◌∷◌, �
 ghost use Rattle.std.specs.Fmt.{decimal};
 ghost use Rattle.txc_tags.specs.TextGrammar.{IsTextOf, IsText};
 ghost use Rattle.txc_tags.specs.TextNumber.{digits_read, IsDigit};
-ghost use Rattle.txc_tags.specs.TextReading.{GoesWrong, IsNumber, Reads};
+ghost use Rattle.txc_tags.specs.TextReading.{GoesWrong, IsNumber, IsNumbered, Reads};
+
+use crate::text::read::read_word;
 
 /// The greatest id, group and argument.
 pub const LAST_NUMBER: u64 = 4_294_967_295;
@@ -80,6 +82,20 @@ fn end_digits<'a>(number: Option<u64>, rest: &'a [u8]) -> Result<(u64, &'a [u8])
         Some(number) => Ok((number, rest)),
         None => Err(rest),
     }
+}
+
+/// The number of at most `most` after the word.
+pub(crate) fn read_numbered<'a>(
+    text: &'a [u8],
+    word: &[u8],
+    most: u64,
+) -> Result<(u64, &'a [u8]), &'a [u8]>
+    ensures number { IfOk result (λ r. (r.0 ≤ most)
+        × Reads (IsNumbered word.now most) text.now (word.now ++ decimal r.0) r.1.now) }
+    ensures wrong { IfErr result (λ rest. GoesWrong (IsNumbered word.now most) text.now rest.now) }
+{
+    let rest = read_word(text, word)?;
+    read_digits(rest, most)
 }
 
 /// The number that the whole text is, where it is at most `most`.

@@ -1,13 +1,12 @@
 //! Texts of tags: `t1:?`, `t1:id=7`, `t1:grp=2`.
 ghost use Rattle.std.specs.Prelude.{◌≡◌, ◌≤◌, ◌++◌, ◌↔◌, IsOk, IfOk, IfErr, string_bytes};
-ghost use Rattle.std.specs.Fmt.{decimal};
 ghost use Rattle.txc_tags.specs.TextGrammar.{IsText, IsTextOf, IsLongestPrefix};
 ghost use Rattle.txc_tags.specs.TextReading.{GoesWrong, IsRefused, Reads};
 ghost use Rattle.txc_tags.specs.TextTag.{opening, all_word, id_word, group_word, rows_text, spelled, tag_text, AreRowsInRange, IsTagInRange};
-ghost use Rattle.txc_tags.specs.TextTagReading.{IsNumbered, IsRows, IsSpelled};
+ghost use Rattle.txc_tags.specs.TextTagReading.{IsRows, IsSpelled};
 
 use crate::tag::{LAST_TABLE, Rows, Table, Tag};
-use crate::text::number::{LAST_NUMBER, read_digits};
+use crate::text::number::{LAST_NUMBER, read_numbered};
 use crate::text::range::tag_is_in_range;
 use crate::text::read::{further, read_word};
 use std::alloc::{AllocError, Global};
@@ -63,17 +62,6 @@ impl Spelling {
     }
 }
 
-/// The number after the word.
-fn read_numbered<'a>(text: &'a [u8], word: &[u8]) -> Result<(u32, &'a [u8]), &'a [u8]>
-    ensures number { IfOk result (λ r. (r.0 ≤ LAST_NUMBER)
-        × Reads (IsNumbered word.now) text.now (word.now ++ decimal r.0) r.1.now) }
-    ensures wrong { IfErr result (λ rest. GoesWrong (IsNumbered word.now) text.now rest.now) }
-{
-    let rest = read_word(text, word)?;
-    let (number, rest) = read_digits(rest, LAST_NUMBER)?;
-    Ok((number as u32, rest))
-}
-
 /// The rows after a table's number.
 fn read_rows<'a>(text: &'a [u8], spelling: Spelling) -> Result<(Rows, &'a [u8]), &'a [u8]>
     ensures rows { IfOk result (λ r. AreRowsInRange r.0
@@ -84,12 +72,12 @@ fn read_rows<'a>(text: &'a [u8], spelling: Spelling) -> Result<(Rows, &'a [u8]),
         Ok(rest) => return Ok((Rows::All, rest)),
         Err(rest) => rest,
     };
-    let id = match read_numbered(text, spelling.id()) {
-        Ok((id, rest)) => return Ok((Rows::Id(id), rest)),
+    let id = match read_numbered(text, spelling.id(), LAST_NUMBER) {
+        Ok((id, rest)) => return Ok((Rows::Id(id as u32), rest)),
         Err(rest) => rest,
     };
-    let group = match read_numbered(text, spelling.group()) {
-        Ok((group, rest)) => return Ok((Rows::Group(group), rest)),
+    let group = match read_numbered(text, spelling.group(), LAST_NUMBER) {
+        Ok((group, rest)) => return Ok((Rows::Group(group as u32), rest)),
         Err(rest) => rest,
     };
     Err(further(all, further(id, group)))
@@ -101,8 +89,7 @@ fn read_spelled<'a>(text: &'a [u8], spelling: Spelling) -> Result<(Tag, &'a [u8]
         × Reads (IsSpelled spelling) text.now (spelled spelling r.0) r.1.now) }
     ensures wrong { IfErr result (λ rest. GoesWrong (IsSpelled spelling) text.now rest.now) }
 {
-    let rest = read_word(text, spelling.opening())?;
-    let (number, rest) = read_digits(rest, LAST_TABLE as u64)?;
+    let (number, rest) = read_numbered(text, spelling.opening(), LAST_TABLE as u64)?;
     let (rows, rest) = read_rows(rest, spelling)?;
     let table = Table::new(number as u8).unwrap();
     Ok((Tag { table, rows }, rest))
