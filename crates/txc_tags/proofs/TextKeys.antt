@@ -13,7 +13,7 @@ use Rattle.txc_tags.specs.TextNumber.{IsDigit}
 use Rattle.txc_tags.specs.TextKey.{key_text, IsKeyInRange}
 use Rattle.txc_tags.specs.TextKeyReading.{closed_text, AreArguments, AreSome}
 use Rattle.txc_tags.specs.TextReading.{IsWord, IsNumber, IsNumbered, Then, Either, Reads, GoesWrong, IsRefused, IsMore, HasRead}
-use Rattle.txc_tags.proofs.TextReading.{Apart, Distinct, Solid, solid_apart, solid_none, split, word_apart, alike_refused, first_wrong, first_reads, then_refused, wrong_refused, trailing_refused, other_refused, other_byte}
+use Rattle.txc_tags.proofs.TextReading.{Apart, Distinct, Solid, solid_apart, word_apart, alike_refused, first_wrong, first_reads, then_refused, wrong_refused, trailing_refused, other_refused, other_byte}
 use Rattle.txc_tags.proofs.TextDigits.{number_solid, numbered_solid, numbered_known}
 use Rattle.txc_tags.proofs.TextJoined as joined
 use Rattle.txc_tags.proofs.TextJoined.{join_others}
@@ -48,9 +48,6 @@ HasArgs = HasRead IsArg decimal (41 ∷ []) Few
 
 abbrev pub More : ℕ → List ℕ → Type 0
 More = IsMore IsArg decimal (41 ∷ []) Few
-
-pub no_args : (text : List ℕ) → HasArgs text text []
-no_args = joined.nothing_read IsArg decimal (41 ∷ []) Few arg_solid no_digit no_comma
 
 module _ (text rest : List ℕ) (args : List ℕ) (read : HasArgs text rest args) where
   pub number_wrong : (last : List ℕ) → length args < 4 → GoesWrong (IsNumber 4294967295) rest last → IsRefused AreSome text last

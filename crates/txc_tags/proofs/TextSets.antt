@@ -73,9 +73,6 @@ pub record HasTags (text rest : List ℕ) (set : List Tag) : Type 0 where
   pub read : HasRead IsTagInRange tag_text [] Any text rest tags
   pub set_is : set ≡ set_of tags
 
-pub no_tags : (text : List ℕ) → HasTags text text []
-no_tags text = record { tags = []; read = joined.nothing_read IsTagInRange tag_text [] Any tag_solid tt no_comma text; set_is = refl }
-
 module _ (text rest : List ℕ) (set : List Tag) (read : HasTags text rest set) (no_dash : (others : List ℕ) → text ≡ 45 ∷ others → ⊥) where
   refused : (last : List ℕ) → IsRefused (IsJoined IsTagInRange tag_text [] Any (length read.tags)) rest last → IsRefused IsSet text last
   refused last g = alike_refused (Either (IsWord (45 ∷ [])) Tags) IsSet from_tags to_tags text last (other_refused 45 Tags text last no_dash (read.read.refused last g))

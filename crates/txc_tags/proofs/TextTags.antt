@@ -12,7 +12,7 @@ use Rattle.txc_tags.specs.TextNumber.{IsDigit, BeginsWithNoDigit}
 use Rattle.txc_tags.specs.TextReading.{IsWord, IsNumbered, Then, Either, Reads, GoesWrong}
 use Rattle.txc_tags.specs.TextTag.{opening, all_word, id_word, group_word, rows_text, spelled, AreRowsInRange, IsTagInRange}
 use Rattle.txc_tags.specs.TextTagReading.{IsRows, IsSpelled}
-use Rattle.txc_tags.proofs.TextReading.{IsFurther, Apart, Distinct, Differ, Solid, distinct, word_begins, then_begins, split, solid_none, solid_apart, word_apart, word_solid, then_solid, either_solid, alike_reads, alike_wrong, first_reads, second_reads, further_wrong, then_reads, then_wrong, first_wrong}
+use Rattle.txc_tags.proofs.TextReading.{IsFurther, Apart, Distinct, Differ, Solid, distinct, word_begins, then_begins, solid_apart, word_solid, then_solid, either_solid, alike_reads, alike_wrong, first_reads, second_reads, further_wrong, then_reads, then_wrong, first_wrong}
 use Rattle.txc_tags.proofs.TextDigits.{numbered_solid, numbered_known}
 
 -- ---- the rows
@@ -79,9 +79,6 @@ module _ (s : Spelling) where
   rows_solid x y b h k = pieces_solid x y b (to_pieces x h) (to_pieces (x ++ b ∷ y) k)
 
   -- ---- what `read_rows` answers
-
-  pub reads_all : (text rest : List ℕ) → Reads AllRows text (all_word s) rest → Reads (IsRows s) text (all_word s) rest
-  reads_all text rest r = alike_reads Pieces (IsRows s) from_pieces to_pieces text (all_word s) rest (first_reads AllRows Numbered all_apart text (all_word s) rest r)
 
   pub reads_id : (text piece rest : List ℕ) → Reads (IsNumbered (id_word s) 4294967295) text piece rest → Reads (IsRows s) text piece rest
   reads_id text piece rest r = alike_reads Pieces (IsRows s) from_pieces to_pieces text piece rest

@@ -1,4 +1,4 @@
-use Rattle.std.proofs.Common.{◌++◌, arith, refl}
+use Rattle.std.proofs.Common.{arith, refl}
 use Rattle.std.proofs.lemmas.Result.{IfOk-weaker, IfErr-weaker}
 use Rattle.std.specs.Fmt.{decimal}
 use Rattle.txc_tags.specs.TextReading.{IsWord, IsNumber, IsNumbered, GoesWrong}
