@@ -21,4 +21,3 @@ same_call_is a b e =
 
 pub same_call_iff : (a b : Call) → (same_call a b ≡ true) ↔ (a ≡ b)
 same_call_iff a b = (same_call_is a b, λ e. subst (λ (c : Call). same_call a c ≡ true) e (same_call_itself a))
-

@@ -94,8 +94,13 @@ either_side table x e = grind (arith, nat_tests)
 -- a wildcard makes the set longer where no tag of its table is there
 pub wild_longer : (table : ℕ) (set : List Tag) → count_by (is_of table) set ≡ 0 → length set < length (wildcarded table set)
 wild_longer table set e =
-    omega (arith, count_all set, count_all (wildcarded table set), counted_round (λ x. nat_lt x.table table) (λ x. nat_lt table x.table) (λ x. true) (wildcard table) set,
-    counted_apart (λ x. nat_lt x.table table) (λ x. nat_lt table x.table) (λ x. true) (λ x. true) set (λ x k. either_side table x (none_of table set e x k)))
+    omega (
+      arith,
+      count_all set,
+      count_all (wildcarded table set),
+      counted_round (λ x. nat_lt x.table table) (λ x. nat_lt table x.table) (λ x. true) (wildcard table) set,
+      counted_apart (λ x. nat_lt x.table table) (λ x. nat_lt table x.table) (λ x. true) (λ x. true) set (λ x k. either_side table x (none_of table set e x k)),
+    )
 
 pub some_or_none : (n : ℕ) → (n ≡ 0) ⊎ (0 < n)
 some_or_none zero = inl refl

@@ -31,7 +31,7 @@ front_le xs n rest hn e =
     let l = digits_value-take-le 10 (decimal n) (length xs) (omega arith) in
     omega (arith, b.1, ap (digits_value 10) front, l)
 
--- nothing stands behind a zero
+-- nothing stands after a zero
 pub zero_alone : (b n : ℕ) (rest : List ℕ) → n < 2 ^ 64 → decimal 0 ++ b ∷ rest ≡ decimal n → ⊥
 zero_alone b zero rest l e = let n : length (decimal 0 ++ b ∷ rest) ≡ length (decimal 0) = ap length e in omega (arith, n, length-append (decimal 0) (b ∷ rest))
 zero_alone b (suc n) rest l e =

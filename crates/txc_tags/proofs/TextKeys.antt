@@ -192,7 +192,7 @@ args_known (x ∷ xs) (y ∷ ys) h k e =
 pub same_key_text : (a b : Call) → IsKeyInRange a → IsKeyInRange b → key_text a ≡ key_text b → a ≡ b
 same_key_text a b h k e =
     let p = numbered_known (102 ∷ []) 31 (omega arith) Args paren_first a.function b.function (40 ∷ closed_text a.args) (40 ∷ closed_text b.args) h.function k.function
-        (40 ∷ [], closed_text a.args, refl, (a.args, ((h.few, h.args), refl)), refl) (40 ∷ [], closed_text b.args, refl, (b.args, ((k.few, k.args), refl)), refl) e in
+    (40 ∷ [], closed_text a.args, refl, (a.args, ((h.few, h.args), refl)), refl) (40 ∷ [], closed_text b.args, refl, (b.args, ((k.few, k.args), refl)), refl) e in
     let q : 40 ∷ closed_text a.args ≡ 40 ∷ closed_text b.args = p.1 in
     let r : closed_text a.args ≡ closed_text b.args = cc in
     ap (λ (f : ℕ). call f a.args) p.0 ∙ ap (λ (xs : List ℕ). call b.function xs) (args_known a.args b.args h.args k.args r)

@@ -270,7 +270,7 @@ word_wrong word text rest i l e other = record {
     next : (byte : ℕ) (more : List ℕ) → take i word ++ byte ∷ more ≡ word → byte ≡ get_or word i 0
     next byte more k =
         let q : byte ∷ more ≡ get_or word i 0 ∷ drop (i + 1) word = append_cancel_left (take i word) (byte ∷ more) (get_or word i 0 ∷ drop (i + 1) word)
-            (k ∙ sym (take-append-drop i word) ∙ ap (λ t. take i word ++ t) (drop_more word i 0 l)) in
+        (k ∙ sym (take-append-drop i word) ∙ ap (λ t. take i word ++ t) (drop_more word i 0 l)) in
         cc
 
 pub word_apart : (word : List ℕ) (Second : List ℕ → Type 0) → Apart (IsWord word) Second

@@ -88,7 +88,7 @@ module _ (text rest : List ℕ) (set : List Tag) (read : HasTags text rest set) 
         let some : after ≡ [] → ⊥ = λ e. (let n : length after ≡ 0 = ap length e in grind (arith, n, left, nat_tests)) in
         subst (IsRefused IsSet text) other.0
         (refused after (joined.after_refused IsTagInRange tag_text [] Any tag_solid tt no_comma (length read.tags) rest (tag_text tag) after after one
-          (joined.neither_refused IsTagInRange tag_text [] Any tag_solid tt no_comma (length read.tags + 1) after tt some (λ byte others more e is. absurd (cc)) (λ others n e few. other.1 others e))))
+        (joined.neither_refused IsTagInRange tag_text [] Any tag_solid tt no_comma (length read.tags + 1) after tt some (λ byte others more e is. absurd (cc)) (λ others n e few. other.1 others e))))
 
     pub one_more : (next : List ℕ) → after ≡ 44 ∷ next → HasTags text next (with_tag tag set)
     one_more next e = record {

@@ -24,9 +24,10 @@ IsNumbered word most = Then (IsWord word) (IsNumber most)
 abbrev pub Either : (List ℕ → Type 0) → (List ℕ → Type 0) → List ℕ → Type 0
 Either First Second text = First text ⊎ Second text
 
--- what stands after an item of a joined list, of which there have been k: an end, or a comma and further items
+-- what stands after an item of a joined list, after k items: an end, or a comma and further items
 abbrev pub IsMore : {V : Type 0} → (V → Type 0) → (V → List ℕ) → List ℕ → (ℕ → Type 0) → ℕ → List ℕ → Type 0
-IsMore {V} Allowed write end Few k text = (items : List V) × All Allowed items × Few (k + length items) × (text ≡ flat_map (λ item. 44 ∷ write item) items ++ end)
+IsMore {V} Allowed write end Few k text = (items : List V) × All Allowed items × Few (k + length items)
+    × (text ≡ flat_map (λ item. 44 ∷ write item) items ++ end)
 
 -- an item after k others, and what stands after it
 abbrev pub IsJoined : {V : Type 0} → (V → Type 0) → (V → List ℕ) → List ℕ → (ℕ → Type 0) → ℕ → List ℕ → Type 0
@@ -34,7 +35,8 @@ IsJoined Allowed write end Few k = Then (IsText Allowed write) (IsMore Allowed w
 
 -- no text of the language goes on from what was read with the byte that comes next
 abbrev pub NoneGoesOn : (List ℕ → Type 0) → List ℕ → List ℕ → Type 0
-NoneGoesOn Language read rest = (byte : ℕ) (others more : List ℕ) → rest ≡ byte ∷ others → Language (read ++ byte ∷ more) → ⊥
+NoneGoesOn Language read rest =
+    (byte : ℕ) (others more : List ℕ) → rest ≡ byte ∷ others → Language (read ++ byte ∷ more) → ⊥
 
 -- the text is a piece of the language and a rest, and no text of the language begins with more of it
 pub record Reads (Language : List ℕ → Type 0) (text piece rest : List ℕ) : Type 0 where
@@ -60,7 +62,9 @@ pub record IsRefused (Language : List ℕ → Type 0) (text rest : List ℕ) : T
   pub none : Language text → ⊥
 
 -- items were read, each with a comma after it; where the rest is refused, the text is
-pub record HasRead {V : Type 0} (Allowed : V → Type 0) (write : V → List ℕ) (end : List ℕ) (Few : ℕ → Type 0) (text rest : List ℕ) (items : List V) : Type 0 where
+pub record HasRead {V : Type 0} (Allowed : V → Type 0) (write : V → List ℕ) (end : List ℕ)
+    (Few : ℕ → Type 0) (text rest : List ℕ) (items : List V) : Type 0 where
   pub all : All Allowed items
   pub parts : text ≡ flat_map (λ item. write item ++ 44 ∷ []) items ++ rest
-  pub refused : (last : List ℕ) → IsRefused (IsJoined Allowed write end Few (length items)) rest last → IsRefused (IsJoined Allowed write end Few 0) text last
+  pub refused : (last : List ℕ) → IsRefused (IsJoined Allowed write end Few (length items)) rest last
+      → IsRefused (IsJoined Allowed write end Few 0) text last

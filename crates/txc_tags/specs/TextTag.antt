@@ -1,4 +1,4 @@
--- The text of a tag: `t`, the table's number, `:`, and then `?`, or `id=` and a number, or `grp=` and a number.
+-- The text of a tag: `t`, the table's number, `:`, and then `?`, or `id=` or `grp=` and a number.
 use Rattle.std.specs.Prelude.{ℕ, ◌≤◌, ⊤, List, ◌++◌, codes}
 use Rattle.std.specs.Fmt.{decimal}
 use Rattle.txc_tags.specs.declared.tag.Rows.{Rows}

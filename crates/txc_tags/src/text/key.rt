@@ -104,7 +104,9 @@ impl Key {
     {
         match read_whole(text) {
             Ok(key) => Ok(key),
-            Err(rest) => Err(BadKey { at: text.len() - rest.len() }),
+            Err(rest) => Err(BadKey {
+                at: text.len() - rest.len(),
+            }),
         }
     }
 

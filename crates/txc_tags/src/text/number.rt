@@ -55,9 +55,9 @@ fn push_digit(number: Option<u64>, byte: u8, most: u64) -> Option<u64>
 
 /// The number of at most `most` that stands at the text's beginning.
 pub(crate) fn read_digits<'a>(text: &'a [u8], most: u64) -> Result<(u64, &'a [u8]), &'a [u8]>
-    ensures number { IfOk result (λ r.
+    ensures answer { IfOk result (λ r.
         (r.0 ≤ most) × Reads (IsNumber most) text.now (decimal r.0) r.1.now) }
-    ensures wrong { IfErr result (λ rest. GoesWrong (IsNumber most) text.now rest.now) }
+    ensures refused { IfErr result (λ rest. GoesWrong (IsNumber most) text.now rest.now) }
 {
     let mut number = None;
     let mut rest = text;
@@ -90,9 +90,9 @@ pub(crate) fn read_numbered<'a>(
     word: &[u8],
     most: u64,
 ) -> Result<(u64, &'a [u8]), &'a [u8]>
-    ensures number { IfOk result (λ r. (r.0 ≤ most)
+    ensures answer { IfOk result (λ r. (r.0 ≤ most)
         × Reads (IsNumbered word.now most) text.now (word.now ++ decimal r.0) r.1.now) }
-    ensures wrong { IfErr result (λ rest. GoesWrong (IsNumbered word.now most) text.now rest.now) }
+    ensures refused { IfErr result (λ rest. GoesWrong (IsNumbered word.now most) text.now rest.now) }
 {
     let rest = read_word(text, word)?;
     read_digits(rest, most)
@@ -100,8 +100,8 @@ pub(crate) fn read_numbered<'a>(
 
 /// The number that the whole text is, where it is at most `most`.
 pub fn read_number(text: &[u8], most: u64) -> Option<u64>
-    ensures number { IfSome result (IsTextOf (λ n. n ≤ most) decimal text.now) }
-    ensures none { IfNone result (IsText (λ n. n ≤ most) decimal text.now → ⊥) }
+    ensures answer { IfSome result (IsTextOf (λ n. n ≤ most) decimal text.now) }
+    ensures refused { IfNone result (IsText (λ n. n ≤ most) decimal text.now → ⊥) }
 {
     match read_digits(text, most) {
         Err(_) => None,

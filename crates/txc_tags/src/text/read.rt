@@ -6,8 +6,8 @@ ghost use Rattle.txc_tags.specs.TextReading.{GoesWrong, IsWord, Reads};
 /// What stands after the word.
 #[inline]
 pub(crate) fn read_word<'a>(text: &'a [u8], word: &[u8]) -> Result<&'a [u8], &'a [u8]>
-    ensures after { IfOk result (λ rest. Reads (IsWord word.now) text.now word.now rest.now) }
-    ensures wrong { IfErr result (λ rest. GoesWrong (IsWord word.now) text.now rest.now) }
+    ensures answer { IfOk result (λ rest. Reads (IsWord word.now) text.now word.now rest.now) }
+    ensures refused { IfErr result (λ rest. GoesWrong (IsWord word.now) text.now rest.now) }
 {
     let mut rest = text;
     for byte in word {

@@ -64,9 +64,9 @@ impl Spelling {
 
 /// The rows after a table's number.
 fn read_rows<'a>(text: &'a [u8], spelling: Spelling) -> Result<(Rows, &'a [u8]), &'a [u8]>
-    ensures rows { IfOk result (λ r. AreRowsInRange r.0
+    ensures answer { IfOk result (λ r. AreRowsInRange r.0
         × Reads (IsRows spelling) text.now (rows_text spelling r.0) r.1.now) }
-    ensures wrong { IfErr result (λ rest. GoesWrong (IsRows spelling) text.now rest.now) }
+    ensures refused { IfErr result (λ rest. GoesWrong (IsRows spelling) text.now rest.now) }
 {
     let all = match read_word(text, spelling.all()) {
         Ok(rest) => return Ok((Rows::All, rest)),
@@ -85,9 +85,9 @@ fn read_rows<'a>(text: &'a [u8], spelling: Spelling) -> Result<(Rows, &'a [u8]),
 
 /// The tag in that spelling at the text's beginning.
 fn read_spelled<'a>(text: &'a [u8], spelling: Spelling) -> Result<(Tag, &'a [u8]), &'a [u8]>
-    ensures tag { IfOk result (λ r. IsTagInRange r.0
+    ensures answer { IfOk result (λ r. IsTagInRange r.0
         × Reads (IsSpelled spelling) text.now (spelled spelling r.0) r.1.now) }
-    ensures wrong { IfErr result (λ rest. GoesWrong (IsSpelled spelling) text.now rest.now) }
+    ensures refused { IfErr result (λ rest. GoesWrong (IsSpelled spelling) text.now rest.now) }
 {
     let (number, rest) = read_numbered(text, spelling.opening(), LAST_TABLE as u64)?;
     let (rows, rest) = read_rows(rest, spelling)?;
@@ -97,9 +97,9 @@ fn read_spelled<'a>(text: &'a [u8], spelling: Spelling) -> Result<(Tag, &'a [u8]
 
 /// The tag at the text's beginning.
 pub(crate) fn read_tag<'a>(text: &'a [u8]) -> Result<(Tag, &'a [u8]), &'a [u8]>
-    ensures tag { IfOk result (λ r. IsTagInRange r.0
+    ensures answer { IfOk result (λ r. IsTagInRange r.0
         × Reads (IsText IsTagInRange tag_text) text.now (tag_text r.0) r.1.now) }
-    ensures wrong { IfErr result (λ rest. GoesWrong (IsText IsTagInRange tag_text) text.now rest.now) }
+    ensures refused { IfErr result (λ rest. GoesWrong (IsText IsTagInRange tag_text) text.now rest.now) }
 {
     read_spelled(text, Spelling::Usual)
 }
@@ -148,7 +148,9 @@ impl Tag {
     {
         match read_whole(text) {
             Ok(tag) => Ok(tag),
-            Err(rest) => Err(BadTag { at: text.len() - rest.len() }),
+            Err(rest) => Err(BadTag {
+                at: text.len() - rest.len(),
+            }),
         }
     }
 

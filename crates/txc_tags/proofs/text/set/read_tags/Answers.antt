@@ -6,25 +6,25 @@ use Rattle.txc_tags.proofs.TextSets.{tag_wrong, comma_wrong, one_more, all_tags,
 use Rattle.txc_tags.proofs.text.set.read_tags.Goals as goal
 
 pub bad_tag-requires : goal.bad_tag-requires
-bad_tag-requires c = tag_wrong c.args.text.now c.loop-read.rest.now c.loop-read.invariant.0 c.loop-read.invariant.1 c.requires c.in-Err.wrong.now c.in-Err.ensures.wrong
+bad_tag-requires c = tag_wrong c.args.text.now c.loop-read.rest.now c.loop-read.invariant.0 c.loop-read.invariant.1 c.requires c.in-Err.wrong.now c.in-Err.ensures.refused
 
 pub bad_tag-requires-in-Err-read_word : goal.bad_tag-requires-in-Err-read_word
 bad_tag-requires-in-Err-read_word c =
-    comma_wrong c.args.text.now c.loop-read.rest.now c.loop-read.invariant.0 c.loop-read.invariant.1 c.requires c.in-Ok.read.0 c.in-Ok.read.1.now c.in-Ok.ensures.tag.0 c.in-Ok.ensures.tag.1 c.in-Err-read_word.wrong.now c.if-is_empty.ensures c.in-Err-read_word.ensures.wrong
+    comma_wrong c.args.text.now c.loop-read.rest.now c.loop-read.invariant.0 c.loop-read.invariant.1 c.requires c.in-Ok.read.0 c.in-Ok.read.1.now c.in-Ok.ensures.answer.0 c.in-Ok.ensures.answer.1 c.in-Err-read_word.wrong.now c.if-is_empty.ensures c.in-Err-read_word.ensures.refused
 
 pub loop-read-preserved : goal.loop-read-preserved
 loop-read-preserved c = (
   with_tag c.in-Ok.read.0 c.loop-read.invariant.0,
-  one_more c.args.text.now c.loop-read.rest.now c.loop-read.invariant.0 c.loop-read.invariant.1 c.requires c.in-Ok.read.0 c.in-Ok.read.1.now c.in-Ok.ensures.tag.0 c.in-Ok.ensures.tag.1 c.in-Ok-read_word.more.now c.in-Ok-read_word.ensures.after.parts,
+  one_more c.args.text.now c.loop-read.rest.now c.loop-read.invariant.0 c.loop-read.invariant.1 c.requires c.in-Ok.read.0 c.in-Ok.read.1.now c.in-Ok.ensures.answer.0 c.in-Ok.ensures.answer.1 c.in-Ok-read_word.more.now c.in-Ok-read_word.ensures.answer.parts,
   carried (with_tag c.in-Ok.read.0) c.loop-read.invariant.0 c.loop-read.set c.with_one-set.result c.with_one-set.ensures c.loop-read.invariant.2,
 )
 
 pub returns-in-Ok-set-clause-answer : goal.returns-in-Ok-set-clause-answer
 returns-in-Ok-set-clause-answer c =
     subst (IsSetOfText c.args.text.now) (sym (carried (with_tag c.in-Ok.read.0) c.loop-read.invariant.0 c.loop-read.set (Ok c.in-Ok-set.set) c.in-Ok-set.ensures c.loop-read.invariant.2))
-    (all_tags c.args.text.now c.loop-read.rest.now c.loop-read.invariant.0 c.loop-read.invariant.1 c.requires c.in-Ok.read.0 c.in-Ok.read.1.now c.in-Ok.ensures.tag.0 c.in-Ok.ensures.tag.1 (empty c.in-Ok.read.1.now c.if-is_empty.ensures))
+    (all_tags c.args.text.now c.loop-read.rest.now c.loop-read.invariant.0 c.loop-read.invariant.1 c.requires c.in-Ok.read.0 c.in-Ok.read.1.now c.in-Ok.ensures.answer.0 c.in-Ok.ensures.answer.1 (empty c.in-Ok.read.1.now c.if-is_empty.ensures))
 
 pub returns-in-Err-set-clause-refused : goal.returns-in-Err-set-clause-refused
 returns-in-Err-set-clause-refused c =
-    let p = all_tags c.args.text.now c.loop-read.rest.now c.loop-read.invariant.0 c.loop-read.invariant.1 c.requires c.in-Ok.read.0 c.in-Ok.read.1.now c.in-Ok.ensures.tag.0 c.in-Ok.ensures.tag.1 (empty c.in-Ok.read.1.now c.if-is_empty.ensures) in
+    let p = all_tags c.args.text.now c.loop-read.rest.now c.loop-read.invariant.0 c.loop-read.invariant.1 c.requires c.in-Ok.read.0 c.in-Ok.read.1.now c.in-Ok.ensures.answer.0 c.in-Ok.ensures.answer.1 (empty c.in-Ok.read.1.now c.if-is_empty.ensures) in
     (p.0, p.1)
