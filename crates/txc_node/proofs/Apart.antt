@@ -3,7 +3,7 @@ use Rattle.std.proofs.Common.{◌≡◌, ℕ, ◌-◌, ◌<◌, Bool, true, fals
 use Rattle.std.specs.List.{AllByRecursion, filter, remove}
 use Rattle.std.proofs.lemmas.Bool.Decides.{same_from_decides, Decides-like, Decides-eqb}
 use Rattle.txc_tags.specs.Keys.{Call, same_call}
-use Rattle.txc_tags.proofs.Calls.{same_call_itself, same_call_iff}
+use Rattle.txc_tags.proofs.Offered.{same_call_itself, same_call_iff}
 use Rattle.txc_tags.specs.declared.tag.Tag.{Tag}
 use Rattle.txc_stamp.specs.Interval.{closed_at}
 use Rattle.txc_node.specs.declared.entry.Entry.{Entry}

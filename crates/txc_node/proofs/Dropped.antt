@@ -5,7 +5,7 @@ use Rattle.std.specs.List.{find, position}
 use Rattle.std.proofs.lemmas.Bool.{false≢true}
 use Rattle.std.proofs.lemmas.Bool.Decides.{Decides-and, Decides-eqb}
 use Rattle.std.proofs.lemmas.Option.{slice_get_past}
-use Rattle.txc_tags.proofs.Calls.{same_call_iff}
+use Rattle.txc_tags.proofs.Offered.{same_call_iff}
 use Rattle.txc_stamp.specs.Interval.{end_at}
 use Rattle.txc_node.specs.declared.entry.Entry.{Entry}
 use Rattle.txc_node.specs.Entries.{same_place, AreApart}

@@ -11,8 +11,7 @@ use Rattle.std.proofs.lemmas.Option.{slice_get_past}
 use Rattle.txc_node.specs.declared.entry.Entry.{Entry}
 use Rattle.txc_stamp.specs.Interval.{Interval, shown, end_at, closed_at}
 use Rattle.txc_tags.specs.Keys.{Call, same_call}
-use Rattle.txc_tags.proofs.Calls.{same_call_is}
-use Rattle.txc_tags.proofs.Lists.{both_true}
+use Rattle.txc_tags.proofs.Offered.{same_call_is, both_true}
 use Rattle.txc_tags.specs.Tags.{sets_match}
 use Rattle.txc_tags.specs.declared.tag.Tag.{Tag}
 use Rattle.txc_node.specs.declared.node.Inserted.TheVariants.{Stored, Kept}

@@ -9,7 +9,7 @@ use Rattle.txc_stamp.specs.Interval.{Interval, end_at, closed_at}
 use Rattle.txc_tags.specs.declared.tag.Tag.{Tag}
 use Rattle.txc_tags.specs.Tags.{sets_match}
 use Rattle.txc_tags.specs.Keys.{Call}
-use Rattle.txc_tags.proofs.Calls.{same_call_iff}
+use Rattle.txc_tags.proofs.Offered.{same_call_iff}
 use Rattle.txc_node.specs.declared.entry.Entry.{Entry}
 use Rattle.txc_node.specs.Entries.{same_place, meets_range, outlasts, is_best, others, AreApart}
 use Rattle.txc_node.specs.Best.{BestSoFar}

@@ -1,11 +1,10 @@
 -- Two calls are the same exactly where they are equal.
 use Rattle.std.proofs.Common.{◌≡◌, ◌↔◌, ◌==◌, ℕ, List, true, refl, ap, subst, ◌∙◌}
-use Rattle.std.specs.Cmp.{IsEquivalence}
 use Rattle.std.specs.Str.{bytes_eq}
 use Rattle.std.proofs.lemmas.Slice.Eq.{bytes_eq-Decides}
 use borrow.Author.Tests.{eqb-true, eq-eqb}
 use Rattle.txc_tags.specs.Keys.{Call, same_call}
-use Rattle.txc_tags.proofs.Lists.{both_true, and_true, both_ways}
+use Rattle.txc_tags.proofs.Lists.{both_true, and_true}
 
 pub same_call_itself : (a : Call) → same_call a a ≡ true
 same_call_itself a = and_true (a.function == a.function) (bytes_eq a.args a.args) (eq-eqb a.function a.function refl) ((bytes_eq-Decides a.args a.args).1 refl)
@@ -22,14 +21,3 @@ same_call_is a b e =
 
 pub same_call_iff : (a b : Call) → (same_call a b ≡ true) ↔ (a ≡ b)
 same_call_iff a b = (same_call_is a b, λ e. subst (λ (c : Call). same_call a c ≡ true) e (same_call_itself a))
-
-call_back : (a b : Call) → same_call a b ≡ true → same_call b a ≡ true
-call_back a b e = subst (λ (c : Call). same_call c a ≡ true) (same_call_is a b e) (same_call_itself a)
-
--- being the same call is an equivalence
-pub call_laws : IsEquivalence same_call
-call_laws = record {
-  refl = same_call_itself;
-  symm = λ a b. both_ways (same_call a b) (same_call b a) (call_back a b) (call_back b a);
-  congr = λ a b c e. ap (λ (d : Call). same_call d c) (same_call_is a b e);
-}

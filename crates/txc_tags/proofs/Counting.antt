@@ -1,11 +1,11 @@
 -- How many tags of a table a set holds once one is added.
-use Rattle.std.proofs.Common.{◌≡◌, inl, inr, ℕ, ◌+◌, List, [], ◌∷◌, ◌++◌, filter, count_by, Bool, true, false, true≢false, cond, not, nat_lt, ◌==◌, ◌&&◌, refl, sym, ◌∙◌, arith}
+use Rattle.std.proofs.Common.{◌≡◌, ◌⊎◌, inl, inr, zero, suc, ℕ, ◌+◌, ◌<◌, length, List, [], ◌∷◌, ◌++◌, filter, count_by, Bool, true, false, true≢false, cond, not, nat_lt, ◌==◌, ◌&&◌, refl, sym, ap, ◌∙◌, arith}
 use Rattle.std.proofs.lemmas.List.Sums.{sum_by-append, sum_by-cons}
 use Rattle.std.proofs.lemmas.Bool.Decides.{nat_tests}
 use borrow.Author.Tests.{eq-eqb}
 use Rattle.txc_tags.specs.declared.tag.Tag.{Tag}
 use Rattle.txc_tags.specs.Tags.{has_tag, tag_before, is_of, put_in, wildcarded, wildcard}
-use Rattle.txc_tags.proofs.Lists.{bool_cases, IsIn, count_no}
+use Rattle.txc_tags.proofs.Lists.{bool_cases, IsIn, count_yes, count_no}
 use Rattle.txc_tags.proofs.Placing.{behind_it}
 
 -- a count over a filter is that of both tests
@@ -67,3 +67,41 @@ pub count_wild_elsewhere : (table other : ℕ) (set : List Tag) → (other == ta
 count_wild_elsewhere table other set apart =
     let itself : ◌≡◌ {A = ℕ} (cond (table == other) 1 0) 0 = grind (arith, nat_tests) in
     omega (arith, itself, counted_round (λ x. nat_lt x.table table) (λ x. nat_lt table x.table) (is_of other) (wildcard table) set, counted_apart (λ x. nat_lt x.table table) (λ x. nat_lt table x.table) (is_of other) (is_of other) set (λ x k. all_elsewhere table other x apart))
+
+-- ---- lengths
+
+count_all : (xs : List Tag) → count_by (λ x. true) xs ≡ length xs
+count_all [] = refl
+count_all (x ∷ xs) = count_yes (λ y. true) x xs refl ∙ omega (arith, count_all xs)
+
+-- a tag that was not there makes the set longer
+pub put_longer : (tag : Tag) (set : List Tag) → has_tag set tag ≡ false → length set < length (put_in tag set)
+put_longer tag set absent = omega (arith, count_put (λ x. true) tag set absent, count_all set, count_all (put_in tag set))
+
+none_of : (table : ℕ) (set : List Tag) → count_by (is_of table) set ≡ 0 → (x : Tag) → IsIn x set → is_of table x ≡ false
+none_of table [] e x h = absurd h
+none_of table (y ∷ set) e x h = elim (bool_cases (is_of table y)) [
+  | inl here ↦ absurd (omega (arith, e, count_yes (is_of table) y set here))
+  | inr apart ↦ elim h as (λ _. is_of table x ≡ false) [
+    | inl same ↦ ap (is_of table) same ∙ apart
+    | inr later ↦ none_of table set (sym (count_no (is_of table) y set apart) ∙ e) x later
+  ]
+]
+
+either_side : (table : ℕ) (x : Tag) → is_of table x ≡ false → cond (nat_lt x.table table && true) 1 0 + cond (nat_lt table x.table && true) 1 0 ≡ cond true 1 0
+either_side table x e = grind (arith, nat_tests)
+
+-- a wildcard makes the set longer where no tag of its table is there
+pub wild_longer : (table : ℕ) (set : List Tag) → count_by (is_of table) set ≡ 0 → length set < length (wildcarded table set)
+wild_longer table set e =
+    omega (
+      arith,
+      count_all set,
+      count_all (wildcarded table set),
+      counted_round (λ x. nat_lt x.table table) (λ x. nat_lt table x.table) (λ x. true) (wildcard table) set,
+      counted_apart (λ x. nat_lt x.table table) (λ x. nat_lt table x.table) (λ x. true) (λ x. true) set (λ x k. either_side table x (none_of table set e x k)),
+    )
+
+pub some_or_none : (n : ℕ) → (n ≡ 0) ⊎ (0 < n)
+some_or_none zero = inl refl
+some_or_none (suc n) = inr (omega arith)

@@ -6,12 +6,12 @@ pub mod Counting
 pub mod Canonical
 pub mod Covering
 pub mod Calls
+pub mod TextReading
 pub mod TextDigits
-pub mod TextPrefixes
 pub mod TextJoined
 pub mod TextTags
 pub mod TextKeys
-pub mod TextSets
 pub mod Sixteen
+pub mod TextSets
 pub mod Merging
 pub mod Offered

@@ -29,10 +29,6 @@ pub none_true : (a b : Bool) → a || b ≡ false → (a ≡ false) × (b ≡ fa
 none_true true b e = absurd (true≢false e)
 none_true false b e = (refl, e)
 
-pub or_left_is : (a b : Bool) → b ≡ false → a || b ≡ a
-or_left_is true b e = refl
-or_left_is false b e = e
-
 pub both_ways : (a b : Bool) → (a ≡ true → b ≡ true) → (b ≡ true → a ≡ true) → a ≡ b
 both_ways true b there back = sym (there refl)
 both_ways false true there back = back refl

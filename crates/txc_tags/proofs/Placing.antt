@@ -1,4 +1,4 @@
--- A tag inserted behind the tags that stand before it is at its place.
+-- A tag inserted after the tags that stand before it is at its place.
 use Rattle.std.proofs.Common.{◌≡◌, inl, inr, ℕ, zero, suc, List, [], ◌∷◌, filter, count_by, take, drop, Bool, true, false, not, nat_lt, ◌&&◌, ◌==◌, refl, sym, ap, ◌∙◌, arith}
 use Rattle.std.specs.List.{list_all, insert}
 use Rattle.std.proofs.lemmas.Bool.Decides.{nat_tests}
@@ -17,14 +17,14 @@ filter_none p (x ∷ xs) h =
     let here = h x (inl refl) in
     (rw (here, rest.0) refl, rw (here, rest.1) refl, count_no p x xs here ∙ rest.2)
 
--- what stands behind a tag that is not before another is not before it either
+-- what stands after a tag that is not before another is not before it either
 none_before : (tag x : Tag) (xs : List Tag) → tag_before x tag ≡ false → list_all (tag_before x) xs ≡ true → (y : Tag) → IsIn y xs → tag_before y tag ≡ false
 none_before tag x xs e p y k = elim (bool_cases (tag_before y tag)) [
   | inl before ↦ not_both (tag_before x tag) (before_trans x y tag (all_at (tag_before x) y xs p k) before) e
   | inr not_before ↦ not_before
 ]
 
--- a list in order, cut behind the tags that stand before one
+-- a list in order, cut after the tags that stand before one
 pub record Cut (tag : Tag) (set : List Tag) (n : ℕ) : Type 0 where
   pub low : take n set ≡ filter (λ x. tag_before x tag) set
   pub high : drop n set ≡ filter (λ x. not (tag_before x tag)) set
@@ -49,7 +49,7 @@ cut_at tag (x ∷ xs) (suc n) e h = elim (bool_cases (tag_before x tag)) [
       absurd (omega (arith, counted))
 ]
 
--- where the tag does not stand in the set, those that are not before it are behind it
+-- where the tag does not stand in the set, those that are not before it are after it
 pub behind_it : (tag : Tag) (set : List Tag) → has_tag set tag ≡ false → (x : Tag) → IsIn x set → not (tag_before x tag) ≡ tag_before tag x
 behind_it tag set absent x k = elim (before_cases x tag) [
   | inl before ↦ elim (bool_cases (tag_before tag x)) [

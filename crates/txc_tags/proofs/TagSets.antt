@@ -114,7 +114,7 @@ in_order_append (x ∷ xs) ys e f h =
     (all_from (tag_before x) (xs ++ ys) (λ y k. elim (in_either y xs ys k) [ inl l ↦ all_at (tag_before x) y xs two.0 l | inr r ↦ h x y (inl refl) r ]))
     (in_order_append xs ys two.1 f (λ a b k. h a b (inr k)))
 
--- some tags before one, and some behind it
+-- some tags before one, and some after it
 in_order_round : (p q : Tag → Bool) (tag : Tag) (set : List Tag) → is_in_order set ≡ true → ((x : Tag) → p x ≡ true → tag_before x tag ≡ true) → ((x : Tag) → q x ≡ true → tag_before tag x ≡ true) → is_in_order (filter p set ++ tag ∷ filter q set) ≡ true
 in_order_round p q tag set e low high =
     in_order_append (filter p set) (tag ∷ filter q set) (in_order_filter p set e)

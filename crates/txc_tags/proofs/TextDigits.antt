@@ -1,41 +1,20 @@
 -- Digits: where a number's text ends, and which numbers begin so.
-use Rattle.std.proofs.Common.{◌≡◌, ℕ, ◌+◌, ◌-◌, ◌*◌, ◌/◌, ◌%◌, ◌^◌, ◌<◌, ◌≤◌, Option, None, Some, IfSome, IfNone, List, [], ◌∷◌, ◌++◌, length, take, get_or, refl, sym, ap, subst, ◌∙◌, arith, suc, zero, append_assoc, length-append}
+use Rattle.std.proofs.Common.{◌≡◌, ℕ, ◌+◌, ◌-◌, ◌*◌, ◌/◌, ◌%◌, ◌^◌, ◌<◌, ◌≤◌, Option, None, Some, List, [], ◌∷◌, ◌++◌, length, take, get_or, refl, sym, ap, subst, ◌∙◌, arith, suc, zero, append_assoc, length-append}
 use Rattle.std.specs.Fmt.{decimal}
 use Rattle.std.specs.Str.Parse.{AllDigits, digits_value}
-use Rattle.std.proofs.lemmas.List.{take_at}
+use Rattle.std.proofs.lemmas.List.{take_at, append_cancel_left}
 use Rattle.std.proofs.lemmas.Fmt.{decimal_is_IsNumeral, decimal_step, decimal_digit, first_decimal, decimal_injective, decimal_nonempty}
 use Rattle.std.proofs.lemmas.Str.{digit_value_digit}
 use Rattle.std.proofs.lemmas.Str.Parse.{digits_value-take-le, digit_from_value}
 use Rattle.std.proofs.lemmas.Int.Digits.{digits_value_push}
-use Rattle.txc_tags.specs.TextNumber.{IsDigit, BeginsWithNoDigit, EndsBefore, digits_read}
-use Rattle.txc_tags.specs.TextGrammar.{IsText}
+use Rattle.txc_tags.specs.TextNumber.{IsDigit, digits_read}
+use Rattle.txc_tags.specs.TextReading.{IsWord, IsNumber, IsNumbered, NoneGoesOn, GoesWrong}
+use Rattle.txc_tags.proofs.TextReading.{Solid, split, solid_apart, then_solid, word_apart, word_solid}
 
--- two texts of digits, each with no digit behind it, are one text
-pub split_digits : (xs ys r s : List ℕ) → AllDigits 10 xs → AllDigits 10 ys → BeginsWithNoDigit r → BeginsWithNoDigit s → xs ++ r ≡ ys ++ s → (xs ≡ ys) × (r ≡ s)
-split_digits [] [] r s h k nr ns e = (refl, e)
-split_digits [] (y ∷ ys) [] s h k nr ns e = absurd (cc)
-split_digits [] (y ∷ ys) (b ∷ r) s h k nr ns e = let x : y ≡ b = cc in absurd (nr (subst IsDigit x (digit_from_value y k.0)))
-split_digits (x ∷ xs) [] r [] h k nr ns e = absurd (cc)
-split_digits (x ∷ xs) [] r (c ∷ s) h k nr ns e = let y : x ≡ c = cc in absurd (ns (subst IsDigit y (digit_from_value x h.0)))
-split_digits (x ∷ xs) (y ∷ ys) r s h k nr ns e =
-    let first : x ≡ y = cc in
-    let rest : xs ++ r ≡ ys ++ s = cc in
-    let p = split_digits xs ys r s h.1 k.1 nr ns rest in
-    let same : x ∷ xs ≡ y ∷ ys = let t = p.0 in cc in
-    (same, p.1)
-
--- digits that go on with a digit, where they begin a text of digits with no digit behind it, stand within it
-pub stands_within : (xs ys : List ℕ) (b : ℕ) (rest s : List ℕ) → AllDigits 10 xs → IsDigit b → BeginsWithNoDigit s → xs ++ b ∷ rest ≡ ys ++ s → (more : List ℕ) × (xs ++ b ∷ more ≡ ys)
-stands_within [] [] b rest [] h d ns e = absurd (cc)
-stands_within [] [] b rest (c ∷ s) h d ns e = let x : b ≡ c = cc in absurd (ns (subst IsDigit x d))
-stands_within [] (y ∷ ys) b rest s h d ns e = let x : b ≡ y = cc in (ys, cc)
-stands_within (x ∷ xs) [] b rest [] h d ns e = absurd (cc)
-stands_within (x ∷ xs) [] b rest (c ∷ s) h d ns e = let y : x ≡ c = cc in absurd (ns (subst IsDigit y (digit_from_value x h.0)))
-stands_within (x ∷ xs) (y ∷ ys) b rest s h d ns e =
-    let first : x ≡ y = cc in
-    let others : xs ++ b ∷ rest ≡ ys ++ s = cc in
-    let p = stands_within xs ys b rest s h.1 d ns others in
-    (p.0, (let t = p.1 in cc))
+-- what stands in a text of digits is a digit
+pub digit_within : (xs ys : List ℕ) (b : ℕ) → AllDigits 10 (xs ++ b ∷ ys) → IsDigit b
+digit_within [] ys b h = digit_from_value b h.0
+digit_within (x ∷ xs) ys b h = digit_within xs ys b h.1
 
 -- one digit more
 pub one_more : (n d : ℕ) → 0 < n → d < 10 → n * 10 + d < 2 ^ 64 → decimal (n * 10 + d) ≡ decimal n ++ (48 + d) ∷ []
@@ -52,7 +31,7 @@ front_le xs n rest hn e =
     let l = digits_value-take-le 10 (decimal n) (length xs) (omega arith) in
     omega (arith, b.1, ap (digits_value 10) front, l)
 
--- nothing stands behind a zero
+-- nothing stands after a zero
 pub zero_alone : (b n : ℕ) (rest : List ℕ) → n < 2 ^ 64 → decimal 0 ++ b ∷ rest ≡ decimal n → ⊥
 zero_alone b zero rest l e = let n : length (decimal 0 ++ b ∷ rest) ≡ length (decimal 0) = ap length e in omega (arith, n, length-append (decimal 0) (b ∷ rest))
 zero_alone b (suc n) rest l e =
@@ -70,36 +49,9 @@ pub too_large_first : (n b : ℕ) (rest : List ℕ) → IsDigit b → n < 2 ^ 64
 too_large_first n b rest d hn big e =
     omega (arith, front_le (b ∷ []) n rest hn e, digits_value_push 10 [] b, digit_value_digit b d)
 
--- what was read of a number is digits
-pub read_digits : (number : Option ℕ) → IfSome number (λ n. n < 2 ^ 64) → AllDigits 10 (digits_read number)
-read_digits None l = tt
-read_digits (Some n) l = (decimal_is_IsNumeral n l).0.1
-
--- a number is known by its digits
-pub read_all : (number : Option ℕ) (n : ℕ) → IfSome number (λ m. m < 2 ^ 64) → n < 2 ^ 64 → digits_read number ≡ decimal n → number ≡ Some n
-read_all None n l h e = let z : length (decimal n) ≡ 0 = ap length (sym e) in absurd (omega (arith, decimal_nonempty n h, z))
-read_all (Some m) n l h e = ap Some (decimal_injective m n l h e)
-
-smaller : (number : Option ℕ) (most : ℕ) → most < 2 ^ 64 → IfSome number (λ n. n ≤ most) → IfSome number (λ n. n < 2 ^ 64)
-smaller None most l h = tt
-smaller (Some n) most l h = omega arith
-
--- ---- what `push_digit` says, at a byte
-
-pub no_digit : (number : Option ℕ) (byte most : ℕ) → most < 2 ^ 64 → IfSome number (λ n. n ≤ most) → (IsDigit byte → ⊥) → EndsBefore (λ n. n ≤ most) decimal number (digits_read number) byte
-no_digit number byte most l h other n rest behind small nb e =
-    let p = split_digits (digits_read number) (decimal n) (byte ∷ rest) behind (read_digits number (smaller number most l h)) (decimal_is_IsNumeral n (omega arith)).0.1 other nb e in
-    (read_all number n (smaller number most l h) (omega arith) p.0, p.1)
-
--- a byte that no number takes
-pub small_number : (most : ℕ) (number : Option ℕ) → most < 2 ^ 64 → IfSome number (λ n. n ≤ most) → EndsBefore (λ n. n ≤ most) decimal number (digits_read number) 0
-small_number most number l h = no_digit number 0 most l h (λ d. omega (arith, d.0))
-
--- no number of at most `most` goes on with that digit
-pub stops_at : (number : Option ℕ) (byte most : ℕ) → most < 2 ^ 64 → IfSome number (λ n. n ≤ most) → IsDigit byte → ((n : ℕ) (rest : List ℕ) → n ≤ most → digits_read number ++ byte ∷ rest ≡ decimal n → ⊥) → EndsBefore (λ n. n ≤ most) decimal number (digits_read number) byte
-stops_at number byte most l h d none n rest behind small nb e =
-    let w = stands_within (digits_read number) (decimal n) byte rest behind (read_digits number (smaller number most l h)) d nb e in
-    absurd (none n w.0 small w.1)
+-- a byte that is no digit stands in no number
+pub no_digit : (xs more : List ℕ) (byte n : ℕ) → n < 2 ^ 64 → (IsDigit byte → ⊥) → xs ++ byte ∷ more ≡ decimal n → ⊥
+no_digit xs more byte n l other e = other (digit_within xs more byte (subst (AllDigits 10) (sym e) (decimal_is_IsNumeral n l).0.1))
 
 pub step_none : (b : ℕ) → IsDigit b → decimal (b - 48) ≡ b ∷ []
 step_none b h = let e : 48 + (b - 48) ≡ b = omega arith in decimal_digit (b - 48) (omega arith) ∙ ap (λ x. x ∷ []) e
@@ -107,7 +59,33 @@ step_none b h = let e : 48 + (b - 48) ≡ b = omega arith in decimal_digit (b - 
 pub step_some : (m b : ℕ) → IsDigit b → 0 < m → m * 10 + (b - 48) < 2 ^ 64 → decimal (m * 10 + (b - 48)) ≡ decimal m ++ b ∷ []
 step_some m b h p l = let e : 48 + (b - 48) ≡ b = omega arith in one_more m (b - 48) p (omega arith) l ∙ ap (λ x. decimal m ++ x ∷ []) e
 
--- the empty text is no number's
-pub empty_no_number : (number : Option ℕ) (text : List ℕ) (most : ℕ) → most < 2 ^ 64 → text ≡ digits_read number → IfNone number (IsText (λ n. n ≤ most) decimal text → ⊥)
-empty_no_number None text most l e = λ (n, (h, d)). let z : length (decimal n) ≡ 0 = ap length (sym d ∙ e) in omega (arith, decimal_nonempty n (omega arith), z)
-empty_no_number (Some n) text most l e = tt
+-- ---- the reader
+
+-- a number goes on to another one with a digit alone
+pub number_solid : (most : ℕ) → most < 2 ^ 64 → Solid (IsNumber most)
+number_solid most l x y b h (n, (k, e)) = digit_within x y b (subst (AllDigits 10) (sym e) (decimal_is_IsNumeral n (omega (arith, k, l))).0.1)
+
+module _ (most : ℕ) (text rest : List ℕ) (l : most < 2 ^ 64) where
+  pub no_digits : (number : Option ℕ) → text ≡ digits_read number ++ rest → NoneGoesOn (IsNumber most) (digits_read number) rest
+      → (r : List ℕ) → (number ≡ None) × (r ≡ rest) → GoesWrong (IsNumber most) text r
+  no_digits None parts none r e = rw e.1 (record {
+    stops = record { read = []; parts = parts; begins = (decimal 0, (0, (omega arith, refl))); no_more = none };
+    open_end = λ k. (let z : length (decimal k.0) ≡ 0 = ap length (sym k.1.1) in omega (arith, decimal_nonempty k.0 (omega (arith, k.1.0, l)), z));
+  })
+  no_digits (Some m) parts none r e = absurd (let q = e.0 in cc)
+
+-- ---- a word and a number
+
+pub numbered_solid : (word : List ℕ) (most : ℕ) → most < 2 ^ 64 → Solid (IsNumbered word most)
+numbered_solid word most l = then_solid (IsWord word) (IsNumber most) (word_apart word (IsNumber most)) (word_solid word) (number_solid most l)
+
+-- they are known by their text, whatever stands after them that begins with no digit
+pub numbered_known : (word : List ℕ) (most : ℕ) → most < 2 ^ 64 → (Second : List ℕ → Type 0) → ((b : ℕ) (z : List ℕ) → Second (b ∷ z) → IsDigit b → ⊥) → (n m : ℕ) (r s : List ℕ)
+    → n ≤ most → m ≤ most → Second r → Second s → word ++ (decimal n ++ r) ≡ word ++ (decimal m ++ s) → (n ≡ m) × (r ≡ s)
+numbered_known word most l Second other n m r s h k rs ss e =
+    let t = append_cancel_left word (decimal n ++ r) (decimal m ++ s) e in
+    let p = split (IsNumber most) Second (solid_apart (IsNumber most) Second (number_solid most l) other) (decimal n) r (decimal m) s (n, (h, refl)) none (m, (k, refl)) ss t in
+    (decimal_injective n m (omega (arith, h, l)) (omega (arith, k, l)) p.0, p.1)
+  where
+    none : NoneGoesOn (IsNumber most) (decimal n) r
+    none b others more is q = other b others (subst Second is rs) (number_solid most l (decimal n) more b (n, (h, refl)) q)

@@ -90,7 +90,8 @@ is_of table tag = tag.table == table
 -- the one list of a set: in order, a wildcard alone in its table, and of each table at most sixteen tags
 pub record IsCanonical (set : List Tag) : Type 0 where
   pub in_order : is_in_order set ≡ true
-  pub alone : (tag : Tag) → has_tag set tag ≡ true → has_tag set (wildcard tag.table) ≡ true → is_wildcard tag ≡ true
+  pub alone : (tag : Tag) → has_tag set tag ≡ true → has_tag set (wildcard tag.table) ≡ true
+      → is_wildcard tag ≡ true
   pub few : (table : ℕ) → count_by (is_of table) set ≤ MAX_TAGS
 
 -- ---- adding
@@ -101,13 +102,14 @@ put_in tag set = filter (λ x. tag_before x tag) set ++ tag ∷ filter (tag_befo
 
 -- the wildcard in the place of its table's tags
 abbrev pub wildcarded : ℕ → List Tag → List Tag
-wildcarded table set = filter (λ x. nat_lt x.table table) set ++ wildcard table ∷ filter (λ x. nat_lt table x.table) set
+wildcarded table set =
+    filter (λ x. nat_lt x.table table) set ++ wildcard table ∷ filter (λ x. nat_lt table x.table) set
 
 -- the set holds as many tags of the table as it may
 abbrev pub is_full : ℕ → List Tag → Bool
 is_full table set = nat_le MAX_TAGS (count_by (is_of table) set)
 
--- the set with one more tag: a wildcard, and a seventeenth tag of its table, makes the table's wildcard of them
+-- the set with one more tag: a wildcard, and a seventeenth tag of its table, makes the wildcard of them
 abbrev pub with_tag : Tag → List Tag → List Tag
 with_tag tag set =
     if covers set tag then set
@@ -132,9 +134,11 @@ different (tag ∷ tags) = if has_tag tags tag then different tags else tag ∷ 
 
 -- the list has the wildcard of the table, or more than sixteen different tags of it
 abbrev pub overflows : ℕ → List Tag → Bool
-overflows table tags = has_tag tags (wildcard table) || nat_lt MAX_TAGS (count_by (is_of table) (different tags))
+overflows table tags =
+    has_tag tags (wildcard table) || nat_lt MAX_TAGS (count_by (is_of table) (different tags))
 
--- of the table the set holds the wildcard alone where the list overflows, and else exactly the tags of the list
+-- of the table the set holds the wildcard alone where the list overflows, and else exactly the list's tags
 pub record KeepsSixteen (table : ℕ) (tags set : List Tag) : Type 0 where
   pub wild : overflows table tags ≡ true → filter (is_of table) set ≡ wildcard table ∷ []
-  pub kept : overflows table tags ≡ false → (tag : Tag) → is_of table tag ≡ true → has_tag set tag ≡ has_tag tags tag
+  pub kept : overflows table tags ≡ false
+      → (tag : Tag) → is_of table tag ≡ true → has_tag set tag ≡ has_tag tags tag

@@ -1,5 +1,5 @@
--- What a text of a grammar is, and how far a text is like one. A grammar is given by its printer: its texts are those that
--- `write` gives of the values that are `Allowed`.
+-- What a text of a grammar is, and how far a text is like one. A grammar is given by its printer: its texts
+-- are those that `write` gives of the values that are `Allowed`.
 use Rattle.std.specs.Prelude.{◌≡◌, ℕ, ◌<◌, ◌≤◌, List, ◌++◌, length, take}
 
 -- the text is that of an allowed value
@@ -15,7 +15,8 @@ abbrev pub IsPrefix : {V : Type 0} → (V → Type 0) → (V → List ℕ) → L
 IsPrefix Allowed write text = (rest : List ℕ) × IsText Allowed write (text ++ rest)
 
 -- n is the length of the longest prefix of the text that is also a prefix of some text of the grammar
-pub record IsLongestPrefix {V : Type 0} (Allowed : V → Type 0) (write : V → List ℕ) (text : List ℕ) (n : ℕ) : Type 0 where
+pub record IsLongestPrefix {V : Type 0} (Allowed : V → Type 0) (write : V → List ℕ) (text : List ℕ)
+    (n : ℕ) : Type 0 where
   pub within : n ≤ length text
   pub is_prefix : IsPrefix Allowed write (take n text)
   pub no_longer : (k : ℕ) → n < k → k ≤ length text → IsPrefix Allowed write (take k text) → ⊥

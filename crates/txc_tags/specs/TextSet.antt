@@ -21,7 +21,7 @@ AreTagsInRange tags = All IsTagInRange tags
 abbrev pub IsSetOfText : List ℕ → List Tag → Type 0
 IsSetOfText text set = (tags : List Tag) × IsTextOf AreTagsInRange tags_text text tags × (set ≡ set_of tags)
 
--- a text that is none of the grammar is refused at its longest prefix, and memory is short only for a text of the grammar
+-- a text that is none of the grammar is refused at its longest prefix; memory is refused only for one that is
 abbrev pub IsSetRefusal : List ℕ → SetError → Type 0
 IsSetRefusal text (BadTag bad) = IsLongestPrefix AreTagsInRange tags_text text bad.at
     × (IsText AreTagsInRange tags_text text → ⊥)

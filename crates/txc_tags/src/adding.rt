@@ -14,7 +14,7 @@ pub fn add_tag(tags: &mut Vec<Tag>, tag: Tag) -> Result<(), AllocError>
     requires { IsCanonical tags.old.items }
     ensures after { OnOk result (tags.new.items ≡ with_tag tag tags.old.items) }
     ensures unchanged { OnErr result (tags.new.items ≡ tags.old.items) }
-    ensures no_memory { covers tags.old.items tag ≡ true → IsOk result }
+    ensures no_memory { length (with_tag tag tags.old.items) ≤ length tags.old.items → IsOk result }
     ensures room { vec_len tags.old < vec_capacity tags.old → IsOk result }
     ensures capacity { vec_capacity tags.old ≤ vec_capacity tags.new }
     ensures grows { vec_len tags.new ≤ vec_len tags.old + 1 }
@@ -93,16 +93,32 @@ fn take_out(tags: &mut Vec<Tag>, table: Table)
     tags.retain(|t| t.table != table);
 }
 
+/// Makes room for the table's wildcard in the place of its tags.
+fn make_room(tags: &mut Vec<Tag>, table: Table) -> Result<(), AllocError>
+    ensures same { tags.new.items ≡ tags.old.items }
+    ensures after { OnOk result
+        (length (filter (λ x. not (x.table == table)) tags.old.items) < vec_capacity tags.new) }
+    ensures no_memory { 0 < count_by (is_of table) tags.old.items → IsOk result }
+    ensures room { vec_len tags.old < vec_capacity tags.old → IsOk result }
+    ensures capacity { vec_capacity tags.old ≤ vec_capacity tags.new }
+{
+    if count_of(tags, table) > 0 {
+        return Ok(());
+    }
+    tags.reserve(1)
+}
+
 /// Puts the wildcard in the place of its table's tags.
 fn put_wildcard(tags: &mut Vec<Tag>, table: Table) -> Result<(), AllocError>
     requires canonical { IsCanonical tags.old.items }
     ensures after { OnOk result (tags.new.items ≡ wildcarded table tags.old.items) }
     ensures unchanged { OnErr result (tags.new.items ≡ tags.old.items) }
+    ensures no_memory { length (wildcarded table tags.old.items) ≤ length tags.old.items → IsOk result }
     ensures room { vec_len tags.old < vec_capacity tags.old → IsOk result }
     ensures capacity { vec_capacity tags.old ≤ vec_capacity tags.new }
     ensures grows { vec_len tags.new ≤ vec_len tags.old + 1 }
 {
-    tags.reserve(1)?;
+    make_room(tags, table)?;
     take_out(tags, table);
     let wildcard = Tag {
         table,

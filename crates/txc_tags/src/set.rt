@@ -69,11 +69,11 @@ impl TagSet {
     }
 
     /// Adds a tag. A tag that is covered changes nothing; a wildcard, and a seventeenth tag of a table,
-    /// takes the place of the table's tags. It is refused only where memory was.
+    /// takes the place of the table's tags. It takes memory only where the set grows.
     pub fn add(&mut self, tag: Tag) -> Result<(), AllocError>
         ensures after { OnOk result (self.new ≡ with_tag tag self.old) }
         ensures unchanged { OnErr result (self.new ≡ self.old) }
-        ensures no_memory { covers self.old tag ≡ true → IsOk result }
+        ensures no_memory { length (with_tag tag self.old) ≤ length self.old → IsOk result }
     {
         add_tag(&mut self.tags, tag)
     }

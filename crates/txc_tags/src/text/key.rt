@@ -1,14 +1,15 @@
 //! Texts of keys: `f3(1,2)`.
-ghost use Rattle.std.specs.Prelude.{◌≡◌, ◌+◌, ◌<◌, ◌≤◌, ◌↔◌, [], ◌∷◌, ◌++◌, IsOk, IfOk, IfErr, IsSome, IfSome, IfNone, length, string_bytes};
+ghost use Rattle.std.specs.Prelude.{◌≡◌, ◌<◌, ◌↔◌, [], IsOk, IfOk, IfErr, length, string_bytes};
 ghost use Rattle.txc_tags.specs.Keys.{Call};
 ghost use Rattle.txc_tags.specs.TextGrammar.{IsText, IsTextOf, IsLongestPrefix};
 ghost use Rattle.txc_tags.specs.TextKey.{key_text, IsKeyInRange};
-ghost use Rattle.txc_tags.specs.TextKeyFront.{front_text, finished_key, IsFrontInRange, EndsArgument};
-ghost use Rattle.txc_tags.specs.TextNumber.{EndsBefore};
+ghost use Rattle.txc_tags.specs.TextKeyReading.{closed_text, AreArguments, AreSome};
+ghost use Rattle.txc_tags.specs.TextReading.{IsRefused};
 
 use crate::key::{Arguments, Key, LAST_FUNCTION, MAX_ARGS};
-use crate::text::number::{LAST_NUMBER, push_digit};
+use crate::text::number::{LAST_NUMBER, read_digits, read_numbered};
 use crate::text::range::key_is_in_range;
+use crate::text::read::read_word;
 use std::alloc::{AllocError, Global};
 use std::fmt;
 
@@ -20,143 +21,58 @@ pub struct BadKey {
     pub at: usize,
 }
 
-/// The beginning of a key's text, by what stands in it.
-#[derive(Debug, Drop)]
-enum KeyFront {
-    /// No byte.
-    Nothing,
-    /// `f` and digits.
-    InFunction(Option<u64>),
-    /// `f3(`, arguments with a comma after each, and digits.
-    InArguments(u8, Arguments, Option<u64>),
-    /// The whole text.
-    Closed(u8, Arguments),
-}
-
-/// The beginning of a function's part with one byte more.
-fn push_to_function(number: Option<u64>, byte: u8) -> Option<KeyFront>
-    requires { IfSome number (λ n. n ≤ LAST_FUNCTION) }
-    ensures within { IfSome result IsFrontInRange }
-    ensures more { IfSome result (λ more.
-        front_text more ≡ front_text (KeyFront.InFunction number) ++ byte ∷ []) }
-    ensures none { IfNone result (EndsBefore IsKeyInRange key_text None
-        (front_text (KeyFront.InFunction number)) byte) }
+/// The arguments, where nothing is left of the text.
+fn close<'a>(args: Arguments, rest: &'a [u8]) -> Result<Arguments, &'a [u8]>
+    ensures answer { IfOk result (λ a. (a ≡ args) × (rest.now ≡ [])) }
+    ensures refused { IfErr result (λ r. (r.now ≡ rest.now) × (0 < length rest.now)) }
 {
-    match push_digit(number, byte, LAST_FUNCTION as u64) {
-        Some(more) => Some(KeyFront::InFunction(Some(more))),
-        None => end_function(number, byte),
+    if !rest.is_empty() {
+        return Err(rest);
     }
+    Ok(args)
 }
 
-/// The beginning after a whole function's number, with one byte more.
-fn end_function(number: Option<u64>, byte: u8) -> Option<KeyFront>
-    requires { IfSome number (λ n. n ≤ LAST_FUNCTION) }
-    ensures some { IsSome result → IsSome number }
-    ensures more { IfSome result (λ more. IfSome number (λ n.
-        (byte ≡ 40) × (more ≡ KeyFront.InArguments n [] None))) }
-    ensures none { IfNone result (IfSome number (λ n. byte ≡ 40 → ⊥)) }
+/// The arguments that the text after `(` is, up to its end.
+fn read_arguments(text: &[u8]) -> Result<Arguments, &[u8]>
+    ensures answer { IfOk result (IsTextOf AreArguments closed_text text.now) }
+    ensures refused { IfErr result
+        (λ rest. IsRefused (IsText AreArguments closed_text) text.now rest.now) }
 {
-    match number {
-        None => None,
-        Some(n) => {
-            if byte != b'(' {
-                return None;
-            }
-            Some(KeyFront::InArguments(n as u8, Arguments::new(), None))
+    if let Ok(rest) = read_word(text, b")") {
+        return close(Arguments::new(), rest);
+    }
+    read_some(text)
+}
+
+/// The arguments, one at least, that the text after `(` is, up to its end.
+fn read_some(text: &[u8]) -> Result<Arguments, &[u8]>
+    ensures answer { IfOk result (IsTextOf AreArguments closed_text text.now) }
+    ensures refused { IfErr result (λ rest. IsRefused AreSome text.now rest.now) }
+{
+    let mut args = Arguments::new();
+    let mut rest = text;
+    loop {
+        let (number, after) = read_digits(rest, LAST_NUMBER)?;
+        args = args.with(number as u32);
+        if let Ok(more) = read_word(after, b")") {
+            return close(args, more);
         }
-    }
-}
-
-/// The beginning of the arguments with one byte more.
-fn push_to_arguments(
-    function: u8,
-    arguments: Arguments,
-    number: Option<u64>,
-    byte: u8,
-) -> Option<KeyFront>
-    requires { IsFrontInRange (KeyFront.InArguments function arguments number) }
-    ensures within { IfSome result IsFrontInRange }
-    ensures more { IfSome result (λ more. front_text more
-        ≡ front_text (KeyFront.InArguments function arguments number) ++ byte ∷ []) }
-    ensures none { IfNone result (EndsBefore IsKeyInRange key_text None
-        (front_text (KeyFront.InArguments function arguments number)) byte) }
-{
-    match push_digit(number, byte, LAST_NUMBER) {
-        Some(more) => Some(KeyFront::InArguments(function, arguments, Some(more))),
-        None => match number {
-            None => end_none(function, arguments, byte),
-            Some(n) => end_argument(function, arguments, n as u32, byte),
-        },
-    }
-}
-
-/// The beginning after `(` or a comma, with one byte more that is no digit.
-fn end_none(function: u8, arguments: Arguments, byte: u8) -> Option<KeyFront>
-    ensures some { IfSome result (λ more.
-        (byte ≡ 41) × (arguments ≡ []) × (more ≡ KeyFront.Closed function [])) }
-    ensures none { IfNone result (byte ≡ 41 → arguments ≡ [] → ⊥) }
-{
-    if byte != b')' {
-        return None;
-    }
-    if arguments.len() != 0 {
-        return None;
-    }
-    Some(KeyFront::Closed(function, arguments))
-}
-
-/// The beginning after a whole argument, with one byte more.
-fn end_argument(function: u8, arguments: Arguments, number: u32, byte: u8) -> Option<KeyFront>
-    requires { length arguments < MAX_ARGS }
-    ensures some { IfSome result (EndsArgument function (arguments ++ number ∷ []) byte) }
-    ensures none { IfNone result ((byte ≡ 41 → ⊥) × (byte ≡ 44 → length arguments + 1 ≡ MAX_ARGS)) }
-{
-    if byte == b')' {
-        return Some(KeyFront::Closed(function, arguments.with(number)));
-    }
-    if byte != b',' {
-        return None;
-    }
-    if arguments.len() + 1 == MAX_ARGS {
-        return None;
-    }
-    Some(KeyFront::InArguments(function, arguments.with(number), None))
-}
-
-impl KeyFront {
-    /// The beginning with one byte more. `None` where no key's text begins so.
-    fn push(self, byte: u8) -> Option<KeyFront>
-        requires { IsFrontInRange self }
-        ensures within { IfSome result IsFrontInRange }
-        ensures more { IfSome result (λ more. front_text more ≡ front_text self ++ byte ∷ []) }
-        ensures none { IfNone result (EndsBefore IsKeyInRange key_text (finished_key self)
-            (front_text self) byte) }
-    {
-        match self {
-            KeyFront::Nothing => {
-                if byte != b'f' {
-                    return None;
-                }
-                return Some(KeyFront::InFunction(None));
-            }
-            KeyFront::InFunction(number) => return push_to_function(number, byte),
-            KeyFront::InArguments(function, arguments, number) => {
-                return push_to_arguments(function, arguments, number, byte);
-            }
-            KeyFront::Closed(_, _) => return None,
+        if args.len() == MAX_ARGS {
+            return Err(after);
         }
+        rest = read_word(after, b",")?;
     }
+}
 
-    /// The key whose text the front is.
-    fn finished(self) -> Option<Key>
-        requires { IsFrontInRange self }
-        ensures { result ≡ finished_key self }
-    {
-        match self {
-            KeyFront::Closed(function, arguments) => { Some(Key::from_parts(function, arguments)) }
-            _ => None,
-        }
-    }
+/// The key that the whole text is.
+fn read_whole(text: &[u8]) -> Result<Key, &[u8]>
+    ensures answer { IfOk result (IsTextOf IsKeyInRange key_text text.now) }
+    ensures refused { IfErr result (λ rest. IsRefused (IsText IsKeyInRange key_text) text.now rest.now) }
+{
+    let (function, rest) = read_numbered(text, b"f", LAST_FUNCTION as u64)?;
+    let rest = read_word(rest, b"(")?;
+    let args = read_arguments(rest)?;
+    Ok(Key::from_parts(function as u8, args))
 }
 
 impl fmt::Display for Key {
@@ -186,16 +102,11 @@ impl Key {
         ensures refused { IfErr result (λ bad. IsLongestPrefix IsKeyInRange key_text text.now bad.at) }
         ensures read_back { (key : Call) → IsTextOf IsKeyInRange key_text text.now key → result ≡ Ok key }
     {
-        let mut front = KeyFront::Nothing;
-        for (i, byte) in text.iter().enumerate() {
-            match front.push(*byte) {
-                Some(more) => front = more,
-                None => return Err(BadKey { at: i }),
-            }
-        }
-        match front.finished() {
-            Some(key) => Ok(key),
-            None => Err(BadKey { at: text.len() }),
+        match read_whole(text) {
+            Ok(key) => Ok(key),
+            Err(rest) => Err(BadKey {
+                at: text.len() - rest.len(),
+            }),
         }
     }
 

@@ -1,18 +1,16 @@
 //! Texts of sets of tags: `-`, `t1:id=7,t1:grp=2,t2:?`.
-ghost use Rattle.std.specs.Prelude.{◌≡◌, ◌≢◌, ◌↔◌, [], ◌∷◌, ◌++◌, List, codes, IsTrue, IsOk, IsOkAnd, IfOk, IfErr, IsSome, IfSome, IfNone, slice_index, string_bytes};
+ghost use Rattle.std.specs.Prelude.{◌≡◌, ℕ, ◌∷◌, List, codes, IsOk, IsOkAnd, IfOk, IfErr, string_bytes};
 ghost use Rattle.txc_tags.specs.declared.tag.Tag.{Tag};
 ghost use Rattle.txc_tags.specs.Tags.{with_tag, IsCanonical};
-ghost use Rattle.txc_tags.specs.TextGrammar.{IsText, IsTextOf, IsLongestPrefix};
-ghost use Rattle.txc_tags.specs.TextNumber.{EndsBefore};
+ghost use Rattle.txc_tags.specs.TextGrammar.{IsText, IsTextOf};
+ghost use Rattle.txc_tags.specs.TextReading.{IsRefused};
 ghost use Rattle.txc_tags.specs.TextSet.{tags_text, AreTagsInRange, IsSetOfText, IsSetRefusal};
-ghost use Rattle.txc_tags.specs.TextSetFront.{PushesByte, with_ended};
-ghost use Rattle.txc_tags.specs.TextTag.{tag_text, IsTagInRange};
-ghost use Rattle.txc_tags.specs.TextTagFront.{front_text, finished_tag, IsFrontInRange};
 
 use crate::set::TagSet;
 use crate::tag::Tag;
 use crate::text::range::set_is_in_range;
-use crate::text::tag::{BadTag, TagFront};
+use crate::text::read::read_word;
+use crate::text::tag::{BadTag, read_tag};
 use std::alloc::{AllocError, Global};
 use std::fmt;
 
@@ -27,47 +25,14 @@ pub enum SetError {
     Memory(AllocError),
 }
 
-fn begins_with_dash(text: &[u8]) -> bool
-    ensures { IsTrue result ↔ (slice_index text.now 0 ≡ 45) }
+/// The refusal of a text that goes wrong where the rest begins.
+fn bad_tag(text: &[u8], rest: &[u8]) -> SetError
+    requires { IsRefused (IsText AreTagsInRange tags_text) text.now rest.now }
+    ensures { IsSetRefusal text.now result }
 {
-    match text.first() {
-        Some(first) => *first == b'-',
-        None => false,
-    }
-}
-
-/// One byte more of tags joined by commas: the beginning of the last tag after it, and the tag that a comma
-/// ended. `None` where no tags go on so.
-fn push_byte(front: TagFront, byte: u8) -> Option<(TagFront, Option<Tag>)>
-    requires { IsFrontInRange front }
-    ensures within { IfSome result (λ pushed. IsFrontInRange pushed.0) }
-    ensures more { IfSome result (λ pushed. PushesByte front byte pushed.0 pushed.1) }
-    ensures none { IfNone result (EndsBefore IsTagInRange tag_text (finished_tag front)
-        (front_text front) byte) }
-    ensures comma { IfNone result (IsSome (finished_tag front) → byte ≡ 44 → ⊥) }
-{
-    match front.push(byte) {
-        Some(more) => Some((more, None)),
-        None => end_tag(&front, byte),
-    }
-}
-
-/// A whole tag, with one byte more.
-fn end_tag(front: &TagFront, byte: u8) -> Option<(TagFront, Option<Tag>)>
-    requires { IsFrontInRange front.now }
-    ensures within { IfSome result (λ pushed. IsFrontInRange pushed.0) }
-    ensures more { IfSome result (λ pushed. PushesByte front.now byte pushed.0 pushed.1) }
-    ensures comma { IfNone result (IsSome (finished_tag front.now) → byte ≡ 44 → ⊥) }
-{
-    match front.finished() {
-        None => None,
-        Some(tag) => {
-            if byte != b',' {
-                return None;
-            }
-            Some((TagFront::Nothing, Some(tag)))
-        }
-    }
+    SetError::BadTag(BadTag {
+        at: text.len() - rest.len(),
+    })
 }
 
 /// The set with the tag, where memory was not refused before.
@@ -79,40 +44,31 @@ fn with_one(set: Result<TagSet, AllocError>, tag: Tag) -> Result<TagSet, AllocEr
     Ok(set)
 }
 
-/// The set with the tag that a comma ended, if one did.
-fn with_ended(set: Result<TagSet, AllocError>, ended: Option<Tag>) -> Result<TagSet, AllocError>
-    ensures { IfOk result (λ new. IsOkAnd set (λ old. new ≡ with_ended ended old)) }
-{
-    match ended {
-        Some(tag) => with_one(set, tag),
-        None => set,
-    }
-}
-
 /// The set of the tags of a text that does not begin with a dash, made while the text is read. Where memory
 /// is refused the text is read to its end all the same, so that one outside the grammar is refused as such.
 fn read_tags(alloc: Global, text: &[u8]) -> Result<TagSet, SetError>
-    requires { slice_index text.now 0 ≢ 45 }
+    requires { (rest : List ℕ) → text.now ≡ 45 ∷ rest → ⊥ }
     ensures answer { IfOk result (IsSetOfText text.now) }
     ensures refused { IfErr result (IsSetRefusal text.now) }
 {
     let mut set = Ok(TagSet::new(alloc));
-    let mut front = TagFront::Nothing;
-    for (i, byte) in text.iter().enumerate() {
-        match push_byte(front, *byte) {
-            None => return Err(SetError::BadTag(BadTag { at: i })),
-            Some((more, ended)) => {
-                set = with_ended(set, ended);
-                front = more;
-            }
+    let mut rest = text;
+    loop {
+        let (tag, after) = match read_tag(rest) {
+            Ok(read) => read,
+            Err(wrong) => return Err(bad_tag(text, wrong)),
+        };
+        set = with_one(set, tag);
+        if after.is_empty() {
+            return match set {
+                Ok(set) => Ok(set),
+                Err(error) => Err(SetError::Memory(error)),
+            };
         }
-    }
-    match front.finished() {
-        None => Err(SetError::BadTag(BadTag { at: text.len() })),
-        Some(tag) => match with_one(set, tag) {
-            Ok(set) => Ok(set),
-            Err(error) => Err(SetError::Memory(error)),
-        },
+        match read_word(after, b",") {
+            Ok(more) => rest = more,
+            Err(wrong) => return Err(bad_tag(text, wrong)),
+        }
     }
 }
 
@@ -145,13 +101,15 @@ impl TagSet {
             → IsTextOf AreTagsInRange tags_text text.now tags → IfOk result (λ set. set ≡ tags) }
         ensures no_memory { text.now ≡ codes "-" → IsOk result }
     {
-        if !begins_with_dash(text) {
-            return read_tags(alloc, text);
+        match read_word(text, b"-") {
+            Err(_) => read_tags(alloc, text),
+            Ok(rest) => {
+                if !rest.is_empty() {
+                    return Err(bad_tag(text, rest));
+                }
+                Ok(TagSet::new(alloc))
+            }
         }
-        if text.len() > 1 {
-            return Err(SetError::BadTag(BadTag { at: 1 }));
-        }
-        Ok(TagSet::new(alloc))
     }
 
     /// The set's one spelling: by table, in a table the wildcard alone, or ids by number and then groups by

@@ -1,13 +1,14 @@
 //! Texts of tags: `t1:?`, `t1:id=7`, `t1:grp=2`.
-ghost use Rattle.std.specs.Prelude.{◌≢◌, slice_index, ◌≡◌, ◌≤◌, [], ◌∷◌, ◌++◌, ◌↔◌, IsOk, IfOk, IfErr, IsSome, IfSome, IfNone, length, string_bytes};
+ghost use Rattle.std.specs.Prelude.{◌≡◌, ◌≤◌, ◌++◌, ◌↔◌, IsOk, IfOk, IfErr, string_bytes};
 ghost use Rattle.txc_tags.specs.TextGrammar.{IsText, IsTextOf, IsLongestPrefix};
-ghost use Rattle.txc_tags.specs.TextNumber.{EndsBefore};
-ghost use Rattle.txc_tags.specs.TextTag.{tag_text, IsTagInRange};
-ghost use Rattle.txc_tags.specs.TextTagFront.{IsFrontInRange, finished_tag, front_text, word_text, worded_tag};
+ghost use Rattle.txc_tags.specs.TextReading.{GoesWrong, IsRefused, Reads};
+ghost use Rattle.txc_tags.specs.TextTag.{opening, all_word, id_word, group_word, rows_text, spelled, tag_text, AreRowsInRange, IsTagInRange};
+ghost use Rattle.txc_tags.specs.TextTagReading.{IsRows, IsSpelled};
 
 use crate::tag::{LAST_TABLE, Rows, Table, Tag};
-use crate::text::number::{LAST_NUMBER, push_digit};
+use crate::text::number::{LAST_NUMBER, read_numbered};
 use crate::text::range::tag_is_in_range;
+use crate::text::read::{further, read_word};
 use std::alloc::{AllocError, Global};
 use std::fmt;
 
@@ -20,161 +21,101 @@ pub struct BadTag {
     pub at: usize,
 }
 
-/// A word that a number follows.
+/// A spelling of tags: what stands before the table's number, and what stands after it.
 #[derive(Clone, Copy, Debug)]
-pub(crate) enum Word {
-    /// `id=`.
-    Id,
-    /// `grp=`.
-    Group,
+pub(crate) enum Spelling {
+    /// `t1:?`, `t1:id=7` and `t1:grp=2`.
+    Usual,
 }
 
-impl Word {
-    fn text(self) -> &'static [u8]
-        ensures { result.now ≡ word_text self }
+impl Spelling {
+    fn opening(self) -> &'static [u8]
+        ensures { result.now ≡ opening self }
     {
         match self {
-            Word::Id => b"id=",
-            Word::Group => b"grp=",
+            Spelling::Usual => b"t",
         }
     }
 
-    /// The tag of the table, with that number after the word.
-    fn tag(self, table: Table, number: u32) -> Tag
-        ensures { result ≡ worded_tag self table number }
+    fn all(self) -> &'static [u8]
+        ensures { result.now ≡ all_word self }
     {
         match self {
-            Word::Id => Tag::id(table, number),
-            Word::Group => Tag::group(table, number),
+            Spelling::Usual => b":?",
         }
     }
-}
 
-/// The beginning of a tag's text, by what stands in it.
-#[derive(Clone, Copy, Debug)]
-pub(crate) enum TagFront {
-    /// No byte.
-    Nothing,
-    /// `t` and digits.
-    InTable(Option<u64>),
-    /// `t1:`.
-    Colon(Table),
-    /// `t1:` and so many bytes of the word.
-    InWord(Table, Word, usize),
-    /// `t1:`, the word and digits.
-    InNumber(Table, Word, Option<u64>),
-    /// `t1:?`.
-    AllRows(Table),
-}
-
-/// The beginning `t` and digits with one byte more.
-fn push_to_table(number: Option<u64>, byte: u8) -> Option<TagFront>
-    requires { IfSome number (λ n. n ≤ LAST_TABLE) }
-    ensures within { IfSome result IsFrontInRange }
-    ensures more { IfSome result (λ more.
-        front_text more ≡ front_text (TagFront.InTable number) ++ byte ∷ []) }
-    ensures none { IfNone result (EndsBefore IsTagInRange tag_text None
-        (front_text (TagFront.InTable number)) byte) }
-{
-    match push_digit(number, byte, LAST_TABLE as u64) {
-        Some(more) => Some(TagFront::InTable(Some(more))),
-        None => end_table(number, byte),
-    }
-}
-
-/// The beginning `t` and a whole number with one byte more that is no digit.
-fn end_table(number: Option<u64>, byte: u8) -> Option<TagFront>
-    requires { IfSome number (λ n. n ≤ LAST_TABLE) }
-    ensures more { IfSome result (λ more. IfSome number (λ n.
-        (byte ≡ 58) × (more ≡ TagFront.Colon n))) }
-    ensures none { IfNone result (IfSome number (λ n. byte ≡ 58 → ⊥)) }
-    ensures some { IsSome result → IsSome number }
-{
-    match number {
-        None => None,
-        Some(n) => {
-            if byte != b':' {
-                return None;
-            }
-            Some(TagFront::Colon(Table::new(n as u8).unwrap()))
-        }
-    }
-}
-
-/// The beginning `t1:` with one byte more.
-fn push_to_colon(table: Table, byte: u8) -> Option<TagFront>
-    ensures within { IfSome result IsFrontInRange }
-    ensures more { IfSome result (λ more.
-        front_text more ≡ front_text (TagFront.Colon table) ++ byte ∷ []) }
-    ensures none { IfNone result ((byte ≡ 63 → ⊥) × (byte ≡ 105 → ⊥) × (byte ≡ 103 → ⊥)) }
-{
-    match byte {
-        b'?' => Some(TagFront::AllRows(table)),
-        b'i' => Some(TagFront::InWord(table, Word::Id, 1)),
-        b'g' => Some(TagFront::InWord(table, Word::Group, 1)),
-        _ => None,
-    }
-}
-
-/// The beginning that ends in a word, with one byte more of it.
-fn push_to_word(table: Table, word: Word, at: usize, byte: u8) -> Option<TagFront>
-    requires { IsFrontInRange (TagFront.InWord table word at) }
-    ensures within { IfSome result IsFrontInRange }
-    ensures more { IfSome result (λ more.
-        front_text more ≡ front_text (TagFront.InWord table word at) ++ byte ∷ []) }
-    ensures none { IfNone result (slice_index (word_text word) at ≢ byte) }
-{
-    let text = word.text();
-    if text[at] != byte {
-        return None;
-    }
-    if at + 1 == text.len() {
-        return Some(TagFront::InNumber(table, word, None));
-    }
-    Some(TagFront::InWord(table, word, at + 1))
-}
-
-impl TagFront {
-    /// The beginning with one byte more. `None` where no tag's text begins so.
-    pub(crate) fn push(self, byte: u8) -> Option<TagFront>
-        requires { IsFrontInRange self }
-        ensures within { IfSome result IsFrontInRange }
-        ensures more { IfSome result (λ more. front_text more ≡ front_text self ++ byte ∷ []) }
-        ensures none { IfNone result (EndsBefore IsTagInRange tag_text (finished_tag self)
-            (front_text self) byte) }
+    fn id(self) -> &'static [u8]
+        ensures { result.now ≡ id_word self }
     {
         match self {
-            TagFront::Nothing => {
-                if byte != b't' {
-                    return None;
-                }
-                return Some(TagFront::InTable(None));
-            }
-            TagFront::InTable(number) => return push_to_table(number, byte),
-            TagFront::Colon(table) => return push_to_colon(table, byte),
-            TagFront::InWord(table, word, at) => return push_to_word(table, word, at, byte),
-            TagFront::InNumber(table, word, number) => {
-                match push_digit(number, byte, LAST_NUMBER) {
-                    Some(more) => return Some(TagFront::InNumber(table, word, Some(more))),
-                    None => return None,
-                }
-            }
-            TagFront::AllRows(_) => return None,
+            Spelling::Usual => b":id=",
         }
     }
 
-    /// The tag whose text it is.
-    pub(crate) fn finished(&self) -> Option<Tag>
-        requires { IsFrontInRange self.now }
-        ensures { result ≡ finished_tag self.now }
+    fn group(self) -> &'static [u8]
+        ensures { result.now ≡ group_word self }
     {
-        match *self {
-            TagFront::AllRows(table) => Some(Tag::wildcard(table)),
-            TagFront::InNumber(table, word, number) => match number {
-                Some(number) => Some(word.tag(table, number as u32)),
-                None => None,
-            },
-            _ => None,
+        match self {
+            Spelling::Usual => b":grp=",
+        }
+    }
+}
+
+/// The rows after a table's number.
+fn read_rows<'a>(text: &'a [u8], spelling: Spelling) -> Result<(Rows, &'a [u8]), &'a [u8]>
+    ensures answer { IfOk result (λ r. AreRowsInRange r.0
+        × Reads (IsRows spelling) text.now (rows_text spelling r.0) r.1.now) }
+    ensures refused { IfErr result (λ rest. GoesWrong (IsRows spelling) text.now rest.now) }
+{
+    let all = match read_word(text, spelling.all()) {
+        Ok(rest) => return Ok((Rows::All, rest)),
+        Err(rest) => rest,
+    };
+    let id = match read_numbered(text, spelling.id(), LAST_NUMBER) {
+        Ok((id, rest)) => return Ok((Rows::Id(id as u32), rest)),
+        Err(rest) => rest,
+    };
+    let group = match read_numbered(text, spelling.group(), LAST_NUMBER) {
+        Ok((group, rest)) => return Ok((Rows::Group(group as u32), rest)),
+        Err(rest) => rest,
+    };
+    Err(further(all, further(id, group)))
+}
+
+/// The tag in that spelling at the text's beginning.
+fn read_spelled<'a>(text: &'a [u8], spelling: Spelling) -> Result<(Tag, &'a [u8]), &'a [u8]>
+    ensures answer { IfOk result (λ r. IsTagInRange r.0
+        × Reads (IsSpelled spelling) text.now (spelled spelling r.0) r.1.now) }
+    ensures refused { IfErr result (λ rest. GoesWrong (IsSpelled spelling) text.now rest.now) }
+{
+    let (number, rest) = read_numbered(text, spelling.opening(), LAST_TABLE as u64)?;
+    let (rows, rest) = read_rows(rest, spelling)?;
+    let table = Table::new(number as u8).unwrap();
+    Ok((Tag { table, rows }, rest))
+}
+
+/// The tag at the text's beginning.
+pub(crate) fn read_tag<'a>(text: &'a [u8]) -> Result<(Tag, &'a [u8]), &'a [u8]>
+    ensures answer { IfOk result (λ r. IsTagInRange r.0
+        × Reads (IsText IsTagInRange tag_text) text.now (tag_text r.0) r.1.now) }
+    ensures refused { IfErr result (λ rest. GoesWrong (IsText IsTagInRange tag_text) text.now rest.now) }
+{
+    read_spelled(text, Spelling::Usual)
+}
+
+/// The tag that the whole text is.
+fn read_whole(text: &[u8]) -> Result<Tag, &[u8]>
+    ensures answer { IfOk result (IsTextOf IsTagInRange tag_text text.now) }
+    ensures refused { IfErr result (λ rest. IsRefused (IsText IsTagInRange tag_text) text.now rest.now) }
+{
+    match read_tag(text) {
+        Err(rest) => Err(rest),
+        Ok((tag, rest)) => {
+            if !rest.is_empty() {
+                return Err(rest);
+            }
+            Ok(tag)
         }
     }
 }
@@ -205,16 +146,11 @@ impl Tag {
         ensures refused { IfErr result (λ bad. IsLongestPrefix IsTagInRange tag_text text.now bad.at) }
         ensures read_back { (tag : Tag) → IsTextOf IsTagInRange tag_text text.now tag → result ≡ Ok tag }
     {
-        let mut front = TagFront::Nothing;
-        for (i, byte) in text.iter().enumerate() {
-            match front.push(*byte) {
-                Some(more) => front = more,
-                None => return Err(BadTag { at: i }),
-            }
-        }
-        match front.finished() {
-            Some(tag) => Ok(tag),
-            None => Err(BadTag { at: text.len() }),
+        match read_whole(text) {
+            Ok(tag) => Ok(tag),
+            Err(rest) => Err(BadTag {
+                at: text.len() - rest.len(),
+            }),
         }
     }
 

@@ -1,11 +1,10 @@
-use Rattle.std.proofs.Common.{◌≡◌, List, take, IfOk}
+use Rattle.std.proofs.Common.{◌≡◌, List, IfOk, length}
 use Rattle.txc_tags.specs.declared.tag.Tag.{Tag}
-use Rattle.txc_tags.specs.TextTagFront.{IsFrontInRange}
-use Rattle.txc_tags.proofs.TextSets.{HasRead}
+use Rattle.txc_tags.proofs.TextSets.{HasTags}
 use Rattle.txc_tags.proofs.text.set.read_tags.Given as goal
 
-abbrev pub invariant-loop-i : goal.invariant-loop-i
-invariant-loop-i l = record {
-  in_range : IsFrontInRange l.front;
-  read : (set : List Tag) × HasRead (take l.i l.text) l.front set × IfOk l.set (λ s. s ≡ set);
-}
+abbrev pub invariant-loop-read : goal.invariant-loop-read
+invariant-loop-read l = (set : List Tag) × HasTags l.text l.rest set × IfOk l.set (λ s. s ≡ set)
+
+abbrev pub decreases-loop-read : goal.decreases-loop-read
+decreases-loop-read l = length l.rest
