@@ -10,9 +10,9 @@ use Rattle.std.proofs.lemmas.List.Elements.{All-cons}
 is_not : (a b : ℕ) → eqb a b ≡ false → a ≢ b
 is_not a b h e = grind (arith, nat_tests)
 
--- the bytes before it, and those behind it
-pub record CutsAt (c : ℕ) (xs front behind : List ℕ) : Type 0 where
-  pub joined : xs ≡ front ++ c ∷ behind
+-- the bytes before it, and those after it
+pub record CutsAt (c : ℕ) (xs front after : List ℕ) : Type 0 where
+  pub joined : xs ≡ front ++ c ∷ after
   pub not_before : All (λ b. b ≢ c) front
 
 pub cut_at : (c : ℕ) (xs : List ℕ) (i : ℕ) → position (λ b. eqb b c) xs ≡ Some i → CutsAt c xs (take i xs) (take (length xs - (i + 1)) (drop (i + 1) xs))

@@ -1,4 +1,4 @@
--- What reading a line gives.
+-- Only private functions and a law need this file: what reading a line gives.
 use Rattle.std.specs.Prelude.{◌≡◌, ⊤, ℕ, List, Some, None}
 use Rattle.txc_tags.specs.declared.text.set.SetError.{SetError}
 use Rattle.txc_tags.specs.declared.text.set.SetError.TheVariants as sets

@@ -17,7 +17,7 @@ fn main(rt: HostRuntime) -> ExitCode {
     let ended = run(
         rt.alloc(),
         mode,
-        Settings::DEFAULT,
+        Settings::default(),
         &mut reader,
         &mut writer,
     );

@@ -9,7 +9,7 @@ use Rattle.std.proofs.lemmas.List.Elements.{All-append, All-nil}
 use Rattle.txc_node.specs.Cache.{Cache}
 use Rattle.txc_run.specs.Script.{BeginsWithLines, HasNoEnd, last_line}
 use Rattle.txc_run.specs.Runs.{Given, Gives, AreGiven, is_malformed, is_refused, output_of}
-use Rattle.txc_run.specs.Sessions.{kept_of, flow_of, AnswersLine, Heard, IsStopped, IsHalted, HasEnded, HearsAs}
+use Rattle.txc_run.specs.Sessions.{kept_of, flow_of, AnswersLine, HasAnswered, IsStopped, IsHalted, HasEnded, AnswersAs}
 use Rattle.txc_run.specs.declared.piece.TheConstants.{MAX_KEPT}
 use Rattle.txc_run.specs.declared.session.Session.{Session}
 use Rattle.txc_run.specs.declared.session.Flow.{Flow}
@@ -17,15 +17,15 @@ use Rattle.txc_run.specs.declared.session.Flow.TheVariants.{GoesOn, Stopped}
 use Rattle.txc_run.proofs.Answered.{given_more, begins_more, begins_longer, kept_append, gives_whole, any_more, text_more}
 
 -- what holds where the line that began with `rest` was answered, as a line that is `line` whole
-record Told (start : Cache) (written : List ℕ) (s : Session) (lines : List (List ℕ)) (given : List Given) : Type 0 where
+record LineAdded (start : Cache) (written : List ℕ) (s : Session) (lines : List (List ℕ)) (given : List Given) : Type 0 where
   are_given : AreGiven start 1 lines given s.node
   text : written ++ string_bytes s.output ≡ output_of given
   refused : s.is_refused ≡ list_any is_refused given
   count : s.lines ≡ length lines
 
-told_line : (start : Cache) (read written front x : List ℕ) (s next : Session) (flow : Flow) (h : Heard start read written s) → x ≡ kept_of (h.rest ++ front)
-    → (a : AnswersLine (record s { line = x }) next flow) → Told start written next (h.lines ++ (h.rest ++ front) ∷ []) (h.given ++ a.given ∷ [])
-told_line start read written front x s next flow h is a =
+added_line : (start : Cache) (read written front x : List ℕ) (s next : Session) (flow : Flow) (h : HasAnswered start read written s) → x ≡ kept_of (h.rest ++ front)
+    → (a : AnswersLine (record s { line = x }) next flow) → LineAdded start written next (h.lines ++ (h.rest ++ front) ∷ []) (h.given ++ a.given ∷ [])
+added_line start read written front x s next flow h is a =
     let line = h.rest ++ front in
     let number : s.lines + 1 ≡ 1 + length h.lines = omega (arith, h.count) in
     let gives : Gives s.node (1 + length h.lines) line a.given next.node = gives_whole s.node (1 + length h.lines) line a.given next.node
@@ -40,46 +40,46 @@ told_line start read written front x s next flow h is a =
 no_end : HasNoEnd []
 no_end = λ k d l. absurd (omega arith)
 
--- the line that ends behind `front` was answered
-pub heard_line : (start : Cache) (read written front x : List ℕ) (s next : Session) (flow : Flow) (h : Heard start read written s) → HasNoEnd front
-    → x ≡ take MAX_KEPT (s.line ++ front) → AnswersLine (record s { line = x }) next flow → HearsAs start (read ++ (front ++ 10 ∷ [])) written next (Ok flow)
-heard_line start read written front x s next flow h bare is a =
+-- the line that ends after `front` was answered
+pub answered_line : (start : Cache) (read written front x : List ℕ) (s next : Session) (flow : Flow) (h : HasAnswered start read written s) → HasNoEnd front
+    → x ≡ take MAX_KEPT (s.line ++ front) → AnswersLine (record s { line = x }) next flow → AnswersAs start (read ++ (front ++ 10 ∷ [])) written next (Ok flow)
+answered_line start read written front x s next flow h bare is a =
     let line = h.rest ++ front in
     let whole : x ≡ kept_of line = is ∙ ap (λ (l : List ℕ). take MAX_KEPT (l ++ front)) h.kept ∙ kept_append MAX_KEPT h.rest front in
-    let told = told_line start read written front x s next flow h whole a in
+    let added = added_line start read written front x s next flow h whole a in
     let begins = begins_more read h.lines h.rest front h.begins h.not_ended bare in
     let malformed : list_any is_malformed (h.given ++ a.given ∷ []) ≡ is_malformed a.given = any_more is_malformed h.given a.given ∙ ap (λ (b : Bool). b || is_malformed a.given) h.well_formed in
-    let go : (b : Bool) → is_malformed a.given ≡ b → HearsAs start (read ++ (front ++ 10 ∷ [])) written next (Ok (flow_of b)) = λ b. elim b as (λ v. is_malformed a.given ≡ v → HearsAs start (read ++ (front ++ 10 ∷ [])) written next (Ok (flow_of v))) [
+    let go : (b : Bool) → is_malformed a.given ≡ b → AnswersAs start (read ++ (front ++ 10 ∷ [])) written next (Ok (flow_of b)) = λ b. elim b as (λ v. is_malformed a.given ≡ v → AnswersAs start (read ++ (front ++ 10 ∷ [])) written next (Ok (flow_of v))) [
       | true ↦ (λ e. record {
         lines = h.lines ++ line ∷ [];
         given = h.given ++ a.given ∷ [];
         others = [];
-        answers = record { end = next.node; are_given = told.are_given };
+        answers = record { end = next.node; are_given = added.are_given };
         begins = begins;
-        text = told.text;
-        refused = told.refused;
+        text = added.text;
+        refused = added.refused;
         malformed = malformed ∙ e;
       })
       | false ↦ (λ e. record {
         lines = h.lines ++ line ∷ [];
         given = h.given ++ a.given ∷ [];
         rest = [];
-        are_given = told.are_given;
+        are_given = added.are_given;
         begins = begins;
         not_ended = no_end;
         kept = a.emptied;
-        text = told.text;
-        count = told.count;
-        refused = told.refused;
+        text = added.text;
+        count = added.count;
+        refused = added.refused;
         well_formed = malformed ∙ e;
       })
     ] in
-    subst (λ (f : Flow). HearsAs start (read ++ (front ++ 10 ∷ [])) written next (Ok f)) (sym a.flow_is) (go (is_malformed a.given) refl)
+    subst (λ (f : Flow). AnswersAs start (read ++ (front ++ 10 ∷ [])) written next (Ok f)) (sym a.flow_is) (go (is_malformed a.given) refl)
 
 -- a line goes on
-pub heard_front : (start : Cache) (read written front x : List ℕ) (s : Session) → Heard start read written s → HasNoEnd front → x ≡ take MAX_KEPT (s.line ++ front)
-    → Heard start (read ++ front) written (record s { line = x })
-heard_front start read written front x s h bare is = record {
+pub extended_line : (start : Cache) (read written front x : List ℕ) (s : Session) → HasAnswered start read written s → HasNoEnd front → x ≡ take MAX_KEPT (s.line ++ front)
+    → HasAnswered start (read ++ front) written (record s { line = x })
+extended_line start read written front x s h bare is = record {
   lines = h.lines;
   given = h.given;
   rest = h.rest ++ front;
@@ -93,8 +93,8 @@ heard_front start read written front x s h bare is = record {
   well_formed = h.well_formed;
 }
 
--- memory was wanted behind what was heard
-pub halted : (start : Cache) (read written more : List ℕ) (s next : Session) → Heard start read written s → string_bytes next.output ≡ string_bytes s.output
+-- memory was wanted after what was heard
+pub halted : (start : Cache) (read written more : List ℕ) (s next : Session) → HasAnswered start read written s → string_bytes next.output ≡ string_bytes s.output
     → IsHalted start (read ++ more) written next
 halted start read written more s next h e = record {
   lines = h.lines;
@@ -103,15 +103,16 @@ halted start read written more s next h e = record {
   answers = record { end = s.node; are_given = h.are_given };
   begins = begins_longer read h.lines h.rest more h.begins;
   text = ap (λ (xs : List ℕ). written ++ xs) e ∙ h.text;
+  well_formed = h.well_formed;
 }
 
-pub heard_answer : (start : Cache) (read written front x : List ℕ) (s next : Session) (r : Result Flow AllocError) → HasNoEnd front
+pub answered_end : (start : Cache) (read written front x : List ℕ) (s next : Session) (r : Result Flow AllocError) → HasNoEnd front
     → x ≡ take MAX_KEPT (s.line ++ front) → IfOk r (AnswersLine (record s { line = x }) next) → OnErr r (string_bytes next.output ≡ string_bytes s.output)
-    → Heard start read written s → HearsAs start (read ++ (front ++ 10 ∷ [])) written next r
-heard_answer start read written front x s next (Ok flow) bare is a e h = heard_line start read written front x s next flow h bare is a
-heard_answer start read written front x s next (Err error) bare is a e h = halted start read written (front ++ 10 ∷ []) s next h e
+    → HasAnswered start read written s → AnswersAs start (read ++ (front ++ 10 ∷ [])) written next r
+answered_end start read written front x s next (Ok flow) bare is a e h = answered_line start read written front x s next flow h bare is a
+answered_end start read written front x s next (Err error) bare is a e h = halted start read written (front ++ 10 ∷ []) s next h e
 
--- what is read behind a malformed line, and behind want of memory, is not looked at
+-- what is read after a malformed line, and after out of memory, is not looked at
 pub stopped_longer : (start : Cache) (read written more all : List ℕ) (s : Session) → read ++ more ≡ all → IsStopped start read written s → IsStopped start all written s
 stopped_longer start read written more all s e h = record {
   lines = h.lines;
@@ -132,20 +133,21 @@ halted_longer start read written more all s e h = record {
   answers = h.answers;
   begins = subst (λ (xs : List ℕ). BeginsWithLines xs h.lines (h.others ++ more)) e (begins_longer read h.lines h.others more h.begins);
   text = h.text;
+  well_formed = h.well_formed;
 }
 
-pub halted_here : (start : Cache) (read written : List ℕ) (s next : Session) → string_bytes next.output ≡ string_bytes s.output → Heard start read written s → IsHalted start read written next
+pub halted_here : (start : Cache) (read written : List ℕ) (s next : Session) → string_bytes next.output ≡ string_bytes s.output → HasAnswered start read written s → IsHalted start read written next
 halted_here start read written s next e h = halted_longer start (read ++ []) written [] read next (append-nil (read ++ []) ∙ append-nil read) (halted start read written [] s next h e)
 
 -- lists of bytes
-pub rejoined : (read done front behind rest all : List ℕ) → all ≡ done ++ rest → rest ≡ front ++ 10 ∷ behind → ((read ++ done) ++ (front ++ 10 ∷ [])) ++ behind ≡ read ++ all
-rejoined read done front behind rest all e f = simp append_assoc (ap (λ (xs : List ℕ). read ++ xs) (ap (λ (xs : List ℕ). done ++ xs) (sym f) ∙ sym e))
+pub rejoined : (read done front after rest all : List ℕ) → all ≡ done ++ rest → rest ≡ front ++ 10 ∷ after → ((read ++ done) ++ (front ++ 10 ∷ [])) ++ after ≡ read ++ all
+rejoined read done front after rest all e f = simp append_assoc (ap (λ (xs : List ℕ). read ++ xs) (ap (λ (xs : List ℕ). done ++ xs) (sym f) ∙ sym e))
 
-pub split_more : (done front behind rest all : List ℕ) → all ≡ done ++ rest → rest ≡ front ++ 10 ∷ behind → all ≡ (done ++ (front ++ 10 ∷ [])) ++ behind
-split_more done front behind rest all e f = simp append_assoc (e ∙ ap (λ (xs : List ℕ). done ++ xs) f)
+pub split_more : (done front after rest all : List ℕ) → all ≡ done ++ rest → rest ≡ front ++ 10 ∷ after → all ≡ (done ++ (front ++ 10 ∷ [])) ++ after
+split_more done front after rest all e f = simp append_assoc (e ∙ ap (λ (xs : List ℕ). done ++ xs) f)
 
-pub heard_nothing : (start : Cache) (s : Session) → s.node ≡ start → s.lines ≡ 0 → s.is_refused ≡ false → s.line ≡ [] → string_bytes s.output ≡ [] → Heard start [] [] s
-heard_nothing start s node lines refused line output = record {
+pub nothing_answered : (start : Cache) (s : Session) → s.node ≡ start → s.lines ≡ 0 → s.is_refused ≡ false → s.line ≡ [] → string_bytes s.output ≡ [] → HasAnswered start [] [] s
+nothing_answered start s node lines refused line output = record {
   lines = [];
   given = [];
   rest = [];
@@ -164,28 +166,28 @@ last_of_one [] h = absurd (h refl)
 last_of_one (b ∷ rest) h = refl
 
 -- the last line, whose line feed is missing, was answered
-pub ended_line : (start : Cache) (read written : List ℕ) (s next : Session) (flow : Flow) → Heard start read written s → (s.line ≡ [] → ⊥)
+pub ended_line : (start : Cache) (read written : List ℕ) (s next : Session) (flow : Flow) → HasAnswered start read written s → (s.line ≡ [] → ⊥)
     → AnswersLine s next flow → HasEnded start read written next
 ended_line start read written s next flow h some a =
     let line = h.rest ++ [] in
     let same : line ≡ h.rest = append-nil h.rest in
-    let told = told_line start read written [] s.line s next flow h (h.kept ∙ ap kept_of (sym same)) a in
+    let added = added_line start read written [] s.line s next flow h (h.kept ∙ ap kept_of (sym same)) a in
     let not_empty : h.rest ≡ [] → ⊥ = λ e. some (h.kept ∙ ap kept_of e) in
     record {
       lines = h.lines ++ line ∷ [];
       given = h.given ++ a.given ∷ [];
-      answers = record { end = next.node; are_given = told.are_given };
+      answers = record { end = next.node; are_given = added.are_given };
       all = (h.lines, h.rest, h.begins, h.not_ended, ap (λ (l : List ℕ). h.lines ++ l ∷ []) same ∙ ap (λ (ls : List (List ℕ)). h.lines ++ ls) (sym (last_of_one h.rest not_empty)));
-      text = told.text;
-      refused = told.refused;
+      text = added.text;
+      refused = added.refused;
     }
 
 kept_nothing : (rest : List ℕ) → kept_of rest ≡ [] → rest ≡ []
 kept_nothing [] e = refl
 kept_nothing (b ∷ rest) e = absurd (let l : length (kept_of (b ∷ rest)) ≡ 0 = ap length e in omega (arith, length-take MAX_KEPT (b ∷ rest)))
 
--- no byte stands behind the last line feed
-pub ended_before : (start : Cache) (read written : List ℕ) (s : Session) → Heard start read written s → s.line ≡ [] → HasEnded start read written s
+-- no byte stands after the last line feed
+pub ended_before : (start : Cache) (read written : List ℕ) (s : Session) → HasAnswered start read written s → s.line ≡ [] → HasEnded start read written s
 ended_before start read written s h none =
     let nothing : h.rest ≡ [] = kept_nothing h.rest (sym h.kept ∙ none) in
     record {
@@ -198,17 +200,17 @@ ended_before start read written s h none =
     }
 
 -- the same bytes in one list
-pub hears_same : (start : Cache) (a b written : List ℕ) (s : Session) (r : Result Flow AllocError) → a ≡ b → HearsAs start a written s r → HearsAs start b written s r
-hears_same start a b written s r e h = subst (λ (xs : List ℕ). HearsAs start xs written s r) e h
+pub answers_same : (start : Cache) (a b written : List ℕ) (s : Session) (r : Result Flow AllocError) → a ≡ b → AnswersAs start a written s r → AnswersAs start b written s r
+answers_same start a b written s r e h = subst (λ (xs : List ℕ). AnswersAs start xs written s r) e h
 
-pub stopped_of : (start : Cache) (read written : List ℕ) (s : Session) (flow : Flow) → flow ≡ Stopped → HearsAs start read written s (Ok flow) → IsStopped start read written s
-stopped_of start read written s flow e h = subst (λ (f : Flow). HearsAs start read written s (Ok f)) e h
+pub stopped_of : (start : Cache) (read written : List ℕ) (s : Session) (flow : Flow) → flow ≡ Stopped → AnswersAs start read written s (Ok flow) → IsStopped start read written s
+stopped_of start read written s flow e h = subst (λ (f : Flow). AnswersAs start read written s (Ok f)) e h
 
-pub heard_of : (start : Cache) (read written : List ℕ) (s : Session) (flow : Flow) → flow ≡ GoesOn → HearsAs start read written s (Ok flow) → Heard start read written s
-heard_of start read written s flow e h = subst (λ (f : Flow). HearsAs start read written s (Ok f)) e h
+pub answered_of : (start : Cache) (read written : List ℕ) (s : Session) (flow : Flow) → flow ≡ GoesOn → AnswersAs start read written s (Ok flow) → HasAnswered start read written s
+answered_of start read written s flow e h = subst (λ (f : Flow). AnswersAs start read written s (Ok f)) e h
 
-pub heard_same : (start : Cache) (a b written : List ℕ) (s : Session) → a ≡ b → Heard start a written s → Heard start b written s
-heard_same start a b written s e h = subst (λ (xs : List ℕ). Heard start xs written s) e h
+pub answered_same : (start : Cache) (a b written : List ℕ) (s : Session) → a ≡ b → HasAnswered start a written s → HasAnswered start b written s
+answered_same start a b written s e h = subst (λ (xs : List ℕ). HasAnswered start xs written s) e h
 
 pub not_nothing : (xs : List ℕ) → eqb (length xs) 0 ≡ false → xs ≡ [] → ⊥
 not_nothing [] h e = cc

@@ -1,6 +1,6 @@
 use Rattle.std.proofs.Common.{sym, ◌∙◌}
-use Rattle.txc_run.proofs.Hearing.{ended_line, not_nothing}
-use Rattle.txc_run.proofs.session.Session.hear_end.Goals as goal
+use Rattle.txc_run.proofs.SessionLines.{ended_line, not_nothing}
+use Rattle.txc_run.proofs.session.Session.answer_last.Goals as goal
 
 pub returns-in-Ok : goal.returns-in-Ok
 returns-in-Ok c start read written h =
