@@ -1,6 +1,6 @@
 #!/usr/bin/env python3
-"""Writes the parts of docs/ that are made by script: docs/DEFINITIONS.md, from the comments of the crates' specs/, and the
-lists of docs/WRONG_BODIES.md, from their edits.
+"""Writes the parts of docs/ that are made by script: docs/DEFINITIONS.md, from the comments of the crates' specs/, the
+lists of docs/WRONG_BODIES.md, from their edits, and the examples of docs/SCRIPTS.md, from examples/.
 
 usage: docs.py [--check]      --check writes nothing, and ends with 1 where a file is not what would be written
 """
@@ -8,11 +8,14 @@ import pathlib, re, sys
 
 ROOT = pathlib.Path(__file__).resolve().parent.parent
 LISTS = "## All of them, by crate"
+EXAMPLES = "## The examples, with the replies beside their lines"
+# Of more commands in a row than this, only the first and the last are shown.
+MOST_SHOWN = 12
 DEFINITIONS = """# Definitions
 
-Every word that a public contract uses, beside what it says. They stand in each crate's `specs/`, as functions and
-relations over whole lists, with the same words in a comment. `docs/SCRIPTS.md` says the grammars again for users. This page
-is made by `make docs`.
+Every word that a contract uses, beside what it says: of each crate first the words of its public clauses, each after those
+that it is made of. They stand in the crate's `specs/`, as functions and relations over whole lists, with the same words in a
+comment. This page is made by `make docs`.
 
 The laws over them are contracts of public functions with empty bodies (`laws.rt` of each crate): such a function runs
 nothing, and its contract is a theorem that the gate proves.
@@ -34,28 +37,81 @@ def comment(lines, end):
     return " ".join(line[3:].strip() for line in lines[start:end])
 
 
-def words(file):
-    """The title of a file of definitions, and its definitions with what their comments say."""
-    lines = file.read_text().split("\n")
-    end = next(at for at, line in enumerate(lines) if not line.startswith("-- "))
-    found = [(hit[1], comment(lines, at)) for at, line in enumerate(lines) if (hit := ITEM.match(line))]
-    return comment(lines, end), [row for row in found if row[1]]
+def words(crate):
+    """The words that a crate defines: the name of each, beside what its comment says, its text, and its file."""
+    found = {}
+    for file in sorted(it for it in crate.glob("specs/*.antt") if it.stem != "Lib"):
+        lines = file.read_text().split("\n")
+        at = [n for n, line in enumerate(lines) if ITEM.match(line)]
+        for start, end in zip(at, at[1:] + [len(lines)]):
+            said = comment(lines, start)
+            if said:
+                text = "\n".join(line for line in lines[start:end] if not line.startswith("--"))
+                found[ITEM.match(lines[start])[1]] = (said, text, file.stem)
+    return found
+
+
+def names(text):
+    return set(re.findall(r"[^\s(){}\[\].,;:λ]+", text))
+
+
+def public_clauses(crate):
+    """The texts of the clauses of a crate's public functions and types."""
+    text = ""
+    for file in crate.glob("src/**/*.rt"):
+        is_public = False
+        for line in file.read_text().split("\n"):
+            if re.match(r" *(pub )?(const |unsafe )*(fn|struct|enum|trait|impl)\b", line):
+                is_public = re.match(r" *pub ", line) is not None or line.startswith(("impl", "trait"))
+                # the functions of an impl of a trait are as public as the trait
+                in_trait = (line.startswith("impl") and " for " in line) or (line.startswith("    ") and text and in_trait)
+                is_public = is_public or in_trait
+            elif re.match(r" *pub\(", line):
+                is_public = False
+            if is_public:
+                text += line + "\n"
+    return text
+
+
+def in_order(found, wanted):
+    """The wanted words and those that their definitions use, each after what it is made of."""
+    order = []
+
+    def add(name):
+        if name not in order and name not in on_the_way:
+            on_the_way.add(name)
+            for other in found:
+                if other != name and other in names(found[name][1]):
+                    add(other)
+            order.append(name)
+
+    on_the_way = set()
+    for name in found:
+        if name in wanted:
+            add(name)
+    return order
+
+
+def table(found, order):
+    rows = (f"| `{it}` | {found[it][0].replace('|', chr(92) + '|')} | {found[it][2]} |\n" for it in order)
+    return "\n| Name | In words | File |\n|---|---|---|\n" + "".join(rows)
 
 
 def definitions():
     text = DEFINITIONS
     for name in crates():
         crate = ROOT / "crates" / name
-        files = sorted(it for it in crate.glob("specs/*.antt") if it.stem != "Lib")
-        if not files:
+        found = words(crate)
+        if not found:
             continue
         head = re.match(r"((?://! .*\n)+)", (crate / "src/lib.rt").read_text())[1]
         text += f"\n## `{name}`\n\n" + " ".join(line[4:] for line in head.strip().split("\n")).split(". ")[0].rstrip(".") + ".\n"
-        for file in files:
-            title, rows = words(file)
-            text += f"\n**`{file.stem}`**: {title}\n"
-            if rows:
-                text += "\n| Name | In words |\n|---|---|\n" + "".join(f"| `{it}` | {said.replace('|', chr(92) + '|')} |\n" for it, said in rows)
+        public = in_order(found, names(public_clauses(crate)))
+        if public:
+            text += "\nWords of its public clauses:\n" + table(found, public)
+        others = [it for it in in_order(found, found) if it not in public]
+        if others:
+            text += "\nWords of private clauses, worked examples and proofs:\n" + table(found, others)
     return text
 
 
@@ -89,8 +145,35 @@ def wrong_bodies(text):
     return start + LISTS + after.partition("\n### ")[0].rstrip() + "\n" + lists()
 
 
+def beside(script, output):
+    """The lines of a script, each command with its reply beside it."""
+    replies, shown, row = iter(output.split("\n")), [], []
+
+    def end_row():
+        shown.extend(row if len(row) <= MOST_SHOWN else [row[0], "..", row[-1]])
+        row.clear()
+
+    for line in script.rstrip("\n").split("\n"):
+        if line and not line.startswith("#"):
+            row.append(f"{line:<37} {next(replies)}")
+        else:
+            end_row()
+            shown.append(line)
+    end_row()
+    return "".join(f"    {line}".rstrip() + "\n" for line in shown)
+
+
+def scripts(text):
+    start, _, after = text.partition(EXAMPLES)
+    text = start + EXAMPLES + after.partition("\n### ")[0].rstrip() + "\n"
+    for script in sorted((ROOT / "examples").glob("*.txc")):
+        text += f"\n### {script.stem}\n\n" + beside(script.read_text(), script.with_suffix(".out").read_text())
+    return text
+
+
 def main():
-    wanted = {"DEFINITIONS.md": definitions(), "WRONG_BODIES.md": wrong_bodies((ROOT / "docs/WRONG_BODIES.md").read_text())}
+    made = {"DEFINITIONS.md": lambda _: definitions(), "WRONG_BODIES.md": wrong_bodies, "SCRIPTS.md": scripts}
+    wanted = {name: make((ROOT / "docs" / name).read_text()) for name, make in made.items()}
     for name, text in wanted.items():
         path = ROOT / "docs" / name
         if "--check" not in sys.argv[1:]:
