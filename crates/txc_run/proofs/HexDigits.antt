@@ -38,17 +38,11 @@ bad_digits bytes done (a ∷ b ∷ rest) text x y e two all h bad = next_digits 
 abbrev pub HasDigits : List ℕ → List ℕ → Type 0
 HasDigits text bytes = IsBytes bytes × (flat_map digits_of bytes ≡ text)
 
-hex_value : (text items : List ℕ) → (text ≡ [] → ⊥) → HasDigits text items → IsHexWord text items
-hex_value text [] some h = absurd (some (sym h.1))
-hex_value text (b ∷ items) some h = (h.0, sym h.1)
 
 hex_digits : (text bytes : List ℕ) → (text ≡ codes "-" → ⊥) → IsHexWord text bytes → HasDigits text bytes
 hex_digits text [] bare word = absurd (bare word.1)
 hex_digits text (b ∷ bytes) bare word = (word.0, sym word.1)
 
-pub hex_read : (text : List ℕ) (r : Result (Vec ℕ) NoStep) → (text ≡ [] → ⊥) → IfOk r (λ v. HasDigits text v.items) → IfOk r (λ v. IsHexWord text v.items)
-hex_read text (Ok v) some h = hex_value text v.items some h
-hex_read text (Err reason) some h = tt
 
 pub hex_unread : (text : List ℕ) (r : Result (Vec ℕ) NoStep) → (text ≡ codes "-" → ⊥) → IfErr r (IsNoWord (HasDigits text)) → IfErr r (IsNoWord (IsHexWord text))
 hex_unread text (Ok v) bare h = tt

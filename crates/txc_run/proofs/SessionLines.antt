@@ -136,8 +136,6 @@ halted_longer start read written more all s e h = record {
   well_formed = h.well_formed;
 }
 
-pub halted_here : (start : Cache) (read written : List ℕ) (s next : Session) → string_bytes next.output ≡ string_bytes s.output → HasAnswered start read written s → IsHalted start read written next
-halted_here start read written s next e h = halted_longer start (read ++ []) written [] read next (append-nil (read ++ []) ∙ append-nil read) (halted start read written [] s next h e)
 
 -- lists of bytes
 pub rejoined : (read done front after rest all : List ℕ) → all ≡ done ++ rest → rest ≡ front ++ 10 ∷ after → ((read ++ done) ++ (front ++ 10 ∷ [])) ++ after ≡ read ++ all
@@ -182,22 +180,7 @@ ended_line start read written s next flow h some a =
       refused = added.refused;
     }
 
-kept_nothing : (rest : List ℕ) → kept_of rest ≡ [] → rest ≡ []
-kept_nothing [] e = refl
-kept_nothing (b ∷ rest) e = absurd (let l : length (kept_of (b ∷ rest)) ≡ 0 = ap length e in omega (arith, length-take MAX_KEPT (b ∷ rest)))
 
--- no byte stands after the last line feed
-pub ended_before : (start : Cache) (read written : List ℕ) (s : Session) → HasAnswered start read written s → s.line ≡ [] → HasEnded start read written s
-ended_before start read written s h none =
-    let nothing : h.rest ≡ [] = kept_nothing h.rest (sym h.kept ∙ none) in
-    record {
-      lines = h.lines;
-      given = h.given;
-      answers = record { end = s.node; are_given = h.are_given };
-      all = (h.lines, h.rest, h.begins, h.not_ended, sym (append-nil h.lines) ∙ ap (λ (r : List ℕ). h.lines ++ last_line r) (sym nothing));
-      text = h.text;
-      refused = h.refused;
-    }
 
 -- the same bytes in one list
 pub answers_same : (start : Cache) (a b written : List ℕ) (s : Session) (r : Result Flow AllocError) → a ≡ b → AnswersAs start a written s r → AnswersAs start b written s r
@@ -215,7 +198,3 @@ answered_same start a b written s e h = subst (λ (xs : List ℕ). HasAnswered s
 pub not_nothing : (xs : List ℕ) → eqb (length xs) 0 ≡ false → xs ≡ [] → ⊥
 not_nothing [] h e = cc
 not_nothing (x ∷ xs) h e = cc
-
-pub nothing_from_length : (xs : List ℕ) → eqb (length xs) 0 ≡ true → xs ≡ []
-nothing_from_length [] h = refl
-nothing_from_length (x ∷ xs) h = absurd (let l : suc (length xs) ≡ 0 = grind (arith, nat_tests) in omega arith)

@@ -116,25 +116,6 @@ pub run_ends : (P : Type 0) (start : Cache) (a b : Option (List ℕ)) (w x y : O
 run_ends P start a b w x y read written r consumes appends f e =
     (read, written ++ e.0, consumes, Appends-trans w x y written e.0 appends e.1, written_at P (IsAtEnd b) start read (written ++ e.0) r f e.2)
 
--- the reader failed, or has been read often enough
-pub run_faults : (start : Cache) (a b : Option (List ℕ)) (w x : Option (List ℕ)) (read written : List ℕ) (s : Session) → Consumes a b read → Appends w x written
-    → HasAnswered start read written s → string_bytes s.output ≡ [] → HasRun start a b w x (Err Read)
-run_faults start a b w x read written s consumes appends h none = (
-  read,
-  written,
-  consumes,
-  appends,
-  (
-    h.lines,
-    h.given,
-    h.rest,
-    record { end = s.node; are_given = h.are_given },
-    h.begins,
-    h.not_ended,
-    sym (append-nil written) ∙ ap (λ (xs : List ℕ). written ++ xs) (sym none) ∙ h.text,
-    h.well_formed,
-  ),
-)
 
 -- out of memory before anything was read
 pub run_out_of_memory : (start : Cache) (a w : Option (List ℕ)) → HasRun start a a w w (Err Memory)

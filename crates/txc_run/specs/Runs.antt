@@ -88,7 +88,7 @@ IsWhole read at_end lines given =
     (AreLinesOf read lines × at_end)
     ⊎ ((others : List ℕ) × BeginsWithLines read lines others × (list_any is_malformed given ≡ true))
 
--- lines at the front of what was read
+-- the first lines of what was read
 abbrev pub AreFirstLines : List ℕ → List (List ℕ) → Type 0
 AreFirstLines read lines =
     ((others : List ℕ) × BeginsWithLines read lines others) ⊎ AreLinesOf read lines

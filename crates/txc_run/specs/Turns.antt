@@ -23,7 +23,8 @@ EndsWith start read at_end written contents_old contents_new result =
 abbrev pub status_by : Bool → Status
 status_by refused = if refused then Refused else Done
 
--- the lines that end in the bytes of a read were answered, and the replies written: the run goes on, or it ends so
+-- the lines that end in the bytes of a read were answered, and the replies written: the run goes on, or it
+-- ends so
 abbrev pub TurnsTo : Cache → List ℕ → List ℕ → Session → Option (List ℕ) → Option (List ℕ)
     → Result Flow RunFault → Type 0
 TurnsTo start read written s contents_old contents_new (Ok GoesOn) =
@@ -35,7 +36,9 @@ TurnsTo start read written s contents_old contents_new (Err fault) =
     EndsWith start read ⊥ written contents_old contents_new (Err fault)
 
 -- the run ended so, and the writer was flushed: a failure to flush is a fault of a run that had none
-abbrev pub EndsFlushed : Option (List ℕ) → Option (List ℕ) → Result Status RunFault → Result Status RunFault → Type 0
+abbrev pub EndsFlushed : Option (List ℕ) → Option (List ℕ) → Result Status RunFault → Result Status RunFault
+    → Type 0
 EndsFlushed contents_old contents_new (Ok status) result =
     Keeps contents_old contents_new × ((result ≡ Ok status) ⊎ (result ≡ Err Write))
-EndsFlushed contents_old contents_new (Err fault) result = Keeps contents_old contents_new × (result ≡ Err fault)
+EndsFlushed contents_old contents_new (Err fault) result =
+    Keeps contents_old contents_new × (result ≡ Err fault)

@@ -19,6 +19,7 @@ use txc_node::{NodeCore, Refusal};
 /// Whether a run goes on after a line.
 #[derive(Clone, Copy, Debug, PartialEq, Eq)]
 pub enum Flow {
+    /// The next line is read.
     GoesOn,
     /// A malformed line was read.
     Stopped,
@@ -32,18 +33,19 @@ pub struct Session {
     lines: u64,
     /// Whether a line was refused or malformed.
     is_refused: bool,
-    /// What is known of the line that has not ended.
+    /// The line that has not ended.
     line: LineStart,
     /// The texts of replies that are not written yet.
     output: String,
 }
 
 impl Session {
+    /// No line was read.
     pub fn new(alloc: Global, settings: Settings) -> Result<Session, AllocError>
         ensures answered { IfOk result
             (λ s. HasAnswered (empty_cache settings.capacity settings.recent) [] [] s) }
-        ensures none_at_hand { IfOk result (λ s. string_bytes s.output ≡ []) }
-        ensures none_read { IfOk result (λ s. s.lines ≡ 0) }
+        ensures no_output { IfOk result (λ s. string_bytes s.output ≡ []) }
+        ensures no_line { IfOk result (λ s. s.lines ≡ 0) }
     {
         let line = LineStart::new(alloc)?;
         let node = NodeCore::new(alloc, settings.capacity(), settings.recent())?;
@@ -56,6 +58,7 @@ impl Session {
         })
     }
 
+    /// What the run has come to, as far as it was answered.
     pub fn status(&self) -> Status
         ensures { result ≡ (if self.now.is_refused then Status.Refused else Status.Done) }
     {
@@ -110,27 +113,27 @@ impl Session {
     }
 
     /// Answers the line that ends after these bytes.
-    fn end_line(&mut self, alloc: Global, front: &[u8]) -> Result<Flow, AllocError>
+    fn end_line(&mut self, alloc: Global, bytes: &[u8]) -> Result<Flow, AllocError>
         requires count { self.old.lines + 1 < 2 ^ 64 }
-        requires no_end { HasNoEnd front.now }
+        requires no_end { HasNoEnd bytes.now }
         ensures counted { self.new.lines ≤ self.old.lines + 1 }
         ensures answered { (start : Cache) (read written : List ℕ) → HasAnswered start read written self.old
-            → AnswersAs start (read ++ (front.now ++ 10 ∷ [])) written self.new result }
+            → AnswersAs start (read ++ (bytes.now ++ 10 ∷ [])) written self.new result }
     {
-        match self.line.add(front) {
+        match self.line.add(bytes) {
             Ok(()) => self.answer_line(alloc),
             Err(e) => Err(e),
         }
     }
 
     /// A line goes on with these bytes.
-    fn extend_line(&mut self, rest: &[u8]) -> Result<Flow, AllocError>
-        requires { HasNoEnd rest.now }
+    fn extend_line(&mut self, bytes: &[u8]) -> Result<Flow, AllocError>
+        requires { HasNoEnd bytes.now }
         ensures counted { self.new.lines ≡ self.old.lines }
         ensures answered { (start : Cache) (read written : List ℕ) → HasAnswered start read written self.old
-            → AnswersAs start (read ++ rest.now) written self.new result }
+            → AnswersAs start (read ++ bytes.now) written self.new result }
     {
-        match self.line.add(rest) {
+        match self.line.add(bytes) {
             Ok(()) => Ok(Flow::GoesOn),
             Err(e) => Err(e),
         }
@@ -146,7 +149,7 @@ impl Session {
         let mut rest = bytes;
         'lines: loop {
             match cut_line(rest) {
-                Some((front, after)) => match self.end_line(alloc, front) {
+                Some((before, after)) => match self.end_line(alloc, before) {
                     Ok(Flow::GoesOn) => rest = after,
                     Ok(Flow::Stopped) => return Ok(Flow::Stopped),
                     Err(e) => return Err(e),
