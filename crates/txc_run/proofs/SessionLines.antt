@@ -1,10 +1,9 @@
 -- A run hears its lines.
-use Rattle.std.proofs.Common.{◌≡◌, ◌≢◌, ℕ, ◌+◌, Bool, true, false, ◌||◌, List, [], ◌∷◌, ◌++◌, length, take, Ok, Err, Result, IfOk, OnErr, refl, sym, ap, subst, ◌∙◌, arith, append_assoc, eqb, suc}
+use Rattle.std.proofs.Common.{◌≡◌, ◌≢◌, ℕ, ◌+◌, Bool, true, false, ◌||◌, List, [], ◌∷◌, ◌++◌, length, take, Ok, Err, Result, IfOk, OnErr, refl, sym, ap, subst, ◌∙◌, arith, append_assoc, eqb}
 use Rattle.std.specs.Prelude.{string_bytes}
-use Rattle.std.proofs.lemmas.Bool.Decides.{nat_tests}
 use Rattle.std.specs.List.{list_any}
 use Rattle.std.specs.declared.alloc.AllocError.{AllocError}
-use Rattle.std.proofs.lemmas.List.{append-nil, length-append, length-take}
+use Rattle.std.proofs.lemmas.List.{append-nil, length-append}
 use Rattle.std.proofs.lemmas.List.Elements.{All-append, All-nil}
 use Rattle.txc_node.specs.Cache.{Cache}
 use Rattle.txc_run.specs.Script.{BeginsWithLines, HasNoEnd, last_line}
@@ -136,7 +135,6 @@ halted_longer start read written more all s e h = record {
   well_formed = h.well_formed;
 }
 
-
 -- lists of bytes
 pub rejoined : (read done front after rest all : List ℕ) → all ≡ done ++ rest → rest ≡ front ++ 10 ∷ after → ((read ++ done) ++ (front ++ 10 ∷ [])) ++ after ≡ read ++ all
 rejoined read done front after rest all e f = simp append_assoc (ap (λ (xs : List ℕ). read ++ xs) (ap (λ (xs : List ℕ). done ++ xs) (sym f) ∙ sym e))
@@ -179,8 +177,6 @@ ended_line start read written s next flow h some a =
       text = added.text;
       refused = added.refused;
     }
-
-
 
 -- the same bytes in one list
 pub answers_same : (start : Cache) (a b written : List ℕ) (s : Session) (r : Result Flow AllocError) → a ≡ b → AnswersAs start a written s r → AnswersAs start b written s r

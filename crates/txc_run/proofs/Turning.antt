@@ -116,7 +116,6 @@ pub run_ends : (P : Type 0) (start : Cache) (a b : Option (List ℕ)) (w x y : O
 run_ends P start a b w x y read written r consumes appends f e =
     (read, written ++ e.0, consumes, Appends-trans w x y written e.0 appends e.1, written_at P (IsAtEnd b) start read (written ++ e.0) r f e.2)
 
-
 -- out of memory before anything was read
 pub run_out_of_memory : (start : Cache) (a w : Option (List ℕ)) → HasRun start a a w w (Err Memory)
 run_out_of_memory start a w = ([], [], Consumes-nil a, Appends-nil w, ([], [], [], record { end = start; are_given = refl }, record { joined = refl; each_is_one = All-nil HasNoEnd }, refl, refl))

@@ -16,7 +16,7 @@ pub enum Status {
 /// them.
 #[derive(Clone, Copy, Debug, PartialEq, Eq, Error)]
 pub enum RunFault {
-    /// The reader failed, or did not end within the reads that it is given.
+    /// The reader failed, or did not come to its end within [`crate::MAX_READS`] reads.
     #[error("read fault")]
     Read,
     /// The writer failed, or took no byte.

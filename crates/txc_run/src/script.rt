@@ -45,10 +45,7 @@ pub fn run<R: Read, W: Write>(
 }
 
 /// Flushes the writer at the end of a run. A fault of the run stays the one that is reported.
-fn flush<W: Write>(
-    writer: &mut W,
-    ended: Result<Status, RunFault>,
-) -> Result<Status, RunFault>
+fn flush<W: Write>(writer: &mut W, ended: Result<Status, RunFault>) -> Result<Status, RunFault>
     ensures { EndsFlushed (W.contents writer.old) (W.contents writer.new) ended result }
 {
     let flushed = writer.flush();

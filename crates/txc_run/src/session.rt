@@ -127,13 +127,13 @@ impl Session {
     }
 
     /// A line goes on with these bytes.
-    fn extend_line(&mut self, bytes: &[u8]) -> Result<Flow, AllocError>
-        requires { HasNoEnd bytes.now }
+    fn extend_line(&mut self, rest: &[u8]) -> Result<Flow, AllocError>
+        requires { HasNoEnd rest.now }
         ensures counted { self.new.lines ≡ self.old.lines }
         ensures answered { (start : Cache) (read written : List ℕ) → HasAnswered start read written self.old
-            → AnswersAs start (read ++ bytes.now) written self.new result }
+            → AnswersAs start (read ++ rest.now) written self.new result }
     {
-        match self.line.add(bytes) {
+        match self.line.add(rest) {
             Ok(()) => Ok(Flow::GoesOn),
             Err(e) => Err(e),
         }
