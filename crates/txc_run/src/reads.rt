@@ -33,10 +33,9 @@ impl Reads {
     pub fn read<R: Read>(&mut self, reader: &mut R, piece: &mut [u8]) -> Result<usize, RunFault>
         ensures bound { IfOk result (λ n. n ≤ length piece.new) }
         ensures bytes { ReadConsumes (R.remaining reader.old) (R.remaining reader.new) result piece.new }
-        ensures counted { self.new.left ≤ self.old.left }
-        ensures longer { OnOk result (self.new.left < self.old.left) }
-        ensures only_if { OnErr result (IsOver self.new) }
-        ensures refused { OnErr result (result ≡ Err RunFault.Read) }
+        ensures counted { OnOk result (self.new.left < self.old.left) }
+        ensures refused { OnErr result (IsOver self.new) }
+        ensures fault { OnErr result (result ≡ Err RunFault.Read) }
     {
         while self.left > 0 {
             self.left -= 1;

@@ -58,7 +58,7 @@ impl Session {
         })
     }
 
-    /// What the run has come to, as far as it was answered.
+    /// The status of the run so far.
     pub fn status(&self) -> Status
         ensures { result ≡ (if self.now.is_refused then Status.Refused else Status.Done) }
     {
