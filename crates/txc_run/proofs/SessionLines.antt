@@ -1,4 +1,4 @@
--- A run hears its lines.
+-- A run answers its lines.
 use Rattle.std.proofs.Common.{◌≡◌, ◌≢◌, ℕ, ◌+◌, Bool, true, false, ◌||◌, List, [], ◌∷◌, ◌++◌, length, take, Ok, Err, Result, IfOk, OnErr, refl, sym, ap, subst, ◌∙◌, arith, append_assoc, eqb}
 use Rattle.std.specs.Prelude.{string_bytes}
 use Rattle.std.specs.List.{list_any}
@@ -22,10 +22,10 @@ record LineAdded (start : Cache) (written : List ℕ) (s : Session) (lines : Lis
   refused : s.is_refused ≡ list_any is_refused given
   count : s.lines ≡ length lines
 
-added_line : (start : Cache) (read written front x : List ℕ) (s next : Session) (flow : Flow) (h : HasAnswered start read written s) → x ≡ kept_of (h.rest ++ front)
-    → (a : AnswersLine (record s { line = x }) next flow) → LineAdded start written next (h.lines ++ (h.rest ++ front) ∷ []) (h.given ++ a.given ∷ [])
-added_line start read written front x s next flow h is a =
-    let line = h.rest ++ front in
+added_line : (start : Cache) (read written before x : List ℕ) (s next : Session) (flow : Flow) (h : HasAnswered start read written s) → x ≡ kept_of (h.rest ++ before)
+    → (a : AnswersLine (record s { line = x }) next flow) → LineAdded start written next (h.lines ++ (h.rest ++ before) ∷ []) (h.given ++ a.given ∷ [])
+added_line start read written before x s next flow h is a =
+    let line = h.rest ++ before in
     let number : s.lines + 1 ≡ 1 + length h.lines = omega (arith, h.count) in
     let gives : Gives s.node (1 + length h.lines) line a.given next.node = gives_whole s.node (1 + length h.lines) line a.given next.node
     (subst (λ (l : List ℕ). Gives s.node (1 + length h.lines) l a.given next.node) is (subst (λ (k : ℕ). Gives s.node k x a.given next.node) number a.gives)) in
@@ -39,16 +39,16 @@ added_line start read written front x s next flow h is a =
 no_end : HasNoEnd []
 no_end = λ k d l. absurd (omega arith)
 
--- the line that ends after `front` was answered
-pub answered_line : (start : Cache) (read written front x : List ℕ) (s next : Session) (flow : Flow) (h : HasAnswered start read written s) → HasNoEnd front
-    → x ≡ take MAX_KEPT (s.line ++ front) → AnswersLine (record s { line = x }) next flow → AnswersAs start (read ++ (front ++ 10 ∷ [])) written next (Ok flow)
-answered_line start read written front x s next flow h bare is a =
-    let line = h.rest ++ front in
-    let whole : x ≡ kept_of line = is ∙ ap (λ (l : List ℕ). take MAX_KEPT (l ++ front)) h.kept ∙ kept_append MAX_KEPT h.rest front in
-    let added = added_line start read written front x s next flow h whole a in
-    let begins = begins_more read h.lines h.rest front h.begins h.not_ended bare in
+-- the line that ends after `before` was answered
+pub answered_line : (start : Cache) (read written before x : List ℕ) (s next : Session) (flow : Flow) (h : HasAnswered start read written s) → HasNoEnd before
+    → x ≡ take MAX_KEPT (s.line ++ before) → AnswersLine (record s { line = x }) next flow → AnswersAs start (read ++ (before ++ 10 ∷ [])) written next (Ok flow)
+answered_line start read written before x s next flow h bare is a =
+    let line = h.rest ++ before in
+    let whole : x ≡ kept_of line = is ∙ ap (λ (l : List ℕ). take MAX_KEPT (l ++ before)) h.kept ∙ kept_append MAX_KEPT h.rest before in
+    let added = added_line start read written before x s next flow h whole a in
+    let begins = begins_more read h.lines h.rest before h.begins h.not_ended bare in
     let malformed : list_any is_malformed (h.given ++ a.given ∷ []) ≡ is_malformed a.given = any_more is_malformed h.given a.given ∙ ap (λ (b : Bool). b || is_malformed a.given) h.well_formed in
-    let go : (b : Bool) → is_malformed a.given ≡ b → AnswersAs start (read ++ (front ++ 10 ∷ [])) written next (Ok (flow_of b)) = λ b. elim b as (λ v. is_malformed a.given ≡ v → AnswersAs start (read ++ (front ++ 10 ∷ [])) written next (Ok (flow_of v))) [
+    let go : (b : Bool) → is_malformed a.given ≡ b → AnswersAs start (read ++ (before ++ 10 ∷ [])) written next (Ok (flow_of b)) = λ b. elim b as (λ v. is_malformed a.given ≡ v → AnswersAs start (read ++ (before ++ 10 ∷ [])) written next (Ok (flow_of v))) [
       | true ↦ (λ e. record {
         lines = h.lines ++ line ∷ [];
         given = h.given ++ a.given ∷ [];
@@ -73,26 +73,26 @@ answered_line start read written front x s next flow h bare is a =
         well_formed = malformed ∙ e;
       })
     ] in
-    subst (λ (f : Flow). AnswersAs start (read ++ (front ++ 10 ∷ [])) written next (Ok f)) (sym a.flow_is) (go (is_malformed a.given) refl)
+    subst (λ (f : Flow). AnswersAs start (read ++ (before ++ 10 ∷ [])) written next (Ok f)) (sym a.flow_is) (go (is_malformed a.given) refl)
 
 -- a line goes on
-pub extended_line : (start : Cache) (read written front x : List ℕ) (s : Session) → HasAnswered start read written s → HasNoEnd front → x ≡ take MAX_KEPT (s.line ++ front)
-    → HasAnswered start (read ++ front) written (record s { line = x })
-extended_line start read written front x s h bare is = record {
+pub extended_line : (start : Cache) (read written before x : List ℕ) (s : Session) → HasAnswered start read written s → HasNoEnd before → x ≡ take MAX_KEPT (s.line ++ before)
+    → HasAnswered start (read ++ before) written (record s { line = x })
+extended_line start read written before x s h bare is = record {
   lines = h.lines;
   given = h.given;
-  rest = h.rest ++ front;
+  rest = h.rest ++ before;
   are_given = h.are_given;
-  begins = begins_longer read h.lines h.rest front h.begins;
-  not_ended = All-append (λ b. b ≢ 10) h.rest front h.not_ended bare;
-  kept = is ∙ ap (λ (l : List ℕ). take MAX_KEPT (l ++ front)) h.kept ∙ kept_append MAX_KEPT h.rest front;
+  begins = begins_longer read h.lines h.rest before h.begins;
+  not_ended = All-append (λ b. b ≢ 10) h.rest before h.not_ended bare;
+  kept = is ∙ ap (λ (l : List ℕ). take MAX_KEPT (l ++ before)) h.kept ∙ kept_append MAX_KEPT h.rest before;
   text = h.text;
   count = h.count;
   refused = h.refused;
   well_formed = h.well_formed;
 }
 
--- memory was wanted after what was heard
+-- memory ran out after what was answered
 pub halted : (start : Cache) (read written more : List ℕ) (s next : Session) → HasAnswered start read written s → string_bytes next.output ≡ string_bytes s.output
     → IsHalted start (read ++ more) written next
 halted start read written more s next h e = record {
@@ -105,13 +105,13 @@ halted start read written more s next h e = record {
   well_formed = h.well_formed;
 }
 
-pub answered_end : (start : Cache) (read written front x : List ℕ) (s next : Session) (r : Result Flow AllocError) → HasNoEnd front
-    → x ≡ take MAX_KEPT (s.line ++ front) → IfOk r (AnswersLine (record s { line = x }) next) → OnErr r (string_bytes next.output ≡ string_bytes s.output)
-    → HasAnswered start read written s → AnswersAs start (read ++ (front ++ 10 ∷ [])) written next r
-answered_end start read written front x s next (Ok flow) bare is a e h = answered_line start read written front x s next flow h bare is a
-answered_end start read written front x s next (Err error) bare is a e h = halted start read written (front ++ 10 ∷ []) s next h e
+pub answered_end : (start : Cache) (read written before x : List ℕ) (s next : Session) (r : Result Flow AllocError) → HasNoEnd before
+    → x ≡ take MAX_KEPT (s.line ++ before) → IfOk r (AnswersLine (record s { line = x }) next) → OnErr r (string_bytes next.output ≡ string_bytes s.output)
+    → HasAnswered start read written s → AnswersAs start (read ++ (before ++ 10 ∷ [])) written next r
+answered_end start read written before x s next (Ok flow) bare is a e h = answered_line start read written before x s next flow h bare is a
+answered_end start read written before x s next (Err error) bare is a e h = halted start read written (before ++ 10 ∷ []) s next h e
 
--- what is read after a malformed line, and after out of memory, is not looked at
+-- what is read after a malformed line, and once memory ran out, is not looked at
 pub stopped_longer : (start : Cache) (read written more all : List ℕ) (s : Session) → read ++ more ≡ all → IsStopped start read written s → IsStopped start all written s
 stopped_longer start read written more all s e h = record {
   lines = h.lines;
@@ -136,11 +136,11 @@ halted_longer start read written more all s e h = record {
 }
 
 -- lists of bytes
-pub rejoined : (read done front after rest all : List ℕ) → all ≡ done ++ rest → rest ≡ front ++ 10 ∷ after → ((read ++ done) ++ (front ++ 10 ∷ [])) ++ after ≡ read ++ all
-rejoined read done front after rest all e f = simp append_assoc (ap (λ (xs : List ℕ). read ++ xs) (ap (λ (xs : List ℕ). done ++ xs) (sym f) ∙ sym e))
+pub rejoined : (read done before after rest all : List ℕ) → all ≡ done ++ rest → rest ≡ before ++ 10 ∷ after → ((read ++ done) ++ (before ++ 10 ∷ [])) ++ after ≡ read ++ all
+rejoined read done before after rest all e f = simp append_assoc (ap (λ (xs : List ℕ). read ++ xs) (ap (λ (xs : List ℕ). done ++ xs) (sym f) ∙ sym e))
 
-pub split_more : (done front after rest all : List ℕ) → all ≡ done ++ rest → rest ≡ front ++ 10 ∷ after → all ≡ (done ++ (front ++ 10 ∷ [])) ++ after
-split_more done front after rest all e f = simp append_assoc (e ∙ ap (λ (xs : List ℕ). done ++ xs) f)
+pub split_more : (done before after rest all : List ℕ) → all ≡ done ++ rest → rest ≡ before ++ 10 ∷ after → all ≡ (done ++ (before ++ 10 ∷ [])) ++ after
+split_more done before after rest all e f = simp append_assoc (e ∙ ap (λ (xs : List ℕ). done ++ xs) f)
 
 pub nothing_answered : (start : Cache) (s : Session) → s.node ≡ start → s.lines ≡ 0 → s.is_refused ≡ false → s.line ≡ [] → string_bytes s.output ≡ [] → HasAnswered start [] [] s
 nothing_answered start s node lines refused line output = record {

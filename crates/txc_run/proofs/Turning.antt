@@ -34,16 +34,16 @@ answered_first start read written s (Ok GoesOn) h = record { lines = h.lines; gi
 answered_first start read written s (Ok Stopped) h = record { lines = h.lines; given = h.given; others = h.others; answers = h.answers; begins = h.begins; text = h.text }
 answered_first start read written s (Err e) h = record { lines = h.lines; given = h.given; others = h.others; answers = h.answers; begins = h.begins; text = h.text }
 
-front_of : (written out all : List ℕ) (n : ℕ) → written ++ out ≡ all → written ++ take n out ≡ take (length written + n) all
-front_of written out all n e = sym (take-append-add written out n) ∙ ap (take (length written + n)) e
+prefix_of : (written out all : List ℕ) (n : ℕ) → written ++ out ≡ all → written ++ take n out ≡ take (length written + n) all
+prefix_of written out all n e = sym (take-append-add written out n) ∙ ap (take (length written + n)) e
 
 -- the writer failed
 pub turn_faults : (start : Cache) (read written : List ℕ) (s : Session) (r : Result Flow AllocError) (old new : Option (List ℕ)) → AppendsPrefix old new (string_bytes s.output)
     → AnswersAs start read written s r → EndsWith start read ⊥ written old new (Err Write)
-turn_faults start read written s r old new front h =
+turn_faults start read written s r old new prefix h =
     let k = answered_first start read written s r h in
     let out = string_bytes s.output in
-    (take front.0 out, front.2, (k.lines, k.given, k.answers, inl (k.others, k.begins), (length written + front.0, front_of written out (output_of k.given) front.0 k.text)))
+    (take prefix.0 out, prefix.2, (k.lines, k.given, k.answers, inl (k.others, k.begins), (length written + prefix.0, prefix_of written out (output_of k.given) prefix.0 k.text)))
 
 -- out of memory
 pub turn_out_of_memory : (start : Cache) (read written : List ℕ) (s : Session) (old new : Option (List ℕ)) → Appends old new (string_bytes s.output)
@@ -91,12 +91,12 @@ finish_out_of_memory start read written s old new all k = (string_bytes s.output
 
 pub finish_faults : (start : Cache) (read written : List ℕ) (s : Session) {T : Type 0} (r : Result T AllocError) (old new : Option (List ℕ)) → AppendsPrefix old new (string_bytes s.output)
     → EndsAs start read written s r → EndsWith start read (Unit {0}) written old new (Err Write)
-finish_faults start read written s (Ok x) old new front k =
+finish_faults start read written s (Ok x) old new prefix k =
     let out = string_bytes s.output in
-    (take front.0 out, front.2, (k.lines, k.given, k.answers, inr k.all, (length written + front.0, front_of written out (output_of k.given) front.0 k.text)))
-finish_faults start read written s (Err e) old new front k =
+    (take prefix.0 out, prefix.2, (k.lines, k.given, k.answers, inr k.all, (length written + prefix.0, prefix_of written out (output_of k.given) prefix.0 k.text)))
+finish_faults start read written s (Err e) old new prefix k =
     let out = string_bytes s.output in
-    (take front.0 out, front.2, (k.lines, k.given, k.answers, inl (k.others, k.begins), (length written + front.0, front_of written out (output_of k.given) front.0 k.text)))
+    (take prefix.0 out, prefix.2, (k.lines, k.given, k.answers, inl (k.others, k.begins), (length written + prefix.0, prefix_of written out (output_of k.given) prefix.0 k.text)))
 
 -- ---- whole runs
 
