@@ -43,15 +43,15 @@ given_more c n (l ∷ lines) (g0 ∷ given) end line g next h none gives =
 regroup : (a b c d : List ℕ) → (a ++ b) ++ (c ++ d) ≡ a ++ ((b ++ c) ++ d)
 regroup a b c d = append_assoc a b (c ++ d) ∙ ap (λ (xs : List ℕ). a ++ xs) (sym (append_assoc b c d))
 
-pub begins_more : (read : List ℕ) (lines : List (List ℕ)) (tail front : List ℕ) → BeginsWithLines read lines tail → HasNoEnd tail → HasNoEnd front
-    → BeginsWithLines (read ++ (front ++ 10 ∷ [])) (lines ++ (tail ++ front) ∷ []) []
-begins_more read lines tail front h unended bare =
-    let line = tail ++ front in
+pub begins_more : (read : List ℕ) (lines : List (List ℕ)) (tail before : List ℕ) → BeginsWithLines read lines tail → HasNoEnd tail → HasNoEnd before
+    → BeginsWithLines (read ++ (before ++ 10 ∷ [])) (lines ++ (tail ++ before) ∷ []) []
+begins_more read lines tail before h unended bare =
+    let line = tail ++ before in
     record {
-      joined = ap (λ (xs : List ℕ). xs ++ (front ++ 10 ∷ [])) h.joined ∙ regroup (flat_map ended lines) tail front (10 ∷ [])
+      joined = ap (λ (xs : List ℕ). xs ++ (before ++ 10 ∷ [])) h.joined ∙ regroup (flat_map ended lines) tail before (10 ∷ [])
           ∙ ap (λ (xs : List ℕ). flat_map ended lines ++ xs) (sym (append-nil (ended line))) ∙ sym (flat_map-append ended lines (line ∷ []))
           ∙ sym (append-nil (flat_map ended (lines ++ line ∷ [])));
-      each_is_one = All-append HasNoEnd lines (line ∷ []) h.each_is_one (All-cons HasNoEnd line [] (All-append (λ b. b ≢ 10) tail front unended bare) (All-nil HasNoEnd));
+      each_is_one = All-append HasNoEnd lines (line ∷ []) h.each_is_one (All-cons HasNoEnd line [] (All-append (λ b. b ≢ 10) tail before unended bare) (All-nil HasNoEnd));
     }
 
 pub begins_longer : (read : List ℕ) (lines : List (List ℕ)) (tail more : List ℕ) → BeginsWithLines read lines tail → BeginsWithLines (read ++ more) lines (tail ++ more)

@@ -10,10 +10,10 @@ use Rattle.std.proofs.lemmas.List.Elements.{All-cons}
 is_not : (a b : ℕ) → eqb a b ≡ false → a ≢ b
 is_not a b h e = grind (arith, nat_tests)
 
--- the bytes before it, and those behind it
-pub record CutsAt (c : ℕ) (xs front behind : List ℕ) : Type 0 where
-  pub joined : xs ≡ front ++ c ∷ behind
-  pub not_before : All (λ b. b ≢ c) front
+-- the bytes before it, and those after it
+pub record CutsAt (c : ℕ) (xs before after : List ℕ) : Type 0 where
+  pub joined : xs ≡ before ++ c ∷ after
+  pub not_before : All (λ b. b ≢ c) before
 
 pub cut_at : (c : ℕ) (xs : List ℕ) (i : ℕ) → position (λ b. eqb b c) xs ≡ Some i → CutsAt c xs (take i xs) (take (length xs - (i + 1)) (drop (i + 1) xs))
 cut_at c xs i h =
@@ -40,13 +40,13 @@ nowhere c (e ∷ es) h =
 pub no_cut : (c : ℕ) (xs : List ℕ) → position (λ b. eqb b c) xs ≡ None → All (λ b. b ≢ c) xs
 no_cut c xs h = nowhere c xs (at_end (prefix_len (λ b. not (eqb b c)) xs) (length xs) h)
 
--- ---- a line of which a front is kept
+-- ---- a line of which a prefix is kept
 
 pub kept_all : (n : ℕ) (a b : List ℕ) → length a + length b ≤ n → a ++ b ≡ take n (a ++ b)
 kept_all n a b h = sym (take_all n (a ++ b) (omega (arith, length-append a b)))
 
-pub kept_front_at : (n k : ℕ) (a b : List ℕ) → length a ≤ n → k ≡ length a → a ++ take (n - k) b ≡ take n (a ++ b)
-kept_front_at n k a b h e = ap (λ m. a ++ take (n - m) b) e ∙ sym (take-append-add a b (n - length a)) ∙ ap (λ m. take m (a ++ b)) (omega arith)
+pub kept_prefix : (n k : ℕ) (a b : List ℕ) → length a ≤ n → k ≡ length a → a ++ take (n - k) b ≡ take n (a ++ b)
+kept_prefix n k a b h e = ap (λ m. a ++ take (n - m) b) e ∙ sym (take-append-add a b (n - length a)) ∙ ap (λ m. take m (a ++ b)) (omega arith)
 
 pub on_ok : {T E : Type 0} (r : Result T E) (new a b all : List ℕ) → new ≡ (if is_ok r then a else b) → a ≡ all → OnOk r (new ≡ all)
 on_ok (Ok x) new a b all h e = h ∙ e

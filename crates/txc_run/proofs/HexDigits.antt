@@ -1,11 +1,11 @@
 -- Hexadecimal digits.
-use Rattle.std.proofs.Common.{◌≡◌, ℕ, ◌*◌, ◌<◌, ◌≤◌, List, [], ◌∷◌, ◌++◌, Result, Ok, Err, IfOk, IfErr, length, get_or, refl, sym, ap, ◌∙◌, arith}
+use Rattle.std.proofs.Common.{◌≡◌, ℕ, ◌*◌, ◌<◌, ◌≤◌, List, [], ◌∷◌, ◌++◌, Result, Ok, Err, IfErr, length, get_or, refl, sym, ap, ◌∙◌, arith}
 use Rattle.std.specs.Prelude.{codes}
 use Rattle.std.specs.Global.{Vec}
 use Rattle.std.specs.List.{AllByRecursion, flat_map}
 use Rattle.std.proofs.lemmas.List.{length-append}
 use Rattle.std.proofs.lemmas.List.Elements.{recursion_from_All}
-use Rattle.txc_node.specs.Texts.{digits_of, hex_text}
+use Rattle.txc_node.specs.Texts.{digits_of}
 use Rattle.txc_run.specs.Hex.{IsBytes, IsHexWord}
 use Rattle.txc_run.specs.Reading.{IsNoWord}
 use Rattle.txc_run.specs.declared.unread.NoStep.{NoStep}
@@ -38,17 +38,9 @@ bad_digits bytes done (a ∷ b ∷ rest) text x y e two all h bad = next_digits 
 abbrev pub HasDigits : List ℕ → List ℕ → Type 0
 HasDigits text bytes = IsBytes bytes × (flat_map digits_of bytes ≡ text)
 
-hex_value : (text items : List ℕ) → (text ≡ [] → ⊥) → HasDigits text items → IsHexWord text items
-hex_value text [] some h = absurd (some (sym h.1))
-hex_value text (b ∷ items) some h = (h.0, sym h.1)
-
 hex_digits : (text bytes : List ℕ) → (text ≡ codes "-" → ⊥) → IsHexWord text bytes → HasDigits text bytes
 hex_digits text [] bare word = absurd (bare word.1)
 hex_digits text (b ∷ bytes) bare word = (word.0, sym word.1)
-
-pub hex_read : (text : List ℕ) (r : Result (Vec ℕ) NoStep) → (text ≡ [] → ⊥) → IfOk r (λ v. HasDigits text v.items) → IfOk r (λ v. IsHexWord text v.items)
-hex_read text (Ok v) some h = hex_value text v.items some h
-hex_read text (Err reason) some h = tt
 
 pub hex_unread : (text : List ℕ) (r : Result (Vec ℕ) NoStep) → (text ≡ codes "-" → ⊥) → IfErr r (IsNoWord (HasDigits text)) → IfErr r (IsNoWord (IsHexWord text))
 hex_unread text (Ok v) bare h = tt

@@ -5,7 +5,7 @@ pub mod HexDigits
 pub mod Named
 pub mod Answered
 pub mod LineRead
-pub mod Hearing
+pub mod SessionLines
 pub mod Turning
 pub mod OneThing
 pub mod OneWay

@@ -1,6 +1,6 @@
 -- The steps that the words of a line name.
-use Rattle.std.proofs.Common.{◌≡◌, ◌<◌, ◌≤◌, lit<, ℕ, Bool, true, false, List, [], ◌∷◌, ◌++◌, Option, Some, None, Result, Ok, Err, IfOk, IfErr, get_or, length, refl, arith, sym, ap, subst, ◌∙◌}
-use Rattle.std.specs.Prelude.{codes, ◌↔◌, IsErr, IsErrAnd}
+use Rattle.std.proofs.Common.{◌≡◌, ◌<◌, ◌≤◌, lit<, ℕ, Bool, true, false, List, [], ◌∷◌, ◌++◌, Some, Result, Ok, Err, IfOk, IfErr, get_or, length, refl, arith, sym, ap, subst, ◌∙◌}
+use Rattle.std.specs.Prelude.{codes, IsErr, IsErrAnd}
 use Rattle.std.specs.Str.{bytes_eq}
 use Rattle.std.proofs.lemmas.Slice.Eq.{bytes_eq-Decides}
 use Rattle.std.proofs.lemmas.List.{append-nil, length-append}
@@ -16,7 +16,7 @@ use Rattle.txc_node.specs.declared.op.Op.{Op}
 use Rattle.txc_node.specs.declared.op.Op.TheVariants.{Insert, Lookup, Event, Sweep}
 use Rattle.txc_node.specs.declared.value.TheConstants.{MAX_VALUE_LEN}
 use Rattle.txc_node.specs.Steps.{entry_refusal, refusal_by}
-use Rattle.txc_node.proofs.Offered.{entry_is_made, entry_has_no_reach, entry_is_too_long}
+use Rattle.txc_node.proofs.Offered.{entry_has_no_reach, entry_is_too_long}
 use Rattle.txc_run.specs.Words.{HasNoBlank, HasWords, words_of}
 use Rattle.txc_run.specs.Hex.{IsHexWord}
 use Rattle.txc_run.specs.Lines.{IsKeyWord, IsStampWord, IsTagsWord, still_text, AreLookupWords, AreEventWords, AreSweepWords, AreInsertWords, name_of, AreWordsAfter, Spells}
@@ -139,8 +139,12 @@ insert_in text (Sweep horizon) h = absurd (below_apart 105 115 (lit< tt) (first_
 pub insertion_named : (text : List ℕ) (e : Entry) (key lo known still tags value : List ℕ) → words_of text ≡ key ∷ lo ∷ known ∷ still ∷ tags ∷ value ∷ []
     → IsKeyWord key e.key → IsStampWord lo e.reach.lo → IsStampWord known e.reach.known → still ≡ still_text e.reach.still → IsTagsWord tags e.tags → IsHexWord value e.value
     → IsNamed (codes "insert") text (Insert e)
-insertion_named text e key lo known still tags value are is_key is_lo is_known is_still are_tags is_value =
-    (refl, (words_of text, has_words text, record {
+insertion_named text e key lo known still tags value are is_key is_lo is_known is_still are_tags is_value = (
+  refl,
+  (
+    words_of text,
+    has_words text,
+    record {
       key_word = key;
       lo_word = lo;
       known_word = known;
@@ -152,7 +156,9 @@ insertion_named text e key lo known still tags value are is_key is_lo is_known i
       is_known = is_known;
       are_tags = are_tags;
       is_value = is_value;
-    }))
+    },
+  ),
+)
 
 -- ---- entries that cannot be made
 

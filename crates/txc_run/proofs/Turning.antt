@@ -1,18 +1,18 @@
 -- Reads of a run, one after another.
-use Rattle.std.proofs.Common.{◌≡◌, ℕ, ◌+◌, Bool, List, [], ◌++◌, Option, Result, Ok, Err, length, take, refl, sym, ap, subst, ◌∙◌, inl, inr}
-use Rattle.std.specs.Prelude.{string_bytes}
+use Rattle.std.proofs.Common.{◌≡◌, ℕ, ◌+◌, Bool, List, [], ◌++◌, Option, Result, Ok, Err, arith, length, take, refl, sym, ap, subst, ◌∙◌, inl, inr}
+use Rattle.std.specs.Prelude.{string_bytes, IsErr, IsErrAnd}
 use Rattle.std.specs.Io.KnownBytes.{Appends, Consumes, IsAtEnd}
 use Rattle.std.specs.declared.alloc.AllocError.{AllocError}
-use Rattle.std.proofs.KnownBytes.{Appends-nil, Appends-trans, Consumes-nil, Consumes-trans}
+use Rattle.std.proofs.KnownBytes.{Appends-nil, Appends-trans, Appends-kept, Consumes-nil, Consumes-trans}
 use Rattle.std.proofs.Math.Seq.{take-append-add}
-use Rattle.std.proofs.lemmas.List.{append-nil}
+use Rattle.std.proofs.lemmas.List.{append-nil, take_all}
 use Rattle.std.proofs.lemmas.List.Elements.{All-nil}
 use Rattle.txc_node.specs.Cache.{Cache}
-use Rattle.txc_run.specs.Script.{HasNoEnd}
-use Rattle.txc_run.specs.Written.{AppendsFront}
-use Rattle.txc_run.specs.Runs.{HasRun, HasWritten, IsWhole, Given, AreGiven, output_of}
-use Rattle.txc_run.specs.Sessions.{Heard, IsStopped, IsHalted, HasEnded, HearsAs, EndsAs, IsKeptBeside}
-use Rattle.txc_run.specs.Turns.{EndsWith, TurnsTo, status_by}
+use Rattle.txc_run.specs.Script.{HasNoEnd, BeginsWithLines}
+use Rattle.txc_run.specs.Written.{AppendsPrefix}
+use Rattle.txc_run.specs.Runs.{HasRun, HasWritten, IsWhole, AreFirstLines, Answers, Given, AreGiven, output_of}
+use Rattle.txc_run.specs.Sessions.{HasAnswered, IsStopped, IsHalted, HasEnded, AnswersAs, EndsAs, IsKeptBeside}
+use Rattle.txc_run.specs.Turns.{EndsWith, EndsFlushed, TurnsTo, status_by}
 use Rattle.txc_run.specs.declared.fault.Status.{Status}
 use Rattle.txc_run.specs.declared.fault.RunFault.{RunFault}
 use Rattle.txc_run.specs.declared.fault.RunFault.TheVariants.{Read, Write, Memory}
@@ -20,27 +20,35 @@ use Rattle.txc_run.specs.declared.session.Session.{Session}
 use Rattle.txc_run.specs.declared.session.Flow.{Flow}
 use Rattle.txc_run.specs.declared.session.Flow.TheVariants.{GoesOn, Stopped}
 
--- however the bytes were heard, first lines were answered
-halted_any : (start : Cache) (read written : List ℕ) (s : Session) (r : Result Flow AllocError) → HearsAs start read written s r → IsHalted start read written s
-halted_any start read written s (Ok GoesOn) h = record { lines = h.lines; given = h.given; others = h.rest; answers = record { end = s.node; are_given = h.are_given }; begins = h.begins; text = h.text }
-halted_any start read written s (Ok Stopped) h = record { lines = h.lines; given = h.given; others = h.others; answers = h.answers; begins = h.begins; text = h.text }
-halted_any start read written s (Err e) h = h
+-- first lines were answered
+record AnsweredFirst (start : Cache) (read written : List ℕ) (s : Session) : Type 0 where
+  lines : List (List ℕ)
+  given : List Given
+  others : List ℕ
+  answers : Answers start lines given
+  begins : BeginsWithLines read lines others
+  text : written ++ string_bytes s.output ≡ output_of given
 
-front_of : (written out all : List ℕ) (n : ℕ) → written ++ out ≡ all → written ++ take n out ≡ take (length written + n) all
-front_of written out all n e = sym (take-append-add written out n) ∙ ap (take (length written + n)) e
+answered_first : (start : Cache) (read written : List ℕ) (s : Session) (r : Result Flow AllocError) → AnswersAs start read written s r → AnsweredFirst start read written s
+answered_first start read written s (Ok GoesOn) h = record { lines = h.lines; given = h.given; others = h.rest; answers = record { end = s.node; are_given = h.are_given }; begins = h.begins; text = h.text }
+answered_first start read written s (Ok Stopped) h = record { lines = h.lines; given = h.given; others = h.others; answers = h.answers; begins = h.begins; text = h.text }
+answered_first start read written s (Err e) h = record { lines = h.lines; given = h.given; others = h.others; answers = h.answers; begins = h.begins; text = h.text }
+
+prefix_of : (written out all : List ℕ) (n : ℕ) → written ++ out ≡ all → written ++ take n out ≡ take (length written + n) all
+prefix_of written out all n e = sym (take-append-add written out n) ∙ ap (take (length written + n)) e
 
 -- the writer failed
-pub turn_faults : (start : Cache) (read written : List ℕ) (s : Session) (r : Result Flow AllocError) (old new : Option (List ℕ)) → AppendsFront old new (string_bytes s.output)
-    → HearsAs start read written s r → EndsWith start read ⊥ written old new (Err Write)
-turn_faults start read written s r old new front h =
-    let k = halted_any start read written s r h in
+pub turn_faults : (start : Cache) (read written : List ℕ) (s : Session) (r : Result Flow AllocError) (old new : Option (List ℕ)) → AppendsPrefix old new (string_bytes s.output)
+    → AnswersAs start read written s r → EndsWith start read ⊥ written old new (Err Write)
+turn_faults start read written s r old new prefix h =
+    let k = answered_first start read written s r h in
     let out = string_bytes s.output in
-    (take front.0 out, front.2, (k.lines, k.given, k.answers, inl (k.others, k.begins), (length written + front.0, front_of written out (output_of k.given) front.0 k.text)))
+    (take prefix.0 out, prefix.2, (k.lines, k.given, k.answers, inl (k.others, k.begins), (length written + prefix.0, prefix_of written out (output_of k.given) prefix.0 k.text)))
 
--- memory was wanted
-pub turn_lacks : (start : Cache) (read written : List ℕ) (s : Session) (old new : Option (List ℕ)) → Appends old new (string_bytes s.output)
+-- out of memory
+pub turn_out_of_memory : (start : Cache) (read written : List ℕ) (s : Session) (old new : Option (List ℕ)) → Appends old new (string_bytes s.output)
     → IsHalted start read written s → EndsWith start read ⊥ written old new (Err Memory)
-turn_lacks start read written s old new all k = (string_bytes s.output, all, (k.lines, k.given, k.others, k.answers, k.begins, k.text))
+turn_out_of_memory start read written s old new all k = (string_bytes s.output, all, (k.lines, k.given, k.others, k.answers, k.begins, k.text, k.well_formed))
 
 -- a malformed line was read
 pub turn_stops : (start : Cache) (read written : List ℕ) (s : Session) (refused : Bool) (old new : Option (List ℕ)) → Appends old new (string_bytes s.output) → refused ≡ s.is_refused
@@ -49,8 +57,8 @@ turn_stops start read written s refused old new all same k =
     (string_bytes s.output, all, (k.lines, k.given, k.answers, inr (k.others, k.begins, k.malformed), k.text, ap status_by (same ∙ k.refused)))
 
 -- the run goes on
-pub turn_goes_on : (start : Cache) (read written : List ℕ) (s next : Session) → IsKeptBeside s next → string_bytes next.output ≡ [] → Heard start read written s
-    → Heard start read (written ++ string_bytes s.output) next
+pub turn_goes_on : (start : Cache) (read written : List ℕ) (s next : Session) → IsKeptBeside s next → string_bytes next.output ≡ [] → HasAnswered start read written s
+    → HasAnswered start read (written ++ string_bytes s.output) next
 turn_goes_on start read written s next same none h = record {
   lines = h.lines;
   given = h.given;
@@ -65,6 +73,11 @@ turn_goes_on start read written s next same none h = record {
   well_formed = h.well_formed;
 }
 
+-- a fault that was passed on
+pub err_is : {T E : Type 0} (r : Result T E) (e : E) → IsErr r × IsErrAnd r (λ x. x ≡ e) → r ≡ Err e
+err_is (Ok x) e h = let none = h.0 in cc
+err_is (Err x) e h = ap Err h.1
+
 -- ---- the end of the script
 
 pub finish_done : (start : Cache) (read written : List ℕ) (s : Session) (refused : Bool) (old new : Option (List ℕ)) → Appends old new (string_bytes s.output) → refused ≡ s.is_refused
@@ -72,18 +85,18 @@ pub finish_done : (start : Cache) (read written : List ℕ) (s : Session) (refus
 finish_done start read written s refused old new all same k =
     (string_bytes s.output, all, (k.lines, k.given, k.answers, inl (k.all, tt), k.text, ap status_by (same ∙ k.refused)))
 
-pub finish_lacks : (start : Cache) (read written : List ℕ) (s : Session) (old new : Option (List ℕ)) → Appends old new (string_bytes s.output)
+pub finish_out_of_memory : (start : Cache) (read written : List ℕ) (s : Session) (old new : Option (List ℕ)) → Appends old new (string_bytes s.output)
     → IsHalted start read written s → EndsWith start read (Unit {0}) written old new (Err Memory)
-finish_lacks start read written s old new all k = (string_bytes s.output, all, (k.lines, k.given, k.others, k.answers, k.begins, k.text))
+finish_out_of_memory start read written s old new all k = (string_bytes s.output, all, (k.lines, k.given, k.others, k.answers, k.begins, k.text, k.well_formed))
 
-pub finish_faults : (start : Cache) (read written : List ℕ) (s : Session) {T : Type 0} (r : Result T AllocError) (old new : Option (List ℕ)) → AppendsFront old new (string_bytes s.output)
+pub finish_faults : (start : Cache) (read written : List ℕ) (s : Session) {T : Type 0} (r : Result T AllocError) (old new : Option (List ℕ)) → AppendsPrefix old new (string_bytes s.output)
     → EndsAs start read written s r → EndsWith start read (Unit {0}) written old new (Err Write)
-finish_faults start read written s (Ok x) old new front k =
+finish_faults start read written s (Ok x) old new prefix k =
     let out = string_bytes s.output in
-    (take front.0 out, front.2, (k.lines, k.given, k.answers, inr k.all, (length written + front.0, front_of written out (output_of k.given) front.0 k.text)))
-finish_faults start read written s (Err e) old new front k =
+    (take prefix.0 out, prefix.2, (k.lines, k.given, k.answers, inr k.all, (length written + prefix.0, prefix_of written out (output_of k.given) prefix.0 k.text)))
+finish_faults start read written s (Err e) old new prefix k =
     let out = string_bytes s.output in
-    (take front.0 out, front.2, (k.lines, k.given, k.answers, inl (k.others, k.begins), (length written + front.0, front_of written out (output_of k.given) front.0 k.text)))
+    (take prefix.0 out, prefix.2, (k.lines, k.given, k.answers, inl (k.others, k.begins), (length written + prefix.0, prefix_of written out (output_of k.given) prefix.0 k.text)))
 
 -- ---- whole runs
 
@@ -97,40 +110,20 @@ written_at P Q start read written (Err Read) f h = h
 written_at P Q start read written (Err Write) f h = h
 written_at P Q start read written (Err Memory) f h = h
 
--- what was read and written before, and how the run ended behind it
+-- what was read and written before, and how the run ended after it
 pub run_ends : (P : Type 0) (start : Cache) (a b : Option (List ℕ)) (w x y : Option (List ℕ)) (read written : List ℕ) (r : Result Status RunFault) → Consumes a b read → Appends w x written
     → (P → IsAtEnd b) → EndsWith start read P written x y r → HasRun start a b w y r
 run_ends P start a b w x y read written r consumes appends f e =
     (read, written ++ e.0, consumes, Appends-trans w x y written e.0 appends e.1, written_at P (IsAtEnd b) start read (written ++ e.0) r f e.2)
 
--- the reader failed, or has been read often enough
-pub run_faults : (start : Cache) (a b : Option (List ℕ)) (w x : Option (List ℕ)) (read written : List ℕ) (s : Session) → Consumes a b read → Appends w x written
-    → Heard start read written s → string_bytes s.output ≡ [] → HasRun start a b w x (Err Read)
-run_faults start a b w x read written s consumes appends h none = (
-  read,
-  written,
-  consumes,
-  appends,
-  (
-    h.lines,
-    h.given,
-    h.rest,
-    record { end = s.node; are_given = h.are_given },
-    h.begins,
-    h.not_ended,
-    sym (append-nil written) ∙ ap (λ (xs : List ℕ). written ++ xs) (sym none) ∙ h.text,
-    h.well_formed,
-  ),
-)
+-- out of memory before anything was read
+pub run_out_of_memory : (start : Cache) (a w : Option (List ℕ)) → HasRun start a a w w (Err Memory)
+run_out_of_memory start a w = ([], [], Consumes-nil a, Appends-nil w, ([], [], [], record { end = start; are_given = refl }, record { joined = refl; each_is_one = All-nil HasNoEnd }, refl, refl))
 
--- memory was wanted before anything was read
-pub run_lacks : (start : Cache) (a w : Option (List ℕ)) → HasRun start a a w w (Err Memory)
-run_lacks start a w = ([], [], Consumes-nil a, Appends-nil w, ([], [], [], record { end = start; are_given = refl }, record { joined = refl; each_is_one = All-nil HasNoEnd }, refl))
-
-pub turn_told : (start : Cache) (read written : List ℕ) (s next : Session) (flow : Flow) (old new : Option (List ℕ)) → Appends old new (string_bytes s.output) → IsKeptBeside s next
-    → string_bytes next.output ≡ [] → HearsAs start read written s (Ok flow) → TurnsTo start read written next old new (Ok flow)
-turn_told start read written s next GoesOn old new all same none h = (string_bytes s.output, all, turn_goes_on start read written s next same none h, none)
-turn_told start read written s next Stopped old new all same none h = turn_stops start read written s next.is_refused old new all same.refused h
+pub turn_answered : (start : Cache) (read written : List ℕ) (s next : Session) (flow : Flow) (old new : Option (List ℕ)) → Appends old new (string_bytes s.output) → IsKeptBeside s next
+    → string_bytes next.output ≡ [] → AnswersAs start read written s (Ok flow) → TurnsTo start read written next old new (Ok flow)
+turn_answered start read written s next GoesOn old new all same none h = (string_bytes s.output, all, turn_goes_on start read written s next same none h, none)
+turn_answered start read written s next Stopped old new all same none h = turn_stops start read written s next.is_refused old new all same.refused h
 
 pub stopped_ends : (start : Cache) (read written : List ℕ) (s : Session) (flow : Flow) (old new : Option (List ℕ)) → flow ≡ Stopped → TurnsTo start read written s old new (Ok flow)
     → EndsWith start read ⊥ written old new (Ok (status_by s.is_refused))
@@ -144,3 +137,19 @@ goes_on_at start read written s flow old new e h = subst (λ (f : Flow). TurnsTo
 pub nothing_more : (a b c : Option (List ℕ)) (read buf : List ℕ) (n : ℕ) → n ≡ 0 → Consumes a b read → Consumes b c (take n buf) → Consumes a c read
 nothing_more a b c read buf n e h k =
     subst (λ (xs : List ℕ). Consumes a c xs) (ap (λ (m : ℕ). read ++ take m buf) e ∙ append-nil read) (Consumes-trans a b c read (take n buf) h k)
+
+-- ---- the writer is flushed
+
+first_of_whole : (P : Type 0) (read : List ℕ) (lines : List (List ℕ)) (given : List Given) → IsWhole read P lines given → AreFirstLines read lines
+first_of_whole P read lines given (inl h) = inr h.0
+first_of_whole P read lines given (inr h) = inl (h.0, h.1)
+
+pub flushed : (start : Cache) (a b w x y : Option (List ℕ)) (ended result : Result Status RunFault) → HasRun start a b w x ended → EndsFlushed x y ended result → HasRun start a b w y result
+flushed start a b w x y (Ok status) result h (keeps, inl is) =
+    subst (HasRun start a b w y) (sym is) (h.0, h.1, h.2, Appends-kept w x y h.1 h.3 keeps, h.4)
+flushed start a b w x y (Ok status) result h (keeps, inr is) =
+    let written = h.4 in
+    let text : h.1 ≡ output_of written.1 = written.4 in
+    let whole : h.1 ≡ take (length h.1) (output_of written.1) = text ∙ sym (take_all (length h.1) (output_of written.1) (omega (arith, ap length text))) in
+    subst (HasRun start a b w y) (sym is) (h.0, h.1, h.2, Appends-kept w x y h.1 h.3 keeps, (written.0, written.1, written.2, first_of_whole (IsAtEnd b) h.0 written.0 written.1 written.3, (length h.1, whole)))
+flushed start a b w x y (Err fault) result h (keeps, is) = subst (HasRun start a b w y) (sym is) (h.0, h.1, h.2, Appends-kept w x y h.1 h.3 keeps, h.4)

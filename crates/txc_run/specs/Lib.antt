@@ -2,6 +2,7 @@ pub mod Script
 pub mod Hex
 pub mod Words
 pub mod Written
+pub mod Reads
 pub mod Lines
 pub mod Replies
 pub mod Runs

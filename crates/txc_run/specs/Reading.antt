@@ -1,4 +1,4 @@
--- What reading a line gives.
+-- Only private functions and a law need this file: what reading a line gives.
 use Rattle.std.specs.Prelude.{◌≡◌, ⊤, ℕ, List, Some, None}
 use Rattle.txc_tags.specs.declared.text.set.SetError.{SetError}
 use Rattle.txc_tags.specs.declared.text.set.SetError.TheVariants as sets
@@ -18,7 +18,7 @@ abbrev pub set_reason : SetError → NoStep
 set_reason (sets.BadTag bad) = reasons.Malformed
 set_reason (sets.Memory error) = reasons.Memory
 
--- a word that is not such a word is malformed; a growth may be refused for any word
+-- a malformed word is no such word; the reading of a word asks for no entry; a growth may be refused
 abbrev pub IsNoWord : {V : Type 0} → (V → Type 0) → NoStep → Type 0
 IsNoWord {V} Is reasons.Malformed = (v : V) → Is v → ⊥
 IsNoWord Is (reasons.Unmade error) = ⊥
@@ -39,15 +39,19 @@ CanBeMade (Sweep horizon) = ⊤
 abbrev pub NamesStep : (Op → Type 0) → Op → Type 0
 NamesStep Is op = Is op × CanBeMade op
 
--- there is no such step; or there is an insertion of an entry that cannot be made; or a growth was refused
+-- there is such an insertion, and its entry cannot be made, for this reason
+abbrev pub IsUnmade : (Op → Type 0) → EntryError → Type 0
+IsUnmade Is error = (e : Entry) × Is (Insert e) × (entry_refusal e ≡ Some (refusal_by error))
+
+-- there is no such step; or there is an insertion whose entry cannot be made; or a growth was refused
 abbrev pub NamesNone : (Op → Type 0) → NoStep → Type 0
 NamesNone Is reasons.Malformed = (op : Op) → Is op → ⊥
-NamesNone Is (reasons.Unmade error) = (e : Entry) × Is (Insert e) × (entry_refusal e ≡ Some (refusal_by error))
+NamesNone Is (reasons.Unmade error) = IsUnmade Is error
 NamesNone Is reasons.Memory = ⊤
 
 -- the bytes are such a line
 abbrev pub IsLine : List ℕ → Line → Type 0
 IsLine bytes Quiet = IsQuiet bytes
 IsLine bytes (Step op) = NamesStep (IsStepLine bytes) op
-IsLine bytes (Unmade error) = (e : Entry) × IsStepLine bytes (Insert e) × (entry_refusal e ≡ Some (refusal_by error))
+IsLine bytes (Unmade error) = IsUnmade (IsStepLine bytes) error
 IsLine bytes Malformed = IsMalformed bytes

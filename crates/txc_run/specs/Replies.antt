@@ -8,7 +8,7 @@ use Rattle.txc_node.specs.Steps.{is_refusal, MayReply}
 use Rattle.txc_node.specs.Texts.{reply_text}
 use Rattle.txc_run.specs.declared.reply.ReplyLine.{ReplyLine}
 
--- the line is the reply's text, ended by a line feed, and says whether the reply is a refusal
+-- the line is the reply's text, ended by a line feed, and shows whether the reply is a refusal
 pub record Shows (line : ReplyLine) (reply : Reply Shown) : Type 0 where
   pub text : string_bytes line.text ≡ reply_text reply ++ 10 ∷ []
   pub refused : line.is_refusal ≡ is_refusal reply

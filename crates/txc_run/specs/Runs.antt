@@ -44,13 +44,13 @@ Gives c number line (Replied reply) next =
     (op : Op) × IsStepLine line op × MayReply c op reply next
 Gives c number line (Malformed k) next = IsMalformed line × (k ≡ number) × (next ≡ c)
 
--- no line is read behind a malformed one
+-- no line is read after a malformed one
 abbrev pub GoesOn : Given → List (List ℕ) → Type 0
 GoesOn Nothing lines = Unit {0}
 GoesOn (Replied reply) lines = Unit {0}
 GoesOn (Malformed number) lines = lines ≡ []
 
--- What each of the lines gives, in order: the first has this number, the next the one behind it, and each
+-- What each of the lines gives, in order: the first has this number, the next the one after it, and each
 -- finds the state that the lines before it left.
 abbrev pub AreGiven : Cache → ℕ → List (List ℕ) → List Given → Cache → Type 0
 AreGiven c number [] [] end = end ≡ c
@@ -81,21 +81,21 @@ pub record Answers (start : Cache) (lines : List (List ℕ)) (given : List Given
   pub end : Cache
   pub are_given : AreGiven start 1 lines given end
 
--- The lines of a whole script were answered; or those up to a malformed one, and what stands behind it was
+-- The lines of a whole script were answered; or those up to a malformed one, and what comes after it was
 -- not.
 abbrev pub IsWhole : List ℕ → Type 0 → List (List ℕ) → List Given → Type 0
 IsWhole read at_end lines given =
     (AreLinesOf read lines × at_end)
     ⊎ ((others : List ℕ) × BeginsWithLines read lines others × (list_any is_malformed given ≡ true))
 
--- lines at the front of what was read
+-- the first lines of what was read
 abbrev pub AreFirstLines : List ℕ → List (List ℕ) → Type 0
 AreFirstLines read lines =
     ((others : List ℕ) × BeginsWithLines read lines others) ⊎ AreLinesOf read lines
 
 -- What a run that read these bytes wrote, by how it ended: the text of what the lines give. After a fault of
--- the reader that is what all lines give that had ended; after want of memory, what those before give; after
--- a fault of the writer, a front of it.
+-- the reader that is what all lines give that had ended; out of memory, what those before give; after a fault
+-- of the writer, a prefix of it. After a fault of the reader, and out of memory, no line was malformed.
 abbrev pub HasWritten : Cache → List ℕ → Type 0 → List ℕ → Result Status RunFault → Type 0
 HasWritten start read at_end written (Ok status) =
     (lines : List (List ℕ)) × (given : List Given)
@@ -112,9 +112,9 @@ HasWritten start read at_end written (Err Write) =
 HasWritten start read at_end written (Err Memory) =
     (lines : List (List ℕ)) × (given : List Given) × (others : List ℕ)
     × Answers start lines given × BeginsWithLines read lines others
-    × (written ≡ output_of given)
+    × (written ≡ output_of given) × (list_any is_malformed given ≡ false)
 
--- A run that begins in this state: what it read of the reader's bytes, what it wrote behind the writer's,
+-- A run that begins in this state: what it read of the reader's bytes, what it wrote after the writer's,
 -- and how it ended.
 abbrev pub HasRun : Cache → Option (List ℕ) → Option (List ℕ) → Option (List ℕ) → Option (List ℕ)
     → Result Status RunFault → Type 0

@@ -2,7 +2,7 @@
 use Rattle.std.specs.Prelude.{◌≡◌, ◌≢◌, ℕ, List, [], ◌∷◌, ◌++◌}
 use Rattle.std.specs.List.{All, flat_map}
 
--- a line with its line feed behind it
+-- a line with its line feed after it
 abbrev pub ended : List ℕ → List ℕ
 ended line = line ++ 10 ∷ []
 
@@ -10,12 +10,12 @@ ended line = line ++ 10 ∷ []
 abbrev pub HasNoEnd : List ℕ → Type 0
 HasNoEnd bytes = All (λ b. b ≢ 10) bytes
 
--- the bytes are these lines, each with its line feed behind it, and then others
+-- the bytes are these lines, each with its line feed after it, and then others
 pub record BeginsWithLines (bytes : List ℕ) (lines : List (List ℕ)) (others : List ℕ) : Type 0 where
   pub joined : bytes ≡ flat_map ended lines ++ others
   pub each_is_one : All HasNoEnd lines
 
--- what is left behind the last line feed is a line too, where it is not empty
+-- what is left after the last line feed is a line too, where it is not empty
 abbrev pub last_line : List ℕ → List (List ℕ)
 last_line [] = []
 last_line (b ∷ bytes) = (b ∷ bytes) ∷ []

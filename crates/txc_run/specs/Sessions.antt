@@ -1,4 +1,4 @@
--- A run in progress.
+-- Only private functions need this file: a run in progress.
 use Rattle.std.specs.Prelude.{◌≡◌, ℕ, ◌+◌, Bool, ◌||◌, true, false, List, [], ◌++◌, Result, Ok, Err, length, take, string_bytes}
 use Rattle.std.specs.List.{list_any}
 use Rattle.std.specs.declared.alloc.AllocError.{AllocError}
@@ -15,7 +15,7 @@ use Rattle.txc_run.specs.declared.session.Flow.TheVariants.{GoesOn, Stopped}
 abbrev pub kept_of : List ℕ → List ℕ
 kept_of line = take MAX_KEPT line
 
--- whether the run goes on behind a line that gives this
+-- whether the run goes on after a line that gives this
 abbrev pub flow_of : Bool → Flow
 flow_of false = GoesOn
 flow_of true = Stopped
@@ -39,7 +39,7 @@ pub record AnswersLine (old new : Session) (flow : Flow) : Type 0 where
 
 -- the lines that have ended were answered, and none was malformed; these bytes were written, and the rest
 -- of the replies is at hand
-pub record Heard (start : Cache) (read written : List ℕ) (s : Session) : Type 0 where
+pub record HasAnswered (start : Cache) (read written : List ℕ) (s : Session) : Type 0 where
   pub lines : List (List ℕ)
   pub given : List Given
   pub rest : List ℕ
@@ -63,7 +63,7 @@ pub record IsStopped (start : Cache) (read written : List ℕ) (s : Session) : T
   pub refused : s.is_refused ≡ list_any is_refused given
   pub malformed : list_any is_malformed given ≡ true
 
--- first lines were answered, as far as there was memory
+-- first lines were answered, none of them malformed, as far as there was memory
 pub record IsHalted (start : Cache) (read written : List ℕ) (s : Session) : Type 0 where
   pub lines : List (List ℕ)
   pub given : List Given
@@ -71,6 +71,7 @@ pub record IsHalted (start : Cache) (read written : List ℕ) (s : Session) : Ty
   pub answers : Answers start lines given
   pub begins : BeginsWithLines read lines others
   pub text : written ++ string_bytes s.output ≡ output_of given
+  pub well_formed : list_any is_malformed given ≡ false
 
 -- all lines of the script were answered
 pub record HasEnded (start : Cache) (read written : List ℕ) (s : Session) : Type 0 where
@@ -81,14 +82,14 @@ pub record HasEnded (start : Cache) (read written : List ℕ) (s : Session) : Ty
   pub text : written ++ string_bytes s.output ≡ output_of given
   pub refused : s.is_refused ≡ list_any is_refused given
 
--- bytes were heard: the session goes on, or was stopped by a malformed line, or halted for want of
--- memory
-abbrev pub HearsAs : Cache → List ℕ → List ℕ → Session → Result Flow AllocError → Type 0
-HearsAs start read written s (Ok GoesOn) = Heard start read written s
-HearsAs start read written s (Ok Stopped) = IsStopped start read written s
-HearsAs start read written s (Err e) = IsHalted start read written s
+-- the lines that end in the bytes were answered: the session goes on, or was stopped by a malformed line, or
+-- is out of memory
+abbrev pub AnswersAs : Cache → List ℕ → List ℕ → Session → Result Flow AllocError → Type 0
+AnswersAs start read written s (Ok GoesOn) = HasAnswered start read written s
+AnswersAs start read written s (Ok Stopped) = IsStopped start read written s
+AnswersAs start read written s (Err e) = IsHalted start read written s
 
--- the end of the script was heard, or memory was wanted
+-- the last line was answered, or the session is out of memory
 abbrev pub EndsAs : {T : Type 0} → Cache → List ℕ → List ℕ → Session → Result T AllocError → Type 0
 EndsAs start read written s (Ok x) = HasEnded start read written s
 EndsAs start read written s (Err e) = IsHalted start read written s

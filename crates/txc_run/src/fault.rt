@@ -16,24 +16,24 @@ pub enum Status {
 /// them.
 #[derive(Clone, Copy, Debug, PartialEq, Eq, Error)]
 pub enum RunFault {
-    /// The reader failed, or did not end within the reads that it is given.
+    /// The reader failed, or did not come to its end within [`crate::MAX_READS`] reads.
     #[error("read fault")]
     Read,
     /// The writer failed, or took no byte.
     #[error("write fault")]
     Write,
-    /// Memory was wanted.
+    /// A growth was refused.
     #[error("memory")]
     Memory,
 }
 
 /// The status that a program ends with after a run that ended so.
 pub fn exit_of(ended: Result<Status, RunFault>) -> u8
-    ensures done { ended ≡ Ok Status.Done → result ≡ 0 }
-    ensures refused { ended ≡ Ok Status.Refused → result ≡ 1 }
-    ensures read { ended ≡ Err RunFault.Read → result ≡ 4 }
-    ensures write { ended ≡ Err RunFault.Write → result ≡ 4 }
-    ensures memory { ended ≡ Err RunFault.Memory → result ≡ 5 }
+    ensures all_done { ended ≡ Ok Status.Done → result ≡ 0 }
+    ensures line_refused { ended ≡ Ok Status.Refused → result ≡ 1 }
+    ensures read_fault { ended ≡ Err RunFault.Read → result ≡ 4 }
+    ensures write_fault { ended ≡ Err RunFault.Write → result ≡ 4 }
+    ensures out_of_memory { ended ≡ Err RunFault.Memory → result ≡ 5 }
 {
     match ended {
         Ok(Status::Done) => 0,

@@ -7,6 +7,7 @@ mod laws;
 mod line;
 mod piece;
 mod reading;
+mod reads;
 mod reply;
 mod script;
 mod session;
@@ -17,5 +18,6 @@ mod writer;
 
 pub use fault::{RunFault, Status, exit_of};
 pub use laws::{a_line_is_one_thing, lines_are_answered_one_way};
-pub use script::{MOST_READS, Mode, run};
-pub use settings::{MOST_CAPACITY, MOST_RECENT, Settings};
+pub use reads::MAX_READS;
+pub use script::{Mode, run};
+pub use settings::Settings;

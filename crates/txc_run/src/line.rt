@@ -1,5 +1,5 @@
 //! The lines of a script.
-ghost use Rattle.std.specs.Prelude.{◌≡◌, ◌≤◌, ◌↔◌, true, false, IsTrue, All, IfOk};
+ghost use Rattle.std.specs.Prelude.{◌≤◌, ◌↔◌, IsTrue, All, IfOk};
 ghost use Rattle.txc_run.specs.Lines.{IsPlain, IsBlankOrComment};
 ghost use Rattle.txc_run.specs.Reading.{IsLine};
 
@@ -24,17 +24,16 @@ pub enum Line {
     Malformed,
 }
 
-/// Whether each byte is one of a script's.
+/// Whether each byte is one that a script may have.
 fn are_plain(bytes: &[u8]) -> bool
     ensures { IsTrue result ↔ All (λ b. (32 ≤ b) × (b ≤ 126)) bytes.now }
 {
     bytes.iter().all(|b| *b >= 0x20 && *b <= 0x7e)
 }
 
-/// Whether the bytes are few enough and each is one of a script's.
+/// Whether the bytes are few enough, and each is one that a script may have.
 fn is_plain(bytes: &[u8]) -> bool
-    ensures plain { result ≡ true → IsPlain bytes.now }
-    ensures other { result ≡ false → IsPlain bytes.now → ⊥ }
+    ensures { IsTrue result ↔ IsPlain bytes.now }
 {
     if bytes.len() > MAX_LINE_LEN {
         return false;
@@ -44,8 +43,7 @@ fn is_plain(bytes: &[u8]) -> bool
 
 /// Whether the line is empty or a comment.
 fn is_quiet(bytes: &[u8]) -> bool
-    ensures quiet { result ≡ true → IsBlankOrComment bytes.now }
-    ensures other { result ≡ false → IsBlankOrComment bytes.now → ⊥ }
+    ensures { IsTrue result ↔ IsBlankOrComment bytes.now }
 {
     match bytes.split_first() {
         None => true,

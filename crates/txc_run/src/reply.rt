@@ -27,7 +27,7 @@ fn line_of(alloc: Global, reply: &Reply<Hit<'_>>) -> Result<ReplyLine, AllocErro
     })
 }
 
-/// That a step is refused.
+/// The reply that a step is refused, as a line.
 pub fn refuse(alloc: Global, refusal: Refusal) -> Result<ReplyLine, AllocError>
     ensures { IfOk result (λ line. Shows line (Reply.Refused refusal)) }
 {

@@ -1,30 +1,31 @@
 //! Runs of scripts.
-ghost use Rattle.std.specs.Prelude.{ℕ, ◌+◌, ◌^◌, ◌<◌, ◌≤◌, List, ◌++◌, length};
+ghost use Rattle.std.specs.Prelude.{◌≡◌, ◌≢◌, ℕ, ◌+◌, ◌^◌, ◌<◌, ◌≤◌, List, None, Err, ◌++◌, length};
 ghost use Rattle.txc_node.specs.Cache.{Cache, empty_cache};
+ghost use Rattle.txc_run.specs.Reads.{IsOver};
 ghost use Rattle.txc_run.specs.Runs.{HasRun};
-ghost use Rattle.txc_run.specs.Sessions.{Heard};
-ghost use Rattle.txc_run.specs.Turns.{TurnsTo, EndsWith};
+ghost use Rattle.txc_run.specs.Sessions.{HasAnswered};
+ghost use Rattle.txc_run.specs.Turns.{TurnsTo, EndsWith, EndsFlushed};
 
 use crate::fault::{RunFault, Status};
+use crate::reads::Reads;
 use crate::session::{Flow, Session};
 use crate::settings::Settings;
 use std::alloc::Global;
 use std::io::{Read, Write};
 
-/// How often a reader is read at most.
-pub const MOST_READS: u64 = 1_048_576;
-
 /// How many bytes a read is asked for.
-const PIECE_BYTES: usize = 16_384;
+const PIECE_LEN: usize = 16_384;
 
-/// What a script speaks to.
+/// Which lines a script has.
 #[derive(Clone, Copy, Debug, PartialEq, Eq)]
 pub enum Mode {
-    /// One sequential node: `insert`, `lookup` and `event`.
+    /// The steps of one node: `insert`, `lookup`, `event` and `sweep`.
     Node,
 }
 
-/// Reads a script and writes the replies to its lines.
+/// Reads a script and writes the replies to its lines. A reader is read at most [`crate::MAX_READS`] times,
+/// where a read that was interrupted counts and is made again: one that has not come to its end by then is a
+/// read fault. The writer is flushed at the end.
 pub fn run<R: Read, W: Write>(
     alloc: Global,
     mode: Mode,
@@ -36,12 +37,26 @@ pub fn run<R: Read, W: Write>(
         (R.remaining reader.old) (R.remaining reader.new)
         (W.contents writer.old) (W.contents writer.new) result }
 {
-    match mode {
-        Mode::Node => run_node(alloc, settings, reader, writer),
+    let mut reads = Reads::new();
+    let ended = match mode {
+        Mode::Node => run_node(alloc, settings, reader, writer, &mut reads),
+    };
+    flush(writer, ended)
+}
+
+/// Flushes the writer at the end of a run. A fault of the run stays the one that is reported.
+fn flush<W: Write>(writer: &mut W, ended: Result<Status, RunFault>) -> Result<Status, RunFault>
+    ensures { EndsFlushed (W.contents writer.old) (W.contents writer.new) ended result }
+{
+    let flushed = writer.flush();
+    let status = ended?;
+    match flushed {
+        Ok(()) => Ok(status),
+        Err(_) => Err(RunFault::Write),
     }
 }
 
-/// Hears the bytes of a read, and writes the replies.
+/// Answers the lines that end in the bytes of a read, and writes the replies.
 fn turn<W: Write>(
     alloc: Global,
     session: &mut Session,
@@ -50,13 +65,14 @@ fn turn<W: Write>(
 ) -> Result<Flow, RunFault>
     requires { session.old.lines + length bytes.now < 2 ^ 64 }
     ensures counted { session.new.lines ≤ session.old.lines + length bytes.now }
-    ensures turned { (start : Cache) (read written : List ℕ) → Heard start read written session.old
+    ensures turned { (start : Cache) (read written : List ℕ) → HasAnswered start read written session.old
         → TurnsTo start (read ++ bytes.now) written session.new
         (W.contents writer.old) (W.contents writer.new) result }
+    ensures refused { result ≢ Err RunFault.Read }
 {
-    let heard = session.hear(alloc, bytes);
+    let answered = session.answer_lines(alloc, bytes);
     match session.write_out(writer) {
-        Ok(()) => match heard {
+        Ok(()) => match answered {
             Ok(flow) => Ok(flow),
             Err(_) => Err(RunFault::Memory),
         },
@@ -64,20 +80,21 @@ fn turn<W: Write>(
     }
 }
 
-/// Hears that the script has ended, and writes the last reply.
+/// Answers the last line, and writes its reply.
 fn finish<W: Write>(
     alloc: Global,
     session: &mut Session,
     writer: &mut W,
 ) -> Result<Status, RunFault>
     requires { session.old.lines + 1 < 2 ^ 64 }
-    ensures { (start : Cache) (read written : List ℕ) → Heard start read written session.old
+    ensures ended { (start : Cache) (read written : List ℕ) → HasAnswered start read written session.old
         → EndsWith start read (Unit {0}) written
         (W.contents writer.old) (W.contents writer.new) result }
+    ensures refused { result ≢ Err RunFault.Read }
 {
-    let heard = session.hear_end(alloc);
+    let answered = session.answer_last(alloc);
     match session.write_out(writer) {
-        Ok(()) => match heard {
+        Ok(()) => match answered {
             Ok(()) => Ok(session.status()),
             Err(_) => Err(RunFault::Memory),
         },
@@ -85,34 +102,33 @@ fn finish<W: Write>(
     }
 }
 
+/// Runs a script of mode node. A fault of the reader comes only where no read is left or the reader failed.
 fn run_node<R: Read, W: Write>(
     alloc: Global,
     settings: Settings,
     reader: &mut R,
     writer: &mut W,
+    reads: &mut Reads,
 ) -> Result<Status, RunFault>
-    ensures { HasRun (empty_cache settings.capacity settings.recent)
+    requires { reads.old ≡ record { left = 1048576; failure = None } }
+    ensures after { HasRun (empty_cache settings.capacity settings.recent)
         (R.remaining reader.old) (R.remaining reader.new)
         (W.contents writer.old) (W.contents writer.new) result }
+    ensures refused { result ≡ Err RunFault.Read → IsOver reads.new }
 {
     let mut session = match Session::new(alloc, settings) {
         Ok(session) => session,
         Err(_) => return Err(RunFault::Memory),
     };
-    let mut piece = [0u8; PIECE_BYTES];
-    'reads: for _ in 0..MOST_READS {
-        let n = match reader.read(&mut piece) {
-            Ok(n) => n,
-            Err(_) => return Err(RunFault::Read),
-        };
+    let mut piece = [0u8; PIECE_LEN];
+    'reads: loop {
+        let n = reads.read(reader, &mut piece)?;
         if n == 0 {
             return finish(alloc, &mut session, writer);
         }
-        match turn(alloc, &mut session, &piece[..n], writer) {
-            Ok(Flow::GoesOn) => {}
-            Ok(Flow::Stopped) => return Ok(session.status()),
-            Err(fault) => return Err(fault),
+        match turn(alloc, &mut session, &piece[..n], writer)? {
+            Flow::GoesOn => {}
+            Flow::Stopped => return Ok(session.status()),
         }
     }
-    Err(RunFault::Read)
 }

@@ -3,8 +3,8 @@ ghost use Rattle.std.specs.Prelude.{◌≡◌, ℕ, ◌+◌, ◌^◌, ◌<◌, �
 ghost use Rattle.std.specs.Io.KnownBytes.{Appends};
 ghost use Rattle.txc_node.specs.Cache.{Cache, empty_cache};
 ghost use Rattle.txc_run.specs.Script.{HasNoEnd};
-ghost use Rattle.txc_run.specs.Written.{AppendsFront};
-ghost use Rattle.txc_run.specs.Sessions.{AddsReply, AnswersLine, Heard, HearsAs, EndsAs, IsKeptBeside};
+ghost use Rattle.txc_run.specs.Written.{AppendsPrefix};
+ghost use Rattle.txc_run.specs.Sessions.{AddsReply, AnswersLine, HasAnswered, AnswersAs, EndsAs, IsKeptBeside};
 
 use crate::fault::{RunFault, Status};
 use crate::line::{Line, read_line};
@@ -16,9 +16,10 @@ use std::alloc::{AllocError, Global};
 use std::io::Write;
 use txc_node::{NodeCore, Refusal};
 
-/// Whether a run goes on behind a line.
+/// Whether a run goes on after a line.
 #[derive(Clone, Copy, Debug, PartialEq, Eq)]
 pub enum Flow {
+    /// The next line is read.
     GoesOn,
     /// A malformed line was read.
     Stopped,
@@ -32,18 +33,19 @@ pub struct Session {
     lines: u64,
     /// Whether a line was refused or malformed.
     is_refused: bool,
-    /// What is known of the line that has not ended.
+    /// The line that has not ended.
     line: LineStart,
     /// The texts of replies that are not written yet.
     output: String,
 }
 
 impl Session {
+    /// No line was read.
     pub fn new(alloc: Global, settings: Settings) -> Result<Session, AllocError>
-        ensures heard { IfOk result
-            (λ s. Heard (empty_cache settings.capacity settings.recent) [] [] s) }
-        ensures none_at_hand { IfOk result (λ s. string_bytes s.output ≡ []) }
-        ensures none_read { IfOk result (λ s. s.lines ≡ 0) }
+        ensures answered { IfOk result
+            (λ s. HasAnswered (empty_cache settings.capacity settings.recent) [] [] s) }
+        ensures no_output { IfOk result (λ s. string_bytes s.output ≡ []) }
+        ensures no_line { IfOk result (λ s. s.lines ≡ 0) }
     {
         let line = LineStart::new(alloc)?;
         let node = NodeCore::new(alloc, settings.capacity(), settings.recent())?;
@@ -56,6 +58,7 @@ impl Session {
         })
     }
 
+    /// The status of the run so far.
     pub fn status(&self) -> Status
         ensures { result ≡ (if self.now.is_refused then Status.Refused else Status.Done) }
     {
@@ -109,26 +112,26 @@ impl Session {
         }
     }
 
-    /// Answers the line that ends behind these bytes.
-    fn hear_line(&mut self, alloc: Global, front: &[u8]) -> Result<Flow, AllocError>
+    /// Answers the line that ends after these bytes.
+    fn end_line(&mut self, alloc: Global, bytes: &[u8]) -> Result<Flow, AllocError>
         requires count { self.old.lines + 1 < 2 ^ 64 }
-        requires no_end { HasNoEnd front.now }
+        requires no_end { HasNoEnd bytes.now }
         ensures counted { self.new.lines ≤ self.old.lines + 1 }
-        ensures heard { (start : Cache) (read written : List ℕ) → Heard start read written self.old
-            → HearsAs start (read ++ (front.now ++ 10 ∷ [])) written self.new result }
+        ensures answered { (start : Cache) (read written : List ℕ) → HasAnswered start read written self.old
+            → AnswersAs start (read ++ (bytes.now ++ 10 ∷ [])) written self.new result }
     {
-        match self.line.add(front) {
+        match self.line.add(bytes) {
             Ok(()) => self.answer_line(alloc),
             Err(e) => Err(e),
         }
     }
 
     /// A line goes on with these bytes.
-    fn hear_rest(&mut self, rest: &[u8]) -> Result<Flow, AllocError>
+    fn extend_line(&mut self, rest: &[u8]) -> Result<Flow, AllocError>
         requires { HasNoEnd rest.now }
         ensures counted { self.new.lines ≡ self.old.lines }
-        ensures heard { (start : Cache) (read written : List ℕ) → Heard start read written self.old
-            → HearsAs start (read ++ rest.now) written self.new result }
+        ensures answered { (start : Cache) (read written : List ℕ) → HasAnswered start read written self.old
+            → AnswersAs start (read ++ rest.now) written self.new result }
     {
         match self.line.add(rest) {
             Ok(()) => Ok(Flow::GoesOn),
@@ -137,29 +140,29 @@ impl Session {
     }
 
     /// Answers the lines that end in these bytes.
-    pub fn hear(&mut self, alloc: Global, bytes: &[u8]) -> Result<Flow, AllocError>
+    pub fn answer_lines(&mut self, alloc: Global, bytes: &[u8]) -> Result<Flow, AllocError>
         requires { self.old.lines + length bytes.now < 2 ^ 64 }
         ensures counted { self.new.lines ≤ self.old.lines + length bytes.now }
-        ensures heard { (start : Cache) (read written : List ℕ) → Heard start read written self.old
-            → HearsAs start (read ++ bytes.now) written self.new result }
+        ensures answered { (start : Cache) (read written : List ℕ) → HasAnswered start read written self.old
+            → AnswersAs start (read ++ bytes.now) written self.new result }
     {
         let mut rest = bytes;
         'lines: loop {
             match cut_line(rest) {
-                Some((front, behind)) => match self.hear_line(alloc, front) {
-                    Ok(Flow::GoesOn) => rest = behind,
+                Some((before, after)) => match self.end_line(alloc, before) {
+                    Ok(Flow::GoesOn) => rest = after,
                     Ok(Flow::Stopped) => return Ok(Flow::Stopped),
                     Err(e) => return Err(e),
                 },
-                None => return self.hear_rest(rest),
+                None => return self.extend_line(rest),
             }
         }
     }
 
-    /// Answers the last line, where its line feed is missing.
-    pub fn hear_end(&mut self, alloc: Global) -> Result<(), AllocError>
+    /// Answers the last line, if its line feed is missing.
+    pub fn answer_last(&mut self, alloc: Global) -> Result<(), AllocError>
         requires { self.old.lines + 1 < 2 ^ 64 }
-        ensures { (start : Cache) (read written : List ℕ) → Heard start read written self.old
+        ensures { (start : Cache) (read written : List ℕ) → HasAnswered start read written self.old
             → EndsAs start read written self.new result }
     {
         if self.line.is_empty() {
@@ -173,13 +176,13 @@ impl Session {
 
     /// Writes the replies that are not written yet.
     pub fn write_out<W: Write>(&mut self, writer: &mut W) -> Result<(), RunFault>
-        ensures written { OnOk result
+        ensures after { OnOk result
             (Appends (W.contents writer.old) (W.contents writer.new) (string_bytes self.old.output)) }
         ensures emptied { OnOk result (string_bytes self.new.output ≡ []) }
-        ensures fault { OnErr result
-            (AppendsFront (W.contents writer.old) (W.contents writer.new) (string_bytes self.old.output)) }
-        ensures only_write { OnErr result (result ≡ Err RunFault.Write) }
-        ensures others { IsKeptBeside self.old self.new }
+        ensures prefix { OnErr result
+            (AppendsPrefix (W.contents writer.old) (W.contents writer.new) (string_bytes self.old.output)) }
+        ensures refused { OnErr result (result ≡ Err RunFault.Write) }
+        ensures same { IsKeptBeside self.old self.new }
     {
         write_text(writer, self.output.as_bytes())?;
         self.output.clear();

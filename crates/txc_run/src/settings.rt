@@ -1,54 +1,59 @@
 //! What a run is set to.
 ghost use Rattle.std.specs.Prelude.{◌≡◌, ◌<◌, ◌≤◌, IsSome, IfSome, ◌↔◌};
+ghost use Rattle.txc_node.specs.declared.node.TheConstants.{MAX_CAPACITY, MAX_RECENT};
 
-/// The most entries that a node can be set to hold.
-pub const MOST_CAPACITY: usize = 65_536;
+use txc_node::{MAX_CAPACITY, MAX_RECENT};
 
-/// The most events whose tags a node can be set to keep.
-pub const MOST_RECENT: usize = 4_096;
-
-/// What a run is set to: how many entries a node holds, 1 to 65,536, and of how many events it keeps the tags, 1 to
-/// 4,096.
+/// What a run is set to: how many entries a node holds, and of how many events it keeps the tags.
 #[derive(Clone, Copy, Debug, PartialEq, Eq)]
 pub struct Settings {
     capacity: usize,
     recent: usize,
     ghost holds_one: { 0 < capacity },
-    ghost capacity_in_range: { capacity ≤ 65536 },
+    ghost capacity_in_range: { capacity ≤ MAX_CAPACITY },
     ghost keeps_one: { 0 < recent },
-    ghost recent_in_range: { recent ≤ 4096 },
+    ghost recent_in_range: { recent ≤ MAX_RECENT },
 }
 
 impl Settings {
-    /// A node of 1,024 entries that keeps the tags of 64 events.
-    pub const DEFAULT: Settings = Settings {
-        capacity: 1_024,
-        recent: 64,
-    };
-
-    /// Settings, where both numbers are in their ranges.
+    /// Settings, if both numbers are in their ranges: 1 to [`MAX_CAPACITY`], and 1 to [`MAX_RECENT`].
     pub fn new(capacity: usize, recent: usize) -> Option<Settings>
-        ensures valid { IsSome result ↔
-            ((0 < capacity) × (capacity ≤ 65536) × (0 < recent) × (recent ≤ 4096)) }
-        ensures value { IfSome result (λ s. (s.capacity ≡ capacity) × (s.recent ≡ recent)) }
+        ensures only_if { IsSome result ↔ ((0 < capacity) × (capacity ≤ MAX_CAPACITY)
+            × (0 < recent) × (recent ≤ MAX_RECENT)) }
+        ensures answer { IfSome result (λ s. (s.capacity ≡ capacity) × (s.recent ≡ recent)) }
     {
-        if capacity == 0 || capacity > MOST_CAPACITY || recent == 0 || recent > MOST_RECENT {
+        if capacity == 0 || capacity > MAX_CAPACITY || recent == 0 || recent > MAX_RECENT {
             return None;
         }
         Some(Settings { capacity, recent })
     }
 
+    /// How many entries a node holds.
     pub fn capacity(self) -> usize
-        ensures value { result ≡ self.capacity }
-        ensures in_range { (0 < result) × (result ≤ 65536) }
+        ensures answer { result ≡ self.capacity }
+        ensures bound { (0 < result) × (result ≤ MAX_CAPACITY) }
     {
         self.capacity
     }
 
+    /// Of how many events a node keeps the tags.
     pub fn recent(self) -> usize
-        ensures value { result ≡ self.recent }
-        ensures in_range { (0 < result) × (result ≤ 4096) }
+        ensures answer { result ≡ self.recent }
+        ensures bound { (0 < result) × (result ≤ MAX_RECENT) }
     {
         self.recent
+    }
+}
+
+impl Default for Settings {
+    /// A node of 1,024 entries that keeps the tags of 64 events.
+    fn default() -> Settings
+        ensures capacity { result.capacity ≡ 1024 }
+        ensures recent { result.recent ≡ 64 }
+    {
+        Settings {
+            capacity: 1_024,
+            recent: 64,
+        }
     }
 }

@@ -1,5 +1,4 @@
 //! Why nothing was read.
-use std::alloc::AllocError;
 use txc_node::EntryError;
 use txc_tags::{BadKey, SetError};
 
@@ -19,10 +18,6 @@ pub enum NoStep {
 }
 
 impl From<BadKey> for Malformed {
-    ghost use Rattle.std.specs.Prelude.{⊤};
-
-    ghost from_gives = { λ _ _. ⊤ };
-
     fn from(_error: BadKey) -> Malformed {
         Malformed
     }
@@ -72,16 +67,5 @@ impl From<EntryError> for NoStep {
 
     fn from(error: EntryError) -> NoStep {
         NoStep::Unmade(error)
-    }
-}
-
-impl From<AllocError> for NoStep {
-    ghost use Rattle.std.specs.Prelude.{◌≡◌};
-    ghost use Rattle.txc_run.specs.declared.unread.NoStep.TheVariants as reasons;
-
-    ghost from_gives = { λ _ reason. reason ≡ reasons.Memory };
-
-    fn from(_error: AllocError) -> NoStep {
-        NoStep::Memory
     }
 }

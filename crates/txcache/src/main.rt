@@ -17,7 +17,7 @@ fn main(rt: HostRuntime) -> ExitCode {
     let ended = run(
         rt.alloc(),
         mode,
-        Settings::DEFAULT,
+        Settings::default(),
         &mut reader,
         &mut writer,
     );
@@ -27,7 +27,7 @@ fn main(rt: HostRuntime) -> ExitCode {
     ExitCode::from(exit_of(ended))
 }
 
-/// The mode that the command line names, where it is one mode's name alone. An error is want of
+/// The mode that the command line names; None if it is not one mode's name alone. An error means out of
 /// memory.
 fn read_arguments(rt: &(impl Env + AllocGlobal)) -> io::Result<Option<Mode>> {
     let mut arguments = env::args(rt)?;
@@ -41,7 +41,7 @@ fn read_arguments(rt: &(impl Env + AllocGlobal)) -> io::Result<Option<Mode>> {
     Ok(Some(Mode::Node))
 }
 
-/// Says on standard error why the program ends with this status.
+/// Prints on standard error why the program ends with this status.
 fn end(rt: &impl Eprint, text: &str, status: u8) -> ExitCode {
     let _ = rt.eprintln(text);
     ExitCode::from(status)

@@ -1,4 +1,3 @@
-use Rattle.std.proofs.Common.{sym, ◌∙◌}
 use Rattle.std.specs.Prelude.{codes}
 use Rattle.txc_run.proofs.HexDigits.{hex_unread}
 use Rattle.txc_run.proofs.Named.{other_text}

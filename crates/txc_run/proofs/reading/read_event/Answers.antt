@@ -23,7 +23,7 @@ returns-in_err-read-clause-refused c =
     tags_unread _ (IsNamed (codes "event") c.args.text.now) c.next-2.result.now c.in_err-read.field-0.0 c.from_residual-in_err-read.ensures c.in_err-read.ensures.refused (λ op is.
     let of = event_in c.args.text.now op is in
     let same : of.words.tags_word ≡ c.next-2.result.now = ap (λ (ws : List (List ℕ)). get_or ws 1 []) (sym of.words.are ∙ (sym c.in_ok-words.ensures.answer ∙ c.next.ensures
-        ∙ ap (λ (ws : List (List ℕ)). c.next.result.now ∷ ws) c.next-2.ensures)) in
+    ∙ ap (λ (ws : List (List ℕ)). c.next.result.now ∷ ws) c.next-2.ensures)) in
     (of.tags, subst (λ (w : List ℕ). IsTagsWord w of.tags) same of.words.are_tags))
 
 pub returns-clause-answer : goal.returns-clause-answer
@@ -31,11 +31,20 @@ returns-clause-answer c =
     let text = c.args.text.now in
     let taken = c.next.result.now ∷ c.next-2.result.now ∷ [] in
     let more : words_of text ≡ c.next.result.now ∷ c.next-2.result.now ∷ words_left c.next-2.new.self = sym c.in_ok-words.ensures.answer ∙ c.next.ensures
-        ∙ ap (λ (ws : List (List ℕ)). c.next.result.now ∷ ws) c.next-2.ensures in
-    ((refl, (words_of text, has_words text, record {
-      stamp_word = c.next.result.now;
-      tags_word = c.next-2.result.now;
-      are = all_taken (words_of text) taken (words_left c.next-2.new.self) more c.in_ok-words.ensures.only_if;
-      is_stamp = c.in_ok-read_stamp.ensures.answer;
-      are_tags = c.in_ok-read.ensures.answer;
-    })), tt)
+    ∙ ap (λ (ws : List (List ℕ)). c.next.result.now ∷ ws) c.next-2.ensures in (
+      (
+        refl,
+        (
+          words_of text,
+          has_words text,
+          record {
+            stamp_word = c.next.result.now;
+            tags_word = c.next-2.result.now;
+            are = all_taken (words_of text) taken (words_left c.next-2.new.self) more c.in_ok-words.ensures.only_if;
+            is_stamp = c.in_ok-read_stamp.ensures.answer;
+            are_tags = c.in_ok-read.ensures.answer;
+          },
+        ),
+      ),
+      tt,
+    )

@@ -20,15 +20,15 @@ pub returns-in_err-read_stamp-clause-refused : goal.returns-in_err-read_stamp-cl
 returns-in_err-read_stamp-clause-refused c = none_named _ (codes "lookup") c.args.text.now (λ op is.
     let of = lookup_in c.args.text.now op is in
     let same : of.words.lo_word ≡ c.next-2.result.now = ap (λ (ws : List (List ℕ)). get_or ws 1 []) (sym of.words.are ∙ (sym c.in_ok-words.ensures.answer ∙ c.next.ensures
-        ∙ ap (λ (ws : List (List ℕ)). c.next.result.now ∷ ws) c.next-2.ensures)) in
+    ∙ ap (λ (ws : List (List ℕ)). c.next.result.now ∷ ws) c.next-2.ensures)) in
     c.in_err-read_stamp.ensures.refused of.lo (subst (λ (w : List ℕ). IsStampWord w of.lo) same of.words.is_lo))
 
 pub returns-in_err-read_stamp-2-clause-refused : goal.returns-in_err-read_stamp-2-clause-refused
 returns-in_err-read_stamp-2-clause-refused c = none_named _ (codes "lookup") c.args.text.now (λ op is.
     let of = lookup_in c.args.text.now op is in
     let same : of.words.hi_word ≡ c.next-3.result.now = ap (λ (ws : List (List ℕ)). get_or ws 2 []) (sym of.words.are ∙ (sym c.in_ok-words.ensures.answer ∙ c.next.ensures
-        ∙ ap (λ (ws : List (List ℕ)). c.next.result.now ∷ ws) c.next-2.ensures
-        ∙ ap (λ (ws : List (List ℕ)). c.next.result.now ∷ c.next-2.result.now ∷ ws) c.next-3.ensures)) in
+    ∙ ap (λ (ws : List (List ℕ)). c.next.result.now ∷ ws) c.next-2.ensures
+    ∙ ap (λ (ws : List (List ℕ)). c.next.result.now ∷ c.next-2.result.now ∷ ws) c.next-3.ensures)) in
     c.in_err-read_stamp-2.ensures.refused of.hi (subst (λ (w : List ℕ). IsStampWord w of.hi) same of.words.is_hi))
 
 pub returns-clause-answer : goal.returns-clause-answer
@@ -36,14 +36,23 @@ returns-clause-answer c =
     let text = c.args.text.now in
     let taken = c.next.result.now ∷ c.next-2.result.now ∷ c.next-3.result.now ∷ [] in
     let more : words_of text ≡ c.next.result.now ∷ c.next-2.result.now ∷ c.next-3.result.now ∷ words_left c.next-3.new.self = sym c.in_ok-words.ensures.answer ∙ c.next.ensures
-        ∙ ap (λ (ws : List (List ℕ)). c.next.result.now ∷ ws) c.next-2.ensures
-        ∙ ap (λ (ws : List (List ℕ)). c.next.result.now ∷ c.next-2.result.now ∷ ws) c.next-3.ensures in
-    ((refl, (words_of text, has_words text, record {
-      key_word = c.next.result.now;
-      lo_word = c.next-2.result.now;
-      hi_word = c.next-3.result.now;
-      are = all_taken (words_of text) taken (words_left c.next-3.new.self) more c.in_ok-words.ensures.only_if;
-      is_key = c.in_ok-read.ensures.answer;
-      is_lo = c.in_ok-read_stamp.ensures.answer;
-      is_hi = c.in_ok-read_stamp-2.ensures.answer;
-    })), tt)
+    ∙ ap (λ (ws : List (List ℕ)). c.next.result.now ∷ ws) c.next-2.ensures
+    ∙ ap (λ (ws : List (List ℕ)). c.next.result.now ∷ c.next-2.result.now ∷ ws) c.next-3.ensures in (
+      (
+        refl,
+        (
+          words_of text,
+          has_words text,
+          record {
+            key_word = c.next.result.now;
+            lo_word = c.next-2.result.now;
+            hi_word = c.next-3.result.now;
+            are = all_taken (words_of text) taken (words_left c.next-3.new.self) more c.in_ok-words.ensures.only_if;
+            is_key = c.in_ok-read.ensures.answer;
+            is_lo = c.in_ok-read_stamp.ensures.answer;
+            is_hi = c.in_ok-read_stamp-2.ensures.answer;
+          },
+        ),
+      ),
+      tt,
+    )

@@ -18,9 +18,18 @@ returns-in_err-read_stamp-clause-refused c = none_named _ (codes "sweep") c.args
 pub returns-clause-answer : goal.returns-clause-answer
 returns-clause-answer c =
     let text = c.args.text.now in
-    let more : words_of text ≡ c.next.result.now ∷ words_left c.next.new.self = sym c.in_ok-words.ensures.answer ∙ c.next.ensures in
-    ((refl, (words_of text, has_words text, record {
-      horizon_word = c.next.result.now;
-      are = all_taken (words_of text) (c.next.result.now ∷ []) (words_left c.next.new.self) more c.in_ok-words.ensures.only_if;
-      is_horizon = c.in_ok-read_stamp.ensures.answer;
-    })), tt)
+    let more : words_of text ≡ c.next.result.now ∷ words_left c.next.new.self = sym c.in_ok-words.ensures.answer ∙ c.next.ensures in (
+      (
+        refl,
+        (
+          words_of text,
+          has_words text,
+          record {
+            horizon_word = c.next.result.now;
+            are = all_taken (words_of text) (c.next.result.now ∷ []) (words_left c.next.new.self) more c.in_ok-words.ensures.only_if;
+            is_horizon = c.in_ok-read_stamp.ensures.answer;
+          },
+        ),
+      ),
+      tt,
+    )

@@ -1,12 +1,12 @@
-use Rattle.txc_run.proofs.Turning.{finish_done, finish_lacks, finish_faults}
+use Rattle.txc_run.proofs.Turning.{finish_done, finish_out_of_memory, finish_faults}
 use Rattle.txc_run.proofs.script.finish.Goals as goal
 
-pub returns-in-Ok-heard : goal.returns-in-Ok-heard
-returns-in-Ok-heard g c start read written h =
-    rw c.status.ensures (finish_done start read written c.hear_end-heard.new.self c.write_out.new.self.is_refused _ _ c.in-Ok.ensures.written c.write_out.ensures.others.refused (c.in-Ok-heard.ensures start read written h))
+pub returns-in-Ok-answered-clause-ended : goal.returns-in-Ok-answered-clause-ended
+returns-in-Ok-answered-clause-ended g c start read written h =
+    rw c.status.ensures (finish_done start read written c.answer_last-answered.new.self c.write_out.new.self.is_refused _ _ c.in-Ok.ensures.after c.write_out.ensures.same.refused (c.in-Ok-answered.ensures start read written h))
 
-pub returns-in-Err-heard : goal.returns-in-Err-heard
-returns-in-Err-heard g c start read written h = finish_lacks start read written c.hear_end-heard.new.self _ _ c.in-Ok.ensures.written (c.in-Err-heard.ensures start read written h)
+pub returns-in-Err-answered-clause-ended : goal.returns-in-Err-answered-clause-ended
+returns-in-Err-answered-clause-ended g c start read written h = finish_out_of_memory start read written c.answer_last-answered.new.self _ _ c.in-Ok.ensures.after (c.in-Err-answered.ensures start read written h)
 
-pub returns-in-Err : goal.returns-in-Err
-returns-in-Err g c start read written h = finish_faults start read written c.hear_end-heard.new.self c.hear_end-heard.result _ _ c.in-Err.ensures.fault (c.hear_end-heard.ensures start read written h)
+pub returns-in-Err-clause-ended : goal.returns-in-Err-clause-ended
+returns-in-Err-clause-ended g c start read written h = finish_faults start read written c.answer_last-answered.new.self c.answer_last-answered.result _ _ c.in-Err.ensures.prefix (c.answer_last-answered.ensures start read written h)

@@ -1,56 +1,54 @@
-use Rattle.std.proofs.Common.{◌++◌, take, arith, rules, [], Ok, Err}
-use Rattle.std.proofs.KnownBytes.{Consumes-nil, Appends-nil, Consumes-trans, Appends-trans}
+use Rattle.std.proofs.Common.{◌++◌, take, arith, rules, Ok, Err, Result, sym, subst}
+use Rattle.std.proofs.KnownBytes.{Consumes-trans, Appends-trans}
 use Rattle.txc_node.specs.Cache.{empty_cache}
+use Rattle.txc_run.specs.Runs.{HasRun}
 use Rattle.txc_run.specs.Turns.{status_by}
-use Rattle.txc_run.proofs.Turning.{run_ends, run_lacks, nothing_more, stopped_ends, goes_on_at}
+use Rattle.txc_run.specs.declared.fault.Status.{Status}
+use Rattle.txc_run.specs.declared.fault.RunFault.{RunFault}
+use Rattle.txc_run.proofs.Turning.{err_is, run_ends, run_out_of_memory, nothing_more, stopped_ends, goes_on_at}
 use Rattle.txc_run.proofs.script.run_node.Goals as goal
 
-pub returns-in-Err : goal.returns-in-Err
-returns-in-Err g c = run_lacks _ _ _
+pub returns-in-Err-clause-after : goal.returns-in-Err-clause-after
+returns-in-Err-clause-after g c = run_out_of_memory _ _ _
 
-pub reads-init : goal.reads-init
-reads-init g c = record {
-  counted = omega (arith, c.in-Ok.ensures.none_read);
-  read = [];
-  written = [];
-  consumed = Consumes-nil _;
-  appended = Appends-nil _;
-  heard = c.in-Ok.ensures.heard;
-  none = c.in-Ok.ensures.none_at_hand;
-}
-
-pub returns-then-n-eq0 : goal.returns-then-n-eq0
-returns-then-n-eq0 g c =
+pub returns-then-n-eq0-clause-after : goal.returns-then-n-eq0-clause-after
+returns-then-n-eq0-clause-after g c =
     let i = c.reads.invariant in
-    run_ends (Unit {0}) (empty_cache c.args.settings.capacity c.args.settings.recent) _ _ _ _ _ i.read i.written c.finish.result
-    (nothing_more _ _ _ i.read c.read.new.buf c.in-Ok-read.n c.if-n-eq0.true i.consumed c.in-Ok-read.ensures.bytes.0) i.appended
-    (λ _. c.in-Ok-read.ensures.bytes.1 c.if-n-eq0.true (omega arith)) (c.finish.ensures (empty_cache c.args.settings.capacity c.args.settings.recent) i.read i.written i.heard)
+    let start = empty_cache c.args.settings.capacity c.args.settings.recent in
+    run_ends (Unit {0}) start _ _ _ _ _ i.read i.written c.finish.result (nothing_more _ _ _ i.read c.read.new.piece c.in_ok-n.n c.if-n-eq0.true i.consumed c.in_ok-n.ensures.bytes.0) i.appended
+    (λ _. c.in_ok-n.ensures.bytes.1 c.if-n-eq0.true (omega arith)) (c.finish.ensures.ended start i.read i.written i.answered)
 
-pub returns-in-Ok-Stopped : goal.returns-in-Ok-Stopped
-returns-in-Ok-Stopped g c =
+pub returns-in-Stopped-clause-after : goal.returns-in-Stopped-clause-after
+returns-in-Stopped-clause-after g c =
     let i = c.reads.invariant in
-    let read = i.read ++ take c.in-Ok-read.n c.read.new.buf in
-    rw c.status.ensures (run_ends ⊥ (empty_cache c.args.settings.capacity c.args.settings.recent) _ _ _ _ _ read i.written (Ok (status_by c.turn.new.session.is_refused)) (Consumes-trans _ _ _ i.read (take c.in-Ok-read.n c.read.new.buf) i.consumed c.in-Ok-read.ensures.bytes.0) i.appended
-    (λ h. absurd h) (stopped_ends (empty_cache c.args.settings.capacity c.args.settings.recent) read i.written c.turn.new.session _ _ _ c.in-Ok-Stopped.field-0-is (c.in-Ok-Stopped.ensures.turned (empty_cache c.args.settings.capacity c.args.settings.recent) i.read i.written i.heard)))
+    let start = empty_cache c.args.settings.capacity c.args.settings.recent in
+    let read = i.read ++ take c.in_ok-n.n c.read.new.piece in
+    rw c.status.ensures (run_ends ⊥ start _ _ _ _ _ read i.written (Ok (status_by c.turn.new.session.is_refused)) (Consumes-trans _ _ _ i.read (take c.in_ok-n.n c.read.new.piece) i.consumed c.in_ok-n.ensures.bytes.0) i.appended (λ h. absurd h)
+    (stopped_ends start read i.written c.turn.new.session _ _ _ c.in-Stopped.is (c.in_ok-turn.ensures.turned start i.read i.written i.answered)))
 
-pub returns-in-Err-turn : goal.returns-in-Err-turn
-returns-in-Err-turn g c =
+pub returns-in_err-turn-clause-after : goal.returns-in_err-turn-clause-after
+returns-in_err-turn-clause-after g c =
     let i = c.reads.invariant in
-    let read = i.read ++ take c.in-Ok-read.n c.read.new.buf in
-    run_ends ⊥ (empty_cache c.args.settings.capacity c.args.settings.recent) _ _ _ _ _ read i.written (Err c.in-Err-turn.fault) (Consumes-trans _ _ _ i.read (take c.in-Ok-read.n c.read.new.buf) i.consumed c.in-Ok-read.ensures.bytes.0) i.appended
-    (λ h. absurd h) (c.in-Err-turn.ensures.turned (empty_cache c.args.settings.capacity c.args.settings.recent) i.read i.written i.heard)
+    let start = empty_cache c.args.settings.capacity c.args.settings.recent in
+    let read = i.read ++ take c.in_ok-n.n c.read.new.piece in
+    let fault = c.in_err-turn.field-0.0 in
+    subst (λ (r : Result Status RunFault). HasRun start (g.R.Read.remaining c.args.reader.now) (g.R.Read.remaining c.read.new.reader) (g.W.Write.contents c.args.writer.now) (g.W.Write.contents c.turn.new.writer) r)
+    (sym (err_is c.from_residual-in_err-turn.result fault c.from_residual-in_err-turn.ensures))
+    (run_ends ⊥ start _ _ _ _ _ read i.written (Err fault) (Consumes-trans _ _ _ i.read (take c.in_ok-n.n c.read.new.piece) i.consumed c.in_ok-n.ensures.bytes.0) i.appended (λ h. absurd h)
+    (c.in_err-turn.ensures.turned start i.read i.written i.answered))
 
 pub reads-preserved : goal.reads-preserved
 reads-preserved g c =
     let i = c.reads.invariant in
-    let read = i.read ++ take c.in-Ok-read.n c.read.new.buf in
-    let turned = goes_on_at (empty_cache c.args.settings.capacity c.args.settings.recent) read i.written c.turn.new.session _ _ _ c.in-Ok-GoesOn.field-0-is (c.in-Ok-GoesOn.ensures.turned (empty_cache c.args.settings.capacity c.args.settings.recent) i.read i.written i.heard) in
+    let start = empty_cache c.args.settings.capacity c.args.settings.recent in
+    let read = i.read ++ take c.in_ok-n.n c.read.new.piece in
+    let turned = goes_on_at start read i.written c.turn.new.session _ _ _ c.in-GoesOn.is (c.in_ok-turn.ensures.turned start i.read i.written i.answered) in
     record {
       counted = search rules;
       read = read;
       written = i.written ++ turned.0;
-      consumed = Consumes-trans _ _ _ i.read (take c.in-Ok-read.n c.read.new.buf) i.consumed c.in-Ok-read.ensures.bytes.0;
+      consumed = Consumes-trans _ _ _ i.read (take c.in_ok-n.n c.read.new.piece) i.consumed c.in_ok-n.ensures.bytes.0;
       appended = Appends-trans _ _ _ i.written turned.0 i.appended turned.1;
-      heard = turned.2;
+      answered = turned.2;
       none = turned.3;
     }

@@ -1,16 +1,16 @@
 use Rattle.std.proofs.Common.{◌++◌}
-use Rattle.txc_run.proofs.Turning.{turn_faults, turn_lacks, turn_told}
+use Rattle.txc_run.proofs.Turning.{turn_faults, turn_out_of_memory, turn_answered}
 use Rattle.txc_run.proofs.script.turn.Goals as goal
 
-pub returns-in-Ok-heard-clause-turned : goal.returns-in-Ok-heard-clause-turned
-returns-in-Ok-heard-clause-turned g c start read written h =
-    turn_told start (read ++ c.args.bytes.now) written c.hear-heard.new.self c.write_out.new.self c.in-Ok-heard.flow _ _ c.in-Ok.ensures.written c.write_out.ensures.others c.in-Ok.ensures.emptied
-    (c.in-Ok-heard.ensures.heard start read written h)
+pub returns-in-Ok-answered-clause-turned : goal.returns-in-Ok-answered-clause-turned
+returns-in-Ok-answered-clause-turned g c start read written h =
+    turn_answered start (read ++ c.args.bytes.now) written c.answer_lines-answered.new.self c.write_out.new.self c.in-Ok-answered.flow _ _ c.in-Ok.ensures.after c.write_out.ensures.same c.in-Ok.ensures.emptied
+    (c.in-Ok-answered.ensures.answered start read written h)
 
-pub returns-in-Err-heard-clause-turned : goal.returns-in-Err-heard-clause-turned
-returns-in-Err-heard-clause-turned g c start read written h =
-    turn_lacks start (read ++ c.args.bytes.now) written c.hear-heard.new.self _ _ c.in-Ok.ensures.written (c.in-Err-heard.ensures.heard start read written h)
+pub returns-in-Err-answered-clause-turned : goal.returns-in-Err-answered-clause-turned
+returns-in-Err-answered-clause-turned g c start read written h =
+    turn_out_of_memory start (read ++ c.args.bytes.now) written c.answer_lines-answered.new.self _ _ c.in-Ok.ensures.after (c.in-Err-answered.ensures.answered start read written h)
 
 pub returns-in-Err-clause-turned : goal.returns-in-Err-clause-turned
 returns-in-Err-clause-turned g c start read written h =
-    turn_faults start (read ++ c.args.bytes.now) written c.hear-heard.new.self c.hear-heard.result _ _ c.in-Err.ensures.fault (c.hear-heard.ensures.heard start read written h)
+    turn_faults start (read ++ c.args.bytes.now) written c.answer_lines-answered.new.self c.answer_lines-answered.result _ _ c.in-Err.ensures.prefix (c.answer_lines-answered.ensures.answered start read written h)

@@ -1,4 +1,4 @@
-use Rattle.std.proofs.Common.{◌≡◌, ◌+◌, ◌++◌, List, ℕ, refl, ap, subst, ◌∙◌}
+use Rattle.std.proofs.Common.{◌+◌, ◌++◌, List, ℕ, refl, ap, subst, ◌∙◌}
 use Rattle.std.specs.Prelude.{string_bytes}
 use Rattle.txc_node.specs.declared.refusal.Refusal.{Refusal}
 use Rattle.txc_node.specs.declared.reply.Reply.TheVariants as replies

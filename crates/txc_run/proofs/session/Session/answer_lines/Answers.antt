@@ -1,0 +1,40 @@
+use Rattle.std.proofs.Common.{◌++◌, ◌∷◌, [], List, ℕ, sym, ap, ◌∙◌, arith, append_assoc, length}
+use Rattle.std.proofs.lemmas.List.{length-append}
+use Rattle.txc_run.proofs.SessionLines.{stopped_longer, halted_longer, rejoined, split_more, answers_same, answered_same, stopped_of, answered_of}
+use Rattle.txc_run.proofs.session.Session.answer_lines.Goals as goal
+
+pub returns-in-Ok-Stopped-clause-answered : goal.returns-in-Ok-Stopped-clause-answered
+returns-in-Ok-Stopped-clause-answered c start read written h =
+    let i = c.lines.invariant in
+    let cut = c.in-Some.ensures.answer in
+    stopped_longer start _ written c.in-Some.after.now _ c.end_line.new.self
+    (rejoined read i.done c.in-Some.before.now c.in-Some.after.now c.lines.rest.now c.args.bytes.now i.split cut.0)
+    (stopped_of start _ written c.end_line.new.self c.in-Ok-Stopped.field-0 c.in-Ok-Stopped.field-0-is (c.in-Ok-Stopped.ensures.answered start (read ++ i.done) written (i.answered start read written h)))
+
+pub returns-in-Err-clause-answered : goal.returns-in-Err-clause-answered
+returns-in-Err-clause-answered c start read written h =
+    let i = c.lines.invariant in
+    let cut = c.in-Some.ensures.answer in
+    halted_longer start _ written c.in-Some.after.now _ c.end_line.new.self
+    (rejoined read i.done c.in-Some.before.now c.in-Some.after.now c.lines.rest.now c.args.bytes.now i.split cut.0)
+    (c.in-Err.ensures.answered start (read ++ i.done) written (i.answered start read written h))
+
+pub returns-in-None-clause-answered : goal.returns-in-None-clause-answered
+returns-in-None-clause-answered c start read written h =
+    let i = c.lines.invariant in
+    answers_same start _ _ written c.extend_line.new.self c.extend_line.result (append_assoc read i.done c.lines.rest.now ∙ ap (λ (xs : List ℕ). read ++ xs) (sym i.split))
+    (c.extend_line.ensures.answered start (read ++ i.done) written (i.answered start read written h))
+
+pub lines-preserved : goal.lines-preserved
+lines-preserved c =
+    let i = c.lines.invariant in
+    let cut = c.in-Some.ensures.answer in
+    let before = c.in-Some.before.now in
+    let after = c.in-Some.after.now in
+    record {
+      counted = omega (arith, ap length cut.0, length-append before (10 ∷ after));
+      done = i.done ++ (before ++ 10 ∷ []);
+      split = split_more i.done before after c.lines.rest.now c.args.bytes.now i.split cut.0;
+      answered = λ start read written h. answered_same start _ _ written c.end_line.new.self (append_assoc read i.done (before ++ 10 ∷ []))
+          (answered_of start _ written c.end_line.new.self c.in-Ok-GoesOn.field-0 c.in-Ok-GoesOn.field-0-is (c.in-Ok-GoesOn.ensures.answered start (read ++ i.done) written (i.answered start read written h)));
+    }
