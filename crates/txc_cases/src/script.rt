@@ -1,4 +1,4 @@
-//! Scripts: each line has a call, and after ` = ` what it answers.
+//! Scripts: a line has a call, and after ` = ` what it answers; other lines are headings.
 use std::alloc::{AllocError, Global};
 use std::fmt::{Display, Write};
 use std::process::Abort;
@@ -30,10 +30,14 @@ fn played<P: Player + Drop>(alloc: Global, script: &str) -> Result<String, Alloc
     let mut player = P::new(alloc)?;
     let mut out = String::new(alloc);
     for line in script.lines() {
-        let call = line.split(" = ").next().unwrap_or(line);
-        write!(out, "{call} = ")?;
-        player.answer(alloc, call, &mut out)?;
-        writeln!(out)?;
+        match line.split_once(" = ") {
+            Some((call, _)) => {
+                write!(out, "{call} = ")?;
+                player.answer(alloc, call, &mut out)?;
+            }
+            None => out.push_str(line)?,
+        }
+        out.push('\n')?;
     }
     Ok(out)
 }
@@ -80,12 +84,4 @@ pub fn show_result<T: Display, E: Display>(
         Ok(value) => show(out, value),
         Err(error) => show(out, error),
     }
-}
-
-/// Writes that a refused call has changed something, if it has.
-pub fn show_change(out: &mut String, is_same: bool) -> Result<(), AllocError> {
-    if is_same {
-        return Ok(());
-    }
-    show(out, &"changed, then ")
 }

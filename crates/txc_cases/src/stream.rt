@@ -1,7 +1,7 @@
 //! Rows of numbers: calls by two fronts with what they answer, two threads, and the largest row.
 ghost use Rattle.std.specs.Prelude.{◌≡◌};
 
-use crate::script::{Player, number, play, show, word};
+use crate::script::{Player, number, play, show, show_option, word};
 use once_cell::race::Note;
 use std::alloc::{AllocError, Global};
 use std::fmt::Write;
@@ -21,12 +21,14 @@ fn value_of(error: AppendError<u64>) -> u64 {
 fn append(
     row: &EventRow<u64>,
     front: &mut Front<u64>,
-    value: Box<u64>,
+    alloc: Global,
+    number: u32,
     out: &mut String,
 ) -> Result<(), AllocError>
     requires { front.old.row ≡ row.now }
     ensures { front.new.row ≡ row.now }
 {
+    let value = Box::new(alloc, number as u64)?;
     match row.append(front, value) {
         Ok(()) => show(out, &"done"),
         Err(error) => {
@@ -51,11 +53,8 @@ fn answer(
     ensures { front.new.row ≡ row.now }
 {
     match word(call, 1) {
-        "append" => append(row, front, Box::new(alloc, number(call, 2) as u64)?, out),
-        "next" => match row.next(front) {
-            Some(value) => show(out, value),
-            None => show(out, &"nothing"),
-        },
+        "append" => append(row, front, alloc, number(call, 2), out),
+        "next" => show_option(out, &row.next(front)),
         "longer" => {
             front.longer(other);
             show(out, &"done")
@@ -159,38 +158,27 @@ impl Player for TwoFronts {
 }
 
 #[test]
-fn a_second_record_finds_no_room_and_says_so(rt: HostRuntime) -> Result<(), AllocError> {
-    play::<TwoFronts>(&rt, FULL)
+fn rows_are_answered_as_worked(rt: HostRuntime) -> Result<(), AllocError> {
+    play::<TwoFronts>(&rt, ROWS)
 }
 
-const FULL: &str = "\
+const ROWS: &str = "\
+A second record finds no room
 row 1 = 1
-one next = nothing, shows 0
+one next = none, shows 0
 one append 7 = done, shows 1 from 7 to 7
 one append 8 = the row is full, Full(..), 8, shows 1 from 7 to 7
-one next = nothing, shows 1 from 7 to 7
-";
+one next = none, shows 1 from 7 to 7
 
-#[test]
-fn the_other_front_finds_the_cell_taken_and_says_so(rt: HostRuntime) -> Result<(), AllocError> {
-    play::<TwoFronts>(&rt, TAKEN)
-}
-
-const TAKEN: &str = "\
+The other front finds the cell taken
 row 2 = 2
-other next = nothing, shows 0
+other next = none, shows 0
 one append 7 = done, shows 1 from 7 to 7
 other append 8 = another record stands in the cell, Taken(..), 8, shows 0
 other next = 7, shows 1 from 7 to 7
-other next = nothing, shows 1 from 7 to 7
-";
+other next = none, shows 1 from 7 to 7
 
-#[test]
-fn a_copy_and_the_longer_of_two_show_the_longer_list(rt: HostRuntime) -> Result<(), AllocError> {
-    play::<TwoFronts>(&rt, LONGER)
-}
-
-const LONGER: &str = "\
+A copy and the longer of two show the longer list
 row 3 = 3
 one append 7 = done, shows 1 from 7 to 7
 other again = done, shows 1 from 7 to 7
@@ -286,9 +274,9 @@ fn the_largest_row_is_filled_and_walked(rt: HostRuntime) -> Result<(), AllocErro
 const FILLED: &str = "\
 row 1048576 = 1048576
 fill = 1048576
-one next = nothing, shows 1048576 from 0 to 1048575
+one next = none, shows 1048576 from 0 to 1048575
 other append 8 = the row is full, Full(..), 8, shows 1048576 from 0 to 1048575
-other next = nothing, shows 1048576 from 0 to 1048575
+other next = none, shows 1048576 from 0 to 1048575
 other again = done, shows 1048576 from 0 to 1048575
 ";
 

@@ -1,23 +1,11 @@
 //! Texts of numbers, tags, keys and sets of tags, and sets worked by hand.
-use crate::script::{
-    Player, byte, number, play, show, show_change, show_option, show_result, text, word,
-};
+use crate::script::{Player, byte, number, play, show, show_option, show_result, text, word};
 use std::alloc::{AllocError, Global};
-use txc_tags::{
-    BadKey, BadTag, Key, KeyError, LAST_NUMBER, SetError, Table, Tag, TagSet, read_number,
-};
-
-fn read_key(text: &str) -> Result<Key, BadKey> {
-    Key::read(text.as_bytes())
-}
-
-fn read_tag(text: &str) -> Result<Tag, BadTag> {
-    Tag::read(text.as_bytes())
-}
+use txc_tags::{Key, KeyError, LAST_NUMBER, SetError, Table, Tag, TagSet, read_number};
 
 /// Reads a key, and writes it.
 fn show_key(out: &mut String, alloc: Global, text: &str) -> Result<(), AllocError> {
-    match read_key(text) {
+    match Key::read(text.as_bytes()) {
         Ok(key) => show(out, &key.write(alloc)?),
         Err(bad) => show(out, &bad),
     }
@@ -25,7 +13,7 @@ fn show_key(out: &mut String, alloc: Global, text: &str) -> Result<(), AllocErro
 
 /// Reads a tag, and writes it.
 fn show_tag(out: &mut String, alloc: Global, text: &str) -> Result<(), AllocError> {
-    match read_tag(text) {
+    match Tag::read(text.as_bytes()) {
         Ok(tag) => show(out, &tag.write(alloc)?),
         Err(bad) => show(out, &bad),
     }
@@ -53,14 +41,14 @@ fn new_tag(call: &str) -> Option<Tag> {
 
 /// Whether both are keys, and equal.
 fn are_same(one: &str, other: &str) -> bool {
-    match (read_key(one), read_key(other)) {
-        (Ok(one), Ok(other)) => one == other && one.copy() == other.copy(),
+    match (Key::read(one.as_bytes()), Key::read(other.as_bytes())) {
+        (Ok(one), Ok(other)) => one == other && other.copy() == one,
         _ => false,
     }
 }
 
 fn node_of(text: &str, nodes: u8) -> Option<usize> {
-    let key = read_key(text).ok()?;
+    let key = Key::read(text.as_bytes()).ok()?;
     Some(key.node_of(nodes.max(1) as usize))
 }
 
@@ -91,11 +79,12 @@ impl Player for Texts {
 }
 
 #[test]
-fn numbers_have_no_leading_zero_and_a_greatest(rt: HostRuntime) -> Result<(), AllocError> {
-    play::<Texts>(&rt, NUMBERS)
+fn texts_are_answered_as_worked(rt: HostRuntime) -> Result<(), AllocError> {
+    play::<Texts>(&rt, TEXTS)
 }
 
-const NUMBERS: &str = "\
+const TEXTS: &str = "\
+Numbers have no leading zero and a greatest
 u32 0 = 0
 u32 4294967295 = 4294967295
 u32 4294967296 = none
@@ -104,14 +93,8 @@ u64 18446744073709551616 = none
 u32 02 = none
 u32  = none
 u32 1  = none
-";
 
-#[test]
-fn keys_are_refused_where_they_go_wrong(rt: HostRuntime) -> Result<(), AllocError> {
-    play::<Texts>(&rt, KEYS)
-}
-
-const KEYS: &str = "\
+Keys are refused where they go wrong, and a function before its arguments
 key f0() = f0()
 key f3(1,2) = f3(1,2)
 key f31(0,1,20,4294967295) = f31(0,1,20,4294967295)
@@ -134,14 +117,8 @@ same_key f31(1,2,3,4) f30(1,2,3,4) = false
 node_of f31(1,2,3,4) 4 = 1
 node_of f0() 4 = 0
 node_of f31(4294967295,4294967295) 7 = 2
-";
 
-#[test]
-fn tags_are_read_up_to_where_they_go_wrong(rt: HostRuntime) -> Result<(), AllocError> {
-    play::<Texts>(&rt, TAGS)
-}
-
-const TAGS: &str = "\
+Tags are read up to where they go wrong
 id 15 4294967295 = t15:id=4294967295
 group 15 0 = t15:grp=0
 wildcard 15 = t15:?
@@ -160,14 +137,8 @@ tag t01:? = no text of a tag: it goes wrong after 2 bytes
 tag t1:gid=1 = no text of a tag: it goes wrong after 4 bytes
 tag 1 = no text of a tag: it goes wrong after 0 bytes
 tag  t1:? = no text of a tag: it goes wrong after 0 bytes
-";
 
-#[test]
-fn sets_are_refused_where_they_go_wrong(rt: HostRuntime) -> Result<(), AllocError> {
-    play::<Texts>(&rt, BAD_SETS)
-}
-
-const BAD_SETS: &str = "\
+Sets are refused where they go wrong
 bad_set  = no text of a tag: it goes wrong after 0 bytes
 bad_set t1:?, = no text of a tag: it goes wrong after 5 bytes
 bad_set -, = no text of a tag: it goes wrong after 1 bytes
@@ -176,12 +147,6 @@ bad_set ,t1:? = no text of a tag: it goes wrong after 0 bytes
 bad_set t1:?;t2:? = no text of a tag: it goes wrong after 4 bytes
 no_memory = memory allocation failed
 ";
-
-/// The player of calls on a set.
-#[derive(Drop)]
-struct OneSet {
-    set: TagSet,
-}
 
 /// The set that the text is read as; the empty one where it is none.
 pub fn set_of(alloc: Global, text: &str) -> Result<TagSet, AllocError> {
@@ -203,78 +168,63 @@ fn grow(set: &mut TagSet, joins: bool, other: &TagSet) -> Result<(), AllocError>
     }
 }
 
-impl OneSet {
-    /// Lets a copy grow, which has no room for more tags. Where memory is refused the copy is as it was,
-    /// and grows once more.
-    fn grow(
-        &mut self,
-        alloc: Global,
-        joins: bool,
-        other: &TagSet,
-        out: &mut String,
-    ) -> Result<(), AllocError> {
-        let mut copy = self.set.copy(alloc)?;
-        if grow(&mut copy, joins, other).is_err() {
-            show_change(out, copy.tags() == self.set.tags())?;
-            grow(&mut copy, joins, other)?;
-        }
-        self.set = copy;
-        show(out, &self.set)
+/// The set once it has grown. It grows in a copy, which has no room for more tags; where memory is refused
+/// and the copy is as it was, it grows once more.
+fn grown(
+    alloc: Global,
+    set: &TagSet,
+    joins: bool,
+    other: &TagSet,
+) -> Result<TagSet, AllocError> {
+    let mut copy = set.copy(alloc)?;
+    if grow(&mut copy, joins, other).is_err() && copy.tags() == set.tags() {
+        grow(&mut copy, joins, other)?;
     }
+    Ok(copy)
+}
 
-    /// Begins anew with the other set.
-    fn begin(
-        &mut self,
-        alloc: Global,
-        other: &TagSet,
-        out: &mut String,
-    ) -> Result<(), AllocError> {
-        self.set = other.copy(alloc)?;
-        show(out, &self.set.write(alloc)?)
-    }
-
-    fn is(&self, other: &TagSet) -> bool {
-        let is_empty = other.tags().is_empty();
-        self.set.tags() == other.tags() && self.set.is_empty() == is_empty
-    }
-
-    fn covers(&self, other: &TagSet) -> bool {
-        other.tags().iter().all(|tag| self.set.covers(*tag))
-    }
-
-    /// Shows what is asked of the set, or of both.
-    fn show(&self, asked: &str, other: &TagSet, out: &mut String) -> Result<(), AllocError> {
-        match asked {
-            "is" => show(out, &self.is(other)),
-            "covers" => show(out, &self.covers(other)),
-            _ => show(out, &self.set.matches(other)),
-        }
+fn covers_first(set: &TagSet, other: &TagSet) -> bool {
+    match other.tags().first() {
+        Some(tag) => set.covers(*tag),
+        None => true,
     }
 }
 
-impl Player for OneSet {
-    fn new(alloc: Global) -> Result<OneSet, AllocError> {
-        let set = TagSet::new(alloc);
-        Ok(OneSet { set })
+fn are_equal(set: &TagSet, other: &TagSet) -> bool {
+    set.tags() == other.tags() && set.is_empty() == other.is_empty()
+}
+
+/// The player of a set.
+impl Player for TagSet {
+    fn new(alloc: Global) -> Result<TagSet, AllocError> {
+        Ok(TagSet::new(alloc))
     }
 
     fn answer(&mut self, alloc: Global, call: &str, out: &mut String) -> Result<(), AllocError> {
         let other = set_of(alloc, word(call, 1))?;
         match word(call, 0) {
-            "set" => self.begin(alloc, &other, out),
-            "add" => self.grow(alloc, false, &other, out),
-            "join" => self.grow(alloc, true, &other, out),
-            asked => self.show(asked, &other, out),
+            "is" => show(out, &are_equal(self, &other)),
+            "covers" => show(out, &covers_first(self, &other)),
+            "matches" => show(out, &self.matches(&other)),
+            made => {
+                *self = match made {
+                    "add" => grown(alloc, self, false, &other)?,
+                    "join" => grown(alloc, self, true, &other)?,
+                    _ => other,
+                };
+                show(out, &self.write(alloc)?)
+            }
         }
     }
 }
 
 #[test]
-fn sets_have_one_spelling(rt: HostRuntime) -> Result<(), AllocError> {
-    play::<OneSet>(&rt, SPELLED)
+fn sets_are_answered_as_worked(rt: HostRuntime) -> Result<(), AllocError> {
+    play::<TagSet>(&rt, SETS)
 }
 
-const SPELLED: &str = "\
+const SETS: &str = "\
+Sets have one spelling
 set - = -
 is - = true
 set t2:?,t1:grp=2,t1:id=7 = t1:id=7,t1:grp=2,t2:?
@@ -282,14 +232,14 @@ is t1:id=7,t1:grp=2,t2:? = true
 is - = false
 set t1:id=7,t1:id=7 = t1:id=7
 set t1:id=7,t1:?,t1:grp=2 = t1:?
-";
+set t1:id=0,t1:id=1,t1:id=2,t1:id=3,t1:id=4,t1:id=5,t1:id=6,t1:id=7,t1:id=8,t1:id=9,t1:id=10,\
+    t1:id=11,t1:id=12,t1:id=13,t1:id=14,t1:id=15 = t1:id=0,t1:id=1,t1:id=2,t1:id=3,t1:id=4,t1:id=5,\
+    t1:id=6,t1:id=7,t1:id=8,t1:id=9,t1:id=10,t1:id=11,t1:id=12,t1:id=13,t1:id=14,t1:id=15
+set t1:id=0,t1:id=1,t1:id=2,t1:id=3,t1:id=4,t1:id=5,t1:id=6,t1:id=7,t1:id=8,t1:id=9,t1:id=10,\
+    t1:id=11,t1:id=12,t1:id=13,t1:id=14,t1:id=15,t1:id=16 = t1:?
 
-#[test]
-fn tags_stand_by_table_and_number(rt: HostRuntime) -> Result<(), AllocError> {
-    play::<OneSet>(&rt, ORDERED)
-}
-
-const ORDERED: &str = "\
+Tags stand by table and number
+set - = -
 add t2:id=1 = t2:id=1
 add t1:grp=2 = t1:grp=2,t2:id=1
 add t1:id=9 = t1:id=9,t1:grp=2,t2:id=1
@@ -306,14 +256,32 @@ covers t2:? = false
 join t2:grp=1,t0:? = t0:?,t1:?,t2:id=1,t2:grp=1
 join t0:id=4,t2:id=1 = t0:?,t1:?,t2:id=1,t2:grp=1
 join t2:?,t3:id=1 = t0:?,t1:?,t2:?,t3:id=1
-";
 
-#[test]
-fn sets_match_by_table_and_number_or_wildcard(rt: HostRuntime) -> Result<(), AllocError> {
-    play::<OneSet>(&rt, MATCHES)
-}
+A seventeenth tag of a table leaves its wildcard
+set t1:id=0,t1:id=1,t1:id=2,t1:id=3,t1:id=4,t1:id=5,t1:id=6,t1:id=7,t1:id=8,t1:id=9,t1:id=10,\
+    t1:id=11,t1:id=12,t1:id=13,t1:id=14 = t1:id=0,t1:id=1,t1:id=2,t1:id=3,t1:id=4,t1:id=5,t1:id=6,\
+    t1:id=7,t1:id=8,t1:id=9,t1:id=10,t1:id=11,t1:id=12,t1:id=13,t1:id=14
+add t1:id=15 = t1:id=0,t1:id=1,t1:id=2,t1:id=3,t1:id=4,t1:id=5,t1:id=6,t1:id=7,t1:id=8,t1:id=9,\
+    t1:id=10,t1:id=11,t1:id=12,t1:id=13,t1:id=14,t1:id=15
+is t1:id=0,t1:id=1,t1:id=2,t1:id=3,t1:id=4,t1:id=5,t1:id=6,t1:id=7,t1:id=8,t1:id=9,t1:id=10,\
+    t1:id=11,t1:id=12,t1:id=13,t1:id=14,t1:id=15 = true
+add t1:id=16 = t1:?
+set t1:id=1,t1:id=2,t1:id=3,t1:id=4,t1:id=5,t1:id=6,t1:id=7,t1:grp=0,t1:grp=1,t1:grp=2,t1:grp=3,\
+    t1:grp=4,t1:grp=5,t1:grp=6,t1:grp=7 = t1:id=1,t1:id=2,t1:id=3,t1:id=4,t1:id=5,t1:id=6,t1:id=7,\
+    t1:grp=0,t1:grp=1,t1:grp=2,t1:grp=3,t1:grp=4,t1:grp=5,t1:grp=6,t1:grp=7
+add t1:id=0 = t1:id=0,t1:id=1,t1:id=2,t1:id=3,t1:id=4,t1:id=5,t1:id=6,t1:id=7,t1:grp=0,t1:grp=1,\
+    t1:grp=2,t1:grp=3,t1:grp=4,t1:grp=5,t1:grp=6,t1:grp=7
+add t2:id=0 = t1:id=0,t1:id=1,t1:id=2,t1:id=3,t1:id=4,t1:id=5,t1:id=6,t1:id=7,t1:grp=0,t1:grp=1,\
+    t1:grp=2,t1:grp=3,t1:grp=4,t1:grp=5,t1:grp=6,t1:grp=7,t2:id=0
+add t1:grp=8 = t1:?,t2:id=0
+set t1:id=1,t1:id=2,t1:id=3,t1:id=4,t1:id=5,t1:id=6,t1:id=7 = t1:id=1,t1:id=2,t1:id=3,t1:id=4,\
+    t1:id=5,t1:id=6,t1:id=7
+join t1:id=0,t1:grp=0,t1:grp=1,t1:grp=2,t1:grp=3,t1:grp=4,t1:grp=5,t1:grp=6,t1:grp=7,\
+    t2:id=0 = t1:id=0,t1:id=1,t1:id=2,t1:id=3,t1:id=4,t1:id=5,t1:id=6,t1:id=7,t1:grp=0,t1:grp=1,\
+    t1:grp=2,t1:grp=3,t1:grp=4,t1:grp=5,t1:grp=6,t1:grp=7,t2:id=0
+join t1:grp=8,t2:id=1 = t1:?,t2:id=0,t2:id=1
 
-const MATCHES: &str = "\
+Sets match by table and number or wildcard
 set t1:? = t1:?
 matches t1:id=7 = true
 set t1:id=7 = t1:id=7
