@@ -4,7 +4,7 @@ use Rattle.std.specs.Prelude.{Result, Ok, Err, IfOk, OnOk, IsOk}
 use Rattle.std.proofs.lemmas.List.{length_push}
 use Rattle.std.proofs.lemmas.List.Sums.{fold-append}
 use mathlib.Core.List.{IsPrefix}
-use Rattle.txc_stream.proofs.Prefix.{prefix_self, prefix_push, push_get}
+use Rattle.txc_stream.proofs.Offered.{prefix_self, prefix_push, push_get}
 use Rattle.txc_tags.specs.declared.tag.Tag.{Tag}
 use Rattle.txc_tags.specs.Tags.{sets_match}
 use Rattle.txc_rows.specs.declared.query.Change.{Change}

@@ -9,7 +9,7 @@ abbrev pub handed_back : {T : Type 0} → AppendError T → T
 handed_back (Full b) = b.value
 handed_back (Taken r) = r.value.value
 
--- refused for want of room
+-- refused because the row is full
 abbrev pub IsFull : {T : Type 0} → Result (Unit {0}) (AppendError T) → Type 0
 IsFull (Ok x) = ⊥
 IsFull (Err (Full b)) = Unit {0}

@@ -6,6 +6,7 @@ use Rattle.once_cell.specs.Once.{cell_name}
 use Rattle.std.specs.declared.alloc.Global.{Global}
 use Rattle.std.specs.declared.option.Option.{Option}
 use Rattle.std.specs.declared.option.Option.TheVariants.{None, Some}
+use Rattle.txc_stream.specs.declared.row.TheConstants.{MAX_CAPACITY}
 
 -- the names of a row's cells, and the records that were seen in the first of them
 pub record Shown (T : Type 0) : Type 0 where
@@ -21,7 +22,7 @@ shown_code {T} c =
 -- how many records a row may have room for
 pub record IsCapacity (n : ℕ) : Type 0 where
   pub least : 1 ≤ n
-  pub most : n ≤ 1048576
+  pub most : n ≤ MAX_CAPACITY
 
 -- the values that are there
 abbrev pub somes : {T : Type 0} → List (Option T) → List T

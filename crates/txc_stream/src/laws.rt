@@ -1,7 +1,7 @@
-//! Laws on prefixes. None has anything to run: the contract of each is the law.
+//! Prefixes of lists. Each function is a lemma: it has no code.
 //!
-//! What was seen of a row only grows, so what a caller knows of a front's list has to carry over to each longer one.
-//! These laws do it. They hold of all lists, and crates above find their proofs under the same words.
+//! What was seen of a row only grows, so what a caller knows of a front's list has to carry over to each
+//! longer one. These lemmas do it. They hold of all lists, and `proofs/Offered.antt` has their proofs.
 ghost use Rattle.std.specs.Prelude.{◌≡◌, ℕ, ◌<◌, ◌≤◌, ◌++◌, ◌∷◌, ◌⊎◌, [], List, length, take, Some, slice_get};
 ghost use mathlib.Core.List.{IsPrefix};
 
@@ -31,14 +31,15 @@ pub fn prefix_places<T>()
         → n ≤ length xs → take n ys ≡ take n xs }
 {}
 
-/// A list is a prefix of itself with more behind it. One more record stands at the place that the old length names.
+/// A list is a prefix of itself with more after it. One more record stands at the place that the old length
+/// names.
 pub fn prefix_of_appended<T>()
     ensures more { (xs ys : List T) → IsPrefix xs (xs ++ ys) }
     ensures place { (xs : List T) (x : T) → slice_get (xs ++ x ∷ []) (length xs) ≡ Some x }
 {}
 
-/// Two prefixes of one list agree. Of two lists that agree, the shorter is the prefix, and one of the two that
-/// begins with the longer is the longer.
+/// Two prefixes of one list agree. Of two lists that agree, the shorter is the prefix, and one of the two
+/// that begins with the longer is the longer.
 pub fn longer_of_two<T>()
     ensures agree { (xs ys zs : List T) → IsPrefix xs zs → IsPrefix ys zs
         → IsPrefix xs ys ⊎ IsPrefix ys xs }

@@ -36,9 +36,10 @@ impl<T: Drop> Drop for EventRow<T> {
 
 /// A prefix of a row, as somebody has seen it.
 ///
-/// Contracts see it as a record: `row`, the names of all cells of its row, and `list`, the records seen. It has
-/// neither a lifetime nor a handle, so whoever owns the row can own its fronts too. It is made with a note for each
-/// cell of the row, and a note takes no bytes, so a front of any length takes as much as an empty `Vec`.
+/// Contracts see it as a record: `row`, the names of all cells of its row, and `list`, the records seen. It
+/// has neither a lifetime nor a handle, so whoever owns the row can own its fronts too. It is made with a
+/// note for each cell of the row, and a note takes no bytes, so a front of any length takes as much as an
+/// empty `Vec`.
 #[derive(Drop)]
 pub struct Front<T> {
     notes: Vec<Note<T>>,
@@ -57,8 +58,8 @@ impl<T> Model for Front<T> {
     ghost invariant = { λ f. IsSeen f.notes.items f.len };
 }
 
-// A front is read by `&` from many threads. What it knows of the row's cells, every thread knows alike: that is shown
-// in `proofs/Crosses.antt`, by which a closure that borrows a front is sent.
+// A front is read by `&` from many threads. What it knows of the row's cells, every thread knows alike:
+// that is shown in `proofs/Crosses.antt`, by which a closure that borrows a front is sent.
 unsafe impl<T> Sync for Front<T> {}
 
 /// Why a record was not appended. Either way the record comes back.
@@ -72,8 +73,8 @@ pub enum AppendError<T> {
     Taken(Refused<T>),
 }
 
-/// A record that found its cell set. It comes with a note that has seen the record which stands there, so that
-/// nobody can make one up.
+/// A record that found its cell set. It comes with a note that has seen the record which stands there, so
+/// that nobody can make one up.
 #[derive(Drop)]
 pub struct Refused<T> {
     /// The record that was not appended.
@@ -93,7 +94,7 @@ impl<T> fmt::Debug for AppendError<T> {
 }
 
 impl<T> EventRow<T> {
-    /// A row with room for `capacity` records, no cell of which is set. `AllocError` only where its room was refused.
+    /// A row with room for `capacity` records, no cell of which is set.
     pub fn new(alloc: Global, capacity: usize) -> Result<EventRow<T>, AllocError>
         requires least { 1 ≤ capacity }
         requires most { capacity ≤ MAX_CAPACITY }
@@ -115,8 +116,7 @@ impl<T> EventRow<T> {
         self.cells.len()
     }
 
-    /// A front that shows nothing yet, with all the room that it will ever need. `AllocError` only where that was
-    /// refused, as for `again`.
+    /// A front that shows nothing yet, with all the room that it will ever need.
     pub fn start(&self, alloc: Global) -> Result<Front<T>, AllocError>
         ensures { IfOk result (λ front. (front.row ≡ self.now) × (front.list ≡ [])) }
     {
@@ -149,15 +149,15 @@ impl<T> EventRow<T> {
         let _len = front.len;
         let cell = &cells[at];
         let mut note = cell.note();
-        teach(&notes[at], &mut note);
+        pass_on(&notes[at], &mut note);
         match cell.get_as(&mut note) {
             Some(record) => record,
             None => unreachable!(),
         }
     }
 
-    /// Lengthens the front by the next record, if there is one by now. That `None` means that its cell was not set
-    /// when it was read is no clause, since a cell may be set at any moment.
+    /// Lengthens the front by the next record, if there is one by now. That `None` means that its cell was
+    /// not set when it was read is no clause, since a cell may be set at any moment.
     pub fn next<'a>(&'a self, front: &mut Front<T>) -> Option<&'a T>
         requires { front.old.row ≡ self.now }
         ensures row { front.new.row ≡ front.old.row }
@@ -178,7 +178,7 @@ impl<T> EventRow<T> {
         Some(record)
     }
 
-    /// Of two fronts of this row, one begins the other. It does nothing when it runs: its contract is the fact.
+    /// Of two fronts of this row, one is a prefix of the other. This is a lemma: it does nothing when it runs.
     pub fn agree(&self, one: &Front<T>, other: &Front<T>)
         requires one { one.now.row ≡ self.now }
         requires other { other.now.row ≡ self.now }
@@ -191,12 +191,12 @@ impl<T> EventRow<T> {
 impl<T: Drop> EventRow<T> {
     ghost use Rattle.txc_stream.specs.Append.{handed_back, IsFull, StandsNext};
 
-    /// Sets the cell after the front to the record, and lengthens the front by it. Nothing else refuses it than a full
-    /// row and a cell that is set; then nothing has changed.
+    /// Sets the cell after the front to the record, and lengthens the front by it. Nothing else refuses it
+    /// than a full row and a cell that is set; then nothing has changed.
     pub fn append(&self, front: &mut Front<T>, value: Box<T>) -> Result<(), AppendError<T>>
         requires { front.old.row ≡ self.now }
         ensures row { front.new.row ≡ front.old.row }
-        ensures ok { OnOk result (front.new.list ≡ front.old.list ++ value.value ∷ []) }
+        ensures after { OnOk result (front.new.list ≡ front.old.list ++ value.value ∷ []) }
         ensures unchanged { IfErr result (λ e. front.new.list ≡ front.old.list) }
         ensures handed_back { IfErr result (λ e. handed_back e ≡ value.value) }
         ensures full { IsFull result ↔ (length front.old.list ≡ length self.now) }
@@ -242,7 +242,7 @@ impl<T> Front<T> {
         self.len() == 0
     }
 
-    /// Of two fronts of one row, one begins the other. It does nothing when it runs: its contract is the fact.
+    /// Of two fronts of one row, one is a prefix of the other. This is a lemma: it does nothing when it runs.
     pub fn agree(&self, other: &Front<T>)
         requires { self.now.row ≡ other.now.row }
         ensures { IsPrefix self.now.list other.now.list ⊎ IsPrefix other.now.list self.now.list }
@@ -268,7 +268,7 @@ impl<T> Front<T> {
             if at < self.len {
                 same(&self.notes[at], &others[at]);
             } else {
-                teach(&others[at], &mut self.notes[at]);
+                pass_on(&others[at], &mut self.notes[at]);
             }
         }
         self.len = self.len.max(other.len);
@@ -295,7 +295,7 @@ fn same<T>(one: &Note<T>, other: &Note<T>)
 {}
 
 // Lets a note know what another note of its cell knows. A note has no bytes, so there is nothing to run.
-fn teach<T>(from: &Note<T>, to: &mut Note<T>)
+fn pass_on<T>(from: &Note<T>, to: &mut Note<T>)
     requires { from.now.cell ≡ to.old.cell }
     ensures { (to.new.cell ≡ to.old.cell) × (to.new.known ≡ from.now.known) }
 {}

@@ -1,4 +1,4 @@
-use Rattle.txc_stream.proofs.Prefix.{prefixes_agree, shorter_begins, longer_is}
+use Rattle.txc_stream.proofs.Offered.{prefixes_agree, shorter_begins, longer_is}
 use Rattle.txc_stream.proofs.laws.longer_of_two.Goals as goal
 
 pub returns-clause-agree : goal.returns-clause-agree

@@ -1,4 +1,4 @@
-use Rattle.txc_stream.proofs.Prefix.{prefix_length, prefix_whole}
+use Rattle.txc_stream.proofs.Offered.{prefix_length, prefix_whole}
 use Rattle.txc_stream.proofs.laws.prefix_length.Goals as goal
 
 pub returns-clause-at_most : goal.returns-clause-at_most

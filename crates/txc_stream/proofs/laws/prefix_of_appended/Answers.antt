@@ -1,4 +1,4 @@
-use Rattle.txc_stream.proofs.Prefix.{prefix_append, push_get}
+use Rattle.txc_stream.proofs.Offered.{prefix_append, push_get}
 use Rattle.txc_stream.proofs.laws.prefix_of_appended.Goals as goal
 
 pub returns-clause-more : goal.returns-clause-more

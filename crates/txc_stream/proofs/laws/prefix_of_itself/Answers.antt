@@ -1,4 +1,4 @@
-use Rattle.txc_stream.proofs.Prefix.{prefix_self}
+use Rattle.txc_stream.proofs.Offered.{prefix_self}
 use Rattle.txc_stream.proofs.laws.prefix_of_itself.Goals as goal
 
 pub returns : goal.returns

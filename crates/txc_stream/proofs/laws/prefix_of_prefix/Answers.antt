@@ -1,4 +1,4 @@
-use Rattle.txc_stream.proofs.Prefix.{prefix_trans}
+use Rattle.txc_stream.proofs.Offered.{prefix_trans}
 use Rattle.txc_stream.proofs.laws.prefix_of_prefix.Goals as goal
 
 pub returns : goal.returns

@@ -1,4 +1,4 @@
-use Rattle.txc_stream.proofs.Prefix.{prefix_get, prefix_place, prefix_take}
+use Rattle.txc_stream.proofs.Offered.{prefix_get, prefix_place, prefix_take}
 use Rattle.txc_stream.proofs.laws.prefix_places.Goals as goal
 
 pub returns-clause-stands : goal.returns-clause-stands

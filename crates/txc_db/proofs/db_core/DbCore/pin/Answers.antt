@@ -1,6 +1,6 @@
 use Rattle.std.proofs.Common.{◌≡◌, ◌+◌, List, [], ◌∷◌, ◌++◌, ℕ, length, ap, sym, subst, ◌∙◌}
 use mathlib.Core.List.{IsPrefix}
-use Rattle.txc_stream.proofs.Prefix.{prefix_push}
+use Rattle.txc_stream.proofs.Offered.{prefix_push}
 use Rattle.txc_rows.specs.RowTags.{tags_between}
 use Rattle.txc_db.specs.Facts.{EventValue}
 use Rattle.txc_db.specs.Seen.{FrontValue}

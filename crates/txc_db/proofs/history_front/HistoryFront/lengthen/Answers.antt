@@ -1,5 +1,5 @@
 use Rattle.std.proofs.Common.{◌∙◌}
-use Rattle.txc_stream.proofs.Prefix.{longer_is}
+use Rattle.txc_stream.proofs.Offered.{longer_is}
 use Rattle.txc_db.proofs.Tagged.{front_is}
 use Rattle.txc_db.proofs.history_front.HistoryFront.lengthen.Goals as goal
 

@@ -1,6 +1,6 @@
 use Rattle.std.proofs.Common.{◌≡◌, ◌∙◌, ap, sym, subst}
 use mathlib.Core.List.{IsPrefix}
-use Rattle.txc_stream.proofs.Prefix.{prefix_self}
+use Rattle.txc_stream.proofs.Offered.{prefix_self}
 use Rattle.txc_db.specs.Seen.{FrontValue}
 use Rattle.txc_db.specs.History.{History}
 use Rattle.txc_db.proofs.locked.Locked.new.Goals as goal

@@ -16,8 +16,8 @@ same-requires g c =
     let below : c.loop-at.at < length ms = omega (arith, c.loop-at-test.true, c.other.invariant.within) in
     sym (read_alike (λ (n : Note g.row.T.Denot). n.cell) (λ (n : Note g.row.T.Denot). n.cell) ms ns c.loop-at.at _ _ below rows c.index-then-at-self.ensures c.index.ensures)
 
-pub teach-requires : goal.teach-requires
-teach-requires g c =
+pub pass_on-requires : goal.pass_on-requires
+pass_on-requires g c =
     let ns = c.loop-at.self-inside.notes.items in
     let ms = c.other.inside.notes.items in
     let rows : cells_of ms ≡ cells_of ns = ap (λ s. s.row) c.other.view_is ∙ (c.requires ∙ (sym (ap (λ s. s.row) c.self.view_is) ∙ sym c.loop-at.invariant.cells)) in
@@ -53,10 +53,10 @@ loop-at-preserved g c =
           let b = w.index-else-at-self.result.now in
           let row = map_read (λ (n : Note g.row.T.Denot). n.cell) ns i a 0 mine' w.index_mut.ensures.value in
           rw w.self-inside-is record {
-            cells = shows_row ns i w.teach.new.to (w.teach.ensures.0 ∙ sym row) ∙ inv.cells;
+            cells = shows_row ns i w.pass_on.new.to (w.pass_on.ensures.0 ∙ sym row) ∙ inv.cells;
             same_len = inv.same_len;
-            taken = takes_more ns ms i w.teach.new.to b mine' other' w.index-else-at-self.ensures w.teach.ensures.1 inv.taken;
-            kept = takes_kept ns c.loop-at.self-inside.len i w.teach.new.to w.if-at-self.false ∙ inv.kept;
+            taken = takes_more ns ms i w.pass_on.new.to b mine' other' w.index-else-at-self.ensures w.pass_on.ensures.1 inv.taken;
+            kept = takes_kept ns c.loop-at.self-inside.len i w.pass_on.new.to w.if-at-self.false ∙ inv.kept;
           }
     ]
 

@@ -1,4 +1,4 @@
--- Prefixes of lists, once for all crates above. `src/laws.rt` states them as contracts.
+-- What crates above may use of the proofs: prefixes of lists. `src/laws.rt` states them as contracts.
 use Rattle.std.proofs.Common.{◌≡◌, ℕ, zero, suc, ◌<◌, ◌≤◌, ◌⊎◌, inl, inr, List, [], ◌∷◌, ◌++◌, length, take, Some, slice_get, refl, ap, sym, ◌∙◌, arith, append_assoc, length-append, subst}
 use Rattle.std.proofs.lemmas.List.{take-append-le}
 use mathlib.Core.List.{IsPrefix}

@@ -26,13 +26,13 @@ use Rattle.std.proofs.raw_atomic.Walks.{proved_at, leaves}
 use Rattle.once_cell.proofs.Notes as notes
 use Rattle.once_cell.proofs.Notes.{Note}
 use Rattle.txc_stream.proofs.Shared.{note_reads}
-use Rattle.txc_stream.specs.contracts.row.teach.{ended, clauses}
-use Rattle.txc_stream.specs.contracts.row.teach.Key.{name as #self}
-use Rattle.txc_stream.proofs.row.teach.Statement.{statement}
-use Rattle.txc_stream.proofs.row.teach.Code as code
+use Rattle.txc_stream.specs.contracts.row.pass_on.{ended, clauses}
+use Rattle.txc_stream.specs.contracts.row.pass_on.Key.{name as #self}
+use Rattle.txc_stream.proofs.row.pass_on.Statement.{statement}
+use Rattle.txc_stream.proofs.row.pass_on.Code as code
 
-pub teach_spec : {M : Type 1} → statement M
-teach_spec 𝓤 𝓛 𝓜 𝓡 wired T L =
+pub pass_on_spec : {M : Type 1} → statement M
+pass_on_spec 𝓤 𝓛 𝓜 𝓡 wired T L =
     let H = 𝓛.H in let 𝓣 = tables 𝓤 H 𝓜 𝓡 𝓡.env in let R : RattleType = param 0 T in let LR = param_laws 0 T L in let En = ended T in let c = clauses T 𝓛 𝓜.mem 𝓡.returns in
     let inst = layouts (a_type ∷ []) (T, tt) in let fn = inst_fn inst code.function in
     let hs : Stays En.signature.params En.kept = (stay_dropped (RefOf (0 ∷ []) tt (plain (λ _. Note 𝓛 R)) (λ _. tt)) yes, (stay_ref (1 ∷ []) tt (plain (λ _. Note 𝓛 R)), tt)) in
@@ -43,7 +43,7 @@ teach_spec 𝓤 𝓛 𝓜 𝓡 wired T L =
     let Shuts = notes.Shuts 𝓛 R κ' q' nb₀ no₀ ν₀ in let n : (Note 𝓛 R).Denot = record { marker = m.now.marker; cell = γ; known = x.known } in let Told : Type 0 = (γ ≡ γ) × (x.known ≡ x.known) in
     qed 𝓛 (((‵ (flft κ q) ⊛ ‵ (flft κ' q') ⊛ ‵ (flft μ r) ⊛ ‵ ftrue) ⊛ ‵ (owns (types_at En.signature.params κs) z.0.3 z.0.4)) ∷ raw (fact 𝓤 (μ ⊑ T.lives)) ∷ raw (fact 𝓤 (x.cell ≡ γ)) ∷ []) ∵
     move ! (2 ∷ []) $ heard ! (x.cell ≡ γ) (λ same. keep ! (0 ∷ []) $ split ! $ split3 ! $ move ! (2 ∷ []) $ split ! $ move ! (4 ∷ []) $ fsplit3 ! $ move ! (1 ∷ []) $ fsplit ! $ keep ! (1 ∷ 2 ∷ 6 ∷ 7 ∷ 4 ∷ []) $
-    -- [the note to teach; the other; κ; κ'; μ]
+    -- [the note to change; the other; κ; κ'; μ]
     suffices ! (Run (vptr b o ∷ vptr nb₀ no₀ ∷ [])) (subst (λ (us : List Val). ent 𝓤 (Run (vptr b o ∷ vptr nb₀ no₀ ∷ [])) (Run us)) (sym (λ i. are.0.0 i ++ (are.1.0.0 i ++ []))) (id⊢ 𝓤 (Run (vptr b o ∷ vptr nb₀ no₀ ∷ [])))) $
     enter ! 𝓣.C 𝓣.Λ fn (vptr b o ∷ vptr nb₀ no₀ ∷ []) Post $ alloc_all ! (λ l. pass_all ! refl ((tt, tt), ((tt, tt), tt)) $
     move ! (0 ∷ 3 ∷ []) $ use2 𝓛 (later (‵ (noted R γ m.now.known) ⊛ raw (all 𝓤 Shuts))) (notes.note_opens 𝓛 R κ' q' nb₀ no₀ ν₀ m.now) $ await ! tt $ split ! $ drop ! $ move ! (1 ∷ []) $ fsplit ! $ drop ! $
