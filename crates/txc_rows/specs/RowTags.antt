@@ -1,5 +1,5 @@
 -- The tags of queries and of changed rows.
-use Rattle.std.specs.Prelude.{Bool, ◌&&◌, ◌==◌, not, List, [], ◌∷◌, ◌++◌, filter}
+use Rattle.std.specs.Prelude.{Bool, not, List, [], ◌∷◌, ◌++◌, filter}
 use Rattle.std.specs.List.{list_any, flat_map}
 use Rattle.txc_tags.specs.declared.tag.Tag.{Tag}
 use Rattle.txc_tags.specs.Tags.{wildcard, id_tag, group_tag, covers, set_of}

@@ -11,6 +11,7 @@ pub const MAX_BODY_LEN: usize = 256;
 
 /// The first and the last byte that a body may hold: those that print and are no blank.
 pub const FIRST_BODY_BYTE: u8 = 0x21;
+
 pub const LAST_BODY_BYTE: u8 = 0x7e;
 
 /// Why a row cannot be made.

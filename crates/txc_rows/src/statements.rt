@@ -40,8 +40,7 @@ const READ_TABLE: &str =
     "SELECT id, group_number, body, born, died FROM version WHERE table_number = ?1 ORDER BY id, born";
 
 /// The versions of a table and id, by birth.
-const READ_ROW: &str =
-    "SELECT id, group_number, body, born, died FROM version \
+const READ_ROW: &str = "SELECT id, group_number, body, born, died FROM version \
      WHERE table_number = ?1 AND id = ?2 ORDER BY id, born";
 
 /// Makes the table in a store that has none.
