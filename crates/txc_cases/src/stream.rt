@@ -134,6 +134,16 @@ impl TwoFronts {
         show_front(&self.row, &self.other, out)
     }
 
+    fn begin(
+        &mut self,
+        alloc: Global,
+        capacity: u32,
+        out: &mut String,
+    ) -> Result<(), AllocError> {
+        *self = new_row(alloc, capacity)?;
+        show(out, &self.row.capacity())
+    }
+
     fn fill(&mut self, alloc: Global) -> Result<u64, AllocError> {
         fill(&self.row, &mut self.one, &mut self.other, alloc)
     }
@@ -149,10 +159,7 @@ impl Player for TwoFronts {
             "one" => self.answer_by_one(alloc, call, out),
             "other" => self.answer_by_other(alloc, call, out),
             "fill" => show(out, &self.fill(alloc)?),
-            _ => {
-                *self = new_row(alloc, number(call, 1))?;
-                show(out, &self.row.capacity())
-            }
+            _ => self.begin(alloc, number(call, 1), out),
         }
     }
 }

@@ -183,6 +183,20 @@ fn grown(
     Ok(copy)
 }
 
+/// The set that is made by a call.
+fn make(
+    alloc: Global,
+    set: &TagSet,
+    made: &str,
+    other: &TagSet,
+) -> Result<TagSet, AllocError> {
+    match made {
+        "add" => grown(alloc, set, false, other),
+        "join" => grown(alloc, set, true, other),
+        _ => other.copy(alloc),
+    }
+}
+
 fn covers_first(set: &TagSet, other: &TagSet) -> bool {
     match other.tags().first() {
         Some(tag) => set.covers(*tag),
@@ -207,11 +221,7 @@ impl Player for TagSet {
             "covers" => show(out, &covers_first(self, &other)),
             "matches" => show(out, &self.matches(&other)),
             made => {
-                *self = match made {
-                    "add" => grown(alloc, self, false, &other)?,
-                    "join" => grown(alloc, self, true, &other)?,
-                    _ => other,
-                };
+                *self = make(alloc, self, made, &other)?;
                 show(out, &self.write(alloc)?)
             }
         }
