@@ -21,11 +21,7 @@ fn show_reply(out: &mut String, reply: Reply<Hit<'_>>) -> Result<(), AllocError>
 }
 
 /// Writes the reply and why it is one.
-fn show_refused(
-    out: &mut String,
-    refusal: Refusal,
-    why: &impl Display,
-) -> Result<(), AllocError> {
+fn show_refused(out: &mut String, refusal: Refusal, why: &impl Display) -> Result<(), AllocError> {
     let reply = Reply::<Hit<'_>>::Refused(refusal);
     write!(out, "{reply}: {why}")
 }
@@ -122,21 +118,11 @@ fn show_found(out: &mut String, found: Reply<Shown>) -> Result<(), AllocError> {
     write!(out, "{reach} {tags} {len} bytes")
 }
 
-fn find(
-    node: &NodeCore,
-    alloc: Global,
-    call: &str,
-    out: &mut String,
-) -> Result<(), AllocError> {
+fn find(node: &NodeCore, alloc: Global, call: &str, out: &mut String) -> Result<(), AllocError> {
     show_found(out, found(node, alloc, call)?)
 }
 
-fn count(
-    node: &NodeCore,
-    alloc: Global,
-    call: &str,
-    out: &mut String,
-) -> Result<(), AllocError> {
+fn count(node: &NodeCore, alloc: Global, call: &str, out: &mut String) -> Result<(), AllocError> {
     show_counts(out, &found(node, alloc, call)?)
 }
 
@@ -155,7 +141,10 @@ fn show_counts(out: &mut String, reply: &Reply<Shown>) -> Result<(), AllocError>
     });
     let (hits, lookups) = (counts.of(1).hits, counts.of(1).lookups);
     let (events, closed, swept) = (counts.events(), counts.closed(), counts.swept());
-    write!(out, "{hits} of {lookups} hit, {events} events closed {closed}, {swept} swept")
+    write!(
+        out,
+        "{hits} of {lookups} hit, {events} events closed {closed}, {swept} swept"
+    )
 }
 
 fn show_len(out: &mut String, node: &NodeCore) -> Result<(), AllocError> {

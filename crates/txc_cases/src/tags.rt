@@ -170,12 +170,7 @@ fn grow(set: &mut TagSet, joins: bool, other: &TagSet) -> Result<(), AllocError>
 
 /// The set once it has grown. It grows in a copy, which has no room for more tags; where memory is refused
 /// and the copy is as it was, it grows once more.
-fn grown(
-    alloc: Global,
-    set: &TagSet,
-    joins: bool,
-    other: &TagSet,
-) -> Result<TagSet, AllocError> {
+fn grown(alloc: Global, set: &TagSet, joins: bool, other: &TagSet) -> Result<TagSet, AllocError> {
     let mut copy = set.copy(alloc)?;
     if grow(&mut copy, joins, other).is_err() && copy.tags() == set.tags() {
         grow(&mut copy, joins, other)?;
@@ -184,12 +179,7 @@ fn grown(
 }
 
 /// The set that is made by a call.
-fn make(
-    alloc: Global,
-    set: &TagSet,
-    made: &str,
-    other: &TagSet,
-) -> Result<TagSet, AllocError> {
+fn make(alloc: Global, set: &TagSet, made: &str, other: &TagSet) -> Result<TagSet, AllocError> {
     match made {
         "add" => grown(alloc, set, false, other),
         "join" => grown(alloc, set, true, other),
