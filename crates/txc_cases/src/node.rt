@@ -16,12 +16,12 @@ fn key(call: &str) -> Key {
     }
 }
 
+fn show_reply(out: &mut String, reply: Reply<Hit<'_>>) -> Result<(), AllocError> {
+    show(out, &reply)
+}
+
 /// Writes the reply and why it is one.
-fn show_refused(
-    out: &mut String,
-    refusal: Refusal,
-    why: &impl Display,
-) -> Result<(), AllocError> {
+fn show_refused(out: &mut String, refusal: Refusal, why: &impl Display) -> Result<(), AllocError> {
     let reply = Reply::<Hit<'_>>::Refused(refusal);
     write!(out, "{reply}: {why}")
 }
@@ -58,7 +58,7 @@ fn insert_entry(
 ) -> Result<(), AllocError> {
     let before = state(alloc, node, &entry)?;
     match node.insert(entry) {
-        Ok(inserted) => show(out, &Reply::<Hit<'_>>::Inserted(inserted)),
+        Ok(inserted) => show_reply(out, Reply::Inserted(inserted)),
         Err(refused) => insert_again(node, alloc, refused.value, before.as_str(), out),
     }
 }
@@ -70,17 +70,20 @@ fn insert_again(
     before: &str,
     out: &mut String,
 ) -> Result<(), AllocError> {
-    let is_same = state(alloc, node, &entry)?.as_str() == before;
+    let after = state(alloc, node, &entry)?;
+    if after.as_str() != before {
+        return show(out, &"changed where memory was refused");
+    }
     match node.insert(entry) {
-        Ok(inserted) if is_same => show(out, &Reply::<Hit<'_>>::Inserted(inserted)),
-        _ => show(out, &"changed where memory was refused"),
+        Ok(inserted) => show_reply(out, Reply::Inserted(inserted)),
+        Err(_) => Err(AllocError),
     }
 }
 
 fn lookup(node: &mut NodeCore, call: &str, out: &mut String) -> Result<(), AllocError> {
     match node.lookup(&key(call), stamp(call, 2), stamp(call, 3)) {
-        Ok(Some(hit)) => show(out, &Reply::Hit(hit)),
-        Ok(None) => show(out, &Reply::<Hit<'_>>::Miss),
+        Ok(Some(hit)) => show_reply(out, Reply::Hit(hit)),
+        Ok(None) => show_reply(out, Reply::Miss),
         Err(error) => show_refused(out, Refusal::EmptyRange, &error),
     }
 }
@@ -93,7 +96,7 @@ fn event(
 ) -> Result<(), AllocError> {
     let tags = set_of(alloc, word(call, 2))?;
     match node.event(stamp(call, 1), tags) {
-        Ok(count) => show(out, &Reply::<Hit<'_>>::Closed(count)),
+        Ok(count) => show_reply(out, Reply::Closed(count)),
         Err(error) => show_refused(out, Refusal::OutOfOrder(error.processed), &error),
     }
 }
@@ -115,6 +118,14 @@ fn show_found(out: &mut String, found: Reply<Shown>) -> Result<(), AllocError> {
     write!(out, "{reach} {tags} {len} bytes")
 }
 
+fn find(node: &NodeCore, alloc: Global, call: &str, out: &mut String) -> Result<(), AllocError> {
+    show_found(out, found(node, alloc, call)?)
+}
+
+fn count(node: &NodeCore, alloc: Global, call: &str, out: &mut String) -> Result<(), AllocError> {
+    show_counts(out, &found(node, alloc, call)?)
+}
+
 /// Counts a reply about function 1, an event that closed two entries, and a sweep of three.
 fn show_counts(out: &mut String, reply: &Reply<Shown>) -> Result<(), AllocError> {
     let mut counts = Counts::new();
@@ -128,9 +139,12 @@ fn show_counts(out: &mut String, reply: &Reply<Shown>) -> Result<(), AllocError>
         },
         reply: Reply::Swept(3),
     });
-    let function = counts.of(1);
+    let (hits, lookups) = (counts.of(1).hits, counts.of(1).lookups);
     let (events, closed, swept) = (counts.events(), counts.closed(), counts.swept());
-    write!(out, "{function:?}, {events} events, {closed} closed, {swept} swept")
+    write!(
+        out,
+        "{hits} of {lookups} hit, {events} events closed {closed}, {swept} swept"
+    )
 }
 
 fn show_len(out: &mut String, node: &NodeCore) -> Result<(), AllocError> {
@@ -138,15 +152,22 @@ fn show_len(out: &mut String, node: &NodeCore) -> Result<(), AllocError> {
     write!(out, "{len} up to {processed}, {is_empty}")
 }
 
-/// An empty node of that capacity, which keeps so many events.
-fn new_node(alloc: Global, capacity: u8, recent: u8) -> Result<NodeCore, AllocError> {
-    NodeCore::new(alloc, capacity.max(1) as usize, recent.max(1) as usize)
+/// Begins anew with an empty node for so many entries, which keeps so many events.
+fn begin(
+    node: &mut NodeCore,
+    alloc: Global,
+    call: &str,
+    out: &mut String,
+) -> Result<(), AllocError> {
+    let (capacity, recent) = (byte(call, 1).max(1), byte(call, 2).max(1));
+    *node = NodeCore::new(alloc, capacity as usize, recent as usize)?;
+    show_len(out, node)
 }
 
 /// The player of a node.
 impl Player for NodeCore {
     fn new(alloc: Global) -> Result<NodeCore, AllocError> {
-        new_node(alloc, 1, 1)
+        NodeCore::new(alloc, 1, 1)
     }
 
     fn answer(&mut self, alloc: Global, call: &str, out: &mut String) -> Result<(), AllocError> {
@@ -154,14 +175,11 @@ impl Player for NodeCore {
             "insert" => insert(self, alloc, call, out),
             "lookup" => lookup(self, call, out),
             "event" => event(self, alloc, call, out),
-            "sweep" => show(out, &Reply::<Hit<'_>>::Swept(self.sweep(stamp(call, 1)))),
-            "find" => show_found(out, found(self, alloc, call)?),
-            "count" => show_counts(out, &found(self, alloc, call)?),
+            "sweep" => show_reply(out, Reply::Swept(self.sweep(stamp(call, 1)))),
+            "find" => find(self, alloc, call, out),
+            "count" => count(self, alloc, call, out),
             "len" => show_len(out, self),
-            _ => {
-                *self = new_node(alloc, byte(call, 1), byte(call, 2))?;
-                show_len(out, self)
-            }
+            _ => begin(self, alloc, call, out),
         }
     }
 }
@@ -250,12 +268,10 @@ sweep 0 = swept 0
 sweep 3 = swept 2
 len = 1 up to 0, false
 find f1(1) 0 9 = none
+count f1(1) 0 9 = 0 of 1 hit, 1 events closed 2, 3 swept
+count f1(2) 0 9 = 1 of 1 hit, 1 events closed 2, 3 swept
 lookup f1(2) 0 9 = hit [0,4) closed 0b
 sweep 4 = swept 1
 len = 0 up to 0, true
-count f1(1) 0 9 = FunctionCounts { lookups: 1, hits: 0, stored: 0, kept: 0, evicted: 0 }, \
-    1 events, 2 closed, 3 swept
 insert f1(1) 0 2 closed t1:id=1 1 10 = stored [0,3) closed
-count f1(1) 0 9 = FunctionCounts { lookups: 1, hits: 1, stored: 0, kept: 0, evicted: 0 }, \
-    1 events, 2 closed, 3 swept
 ";

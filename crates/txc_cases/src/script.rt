@@ -30,16 +30,23 @@ fn played<P: Player + Drop>(alloc: Global, script: &str) -> Result<String, Alloc
     let mut player = P::new(alloc)?;
     let mut out = String::new(alloc);
     for line in script.lines() {
-        match line.split_once(" = ") {
-            Some((call, _)) => {
-                write!(out, "{call} = ")?;
-                player.answer(alloc, call, &mut out)?;
-            }
-            None => out.push_str(line)?,
-        }
+        answer_line(&mut player, alloc, line, &mut out)?;
         out.push('\n')?;
     }
     Ok(out)
+}
+
+fn answer_line<P: Player>(
+    player: &mut P,
+    alloc: Global,
+    line: &str,
+    out: &mut String,
+) -> Result<(), AllocError> {
+    let Some((call, _)) = line.split_once(" = ") else {
+        return out.push_str(line);
+    };
+    write!(out, "{call} = ")?;
+    player.answer(alloc, call, out)
 }
 
 /// The word of the call at that place, counted from 0; empty if there are fewer.

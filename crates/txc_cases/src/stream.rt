@@ -67,11 +67,7 @@ fn answer(
 }
 
 /// Writes how many numbers the front shows, and the first and the last of them.
-fn show_front(
-    row: &EventRow<u64>,
-    front: &Front<u64>,
-    out: &mut String,
-) -> Result<(), AllocError>
+fn show_front(row: &EventRow<u64>, front: &Front<u64>, out: &mut String) -> Result<(), AllocError>
     requires { front.now.row ≡ row.now }
 {
     if front.is_empty() {
@@ -123,15 +119,30 @@ fn new_row(alloc: Global, capacity: u32) -> Result<TwoFronts, AllocError> {
 }
 
 impl TwoFronts {
-    fn answer_by_one(&mut self, alloc: Global, call: &str, out: &mut String) -> Result<(), AllocError> {
+    fn answer_by_one(
+        &mut self,
+        alloc: Global,
+        call: &str,
+        out: &mut String,
+    ) -> Result<(), AllocError> {
         self.row.agree(&self.one, &self.other);
         answer(&self.row, &mut self.one, &self.other, alloc, call, out)?;
         show_front(&self.row, &self.one, out)
     }
 
-    fn answer_by_other(&mut self, alloc: Global, call: &str, out: &mut String) -> Result<(), AllocError> {
+    fn answer_by_other(
+        &mut self,
+        alloc: Global,
+        call: &str,
+        out: &mut String,
+    ) -> Result<(), AllocError> {
         answer(&self.row, &mut self.other, &self.one, alloc, call, out)?;
         show_front(&self.row, &self.other, out)
+    }
+
+    fn begin(&mut self, alloc: Global, capacity: u32, out: &mut String) -> Result<(), AllocError> {
+        *self = new_row(alloc, capacity)?;
+        show(out, &self.row.capacity())
     }
 
     fn fill(&mut self, alloc: Global) -> Result<u64, AllocError> {
@@ -149,10 +160,7 @@ impl Player for TwoFronts {
             "one" => self.answer_by_one(alloc, call, out),
             "other" => self.answer_by_other(alloc, call, out),
             "fill" => show(out, &self.fill(alloc)?),
-            _ => {
-                *self = new_row(alloc, number(call, 1))?;
-                show(out, &self.row.capacity())
-            }
+            _ => self.begin(alloc, number(call, 1), out),
         }
     }
 }

@@ -170,17 +170,21 @@ fn grow(set: &mut TagSet, joins: bool, other: &TagSet) -> Result<(), AllocError>
 
 /// The set once it has grown. It grows in a copy, which has no room for more tags; where memory is refused
 /// and the copy is as it was, it grows once more.
-fn grown(
-    alloc: Global,
-    set: &TagSet,
-    joins: bool,
-    other: &TagSet,
-) -> Result<TagSet, AllocError> {
+fn grown(alloc: Global, set: &TagSet, joins: bool, other: &TagSet) -> Result<TagSet, AllocError> {
     let mut copy = set.copy(alloc)?;
     if grow(&mut copy, joins, other).is_err() && copy.tags() == set.tags() {
         grow(&mut copy, joins, other)?;
     }
     Ok(copy)
+}
+
+/// The set that is made by a call.
+fn make(alloc: Global, set: &TagSet, made: &str, other: &TagSet) -> Result<TagSet, AllocError> {
+    match made {
+        "add" => grown(alloc, set, false, other),
+        "join" => grown(alloc, set, true, other),
+        _ => other.copy(alloc),
+    }
 }
 
 fn covers_first(set: &TagSet, other: &TagSet) -> bool {
@@ -207,11 +211,7 @@ impl Player for TagSet {
             "covers" => show(out, &covers_first(self, &other)),
             "matches" => show(out, &self.matches(&other)),
             made => {
-                *self = match made {
-                    "add" => grown(alloc, self, false, &other)?,
-                    "join" => grown(alloc, self, true, &other)?,
-                    _ => other,
-                };
+                *self = make(alloc, self, made, &other)?;
                 show(out, &self.write(alloc)?)
             }
         }
