@@ -68,14 +68,23 @@ pub(crate) fn body(alloc: Global, word: &str) -> Result<Vec<u8>, AllocError> {
     Ok(body)
 }
 
-fn change(alloc: Global, kind: &str, row: (Table, u32, u32), word: &str) -> Result<Change, AllocError> {
+/// A put of the row, or else its removal.
+fn change(
+    alloc: Global,
+    kind: &str,
+    row: (Table, u32, u32),
+    word: &str,
+) -> Result<Change, AllocError> {
     let (table, id, group) = row;
-    if kind == "put" && let Ok(row) = Row::new(table, id, group, body(alloc, word)?) {
+    if kind == "put"
+        && let Ok(row) = Row::new(table, id, group, body(alloc, word)?)
+    {
         return Ok(Change::Put(row));
     }
     Ok(Change::Remove(table, id))
 }
 
+/// Pushes the change that the text says, of each id of the range.
 fn push_changes(alloc: Global, changes: &mut Vec<Change>, text: &str) -> Result<(), AllocError> {
     let mut words = text.split_whitespace();
     let kind = words.next().unwrap_or("");
@@ -160,7 +169,9 @@ fn is_left<P: Player>(
 /// What is wanted, whole, or its front and its back with two dots between them.
 fn is_wanted(answer: &str, wanted: &str) -> bool {
     match wanted.split_once("..") {
-        Some((front, back)) => answer.starts_with(front) && answer.ends_with(back) && !answer.contains('!'),
+        Some((front, back)) => answer.starts_with(front)
+            && answer.ends_with(back)
+            && !answer.contains('!'),
         None => answer == wanted,
     }
 }
@@ -202,6 +213,11 @@ pub(crate) fn is_played(
         at = at.saturating_add(line.len()).saturating_add(1);
     }
     true
+}
+
+/// So that a word that is spelled wrong is no command without an answer.
+pub(crate) fn say_unknown(answer: &mut String) {
+    let _ = answer.push_str("no such command");
 }
 
 pub(crate) fn say_number(answer: &mut String, number: usize) {

@@ -32,7 +32,10 @@ fn errors_say_what_was_refused(rt: HostRuntime) -> Result<(), Fail> {
     let failure = Error::SqliteFailure(ErrorCode::OutOfMemory);
     say(&mut text, &StoreError::Store(failure));
     say(&mut text, &StoreError::Memory);
-    say(&mut text, &ValidityError::OutsideKept(Stamp::ZERO, Stamp::ZERO));
+    say(
+        &mut text,
+        &ValidityError::OutsideKept(Stamp::ZERO, Stamp::ZERO),
+    );
     say(&mut text, &ValidityError::Memory);
     for fault in [RunFault::Read, RunFault::Write, RunFault::Memory] {
         say(&mut text, &fault);

@@ -1,5 +1,7 @@
 //! Stores of a few rows: what is written, what is deleted, and what is found after it.
-use crate::common::{Obeys, Player, body, changes, is_played, query, room, say_number, say_row, stamp};
+use crate::common::{
+    Obeys, Player, body, changes, is_played, query, room, say_number, say_row, say_unknown, stamp,
+};
 use std::alloc::{AllocError, Global};
 use std::str::SplitWhitespace;
 use std::test::Fail;
@@ -105,7 +107,7 @@ impl Obeys for VersionRows {
                     say_refusal(answer, StoreError::Memory);
                 }
             }
-            _ => {}
+            _ => say_unknown(answer),
         }
     }
 }
@@ -203,11 +205,16 @@ fn opened(alloc: Global) -> Result<VersionRows, StoreError> {
 }
 
 #[test]
-fn stores_follow_writes_and_purges_and_refused_ones_leave_them(rt: HostRuntime) -> Result<(), Fail> {
+fn stores_follow_writes_and_purges_and_refused_ones_leave_them(
+    rt: HostRuntime,
+) -> Result<(), Fail> {
     let mut answer = room(rt.alloc())?;
     for script in [FOLLOWING, REFUSED, STOPPED, MANY, BODIES] {
         let mut rows = opened(rt.alloc())?;
-        assert!(rt; is_played(&mut rows, rt.alloc(), "", script, &mut answer), "{answer}");
+        assert!(rt;
+            is_played(&mut rows, rt.alloc(), "", script, &mut answer),
+            "{answer}"
+        );
     }
     Ok(())
 }

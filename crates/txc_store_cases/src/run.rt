@@ -86,7 +86,12 @@ struct Case<'a> {
     end: &'a str,
 }
 
-fn whole_case<'a>(settings: Settings, script: &'a [u8], replies: &'a [u8], end: &'a str) -> Case<'a> {
+fn whole_case<'a>(
+    settings: Settings,
+    script: &'a [u8],
+    replies: &'a [u8],
+    end: &'a str,
+) -> Case<'a> {
     Case {
         settings,
         script,
@@ -147,7 +152,10 @@ fn without_line(script: &[u8], reply: usize) -> (&[u8], &[u8]) {
         let after = at.saturating_add(line.len());
         if line != b"\n".as_slice() && line.first() != Some(&b'#') {
             if replies == reply {
-                return (script.get(..at).unwrap_or(b""), script.get(after..).unwrap_or(b""));
+                return (
+                    script.get(..at).unwrap_or(b""),
+                    script.get(after..).unwrap_or(b""),
+                );
             }
             replies = replies.saturating_add(1);
         }
@@ -163,9 +171,13 @@ fn is_left(alloc: Global, case: Case, written: &[u8], end: &str) -> bool {
         return true;
     }
     if end == "memory" {
-        return case.replies.starts_with(written) && (written.is_empty() || written.ends_with(b"\n"));
+        return case.replies.starts_with(written)
+            && (written.is_empty() || written.ends_with(b"\n"));
     }
-    let Some(at) = written.windows(NO_MEMORY.len()).position(|bytes| bytes == NO_MEMORY) else {
+    let Some(at) = written
+        .windows(NO_MEMORY.len())
+        .position(|bytes| bytes == NO_MEMORY)
+    else {
         return false;
     };
     let front = written.get(..at).unwrap_or(b"");
@@ -183,7 +195,11 @@ fn is_given(alloc: Global, case: Case) -> Option<bool> {
     if written.as_slice() == case.replies && end == case.end {
         return Some(true);
     }
-    if is_left(alloc, case, &written, end) { Some(false) } else { None }
+    if is_left(alloc, case, &written, end) {
+        Some(false)
+    } else {
+        None
+    }
 }
 
 /// A run, once more where it was refused memory; the name, where it does not give what is wanted.
@@ -198,7 +214,11 @@ fn play(alloc: Global, case: Case, name: &'static str) -> Result<(), &'static st
 fn play_rows(alloc: Global) -> Result<(), &'static str> {
     for (name, capacity, recent, script, replies, end) in &ROWS {
         if let Some(settings) = Settings::new(*capacity, *recent) {
-            play(alloc, whole_case(settings, script.as_bytes(), replies.as_bytes(), end), name)?;
+            play(
+                alloc,
+                whole_case(settings, script.as_bytes(), replies.as_bytes(), end),
+                name,
+            )?;
         }
     }
     Ok(())
@@ -211,7 +231,16 @@ fn status_of(is_refused: bool) -> &'static str {
 fn play_examples(alloc: Global) -> Result<(), &'static str> {
     for (name, script, replies, exit) in &EXAMPLES {
         let end = status_of(*exit != 0);
-        play(alloc, whole_case(Settings::DEFAULT, script.as_bytes(), replies.as_bytes(), end), name)?;
+        play(
+            alloc,
+            whole_case(
+                Settings::DEFAULT,
+                script.as_bytes(),
+                replies.as_bytes(),
+                end,
+            ),
+            name,
+        )?;
     }
     Ok(())
 }
@@ -231,13 +260,22 @@ fn play_long(alloc: Global) -> Result<(), &'static str> {
             Ok(script) => script,
             Err(_) => long_script(alloc, start, *byte, *count).or(Err("no room"))?,
         };
-        play(alloc, whole_case(Settings::DEFAULT, &script, replies.as_bytes(), end), start)?;
+        play(
+            alloc,
+            whole_case(Settings::DEFAULT, &script, replies.as_bytes(), end),
+            start,
+        )?;
     }
     Ok(())
 }
 
 /// The front of the stored script up to a length gives the replies up to another; a line that is cut is malformed.
-fn play_front(alloc: Global, len: usize, known: usize, cut_line: Option<usize>) -> Result<(), &'static str> {
+fn play_front(
+    alloc: Global,
+    len: usize,
+    known: usize,
+    cut_line: Option<usize>,
+) -> Result<(), &'static str> {
     let front = SCRIPT.get(..len).unwrap_or(SCRIPT);
     let mut replies = room(alloc).or(Err("no room"))?;
     let _ = replies.push_str(REPLIES.get(..known).unwrap_or(""));
@@ -254,7 +292,15 @@ fn play_broken(alloc: Global, len: usize, known: usize) -> Result<(), &'static s
     let replies = REPLIES.get(..known).unwrap_or("").as_bytes();
     let case = whole_case(Settings::DEFAULT, SCRIPT.as_bytes(), replies, "read fault");
     let read_fails = len.saturating_add(1);
-    play(alloc, Case { read_fails, reads: 1, ..case }, "a reader that fails")
+    play(
+        alloc,
+        Case {
+            read_fails,
+            reads: 1,
+            ..case
+        },
+        "a reader that fails",
+    )
 }
 
 /// The stored script is cut after each byte, by its end and by a reader that fails.
@@ -283,11 +329,20 @@ fn play_cuts(alloc: Global) -> Result<(), &'static str> {
 /// Readers and writers of one byte at a time, and a writer that fails at each byte.
 fn play_slow(alloc: Global) -> Result<(), &'static str> {
     let (script, replies) = (SCRIPT.as_bytes(), REPLIES.as_bytes());
-    let slow = Case { reads: 1, writes: 1, ..whole_case(Settings::DEFAULT, script, replies, "0") };
+    let slow = Case {
+        reads: 1,
+        writes: 1,
+        ..whole_case(Settings::DEFAULT, script, replies, "0")
+    };
     play(alloc, slow, "one byte at a time")?;
     for (write_fails, len) in (1usize..).zip(0..replies.len()) {
         let replies = replies.get(..len).unwrap_or(replies);
-        let fails = Case { write_fails, replies, end: "write fault", ..slow };
+        let fails = Case {
+            write_fails,
+            replies,
+            end: "write fault",
+            ..slow
+        };
         play(alloc, fails, "a writer that fails")?;
     }
     Ok(())
@@ -336,7 +391,16 @@ fn a_reader_that_never_ends(rt: HostRuntime) {
             is_endless: true,
             reads: 0,
         };
-        let ended = run(rt.alloc(), Mode::Node, Settings::DEFAULT, &mut reader, &mut io::sink());
-        assert!(rt; end_of(ended) == "read fault" && reader.reads as u64 == MOST_READS, "{line}");
+        let ended = run(
+            rt.alloc(),
+            Mode::Node,
+            Settings::DEFAULT,
+            &mut reader,
+            &mut io::sink(),
+        );
+        assert!(rt;
+            end_of(ended) == "read fault" && reader.reads as u64 == MOST_READS,
+            "{line}"
+        );
     }
 }

@@ -3,7 +3,7 @@ use super::calls::{
     Calls, Work, obey_calls, say_done, say_found, say_pinned, say_refusal, say_stamp,
 };
 use super::scripts::{ALONE, Script};
-use crate::common::{Obeys, Player, is_played, room, say_number};
+use crate::common::{Obeys, Player, is_played, room, say_number, say_unknown};
 use std::alloc::Global;
 use std::str::SplitWhitespace;
 use std::test::Fail;
@@ -51,7 +51,7 @@ impl Calls for DbCore {
         let front = match command {
             "reader" => self.reader(alloc),
             "front" => self.front(alloc),
-            _ => return,
+            _ => return say_unknown(answer),
         };
         match front {
             Ok(front) => say_number(answer, front.len()),

@@ -15,11 +15,17 @@ pub(super) type Work = (TagSet, Vec<Change>);
 /// The calls that are made alone and under the lock. Each writes what it answers.
 pub(super) trait Calls {
     fn commit(&mut self, alloc: Global, base: Stamp, work: &Work, answer: &mut String);
+
     fn pin(&mut self, alloc: Global, now: u64, at_least: Stamp, answer: &mut String);
+
     fn hold(&mut self, alloc: Global, answer: &mut String);
+
     fn unpin(&mut self, stamp: Stamp, answer: &mut String);
+
     fn vacuum(&mut self, answer: &mut String);
+
     fn query(&mut self, alloc: Global, query: &Query, stamp: Stamp, answer: &mut String);
+
     fn events(&self) -> &EventRow<Event>;
 
     /// What only one of them has.

@@ -6,7 +6,7 @@ use super::calls::{
     Calls, Work, obey_calls, say_done, say_event, say_found, say_pinned, say_refusal, say_stamp,
 };
 use super::scripts::{LOCKED, Script};
-use crate::common::{Obeys, Player, is_played, room, say_number};
+use crate::common::{Obeys, Player, is_played, room, say_number, say_unknown};
 use std::alloc::{AllocError, Global};
 use std::marker::Brand;
 use std::str::SplitWhitespace;
@@ -37,7 +37,12 @@ impl<'a, J: Naming, R: Wait> Shared<'a, J, R> {
         is_alone: bool,
     ) -> Result<Self, AllocError> {
         let feed = database.feed(alloc)?;
-        Ok(Shared { rt, database, feed, is_alone })
+        Ok(Shared {
+            rt,
+            database,
+            feed,
+            is_alone,
+        })
     }
 
     /// A front of all that the answers and the feed have shown.
@@ -149,7 +154,7 @@ impl<J: Naming, R: Wait> Calls for Shared<'_, J, R> {
             "reader" => self.database.reader(alloc),
             "front" => self.seen(alloc),
             "fed" => self.fed(alloc),
-            _ => return,
+            _ => return say_unknown(answer),
         };
         match front {
             Ok(front) => say_number(answer, front.len()),

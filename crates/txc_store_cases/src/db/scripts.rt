@@ -93,7 +93,8 @@ commit 7 -: put 1 6 2 c, remove 1 9 => 8
 ";
 
 /// What each query answers at each stamp, from the first that is kept to the last.
-const ANSWERS: &str = "query id 1 7 0-8 => 0 [0,0]; 1 7:a 7:a [1,2]; 1 7:a 7:a [1,2]; 0 [3,4]; 0 [3,4]; 1 7:a 7:a [5,8] still; 1 7:a 7:a [5,8] still; 1 7:a 7:a [5,8] still; 1 7:a 7:a [5,8] still
+const ANSWERS: &str =
+    "query id 1 7 0-8 => 0 [0,0]; 1 7:a 7:a [1,2]; 1 7:a 7:a [1,2]; 0 [3,4]; 0 [3,4]; 1 7:a 7:a [5,8] still; 1 7:a 7:a [5,8] still; 1 7:a 7:a [5,8] still; 1 7:a 7:a [5,8] still
 query id 1 8 0-8 => 0 [0,1]; 0 [0,1]; 1 8:b 8:b [2,3]; 1 8:b 8:b [2,3]; 1 8:b 8:b [4,5]; 1 8:b 8:b [4,5]; 1 8:b 8:b [6,8] still; 1 8:b 8:b [6,8] still; 1 8:b 8:b [6,8] still
 query id 1 5 0-8 => 0 [0,8] still; 0 [0,8] still; 0 [0,8] still; 0 [0,8] still; 0 [0,8] still; 0 [0,8] still; 0 [0,8] still; 0 [0,8] still; 0 [0,8] still
 query group 1 2 0-8 => 0 [0,0]; 1 7:a 7:a [1,1]; 2 7:a 8:b [2,2]; 1 8:b 8:b [3,3]; 0 [4,4]; 1 7:a 7:a [5,5]; 2 7:a 8:b [6,7]; 2 7:a 8:b [6,7]; 3 6:c 8:b [8,8] still

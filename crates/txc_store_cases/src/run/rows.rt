@@ -21,14 +21,7 @@ pub const REPLIES: &str = "stored [0,1) still\n\
 /// What is shown, the capacity of the node and of how many events it keeps the tags, the script, the replies, and the
 /// status of the program.
 pub const ROWS: [(&str, usize, usize, &str, &str, &str); 26] = [
-    (
-        "an empty script",
-        1024,
-        64,
-        "",
-        "",
-        "0",
-    ),
+    ("an empty script", 1024, 64, "", "", "0"),
     (
         "empty lines and comments",
         1024,
@@ -320,6 +313,12 @@ pub const LONG: [(&str, u8, usize, &str, &str); 6] = [
     ("", b'#', 4096, "", "0"),
     ("", b'#', 4097, "line 1: malformed\n", "1"),
     ("", b'#', 20000, "line 1: malformed\n", "1"),
-    ("insert f1(2) 0 0 still - ", b'f', 2048, "stored [0,1) still\n", "0"),
+    (
+        "insert f1(2) 0 0 still - ",
+        b'f',
+        2048,
+        "stored [0,1) still\n",
+        "0",
+    ),
     ("insert f1(2) 0 0 still - ", b'f', 2050, "refused N4\n", "1"),
 ];
