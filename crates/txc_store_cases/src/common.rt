@@ -186,7 +186,7 @@ fn obey_again(
 ) {
     answer.clear();
     obey(player, alloc, command, answer);
-    if answer.as_str().ends_with("out of memory") && is_left(player, alloc, before, after, answer) {
+    if answer.as_str().contains("out of memory") && is_left(player, alloc, before, after, answer) {
         answer.clear();
         obey(player, alloc, command, answer);
     }

@@ -3,6 +3,7 @@ use crate::common::{
     Obeys, Player, body, changes, is_played, query, room, say_number, say_row, say_unknown, stamp,
 };
 use std::alloc::{AllocError, Global};
+use std::process::Abort;
 use std::str::SplitWhitespace;
 use std::test::Fail;
 use txc_rows::{Query, Row, StoreError, VersionRows, Versioned};
@@ -62,7 +63,13 @@ fn say_count(rows: &mut VersionRows, query: &Query, answer: &mut String) {
 fn say_copy(answer: &mut String, alloc: Global, text: &str) -> Result<(), AllocError> {
     if let Some(table) = Table::new(1) {
         match Row::new(table, 7, 2, body(alloc, text)?) {
-            Ok(row) => say_row(answer, Some(&row.copy(alloc)?)),
+            Ok(row) => {
+                let copy = row.copy(alloc)?;
+                say_row(answer, Some(&copy));
+                if !copy.is_same(&row) {
+                    let _ = answer.push_str(" !another row!");
+                }
+            }
             Err(refusal) => {
                 let _ = write!(answer, "{refusal}");
             }
@@ -204,12 +211,9 @@ fn opened(alloc: Global) -> Result<VersionRows, StoreError> {
     }
 }
 
-#[test]
-fn stores_follow_writes_and_purges_and_refused_ones_leave_them(
-    rt: HostRuntime,
-) -> Result<(), Fail> {
+fn play_all(rt: &(impl Abort + AllocGlobal), scripts: &[&str]) -> Result<(), Fail> {
     let mut answer = room(rt.alloc())?;
-    for script in [FOLLOWING, REFUSED, STOPPED, MANY, BODIES] {
+    for script in scripts {
         let mut rows = opened(rt.alloc())?;
         assert!(rt;
             is_played(&mut rows, rt.alloc(), "", script, &mut answer),
@@ -217,4 +221,16 @@ fn stores_follow_writes_and_purges_and_refused_ones_leave_them(
         );
     }
     Ok(())
+}
+
+#[test]
+fn stores_follow_writes_and_purges_and_refused_ones_leave_them(
+    rt: HostRuntime,
+) -> Result<(), Fail> {
+    play_all(&rt, &[FOLLOWING, REFUSED, STOPPED, BODIES])
+}
+
+#[test]
+fn at_most_1024_versions_match(rt: HostRuntime) -> Result<(), Fail> {
+    play_all(&rt, &[MANY])
 }

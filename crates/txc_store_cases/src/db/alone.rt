@@ -2,9 +2,10 @@
 use super::calls::{
     Calls, Work, obey_calls, say_done, say_found, say_pinned, say_refusal, say_stamp,
 };
-use super::scripts::{ALONE, Script};
+use super::scripts::{ALONE, LONG, Script};
 use crate::common::{Obeys, Player, is_played, room, say_number, say_unknown};
 use std::alloc::Global;
+use std::process::Abort;
 use std::str::SplitWhitespace;
 use std::test::Fail;
 use txc_db::{DbCore, DbError, Event};
@@ -104,11 +105,22 @@ fn is_answered(alloc: Global, script: Script, answer: &mut String) -> bool {
     }
 }
 
-#[test]
-fn calls_answer_alone(rt: HostRuntime) -> Result<(), Fail> {
+fn play(rt: &(impl Abort + AllocGlobal), scripts: &[Script]) -> Result<(), Fail> {
     let mut answer = room(rt.alloc())?;
-    for script in &ALONE {
+    for script in scripts {
         assert!(rt; is_answered(rt.alloc(), *script, &mut answer), "{answer}");
     }
     Ok(())
+}
+
+#[test]
+fn calls_answer_alone(rt: HostRuntime) -> Result<(), Fail> {
+    play(&rt, &ALONE)
+}
+
+#[test]
+fn a_history_has_its_answers_and_too_many_versions_are_not_read(
+    rt: HostRuntime,
+) -> Result<(), Fail> {
+    play(&rt, &LONG)
 }

@@ -66,7 +66,7 @@ impl<'a, J: Naming, R: Wait> Shared<'a, J, R> {
     fn say_next(&mut self, alloc: Global, answer: &mut String) {
         if self.feed.look() {
             say_event(answer, alloc, self.feed.next_event());
-            if !answer.as_str().ends_with("out of memory") {
+            if !answer.as_str().contains("out of memory") {
                 self.feed.take();
             }
         }

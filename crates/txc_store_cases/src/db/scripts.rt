@@ -5,23 +5,23 @@
 pub(super) type Script = (usize, &'static str, &'static str);
 
 /// What is played alone and under the lock.
-pub(super) const ALONE: [Script; 5] = [
+pub(super) const ALONE: [Script; 3] = [
     (16, "", WHOLE),
     (1, "", FULL_ROW),
     (16, TWO_EVENTS, BROKEN),
-    (16, HISTORY, ANSWERS),
-    (16, "", MANY),
 ];
 
+/// What is played alone, and needs more memory.
+pub(super) const LONG: [Script; 2] = [(16, HISTORY, ANSWERS), (16, "", MANY)];
+
 /// What is played under the lock.
-pub(super) const LOCKED: [Script; 7] = [
+pub(super) const LOCKED: [Script; 6] = [
     (16, "", WHOLE),
     (1, "", FULL_ROW),
     (16, TWO_EVENTS, BROKEN),
     (16, FOREIGN, BROKEN),
     (16, "", BROKEN_BY_MARK),
     (16, FOUR_EVENTS, FED),
-    (16, HISTORY, ANSWERS),
 ];
 
 /// Two puts and two pins, what they answer and refuse, and holds that come and go. Then each kind of change at once: a
