@@ -30,7 +30,7 @@ fn errors_say_what_was_refused(rt: HostRuntime) -> Result<(), Fail> {
     say(&mut text, &DbError::HoldsFull);
     say(&mut text, &DbError::Memory);
     let failure = Error::SqliteFailure(ErrorCode::OutOfMemory);
-    say(&mut text, &StoreError::Store(failure));
+    say(&mut text, &StoreError::from(failure));
     say(&mut text, &StoreError::Memory);
     say(
         &mut text,

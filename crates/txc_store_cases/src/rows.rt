@@ -66,7 +66,7 @@ fn say_copy(answer: &mut String, alloc: Global, text: &str) -> Result<(), AllocE
             Ok(row) => {
                 let copy = row.copy(alloc)?;
                 say_row(answer, Some(&copy));
-                if !copy.is_same(&row) {
+                if copy != row {
                     let _ = answer.push_str(" !another row!");
                 }
             }

@@ -9,7 +9,7 @@ use rows::{LONG, REPLIES, ROWS, SCRIPT};
 use std::alloc::{AllocError, Global};
 use std::io::{self, Read, Write};
 use std::process::Abort;
-use txc_run::{MOST_READS, Mode, RunFault, Settings, Status, exit_of, run};
+use txc_run::{MAX_READS, Mode, RunFault, Settings, Status, exit_of, run};
 
 /// The reply to an insertion that is refused memory.
 const NO_MEMORY: &[u8] = b"refused memory\n";
@@ -237,7 +237,7 @@ fn play_examples(alloc: Global) -> Result<(), &'static str> {
         play(
             alloc,
             whole_case(
-                Settings::DEFAULT,
+                Settings::default(),
                 script.as_bytes(),
                 replies.as_bytes(),
                 end,
@@ -265,7 +265,7 @@ fn play_long(alloc: Global) -> Result<(), &'static str> {
         };
         play(
             alloc,
-            whole_case(Settings::DEFAULT, &script, replies.as_bytes(), end),
+            whole_case(Settings::default(), &script, replies.as_bytes(), end),
             start,
         )?;
     }
@@ -286,14 +286,14 @@ fn play_front(
         let _ = write!(replies, "line {line}: malformed\n");
     }
     let end = status_of(cut_line.is_some());
-    let case = whole_case(Settings::DEFAULT, front.as_bytes(), replies.as_bytes(), end);
+    let case = whole_case(Settings::default(), front.as_bytes(), replies.as_bytes(), end);
     play(alloc, case, "a cut script")
 }
 
 /// A reader that fails after so many bytes of the stored script leaves the replies up to a length.
 fn play_broken(alloc: Global, len: usize, known: usize) -> Result<(), &'static str> {
     let replies = REPLIES.get(..known).unwrap_or("").as_bytes();
-    let case = whole_case(Settings::DEFAULT, SCRIPT.as_bytes(), replies, "read fault");
+    let case = whole_case(Settings::default(), SCRIPT.as_bytes(), replies, "read fault");
     let read_fails = len.saturating_add(1);
     play(
         alloc,
@@ -335,7 +335,7 @@ fn play_slow(alloc: Global) -> Result<(), &'static str> {
     let slow = Case {
         reads: 1,
         writes: 1,
-        ..whole_case(Settings::DEFAULT, script, replies, "0")
+        ..whole_case(Settings::default(), script, replies, "0")
     };
     play(alloc, slow, "one byte at a time")?;
     for (write_fails, len) in (1usize..).zip(0..replies.len()) {
@@ -405,12 +405,12 @@ fn a_reader_that_never_ends(rt: HostRuntime) {
         let ended = run(
             rt.alloc(),
             Mode::Node,
-            Settings::DEFAULT,
+            Settings::default(),
             &mut reader,
             &mut io::sink(),
         );
         assert!(rt;
-            end_of(ended) == "read fault" && reader.reads as u64 == MOST_READS,
+            end_of(ended) == "read fault" && reader.reads as u64 == MAX_READS,
             "{line}"
         );
     }
