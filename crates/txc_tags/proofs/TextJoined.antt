@@ -131,9 +131,6 @@ module _ {X : Type 0} (Allowed : X → Type 0) (write : X → List ℕ) (end : L
 
     -- ---- what the readers keep
 
-    pub nothing_read : (text : List ℕ) → HasRead Allowed write end Few text text []
-    nothing_read text = record { all = All-nil Allowed; parts = refl; refused = λ last g. g }
-
     pub read_more : (text rest after next : List ℕ) (items : List X) (item : X) → HasRead Allowed write end Few text rest items → Allowed item → Reads Item rest (write item) after → after ≡ 44 ∷ next → HasRead Allowed write end Few text next (items ++ item ∷ [])
     read_more text rest after next items item h allowed r e = record {
       all = All-push Allowed items item h.all allowed;

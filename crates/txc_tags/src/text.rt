@@ -16,6 +16,6 @@
 pub mod key;
 pub mod number;
 mod range;
-pub mod read;
+mod read;
 pub mod set;
 pub mod tag;
