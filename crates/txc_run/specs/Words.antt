@@ -12,6 +12,8 @@ pub record HasWords (line : List ℕ) (words : List (List ℕ)) : Type 0 where
   pub joined : line ≡ join_with_byte 32 words
   pub each_is_one : All HasNoBlank words
 
+-- ---- only private functions need these: words that are taken one after the other
+
 -- the byte is a blank
 abbrev pub is_blank : ℕ → Bool
 is_blank b = b == 32
