@@ -17,13 +17,18 @@ use Rattle.txc_rows.specs.Kept.{IsListing}
 use Rattle.txc_rows.proofs.Finding.{finds_in, found_length}
 use Rattle.txc_rows.proofs.KeepingLemmas.{found_answers}
 
-pub finds_listed : (q : Query) (vs : List Versioned) (rows : List Row) (r : Result (Vec Versioned Global) StoreError) → IsListing (query_table q) (is_read_for q) vs rows
-    → IfOk r (λ v. v.items ≡ filter (suits q) (map (version_shown (query_table q)) rows)) → IfOk r (λ v. Finds q vs v.items)
-finds_listed q vs rows r h = IfOk-weaker r _ (λ v. Finds q vs v.items) (λ v is. rw is (finds_in q vs _ h.same h.sorted))
+module _ (q : Query) (vs : List Versioned) (rows : List Row) (listing : IsListing (query_table q) (is_read_for q) vs rows) where
+  abbrev selected : List Versioned
+  selected = filter (suits q) (map (version_shown (query_table q)) rows)
 
-pub answers_listed : (q : Query) (vs : List Versioned) (rows : List Row) (r : Result (Vec Versioned Global) StoreError) → IsListing (query_table q) (is_read_for q) vs rows
-    → IfOk r (λ v. v.items ≡ filter (suits q) (map (version_shown (query_table q)) rows)) → IfOk r (λ v. AnswersStates q vs v.items)
-answers_listed q vs rows r h = IfOk-weaker r _ (λ v. AnswersStates q vs v.items) (λ v is. found_answers q vs v.items (rw is (finds_in q vs _ h.same h.sorted)))
+  finds : Finds q vs selected
+  finds = finds_in q vs _ listing.same listing.sorted
 
-pub many_listed : (q : Query) (vs : List Versioned) (rows : List Row) → IsListing (query_table q) (is_read_for q) vs rows → MAX_MATCHING < length (filter (suits q) (map (version_shown (query_table q)) rows)) → MAX_MATCHING < length (filter (suits q) vs)
-many_listed q vs rows h many = omega (arith, found_length q vs _ (finds_in q vs _ h.same h.sorted))
+  pub finds_listed : (r : Result (Vec Versioned Global) StoreError) → IfOk r (λ v. v.items ≡ selected) → IfOk r (λ v. Finds q vs v.items)
+  finds_listed r h = IfOk-weaker r _ (λ v. Finds q vs v.items) (λ v is. rw is finds) h
+
+  pub answers_listed : (r : Result (Vec Versioned Global) StoreError) → IfOk r (λ v. v.items ≡ selected) → IfOk r (λ v. AnswersStates q vs v.items)
+  answers_listed r h = IfOk-weaker r _ (λ v. AnswersStates q vs v.items) (λ v is. found_answers q vs v.items (rw is finds)) h
+
+  pub many_listed : MAX_MATCHING < length selected → MAX_MATCHING < length (filter (suits q) vs)
+  many_listed many = omega (arith, found_length q vs _ finds)
