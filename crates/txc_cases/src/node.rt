@@ -1,7 +1,7 @@
 //! Scripts of a node's steps with what they are answered.
 use crate::script::{Player, byte, number, play, show, word};
 use crate::stamp::stamp;
-use crate::tags::set_of;
+use crate::tags::read_set;
 use std::alloc::{AllocError, Global};
 use std::fmt::{Display, Write};
 use txc_node::{Counts, Entry, Hit, NodeCore, Op, Record, Refusal, Reply, Shown};
@@ -40,7 +40,7 @@ fn insert(
     out: &mut String,
 ) -> Result<(), AllocError> {
     let value = vec![in alloc; byte(call, 7); number(call, 6) as usize]?;
-    let tags = set_of(alloc, word(call, 5))?;
+    let tags = read_set(alloc, word(call, 5))?;
     let (lo, known, still) = (stamp(call, 2), stamp(call, 3), word(call, 4) == "still");
     match Entry::new(key(call), value, lo, known, still, tags) {
         Ok(entry) => insert_entry(node, alloc, entry, out),
@@ -94,7 +94,7 @@ fn event(
     call: &str,
     out: &mut String,
 ) -> Result<(), AllocError> {
-    let tags = set_of(alloc, word(call, 2))?;
+    let tags = read_set(alloc, word(call, 2))?;
     match node.event(stamp(call, 1), tags) {
         Ok(count) => show_reply(out, Reply::Closed(count)),
         Err(error) => show_refused(out, Refusal::OutOfOrder(error.processed), &error),
