@@ -239,7 +239,7 @@ lookup f1(2) 0 0 = hit [0,2) still 0a
 insert f1(2) 0 3 closed - 1 12 = stored [0,4) closed
 lookup f1(2) 0 9 = hit [0,4) closed 0c
 
-A late entry misses no event: one that the node still keeps closes it, one that it no longer keeps is not trusted
+A late entry is closed by an event that is kept, and trusts none that no longer is
 node 4 4 = 0 up to 0, true
 event 1 t1:id=3 = closed 0
 event 2 t1:id=2 = closed 0
