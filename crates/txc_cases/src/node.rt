@@ -1,7 +1,7 @@
 //! Scripts of a node's steps with what they are answered.
 use crate::script::{Player, byte, number, play, show, word};
 use crate::stamp::stamp;
-use crate::tags::set_of;
+use crate::tags::read_set;
 use std::alloc::{AllocError, Global};
 use std::fmt::{Display, Write};
 use txc_node::{Counts, Entry, Hit, NodeCore, Op, Record, Refusal, Reply, Shown};
@@ -40,7 +40,7 @@ fn insert(
     out: &mut String,
 ) -> Result<(), AllocError> {
     let value = vec![in alloc; byte(call, 7); number(call, 6) as usize]?;
-    let tags = set_of(alloc, word(call, 5))?;
+    let tags = read_set(alloc, word(call, 5))?;
     let (lo, known, still) = (stamp(call, 2), stamp(call, 3), word(call, 4) == "still");
     match Entry::new(key(call), value, lo, known, still, tags) {
         Ok(entry) => insert_entry(node, alloc, entry, out),
@@ -94,7 +94,7 @@ fn event(
     call: &str,
     out: &mut String,
 ) -> Result<(), AllocError> {
-    let tags = set_of(alloc, word(call, 2))?;
+    let tags = read_set(alloc, word(call, 2))?;
     match node.event(stamp(call, 1), tags) {
         Ok(count) => show_reply(out, Reply::Closed(count)),
         Err(error) => show_refused(out, Refusal::OutOfOrder(error.processed), &error),
@@ -239,7 +239,7 @@ lookup f1(2) 0 0 = hit [0,2) still 0a
 insert f1(2) 0 3 closed - 1 12 = stored [0,4) closed
 lookup f1(2) 0 9 = hit [0,4) closed 0c
 
-A late entry misses no event: one that the node still keeps closes it, one that it no longer keeps is not trusted
+A late entry is closed by an event that is kept, and trusts none that no longer is
 node 4 4 = 0 up to 0, true
 event 1 t1:id=3 = closed 0
 event 2 t1:id=2 = closed 0

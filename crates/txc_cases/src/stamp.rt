@@ -1,5 +1,5 @@
 //! Stamps, spans and reaches: what is refused in which order, and answers worked by hand.
-use crate::script::{Player, number, play, show, show_option, show_result, word};
+use crate::script::{Player, byte, number, play, show, show_option, show_result, word};
 use std::alloc::{AllocError, Global};
 use txc_stamp::{Reach, Span, Stamp, StampError};
 
@@ -46,6 +46,7 @@ impl Player for Reach {
     fn answer(&mut self, _: Global, call: &str, out: &mut String) -> Result<(), AllocError> {
         match word(call, 0) {
             "stamp" => show_result(out, &Stamp::new(number(call, 1))),
+            "after" => show(out, &Stamp::after(byte(call, 1) as usize)),
             "new_span" => show_result(out, &new_span(call)),
             "contains" => show_contains(out, call),
             "span" => show(out, &self.span(stamp(call, 1))),
@@ -66,6 +67,7 @@ fn reaches_are_answered_as_worked(rt: HostRuntime) -> Result<(), AllocError> {
 const REACHES: &str = "\
 Numbers too large are named first
 stamp 1048576 = 1048576
+after 255 = 255
 stamp 1048577 = 1048577 is beyond the last stamp
 new_span 1048577 1048578 = 1048577 is beyond the last stamp
 new_span 5 1048578 = 1048578 is beyond the last stamp

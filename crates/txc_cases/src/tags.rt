@@ -1,4 +1,7 @@
 //! Texts of numbers, tags, keys and sets of tags, and sets worked by hand.
+ghost use Rattle.std.specs.Prelude.{◌≡◌, [], ◌∷◌, true, false};
+ghost use Rattle.txc_tags.specs.Tags.{wildcard, id_tag, group_tag, sets_match, set_of, with_tag};
+
 use crate::script::{Player, byte, number, play, show, show_option, show_result, text, word};
 use std::alloc::{AllocError, Global};
 use txc_tags::{Key, KeyError, LAST_NUMBER, SetError, Table, Tag, TagSet, read_number};
@@ -149,7 +152,7 @@ no_memory = memory allocation failed
 ";
 
 /// The set that the text is read as; the empty one where it is none.
-pub fn set_of(alloc: Global, text: &str) -> Result<TagSet, AllocError> {
+pub fn read_set(alloc: Global, text: &str) -> Result<TagSet, AllocError> {
     match TagSet::read(alloc, text.as_bytes()) {
         Ok(set) => Ok(set),
         Err(SetError::Memory(error)) => Err(error),
@@ -205,7 +208,7 @@ impl Player for TagSet {
     }
 
     fn answer(&mut self, alloc: Global, call: &str, out: &mut String) -> Result<(), AllocError> {
-        let other = set_of(alloc, word(call, 1))?;
+        let other = read_set(alloc, word(call, 1))?;
         match word(call, 0) {
             "is" => show(out, &are_equal(self, &other)),
             "covers" => show(out, &covers_first(self, &other)),
@@ -292,3 +295,18 @@ matches - = false
 set t1:grp=7,t2:id=7 = t1:grp=7,t2:id=7
 matches t1:? = true
 ";
+
+/// The definitions' own sets: t2:id=1, t1:grp=2, t1:id=3 in their order; the wildcard alone; and what they
+/// match.
+fn definitions_are_as_worked()
+    ensures order { set_of (id_tag 2 1 ∷ group_tag 1 2 ∷ id_tag 1 3 ∷ [])
+        ≡ id_tag 1 3 ∷ group_tag 1 2 ∷ id_tag 2 1 ∷ [] }
+    ensures repeated { set_of (id_tag 1 3 ∷ id_tag 1 3 ∷ []) ≡ id_tag 1 3 ∷ [] }
+    ensures swallowed { set_of (id_tag 1 3 ∷ wildcard 1 ∷ id_tag 1 4 ∷ []) ≡ wildcard 1 ∷ [] }
+    ensures sixteen { with_tag (id_tag 1 16) (set_of (
+        id_tag 1 0 ∷ id_tag 1 1 ∷ id_tag 1 2 ∷ id_tag 1 3 ∷ id_tag 1 4 ∷ id_tag 1 5 ∷ id_tag 1 6
+        ∷ id_tag 1 7 ∷ id_tag 1 8 ∷ id_tag 1 9 ∷ id_tag 1 10 ∷ id_tag 1 11 ∷ id_tag 1 12
+        ∷ id_tag 1 13 ∷ id_tag 1 14 ∷ id_tag 1 15 ∷ [])) ≡ wildcard 1 ∷ [] }
+    ensures matched { sets_match (id_tag 1 2 ∷ []) (wildcard 1 ∷ []) ≡ true }
+    ensures kinds { sets_match (id_tag 1 2 ∷ []) (group_tag 1 2 ∷ []) ≡ false }
+{}
