@@ -88,7 +88,9 @@ fn change(
 fn push_changes(alloc: Global, changes: &mut Vec<Change>, text: &str) -> Result<(), AllocError> {
     let mut words = text.split_whitespace();
     let kind = words.next().unwrap_or("");
-    if let Some(table) = table(&mut words) {
+    if !kind.is_empty()
+        && let Some(table) = table(&mut words)
+    {
         let (first, last) = range(words.next().unwrap_or(""));
         let group = number(&mut words);
         let word = words.next().unwrap_or("");

@@ -145,22 +145,22 @@ fn count_lines(text: &[u8]) -> usize {
     text.iter().filter(|byte| **byte == b'\n').count()
 }
 
-/// The script before the line of that reply, and after it.
+/// The script before the line of that reply, and from the end of that line on.
 fn without_line(script: &[u8], reply: usize) -> (&[u8], &[u8]) {
     let mut replies = 0usize;
     let mut at = 0usize;
-    for line in script.split_inclusive(|byte| *byte == b'\n') {
-        let after = at.saturating_add(line.len());
-        if line != b"\n".as_slice() && line.first() != Some(&b'#') {
+    for line in script.split(|byte| *byte == b'\n') {
+        let end = at.saturating_add(line.len());
+        if !line.is_empty() && line.first() != Some(&b'#') {
             if replies == reply {
                 return (
                     script.get(..at).unwrap_or(b""),
-                    script.get(after..).unwrap_or(b""),
+                    script.get(end..).unwrap_or(b""),
                 );
             }
             replies = replies.saturating_add(1);
         }
-        at = after;
+        at = end.saturating_add(1);
     }
     (script, b"")
 }
