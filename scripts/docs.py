@@ -1,6 +1,7 @@
 #!/usr/bin/env python3
 """Writes the parts of docs/ that are made by script: docs/DEFINITIONS.md, from the comments of the crates' specs/, the
-lists of docs/WRONG_BODIES.md, from their edits, and the examples of docs/SCRIPTS.md, from examples/.
+lists of docs/WRONG_BODIES.md, from their edits, the examples of docs/SCRIPTS.md, from examples/, and the code of
+docs/CALLING.md, from the tests.
 
 usage: docs.py [--check]      --check writes nothing, and ends with 1 where a file is not what would be written
 """
@@ -171,8 +172,19 @@ def scripts(text):
     return text
 
 
+def calling(text):
+    """Fills each block that is headed by a file with what the file has before its tests, but for its `use` lines."""
+
+    def block(head):
+        lines = (ROOT / head[1]).read_text().partition("\n#[test]")[0].rstrip().split("\n")
+        code = [line for line in lines if not line.startswith(("//!", "use ", "ghost use "))]
+        return f"```rust {head[1]}\n" + "\n".join(code).strip() + "\n```"
+
+    return re.sub(r"```rust (\S+)\n.*?```", block, text, flags=re.S)
+
+
 def main():
-    made = {"DEFINITIONS.md": lambda _: definitions(), "WRONG_BODIES.md": wrong_bodies, "SCRIPTS.md": scripts}
+    made = {"DEFINITIONS.md": lambda _: definitions(), "WRONG_BODIES.md": wrong_bodies, "SCRIPTS.md": scripts, "CALLING.md": calling}
     wanted = {name: make((ROOT / "docs" / name).read_text()) for name, make in made.items()}
     for name, text in wanted.items():
         path = ROOT / "docs" / name

@@ -17,7 +17,7 @@ pub struct Answered<T> {
 #[derive(Drop, Error)]
 pub enum CommitError {
     /// An event after the base matches the tags read: the first that does, in a front that shows it.
-    #[error("event {:?} conflicts with what was read", .0.answer)]
+    #[error("event {} conflicts with what was read", .0.answer)]
     Conflict(Answered<Stamp>),
     /// Any other refusal.
     #[error("{0}")]

@@ -8,10 +8,10 @@ use txc_stamp::Stamp;
 #[derive(Clone, Copy, Debug, PartialEq, Eq, Error)]
 pub enum DbError {
     /// The stamp lies below the horizon, which is given.
-    #[error("the snapshot is gone: the horizon is {0:?}")]
+    #[error("the snapshot is gone: the horizon is {0}")]
     SnapshotGone(Stamp),
     /// An event after the base matches the tags read; the first that does is given.
-    #[error("event {0:?} conflicts with what was read")]
+    #[error("event {0} conflicts with what was read")]
     Conflict(Stamp),
     /// The history has as many events as its row has cells.
     #[error("the history is full")]
@@ -24,10 +24,10 @@ pub enum DbError {
     #[error("the database is broken")]
     Broken,
     /// Nothing holds the stamp.
-    #[error("stamp {0:?} is not held")]
+    #[error("stamp {0} is not held")]
     NotPinned(Stamp),
     /// The stamp lies beyond the newest one, which is given.
-    #[error("the newest stamp is {0:?}")]
+    #[error("the newest stamp is {0}")]
     FutureStamp(Stamp),
     /// There are [`crate::MAX_HOLDS`] holds.
     #[error("too many stamps are held")]

@@ -17,7 +17,8 @@ const NO_MEMORY: &[u8] = b"refused memory\n";
 /// More than a run of a case writes.
 const ROOM: usize = 1 << 14;
 
-/// Gives the bytes and then those after them, at most so many a read, and fails at one read.
+/// Gives the bytes and then those after them, at most so many a read, and fails at one read. A slow one is interrupted at
+/// each second read.
 #[derive(Clone, Copy)]
 struct Feeder<'a> {
     left: &'a [u8],
@@ -34,6 +35,9 @@ impl Read for Feeder<'_> {
         if self.reads == self.fails_at {
             return Err(io::Error::from(io::ErrorKind::Other));
         }
+        if self.at_most == 1 && self.reads % 2 == 1 {
+            return Err(io::Error::from(io::ErrorKind::Interrupted));
+        }
         if self.left.is_empty() {
             self.left = self.after;
             if !self.is_endless {
@@ -48,7 +52,7 @@ impl Read for Feeder<'_> {
     }
 }
 
-/// Takes at most so many bytes a write, and fails at one write and from then on. Its room is made before the run.
+/// Takes at most so many bytes a write, and fails at one write or flush and from then on. Its room is made before the run.
 #[derive(Drop)]
 struct Taker {
     taken: Vec<u8>,
@@ -69,6 +73,10 @@ impl Write for Taker {
     }
 
     fn flush(&mut self) -> io::Result<()> {
+        self.writes = self.writes.wrapping_add(1);
+        if self.writes >= self.fails_at {
+            return Err(io::Error::from(io::ErrorKind::Other));
+        }
         Ok(())
     }
 }
@@ -329,7 +337,7 @@ fn play_cuts(alloc: Global) -> Result<(), &'static str> {
     Ok(())
 }
 
-/// Readers and writers of one byte at a time, and a writer that fails at each byte.
+/// Readers and writers of one byte at a time, and a writer that fails at each byte and at the flush.
 fn play_slow(alloc: Global) -> Result<(), &'static str> {
     let (script, replies) = (SCRIPT.as_bytes(), REPLIES.as_bytes());
     let slow = Case {
@@ -338,7 +346,7 @@ fn play_slow(alloc: Global) -> Result<(), &'static str> {
         ..whole_case(Settings::default(), script, replies, "0")
     };
     play(alloc, slow, "one byte at a time")?;
-    for (write_fails, len) in (1usize..).zip(0..replies.len()) {
+    for (write_fails, len) in (1usize..).zip(0..=replies.len()) {
         let replies = replies.get(..len).unwrap_or(replies);
         let fails = Case {
             write_fails,

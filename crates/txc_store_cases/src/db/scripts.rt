@@ -36,35 +36,35 @@ events => ; 7:a t1:id=7,t1:grp=2; pin 1000; 8:b t1:id=8,t1:grp=2; pin 2000
 query group 1 2 2 => 1 7:a 7:a [1,2]
 query group 1 2 4 => 2 7:a 8:b [3,4] still
 query id 1 9 4 => 0 [0,4] still
-query all 1 5 => the newest stamp is Stamp { number: 4 }
+query all 1 5 => the newest stamp is 4
 commit 4 -: put 1 7 2 a => 4
 commit 4 -: remove 1 9 => 4
-commit 5 -: => the newest stamp is Stamp { number: 4 }
-pin 9000 6 => the newest stamp is Stamp { number: 4 }
+commit 5 -: => the newest stamp is 4
+pin 9000 6 => the newest stamp is 4
 pin 9000 5 => 5 at 9000
-unpin 3 => stamp Stamp { number: 3 } is not held
+unpin 3 => stamp 3 is not held
 hold => 5
 hold => 5
 vacuum => 2
 unpin 2 =>
-unpin 2 => stamp Stamp { number: 2 } is not held
+unpin 2 => stamp 2 is not held
 vacuum => 4
-query group 1 2 3 => the snapshot is gone: the horizon is Stamp { number: 4 }
+query group 1 2 3 => the snapshot is gone: the horizon is 4
 query group 1 2 4 => 2 7:a 8:b [4,5] still
-commit 2 group 1 2: remove 1 8 => event Stamp { number: 3 } conflicts with what was read
+commit 2 group 1 2: remove 1 8 => event 3 conflicts with what was read
 commit 2 id 1 7: remove 1 8 => 6
 query all 1 6 => 1 7:a 7:a [6,6] still
 commit 6 -: put 1 7 3 c, put 1 9 2 d, remove 1 9, put 1 10 2 e, put 1 8 2 b => 7
 query group 1 2 7 => 2 8:b 10:e [7,7] still
 query group 1 3 7 => 1 7:c 7:c [7,7] still
-commit 6 group 1 3: remove 1 7 => event Stamp { number: 7 } conflicts with what was read
+commit 6 group 1 3: remove 1 7 => event 7 conflicts with what was read
 unpin 4 =>
-unpin 4 => stamp Stamp { number: 4 } is not held
+unpin 4 => stamp 4 is not held
 vacuum => 5
 unpin 5 =>
 unpin 5 =>
 unpin 5 =>
-unpin 5 => stamp Stamp { number: 5 } is not held
+unpin 5 => stamp 5 is not held
 vacuum => 7
 ";
 
@@ -73,7 +73,7 @@ commit 0 -: put 1 7 2 a => 1
 commit 1 -: put 1 8 2 b => the history is full
 commit 1 -: put 1 7 2 a => 1
 pin 0 0 => the history is full
-unpin 1 => stamp Stamp { number: 1 } is not held
+unpin 1 => stamp 1 is not held
 ";
 
 const TWO_EVENTS: &str = "commit 0 -: put 1 7 2 a => 1

@@ -43,7 +43,7 @@ pin 2003 7 => .. at 2003
 
 /// What is found after both: all rows, and a feed of so many events and no more.
 const BOTH: &str = "query group 1 2 16 => 8 0:a 103:b [..,16] still
-query group 1 2 17 => the newest stamp is Stamp { number: 16 }
+query group 1 2 17 => the newest stamp is 16
 next => ..
 next => ..
 next => ..

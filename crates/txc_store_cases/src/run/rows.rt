@@ -20,7 +20,7 @@ pub const REPLIES: &str = "stored [0,1) still\n\
 
 /// What is shown, the capacity of the node and of how many events it keeps the tags, the script, the replies, and the
 /// status of the program.
-pub const ROWS: [(&str, usize, usize, &str, &str, &str); 26] = [
+pub const ROWS: [(&str, usize, usize, &str, &str, &str); 28] = [
     ("an empty script", 1024, 64, "", "", "0"),
     (
         "empty lines and comments",
@@ -261,8 +261,24 @@ pub const ROWS: [(&str, usize, usize, &str, &str, &str); 26] = [
         "another command",
         1024,
         64,
-        "sweep 5\n",
+        "purge 5\n",
         "line 1: malformed\n",
+        "1",
+    ),
+    (
+        "a sweep of two horizons",
+        1024,
+        64,
+        "sweep 0\nsweep 5 5\n",
+        "swept 0\nline 2: malformed\n",
+        "1",
+    ),
+    (
+        "a horizon after the last stamp",
+        1024,
+        64,
+        "sweep 1048576\nsweep 1048577\n",
+        "swept 0\nline 2: malformed\n",
         "1",
     ),
     (
