@@ -1,8 +1,7 @@
 -- What a commit does, and what its answer says of the history after it.
-use Rattle.std.proofs.Common.{◌≡◌, ◌≢◌, ◌⊎◌, inl, inr, ℕ, ◌+◌, ◌≤◌, List, [], ◌∷◌, ◌++◌, length, fold, Some, refl, ap, sym, subst, ◌∙◌, add-one, arith}
+use Rattle.std.proofs.Common.{◌≡◌, ◌≢◌, ◌⊎◌, inl, inr, ℕ, ◌+◌, ◌≤◌, List, [], ◌∷◌, ◌++◌, length, Some, refl, ap, sym, subst, ◌∙◌, add-one}
 use Rattle.std.specs.Prelude.{Result, Ok, Err, IfOk, OnOk, IsOk}
 use Rattle.std.proofs.lemmas.List.{length_push}
-use Rattle.std.proofs.lemmas.List.Sums.{fold-append}
 use mathlib.Core.List.{IsPrefix}
 use Rattle.txc_stream.proofs.Offered.{prefix_self, prefix_push, push_get}
 use Rattle.txc_tags.specs.declared.tag.Tag.{Tag}
@@ -13,7 +12,7 @@ use Rattle.txc_rows.specs.Net.{net_changes}
 use Rattle.txc_db.specs.declared.answered.Answered.{Answered}
 use Rattle.txc_db.specs.declared.answered.CommitError.{CommitError}
 use Rattle.txc_db.specs.Facts.{EventValue}
-use Rattle.txc_db.specs.Seen.{FrontValue, last_mark}
+use Rattle.txc_db.specs.Seen.{FrontValue}
 use Rattle.txc_db.specs.History.{History, state_at, event_at, commit_event}
 use Rattle.txc_db.specs.DatabaseValue.{DatabaseValue, newest, newest_state, newest_net, front_of, where_some, after_event_of, after_commit}
 use Rattle.txc_db.specs.Refusals.{NoneMatches}

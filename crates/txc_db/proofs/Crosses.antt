@@ -1,7 +1,7 @@
 -- A database, its feeds and its fronts may be sent to threads and shared between them, whatever names their rows. The terms
 -- are written out, one proof for each field.
 use denote.RattleType.{RattleType}
-use denote.Param.Send.{IsSend, IsSync, plain_send, plain_sync, view_send, view_sync}
+use denote.Param.Send.{IsSend, IsSync, plain_send, view_send, view_sync}
 use denote.Param.SendFields.{declared_send, declared_sync}
 use Rattle.std.proofs.Crossing.{Arc-send, Arc-sync}
 use Rattle.std.proofs.marker.PhantomData.TheSendSync as phantom

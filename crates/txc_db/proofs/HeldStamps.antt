@@ -1,5 +1,5 @@
 -- Stamps that are held.
-use Rattle.std.proofs.Common.{◌≡◌, ◌≢◌, ℕ, ◌+◌, ◌≤◌, ◌<◌, ◌==◌, Bool, true, false, List, [], ◌∷◌, ◌++◌, ◌||◌, length, cond, refl, arith, eqb-true, eq-eqb, ne_eqb, add_comm, get_or, remove, ap, zero, suc, slice_get, Some, None}
+use Rattle.std.proofs.Common.{◌≡◌, ◌≢◌, ℕ, ◌+◌, ◌≤◌, ◌<◌, ◌==◌, Bool, true, false, List, [], ◌∷◌, ◌++◌, ◌||◌, length, cond, refl, arith, eqb-true, eq-eqb, ne_eqb, add_comm, get_or, remove, ap, zero, suc, slice_get, Some}
 use Rattle.std.specs.List.{AllByRecursion}
 use Rattle.txc_db.specs.DatabaseValue.{DatabaseValue, newest, IsSound, IsReadable, Rises, least, without, is_held, holds_of}
 use Rattle.txc_db.specs.Laws.{OneHoldLess}

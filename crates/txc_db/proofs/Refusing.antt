@@ -1,24 +1,16 @@
 -- Refusals, one in terms of another, and what they leave.
-use Rattle.std.proofs.Common.{◌≡◌, ◌≢◌, inl, inr, ℕ, List, [], ◌∷◌, false, true, refl, ap, sym, subst, ◌∙◌, true≢false}
+use Rattle.std.proofs.Common.{◌≡◌, ◌≢◌, inl, inr, ℕ, List, [], ◌∷◌, refl, sym, subst}
 use Rattle.std.specs.Prelude.{Result, Ok, Err, IfErr}
 use Rattle.std.specs.Result.{IsErrAnd}
 use Rattle.txc_tags.specs.declared.tag.Tag.{Tag}
 use Rattle.txc_rows.specs.declared.query.Change.{Change}
-use Rattle.txc_rows.specs.declared.store_error.StoreError.{StoreError}
 use Rattle.txc_rows.specs.declared.store_error.StoreError.TheVariants as store
 use Rattle.txc_rows.specs.Members.{IsIn}
-use Rattle.txc_rows.specs.Net.{net_changes}
 use Rattle.txc_db.specs.declared.error.DbError.{DbError}
-use Rattle.txc_db.specs.declared.error.DbError.TheVariants.{SnapshotGone, Conflict, Full, Store, Broken, NotPinned, FutureStamp, HoldsFull, Memory}
-use Rattle.txc_db.specs.declared.answered.CommitError.{CommitError}
-use Rattle.txc_db.specs.declared.answered.CommitError.TheVariants as commits
-use Rattle.txc_db.specs.Seen.{FrontValue}
-use Rattle.txc_db.specs.DatabaseValue.{DatabaseValue, newest_state, newest_net, front_of}
-use Rattle.txc_db.specs.Refusals.{IsOwn}
-use Rattle.txc_db.specs.Calls.{IsLeft, IsUnread, AreFewNamed, IsCommittable, IsStoreRefusedIn, row_query, IsCommitRefused}
-use Rattle.txc_db.specs.Steps.{IsBaseRefused, IsReadRefused, IsNetRefused, IsAppendRefused}
-use Rattle.txc_db.specs.Shared.{IsSharedCommitRefused}
-use Rattle.txc_db.specs.Locked.{IsLockedLeft, IsCommitLeft, IsRefusalWith}
+use Rattle.txc_db.specs.declared.error.DbError.TheVariants.{Store, Broken, FutureStamp}
+use Rattle.txc_db.specs.DatabaseValue.{DatabaseValue, newest_net}
+use Rattle.txc_db.specs.Calls.{IsLeft, IsCommittable, row_query, IsCommitRefused}
+use Rattle.txc_db.specs.Steps.{IsBaseRefused, IsReadRefused, IsNetRefused}
 
 -- an error that is passed on
 pub passed_up : {T E : Type 0} (r : Result T E) (e : E) (P : E → Type 0) → IsErrAnd r (λ y. y ≡ e) → P e → IfErr r P

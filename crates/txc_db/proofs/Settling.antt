@@ -9,7 +9,6 @@ use Rattle.txc_rows.specs.declared.query.Query.TheVariants.{ById}
 use Rattle.txc_rows.specs.States.{RowValue, State, answer, is_at}
 use Rattle.txc_rows.specs.Values.{same_row}
 use Rattle.txc_rows.specs.RowTags.{has_row, tags_of_row}
-use Rattle.txc_rows.proofs.Offered.{same_row_is}
 use Rattle.txc_rows.proofs.Offered.{bool_cases, both_true, and_true}
 use Rattle.txc_rows.specs.Net.{same_key, key_before, placed, puts_of}
 

@@ -1,7 +1,7 @@
 -- Words for what is done under the lock, which only this crate's private functions promise.
 use Rattle.std.specs.Prelude.{◌≡◌, ◌⊎◌, true, false}
 use Rattle.txc_db.specs.declared.error.DbError.{DbError}
-use Rattle.txc_db.specs.declared.error.DbError.TheVariants.{SnapshotGone, Conflict, Full, Store, Broken, NotPinned, FutureStamp, HoldsFull, Memory}
+use Rattle.txc_db.specs.declared.error.DbError.TheVariants.{Conflict, Broken}
 use Rattle.txc_db.specs.declared.answered.CommitError.{CommitError}
 use Rattle.txc_db.specs.declared.answered.CommitError.TheVariants as commits
 use Rattle.txc_db.specs.Seen.{FrontValue}

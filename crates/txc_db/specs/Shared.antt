@@ -1,15 +1,14 @@
 -- What a call of the shared database answers, by its numbers and by the front beside its answer.
-use Rattle.std.specs.Prelude.{◌≡◌, ◌≢◌, ℕ, ◌+◌, ◌≤◌, false, List, [], length, Some}
+use Rattle.std.specs.Prelude.{◌≡◌, ◌≢◌, ℕ, ◌+◌, ◌≤◌, List, [], length, Some}
 use Rattle.txc_tags.specs.declared.tag.Tag.{Tag}
 use Rattle.txc_rows.specs.declared.query.Change.{Change}
 use Rattle.txc_rows.specs.Net.{net_changes}
-use Rattle.txc_db.specs.declared.error.DbError.{DbError}
-use Rattle.txc_db.specs.declared.error.DbError.TheVariants.{SnapshotGone, Conflict, Full, Store, Broken, NotPinned, FutureStamp, HoldsFull, Memory}
+use Rattle.txc_db.specs.declared.error.DbError.TheVariants.{Conflict, Memory}
 use Rattle.txc_db.specs.declared.answered.Answered.{Answered}
 use Rattle.txc_db.specs.declared.answered.CommitError.{CommitError}
 use Rattle.txc_db.specs.declared.answered.CommitError.TheVariants as commits
 use Rattle.txc_db.specs.History.{History, state_at, event_at, commit_event}
-use Rattle.txc_db.specs.DatabaseValue.{DatabaseValue, newest, front_of}
+use Rattle.txc_db.specs.DatabaseValue.{DatabaseValue, front_of}
 use Rattle.txc_db.specs.Refusals.{NoneMatches, IsConflict}
 use Rattle.txc_db.specs.Calls.{IsBase, IsCommitRefused}
 

@@ -1,9 +1,9 @@
 -- Words for the steps of a commit, which only this crate's private functions promise.
-use Rattle.std.specs.Prelude.{◌≡◌, ℕ, ◌<◌, ◌≤◌, true, false, List, length}
+use Rattle.std.specs.Prelude.{◌≡◌, ℕ, ◌<◌, true, false, List, length}
 use Rattle.txc_rows.specs.declared.query.Query.{Query}
 use Rattle.txc_rows.specs.declared.query.Change.{Change}
 use Rattle.txc_db.specs.declared.error.DbError.{DbError}
-use Rattle.txc_db.specs.declared.error.DbError.TheVariants.{SnapshotGone, Conflict, Full, Store, Broken, NotPinned, FutureStamp, HoldsFull, Memory}
+use Rattle.txc_db.specs.declared.error.DbError.TheVariants.{Full, Store, Broken, FutureStamp, Memory}
 use Rattle.txc_db.specs.DatabaseValue.{DatabaseValue, newest}
 use Rattle.txc_db.specs.Refusals.{IsOwn}
 use Rattle.txc_db.specs.Calls.{IsStoreRefused, IsStoreRefusedIn}

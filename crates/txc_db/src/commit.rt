@@ -117,7 +117,7 @@ impl DbCore {
             in net.tags ≡ tags_between before (after_changes net.changes.items before) }
         ensures after { OnOk result (self.new
             ≡ after_event_of self.old (record { fact = commit net.changes.items; tags = net.tags })
-                net.changes.items) }
+            net.changes.items) }
         ensures answer { IfOk result (λ stamp. stamp ≡ newest self.old + 1) }
         ensures room { IsOk result → newest self.old < length self.old.events }
         ensures unchanged { IfErr result (IsLeft self.old self.new) }

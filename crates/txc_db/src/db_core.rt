@@ -45,13 +45,21 @@ impl Model for DbCore {
     ghost Value = { DatabaseValue };
 
     ghost view = { λ d. record {
-        events = d.front.events; history = d.front.history; versions = d.store;
-        horizon = d.horizon; holds = d.holds.items; broken = d.broken
+      events = d.front.events;
+      history = d.front.history;
+      versions = d.store;
+      horizon = d.horizon;
+      holds = d.holds.items;
+      broken = d.broken;
     } };
 
     ghost invariant = { λ d. d.broken ≡ false → IsSound (record {
-        events = d.front.events; history = d.front.history; versions = d.store;
-        horizon = d.horizon; holds = d.holds.items; broken = d.broken
+      events = d.front.events;
+      history = d.front.history;
+      versions = d.store;
+      horizon = d.horizon;
+      holds = d.holds.items;
+      broken = d.broken;
     }) };
 }
 

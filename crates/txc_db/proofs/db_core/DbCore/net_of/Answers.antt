@@ -6,8 +6,7 @@ use Rattle.txc_tags.specs.Tags.{with_tags}
 use Rattle.txc_rows.specs.declared.query.Change.{Change}
 use Rattle.txc_rows.specs.Members.{IsIn}
 use Rattle.txc_rows.specs.RowTags.{tags_of_row}
-use Rattle.txc_rows.specs.declared.query.Query.TheVariants.{ById}
-use Rattle.txc_rows.specs.Net.{change_table, change_id, changes_state, net_changes, settled, puts_of}
+use Rattle.txc_rows.specs.Net.{changes_state, net_changes, settled, puts_of}
 use Rattle.txc_db.specs.DatabaseValue.{DatabaseValue, newest, newest_state}
 use Rattle.txc_db.specs.Calls.{row_query, matching_of}
 use Rattle.txc_rows.specs.declared.store_error.TheConstants.{MAX_MATCHING}
