@@ -3,7 +3,7 @@
 ghost use Rattle.std.specs.Prelude.{◌≡◌, ◌≤◌, ◌⊎◌, IfOk, IfErr, length};
 ghost use Rattle.txc_tags.specs.TextReading.{GoesWrong, IsWord, Reads};
 
-/// What stands after the word.
+/// What stands after the word; where the text does not begin with it, the rest from where it goes wrong.
 #[inline]
 pub(crate) fn read_word<'a>(text: &'a [u8], word: &[u8]) -> Result<&'a [u8], &'a [u8]>
     ensures answer { IfOk result (λ rest. Reads (IsWord word.now) text.now word.now rest.now) }
