@@ -2,7 +2,7 @@
 ghost use Rattle.std.specs.Prelude.{◌≡◌, ◌≤◌, IfOk, IfSome, MatchOption, None};
 ghost use Rattle.txc_node.specs.Cache.{answer};
 
-use crate::tags::set_of;
+use crate::tags::read_set;
 use std::alloc::{AllocError, Global};
 use txc_node::{Entry, NodeCore};
 use txc_stamp::Stamp;
@@ -30,7 +30,7 @@ fn price_page(alloc: Global) -> Result<bool, AllocError> {
     let mut node = NodeCore::new(alloc, 8, 8)?;
     let price = Key::new(1, &[7]).unwrap();
     let value = Vec::from_slice(alloc, b"9.50")?;
-    let tags = set_of(alloc, "t1:id=7")?;
+    let tags = read_set(alloc, "t1:id=7")?;
     let Ok(entry) = Entry::new(price, value, Stamp::ZERO, Stamp::ZERO, true, tags) else {
         return Ok(false);
     };
