@@ -39,7 +39,8 @@ fn is_read<J: Naming>(rt: &impl Wait, alloc: Global, core: DbCore) -> Option<boo
 }
 
 fn is_new_read(rt: &impl Wait, alloc: Global) -> Option<bool> {
-    is_read::<Brand>(rt, alloc, DbCore::new(alloc, 4).ok()?)
+    let core = DbCore::new(alloc, 4).ok()?;
+    is_read::<Brand>(rt, alloc, core)
 }
 
 #[test]
