@@ -17,8 +17,8 @@ const NO_MEMORY: &[u8] = b"refused memory\n";
 /// More than a run of a case writes.
 const ROOM: usize = 1 << 14;
 
-/// Gives the bytes and then those after them, at most so many a read, and fails at one read. A slow one is interrupted at
-/// each second read.
+/// Gives the bytes and then those after them, at most so many a read, and fails at one read. One that gives a byte a
+/// read, and does not fail, is interrupted at each second read.
 #[derive(Clone, Copy)]
 struct Feeder<'a> {
     left: &'a [u8],
@@ -35,7 +35,7 @@ impl Read for Feeder<'_> {
         if self.reads == self.fails_at {
             return Err(io::Error::from(io::ErrorKind::Other));
         }
-        if self.at_most == 1 && self.reads % 2 == 1 {
+        if self.at_most == 1 && self.fails_at == 0 && self.reads % 2 == 1 {
             return Err(io::Error::from(io::ErrorKind::Interrupted));
         }
         if self.left.is_empty() {
