@@ -1,0 +1,237 @@
+#!/usr/bin/env python3
+"""Tries the wrong bodies of crates/*/more-edits, which the gate leaves out for its time: the
+prover must refuse each. It reads what is committed, and works in a temporary folder.
+
+usage: [JOBS=N] scripts/edits.py [CRATE..]
+  CRATE    tries the wrong bodies of these crates alone
+  JOBS     how many checks run side by side, by default one a core (up to 2.7 GB each)
+
+A function's contract is all that the proofs of others know of it, so the wrong bodies of different
+functions are tried together, in one check: each is refused if the check says that its own function
+has a goal that is not proved. One of which that is not said is tried again, alone.
+
+It prints each wrong body that is not plainly refused, and last `N refused, M proved`, with
+`, K bad` where some could not be tried. The exit status is 0 only if M and K are 0.
+"""
+
+import os
+import re
+import shutil
+import signal
+import subprocess
+import sys
+import tempfile
+from concurrent.futures import ThreadPoolExecutor
+
+JOBS = int(os.environ.get("JOBS", os.cpu_count()))
+# A check of many edits still fits the memory and ends in some minutes.
+MOST_TOGETHER = 24
+# What is said where a proof file names what an edit took away: this shows little of a contract.
+NAMES = re.compile(r"has no field|is not in scope|has no `|was not admitted")
+
+
+class Edit:
+    """A wrong body: its crate, its name, the pairs of texts of each file."""
+
+    def __init__(self, crate, path):
+        self.crate, self.path = crate, path
+        self.name = f"{crate}/{os.path.basename(path)}"
+        self.pairs, self.functions, self.verdict, self.said = [], set(), None, ""
+        file = old = None
+        for line in open(path, encoding="utf-8").read().split("\n"):
+            if line.startswith("file: "):
+                file = line[6:].strip()
+            elif line.startswith("old: "):
+                old = line[5:]
+            elif line.startswith("new:"):
+                self.pairs.append((file, old, line[4:].removeprefix(" ")))
+
+    def places(self, folder):
+        """Each file that it changes, with where, and the text that comes there; or why it cannot be applied."""
+        found = []
+        for file, old, new in self.pairs:
+            path = f"{folder}/{file}"
+            text = open(path, encoding="utf-8").read() if os.path.exists(path) else ""
+            if text.count(old) != 1:
+                raise ValueError(f"{text.count(old)} places in {file} have the text `{old.strip()}`")
+            found.append((file, text.index(old), len(old), new))
+        if not found:
+            raise ValueError("it changes nothing")
+        return found
+
+    def find_functions(self, folder):
+        """The functions that it changes; none where it changes what is no function."""
+        for file, old, _ in self.pairs:
+            path = f"{folder}/{file}"
+            text = open(path, encoding="utf-8").read() if os.path.exists(path) else ""
+            at = text[: max(text.find(old), 0)].count("\n")
+            inside = [name for first, last, name in functions(self.crate, file, text)
+                      if first <= at and at + old.count("\n") <= last]
+            if not inside:
+                self.functions = set()
+                return
+            self.functions.add(inside[-1])
+
+
+def functions(crate, file, text):
+    """The first and the last line and the name of each function of a formatted file."""
+    module = [crate] + [it for it in file.removeprefix("src/").removesuffix(".rt").split("/") if it not in ("lib", "main")]
+    lines, kind, found = text.split("\n"), "", []
+    for at, line in enumerate(lines):
+        if line.startswith("impl"):
+            head = line
+            for more in lines[at + 1:at + 8]:
+                if "{" in head:
+                    break
+                head += " " + more
+            kind = owner(head)
+        elif line.startswith("}"):
+            kind = ""
+        is_fn = re.match(r"( *)(?:pub(?:\([a-z]*\))? )?(?:const )?(?:unsafe )?fn (\w+)", line)
+        if is_fn and (is_fn[1] == "" or kind and is_fn[1] == "    "):
+            last = next((n for n in range(at, len(lines)) if lines[n] == is_fn[1] + "}"), at)
+            path = "::".join(module + [kind.replace("$", r"\w*")] * bool(kind) + [is_fn[2]])
+            found.append((at, last, path))
+    return found
+
+
+def owner(head):
+    """A pattern of the name that the prover gives to an impl."""
+    head = re.sub(r"\{.*", "", head).strip()
+    depth, bare = 0, ""
+    for c in head[4:]:
+        depth += (c == "<") - (c == ">")
+        if depth == 0 and c != ">":
+            bare += c
+    trait, _, kind = bare.partition(" for ")
+    name = lambda it: re.sub(r"\W", "", it.split("where")[0].split("::")[-1])
+    return name(kind) + name(trait) if kind else name(trait)
+
+
+def rounds(edits):
+    """Lists of edits of different functions."""
+    made = []
+    for edit in edits:
+        fits = [it for it in made if edit.functions and len(it) < MOST_TOGETHER
+                and all(other.functions and not other.functions & edit.functions for other in it)]
+        if fits:
+            fits[0].append(edit)
+        else:
+            made.append([edit])
+    return made
+
+
+def try_together(base, edits):
+    """Checks the crate with all these edits, and gives each its verdict."""
+    crate = edits[0].crate
+    with tempfile.TemporaryDirectory(prefix="round-", dir=os.path.dirname(base), ignore_cleanup_errors=True) as room:
+        subprocess.run(["cp", "-al", base, f"{room}/all"], check=True)
+        folder = f"{room}/all/crates/{crate}"
+        shutil.rmtree(folder)
+        subprocess.run(["cp", "-a", f"{base}/crates/{crate}", folder], check=True)
+        applied = apply(edits, folder)
+        if not applied:
+            return
+        ran = subprocess.run(["rt", "check", "--jobs", "1"], cwd=folder, stdout=subprocess.PIPE,
+                             stderr=subprocess.STDOUT, errors="replace", text=True)
+    lines = ran.stdout.split("\n")
+    if "logic=not-proved" not in lines and len(applied) > 1:
+        return
+    for edit in applied:
+        judge(edit, lines, ran.returncode, len(applied) == 1)
+
+
+def apply(edits, folder):
+    """Makes the changes of all edits, and returns those that could be applied."""
+    applied, places = [], []
+    for edit in edits:
+        try:
+            places += edit.places(folder)
+            applied.append(edit)
+        except ValueError as error:
+            edit.verdict, edit.said = "bad", str(error)
+    # from the end of each file, so that the places before stay where they are
+    for file, at, length, new in sorted(places, reverse=True):
+        with open(f"{folder}/{file}", encoding="utf-8") as it:
+            text = it.read()
+        with open(f"{folder}/{file}", "w", encoding="utf-8") as out:
+            out.write(text[:at] + new + text[at + length:])
+    return applied
+
+
+def judge(edit, lines, status, is_alone):
+    own = []
+    for path in edit.functions:
+        name = re.compile(r"fn " + path.replace("::", "::") + r"(?:<.*>)?: (.*)")
+        own += [it[1] for it in map(name.match, lines) if it]
+    failing = [it for it in own if it != "proved" and not re.match(r"no proof: it calls `[^`]*`, which is not proved$", it)
+               and not it.startswith("not proved; it waits")]
+    if failing:
+        edit.verdict, edit.said = "refused", failing[0]
+        proofs = [it for it in lines if any(f"proofs/{proof_folder(path)}/" in it for path in edit.functions)]
+        errors = [it for it in proofs if ": error" in it]
+        if errors and all(NAMES.search(it) for it in errors) and not any("it is not proved that" in it for it in own):
+            edit.said = "names: " + errors[0]
+    elif is_alone and status == 1 and "logic=not-proved" in lines:
+        errors = [it for it in lines if ": error" in it or it.startswith("note: src/")]
+        edit.verdict, edit.said = "refused", "elsewhere: " + (errors[0] if errors else "")
+    elif is_alone and status == 0:
+        edit.verdict = "proved"
+    elif is_alone:
+        edit.verdict, edit.said = "bad", " | ".join(it for it in lines if it)[:400]
+
+
+def proof_folder(path):
+    return "/".join(path.split("::")[1:])
+
+
+def main():
+    os.chdir(f"{os.path.dirname(os.path.abspath(__file__))}/..")
+    room = tempfile.mkdtemp(prefix="edits-")
+    try:
+        sys.exit(try_all(room, sys.argv[1:]))
+    finally:
+        shutil.rmtree(room, ignore_errors=True)
+
+
+def try_all(room, crates):
+    base = f"{room}/base"
+    subprocess.run(["git", "clone", "--quiet", ".", base], check=True)
+    crates = crates or sorted(it for it in os.listdir(f"{base}/crates") if os.path.isdir(f"{base}/crates/{it}/more-edits"))
+    for kept in os.listdir("crates"):
+        if os.path.isdir(f"crates/{kept}/out"):
+            subprocess.run(["cp", "-a", f"crates/{kept}/out", f"{base}/crates/{kept}/out"], check=True)
+    edits = []
+    for crate in crates:
+        folder = f"{base}/crates/{crate}"
+        if not os.path.isdir(f"{folder}/more-edits"):
+            print(f"edits.py: {crate} has no more-edits/", file=sys.stderr)
+            return 2
+        ran = subprocess.run(["rt", "lib", "--jobs", str(JOBS)], cwd=folder, stdout=subprocess.PIPE, stderr=subprocess.STDOUT, text=True)
+        if ran.returncode:
+            print(ran.stdout[-3000:] + f"edits.py: {crate} is not proved", file=sys.stderr)
+            return 2
+        names = sorted(os.listdir(f"{folder}/more-edits"))
+        edits += [Edit(crate, f"{folder}/more-edits/{it}") for it in names if it.endswith(".edit")]
+    for edit in edits:
+        edit.find_functions(f"{base}/crates/{edit.crate}")
+    try_lists(base, [it for crate in crates for it in rounds([edit for edit in edits if edit.crate == crate])])
+    try_lists(base, [[it] for it in edits if not it.verdict])
+    for edit in edits:
+        if edit.verdict != "refused" or edit.said.startswith(("names: ", "elsewhere: ")):
+            print(f"{edit.name}: {edit.verdict}: {edit.said[:300]}")
+    count = lambda verdict: sum(it.verdict == verdict for it in edits)
+    bad = len(edits) - count("refused") - count("proved")
+    print(f"{count('refused')} refused, {count('proved')} proved" + (f", {bad} bad" if bad else ""))
+    return int(count("refused") != len(edits))
+
+
+def try_lists(base, lists):
+    with ThreadPoolExecutor(JOBS) as pool:
+        for _ in pool.map(lambda it: try_together(base, it), sorted(lists, key=len, reverse=True)):
+            pass
+
+
+if __name__ == "__main__":
+    signal.signal(signal.SIGTERM, lambda *_: sys.exit(143))
+    main()
