@@ -294,14 +294,24 @@ fn play_front(
         let _ = write!(replies, "line {line}: malformed\n");
     }
     let end = status_of(cut_line.is_some());
-    let case = whole_case(Settings::default(), front.as_bytes(), replies.as_bytes(), end);
+    let case = whole_case(
+        Settings::default(),
+        front.as_bytes(),
+        replies.as_bytes(),
+        end,
+    );
     play(alloc, case, "a cut script")
 }
 
 /// A reader that fails after so many bytes of the stored script leaves the replies up to a length.
 fn play_broken(alloc: Global, len: usize, known: usize) -> Result<(), &'static str> {
     let replies = REPLIES.get(..known).unwrap_or("").as_bytes();
-    let case = whole_case(Settings::default(), SCRIPT.as_bytes(), replies, "read fault");
+    let case = whole_case(
+        Settings::default(),
+        SCRIPT.as_bytes(),
+        replies,
+        "read fault",
+    );
     let read_fails = len.saturating_add(1);
     play(
         alloc,
