@@ -15,7 +15,10 @@ script=$(realpath "$script")
 cd "$(dirname "$0")/.."
 
 # The sources of the program and of the libraries that it stands on.
-sources() { find crates.txt crates/txc_{stamp,tags,node,run}/{src,specs,proofs} crates/txcache/{src,proofs} -newer "$program" -type f; }
+sources() {
+    find crates.txt crates/{txc_stamp,txc_tags,txc_node,txc_run,txcache} -path '*/out' -prune -o -type f \
+        \( -name crates.txt -o -name '*.rt' -o -name '*.antt' \) -newer "$program" -print
+}
 
 if [ ! -x "$program" ] || [ -n "$(sources)" ]; then
     echo "run: proving and building the program: some ten minutes of one core the first time (log: $log)" >&2
