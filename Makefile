@@ -14,6 +14,7 @@ test:
 	scripts/docs.py --check
 	scripts/examples.py --check
 	RT_JOBS=$$(nproc) rt ci
+	@scripts/run_examples.sh
 
 edits:
 	scripts/edits.py $(CRATE)

@@ -5,6 +5,9 @@ usage: examples.py [--check]      --check writes nothing, and ends with 1 where 
 """
 import pathlib, re, sys
 
+# Longer scripts are no constants of a test: the gate runs the program itself over them (scripts/run_examples.sh).
+MOST_BYTES = 4_096
+
 HEAD = """//! The scripts of examples/ with their output: written by scripts/examples.py, which the gate compares.
 
 /// Each example: its name, its script, its output, and the status of the program after it.
@@ -23,6 +26,8 @@ def literal(text, indent):
 def constants(folder):
     rows = []
     for script in sorted(folder.glob("*.txc")):
+        if script.stat().st_size > MOST_BYTES:
+            continue
         output = script.with_suffix(".out").read_text()
         exit = 1 if re.search(r"^(refused |line \d+: malformed$)", output, re.M) else 0
         parts = [f'"{script.stem}"', literal(script.read_text(), " " * 9), literal(output, " " * 9), str(exit)]
