@@ -1,0 +1,4 @@
+pub mod Falling
+pub mod HandedOut
+pub mod Adding
+pub mod UserCounts

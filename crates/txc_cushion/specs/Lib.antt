@@ -1,1 +1,5 @@
 pub mod Pinning
+pub mod Entries
+pub mod Cushion
+pub mod Refusals
+pub mod Laws

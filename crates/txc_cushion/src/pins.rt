@@ -1,13 +1,10 @@
 ghost use Rattle.std.specs.Prelude.{◌≡◌, ◌≤◌, All, Some, length};
 ghost use Rattle.txc_db.specs.History.{moment_at};
 ghost use Rattle.txc_cushion.specs.Pinning.{Falls};
-ghost use Rattle.txc_cushion.specs.declared.pins.TheConstants.{MAX_HANDED_OUT};
+ghost use Rattle.txc_cushion.specs.declared.limits.TheConstants.{MAX_HANDED_OUT};
 
 use crate::pin::Pin;
 use txc_db::HistoryFront;
-
-/// The most pins that are handed out at a time.
-pub const MAX_HANDED_OUT: usize = 16;
 
 /// The pins that a transaction was handed, the newest first, and a front of the history that shows each of them.
 #[derive(Drop)]

@@ -1,0 +1,1 @@
+-- What the calls of a pincushion come to.
