@@ -90,9 +90,9 @@ with_entry_falls new (e ∷ es) falls absent = go (cases_order new.pin.stamp e.p
     go (inr (inl less)) rest =
         let head = falls_head e es falls in
         let below : All (λ (o : PinEntry). o.pin.stamp < e.pin.stamp) (with_entry new es) =
-            All-append (λ (o : PinEntry). o.pin.stamp < e.pin.stamp) (filter (λ (o : PinEntry). nat_lt new.pin.stamp o.pin.stamp) es) (new ∷ filter (λ (o : PinEntry). nat_lt o.pin.stamp new.pin.stamp) es)
-            (All-filter (λ (o : PinEntry). nat_lt new.pin.stamp o.pin.stamp) (λ (o : PinEntry). o.pin.stamp < e.pin.stamp) es head)
-            (All-cons (λ (o : PinEntry). o.pin.stamp < e.pin.stamp) new (filter (λ (o : PinEntry). nat_lt o.pin.stamp new.pin.stamp) es) less (All-filter (λ (o : PinEntry). nat_lt o.pin.stamp new.pin.stamp) (λ (o : PinEntry). o.pin.stamp < e.pin.stamp) es head))
+        All-append (λ (o : PinEntry). o.pin.stamp < e.pin.stamp) (filter (λ (o : PinEntry). nat_lt new.pin.stamp o.pin.stamp) es) (new ∷ filter (λ (o : PinEntry). nat_lt o.pin.stamp new.pin.stamp) es)
+        (All-filter (λ (o : PinEntry). nat_lt new.pin.stamp o.pin.stamp) (λ (o : PinEntry). o.pin.stamp < e.pin.stamp) es head)
+        (All-cons (λ (o : PinEntry). o.pin.stamp < e.pin.stamp) new (filter (λ (o : PinEntry). nat_lt o.pin.stamp new.pin.stamp) es) less (All-filter (λ (o : PinEntry). nat_lt o.pin.stamp new.pin.stamp) (λ (o : PinEntry). o.pin.stamp < e.pin.stamp) es head))
         in
         subst EntriesFall (sym (goes_on new e es less)) (AllPairs-cons (λ (newer older : PinEntry). older.pin.stamp < newer.pin.stamp) e (with_entry new es) below rest)
     go (inr (inr less)) rest =
@@ -146,7 +146,7 @@ pub added_is : (c : CushionValue) (history : History) (new : PinEntry) → IsCus
 added_is c history new is addable begins shows = record {
   falls = with_entry_falls new c.entries is.falls addable.absent;
   shown = all_with_entry (λ (e : PinEntry). moment_at history e.pin.stamp ≡ Some e.pin.moment) new c.entries shows
-    (All-weaker (λ (e : PinEntry). moment_at c.history e.pin.stamp ≡ Some e.pin.moment) (λ (e : PinEntry). moment_at history e.pin.stamp ≡ Some e.pin.moment)
-    (λ e shown. moment_stays c.history history e.pin.stamp e.pin.moment begins shown) c.entries is.shown);
+      (All-weaker (λ (e : PinEntry). moment_at c.history e.pin.stamp ≡ Some e.pin.moment) (λ (e : PinEntry). moment_at history e.pin.stamp ≡ Some e.pin.moment)
+      (λ e shown. moment_stays c.history history e.pin.stamp e.pin.moment begins shown) c.entries is.shown);
   few = let long = length_with_entry new c.entries is.falls addable.absent in let room = addable.room in omega (arith, long, room);
 }

@@ -3,3 +3,4 @@ pub mod Entries
 pub mod Cushion
 pub mod Refusals
 pub mod Laws
+pub mod Shared

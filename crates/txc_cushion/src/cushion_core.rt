@@ -9,7 +9,7 @@ use crate::handing::newest_fresh;
 use crate::limits::MAX_PINS;
 use crate::pin::pin_of;
 use crate::pins::Pins;
-use crate::places::{count_newer, is_pinned};
+use crate::places::{is_pinned, put};
 use crate::retiring::{retirable, retire};
 use crate::users::{add_users, check_users, take_users};
 use std::alloc::{AllocError, Global};
@@ -97,14 +97,7 @@ impl CushionCore {
         if is_pinned(&self.entries, pinned.stamp) {
             return Err(AddError::Known(pinned.stamp));
         }
-        let entry = PinEntry {
-            pin: pin_of(pinned),
-            users: 1,
-        };
-        let newer = count_newer(&self.entries, pinned.stamp);
-        let Ok(()) = self.entries.insert(newer, entry) else {
-            return Err(AddError::Memory);
-        };
+        put(&mut self.entries, pin_of(pinned))?;
         self.front.longer(&pinned.front);
         Ok(())
     }

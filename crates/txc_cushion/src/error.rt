@@ -1,3 +1,4 @@
+use std::alloc::AllocError;
 use thiserror::Error;
 use txc_stamp::Stamp;
 
@@ -13,6 +14,17 @@ pub enum AddError {
     /// A growth was refused.
     #[error("out of memory")]
     Memory,
+}
+
+impl From<AllocError> for AddError {
+    ghost use Rattle.std.specs.Prelude.{◌≡◌};
+    ghost use Rattle.txc_cushion.specs.declared.error.AddError.TheVariants.{Memory};
+
+    ghost from_gives = { λ _ it. it ≡ Memory };
+
+    fn from(_: AllocError) -> AddError {
+        AddError::Memory
+    }
 }
 
 /// The first stamp given back that is not there, or that has no user left at its place. Nothing changed.

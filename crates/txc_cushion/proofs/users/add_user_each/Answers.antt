@@ -9,4 +9,4 @@ loop-entry-preserved c =
     let l = c.loop-entry in
     ap (λ (e : PinEntry). slice_set l.entries l.entry-index e) c.add_user.ensures
     ∙ (ap (λ (e : PinEntry). slice_set l.entries l.entry-index (with_user c.args.pins.now e)) (sym c.entry-item.is)
-      ∙ map_over_more (with_user c.args.pins.now) c.args.entries.now l.entries l.entry-index c.entry-item.result c.loop-entry-test.true l.invariant c.entry-item.is)
+    ∙ map_over_more (with_user c.args.pins.now) c.args.entries.now l.entries l.entry-index c.entry-item.result c.loop-entry-test.true l.invariant c.entry-item.is)

@@ -9,4 +9,4 @@ loop-entry-preserved c =
     let l = c.loop-entry in
     ap (λ (e : PinEntry). slice_set l.entries l.entry-index e) c.take_users_of.ensures
     ∙ (ap (λ (e : PinEntry). slice_set l.entries l.entry-index (without_users c.args.stamps.now e)) (sym c.entry-item.is)
-      ∙ map_over_more (without_users c.args.stamps.now) c.args.entries.now l.entries l.entry-index c.entry-item.result c.loop-entry-test.true l.invariant c.entry-item.is)
+    ∙ map_over_more (without_users c.args.stamps.now) c.args.entries.now l.entries l.entry-index c.entry-item.result c.loop-entry-test.true l.invariant c.entry-item.is)

@@ -1,0 +1,93 @@
+//! What is done to the pincushion under its lock.
+ghost use Rattle.std.specs.Prelude.{◌≡◌, All, IfOk, IfErr};
+ghost use Rattle.txc_db.specs.History.{IsAllowed};
+ghost use Rattle.txc_cushion.specs.Cushion.{CushionValue, IsCushion, front_of, handed_out, retired};
+ghost use Rattle.txc_cushion.specs.Refusals.{IsAddRefused, IsFirstUnused};
+
+use crate::cushion_core::CushionCore;
+use crate::error::{AddError, UnknownPin};
+use crate::pins::Pins;
+use std::alloc::{AllocError, Global};
+use std::marker::{Model, PhantomData};
+use txc_db::{Naming, Pinned};
+use txc_stamp::Stamp;
+
+/// What lies under the lock: a pincushion of the named row.
+#[derive(Drop)]
+pub(crate) struct Locked<J: Naming> {
+    core: CushionCore,
+    of: PhantomData<J>,
+}
+
+impl<J: Naming> Model for Locked<J> {
+    ghost use Rattle.std.specs.Prelude.{◌≡◌};
+    ghost use Rattle.txc_cushion.specs.Cushion.{CushionValue};
+
+    ghost Value = { CushionValue };
+
+    ghost view = { λ l. l.core };
+
+    ghost invariant = { λ l. l.core.events ≡ J.database_row };
+}
+
+impl<J: Naming> Locked<J> {
+    pub(crate) fn new(core: CushionCore) -> Locked<J>
+        requires { core.events ≡ J.database_row }
+    {
+        Locked {
+            core,
+            of: PhantomData,
+        }
+    }
+
+    pub(crate) fn fresh(
+        &mut self,
+        alloc: Global,
+        now: u64,
+        staleness: u64,
+        at_least: Stamp,
+    ) -> Result<Pins, AllocError>
+        ensures named { self.old.events ≡ J.database_row }
+        ensures cushion { IsCushion self.old }
+        ensures pins { IfOk result (λ pins. pins.pins.items ≡ handed_out self.old now staleness at_least) }
+        ensures front { IfOk result (λ pins. pins.front ≡ front_of self.old) }
+        ensures allowed { IfOk result (λ pins.
+            All (λ pin. IsAllowed pins.front.history pin.stamp now staleness at_least) pins.pins.items) }
+    {
+        self.core.is_cushion();
+        self.core.fresh(alloc, now, staleness, at_least)
+    }
+
+    pub(crate) fn add(&mut self, pinned: &Pinned) -> Result<(), AddError>
+        requires { pinned.now.front.events ≡ J.database_row }
+        ensures named { self.old.events ≡ J.database_row }
+        ensures cushion { IsCushion self.old }
+        ensures refused { IfErr result (IsAddRefused self.old pinned.now.stamp) }
+    {
+        self.core.is_cushion();
+        self.core.add(pinned)
+    }
+
+    pub(crate) fn give_back(&mut self, stamps: &[Stamp]) -> Result<(), UnknownPin>
+        ensures named { self.old.events ≡ J.database_row }
+        ensures cushion { IsCushion self.old }
+        ensures refused { IfErr result (λ unknown. IsFirstUnused self.old.entries stamps.now unknown.stamp) }
+    {
+        self.core.is_cushion();
+        self.core.give_back(stamps)
+    }
+
+    pub(crate) fn retire(
+        &mut self,
+        alloc: Global,
+        now: u64,
+        age: u64,
+    ) -> Result<Vec<Stamp>, AllocError>
+        ensures named { self.old.events ≡ J.database_row }
+        ensures cushion { IsCushion self.old }
+        ensures answer { IfOk result (λ stamps. stamps.items ≡ retired self.old now age) }
+    {
+        self.core.is_cushion();
+        self.core.retire(alloc, now, age)
+    }
+}
