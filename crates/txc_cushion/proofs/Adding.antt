@@ -1,5 +1,5 @@
 -- A pin more.
-use Rattle.std.proofs.Common.{◌≡◌, ℕ, ◌+◌, ◌<◌, ◌≤◌, ◌==◌, ◌||◌, nat_lt, Bool, true, false, List, [], ◌∷◌, ◌++◌, length, take, drop, filter, cond, zero, suc, Option, None, Some, slice_get, refl, sym, ◌∙◌, ap, subst, arith, All, ◌⊎◌, inl, inr, eq-eqb, ne_eqb}
+use Rattle.std.proofs.Common.{◌≡◌, ℕ, ◌+◌, ◌<◌, ◌≤◌, ◌==◌, ◌||◌, nat_lt, Bool, true, false, List, [], ◌∷◌, ◌++◌, length, filter, cond, zero, suc, Option, None, Some, slice_get, refl, sym, ◌∙◌, ap, subst, arith, All, ◌⊎◌, inl, inr, eq-eqb}
 use mathlib.Core.List.{IsPrefix}
 use Rattle.std.specs.List.{insert}
 use Rattle.std.proofs.lemmas.Bool.{cases_order}
@@ -11,11 +11,9 @@ use Rattle.std.proofs.lemmas.List.Sums.{length-filter, count_by-le-length}
 use Rattle.txc_stream.proofs.Prefix.{prefix_get, prefix_length, prefix_whole}
 use Rattle.txc_db.specs.Facts.{EventValue}
 use Rattle.txc_db.specs.History.{History, moment_at, pinned_moment}
-use Rattle.txc_db.specs.declared.pinned.Pinned.{Pinned}
 use Rattle.txc_cushion.specs.declared.entry.PinEntry.{PinEntry}
-use Rattle.txc_cushion.specs.declared.limits.TheConstants.{MAX_PINS}
 use Rattle.txc_cushion.specs.Entries.{EntriesFall, is_pinned, with_entry}
-use Rattle.txc_cushion.specs.Cushion.{CushionValue, IsCushion, longer_of, after_add}
+use Rattle.txc_cushion.specs.Cushion.{CushionValue, IsCushion, longer_of}
 use Rattle.txc_cushion.specs.Refusals.{IsAddable}
 use Rattle.txc_cushion.proofs.Falling.{falls_head, falls_tail}
 
@@ -39,23 +37,23 @@ below_first s e es falls less =
     (All-weaker (λ (o : PinEntry). o.pin.stamp < e.pin.stamp) (λ (o : PinEntry). o.pin.stamp < s) (λ o h. omega (arith, h, less)) es (falls_head e es falls))
 
 -- the list with the entry goes on after its first entry as the rest does
-goes_on : (new e : PinEntry) (es : List PinEntry) → new.pin.stamp < e.pin.stamp → with_entry new (e ∷ es) ≡ e ∷ with_entry new es
+pub goes_on : (new e : PinEntry) (es : List PinEntry) → new.pin.stamp < e.pin.stamp → with_entry new (e ∷ es) ≡ e ∷ with_entry new es
 goes_on new e es less =
     let newer : nat_lt new.pin.stamp e.pin.stamp ≡ true = grind (arith, nat_tests) in
     let not_older : nat_lt e.pin.stamp new.pin.stamp ≡ false = grind (arith, nat_tests) in
     rw (newer, not_older) refl
 
 -- it stands before all that are below it
-stands_first : (new e : PinEntry) (es : List PinEntry) → EntriesFall (e ∷ es) → e.pin.stamp < new.pin.stamp → with_entry new (e ∷ es) ≡ new ∷ e ∷ es
+pub stands_first : (new e : PinEntry) (es : List PinEntry) → EntriesFall (e ∷ es) → e.pin.stamp < new.pin.stamp → with_entry new (e ∷ es) ≡ new ∷ e ∷ es
 stands_first new e es falls less =
     let all = all_below new.pin.stamp (e ∷ es) (below_first new.pin.stamp e es falls less) in
     ap (λ (l : List PinEntry). l ++ new ∷ filter (λ (o : PinEntry). nat_lt o.pin.stamp new.pin.stamp) (e ∷ es)) all.0
     ∙ ap (λ (l : List PinEntry). new ∷ l) all.1
 
-not_first : (s : ℕ) (e : PinEntry) (es : List PinEntry) → is_pinned s (e ∷ es) ≡ false → e.pin.stamp ≡ s → ⊥
+pub not_first : (s : ℕ) (e : PinEntry) (es : List PinEntry) → is_pinned s (e ∷ es) ≡ false → e.pin.stamp ≡ s → ⊥
 not_first s e es absent same = let here : (e.pin.stamp == s) ≡ true = eq-eqb e.pin.stamp s same in let absent' : true ≡ false = rw here at absent in cc
 
-not_after : (s : ℕ) (e : PinEntry) (es : List PinEntry) → is_pinned s (e ∷ es) ≡ false → is_pinned s es ≡ false
+pub not_after : (s : ℕ) (e : PinEntry) (es : List PinEntry) → is_pinned s (e ∷ es) ≡ false → is_pinned s es ≡ false
 not_after s e es absent = go (e.pin.stamp == s) absent
   where
     go : (b : Bool) → b || is_pinned s es ≡ false → is_pinned s es ≡ false

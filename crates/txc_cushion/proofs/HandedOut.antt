@@ -1,6 +1,5 @@
 -- The pins that are handed out.
-use Rattle.std.proofs.Common.{◌≡◌, ℕ, ◌+◌, ◌<◌, ◌≤◌, ◌==◌, ◌&&◌, not, nat_le, nat_lt, Bool, true, false, List, [], ◌∷◌, length, map, take, get_or, filter, cond, Some, refl, sym, ◌∙◌, ap, arith, All, Contains, eqb-true}
-use Rattle.std.specs.List.{list_any}
+use Rattle.std.proofs.Common.{◌≡◌, ℕ, ◌+◌, ◌<◌, ◌≤◌, ◌==◌, Bool, true, false, List, length, map, take, get_or, filter, cond, Some, refl, sym, ◌∙◌, ap, arith, All, Contains, eqb-true}
 use Rattle.std.proofs.lemmas.Bool.Decides.{nat_tests}
 use Rattle.std.proofs.lemmas.List.{length-take, length-map}
 use Rattle.std.proofs.lemmas.List.Elements.{All-map, All-take, All-filter, All-weaker, All-contains, All-contains_itself, filter_passes, Contains-get_or}
@@ -9,9 +8,9 @@ use Rattle.txc_db.specs.History.{History, moment_at, IsAllowed}
 use Rattle.txc_cushion.specs.declared.pin.Pin.{Pin}
 use Rattle.txc_cushion.specs.declared.entry.PinEntry.{PinEntry}
 use Rattle.txc_cushion.specs.declared.limits.TheConstants.{MAX_HANDED_OUT, MAX_USERS}
-use Rattle.txc_cushion.specs.Pinning.{Falls, is_older}
-use Rattle.txc_cushion.specs.Entries.{EntriesFall, pins_of, may_be_handed_out, is_among, with_user}
-use Rattle.txc_cushion.specs.Cushion.{CushionValue, IsCushion, handed_out, after_fresh}
+use Rattle.txc_cushion.specs.Pinning.{Falls}
+use Rattle.txc_cushion.specs.Entries.{may_be_handed_out, is_among, with_user}
+use Rattle.txc_cushion.specs.Cushion.{CushionValue, IsCushion, handed_out}
 use Rattle.txc_cushion.proofs.Falling.{falls_filter, falls_take, falls_pins, falls_map, one_of_each}
 
 -- the history shows the pin of the entry
@@ -87,6 +86,10 @@ module _ (c : CushionValue) (now staleness at_least : ℕ) (is : IsCushion c) wh
               let stamps : f.pin.stamp ≡ e.pin.stamp = ap (λ (q : Pin). q.stamp) f_pin ∙ eqb-true p.stamp e.pin.stamp same in
               let one : f ≡ e = one_of_each c.entries f e is.falls f_there there stamps in
               sym (ap test one) ∙ passes
+
+  -- a stamp that is handed out is pinned
+  pub handed_there : All (λ p. (f : PinEntry) × Contains c.entries f × (f.pin ≡ p)) (handed_out c now staleness at_least)
+  handed_there = All-weaker IsFrom (λ (p : Pin). (f : PinEntry) × Contains c.entries f × (f.pin ≡ p)) (λ p from. (from.0, from.1, from.2)) (handed_out c now staleness at_least) handed_from
 
   -- there is room for a user more
   pub room_for_users : All (λ e. is_among e.pin.stamp (handed_out c now staleness at_least) ≡ true → e.users < MAX_USERS) c.entries

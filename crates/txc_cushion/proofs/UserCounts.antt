@@ -1,11 +1,11 @@
 -- How many may use a pin, and how often a stamp is named.
-use Rattle.std.proofs.Common.{◌≡◌, ℕ, ◌+◌, ◌-◌, ◌<◌, ◌≤◌, ◌==◌, not, Bool, true, false, List, [], ◌∷◌, length, take, get_or, filter, cond, zero, suc, Some, slice_get, refl, sym, ◌∙◌, ap, subst, arith, All, Contains, eqb-true, eq-eqb, ne_eqb}
+use Rattle.std.proofs.Common.{◌≡◌, ℕ, ◌+◌, ◌<◌, ◌≤◌, ◌==◌, not, Bool, true, false, List, [], ◌∷◌, length, take, get_or, zero, suc, Some, refl, ap, subst, arith, All, Contains, eqb-true, eq-eqb, ne_eqb}
 use Rattle.std.proofs.lemmas.List.{take_all}
 use Rattle.std.proofs.lemmas.List.Elements.{Contains-get_or, All-filter}
 use Rattle.std.proofs.lemmas.List.Sums.{count_by_more_yes, count_by_more_no, length-filter, count_by-le-length}
 use Rattle.txc_db.specs.History.{moment_at}
 use Rattle.txc_cushion.specs.declared.entry.PinEntry.{PinEntry}
-use Rattle.txc_cushion.specs.Entries.{EntriesFall, users_of, times, without_users, is_retirable}
+use Rattle.txc_cushion.specs.Entries.{EntriesFall, users_of, times, is_retirable}
 use Rattle.txc_cushion.specs.Refusals.{HaveUsers}
 use Rattle.txc_cushion.specs.Cushion.{CushionValue, IsCushion, after_retire}
 use Rattle.txc_cushion.proofs.Falling.{falls_head, falls_tail, falls_filter}

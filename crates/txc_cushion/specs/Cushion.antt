@@ -1,5 +1,5 @@
 -- What callers see of a pincushion, and what its calls make of it.
-use Rattle.std.specs.Prelude.{◌≡◌, ℕ, ◌≤◌, nat_lt, not, List, [], ◌∷◌, length, map, filter, take, reverse, All, Some, if◌then◌else◌}
+use Rattle.std.specs.Prelude.{◌≡◌, ℕ, ◌≤◌, nat_lt, not, List, [], length, map, filter, take, reverse, All, Some, if◌then◌else◌}
 use Rattle.txc_db.specs.declared.pinned.Pinned.{Pinned}
 use Rattle.txc_db.specs.History.{History, moment_at}
 use Rattle.txc_db.specs.Seen.{FrontValue}

@@ -1,7 +1,7 @@
 //! What is done to the pincushion under its lock.
-ghost use Rattle.std.specs.Prelude.{◌≡◌, All, IfOk, IfErr};
+ghost use Rattle.std.specs.Prelude.{◌≡◌, All, IfOk, OnOk, OnErr, IfErr};
 ghost use Rattle.txc_db.specs.History.{IsAllowed};
-ghost use Rattle.txc_cushion.specs.Cushion.{CushionValue, IsCushion, front_of, handed_out, retired};
+ghost use Rattle.txc_cushion.specs.Cushion.{IsCushion, front_of, handed_out, after_fresh, after_add, after_give_back, retired, after_retire};
 ghost use Rattle.txc_cushion.specs.Refusals.{IsAddRefused, IsFirstUnused};
 
 use crate::cushion_core::CushionCore;
@@ -49,10 +49,12 @@ impl<J: Naming> Locked<J> {
     ) -> Result<Pins, AllocError>
         ensures named { self.old.events ≡ J.database_row }
         ensures cushion { IsCushion self.old }
+        ensures after { OnOk result (self.new ≡ after_fresh self.old now staleness at_least) }
         ensures pins { IfOk result (λ pins. pins.pins.items ≡ handed_out self.old now staleness at_least) }
         ensures front { IfOk result (λ pins. pins.front ≡ front_of self.old) }
         ensures allowed { IfOk result (λ pins.
             All (λ pin. IsAllowed pins.front.history pin.stamp now staleness at_least) pins.pins.items) }
+        ensures unchanged { OnErr result (self.new ≡ self.old) }
     {
         self.core.is_cushion();
         self.core.fresh(alloc, now, staleness, at_least)
@@ -62,6 +64,8 @@ impl<J: Naming> Locked<J> {
         requires { pinned.now.front.events ≡ J.database_row }
         ensures named { self.old.events ≡ J.database_row }
         ensures cushion { IsCushion self.old }
+        ensures after { OnOk result (self.new ≡ after_add self.old pinned.now) }
+        ensures unchanged { OnErr result (self.new ≡ self.old) }
         ensures refused { IfErr result (IsAddRefused self.old pinned.now.stamp) }
     {
         self.core.is_cushion();
@@ -71,6 +75,8 @@ impl<J: Naming> Locked<J> {
     pub(crate) fn give_back(&mut self, stamps: &[Stamp]) -> Result<(), UnknownPin>
         ensures named { self.old.events ≡ J.database_row }
         ensures cushion { IsCushion self.old }
+        ensures after { OnOk result (self.new ≡ after_give_back self.old stamps.now) }
+        ensures unchanged { OnErr result (self.new ≡ self.old) }
         ensures refused { IfErr result (λ unknown. IsFirstUnused self.old.entries stamps.now unknown.stamp) }
     {
         self.core.is_cushion();
@@ -85,7 +91,9 @@ impl<J: Naming> Locked<J> {
     ) -> Result<Vec<Stamp>, AllocError>
         ensures named { self.old.events ≡ J.database_row }
         ensures cushion { IsCushion self.old }
+        ensures after { OnOk result (self.new ≡ after_retire self.old now age) }
         ensures answer { IfOk result (λ stamps. stamps.items ≡ retired self.old now age) }
+        ensures unchanged { OnErr result (self.new ≡ self.old) }
     {
         self.core.is_cushion();
         self.core.retire(alloc, now, age)
