@@ -1,5 +1,6 @@
 use Rattle.txc_pinset.specs.Members.{is_held_by}
-use Rattle.txc_pinset.proofs.Kept.{kept_was_there, kept_passes, stays, held_holds, holds_held}
+use Rattle.txc_cushion.proofs.Offered.{kept_was_there, kept_passes, stays}
+use Rattle.txc_pinset.proofs.Kept.{held_holds, holds_held}
 use Rattle.txc_pinset.proofs.laws.narrowing_keeps_exactly_the_held.Goals as goal
 
 pub returns : goal.returns

@@ -1,7 +1,8 @@
 use Rattle.std.proofs.Common.{◌≡◌, true, false, refl, sym, ◌∙◌, ap}
 use Rattle.std.specs.List.{list_any}
 use Rattle.txc_pinset.specs.Members.{is_held_by}
-use Rattle.txc_pinset.proofs.Kept.{none_kept, some_kept, narrowed_held}
+use Rattle.txc_cushion.proofs.Offered.{none_kept, some_kept}
+use Rattle.txc_pinset.proofs.Kept.{narrowed_held}
 use Rattle.txc_pinset.proofs.pin_set.PinSet.narrow.Goals as goal
 
 pub invariant_of-self : goal.invariant_of-self
