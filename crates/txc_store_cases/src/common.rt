@@ -1,145 +1,236 @@
-//! The words that the tables of several files share.
+//! Scripts of commands with what they answer, and how they are played.
 use std::alloc::{AllocError, Global};
-use std::fmt;
-use std::process::Abort;
-use std::test::Fail;
+use std::str::SplitWhitespace;
 use txc_rows::{Change, Query, Row};
 use txc_stamp::Stamp;
 use txc_tags::Table;
-use txc_validity::Found;
 
-/// What a query asks for, or a tag names: a table and an id of it, a table and a group of it, or
-/// a whole table.
-#[derive(Clone, Copy, Debug)]
-pub(crate) enum Rows {
-    Id(u8, u32),
-    Group(u8, u32),
-    All(u8),
+/// What obeys commands.
+pub(crate) trait Obeys {
+    /// Obeys the command of these words, with the changes after it, and writes what it answers.
+    fn obey(
+        &mut self,
+        alloc: Global,
+        words: &mut SplitWhitespace<'_>,
+        changes: &str,
+        answer: &mut String,
+    );
 }
 
-/// A change: a put of a table, an id, a group and a body, or the removal of an id from a table.
-#[derive(Clone, Copy, Debug)]
-pub(crate) enum Write<'a> {
-    Put(u8, u32, u32, &'a [u8]),
-    Remove(u8, u32),
-    /// Puts of the ids from 0 to the one before this, in table 1 and group 2, with the body a.
-    PutAll(u32),
+/// What a script is played to.
+pub(crate) trait Player: Obeys {
+    /// What shows the same after the same commands.
+    type Other: Obeys + Drop;
+
+    /// One to which no command was given yet; none where there is nothing to compare with.
+    fn other(&self, alloc: Global) -> Option<Self::Other>;
 }
 
-/// An answer: how many rows, the id and the first byte of the first and of the last, and the
-/// reach, as its first stamp, its last and whether it is still valid.
-#[derive(Clone, Copy, Debug, PartialEq, Eq)]
-pub(crate) struct Shown(
-    pub usize,
-    pub (u32, u8),
-    pub (u32, u8),
-    pub (u32, u32, bool),
-);
+pub(crate) fn number(words: &mut SplitWhitespace<'_>) -> u32 {
+    words.next().unwrap_or("").parse().unwrap_or(0)
+}
 
-pub(crate) fn stamp(number: u32) -> Stamp {
+pub(crate) fn stamp(words: &mut SplitWhitespace<'_>) -> Stamp {
+    stamp_of(number(words))
+}
+
+pub(crate) fn stamp_of(number: u32) -> Stamp {
     Stamp::new(number).unwrap_or(Stamp::ZERO)
 }
 
-pub(crate) fn table(number: u8) -> Table {
-    match Table::new(number.min(15)) {
-        Some(table) => table,
-        None => unreachable!(),
+/// The numbers of `FIRST-LAST`, or one number twice.
+pub(crate) fn range(word: &str) -> (u32, u32) {
+    let (first, last) = word.split_once('-').unwrap_or((word, word));
+    (first.parse().unwrap_or(0), last.parse().unwrap_or(0))
+}
+
+fn table(words: &mut SplitWhitespace<'_>) -> Option<Table> {
+    Table::new(number(words).min(15) as u8)
+}
+
+/// What the words ask for: `id TABLE ID`, `group TABLE GROUP` or `all TABLE`; none for a `-`.
+pub(crate) fn query(words: &mut SplitWhitespace<'_>) -> Option<Query> {
+    match words.next()? {
+        "id" => Some(Query::ById(table(words)?, number(words))),
+        "group" => Some(Query::ByGroup(table(words)?, number(words))),
+        "all" => Some(Query::All(table(words)?)),
+        _ => None,
     }
 }
 
-pub(crate) fn query(rows: Rows) -> Query {
-    match rows {
-        Rows::Id(number, id) => Query::ById(table(number), id),
-        Rows::Group(number, group) => Query::ByGroup(table(number), group),
-        Rows::All(number) => Query::All(table(number)),
+/// The body that a word says: the word itself, or what stands before a star, so many times.
+pub(crate) fn body(alloc: Global, word: &str) -> Result<Vec<u8>, AllocError> {
+    let (part, count) = word.split_once('*').unwrap_or((word, "1"));
+    let mut body = Vec::new(alloc);
+    for _ in 0..count.parse::<u16>().unwrap_or(0) {
+        body.extend_from_slice(part.as_bytes())?;
     }
+    Ok(body)
 }
 
-fn push_put(
+/// A put of the row, or else its removal.
+fn change(
     alloc: Global,
-    changes: &mut Vec<Change>,
-    (number, id): (u8, u32),
-    group: u32,
-    body: &[u8],
-) -> Result<(), AllocError> {
-    let body = Vec::from_slice(alloc, body)?;
-    if let Ok(row) = Row::new(table(number), id, group, body) {
-        changes.push(Change::Put(row))?;
+    kind: &str,
+    row: (Table, u32, u32),
+    word: &str,
+) -> Result<Change, AllocError> {
+    let (table, id, group) = row;
+    if kind == "put"
+        && let Ok(row) = Row::new(table, id, group, body(alloc, word)?)
+    {
+        return Ok(Change::Put(row));
+    }
+    Ok(Change::Remove(table, id))
+}
+
+/// Pushes the change that the text says, of each id of the range.
+fn push_changes(alloc: Global, changes: &mut Vec<Change>, text: &str) -> Result<(), AllocError> {
+    let mut words = text.split_whitespace();
+    let kind = words.next().unwrap_or("");
+    if !kind.is_empty()
+        && let Some(table) = table(&mut words)
+    {
+        let (first, last) = range(words.next().unwrap_or(""));
+        let group = number(&mut words);
+        let word = words.next().unwrap_or("");
+        for id in first..=last {
+            changes.push(change(alloc, kind, (table, id, group), word)?)?;
+        }
     }
     Ok(())
 }
 
-pub(crate) fn changes(alloc: Global, writes: &[Write]) -> Result<Vec<Change>, AllocError> {
+/// The changes: each `put TABLE ID GROUP BODY` or `remove TABLE ID`, with a comma between them. `FIRST-LAST` for the id
+/// stands for so many changes.
+pub(crate) fn changes(alloc: Global, text: &str) -> Result<Vec<Change>, AllocError> {
     let mut changes = Vec::new(alloc);
-    for write in writes {
-        match *write {
-            Write::Put(number, id, group, body) => {
-                push_put(alloc, &mut changes, (number, id), group, body)?;
-            }
-            Write::Remove(number, id) => changes.push(Change::Remove(table(number), id))?,
-            Write::PutAll(end) => {
-                for id in 0..end {
-                    push_put(alloc, &mut changes, (1, id), 2, b"a")?;
-                }
-            }
-        }
+    for change in text.split(", ") {
+        push_changes(alloc, &mut changes, change)?;
     }
     Ok(changes)
 }
 
-/// The first byte of the body; each has one.
-pub(crate) fn first_byte(row: &Row) -> u8 {
-    row.body()[0]
-}
+/// More than the answers to all looks.
+const ROOM: usize = 1 << 14;
 
-fn id_and_byte(row: Option<&Row>) -> (u32, u8) {
-    match row {
-        Some(row) => (row.id(), first_byte(row)),
-        None => (0, 0),
-    }
-}
-
-pub(crate) fn shown_of(found: &Found) -> Shown {
-    let (rows, reach) = (&found.rows, found.reach);
-    let (lo, known) = (reach.lo().number(), reach.known().number());
-    Shown(
-        rows.len(),
-        id_and_byte(rows.first()),
-        id_and_byte(rows.last()),
-        (lo, known, reach.is_still()),
-    )
-}
-
-/// Whether the answer has the query's tag alone.
-pub(crate) fn is_tagged(found: &Found, query: &Query) -> bool {
-    found.tags.tags() == [query.tag()].as_slice()
-}
-
-fn text_of<E: fmt::Display>(alloc: Global, error: &E) -> Result<String, AllocError> {
-    match format!(in alloc; "{error}") {
-        Err(_) => format!(in alloc; "{error}"),
+/// An empty text that needs no more memory for an answer.
+pub(crate) fn room(alloc: Global) -> Result<String, AllocError> {
+    match String::with_capacity(alloc, ROOM) {
+        Err(_) => String::with_capacity(alloc, ROOM),
         other => other,
     }
 }
 
-/// Compares what the error says.
-pub(crate) fn text<E: fmt::Display>(
-    rt: &(impl Abort + AllocGlobal),
-    error: &E,
-    wanted: &str,
-) -> Result<(), Fail> {
-    let text = text_of(rt.alloc(), error)?;
-    assert!(rt; text.as_str() == wanted, "{text} for {wanted}");
-    Ok(())
+fn obey(player: &mut impl Obeys, alloc: Global, command: &str, answer: &mut String) {
+    let (call, changes) = command.split_once(": ").unwrap_or((command, ""));
+    player.obey(alloc, &mut call.split_whitespace(), changes, answer);
 }
 
-/// Compares what each error says with the text beside it.
-pub(crate) fn texts<E: fmt::Display>(
-    rt: &(impl Abort + AllocGlobal),
-    errors: &[(E, &str)],
-) -> Result<(), Fail> {
-    for (error, wanted) in errors {
-        text(rt, error, wanted)?;
+/// Gives the commands of a script, whatever they answer.
+fn give(player: &mut impl Obeys, alloc: Global, script: &str, answers: &mut String) {
+    for line in script.lines() {
+        let (command, _) = line.split_once(" =>").unwrap_or((line, ""));
+        obey(player, alloc, command, answers);
     }
-    Ok(())
+}
+
+/// Their answers show all that a refused command must leave as it was.
+const LOOKS: &str = "events
+query all 1 0-8
+query id 1 7 0-8
+query id 1 8 0-8
+query id 1 1024 0-8
+query group 1 2 0-8
+query group 1 3 0-8
+list all 1
+list all 2
+list id 1 1024
+";
+
+/// Whether the player shows what another does to which the commands before were given.
+fn is_left<P: Player>(
+    player: &mut P,
+    alloc: Global,
+    before: &str,
+    after: &str,
+    answers: &mut String,
+) -> bool {
+    let Some(mut other) = player.other(alloc) else {
+        return true;
+    };
+    give(&mut other, alloc, before, answers);
+    give(&mut other, alloc, after, answers);
+    answers.clear();
+    give(&mut other, alloc, LOOKS, answers);
+    let at = answers.len();
+    give(player, alloc, LOOKS, answers);
+    answers.as_str().get(..at) == answers.as_str().get(at..)
+}
+
+/// What is wanted, whole, or its front and its back with two dots between them.
+fn is_wanted(answer: &str, wanted: &str) -> bool {
+    match wanted.split_once("..") {
+        Some((front, back)) => answer.starts_with(front)
+            && answer.ends_with(back)
+            && !answer.contains('!'),
+        None => answer == wanted,
+    }
+}
+
+/// Gives a command, and once more where it is refused as out of memory, which must leave what is shown.
+fn obey_again(
+    player: &mut impl Player,
+    alloc: Global,
+    (before, after): (&str, &str),
+    command: &str,
+    answer: &mut String,
+) {
+    answer.clear();
+    obey(player, alloc, command, answer);
+    if answer.as_str().contains("out of memory") && is_left(player, alloc, before, after, answer) {
+        answer.clear();
+        obey(player, alloc, command, answer);
+    }
+}
+
+/// Plays a script after the commands before it: each line is a command and what it answers. Where an answer is not
+/// wanted, it stays, with its line.
+pub(crate) fn is_played(
+    player: &mut impl Player,
+    alloc: Global,
+    before: &str,
+    script: &str,
+    answer: &mut String,
+) -> bool {
+    let mut at = 0usize;
+    for line in script.lines() {
+        let (command, wanted) = line.split_once(" =>").unwrap_or((line, ""));
+        let after = script.get(..at).unwrap_or("");
+        obey_again(player, alloc, (before, after), command, answer);
+        if !is_wanted(answer.as_str().trim_start(), wanted.trim_start()) {
+            let _ = write!(answer, " for {line}");
+            return false;
+        }
+        at = at.saturating_add(line.len()).saturating_add(1);
+    }
+    true
+}
+
+/// So that a word that is spelled wrong is no command without an answer.
+pub(crate) fn say_unknown(answer: &mut String) {
+    let _ = answer.push_str("no such command");
+}
+
+pub(crate) fn say_number(answer: &mut String, number: usize) {
+    let _ = write!(answer, "{number}");
+}
+
+/// The id and the body.
+pub(crate) fn say_row(answer: &mut String, row: Option<&Row>) {
+    if let Some(row) = row {
+        let id = row.id();
+        let body = str::from_utf8(row.body()).unwrap_or("?");
+        let _ = write!(answer, " {id}:{body}");
+    }
 }

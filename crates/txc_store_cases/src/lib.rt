@@ -1,5 +1,5 @@
-//! Cases of the crates that reach the store, and of runs of scripts: tables of rows, which players
-//! go through.
+//! Cases of the crates that reach the store, and of runs of scripts. A case is text: each line a
+//! command and what it answers.
 //!
 //! Each case goes on where one allocation is refused: what the refused call was not to change is
 //! compared, and the call is made again.
@@ -10,8 +10,8 @@ mod common;
 #[cfg(test)]
 mod db;
 #[cfg(test)]
+mod errors;
+#[cfg(test)]
 mod rows;
 #[cfg(test)]
 mod run;
-#[cfg(test)]
-mod validity;

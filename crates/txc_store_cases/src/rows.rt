@@ -1,367 +1,236 @@
 //! Stores of a few rows: what is written, what is deleted, and what is found after it.
-use crate::common::{Rows, Write, changes, query, stamp, table, texts};
-use Call::{Count, List, Purge, WriteWithin};
-use Rows::{All, Group, Id};
-use Write::{Put, PutAll, Remove};
-use sqlite::{Constraint, Error, ErrorCode};
+use crate::common::{
+    Obeys, Player, body, changes, is_played, query, room, say_number, say_row, say_unknown, stamp,
+};
 use std::alloc::{AllocError, Global};
 use std::process::Abort;
+use std::str::SplitWhitespace;
 use std::test::Fail;
-use txc_rows::{Row, RowError, StoreError, VersionRows, Versioned};
+use txc_rows::{Query, Row, StoreError, VersionRows, Versioned};
+use txc_stamp::Stamp;
+use txc_tags::Table;
 
-#[derive(Clone, Copy)]
-pub(crate) enum Call<'a> {
-    /// The changes of a commit with this stamp.
-    Write(u32, &'a [Write<'a>]),
-    /// The same, where each statement of the store may take so many steps.
-    WriteWithin(u64, u32, &'a [Write<'a>]),
-    Purge(u32),
-    /// The versions that match, each as its id, its body, its birth and its death.
-    List(Rows),
-    /// How many versions match.
-    Count(Rows),
+fn say_refusal(answer: &mut String, refusal: StoreError) {
+    let _ = write!(answer, "{refusal}");
 }
 
-/// The text that a call answers, none for a write or a purge.
-pub(crate) type Reply = Result<&'static str, StoreError>;
-
-pub(crate) const DONE: Reply = Ok("");
-
-const NO_MEMORY: StoreError = StoreError::Store(Error::SqliteFailure(ErrorCode::OutOfMemory));
-
-const INTERRUPTED: StoreError = StoreError::Store(Error::SqliteFailure(
-    ErrorCode::OperationInterrupted,
-));
-
-const SAME_KEY: StoreError = StoreError::Store(Error::SqliteFailure(ErrorCode::ConstraintViolation(
-    Constraint::Unique,
-)));
-
-/// What is looked at after a refusal.
-const LOOKS: [Rows; 3] = [All(1), All(2), Id(1, 1024)];
-
-fn write(
-    rows: &mut VersionRows,
-    alloc: Global,
-    steps: Option<u64>,
-    at: u32,
-    writes: &[Write],
-) -> Result<(), StoreError> {
-    let net = changes(alloc, writes)?;
-    rows.set_step_limit(steps);
-    let written = rows.write(&net, stamp(at));
-    rows.set_step_limit(None);
-    written
+fn say_done(answer: &mut String, done: Result<(), StoreError>) {
+    if let Err(refusal) = done {
+        say_refusal(answer, refusal);
+    }
 }
 
-fn text_of(alloc: Global, version: &Versioned) -> Result<String, AllocError> {
-    let id = version.row.id();
-    let body = str::from_utf8(version.row.body()).unwrap_or("?");
+/// Writes copies of the changes.
+fn write(rows: &mut VersionRows, alloc: Global, at: Stamp, text: &str) -> Result<(), StoreError> {
+    let changes = changes(alloc, text)?;
+    let mut copies = Vec::new(alloc);
+    for change in &changes {
+        copies.push(change.copy(alloc)?)?;
+    }
+    rows.write(&copies, at)
+}
+
+/// The row, its birth and its death.
+fn say_version(answer: &mut String, version: &Versioned) {
+    say_row(answer, Some(&version.row));
     let born = version.born.number();
-    match version.died {
-        Some(died) => {
-            let died = died.number();
-            format!(in alloc; "{id} {body} [{born},{died});")
+    let _ = write!(answer, " [{born},");
+    if let Some(died) = version.died {
+        say_number(answer, died.number() as usize);
+    }
+    let _ = answer.push(')');
+}
+
+fn say_list(rows: &mut VersionRows, query: &Query, answer: &mut String) {
+    match rows.matching(query) {
+        Ok(versions) => {
+            for version in &versions {
+                say_version(answer, version);
+            }
         }
-        None => format!(in alloc; "{id} {body} [{born},);"),
+        Err(refusal) => say_refusal(answer, refusal),
     }
 }
 
-fn listed(rows: &mut VersionRows, alloc: Global, asked: Rows) -> Result<String, StoreError> {
-    let mut text = String::new(alloc);
-    for version in &rows.matching(&query(asked))? {
-        text.push_str(text_of(alloc, version)?.as_str())?;
+fn say_count(rows: &mut VersionRows, query: &Query, answer: &mut String) {
+    match rows.matching(query) {
+        Ok(versions) => say_number(answer, versions.len()),
+        Err(refusal) => say_refusal(answer, refusal),
     }
-    Ok(text)
 }
 
-fn answer(rows: &mut VersionRows, alloc: Global, call: Call) -> Result<String, StoreError> {
-    match call {
-        Call::Write(at, writes) => write(rows, alloc, None, at, writes)?,
-        Call::WriteWithin(steps, at, writes) => write(rows, alloc, Some(steps), at, writes)?,
-        Call::Purge(horizon) => rows.purge(stamp(horizon))?,
-        Call::List(asked) => return listed(rows, alloc, asked),
-        Call::Count(asked) => {
-            let count = rows.matching(&query(asked))?.len();
-            return Ok(format!(in alloc; "{count}")?);
+/// Says the row of this body as a copy of it has it, or why there is none.
+fn say_copy(answer: &mut String, alloc: Global, text: &str) -> Result<(), AllocError> {
+    if let Some(table) = Table::new(1) {
+        match Row::new(table, 7, 2, body(alloc, text)?) {
+            Ok(row) => {
+                let copy = row.copy(alloc)?;
+                say_row(answer, Some(&copy));
+                if !copy.is_same(&row) {
+                    let _ = answer.push_str(" !another row!");
+                }
+            }
+            Err(refusal) => {
+                let _ = write!(answer, "{refusal}");
+            }
         }
     }
-    Ok(String::new(alloc))
+    Ok(())
 }
 
-pub(crate) fn is_no_memory(refusal: StoreError) -> bool {
-    refusal == StoreError::Memory || refusal == NO_MEMORY
+impl Player for VersionRows {
+    type Other = VersionRows;
+
+    fn other(&self, alloc: Global) -> Option<VersionRows> {
+        VersionRows::open_in_memory(alloc).ok()
+    }
 }
+
+impl Obeys for VersionRows {
+    fn obey(
+        &mut self,
+        alloc: Global,
+        words: &mut SplitWhitespace<'_>,
+        changes: &str,
+        answer: &mut String,
+    ) {
+        match words.next().unwrap_or("") {
+            "write" => say_done(answer, write(self, alloc, stamp(words), changes)),
+            // Each later statement of the store may take so many steps.
+            "limit" => self.set_step_limit(words.next().unwrap_or("").parse().ok()),
+            "purge" => say_done(answer, self.purge(stamp(words))),
+            "list" => {
+                if let Some(query) = query(words) {
+                    say_list(self, &query, answer);
+                }
+            }
+            "count" => {
+                if let Some(query) = query(words) {
+                    say_count(self, &query, answer);
+                }
+            }
+            "copy" => {
+                if say_copy(answer, alloc, changes).is_err() {
+                    say_refusal(answer, StoreError::Memory);
+                }
+            }
+            _ => say_unknown(answer),
+        }
+    }
+}
+
+/// Versions follow one another, and a purge drops those that died at its stamp or before.
+const FOLLOWING: &str = "write 1: put 1 8 2 b =>
+write 2: put 1 7 2 a =>
+write 4: put 1 8 2 c =>
+write 5: remove 1 7 =>
+write 6: put 1 7 2 d =>
+list all 1 => 7:a [2,5) 7:d [6,) 8:b [1,4) 8:c [4,)
+list group 1 2 => 7:a [2,5) 7:d [6,) 8:b [1,4) 8:c [4,)
+list id 1 7 => 7:a [2,5) 7:d [6,)
+list group 1 3 =>
+purge 3 =>
+list all 1 => 7:a [2,5) 7:d [6,) 8:b [1,4) 8:c [4,)
+purge 4 =>
+list all 1 => 7:a [2,5) 7:d [6,) 8:c [4,)
+purge 5 =>
+list all 1 => 7:d [6,) 8:c [4,)
+";
+
+/// Two births of one id at one stamp are refused, after a put and a removal that could be written.
+const REFUSED: &str = "write 1: put 1 7 2 a =>
+write 2: put 1 6 2 x, remove 1 7, put 1 8 2 y, put 1 8 2 z => \
+the store refused: UNIQUE constraint failed
+list all 1 => 7:a [1,)
+write 2: put 1 8 2 z =>
+list all 1 => 7:a [1,) 8:z [2,)
+";
+
+/// The put of 7 looks at as many versions as there are of it, so that it stops the store, after the put of 5.
+const STOPPED: &str = "write 1: put 1 7 2 a =>
+write 2: put 1 7 2 b =>
+write 3: put 1 7 2 c =>
+write 4: put 1 7 2 d =>
+write 5: put 1 7 2 e =>
+write 6: put 1 7 2 f =>
+write 7: put 1 7 2 g =>
+write 8: put 1 7 2 h =>
+limit 4 =>
+write 9: put 1 6 2 x =>
+limit 0 =>
+write 10: put 1 5 2 y, put 1 7 2 i, put 1 8 2 z => the store refused: interrupted: the limit on steps was met
+limit 1 =>
+write 10: put 1 5 2 y, put 1 7 2 i, put 1 8 2 z => the store refused: interrupted: the limit on steps was met
+limit 2 =>
+write 10: put 1 5 2 y, put 1 7 2 i, put 1 8 2 z => the store refused: interrupted: the limit on steps was met
+limit 3 =>
+write 10: put 1 5 2 y, put 1 7 2 i, put 1 8 2 z => the store refused: interrupted: the limit on steps was met
+limit 4 =>
+write 10: put 1 5 2 y, put 1 7 2 i, put 1 8 2 z => the store refused: interrupted: the limit on steps was met
+limit none =>
+list all 1 => 6:x [9,) 7:a [1,2) 7:b [2,3) 7:c [3,4) 7:d [4,5) 7:e [5,6) 7:f [6,7) 7:g [7,8) 7:h [8,)
+write 10: put 1 5 2 y, put 1 7 2 i, put 1 8 2 z =>
+list all 1 => 5:y [10,) 6:x [9,) 7:a [1,2) 7:b [2,3) 7:c [3,4) 7:d [4,5) 7:e [5,6) 7:f [6,7) 7:g [7,8) \
+7:h [8,10) 7:i [10,) 8:z [10,)
+";
+
+/// At most 1,024 versions match.
+const MANY: &str = "write 1: put 1 0-1023 2 a =>
+count all 1 => 1024
+count group 1 2 => 1024
+write 2: put 1 1024 2 a =>
+count all 1 => over 1,024 versions match
+count group 1 2 => over 1,024 versions match
+list id 1 1024 => 1024:a [2,)
+";
+
+/// A body is 1 to 256 printable bytes.
+const BODIES: &str = "copy: ! => 7:!
+copy: ~ => 7:~
+copy: ~*256 => 7:\
+~~~~~~~~~~~~~~~~~~~~~~~~~~~~~~~~~~~~~~~~~~~~~~~~~~~~~~~~~~~~~~~~\
+~~~~~~~~~~~~~~~~~~~~~~~~~~~~~~~~~~~~~~~~~~~~~~~~~~~~~~~~~~~~~~~~\
+~~~~~~~~~~~~~~~~~~~~~~~~~~~~~~~~~~~~~~~~~~~~~~~~~~~~~~~~~~~~~~~~\
+~~~~~~~~~~~~~~~~~~~~~~~~~~~~~~~~~~~~~~~~~~~~~~~~~~~~~~~~~~~~~~~~
+copy:  => a body is 1 to 256 bytes, each from 0x21 to 0x7E
+copy:   => a body is 1 to 256 bytes, each from 0x21 to 0x7E
+copy: a\x7f => a body is 1 to 256 bytes, each from 0x21 to 0x7E
+copy: ~*257 => a body is 1 to 256 bytes, each from 0x21 to 0x7E
+write 1: put 1 7 2 !, put 1 8 2 ~, put 1 9 2 ~*256 =>
+list all 1 => 7:! [1,) 8:~ [1,) 9:\
+~~~~~~~~~~~~~~~~~~~~~~~~~~~~~~~~~~~~~~~~~~~~~~~~~~~~~~~~~~~~~~~~\
+~~~~~~~~~~~~~~~~~~~~~~~~~~~~~~~~~~~~~~~~~~~~~~~~~~~~~~~~~~~~~~~~\
+~~~~~~~~~~~~~~~~~~~~~~~~~~~~~~~~~~~~~~~~~~~~~~~~~~~~~~~~~~~~~~~~\
+~~~~~~~~~~~~~~~~~~~~~~~~~~~~~~~~~~~~~~~~~~~~~~~~~~~~~~~~~~~~~~~~ [1,)
+";
 
 fn opened(alloc: Global) -> Result<VersionRows, StoreError> {
     match VersionRows::open_in_memory(alloc) {
-        Err(refusal) if is_no_memory(refusal) => VersionRows::open_in_memory(alloc),
+        Err(_) => VersionRows::open_in_memory(alloc),
         other => other,
     }
 }
 
-fn is_reply(given: &Result<String, StoreError>, wanted: Reply) -> bool {
-    match given {
-        Ok(text) => wanted == Ok(text.as_str()),
-        Err(refusal) => wanted == Err(*refusal),
+fn play_all(rt: &(impl Abort + AllocGlobal), scripts: &[&str]) -> Result<(), Fail> {
+    let mut answer = room(rt.alloc())?;
+    for script in scripts {
+        let mut rows = opened(rt.alloc())?;
+        assert!(rt;
+            is_played(&mut rows, rt.alloc(), "", script, &mut answer),
+            "{answer}"
+        );
     }
-}
-
-/// Whether a store shows the same as one to which the first of the calls were made.
-fn is_left(
-    rows: &mut VersionRows,
-    alloc: Global,
-    calls: &[(Call, Reply)],
-    count: usize,
-) -> Result<bool, StoreError> {
-    let mut other = opened(alloc)?;
-    for (call, _) in calls.iter().take(count) {
-        let _given = answer(&mut other, alloc, *call);
-    }
-    for asked in &LOOKS {
-        let there = listed(rows, alloc, *asked);
-        if there != listed(&mut other, alloc, *asked) {
-            return Ok(false);
-        }
-    }
-    Ok(true)
-}
-
-/// Compares what each call answers, and gives the store.
-pub(crate) fn play(
-    rt: &(impl Abort + AllocGlobal),
-    calls: &[(Call, Reply)],
-) -> Result<VersionRows, Fail> {
-    let alloc = rt.alloc();
-    let mut rows = opened(alloc)?;
-    for (i, (call, wanted)) in calls.iter().enumerate() {
-        let mut given = answer(&mut rows, alloc, *call);
-        if matches!(&given, Err(refusal) if is_no_memory(*refusal)) {
-            assert!(rt; is_left(&mut rows, alloc, calls, i)?, "call {i}");
-            given = answer(&mut rows, alloc, *call);
-        }
-        assert!(rt; is_reply(&given, *wanted), "call {i}: {given:?}");
-    }
-    Ok(rows)
-}
-
-const FOLLOWING: [(Call, Reply); 9] = [
-    (Call::Write(1, &[Put(1, 8, 2, b"b")]), DONE),
-    (Call::Write(2, &[Put(1, 7, 2, b"a")]), DONE),
-    (Call::Write(4, &[Put(1, 8, 2, b"c")]), DONE),
-    (Call::Write(5, &[Remove(1, 7)]), DONE),
-    (Call::Write(6, &[Put(1, 7, 2, b"d")]), DONE),
-    (List(All(1)), Ok("7 a [2,5);7 d [6,);8 b [1,4);8 c [4,);")),
-    (
-        List(Group(1, 2)),
-        Ok("7 a [2,5);7 d [6,);8 b [1,4);8 c [4,);"),
-    ),
-    (List(Id(1, 7)), Ok("7 a [2,5);7 d [6,);")),
-    (List(Group(1, 3)), Ok("")),
-];
-
-const PURGED: [(Call, Reply); 6] = [
-    (Call::Write(1, &[Put(1, 7, 2, b"a")]), DONE),
-    (Call::Write(3, &[Remove(1, 7)]), DONE),
-    (Purge(2), DONE),
-    (List(All(1)), Ok("7 a [1,3);")),
-    (Purge(3), DONE),
-    (List(All(1)), Ok("")),
-];
-
-const MANY: [(Call, Reply); 7] = [
-    (Call::Write(1, &[PutAll(1024)]), DONE),
-    (Count(All(1)), Ok("1024")),
-    (Count(Group(1, 2)), Ok("1024")),
-    (Call::Write(2, &[Put(1, 1024, 2, b"a")]), DONE),
-    (Count(All(1)), Err(StoreError::TooManyRows)),
-    (Count(Group(1, 2)), Err(StoreError::TooManyRows)),
-    (List(Id(1, 1024)), Ok("1024 a [2,);")),
-];
-
-#[test]
-fn at_most_1024_versions_match(rt: HostRuntime) -> Result<(), Fail> {
-    let _rows = play(&rt, &MANY)?;
     Ok(())
 }
-
-/// Two births of one id at one stamp, after a put and a removal that could be written.
-const TWICE: [Write; 4] = [
-    Put(1, 6, 2, b"x"),
-    Remove(1, 7),
-    Put(1, 8, 2, b"y"),
-    Put(1, 8, 2, b"z"),
-];
-
-const REFUSED: [(Call, Reply); 5] = [
-    (Call::Write(1, &[Put(1, 7, 2, b"a")]), DONE),
-    (Call::Write(2, &TWICE), Err(SAME_KEY)),
-    (List(All(1)), Ok("7 a [1,);")),
-    (Call::Write(2, &[Put(1, 8, 2, b"z")]), DONE),
-    (List(All(1)), Ok("7 a [1,);8 z [2,);")),
-];
-
-/// The put of 7 looks at as many versions as there are of it, so that it stops the store, after
-/// the put of 5.
-const STOPPED: [Write; 3] = [Put(1, 5, 2, b"y"), Put(1, 7, 2, b"i"), Put(1, 8, 2, b"z")];
-
-const BEFORE: Reply = Ok(
-    "6 x [9,);7 a [1,2);7 b [2,3);7 c [3,4);7 d [4,5);7 e [5,6);7 f [6,7);7 g [7,8);7 h [8,);",
-);
-
-const AFTER: Reply = Ok(
-    "5 y [10,);6 x [9,);7 a [1,2);7 b [2,3);7 c [3,4);7 d [4,5);7 e [5,6);\
-    7 f [6,7);7 g [7,8);7 h [8,10);7 i [10,);8 z [10,);",
-);
-
-const STEPS: [(Call, Reply); 22] = [
-    (Call::Write(1, &[Put(1, 7, 2, b"a")]), DONE),
-    (Call::Write(2, &[Put(1, 7, 2, b"b")]), DONE),
-    (Call::Write(3, &[Put(1, 7, 2, b"c")]), DONE),
-    (Call::Write(4, &[Put(1, 7, 2, b"d")]), DONE),
-    (Call::Write(5, &[Put(1, 7, 2, b"e")]), DONE),
-    (Call::Write(6, &[Put(1, 7, 2, b"f")]), DONE),
-    (Call::Write(7, &[Put(1, 7, 2, b"g")]), DONE),
-    (Call::Write(8, &[Put(1, 7, 2, b"h")]), DONE),
-    (WriteWithin(4, 9, &[Put(1, 6, 2, b"x")]), DONE),
-    (List(All(1)), BEFORE),
-    (WriteWithin(0, 10, &STOPPED), Err(INTERRUPTED)),
-    (List(All(1)), BEFORE),
-    (WriteWithin(1, 10, &STOPPED), Err(INTERRUPTED)),
-    (List(All(1)), BEFORE),
-    (WriteWithin(2, 10, &STOPPED), Err(INTERRUPTED)),
-    (List(All(1)), BEFORE),
-    (WriteWithin(3, 10, &STOPPED), Err(INTERRUPTED)),
-    (List(All(1)), BEFORE),
-    (WriteWithin(4, 10, &STOPPED), Err(INTERRUPTED)),
-    (List(All(1)), BEFORE),
-    (Call::Write(10, &STOPPED), DONE),
-    (List(All(1)), AFTER),
-];
-
-const TABLES: [&[(Call, Reply)]; 5] = [&FOLLOWING, &PURGED, &REFUSED, &STEPS, &STORED];
 
 #[test]
 fn stores_follow_writes_and_purges_and_refused_ones_leave_them(
     rt: HostRuntime,
 ) -> Result<(), Fail> {
-    for calls in &TABLES {
-        let _rows = play(&rt, calls)?;
-    }
-    Ok(())
-}
-
-const LONGEST: [u8; 256] = [b'~'; 256];
-
-const TOO_LONG: [u8; 257] = [b'~'; 257];
-
-const BODIES: [(&[u8], bool); 7] = [
-    (b"!", true),
-    (b"~", true),
-    (&LONGEST, true),
-    (b"", false),
-    (b" ", false),
-    (b"a\x7f", false),
-    (&TOO_LONG, false),
-];
-
-fn body_of(alloc: Global, body: &[u8]) -> Result<Vec<u8>, AllocError> {
-    match Vec::from_slice(alloc, body) {
-        Err(_) => Vec::from_slice(alloc, body),
-        other => other,
-    }
-}
-
-fn copy_of(alloc: Global, row: &Row) -> Result<Row, AllocError> {
-    match row.copy(alloc) {
-        Err(_) => row.copy(alloc),
-        other => other,
-    }
+    play_all(&rt, &[FOLLOWING, REFUSED, STOPPED, BODIES])
 }
 
 #[test]
-fn bodies_and_their_copies(rt: HostRuntime) -> Result<(), Fail> {
-    let alloc = rt.alloc();
-    for (i, (body, is_good)) in BODIES.iter().enumerate() {
-        match Row::new(table(1), 7, 2, body_of(alloc, body)?) {
-            Ok(row) => {
-                let copy = copy_of(alloc, &row)?;
-                let seen = (copy.table().number(), copy.id(), copy.group());
-                assert!(rt;
-                    *is_good && copy.is_same(&row) && copy.body() == *body,
-                    "body {i}"
-                );
-                assert!(rt; seen == (1, 7, 2), "body {i}");
-            }
-            Err(refusal) => assert!(rt; !*is_good && refusal == RowError::BadBody, "body {i}"),
-        }
-    }
-    Ok(())
-}
-
-const LONGEST_LISTED: Reply = Ok(
-    "7 ! [1,);8 ~ [1,);9 \
-    ~~~~~~~~~~~~~~~~~~~~~~~~~~~~~~~~~~~~~~~~~~~~~~~~~~~~~~~~~~~~~~~~\
-    ~~~~~~~~~~~~~~~~~~~~~~~~~~~~~~~~~~~~~~~~~~~~~~~~~~~~~~~~~~~~~~~~\
-    ~~~~~~~~~~~~~~~~~~~~~~~~~~~~~~~~~~~~~~~~~~~~~~~~~~~~~~~~~~~~~~~~\
-    ~~~~~~~~~~~~~~~~~~~~~~~~~~~~~~~~~~~~~~~~~~~~~~~~~~~~~~~~~~~~~~~~ [1,);",
-);
-
-const STORED: [(Call, Reply); 2] = [
-    (
-        Call::Write(
-            1,
-            &[
-                Put(1, 7, 2, b"!"),
-                Put(1, 8, 2, b"~"),
-                Put(1, 9, 2, &LONGEST),
-            ],
-        ),
-        DONE,
-    ),
-    (List(All(1)), LONGEST_LISTED),
-];
-
-fn copied(alloc: Global) -> Result<String, AllocError> {
-    let net = changes(alloc, &[Put(1, 7, 2, b"a"), Remove(1, 8)])?;
-    let mut text = String::new(alloc);
-    for change in &net {
-        let copy = change.copy(alloc)?;
-        text.push_str(format!(in alloc; "{copy:?};")?.as_str())?;
-    }
-    Ok(text)
-}
-
-#[test]
-fn copies_of_changes_are_equal(rt: HostRuntime) -> Result<(), Fail> {
-    let text = match copied(rt.alloc()) {
-        Ok(text) => text,
-        Err(_) => copied(rt.alloc())?,
-    };
-    assert_eq!(rt; text.as_str(), COPIED);
-    Ok(())
-}
-
-const COPIED: &str = "Put(Row { table: Table { number: 1 }, id: 7, group: 2, body: [97] });\
-    Remove(Table { number: 1 }, 8);";
-
-const STORE_ERRORS: [(StoreError, &str); 4] = [
-    (StoreError::TooManyRows, "over 1,024 versions match"),
-    (NO_MEMORY, "the store refused: out of memory"),
-    (
-        INTERRUPTED,
-        "the store refused: interrupted: the limit on steps was met",
-    ),
-    (StoreError::Memory, "out of memory"),
-];
-
-const ROW_ERRORS: [(RowError, &str); 1] = [(
-    RowError::BadBody,
-    "a body is 1 to 256 bytes, each from 0x21 to 0x7E",
-)];
-
-#[test]
-fn errors_of_rows_say_what_was_refused(rt: HostRuntime) -> Result<(), Fail> {
-    texts(&rt, &ROW_ERRORS)?;
-    texts(&rt, &STORE_ERRORS)
+fn at_most_1024_versions_match(rt: HostRuntime) -> Result<(), Fail> {
+    play_all(&rt, &[MANY])
 }

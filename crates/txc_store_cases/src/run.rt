@@ -3,12 +3,12 @@
 mod examples;
 mod rows;
 
+use crate::common::room;
 use examples::EXAMPLES;
-use rows::{REPLIES, ROWS, Row, SCRIPT, Script};
+use rows::{LONG, REPLIES, ROWS, SCRIPT};
 use std::alloc::{AllocError, Global};
 use std::io::{self, Read, Write};
 use std::process::Abort;
-use std::test::Fail;
 use txc_run::{MOST_READS, Mode, RunFault, Settings, Status, exit_of, run};
 
 /// The reply to an insertion that is refused memory.
@@ -17,32 +17,15 @@ const NO_MEMORY: &[u8] = b"refused memory\n";
 /// More than a run of a case writes.
 const ROOM: usize = 1 << 14;
 
-/// Gives at most so many bytes a read, fails at one read, and may begin again at its end.
+/// Gives the bytes and then those after them, at most so many a read, and fails at one read.
 #[derive(Clone, Copy)]
 struct Feeder<'a> {
-    bytes: &'a [u8],
     left: &'a [u8],
+    after: &'a [u8],
     at_most: usize,
-    fails_at: u64,
+    fails_at: usize,
     is_endless: bool,
-    reads: u64,
-}
-
-impl<'a> Feeder<'a> {
-    fn new(bytes: &'a [u8], at_most: usize, fails_at: u64, is_endless: bool) -> Feeder<'a> {
-        Feeder {
-            bytes,
-            left: bytes,
-            at_most,
-            fails_at,
-            is_endless,
-            reads: 0,
-        }
-    }
-
-    fn whole(bytes: &'a [u8]) -> Feeder<'a> {
-        Feeder::new(bytes, usize::MAX, 0, false)
-    }
+    reads: usize,
 }
 
 impl Read for Feeder<'_> {
@@ -51,13 +34,16 @@ impl Read for Feeder<'_> {
         if self.reads == self.fails_at {
             return Err(io::Error::from(io::ErrorKind::Other));
         }
-        if self.left.is_empty() && self.is_endless {
-            self.left = self.bytes;
+        if self.left.is_empty() {
+            self.left = self.after;
+            if !self.is_endless {
+                self.after = &[];
+            }
         }
         let n = self.at_most.min(buf.len()).min(self.left.len());
-        let (given, after) = self.left.split_at(n);
+        let (given, left) = self.left.split_at(n);
         buf[..n].copy_from_slice(given);
-        self.left = after;
+        self.left = left;
         Ok(n)
     }
 }
@@ -67,27 +53,8 @@ impl Read for Feeder<'_> {
 struct Taker {
     taken: Vec<u8>,
     at_most: usize,
-    fails_at: u64,
-    writes: u64,
-}
-
-impl Taker {
-    fn new(alloc: Global, at_most: usize, fails_at: u64) -> Result<Taker, AllocError> {
-        let taken = match Vec::with_capacity(alloc, ROOM) {
-            Ok(taken) => taken,
-            Err(_) => Vec::with_capacity(alloc, ROOM)?,
-        };
-        Ok(Taker {
-            taken,
-            at_most,
-            fails_at,
-            writes: 0,
-        })
-    }
-
-    fn whole(alloc: Global) -> Result<Taker, AllocError> {
-        Taker::new(alloc, usize::MAX, u64::MAX)
-    }
+    fails_at: usize,
+    writes: usize,
 }
 
 impl Write for Taker {
@@ -106,303 +73,285 @@ impl Write for Taker {
     }
 }
 
-type Ended = Result<Status, RunFault>;
-
-fn ran(alloc: Global, settings: Settings, reader: &mut Feeder, writer: &mut Taker) -> Ended {
-    run(alloc, Mode::Node, settings, reader, writer)
-}
-
-/// How a whole run over the script ends, and what it writes.
-fn whole_run(
-    alloc: Global,
+/// A run, and what it is to write and how it is to end.
+#[derive(Clone, Copy)]
+struct Case<'a> {
     settings: Settings,
-    script: &[u8],
-) -> Result<(Ended, Vec<u8>), AllocError> {
-    let mut taker = Taker::whole(alloc)?;
-    let ended = ran(alloc, settings, &mut Feeder::whole(script), &mut taker);
-    Ok((ended, taker.taken))
+    script: &'a [u8],
+    /// The number of the read and of the write that fail, and how many bytes a read and a write take at most.
+    read_fails: usize,
+    write_fails: usize,
+    reads: usize,
+    writes: usize,
+    replies: &'a [u8],
+    end: &'a str,
 }
 
-/// Where the line of a reply begins that says that an insertion was refused memory.
-fn refused_at(written: &[u8]) -> Option<usize> {
-    let at = written
-        .windows(NO_MEMORY.len())
-        .position(|bytes| bytes == NO_MEMORY)?;
-    let starts_line = at == 0 || written.get(at - 1) == Some(&b'\n');
-    starts_line.then_some(at)
+fn whole_case<'a>(
+    settings: Settings,
+    script: &'a [u8],
+    replies: &'a [u8],
+    end: &'a str,
+) -> Case<'a> {
+    Case {
+        settings,
+        script,
+        read_fails: 0,
+        write_fails: usize::MAX,
+        reads: usize::MAX,
+        writes: usize::MAX,
+        replies,
+        end,
+    }
+}
+
+/// What the program says at its end, with its exit status.
+fn end_of(ended: Result<Status, RunFault>) -> &'static str {
+    match (ended, exit_of(ended)) {
+        (Ok(Status::Done), 0) => "0",
+        (Ok(Status::Refused), 1) => "1",
+        (Err(RunFault::Read), 4) => "read fault",
+        (Err(RunFault::Write), 4) => "write fault",
+        (Err(RunFault::Memory), 5) => "memory",
+        _ => "another status",
+    }
+}
+
+/// What a run over two parts of a script writes, and how it ends.
+fn ran(alloc: Global, case: Case, after: &[u8]) -> Result<(Vec<u8>, &'static str), AllocError> {
+    let taken = match Vec::with_capacity(alloc, ROOM) {
+        Ok(taken) => taken,
+        Err(_) => Vec::with_capacity(alloc, ROOM)?,
+    };
+    let mut taker = Taker {
+        taken,
+        at_most: case.writes,
+        fails_at: case.write_fails,
+        writes: 0,
+    };
+    let mut feeder = Feeder {
+        left: case.script,
+        after,
+        at_most: case.reads,
+        fails_at: case.read_fails,
+        is_endless: false,
+        reads: 0,
+    };
+    let ended = run(alloc, Mode::Node, case.settings, &mut feeder, &mut taker);
+    Ok((taker.taken, end_of(ended)))
 }
 
 fn count_lines(text: &[u8]) -> usize {
     text.iter().filter(|byte| **byte == b'\n').count()
 }
 
-/// The script, with the line to which this reply belongs made a comment.
-fn without_line(alloc: Global, script: &[u8], reply: usize) -> Result<Vec<u8>, AllocError> {
-    let mut other = match Vec::from_slice(alloc, script) {
-        Ok(copy) => copy,
-        Err(_) => Vec::from_slice(alloc, script)?,
-    };
+/// The script before the line of that reply, and from the end of that line on.
+fn without_line(script: &[u8], reply: usize) -> (&[u8], &[u8]) {
     let mut replies = 0usize;
-    let mut starts_line = true;
-    for byte in other.iter_mut() {
-        if starts_line && *byte != b'\n' && *byte != b'#' {
+    let mut at = 0usize;
+    for line in script.split(|byte| *byte == b'\n') {
+        let end = at.saturating_add(line.len());
+        if !line.is_empty() && line.first() != Some(&b'#') {
             if replies == reply {
-                *byte = b'#';
+                return (
+                    script.get(..at).unwrap_or(b""),
+                    script.get(end..).unwrap_or(b""),
+                );
             }
-            replies = replies.wrapping_add(1);
+            replies = replies.saturating_add(1);
         }
-        starts_line = *byte == b'\n';
+        at = end.saturating_add(1);
     }
-    Ok(other)
+    (script, b"")
 }
 
-/// A run in which one insertion was refused memory writes that, and else what the script without that line gives.
-fn compare_refused(
-    rt: &(impl Abort + AllocGlobal),
-    settings: Settings,
-    script: &[u8],
-    written: &[u8],
-    at: usize,
-) -> Result<(), Fail> {
-    let reply = count_lines(written.get(..at).unwrap_or(&[]));
-    let other = without_line(rt.alloc(), script, reply)?;
-    let (_, wanted) = whole_run(rt.alloc(), settings, &other)?;
-    assert_eq!(rt; wanted.get(..at), written.get(..at));
-    let after = at.saturating_add(NO_MEMORY.len());
-    assert_eq!(rt; wanted.get(at..), written.get(after..));
-    Ok(())
-}
-
-/// Whether what was written is the text of whole replies at the front of these.
-fn is_front(written: &[u8], replies: &[u8]) -> bool {
-    replies.starts_with(written) && (written.is_empty() || written.ends_with(b"\n"))
-}
-
-/// A whole run, once more where it was refused memory.
-fn play(
-    rt: &(impl Abort + AllocGlobal),
-    settings: Settings,
-    script: &[u8],
-    replies: &[u8],
-    status: Status,
-    name: &str,
-) -> Result<(), Fail> {
-    let (mut ended, mut written) = whole_run(rt.alloc(), settings, script)?;
-    if ended == Err(RunFault::Memory) {
-        assert!(rt; is_front(&written, replies), "{name}");
-        (ended, written) = whole_run(rt.alloc(), settings, script)?;
-    } else if let Some(at) = refused_at(&written) {
-        assert_eq!(rt; ended, Ok(Status::Refused), "{name}");
-        compare_refused(rt, settings, script, &written, at)?;
-        (ended, written) = whole_run(rt.alloc(), settings, script)?;
+/// Whether a run that was refused memory wrote whole replies, or that one insertion was refused, and else what the
+/// script without that line gives.
+fn is_left(alloc: Global, case: Case, written: &[u8], end: &str) -> bool {
+    if case.read_fails != 0 || case.write_fails != usize::MAX {
+        return true;
     }
-    assert_eq!(rt; ended, Ok(status), "{name}");
-    assert_eq!(rt; written.as_slice(), replies, "{name}");
-    Ok(())
-}
-
-/// The bytes of a script.
-fn bytes_of(alloc: Global, script: Script) -> Result<Vec<u8>, AllocError> {
-    match script {
-        Script::Text(text) => Vec::from_slice(alloc, text.as_bytes()),
-        Script::Long(start, byte, count) => {
-            let mut bytes = Vec::from_slice(alloc, start.as_bytes())?;
-            for _ in 0..count {
-                bytes.push(byte)?;
-            }
-            Ok(bytes)
-        }
+    if end == "memory" {
+        return case.replies.starts_with(written)
+            && (written.is_empty() || written.ends_with(b"\n"));
     }
-}
-
-fn status_of(is_refused: bool) -> Status {
-    if is_refused {
-        Status::Refused
-    } else {
-        Status::Done
-    }
-}
-
-fn play_row(rt: &(impl Abort + AllocGlobal), row: &Row) -> Result<(), Fail> {
-    let alloc = rt.alloc();
-    let settings = Settings::new(row.capacity, row.recent).ok_or("settings in range")?;
-    let script = match bytes_of(alloc, row.script) {
-        Ok(script) => script,
-        Err(_) => bytes_of(alloc, row.script)?,
+    let Some(at) = written
+        .windows(NO_MEMORY.len())
+        .position(|bytes| bytes == NO_MEMORY)
+    else {
+        return false;
     };
-    let status = status_of(row.is_refused);
+    let front = written.get(..at).unwrap_or(b"");
+    let rest = written.get(at.saturating_add(NO_MEMORY.len())..);
+    let (script, after) = without_line(case.script, count_lines(front));
+    match ran(alloc, Case { script, ..case }, after) {
+        Ok((others, _)) => {
+            end == "1" && others.get(..at) == Some(front) && others.get(at..) == rest
+        }
+        Err(_) => false,
+    }
+}
+
+/// Whether a run gives what is wanted; `Some(false)` where it was refused memory and wrote what it may then.
+fn is_given(alloc: Global, case: Case) -> Option<bool> {
+    let (written, end) = ran(alloc, case, b"").ok()?;
+    if written.as_slice() == case.replies && end == case.end {
+        return Some(true);
+    }
+    if is_left(alloc, case, &written, end) {
+        Some(false)
+    } else {
+        None
+    }
+}
+
+/// A run, once more where it was refused memory; the name, where it does not give what is wanted.
+fn play(alloc: Global, case: Case, name: &'static str) -> Result<(), &'static str> {
+    match is_given(alloc, case) {
+        Some(true) => Ok(()),
+        Some(false) if is_given(alloc, case) == Some(true) => Ok(()),
+        _ => Err(name),
+    }
+}
+
+fn play_rows(alloc: Global) -> Result<(), &'static str> {
+    for (name, capacity, recent, script, replies, end) in &ROWS {
+        if let Some(settings) = Settings::new(*capacity, *recent) {
+            play(
+                alloc,
+                whole_case(settings, script.as_bytes(), replies.as_bytes(), end),
+                name,
+            )?;
+        }
+    }
+    Ok(())
+}
+
+fn status_of(is_refused: bool) -> &'static str {
+    if is_refused { "1" } else { "0" }
+}
+
+fn play_examples(alloc: Global) -> Result<(), &'static str> {
+    for (name, script, replies, exit) in &EXAMPLES {
+        let end = status_of(*exit != 0);
+        play(
+            alloc,
+            whole_case(
+                Settings::DEFAULT,
+                script.as_bytes(),
+                replies.as_bytes(),
+                end,
+            ),
+            name,
+        )?;
+    }
+    Ok(())
+}
+
+/// The start, and the byte so many times.
+fn long_script(alloc: Global, start: &str, byte: u8, count: usize) -> Result<Vec<u8>, AllocError> {
+    let mut script = Vec::from_slice(alloc, start.as_bytes())?;
+    for _ in 0..count {
+        script.push(byte)?;
+    }
+    Ok(script)
+}
+
+fn play_long(alloc: Global) -> Result<(), &'static str> {
+    for (start, byte, count, replies, end) in &LONG {
+        let script = match long_script(alloc, start, *byte, *count) {
+            Ok(script) => script,
+            Err(_) => long_script(alloc, start, *byte, *count).or(Err("no room"))?,
+        };
+        play(
+            alloc,
+            whole_case(Settings::DEFAULT, &script, replies.as_bytes(), end),
+            start,
+        )?;
+    }
+    Ok(())
+}
+
+/// The front of the stored script up to a length gives the replies up to another; a line that is cut is malformed.
+fn play_front(
+    alloc: Global,
+    len: usize,
+    known: usize,
+    cut_line: Option<usize>,
+) -> Result<(), &'static str> {
+    let front = SCRIPT.get(..len).unwrap_or(SCRIPT);
+    let mut replies = room(alloc).or(Err("no room"))?;
+    let _ = replies.push_str(REPLIES.get(..known).unwrap_or(""));
+    if let Some(line) = cut_line {
+        let _ = write!(replies, "line {line}: malformed\n");
+    }
+    let end = status_of(cut_line.is_some());
+    let case = whole_case(Settings::DEFAULT, front.as_bytes(), replies.as_bytes(), end);
+    play(alloc, case, "a cut script")
+}
+
+/// A reader that fails after so many bytes of the stored script leaves the replies up to a length.
+fn play_broken(alloc: Global, len: usize, known: usize) -> Result<(), &'static str> {
+    let replies = REPLIES.get(..known).unwrap_or("").as_bytes();
+    let case = whole_case(Settings::DEFAULT, SCRIPT.as_bytes(), replies, "read fault");
+    let read_fails = len.saturating_add(1);
     play(
-        rt,
-        settings,
-        &script,
-        row.replies.as_bytes(),
-        status,
-        row.name,
+        alloc,
+        Case {
+            read_fails,
+            reads: 1,
+            ..case
+        },
+        "a reader that fails",
     )
 }
 
-#[test]
-fn scripts_give_their_replies(rt: HostRuntime) -> Result<(), Fail> {
-    for row in &ROWS {
-        play_row(&rt, row)?;
-    }
-    Ok(())
-}
-
-#[test]
-fn examples_give_their_output(rt: HostRuntime) -> Result<(), Fail> {
-    for (name, script, replies, exit) in &EXAMPLES {
-        let status = status_of(*exit == 1);
-        play(
-            &rt,
-            Settings::DEFAULT,
-            script.as_bytes(),
-            replies.as_bytes(),
-            status,
-            name,
-        )?;
-        assert_eq!(rt; exit_of(Ok(status)), *exit, "{name}");
-    }
-    Ok(())
-}
-
-/// Runs the stored script, and once more where it was refused memory, or wrote that an insertion was: a run in which
-/// nothing is refused writes the same each time.
-fn ran_again(
-    alloc: Global,
-    reader: &mut Feeder,
-    at_most: usize,
-    fails_at: u64,
-) -> Result<(Ended, Vec<u8>), AllocError> {
-    let before = *reader;
-    let mut taker = Taker::new(alloc, at_most, fails_at)?;
-    let mut ended = ran(alloc, Settings::DEFAULT, reader, &mut taker);
-    if ended == Err(RunFault::Memory) || !REPLIES.as_bytes().starts_with(&taker.taken) {
-        *reader = before;
-        taker = Taker::new(alloc, at_most, fails_at)?;
-        ended = ran(alloc, Settings::DEFAULT, reader, &mut taker);
-    }
-    Ok((ended, taker.taken))
-}
-
-/// What a prefix of the stored script gives: a line that is cut is malformed.
-fn replies_to_prefix(alloc: Global, len: usize) -> Result<(Vec<u8>, Status), AllocError> {
-    let mut text = Vec::new(alloc);
-    let mut left = len;
-    for (number, (line, reply)) in (1u64..).zip(SCRIPT.lines().zip(REPLIES.lines())) {
-        if left == 0 {
-            break;
-        }
-        if left < line.len() {
-            let malformed = format!(in alloc; "line {number}: malformed\n")?;
-            text.extend_from_slice(malformed.as_bytes())?;
-            return Ok((text, Status::Refused));
-        }
-        text.extend_from_slice(reply.as_bytes())?;
-        text.push(b'\n')?;
-        left = left.saturating_sub(line.len().saturating_add(1));
-    }
-    Ok((text, Status::Done))
-}
-
-#[test]
-fn every_prefix_of_a_script(rt: HostRuntime) -> Result<(), Fail> {
-    let alloc = rt.alloc();
+/// The stored script is cut after each byte, by its end and by a reader that fails.
+fn play_cuts(alloc: Global) -> Result<(), &'static str> {
     let script = SCRIPT.as_bytes();
-    for len in 0..script.len() {
-        let (replies, status) = match replies_to_prefix(alloc, len) {
-            Ok(given) => given,
-            Err(_) => replies_to_prefix(alloc, len)?,
-        };
-        let prefix = &script[..len];
-        play(&rt, Settings::DEFAULT, prefix, &replies, status, "prefix")?;
-    }
-    Ok(())
-}
-
-#[test]
-fn one_byte_at_a_time(rt: HostRuntime) -> Result<(), Fail> {
-    let (script, replies) = (SCRIPT.as_bytes(), REPLIES.as_bytes());
-    let mut reader = Feeder::new(script, 1, 0, false);
-    let (ended, written) = ran_again(rt.alloc(), &mut reader, 1, u64::MAX)?;
-    assert_eq!(rt; ended, Ok(Status::Done));
-    assert_eq!(rt; written.as_slice(), replies);
-    Ok(())
-}
-
-#[test]
-fn a_reader_that_fails(rt: HostRuntime) -> Result<(), Fail> {
-    let (script, replies) = (SCRIPT.as_bytes(), REPLIES.as_bytes());
-    for (k, read) in (1u64..).zip(0..=script.len()) {
-        let mut reader = Feeder::new(script, 1, k, false);
-        let (ended, written) = ran_again(rt.alloc(), &mut reader, usize::MAX, u64::MAX)?;
-        assert_eq!(rt; ended, Err(RunFault::Read), "at {k}");
-        assert!(rt; is_front(&written, replies), "at {k}");
-        assert_eq!(rt;
-            count_lines(&written),
-            count_lines(script.get(..read).unwrap_or(script)),
-            "at {k}"
-        );
-    }
-    Ok(())
-}
-
-#[test]
-fn a_writer_that_fails(rt: HostRuntime) -> Result<(), Fail> {
-    let (script, replies) = (SCRIPT.as_bytes(), REPLIES.as_bytes());
-    for (k, written_before) in (1u64..).zip(0..replies.len()) {
-        let mut reader = Feeder::whole(script);
-        let (ended, written) = ran_again(rt.alloc(), &mut reader, 1, k)?;
-        assert_eq!(rt; ended, Err(RunFault::Write), "at {k}");
-        assert_eq!(rt; written.len(), written_before, "at {k}");
-        assert!(rt; replies.starts_with(&written), "at {k}");
-    }
-    Ok(())
-}
-
-#[test]
-fn a_reader_that_never_ends(rt: HostRuntime) {
-    for line in ["\n", "a", "event 5 -\n"] {
-        let mut reader = Feeder::new(line.as_bytes(), 1, 0, true);
-        let ended = run(
-            rt.alloc(),
-            Mode::Node,
-            Settings::DEFAULT,
-            &mut reader,
-            &mut io::sink(),
-        );
-        assert_eq!(rt; ended, Err(RunFault::Read), "at {line}");
-        assert_eq!(rt; reader.reads, MOST_READS, "at {line}");
-    }
-}
-
-/// How a run ends, the status of the program after it, and what it says of a fault.
-const ENDINGS: [(Ended, u8, &str); 5] = [
-    (Ok(Status::Done), 0, ""),
-    (Ok(Status::Refused), 1, ""),
-    (Err(RunFault::Read), 4, "read fault"),
-    (Err(RunFault::Write), 4, "write fault"),
-    (Err(RunFault::Memory), 5, "memory"),
-];
-
-#[test]
-fn endings_have_their_status_and_text(rt: HostRuntime) -> Result<(), Fail> {
-    let alloc = rt.alloc();
-    for (ended, exit, text) in &ENDINGS {
-        assert_eq!(rt; exit_of(*ended), *exit, "{text}");
-        if let Err(fault) = ended {
-            let shown = match fault.to_string(alloc) {
-                Ok(shown) => shown,
-                Err(_) => fault.to_string(alloc)?,
-            };
-            assert_eq!(rt; shown.as_str(), *text);
+    let mut replies = REPLIES.lines();
+    let (mut line, mut known, mut next) = (1usize, 0usize, 0usize);
+    for len in 0..=script.len() {
+        let front = script.get(..len).unwrap_or(script);
+        let is_begun = !front.is_empty() && !front.ends_with(b"\n");
+        if front.ends_with(b"\n") {
+            line = line.saturating_add(1);
+            known = next;
         }
+        // The last line needs no line end.
+        let is_whole = script.get(len) == Some(&b'\n');
+        if is_whole && let Some(reply) = replies.next() {
+            next = known.saturating_add(reply.len()).saturating_add(1);
+        }
+        play_front(alloc, len, next, (is_begun && !is_whole).then_some(line))?;
+        play_broken(alloc, len, known)?;
     }
     Ok(())
 }
 
-#[test]
-fn settings_have_their_ranges(rt: HostRuntime) {
+/// Readers and writers of one byte at a time, and a writer that fails at each byte.
+fn play_slow(alloc: Global) -> Result<(), &'static str> {
+    let (script, replies) = (SCRIPT.as_bytes(), REPLIES.as_bytes());
+    let slow = Case {
+        reads: 1,
+        writes: 1,
+        ..whole_case(Settings::DEFAULT, script, replies, "0")
+    };
+    play(alloc, slow, "one byte at a time")?;
+    for (write_fails, len) in (1usize..).zip(0..replies.len()) {
+        let replies = replies.get(..len).unwrap_or(replies);
+        let fails = Case {
+            write_fails,
+            replies,
+            end: "write fault",
+            ..slow
+        };
+        play(alloc, fails, "a writer that fails")?;
+    }
+    Ok(())
+}
+
+fn are_ranges() -> bool {
     for (capacity, recent, in_range) in [
         (0, 1, false),
         (1, 0, false),
@@ -411,7 +360,58 @@ fn settings_have_their_ranges(rt: HostRuntime) {
         (65_537, 1, false),
         (1, 4_097, false),
     ] {
-        let made = Settings::new(capacity, recent);
-        assert_eq!(rt; made.is_some(), in_range, "{capacity} and {recent}");
+        if Settings::new(capacity, recent).is_some() != in_range {
+            return false;
+        }
+    }
+    true
+}
+
+fn say_played(rt: &impl Abort, played: Result<(), &'static str>) {
+    if let Err(name) = played {
+        assert!(rt; false, "{name}");
+    }
+}
+
+#[test]
+fn scripts_give_their_replies(rt: HostRuntime) {
+    say_played(&rt, play_rows(rt.alloc()));
+    say_played(&rt, play_examples(rt.alloc()));
+    say_played(&rt, play_long(rt.alloc()));
+    assert!(rt; are_ranges());
+}
+
+#[test]
+fn every_cut_of_a_script(rt: HostRuntime) {
+    say_played(&rt, play_cuts(rt.alloc()));
+}
+
+#[test]
+fn slow_ways_and_a_writer_that_fails(rt: HostRuntime) {
+    say_played(&rt, play_slow(rt.alloc()));
+}
+
+#[test]
+fn a_reader_that_never_ends(rt: HostRuntime) {
+    for line in ["\n", "a", "event 5 -\n"] {
+        let mut reader = Feeder {
+            left: b"",
+            after: line.as_bytes(),
+            at_most: 1,
+            fails_at: 0,
+            is_endless: true,
+            reads: 0,
+        };
+        let ended = run(
+            rt.alloc(),
+            Mode::Node,
+            Settings::DEFAULT,
+            &mut reader,
+            &mut io::sink(),
+        );
+        assert!(rt;
+            end_of(ended) == "read fault" && reader.reads as u64 == MOST_READS,
+            "{line}"
+        );
     }
 }

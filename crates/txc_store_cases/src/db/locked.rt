@@ -1,236 +1,233 @@
-//! The calls under the lock. Each answers what the database alone answers, with a front that shows
-//! the whole history.
-ghost use Rattle.std.specs.Prelude.{◌≡◌};
+//! The calls under the lock. Each answers what the database alone answers, with a front that shows the whole history.
+ghost use Rattle.std.specs.Prelude.{◌≡◌, IfOk};
 
-use super::tables::{ALONE, LOCKED};
-use super::{
-    Call, LAST_LOOK, LOOKS, Reply, Script, append_foreign, changes, event_of, event_reply,
-    found_reply, pinned, play as play_alone, played, query, refused, reply_to, stamp, tags,
+use super::alone::played;
+use super::calls::{
+    Calls, Work, obey_calls, say_done, say_event, say_found, say_pinned, say_refusal, say_stamp,
 };
-use crate::common::{Rows, Write};
+use super::scripts::{LOCKED, Script};
+use crate::common::{Obeys, Player, is_played, room, say_number, say_unknown};
 use std::alloc::{AllocError, Global};
 use std::marker::Brand;
-use std::process::Abort;
+use std::str::SplitWhitespace;
 use std::sync::Wait;
 use std::test::Fail;
-use txc_db::{CommitError, Database, DbCore, DbError, Feed, Mark, Naming};
+use txc_db::{
+    Answered, CommitError, Database, DbCore, DbError, Event, Feed, HistoryFront, Mark, Naming,
+};
+use txc_rows::Query;
+use txc_stamp::Stamp;
+use txc_stream::EventRow;
 
-/// A reply, with the number of events that the front beside it shows, where one came.
-type Given = (Reply, Option<usize>);
+/// A database under its lock, and a feed of it, which sees the front of each answer too.
+#[derive(Drop)]
+pub(super) struct Shared<'a, J: Naming, R: Wait> {
+    rt: &'a R,
+    database: &'a Database<J>,
+    feed: Feed<J>,
+    /// Whether no other thread calls it.
+    is_alone: bool,
+}
 
-fn commit<J: Naming>(
-    rt: &impl Wait,
-    alloc: Global,
-    database: &Database<J>,
-    base: u32,
-    read: &[Rows],
-    writes: &[Write],
-) -> Result<Given, DbError> {
-    let tags = tags(alloc, read)?;
-    let changes = changes(alloc, writes)?;
-    match database.commit(rt, alloc, stamp(base), &tags, &changes) {
-        Ok(done) => Ok((Reply::At(done.answer.number()), Some(done.front.len()))),
-        Err(CommitError::Conflict(first)) => {
-            Ok((
-                Reply::Conflict(first.answer.number()),
-                Some(first.front.len()),
-            ))
-        }
-        Err(CommitError::Database(refusal)) => Err(refusal),
+impl<'a, J: Naming, R: Wait> Shared<'a, J, R> {
+    pub(super) fn new(
+        rt: &'a R,
+        alloc: Global,
+        database: &'a Database<J>,
+        is_alone: bool,
+    ) -> Result<Self, AllocError> {
+        let feed = database.feed(alloc)?;
+        Ok(Shared {
+            rt,
+            database,
+            feed,
+            is_alone,
+        })
     }
-}
 
-fn query_reply<J: Naming>(
-    rt: &impl Wait,
-    alloc: Global,
-    database: &Database<J>,
-    asked: Rows,
-    number: u32,
-) -> Result<Given, DbError> {
-    let query = query(asked);
-    let found = database.query(rt, alloc, &query, stamp(number))?;
-    Ok((found_reply(&found.answer, &query), Some(found.front.len())))
-}
-
-/// Appends a mark past the lock, as no call does.
-fn append_mark<J: Naming>(alloc: Global, database: &Database<J>) -> Result<(), AllocError> {
-    let marks = database.marks();
-    let mut marked = marks.start(alloc)?;
-    let mark = Box::new(alloc, Mark::new(database.reader(alloc)?))?;
-    let _first = marks.next(&mut marked);
-    let _second = marks.next(&mut marked);
-    let _added = marks.append(&mut marked, mark);
-    Ok(())
-}
-
-fn answer<J: Naming>(
-    rt: &impl Wait,
-    alloc: Global,
-    database: &Database<J>,
-    call: Call,
-) -> Result<Given, DbError> {
-    match call {
-        Call::Commit(base, read, writes) => commit(rt, alloc, database, base, read, writes),
-        Call::Pin(now, at_least) => {
-            Ok((
-                pinned(&database.pin(rt, alloc, now, stamp(at_least))?),
-                None,
-            ))
-        }
-        Call::Hold => {
-            let held = database.hold(rt, alloc)?;
-            Ok((Reply::At(held.answer.number()), Some(held.front.len())))
-        }
-        Call::Unpin(number) => {
-            database.unpin(rt, stamp(number))?;
-            Ok((Reply::Done, None))
-        }
-        Call::Vacuum => Ok((Reply::At(database.vacuum(rt)?.number()), None)),
-        Call::Query(asked, number) => query_reply(rt, alloc, database, asked, number),
-        Call::Reader => Ok((Reply::Events(database.reader(alloc)?.len()), None)),
-        Call::Front => {
-            let (_last, events) = event_reply(alloc, database.events(), LAST_LOOK)?;
-            Ok((Reply::Events(events), None))
-        }
-        Call::Event(number) => Ok((event_reply(alloc, database.events(), number)?.0, None)),
-        Call::Foreign => {
-            append_foreign(alloc, database.events())?;
-            Ok((Reply::Done, None))
-        }
-        Call::ForeignMark => {
-            append_mark(alloc, database)?;
-            Ok((Reply::Done, None))
-        }
-        Call::Next | Call::Fed => Ok((Reply::NoEvent, None)),
+    /// A front of all that the answers and the feed have shown.
+    pub(super) fn seen(&self, alloc: Global) -> Result<HistoryFront, AllocError>
+        ensures { IfOk result (λ front. front.events ≡ J.database_row) }
+    {
+        self.feed.front().again(alloc)
     }
-}
 
-pub(super) fn locked_reply<J: Naming>(
-    rt: &impl Wait,
-    alloc: Global,
-    database: &Database<J>,
-    call: Call,
-) -> Given {
-    match answer(rt, alloc, database, call) {
-        Ok(given) => given,
-        Err(refusal) => (refused(refusal), None),
-    }
-}
-
-/// Whether the database shows what one alone does.
-fn is_alike<J: Naming>(
-    rt: &impl Wait,
-    alloc: Global,
-    database: &Database<J>,
-    core: &mut DbCore,
-) -> bool {
-    for number in 0..=LAST_LOOK {
-        let event = Call::Event(number);
-        if locked_reply(rt, alloc, database, event).0 != reply_to(core, alloc, event) {
-            return false;
+    /// Says so where a front shows less than one before it.
+    fn look(&mut self, answer: &mut String, front: &HistoryFront)
+        requires { front.now.events ≡ J.database_row }
+    {
+        self.feed.longer(front);
+        if self.feed.front().len() != front.len() {
+            let _ = answer.push_str("!an old front! ");
         }
-        for asked in &LOOKS {
-            let query = Call::Query(*asked, number);
-            if locked_reply(rt, alloc, database, query).0 != reply_to(core, alloc, query) {
-                return false;
+    }
+
+    /// Takes the next event, where there is one.
+    fn say_next(&mut self, alloc: Global, answer: &mut String) {
+        if self.feed.look() {
+            say_event(answer, alloc, self.feed.next_event());
+            if !answer.as_str().contains("out of memory") {
+                self.feed.take();
             }
         }
     }
-    true
-}
 
-fn next_event<J: Naming>(feed: &mut Feed<J>) -> Reply {
-    if !feed.look() {
-        return Reply::NoEvent;
+    /// A front that was lengthened by that of the feed.
+    fn fed(&self, alloc: Global) -> Result<HistoryFront, AllocError> {
+        let mut front = self.database.reader(alloc)?;
+        front.longer(self.feed.front());
+        Ok(front)
     }
-    let reply = event_of(feed.next_event());
-    feed.take();
-    reply
+
+    /// Appends a mark past the lock, before all others, as no call does.
+    fn append_mark(&self, alloc: Global) -> Result<(), DbError> {
+        let marks = self.database.marks();
+        let mut front = marks.start(alloc)?;
+        let mark = Mark::new(self.database.reader(alloc)?);
+        let _added = marks.append(&mut front, Box::new(alloc, mark)?);
+        Ok(())
+    }
 }
 
-fn reply_with<J: Naming>(
+impl<J: Naming, R: Wait> Calls for Shared<'_, J, R> {
+    fn commit(&mut self, alloc: Global, base: Stamp, work: &Work, answer: &mut String) {
+        match self.database.commit(self.rt, alloc, base, &work.0, &work.1) {
+            Ok(done) => {
+                self.look(answer, &done.front);
+                say_stamp(answer, Ok(done.answer));
+            }
+            Err(refusal) => {
+                if let CommitError::Conflict(first) = &refusal {
+                    self.look(answer, &first.front);
+                }
+                let _ = write!(answer, "{refusal}");
+            }
+        }
+    }
+
+    fn pin(&mut self, alloc: Global, now: u64, at_least: Stamp, answer: &mut String) {
+        match self.database.pin(self.rt, alloc, now, at_least) {
+            Ok(pinned) => {
+                self.look(answer, &pinned.front);
+                say_pinned(answer, &pinned);
+            }
+            Err(refusal) => say_refusal(answer, refusal),
+        }
+    }
+
+    fn hold(&mut self, alloc: Global, answer: &mut String) {
+        match self.database.hold(self.rt, alloc) {
+            Ok(held) => {
+                self.look(answer, &held.front);
+                say_stamp(answer, Ok(held.answer));
+            }
+            Err(refusal) => say_refusal(answer, refusal),
+        }
+    }
+
+    fn unpin(&mut self, stamp: Stamp, answer: &mut String) {
+        say_done(answer, self.database.unpin(self.rt, stamp));
+    }
+
+    fn vacuum(&mut self, answer: &mut String) {
+        say_stamp(answer, self.database.vacuum(self.rt));
+    }
+
+    fn query(&mut self, alloc: Global, query: &Query, stamp: Stamp, answer: &mut String) {
+        match self.database.query(self.rt, alloc, query, stamp) {
+            Ok(found) => {
+                self.look(answer, &found.front);
+                say_found(answer, &found.answer, query);
+            }
+            Err(refusal) => say_refusal(answer, refusal),
+        }
+    }
+
+    fn events(&self) -> &EventRow<Event> {
+        self.database.events()
+    }
+
+    fn other_call(&mut self, alloc: Global, command: &str, answer: &mut String) {
+        let front = match command {
+            "next" => return self.say_next(alloc, answer),
+            "mark" => return say_done(answer, self.append_mark(alloc)),
+            "reader" => self.database.reader(alloc),
+            "front" => self.seen(alloc),
+            "fed" => self.fed(alloc),
+            _ => return say_unknown(answer),
+        };
+        match front {
+            Ok(front) => say_number(answer, front.len()),
+            Err(_) => say_refusal(answer, DbError::Memory),
+        }
+    }
+}
+
+impl<J: Naming, R: Wait> Obeys for Shared<'_, J, R> {
+    fn obey(
+        &mut self,
+        alloc: Global,
+        words: &mut SplitWhitespace<'_>,
+        changes: &str,
+        answer: &mut String,
+    ) {
+        obey_calls(self, alloc, words, changes, answer);
+    }
+}
+
+impl<J: Naming, R: Wait> Player for Shared<'_, J, R> {
+    type Other = DbCore;
+
+    fn other(&self, alloc: Global) -> Option<DbCore> {
+        if self.is_alone {
+            return DbCore::new(alloc, self.database.events().capacity()).ok();
+        }
+        None
+    }
+}
+
+/// Plays a script to the database, after the commands before it, or with no others to compare with. None where memory
+/// for the feed was refused.
+pub(super) fn is_answered_by<J: Naming>(
     rt: &impl Wait,
     alloc: Global,
     database: &Database<J>,
-    feed: &mut Feed<J>,
-    call: Call,
-) -> Given {
-    match call {
-        Call::Next => (next_event(feed), None),
-        Call::Fed => (Reply::Events(feed.front().len()), None),
-        _ => locked_reply(rt, alloc, database, call),
-    }
+    before: Option<&str>,
+    script: &str,
+    answer: &mut String,
+) -> Option<bool> {
+    let mut shared = Shared::new(rt, alloc, database, before.is_some()).ok()?;
+    Some(is_played(&mut shared, alloc, before.unwrap_or(""), script, answer))
 }
 
-pub(super) fn feed_of<J: Naming>(
+/// Puts the database under its lock, and plays a script to it. None where memory for that was refused.
+fn is_answered<J: Naming>(
+    rt: &impl Wait,
     alloc: Global,
-    database: &Database<J>,
-) -> Result<Feed<J>, AllocError> {
-    match database.feed(alloc) {
-        Err(_) => database.feed(alloc),
-        other => other,
-    }
-}
-
-fn events_of<J: Naming>(alloc: Global, database: &Database<J>) -> Result<usize, AllocError> {
-    match event_reply(alloc, database.events(), LAST_LOOK) {
-        Ok((_, events)) => Ok(events),
-        Err(_) => Ok(event_reply(alloc, database.events(), LAST_LOOK)?.1),
-    }
-}
-
-/// Compares what each call answers; `false` where the memory for the database itself was refused.
-fn is_played<J: Naming, R: Wait + Abort + AllocGlobal>(
-    rt: &R,
     core: DbCore,
     script: Script,
-) -> Result<bool, Fail>
+    answer: &mut String,
+) -> Option<bool>
     requires { core.events ≡ J.database_row }
 {
-    let alloc = rt.alloc();
-    let Ok(database) = Database::<J>::new(alloc, core) else {
-        return Ok(false);
-    };
-    let mut feed = feed_of(alloc, &database)?;
-    for (i, (call, wanted)) in script.calls.iter().enumerate().skip(script.alone) {
-        let mut given = reply_with(rt, alloc, &database, &mut feed, *call);
-        if given.0 == Reply::NoMemory {
-            let mut core = played(alloc, script, i)?;
-            assert!(rt; is_alike(rt, alloc, &database, &mut core), "call {i}");
-            given = reply_with(rt, alloc, &database, &mut feed, *call);
-        }
-        assert_eq!(rt; given.0, *wanted, "call {i}");
-        if let Some(shown) = given.1 {
-            assert_eq!(rt; shown, events_of(alloc, &database)?, "call {i}");
-        }
-    }
-    Ok(true)
+    let database = Database::<J>::new(alloc, core).ok()?;
+    is_answered_by(rt, alloc, &database, Some(script.1), script.2, answer)
 }
 
-fn play_once(rt: &(impl Wait + Abort + AllocGlobal), script: Script) -> Result<bool, Fail> {
-    let core = play_alone(rt, script, script.alone)?;
-    is_played::<Brand, _>(rt, core, script)
-}
-
-fn play(rt: &(impl Wait + Abort + AllocGlobal), script: Script) -> Result<(), Fail> {
-    if !play_once(rt, script)? {
-        assert!(rt; play_once(rt, script)?);
-    }
-    Ok(())
+fn starts(rt: &impl Wait, alloc: Global, script: Script, answer: &mut String) -> Option<bool> {
+    let core = played(alloc, script.0, script.1, answer)?;
+    is_answered::<Brand>(rt, alloc, core, script, answer)
 }
 
 #[test]
-fn locked_calls_answer_as_those_of_one_alone(rt: HostRuntime) -> Result<(), Fail> {
-    for script in &ALONE {
-        play(&rt, *script)?;
-    }
-    Ok(())
-}
-
-#[test]
-fn feeds_give_each_event_once_and_foreign_marks_break(rt: HostRuntime) -> Result<(), Fail> {
+fn calls_answer_under_the_lock(rt: HostRuntime) -> Result<(), Fail> {
+    let mut answer = room(rt.alloc())?;
     for script in &LOCKED {
-        play(&rt, *script)?;
+        let mut given = starts(&rt, rt.alloc(), *script, &mut answer);
+        if given.is_none() {
+            given = starts(&rt, rt.alloc(), *script, &mut answer);
+        }
+        assert!(rt; given == Some(true), "{answer}");
     }
     Ok(())
 }

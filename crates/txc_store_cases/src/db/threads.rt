@@ -1,203 +1,151 @@
 //! Two threads over one database.
-ghost use Rattle.std.specs.Prelude.{◌≡◌, IfOk, IfSome};
+ghost use Rattle.std.specs.Prelude.{◌≡◌, IfSome};
 
-use super::locked::{feed_of, locked_reply};
-use super::{Call, Reply, empty, event_of};
-use crate::common::{Rows, Shown, Write};
-use std::alloc::{AllocError, Global};
+use super::alone::played;
+use super::locked::{Shared, is_answered_by};
+use crate::common::{is_played, room};
+use std::alloc::Global;
 use std::marker::Brand;
-use std::process::Abort;
 use std::sync::Wait;
 use std::test::Fail;
 use std::thread::{Threads, join};
-use txc_db::{Database, DbCore, Feed, HistoryFront, Naming};
+use txc_db::{Database, DbCore, HistoryFront, Naming};
 
-/// How many rounds each thread works, and how many events both leave.
-const ROUNDS: usize = 8;
+/// How many events both threads leave.
+const EVENTS: usize = 16;
 
-const EVENTS: u32 = 32;
+/// What one thread calls: rows that nobody else changes are read, put and pinned. Which stamps it is given depends on
+/// the other thread.
+const ONE: &str = "hold => ..
+query id 1 0 0 => 0 [0,..
+commit 0 id 1 0: put 1 0 2 a => ..
+pin 1000 1 => .. at 1000
+commit 0 id 1 1: put 1 1 2 a => ..
+pin 1001 3 => .. at 1001
+commit 0 id 1 2: put 1 2 2 a => ..
+pin 1002 5 => .. at 1002
+commit 0 id 1 3: put 1 3 2 a => ..
+pin 1003 7 => .. at 1003
+";
 
-/// What a thread has seen: the stamp of each of its commits, and the history after the last.
-#[derive(Drop)]
-struct Seen {
-    commits: [u32; ROUNDS],
-    front: HistoryFront,
-}
+/// What the other thread calls.
+const OTHER: &str = "hold => ..
+query id 1 100 0 => 0 [0,..
+commit 0 id 1 100: put 1 100 2 b => ..
+pin 2000 1 => .. at 2000
+commit 0 id 1 101: put 1 101 2 b => ..
+pin 2001 3 => .. at 2001
+commit 0 id 1 102: put 1 102 2 b => ..
+pin 2002 5 => .. at 2002
+commit 0 id 1 103: put 1 103 2 b => ..
+pin 2003 7 => .. at 2003
+";
 
-/// The reply, of the call made again where memory was refused.
-fn reply<J: Naming>(rt: &impl Wait, alloc: Global, database: &Database<J>, call: Call) -> Reply {
-    let (reply, _) = locked_reply(rt, alloc, database, call);
-    if reply != Reply::NoMemory {
-        return reply;
-    }
-    locked_reply(rt, alloc, database, call).0
-}
+/// What is found after both: all rows, and a feed of so many events and no more.
+const BOTH: &str = "query group 1 2 16 => 8 0:a 103:b [..,16] still
+query group 1 2 17 => the newest stamp is Stamp { number: 16 }
+next => ..
+next => ..
+next => ..
+next => ..
+next => ..
+next => ..
+next => ..
+next => ..
+next => ..
+next => ..
+next => ..
+next => ..
+next => ..
+next => ..
+next => ..
+next => ; pin ..
+next =>
+fed => 16
+";
 
-/// What a hold names is read, a row that nobody else changes is put over it and read again, and the
-/// present is pinned.
-fn round<J: Naming>(rt: &impl Wait, alloc: Global, database: &Database<J>, id: u32) -> Option<u32> {
-    let Reply::At(base) = reply(rt, alloc, database, Call::Hold) else {
-        return None;
-    };
-    let before = reply(rt, alloc, database, Call::Query(Rows::Id(1, id), base));
-    let (read, put) = ([Rows::Id(1, id)], [Write::Put(1, id, 2, b"a")]);
-    let Reply::At(at) = reply(rt, alloc, database, Call::Commit(base, &read, &put)) else {
-        return None;
-    };
-    let after = reply(rt, alloc, database, Call::Query(Rows::Id(1, id), at));
-    let Reply::Pinned(pin, _, _) = reply(rt, alloc, database, Call::Pin(1000, at)) else {
-        return None;
-    };
-    let is_new = matches!(before, Reply::Found(Shown(0, ..)))
-        && matches!(after, Reply::Found(Shown(1, ..)));
-    let is_later = base < at && at < pin;
-    let is_freed = reply(rt, alloc, database, Call::Unpin(base)) == Reply::Done;
-    (is_new && is_later && is_freed).then_some(at)
-}
-
-/// The history so far, as a feed shows it, which takes no lock.
-fn history<J: Naming>(alloc: Global, database: &Database<J>) -> Result<HistoryFront, AllocError>
-    ensures { IfOk result (λ front. front.events ≡ J.database_row) }
-{
-    let mut feed = feed_of(alloc, database)?;
-    for _ in 0..EVENTS {
-        if !feed.look() {
-            break;
-        }
-        feed.take();
-    }
-    feed.front().again(alloc)
-}
-
+/// Plays the script, and gives the history that its answers have shown.
 fn work<J: Naming>(
     rt: &impl Wait,
     alloc: Global,
     database: &Database<J>,
-    first_id: u32,
-) -> Option<Seen>
-    ensures { IfSome result (λ seen. seen.front.events ≡ J.database_row) }
+    script: &str,
+) -> Option<HistoryFront>
+    ensures { IfSome result (λ front. front.events ≡ J.database_row) }
 {
-    let mut commits = [0; ROUNDS];
-    let mut id = first_id;
-    for commit in &mut commits {
-        *commit = round(rt, alloc, database, id)?;
-        id = id.saturating_add(1);
+    let mut answer = room(alloc).ok()?;
+    let mut shared = Shared::new(rt, alloc, database, false).ok()?;
+    if is_played(&mut shared, alloc, "", script, &mut answer) {
+        shared.seen(alloc).ok()
+    } else {
+        None
     }
-    let front = match history(alloc, database) {
-        Ok(front) => front,
-        Err(_) => history(alloc, database).ok()?,
-    };
-    Some(Seen { commits, front })
 }
 
 fn work_in_two_threads<J: Naming + Send + Sync, R: Threads + Wait + Sync>(
     rt: &R,
     alloc: Global,
     database: &Database<J>,
-) -> (Option<Seen>, Option<Seen>)
-    ensures one { IfSome result.0 (λ seen. seen.front.events ≡ J.database_row) }
-    ensures other { IfSome result.1 (λ seen. seen.front.events ≡ J.database_row) }
+) -> (Option<HistoryFront>, Option<HistoryFront>)
+    ensures one { IfSome result.0 (λ front. front.events ≡ J.database_row) }
+    ensures other { IfSome result.1 (λ front. front.events ≡ J.database_row) }
 {
     join(
         rt,
-        || -> Option<Seen>
-            ensures { IfSome result (λ seen. seen.front.events ≡ J.database_row) }
-        { work(rt, alloc, database, 0) },
-        || -> Option<Seen>
-            ensures { IfSome result (λ seen. seen.front.events ≡ J.database_row) }
-        { work(rt, alloc, database, 100) },
+        || -> Option<HistoryFront>
+            ensures { IfSome result (λ front. front.events ≡ J.database_row) }
+        { work(rt, alloc, database, ONE) },
+        || -> Option<HistoryFront>
+            ensures { IfSome result (λ front. front.events ≡ J.database_row) }
+        { work(rt, alloc, database, OTHER) },
     )
 }
 
-/// The event of that stamp, as the front shows it.
-fn event_shown(front: &HistoryFront, number: u32) -> Reply {
-    let number = number as usize;
-    if number == 0 || front.len() < number {
-        return Reply::NoEvent;
-    }
-    event_of(front.event_at(number))
-}
-
-/// Whether each id was put by the event of its stamp, in the row and in the front.
-fn are_found<J: Naming>(
-    rt: &impl Wait,
-    alloc: Global,
-    database: &Database<J>,
-    seen: &Seen,
-    first_id: u32,
-) -> bool {
-    let mut id = first_id;
-    for commit in &seen.commits {
-        let put = Reply::PutOne(id, 2, b'a');
-        if reply(rt, alloc, database, Call::Event(*commit)) != put
-            || event_shown(&seen.front, *commit) != put
-        {
-            return false;
-        }
-        id = id.saturating_add(1);
-    }
-    true
-}
-
-/// Whether a feed gives as many events as both threads left, and no more.
-fn feeds_all<J: Naming>(feed: Feed<J>) -> bool {
-    let mut feed = feed;
-    for _ in 0..EVENTS {
-        if !feed.look() {
-            return false;
-        }
-        feed.take();
-    }
-    !feed.look()
-}
-
-/// What both threads have seen is found in one history.
-fn meet<J: Naming>(
-    rt: &(impl Wait + Abort),
-    alloc: Global,
-    database: &Database<J>,
-    mut one: Seen,
-    mut other: Seen,
-) -> Result<(), Fail>
-    requires one { one.front.events ≡ J.database_row }
-    requires other { other.front.events ≡ J.database_row }
+/// How many events both threads have seen, in one history.
+fn seen_by_both<J: Naming>(one: Option<HistoryFront>, other: Option<HistoryFront>) -> Option<usize>
+    requires one { IfSome one (λ front. front.events ≡ J.database_row) }
+    requires other { IfSome other (λ front. front.events ≡ J.database_row) }
 {
-    one.front.agree(&other.front);
-    one.front.longer(&other.front);
-    other.front.longer(&one.front);
-    assert!(rt; one.front.len() == EVENTS as usize && other.front.len() == EVENTS as usize);
-    assert!(rt; are_found(rt, alloc, database, &one, 0));
-    assert!(rt; are_found(rt, alloc, database, &other, 100));
-    assert!(rt; feeds_all(feed_of(alloc, database)?));
-    Ok(())
+    match (one, other) {
+        (Some(mut one), Some(other)) => {
+            one.agree(&other);
+            one.longer(&other);
+            Some(one.len())
+        }
+        _ => None,
+    }
 }
 
-/// `false` where the memory for the database itself was refused.
-fn two_threads<J: Naming + Send + Sync, R: Threads + Wait + Abort + Sync>(
+/// Whether both threads find one history. None where memory was refused, for which all is done again.
+fn meet<J: Naming + Send + Sync, R: Threads + Wait + Sync>(
     rt: &R,
     alloc: Global,
     core: DbCore,
-) -> Result<bool, Fail>
+    answer: &mut String,
+) -> Option<bool>
     requires { core.events ≡ J.database_row }
 {
-    let Ok(database) = Database::<J>::new(alloc, core) else {
-        return Ok(false);
-    };
+    let database = Database::<J>::new(alloc, core).ok()?;
     let (one, other) = work_in_two_threads(rt, alloc, &database);
-    let (one, other) = (one.ok_or("one thread")?, other.ok_or("other thread")?);
-    meet(rt, alloc, &database, one, other)?;
-    Ok(true)
+    if seen_by_both::<J>(one, other)? == EVENTS {
+        is_answered_by(rt, alloc, &database, None, BOTH, answer)
+    } else {
+        Some(false)
+    }
 }
 
-fn start<R: Threads + Wait + Abort + Sync + AllocGlobal>(rt: &R) -> Result<bool, Fail> {
-    let core = empty(rt.alloc(), EVENTS as usize)?;
-    two_threads::<Brand, _>(rt, rt.alloc(), core)
+fn start<R: Threads + Wait + Sync>(rt: &R, alloc: Global, answer: &mut String) -> Option<bool> {
+    let core = played(alloc, EVENTS, "", answer)?;
+    meet::<Brand, _>(rt, alloc, core, answer)
 }
 
 #[test]
 fn two_threads_meet_in_one_history(rt: HostRuntime) -> Result<(), Fail> {
-    if !start(&rt)? {
-        assert!(rt; start(&rt)?);
+    let mut answer = room(rt.alloc())?;
+    let mut given = start(&rt, rt.alloc(), &mut answer);
+    if given.is_none() {
+        given = start(&rt, rt.alloc(), &mut answer);
     }
+    assert!(rt; given == Some(true), "{answer}");
     Ok(())
 }
