@@ -9,7 +9,7 @@ pub enum AddError {
     #[error("the pincushion is full")]
     Full,
     /// A pin of this stamp is there already.
-    #[error("stamp {0:?} is pinned already")]
+    #[error("stamp {0} is pinned already")]
     Known(Stamp),
     /// A growth was refused.
     #[error("out of memory")]
@@ -29,7 +29,7 @@ impl From<AllocError> for AddError {
 
 /// The first stamp given back that is not there, or that has no user left at its place. Nothing changed.
 #[derive(Clone, Copy, Debug, PartialEq, Eq, Error)]
-#[error("stamp {stamp:?} has no user to give back")]
+#[error("stamp {stamp} has no user to give back")]
 pub struct UnknownPin {
     pub stamp: Stamp,
 }
