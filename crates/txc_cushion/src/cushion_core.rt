@@ -60,9 +60,9 @@ impl CushionCore {
         let _entries = &self.entries;
     }
 
-    /// Hands out the newest of the fresh pins, sixteen at most, and counts one user more for each. A pin is fresh where
-    /// its moment is no more than `staleness` before `now`, all in milliseconds, and its stamp is not below `at_least`.
-    /// One with as many users as there may be is passed over.
+    /// Hands out the newest of the fresh pins, at most [`crate::MAX_HANDED_OUT`], and counts one user more for each. A
+    /// pin is fresh where its moment is no more than `staleness` before `now`, all in milliseconds, and its stamp is not
+    /// below `at_least`. One with [`crate::MAX_USERS`] users is passed over.
     pub fn fresh(
         &mut self,
         alloc: Global,
@@ -71,10 +71,11 @@ impl CushionCore {
         at_least: Stamp,
     ) -> Result<Pins, AllocError>
         ensures after { OnOk result (self.new ≡ after_fresh self.old now staleness at_least) }
-        ensures pins { IfOk result (λ pins. pins.pins.items ≡ handed_out self.old now staleness at_least) }
-        ensures front { IfOk result (λ pins. pins.front ≡ front_of self.old) }
-        ensures allowed { IfOk result (λ pins.
-            All (λ pin. IsAllowed pins.front.history pin.stamp now staleness at_least) pins.pins.items) }
+        ensures pins { IfOk result (λ given.
+            given.pins.items ≡ handed_out self.old now staleness at_least) }
+        ensures front { IfOk result (λ given. given.front ≡ front_of self.old) }
+        ensures allowed { IfOk result (λ given. All
+            (λ pin. IsAllowed given.front.history pin.stamp now staleness at_least) given.pins.items) }
         ensures unchanged { OnErr result (self.new ≡ self.old) }
     {
         let pins = newest_fresh(alloc, &self.entries, now, staleness, at_least)?;
@@ -83,7 +84,7 @@ impl CushionCore {
         Ok(Pins { pins, front })
     }
 
-    /// Adds a pin, with one user. From then on the front shows what the front of the pin shows.
+    /// Adds a pin of the front's row, with one user. From then on the front shows what the front of the pin shows.
     pub fn add(&mut self, pinned: &Pinned) -> Result<(), AddError>
         requires { pinned.now.front.events ≡ self.old.events }
         ensures after { OnOk result (self.new ≡ after_add self.old pinned.now) }
@@ -107,7 +108,8 @@ impl CushionCore {
         ensures after { OnOk result (self.new ≡ after_give_back self.old stamps.now) }
         ensures only_if { IsOk result → HaveUsers self.old.entries stamps.now }
         ensures unchanged { OnErr result (self.new ≡ self.old) }
-        ensures refused { IfErr result (λ unknown. IsFirstUnused self.old.entries stamps.now unknown.stamp) }
+        ensures refused { IfErr result (λ unknown.
+            IsFirstUnused self.old.entries stamps.now unknown.stamp) }
     {
         check_users(&self.entries, stamps)?;
         take_users(&mut self.entries, stamps);

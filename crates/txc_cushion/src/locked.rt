@@ -50,10 +50,11 @@ impl<J: Naming> Locked<J> {
         ensures named { self.old.events ≡ J.database_row }
         ensures cushion { IsCushion self.old }
         ensures after { OnOk result (self.new ≡ after_fresh self.old now staleness at_least) }
-        ensures pins { IfOk result (λ pins. pins.pins.items ≡ handed_out self.old now staleness at_least) }
-        ensures front { IfOk result (λ pins. pins.front ≡ front_of self.old) }
-        ensures allowed { IfOk result (λ pins.
-            All (λ pin. IsAllowed pins.front.history pin.stamp now staleness at_least) pins.pins.items) }
+        ensures pins { IfOk result (λ given.
+            given.pins.items ≡ handed_out self.old now staleness at_least) }
+        ensures front { IfOk result (λ given. given.front ≡ front_of self.old) }
+        ensures allowed { IfOk result (λ given. All
+            (λ pin. IsAllowed given.front.history pin.stamp now staleness at_least) given.pins.items) }
         ensures unchanged { OnErr result (self.new ≡ self.old) }
     {
         self.core.is_cushion();
@@ -77,7 +78,8 @@ impl<J: Naming> Locked<J> {
         ensures cushion { IsCushion self.old }
         ensures after { OnOk result (self.new ≡ after_give_back self.old stamps.now) }
         ensures unchanged { OnErr result (self.new ≡ self.old) }
-        ensures refused { IfErr result (λ unknown. IsFirstUnused self.old.entries stamps.now unknown.stamp) }
+        ensures refused { IfErr result (λ unknown.
+            IsFirstUnused self.old.entries stamps.now unknown.stamp) }
     {
         self.core.is_cushion();
         self.core.give_back(stamps)

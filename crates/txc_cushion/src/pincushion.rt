@@ -32,9 +32,9 @@ impl<J: Naming> Pincushion<J> {
         })
     }
 
-    /// Hands out the newest of the fresh pins, sixteen at most, and counts one user more for each. Each is a pin of the
-    /// front's history whose moment is no more than `staleness` before `now`, all in milliseconds, and whose stamp is
-    /// not below `at_least`.
+    /// Hands out the newest of the fresh pins, at most [`crate::MAX_HANDED_OUT`], and counts one user more for each. Each
+    /// is a pin of the front's history whose moment is no more than `staleness` before `now`, all in milliseconds, and
+    /// whose stamp is not below `at_least`.
     pub fn fresh(
         &self,
         rt: &impl Wait,
@@ -43,11 +43,11 @@ impl<J: Naming> Pincushion<J> {
         staleness: u64,
         at_least: Stamp,
     ) -> Result<Pins, AllocError>
-        ensures named { IfOk result (λ pins. pins.front.events ≡ J.database_row) }
-        ensures allowed { IfOk result (λ pins.
-            All (λ pin. IsAllowed pins.front.history pin.stamp now staleness at_least) pins.pins.items) }
-        ensures answer { IfOk result (MayAnswer J.database_row (λ c pins.
-            (pins.pins.items ≡ handed_out c now staleness at_least) × (pins.front ≡ front_of c))) }
+        ensures named { IfOk result (λ given. given.front.events ≡ J.database_row) }
+        ensures allowed { IfOk result (λ given. All
+            (λ pin. IsAllowed given.front.history pin.stamp now staleness at_least) given.pins.items) }
+        ensures answer { IfOk result (MayAnswer J.database_row (λ c given.
+            (given.pins.items ≡ handed_out c now staleness at_least) × (given.front ≡ front_of c))) }
     {
         self.lock.lock(rt).fresh(alloc, now, staleness, at_least)
     }
@@ -55,7 +55,8 @@ impl<J: Naming> Pincushion<J> {
     /// Adds a pin, with one user.
     pub fn add(&self, rt: &impl Wait, pinned: &Pinned) -> Result<(), AddError>
         requires { pinned.now.front.events ≡ J.database_row }
-        ensures refused { IfErr result (MayAnswer J.database_row (λ c. IsAddRefused c pinned.now.stamp)) }
+        ensures refused { IfErr result (MayAnswer J.database_row (λ c.
+            IsAddRefused c pinned.now.stamp)) }
     {
         self.lock.lock(rt).add(pinned)
     }
@@ -77,7 +78,8 @@ impl<J: Naming> Pincushion<J> {
         now: u64,
         age: u64,
     ) -> Result<Vec<Stamp>, AllocError>
-        ensures answer { IfOk result (MayAnswer J.database_row (λ c stamps. stamps.items ≡ retired c now age)) }
+        ensures answer { IfOk result (MayAnswer J.database_row (λ c stamps.
+            stamps.items ≡ retired c now age)) }
     {
         self.lock.lock(rt).retire(alloc, now, age)
     }

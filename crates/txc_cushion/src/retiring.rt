@@ -13,7 +13,8 @@ pub(crate) fn retirable(
     now: u64,
     age: u64,
 ) -> Result<Vec<Stamp>, AllocError>
-    ensures { IfOk result (λ stamps. stamps.items ≡ stamps_of (filter (is_retirable now age) (reverse entries.now))) }
+    ensures { IfOk result (λ stamps. stamps.items
+        ≡ stamps_of (filter (is_retirable now age) (reverse entries.now))) }
 {
     entries
         .iter()
