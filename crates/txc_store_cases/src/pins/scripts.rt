@@ -23,6 +23,18 @@ pub(super) const SCRIPTS: [Script; 5] = [
     ("", SEVENTEEN),
 ];
 
+/// A pin with as many users as there may be is passed over, until one is given back.
+pub(super) const CROWDED: Script = (
+    "",
+    "pin 1000 => 1
+add =>
+crowd 65534 =>
+fresh 0 0 0 =>
+give 1 =>
+fresh 0 0 0 => 1
+",
+);
+
 /// The sum of a moment and the staleness is 2,500, one less, and over 64 bits; stamps below the one asked for are left out.
 /// A stamp is given back as often as it was handed out, and the first that was not is named. Only pins without users are
 /// retired, and only where they are older than is asked.

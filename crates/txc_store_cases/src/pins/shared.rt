@@ -1,10 +1,11 @@
 //! The calls of a pincushion under its lock and of a pin set, as commands.
 ghost use Rattle.std.specs.Prelude.{◌≡◌};
 
-use super::scripts::{SCRIPTS, Script};
+use super::scripts::{CROWDED, SCRIPTS, Script};
 use crate::common::{Obeys, Player, is_played, number, room, say_number, say_unknown, stamp};
 use std::alloc::{AllocError, Global};
 use std::marker::{Brand, Model, PhantomData};
+use std::process::Abort;
 use std::str::SplitWhitespace;
 use std::sync::Wait;
 use std::test::Fail;
@@ -106,12 +107,22 @@ impl<J: Naming, R: Wait> Shared<'_, J, R> {
 
     fn fresh(&mut self, alloc: Global, words: &mut SplitWhitespace<'_>, answer: &mut String) {
         let (now, staleness) = (long(words), long(words));
-        match self.cushion.fresh(self.rt, alloc, now, staleness, stamp(words)) {
+        match self
+            .cushion
+            .fresh(self.rt, alloc, now, staleness, stamp(words))
+        {
             Ok(pins) => {
                 say_pins(answer, &pins.pins);
                 self.pins = Some(pins);
             }
             Err(_) => say_memory(answer),
+        }
+    }
+
+    /// Fetches pins so many times, and keeps them.
+    fn crowd(&self, alloc: Global, words: &mut SplitWhitespace<'_>) {
+        for _ in 0..number(words) {
+            let _ = self.cushion.fresh(self.rt, alloc, 0, 0, Stamp::ZERO);
         }
     }
 
@@ -209,6 +220,7 @@ impl<J: Naming, R: Wait> Obeys for Shared<'_, J, R> {
             "pin" => self.pin(alloc, long(words), answer),
             "add" => self.add(answer),
             "fresh" => self.fresh(alloc, words, answer),
+            "crowd" => self.crowd(alloc, words),
             "give" => self.give(alloc, words, answer),
             "retire" => self.retire(alloc, words, answer),
             "begin" => self.begin(alloc, answer),
@@ -267,15 +279,24 @@ fn starts(rt: &impl Wait, alloc: Global, script: Script, answer: &mut String) ->
     is_answered::<Brand>(rt, alloc, core, script, answer)
 }
 
-#[test]
-fn pins_are_handed_out_and_narrowed(rt: HostRuntime) -> Result<(), Fail> {
+fn play(rt: &(impl Abort + Wait + AllocGlobal), scripts: &[Script]) -> Result<(), Fail> {
     let mut answer = room(rt.alloc())?;
-    for script in &SCRIPTS {
-        let mut given = starts(&rt, rt.alloc(), *script, &mut answer);
+    for script in scripts {
+        let mut given = starts(rt, rt.alloc(), *script, &mut answer);
         if given.is_none() {
-            given = starts(&rt, rt.alloc(), *script, &mut answer);
+            given = starts(rt, rt.alloc(), *script, &mut answer);
         }
         assert!(rt; given == Some(true), "{answer}");
     }
     Ok(())
+}
+
+#[test]
+fn pins_are_handed_out_and_narrowed(rt: HostRuntime) -> Result<(), Fail> {
+    play(&rt, &SCRIPTS)
+}
+
+#[test]
+fn a_pin_has_no_more_users_than_it_may(rt: HostRuntime) -> Result<(), Fail> {
+    play(&rt, &[CROWDED])
 }
