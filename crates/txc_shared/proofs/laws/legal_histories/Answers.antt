@@ -1,0 +1,9 @@
+use Rattle.txc_shared.proofs.Histories
+use Rattle.txc_shared.proofs.laws.legal_histories.Goals as goal
+
+pub returns : goal.returns
+returns c = record {
+  longer = Histories.legal_in_longer c.states_stay.ensures.tags;
+  beginning = Histories.beginning_is_legal;
+  events = Histories.events_are_taken;
+}
