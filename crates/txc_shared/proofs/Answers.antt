@@ -5,11 +5,10 @@ use Rattle.txc_tags.specs.Keys.{Call}
 use Rattle.txc_rows.specs.declared.query.Query.{Query}
 use Rattle.txc_rows.specs.States.{State, answer}
 use Rattle.txc_node.specs.declared.value.TheConstants.{MAX_VALUE_LEN}
-use Rattle.txc_shared.specs.declared.app.TheConstants.{MAX_ASKS}
 use Rattle.txc_shared.specs.declared.ask.Ask.{Ask}
 use Rattle.txc_shared.specs.declared.ask.Ask.TheVariants as asks
 use Rattle.txc_shared.specs.declared.ask.Answer.{Answer}
-use Rattle.txc_shared.specs.Eval.{Next, Evaluation, no_value, after_meeting, after_value, after_ask, activation, call_below, evaluation, eval, met}
+use Rattle.txc_shared.specs.Eval.{Next, Evaluation, no_value, after_meeting, after_value, after_ask, activation, call_below, evaluation, met}
 use Rattle.txc_shared.specs.Answering.{IsRight, queries_of, queries_after, queries_for}
 use Rattle.txc_shared.specs.Laws.{RightAnswersGiveTheValue}
 use Rattle.txc_shared.proofs.Evals.{below_is}
@@ -81,5 +80,5 @@ pub right_answers_give_the_value : RightAnswersGiveTheValue
 right_answers_give_the_value next k s given bytes h few e short =
     let n = asks_left (length given) few in
     let it = continues next k s [] given (suc n.0) 64 n.1 h
-        ∙ ap (λ (o : Evaluation). after_meeting (queries_for next k s given) o) (done_is next k s given bytes (suc n.0) (omega arith) e short) in
+    ∙ ap (λ (o : Evaluation). after_meeting (queries_for next k s given) o) (done_is next k s given bytes (suc n.0) (omega arith) e short) in
     (ap (λ (o : Evaluation). o.value) it, ap (λ (o : Evaluation). o.met) it ∙ append-nil (queries_for next k s given))

@@ -1,5 +1,5 @@
 -- What holds over a reach.
-use Rattle.std.proofs.Common.{◌≡◌, inl, ℕ, zero, suc, ◌≤◌, List, [], ◌∷◌, ◌++◌, length, length-append, Option, Some, None, Bool, true, false, slice_get, refl, sym, ap, subst, ◌∙◌, arith}
+use Rattle.std.proofs.Common.{◌≡◌, inl, ℕ, suc, List, [], ◌∷◌, ◌++◌, length-append, Option, Some, None, true, false, refl, sym, ap, subst, ◌∙◌, arith}
 use Rattle.std.specs.List.{AllByRecursion}
 use mathlib.Core.List.{IsPrefix}
 use Rattle.txc_stamp.specs.Interval.{Interval}
@@ -79,7 +79,7 @@ comes_to : (next : Next) (q : Query) (rows : List RowValue) (k : Call) (bytes : 
 comes_to next q rows k bytes done s same =
     let is_right : List Answer → Answer → Type 0 = λ before a. IsRight next k.function s (next k.function k.args before) a in
     let right : AreRight next k s (answers.Rows rows ∷ []) = each_push is_right [] (answers.Rows rows) (each_none is_right)
-        (subst (λ (o : Option Ask). IsRight next k.function s o (answers.Rows rows)) (sym done.query) (ap answers.Rows same)) in
+    (subst (λ (o : Option Ask). IsRight next k.function s o (answers.Rows rows)) (sym done.query) (ap answers.Rows same)) in
     let it = right_answers_give_the_value next k s (answers.Rows rows ∷ []) bytes right (omega arith) done.done done.short in
     (it.0, it.1 ∙ ap (λ (o : Option Ask). queries_of next s o ++ []) done.query)
 

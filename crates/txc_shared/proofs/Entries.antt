@@ -1,5 +1,5 @@
 -- What a node shows of its entries stays true.
-use Rattle.std.proofs.Common.{◌≡◌, ◌⊎◌, inl, inr, ℕ, zero, suc, ◌+◌, ◌-◌, ◌<◌, ◌≤◌, List, [], ◌∷◌, ◌++◌, length, drop, Bool, true, false, true≢false, cond, nat_lt, max, ◌&&◌, refl, sym, ap, subst, ◌∙◌, arith}
+use Rattle.std.proofs.Common.{◌≡◌, ◌⊎◌, inl, inr, ℕ, zero, suc, ◌+◌, ◌-◌, ◌<◌, ◌≤◌, List, [], ◌∷◌, length, drop, Bool, true, false, true≢false, cond, nat_lt, max, ◌&&◌, refl, sym, ap, subst, ◌∙◌, arith}
 use Rattle.std.proofs.lemmas.Bool.Decides.{nat_tests}
 use Rattle.txc_stamp.specs.Interval.{Interval, closed_at}
 use Rattle.txc_tags.specs.declared.tag.Tag.{Tag}
@@ -7,11 +7,11 @@ use Rattle.txc_tags.specs.Tags.{sets_match}
 use Rattle.txc_db.specs.History.{History, state_at, tags_at}
 use Rattle.txc_db.specs.Laws.{EventTagsAreSound}
 use Rattle.txc_node.specs.declared.entry.Entry.{Entry}
-use Rattle.txc_node.specs.Cache.{Cache, is_invalidated, entry_after, last_of, reach_after_replay, replayed_entry}
+use Rattle.txc_node.specs.Cache.{is_invalidated, entry_after, last_of, reach_after_replay, replayed_entry}
 use Rattle.txc_node.specs.Laws.{after_events, ReplaysAsIfItHadBeenThere, TrustsNoLostEvent}
-use Rattle.txc_shared.specs.Eval.{Next, Evaluation, evaluation, eval, met}
+use Rattle.txc_shared.specs.Eval.{Next, Evaluation, evaluation}
 use Rattle.txc_shared.specs.Claims.{covers_all, IsTrueIn, shown_entry, IsShownTrue}
-use Rattle.txc_shared.specs.Runs.{KeepsTags, AreTagsAfter}
+use Rattle.txc_shared.specs.Runs.{AreTagsAfter}
 use Rattle.txc_shared.specs.Laws.{TrueAfterEvent, TrueAfterReplay}
 use Rattle.txc_shared.proofs.Claims.{event_leaves}
 
@@ -41,7 +41,7 @@ true_with_event : EventTagsAreSound → (next : Next) (L : History) (e : Entry) 
     → IsTrueIn next L (ending e (suc k) true)
 true_with_event law next L e k h some short apart =
     let same : evaluation next e.key (state_at L k) ≡ evaluation next e.key (state_at L (suc k)) =
-        event_leaves law next e.key L k e.tags (h.covered refl k (some, omega arith)) apart in
+    event_leaves law next e.key L k e.tags (h.covered refl k (some, omega arith)) apart in
     record {
       within = short;
       holds = λ t inside. elim (upto t k inside.1) [
@@ -139,8 +139,8 @@ replayed : EventTagsAreSound → (next : Next) (L : History) (q stamp : ℕ) (Ts
 replayed law next L q stamp [] e is h tags long = subst (λ (k : ℕ). IsShownTrue next L k e) (let e : q ≡ q + 0 = omega arith in e) h
 replayed law next L q stamp (T ∷ Ts) e is h tags long =
     let step : IsShownTrue next L (suc q) (entry_after stamp T e) =
-        subst (λ (k : ℕ). IsShownTrue next L (suc q) (entry_after k T e)) (sym is)
-        (subst (λ (t : List Tag). IsShownTrue next L (suc q) (entry_after (suc q) t e)) (sym tags.0) (true_after_event law next L q e h (omega arith))) in
+    subst (λ (k : ℕ). IsShownTrue next L (suc q) (entry_after k T e)) (sym is)
+    (subst (λ (t : List Tag). IsShownTrue next L (suc q) (entry_after (suc q) t e)) (sym tags.0) (true_after_event law next L q e h (omega arith))) in
     subst (λ (k : ℕ). IsShownTrue next L k (after_events (stamp + 1) Ts (entry_after stamp T e))) (let e : suc q + length Ts ≡ q + length (T ∷ Ts) = omega arith in e)
     (replayed law next L (suc q) (stamp + 1) Ts (entry_after stamp T e) (omega (arith, is)) step tags.1 (omega arith))
 
@@ -180,11 +180,11 @@ true_after_replay law replays lost next L c e h some keeps within = go e.reach.s
         subst (IsShownTrue next L c.processed) (sym same) (elim (le_cases e.reach.known c.processed) [
           | inl below ↦
               let shown : IsShownTrue next L e.reach.known e =
-                  still_shown next L e.reach.known e is some (subst (λ (k : ℕ). IsTrueIn next L (ending e k true)) (sym (max_left e.reach.known e.reach.known (omega arith))) here) in
+              still_shown next L e.reach.known e is some (subst (λ (k : ℕ). IsTrueIn next L (ending e k true)) (sym (max_left e.reach.known e.reach.known (omega arith))) here) in
               let upto = keeps.upto in
               let tags : AreTagsAfter L e.reach.known (last_of m c.recent) =
-                  subst (λ (k : ℕ). AreTagsAfter L k (last_of m c.recent)) (let e : keeps.before + (length c.recent - m) ≡ e.reach.known = omega (arith, upto, few, below) in e)
-                  (drop_tags L (length c.recent - m) keeps.before c.recent (omega arith) keeps.tags) in
+              subst (λ (k : ℕ). AreTagsAfter L k (last_of m c.recent)) (let e : keeps.before + (length c.recent - m) ≡ e.reach.known = omega (arith, upto, few, below) in e)
+              (drop_tags L (length c.recent - m) keeps.before c.recent (omega arith) keeps.tags) in
               subst (λ (k : ℕ). IsShownTrue next L k (after_events (e.reach.known + 1) (last_of m c.recent) e)) (omega (arith, count, below))
               (replayed law next L e.reach.known (e.reach.known + 1) (last_of m c.recent) e (omega arith) shown tags (omega (arith, count, below, within)))
           | inr above ↦

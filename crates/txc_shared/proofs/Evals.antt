@@ -6,13 +6,13 @@ use Rattle.std.specs.List.{AllByRecursion}
 use Rattle.txc_tags.specs.Keys.{Call}
 use Rattle.txc_tags.proofs.Lists.{bool_cases}
 use Rattle.txc_rows.specs.declared.query.Query.{Query}
-use Rattle.txc_rows.specs.States.{RowValue, State, answer}
+use Rattle.txc_rows.specs.States.{RowValue, answer}
 use Rattle.txc_shared.specs.declared.app.TheConstants.{MAX_ASKS}
 use Rattle.txc_shared.specs.declared.ask.Ask.{Ask}
 use Rattle.txc_shared.specs.declared.ask.Ask.TheVariants as asks
 use Rattle.txc_shared.specs.declared.ask.Answer.{Answer}
 use Rattle.txc_shared.specs.declared.ask.Answer.TheVariants as answers
-use Rattle.txc_shared.specs.Eval.{Next, Rows, Calls, Evaluation, no_value, after_meeting, after_value, after_ask, activation, called_with, call_below, evaluation, met}
+use Rattle.txc_shared.specs.Eval.{Next, Rows, Calls, Evaluation, no_value, after_meeting, after_value, after_ask, activation, called_with, call_below}
 use Rattle.txc_shared.specs.Laws.{CallsAreOfFunctionsBelow, EqualAnswersDecide}
 
 -- ---- calls of functions below
@@ -70,7 +70,7 @@ ask_same a b c d calls (Some (asks.Query q)) r t rest h =
     ∙ ap (λ (rs : List RowValue). after_meeting (q ∷ []) (t (answers.Rows rs))) h.0
 ask_same a b c d calls (Some (asks.Call k)) r t rest h =
     ap (λ (o : Evaluation). after_meeting (c k).met o)
-        (value_same a b (c k).value r t rest (agree_right a b (c k).met (after_value (c k).value r).met h))
+    (value_same a b (c k).value r t rest (agree_right a b (c k).met (after_value (c k).value r).met h))
     ∙ ap (λ (o : Evaluation). after_meeting o.met (after_value o.value t)) (calls k (agree_left a b (c k).met (after_value (c k).value r).met h))
 
 activation_same : (says : List Answer → Option Ask) (a b : Rows) (c d : Calls) → ((k : Call) → Agree a b (c k).met → c k ≡ d k)
@@ -79,7 +79,7 @@ unfolding activation
 activation_same says a b c d calls zero given h = refl
 activation_same says a b c d calls (suc n) given h =
     ask_same a b c d calls (says given) (λ x. activation says a c n (given ++ x ∷ [])) (λ x. activation says b d n (given ++ x ∷ []))
-        (λ x. activation_same says a b c d calls n (given ++ x ∷ [])) h
+    (λ x. activation_same says a b c d calls n (given ++ x ∷ [])) h
 
 call_same : (next : Next) (a b : Rows) (f : ℕ) (k : Call) → Agree a b (call_below next a f k).met → call_below next a f k ≡ call_below next b f k
 unfolding call_below
@@ -95,5 +95,5 @@ call_same next a b (suc f) k h = go (k.function == f) (call_same next a b f) h
 pub equal_answers_decide : EqualAnswersDecide
 equal_answers_decide next k s t h =
     activation_same (next k.function k.args) (λ q. answer q s) (λ q. answer q t)
-        (call_below next (λ q. answer q s) k.function) (call_below next (λ q. answer q t) k.function)
-        (call_same next (λ q. answer q s) (λ q. answer q t) k.function) MAX_ASKS [] h
+    (call_below next (λ q. answer q s) k.function) (call_below next (λ q. answer q t) k.function)
+    (call_same next (λ q. answer q s) (λ q. answer q t) k.function) MAX_ASKS [] h

@@ -1,10 +1,8 @@
 -- Histories of a node.
-use Rattle.std.proofs.Common.{◌≡◌, ◌⊎◌, inl, inr, ℕ, zero, suc, ◌+◌, ◌-◌, ◌<◌, ◌≤◌, ◌==◌, List, [], ◌∷◌, ◌++◌, length, length-append, take, fold, Option, Some, None, slice_get, Bool, true, false, cond, refl, sym, ap, subst, ◌∙◌, arith}
+use Rattle.std.proofs.Common.{◌≡◌, ℕ, suc, ◌+◌, ◌==◌, List, [], ◌∷◌, ◌++◌, length-append, take, Option, Some, None, slice_get, Bool, true, false, cond, refl, sym, subst, ◌∙◌, arith}
 use Rattle.std.proofs.lemmas.List.Sums.{sum_by-append}
 use borrow.Author.Tests.{eqb-true}
-use Rattle.txc_tags.proofs.Lists.{bool_cases}
-use mathlib.Core.List.{IsPrefix}
-use Rattle.txc_db.specs.History.{History, tags_at}
+use Rattle.txc_db.specs.History.{History}
 use Rattle.txc_db.specs.Laws.{TagsStay}
 use Rattle.txc_node.specs.declared.entry.Entry.{Entry}
 use Rattle.txc_node.specs.declared.refusal.Refusal.{Refusal}
@@ -13,8 +11,7 @@ use Rattle.txc_node.specs.declared.op.Op.{Op}
 use Rattle.txc_node.specs.declared.op.Op.TheVariants as ops
 use Rattle.txc_node.specs.declared.record.Record.{Record}
 use Rattle.txc_node.specs.Cache.{Cache, found, after_use, is_kept, entries_with}
-use Rattle.txc_node.specs.Steps.{refusal_of, step_reply, after_step}
-use Rattle.txc_shared.specs.Each.{EachAfter}
+use Rattle.txc_node.specs.Steps.{refusal_of, after_step}
 use Rattle.txc_shared.specs.Histories.{cache_after, IsOfHistory, records_of, IsNext, IsLegal, is_event, events_of}
 use Rattle.txc_shared.specs.Laws.{LegalInLonger, BeginningIsLegal, EventsAreTaken}
 use Rattle.txc_shared.proofs.Each.{each_beginning}

@@ -5,3 +5,4 @@ pub mod Claims
 pub mod Entries
 pub mod Histories
 pub mod Runs
+pub mod WorkedNodes

@@ -1,29 +1,25 @@
 -- Runs of a node: one step more, and longer histories.
-use Rattle.std.proofs.Common.{◌≡◌, ℕ, zero, suc, ◌+◌, ◌-◌, ◌<◌, ◌≤◌, ◌==◌, List, [], ◌∷◌, ◌++◌, length, length-append, take, map, Option, Some, None, Bool, true, false, cond, nat_lt, refl, sym, ap, subst, ◌∙◌, arith}
+use Rattle.std.proofs.Common.{◌≡◌, ℕ, zero, suc, ◌+◌, ◌-◌, ◌≤◌, ◌==◌, List, [], ◌∷◌, ◌++◌, length, length-append, take, map, Option, Some, None, Bool, true, false, cond, nat_lt, refl, sym, ap, subst, ◌∙◌, arith}
 use Rattle.std.proofs.lemmas.Bool.Decides.{nat_tests}
 use Rattle.std.specs.List.{AllByRecursion, filter, find}
 use Rattle.std.specs.Option.{option_map}
 use mathlib.Core.List.{IsPrefix}
 use Rattle.txc_tags.specs.declared.tag.Tag.{Tag}
-use Rattle.txc_tags.specs.Keys.{Call}
 use Rattle.txc_db.specs.History.{History, tags_at}
 use Rattle.txc_db.specs.Laws.{TagsStay}
-use Rattle.txc_node.specs.declared.value.TheConstants.{MAX_VALUE_LEN}
 use Rattle.txc_node.specs.declared.entry.Entry.{Entry}
-use Rattle.txc_node.specs.declared.hit.Shown.{Shown}
 use Rattle.txc_node.specs.declared.op.Op.{Op}
 use Rattle.txc_node.specs.declared.op.Op.TheVariants as ops
 use Rattle.txc_node.specs.declared.refusal.Refusal.{Refusal}
 use Rattle.txc_node.specs.declared.refusal.Refusal.TheVariants as refusals
-use Rattle.txc_node.specs.declared.record.Record.{Record}
 use Rattle.txc_node.specs.Entries.{is_best, others}
-use Rattle.txc_node.specs.Cache.{Cache, empty_cache, found, shown_of, answer, after_use, is_kept, entries_with, entry_after, after_event}
+use Rattle.txc_node.specs.Cache.{Cache, empty_cache, found, shown_of, after_use, is_kept, entries_with, entry_after, after_event}
 use Rattle.txc_node.specs.Laws.{FindsTheLongest}
-use Rattle.txc_node.specs.Steps.{refusal_of, entry_refusal, after_step}
+use Rattle.txc_node.specs.Steps.{refusal_of, after_step}
 use Rattle.txc_shared.specs.Eval.{Next}
 use Rattle.txc_shared.specs.Claims.{IsTrueIn, IsShownTrue, shown_entry}
 use Rattle.txc_shared.specs.Histories.{IsOfHistory, IsNext}
-use Rattle.txc_shared.specs.Runs.{AreTagsAfter, KeepsTags, IsRun, IsTrueStep}
+use Rattle.txc_shared.specs.Runs.{AreTagsAfter, KeepsTags, IsTrueStep}
 use Rattle.txc_shared.specs.Laws.{TrueInLonger, TrueAfterEvent, TrueAfterReplay, RunBegins, RunGoesOn, RunInLonger, AnswersAreTrue}
 use Rattle.txc_shared.proofs.Each.{each_none, each_push}
 use Rattle.txc_shared.proofs.Entries.{drop_tags, drop_length}
@@ -193,5 +189,5 @@ answers_are_true longest next L start rs c key lo hi a h is = go (found c key lo
         let shows : shown_of c.processed e ≡ a = cc some in
         let key_is : e.key ≡ key = (longest c key lo hi e there).meets.of_key in
         let same : shown_entry c.processed e ≡ (let x : Entry = record { key = key; value = a.value; reach = a.reach; tags = a.tags } in x) =
-            λ i. record { key = key_is i; value = (shows i).value; reach = (shows i).reach; tags = (shows i).tags } in
+        λ i. record { key = key_is i; value = (shows i).value; reach = (shows i).reach; tags = (shows i).tags } in
         subst (IsTrueIn next L) same s.true_as_shown

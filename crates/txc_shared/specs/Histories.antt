@@ -1,5 +1,5 @@
 -- Histories of a node: lists of records, each of a step of the versioned cache.
-use Rattle.std.specs.Prelude.{◌≡◌, Option, Some, None, ℕ, ◌≤◌, ◌==◌, List, [], ◌∷◌, ◌++◌, length, fold, count_by, Bool, true, false}
+use Rattle.std.specs.Prelude.{◌≡◌, None, ℕ, ◌≤◌, ◌==◌, List, length, fold, count_by, Bool, true, false}
 use Rattle.txc_db.specs.History.{History, tags_at}
 use Rattle.txc_node.specs.Cache.{Cache}
 use Rattle.txc_node.specs.Steps.{refusal_of, step_reply, after_step}

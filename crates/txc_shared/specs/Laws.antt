@@ -1,8 +1,7 @@
 -- What is said of calls, of claims and of runs alone.
-use Rattle.std.specs.Prelude.{ℕ, suc, ◌≡◌, ◌<◌, ◌≤◌, ◌+◌, ◌↔◌, nat_lt, if◌then◌else◌, true, false, List, [], ◌∷◌, ◌++◌, length, Option, Some, None}
+use Rattle.std.specs.Prelude.{ℕ, suc, ◌≡◌, ◌<◌, ◌≤◌, ◌+◌, nat_lt, if◌then◌else◌, true, false, List, [], ◌∷◌, ◌++◌, length, Some}
 use Rattle.std.specs.List.{AllByRecursion}
 use mathlib.Core.List.{IsPrefix}
-use Rattle.txc_stamp.specs.Interval.{Interval}
 use Rattle.txc_tags.specs.declared.tag.Tag.{Tag}
 use Rattle.txc_tags.specs.Keys.{Call}
 use Rattle.txc_tags.specs.Tags.{sets_match}
@@ -15,19 +14,17 @@ use Rattle.txc_db.specs.History.{History, state_at, tags_at}
 use Rattle.txc_node.specs.declared.value.TheConstants.{MAX_VALUE_LEN}
 use Rattle.txc_node.specs.declared.entry.Entry.{Entry}
 use Rattle.txc_node.specs.declared.hit.Shown.{Shown}
-use Rattle.txc_node.specs.declared.op.Op.{Op}
 use Rattle.txc_node.specs.declared.record.Record.{Record}
 use Rattle.txc_node.specs.Cache.{Cache, empty_cache, entry_after, replayed_entry, answer}
-use Rattle.txc_node.specs.Steps.{refusal_of, step_reply, after_step}
+use Rattle.txc_node.specs.Steps.{after_step}
 use Rattle.txc_shared.specs.declared.app.TheConstants.{MAX_ASKS}
-use Rattle.txc_shared.specs.declared.ask.Ask.{Ask}
 use Rattle.txc_shared.specs.declared.ask.Ask.TheVariants as asks
 use Rattle.txc_shared.specs.declared.ask.Answer.{Answer}
 use Rattle.txc_shared.specs.declared.ask.Answer.TheVariants as answers
 use Rattle.txc_shared.specs.Eval.{Next, no_value, called_with, evaluation, eval, met}
 use Rattle.txc_shared.specs.Answering.{AreRight, queries_for}
 use Rattle.txc_shared.specs.Claims.{covers_all, RowsHold, IsTrueIn, IsShownTrue}
-use Rattle.txc_shared.specs.Histories.{cache_after, IsOfHistory, records_of, IsNext, IsLegal, events_of}
+use Rattle.txc_shared.specs.Histories.{cache_after, IsNext, IsLegal, events_of}
 use Rattle.txc_shared.specs.Runs.{KeepsTags, IsRun, IsTrueStep}
 
 -- ---- calls
@@ -37,7 +34,7 @@ use Rattle.txc_shared.specs.Runs.{KeepsTags, IsRun, IsTrueStep}
 abbrev pub CallsAreOfFunctionsBelow : Type 0
 CallsAreOfFunctionsBelow = (next : Next) (k : Call) (s : State)
     → evaluation next k s
-        ≡ called_with next (λ q. rows_of q s) (λ g. if nat_lt g.function k.function then evaluation next g s else no_value) k
+    ≡ called_with next (λ q. rows_of q s) (λ g. if nat_lt g.function k.function then evaluation next g s else no_value) k
 
 -- where the queries that a call meets have equal answers in two states, it comes to the same in both
 abbrev pub EqualAnswersDecide : Type 0

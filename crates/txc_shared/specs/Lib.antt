@@ -6,3 +6,4 @@ pub mod Histories
 pub mod Runs
 pub mod Laws
 pub mod Worked
+pub mod WorkedNodes

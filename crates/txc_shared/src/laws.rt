@@ -1,6 +1,7 @@
 //! Laws over the definitions alone. None has anything to run: each one's contract is the law.
 ghost use Rattle.txc_shared.specs.Laws.{CallsAreOfFunctionsBelow, EqualAnswersDecide, EventLeaves, RightAnswersGiveTheValue, TrueInLonger, FoundRowsHold, DoneAfterIsTrue, TrueAfterEvent, TrueAfterReplay, RunBegins, RunGoesOn, RunInLonger, LegalInLonger, BeginningIsLegal, AnswersAreTrue, EventsAreTaken};
 ghost use Rattle.txc_shared.specs.Worked.{WorkedCalls, WorkedRefusals};
+ghost use Rattle.txc_shared.specs.WorkedNodes.{WorkedEntries, WorkedHistories};
 
 use txc_db::{states_stay, tags_are_sound};
 use txc_node::laws::{insertion_replays_what_was_missed, lookup_finds_the_longest};
@@ -76,4 +77,10 @@ pub fn legal_histories()
 pub fn worked_calls()
     ensures calls { WorkedCalls }
     ensures refusals { WorkedRefusals }
+{}
+
+/// Which entries of those functions are true in that history, and which histories of a node are legal beside it.
+pub fn worked_nodes()
+    ensures entries { WorkedEntries }
+    ensures histories { WorkedHistories }
 {}
