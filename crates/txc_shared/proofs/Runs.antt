@@ -1,5 +1,5 @@
 -- Runs of a node: one step more, and longer histories.
-use Rattle.std.proofs.Common.{◌≡◌, ℕ, zero, suc, ◌+◌, ◌-◌, ◌≤◌, ◌==◌, List, [], ◌∷◌, ◌++◌, length, length-append, take, map, Option, Some, None, Bool, true, false, cond, nat_lt, refl, sym, ap, subst, ◌∙◌, arith}
+use Rattle.std.proofs.Common.{◌≡◌, ℕ, zero, suc, ◌+◌, ◌-◌, ◌≤◌, ◌==◌, List, [], ◌∷◌, ◌++◌, length, length-append, take, map, Option, Some, None, Bool, true, false, true≢false, cond, nat_lt, refl, sym, ap, subst, ◌∙◌, arith}
 use Rattle.std.proofs.lemmas.Bool.Decides.{nat_tests}
 use Rattle.std.specs.List.{AllByRecursion, filter, find}
 use Rattle.std.specs.Option.{option_map}
@@ -12,15 +12,16 @@ use Rattle.txc_node.specs.declared.op.Op.{Op}
 use Rattle.txc_node.specs.declared.op.Op.TheVariants as ops
 use Rattle.txc_node.specs.declared.refusal.Refusal.{Refusal}
 use Rattle.txc_node.specs.declared.refusal.Refusal.TheVariants as refusals
+use Rattle.txc_node.specs.declared.record.Record.{Record}
 use Rattle.txc_node.specs.Entries.{is_best, others}
 use Rattle.txc_node.specs.Cache.{Cache, empty_cache, found, shown_of, after_use, is_kept, entries_with, entry_after, after_event}
 use Rattle.txc_node.specs.Laws.{FindsTheLongest}
-use Rattle.txc_node.specs.Steps.{refusal_of, after_step}
+use Rattle.txc_node.specs.Steps.{refusal_of, step_reply, after_step}
 use Rattle.txc_shared.specs.Eval.{Next}
 use Rattle.txc_shared.specs.Claims.{IsTrueIn, IsShownTrue, shown_entry}
-use Rattle.txc_shared.specs.Histories.{IsOfHistory, IsNext}
-use Rattle.txc_shared.specs.Runs.{AreTagsAfter, KeepsTags, IsTrueStep}
-use Rattle.txc_shared.specs.Laws.{TrueInLonger, TrueAfterEvent, TrueAfterReplay, RunBegins, RunGoesOn, RunInLonger, AnswersAreTrue}
+use Rattle.txc_shared.specs.Histories.{cache_after, IsNext, IsLegal, next_record}
+use Rattle.txc_shared.specs.Runs.{AreTagsAfter, KeepsTags, IsTrueCache, emptied, IsRun, IsNode}
+use Rattle.txc_shared.specs.Laws.{TrueInLonger, TrueAfterEvent, TrueAfterReplay, NodeBegins, MayStep, NodeGoesOn, NodeBreaks, NodeSeesMore, AnswersAreTrue}
 use Rattle.txc_shared.proofs.Each.{each_none, each_push}
 use Rattle.txc_shared.proofs.Entries.{drop_tags, drop_length}
 use Rattle.txc_shared.proofs.Histories.{cache_push, legal_in_longer, next_stamp}
@@ -66,12 +67,10 @@ tags_longer stay L more s (T ∷ Ts) long h = (h.0 ∙ sym (stay L more (suc s) 
 shown_longer : TrueInLonger → (next : Next) (L M : History) (p : ℕ) (e : Entry) → IsPrefix L M → IsShownTrue next L p e → IsShownTrue next M p e
 shown_longer longer next L M p e begins h = record { some = h.some; true_as_shown = longer next L M (shown_entry p e) begins h.true_as_shown }
 
-pub run_in_longer : TrueInLonger → TagsStay → RunInLonger
-run_in_longer longer stay next L M start rs c begins h = record {
-  is = h.is;
-  legal = legal_in_longer stay L M start rs begins h.legal;
-  true_as_shown = all_same (IsShownTrue next L c.processed) (IsShownTrue next M c.processed) c.entries
-      (λ e s. shown_longer longer next L M c.processed e begins s) h.true_as_shown;
+true_longer : TrueInLonger → TagsStay → (next : Next) (L M : History) (c : Cache) → IsPrefix L M → IsTrueCache next L c → IsTrueCache next M c
+true_longer longer stay next L M c begins h = record {
+  entries = all_same (IsShownTrue next L c.processed) (IsShownTrue next M c.processed) c.entries
+      (λ e s. shown_longer longer next L M c.processed e begins s) h.entries;
   recent = record {
     before = h.recent.before;
     upto = h.recent.upto;
@@ -79,6 +78,12 @@ run_in_longer longer stay next L M start rs c begins h = record {
         (tags_longer stay L begins.0 h.recent.before c.recent (let u = h.recent.upto in let w = h.within in omega (arith, u, w)) h.recent.tags);
   };
   within = let w = h.within in let long = length-append L begins.0 in let e = ap (λ (l : History). length l) begins.1 in omega (arith, w, long, e);
+}
+
+pub node_sees_more : TrueInLonger → TagsStay → NodeSeesMore
+node_sees_more longer stay next L M rs c broken begins h = record {
+  is_true = true_longer longer stay next L M c begins h.is_true;
+  run = λ whole. let run = h.run whole in record { is = run.is; legal = legal_in_longer stay L M (emptied c) rs begins run.legal };
 }
 
 -- ---- one step more
@@ -102,34 +107,28 @@ recent_after L c stamp tags next right h =
       tags = drop_tags L n h.before all low (push_tags L h.before c.recent tags h.tags (right ∙ ap (tags_at L) (next ∙ ap suc (sym u))));
     }
 
--- what is true of a cache in a run, whatever its records
-pub record Stays (next : Next) (L : History) (c : Cache) : Type 0 where
-  pub true_as_shown : AllByRecursion (IsShownTrue next L c.processed) c.entries
-  pub recent : KeepsTags L c
-  pub within : c.processed ≤ length L
-
-with_entries : (next : Next) (L : History) (c : Cache) (es : List Entry) → Stays next L c → AllByRecursion (IsShownTrue next L c.processed) es → Stays next L (record c { entries = es })
+with_entries : (next : Next) (L : History) (c : Cache) (es : List Entry) → IsTrueCache next L c → AllByRecursion (IsShownTrue next L c.processed) es → IsTrueCache next L (record c { entries = es })
 with_entries next L c es h all =
-    record { true_as_shown = all; recent = record { before = h.recent.before; upto = h.recent.upto; tags = h.recent.tags }; within = h.within }
+    record { entries = all; recent = record { before = h.recent.before; upto = h.recent.upto; tags = h.recent.tags }; within = h.within }
 
-used : (next : Next) (L : History) (c : Cache) (f : Option Entry) → ((e : Entry) → f ≡ Some e → IsShownTrue next L c.processed e) → Stays next L c → Stays next L (after_use c f)
+used : (next : Next) (L : History) (c : Cache) (f : Option Entry) → ((e : Entry) → f ≡ Some e → IsShownTrue next L c.processed e) → IsTrueCache next L c → IsTrueCache next L (after_use c f)
 used next L c None each h = h
 used next L c (Some e) each h =
-    with_entries next L c (e ∷ others e c.entries) h (each e refl, all_filter (IsShownTrue next L c.processed) _ c.entries h.true_as_shown)
+    with_entries next L c (e ∷ others e c.entries) h (each e refl, all_filter (IsShownTrue next L c.processed) _ c.entries h.entries)
 
-inserted : TrueAfterReplay → (next : Next) (L : History) (c : Cache) (e : Entry) → IsTrueIn next L e → e.reach.lo ≤ e.reach.known → Stays next L c
-    → (b : Bool) → Stays next L (cond b c (record c { entries = take c.capacity (entries_with c e) }))
+inserted : TrueAfterReplay → (next : Next) (L : History) (c : Cache) (e : Entry) → IsTrueIn next L e → e.reach.lo ≤ e.reach.known → IsTrueCache next L c
+    → (b : Bool) → IsTrueCache next L (cond b c (record c { entries = take c.capacity (entries_with c e) }))
 inserted replay next L c e is some h true = h
 inserted replay next L c e is some h false =
     with_entries next L c (take c.capacity (entries_with c e)) h (all_take (IsShownTrue next L c.processed) c.capacity (entries_with c e)
-    (replay next L c e is some h.recent h.within, all_filter (IsShownTrue next L c.processed) _ c.entries h.true_as_shown))
+    (replay next L c e is some h.recent h.within, all_filter (IsShownTrue next L c.processed) _ c.entries h.entries))
 
 event_taken : TrueAfterEvent → (next : Next) (L : History) (c : Cache) (stamp : ℕ) (tags : List Tag) → stamp ≡ suc c.processed → stamp ≤ length L → tags ≡ tags_at L stamp
-    → Stays next L c → Stays next L (after_event c stamp tags)
+    → IsTrueCache next L c → IsTrueCache next L (after_event c stamp tags)
 event_taken event next L c stamp tags is within right h = record {
-  true_as_shown = all_map (IsShownTrue next L c.processed) (IsShownTrue next L stamp) (entry_after stamp tags) c.entries
+  entries = all_map (IsShownTrue next L c.processed) (IsShownTrue next L stamp) (entry_after stamp tags) c.entries
       (λ e s. subst (λ (t : List Tag). IsShownTrue next L stamp (entry_after stamp t e)) (sym right)
-      (subst (λ (k : ℕ). IsShownTrue next L k (entry_after k (tags_at L k) e)) (sym is) (event next L c.processed e s (omega (arith, is, within))))) h.true_as_shown;
+      (subst (λ (k : ℕ). IsShownTrue next L k (entry_after k (tags_at L k) e)) (sym is) (event next L c.processed e s (omega (arith, is, within))))) h.entries;
   recent = recent_after L c stamp tags is right h.recent;
   within = within;
 }
@@ -143,49 +142,77 @@ some_reach lo known false is o none = at_least lo known is
     at_least : (a b : ℕ) → nat_lt b a ≡ false → a ≤ b
     at_least a b h = grind (arith, nat_tests)
 
-stays : TrueAfterEvent → TrueAfterReplay → (next : Next) (L : History) (c : Cache) (op : Op)
-    → Stays next L c → refusal_of c op ≡ None → IsOfHistory L op → IsTrueStep next L op → Stays next L (after_step c op)
-stays event replay next L c (ops.Lookup key lo hi) h can of right =
-    used next L c (found c key lo hi) (λ e is. all_find (IsShownTrue next L c.processed) (is_best c.processed key lo hi c.entries) c.entries e h.true_as_shown is) h
-stays event replay next L c (ops.Insert e) h can of right =
-    inserted replay next L c e right (some_reach e.reach.lo e.reach.known (nat_lt e.reach.known e.reach.lo) refl _ can) h (is_kept c e)
-stays event replay next L c (ops.Event stamp tags) h can of right =
-    let is = next_stamp c stamp (stamp == c.processed + 1) refl can in
-    event_taken event next L c stamp tags (omega (arith, is)) of.0 of.1 h
-stays event replay next L c (ops.Sweep horizon) h can of right =
-    with_entries next L c _ h (all_filter (IsShownTrue next L c.processed) _ c.entries h.true_as_shown)
+true_after : TrueAfterEvent → TrueAfterReplay → (next : Next) (L : History) (c : Cache) (op : Op)
+    → IsTrueCache next L c → MayStep next L c op → IsTrueCache next L (after_step c op)
+true_after event replay next L c (ops.Lookup key lo hi) h may =
+    used next L c (found c key lo hi) (λ e is. all_find (IsShownTrue next L c.processed) (is_best c.processed key lo hi c.entries) c.entries e h.entries is) h
+true_after event replay next L c (ops.Insert e) h may =
+    inserted replay next L c e may.is_true (some_reach e.reach.lo e.reach.known (nat_lt e.reach.known e.reach.lo) refl _ may.possible) h (is_kept c e)
+true_after event replay next L c (ops.Event stamp tags) h may =
+    let is = next_stamp c stamp (stamp == c.processed + 1) refl may.possible in
+    event_taken event next L c stamp tags (omega (arith, is)) may.event.0 may.event.1 h
+true_after event replay next L c (ops.Sweep horizon) h may =
+    with_entries next L c _ h (all_filter (IsShownTrue next L c.processed) _ c.entries h.entries)
 
-pub run_goes_on : TrueAfterEvent → TrueAfterReplay → RunGoesOn
-run_goes_on event replay next L start rs c r h follows right =
-    let can : refusal_of c r.op ≡ None = ap (λ (k : Cache). refusal_of k r.op) h.is ∙ follows.possible in
-    let on = stays event replay next L c r.op (record { true_as_shown = h.true_as_shown; recent = h.recent; within = h.within }) can follows.event right in
+-- a step leaves the capacity and the depth
+used_emptied : (c : Cache) (f : Option Entry) → emptied (after_use c f) ≡ emptied c
+used_emptied c None = refl
+used_emptied c (Some e) = refl
+
+kept_emptied : (c : Cache) (e : Entry) (b : Bool) → emptied (cond b c (record c { entries = take c.capacity (entries_with c e) })) ≡ emptied c
+kept_emptied c e true = refl
+kept_emptied c e false = refl
+
+pub step_emptied : (c : Cache) (op : Op) → emptied (after_step c op) ≡ emptied c
+step_emptied c (ops.Lookup key lo hi) = used_emptied c (found c key lo hi)
+step_emptied c (ops.Insert e) = kept_emptied c e (is_kept c e)
+step_emptied c (ops.Event stamp tags) = refl
+step_emptied c (ops.Sweep horizon) = refl
+
+run_goes_on : (next : Next) (L : History) (rs : List Record) (c : Cache) (pass : ℕ) (op : Op) → IsRun L rs c → MayStep next L c op
+    → IsRun L (rs ++ next_record pass rs op (step_reply c op) ∷ []) (after_step c op)
+run_goes_on next L rs c pass op h may =
+    let r = next_record pass rs op (step_reply c op) in
+    let start = step_emptied c op in
+    let follows : IsNext L (emptied c) rs r = record {
+      possible = subst (λ (k : Cache). refusal_of k op ≡ None) h.is may.possible;
+      reply = ap (λ (k : Cache). step_reply k op) h.is;
+      event = may.event;
+      turn = refl;
+    } in
     record {
-      is = ap (λ (k : Cache). after_step k r.op) h.is ∙ sym (cache_push start rs r);
-      legal = each_push (IsNext L start) rs r h.legal follows;
-      true_as_shown = on.true_as_shown;
-      recent = on.recent;
-      within = on.within;
+      is = ap (λ (k : Cache). after_step k op) h.is ∙ (sym (cache_push (emptied c) rs r) ∙ ap (λ (k : Cache). cache_after k (rs ++ r ∷ [])) (sym start));
+      legal = subst (λ (k : Cache). IsLegal L k (rs ++ r ∷ [])) (sym start) (each_push (IsNext L (emptied c)) rs r h.legal follows);
     }
 
-pub run_begins : RunBegins
-run_begins next L capacity depth = record {
-  is = refl;
-  legal = each_none (IsNext L (empty_cache capacity depth));
-  true_as_shown = tt;
-  recent = record { before = 0; upto = refl; tags = tt };
-  within = omega arith;
+pub node_goes_on : TrueAfterEvent → TrueAfterReplay → NodeGoesOn
+node_goes_on event replay next L rs c pass op h may = record {
+  is_true = true_after event replay next L c op h.is_true may;
+  run = λ whole. run_goes_on next L rs c pass op (h.run refl) may;
+}
+
+pub node_breaks : TrueAfterEvent → TrueAfterReplay → NodeBreaks
+node_breaks event replay next L rs c broken op h may = record {
+  is_true = true_after event replay next L c op h.is_true may;
+  run = λ whole. absurd (true≢false whole);
+}
+
+pub node_begins : NodeBegins
+node_begins next L capacity depth = record {
+  is_true = record { entries = tt; recent = record { before = 0; upto = refl; tags = tt }; within = omega arith };
+  run = λ whole. record { is = refl; legal = each_none (IsNext L (empty_cache capacity depth)) };
 }
 
 -- ---- answers
 
 pub answers_are_true : FindsTheLongest → AnswersAreTrue
-answers_are_true longest next L start rs c key lo hi a h is = go (found c key lo hi) refl is
+answers_are_true longest next L c key lo hi a h is = go (found c key lo hi) refl is
   where
     go : (f : Option Entry) → found c key lo hi ≡ f → option_map (shown_of c.processed) f ≡ Some a
         → IsTrueIn next L (record { key = key; value = a.value; reach = a.reach; tags = a.tags })
     go None there none = absurd (cc none)
     go (Some e) there some =
-        let s = all_find (IsShownTrue next L c.processed) (is_best c.processed key lo hi c.entries) c.entries e h.true_as_shown there in
+        let s = all_find (IsShownTrue next L c.processed) (is_best c.processed key lo hi c.entries) c.entries e h.entries there in
         let shows : shown_of c.processed e ≡ a = cc some in
         let key_is : e.key ≡ key = (longest c key lo hi e there).meets.of_key in
         let same : shown_entry c.processed e ≡ (let x : Entry = record { key = key; value = a.value; reach = a.reach; tags = a.tags } in x) =

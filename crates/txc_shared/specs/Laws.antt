@@ -1,5 +1,5 @@
 -- What is said of calls, of claims and of runs alone.
-use Rattle.std.specs.Prelude.{ℕ, suc, ◌≡◌, ◌<◌, ◌≤◌, ◌+◌, nat_lt, if◌then◌else◌, true, false, List, [], ◌∷◌, ◌++◌, length, Some}
+use Rattle.std.specs.Prelude.{ℕ, Bool, None, suc, ◌≡◌, ◌<◌, ◌≤◌, ◌+◌, nat_lt, if◌then◌else◌, true, false, List, [], ◌∷◌, ◌++◌, length, Some}
 use Rattle.std.specs.List.{AllByRecursion}
 use mathlib.Core.List.{IsPrefix}
 use Rattle.txc_tags.specs.declared.tag.Tag.{Tag}
@@ -14,9 +14,10 @@ use Rattle.txc_db.specs.History.{History, state_at, tags_at}
 use Rattle.txc_node.specs.declared.value.TheConstants.{MAX_VALUE_LEN}
 use Rattle.txc_node.specs.declared.entry.Entry.{Entry}
 use Rattle.txc_node.specs.declared.hit.Shown.{Shown}
+use Rattle.txc_node.specs.declared.op.Op.{Op}
 use Rattle.txc_node.specs.declared.record.Record.{Record}
 use Rattle.txc_node.specs.Cache.{Cache, empty_cache, entry_after, replayed_entry, answer}
-use Rattle.txc_node.specs.Steps.{after_step}
+use Rattle.txc_node.specs.Steps.{refusal_of, step_reply, after_step}
 use Rattle.txc_shared.specs.declared.app.TheConstants.{MAX_ASKS}
 use Rattle.txc_shared.specs.declared.ask.Ask.TheVariants as asks
 use Rattle.txc_shared.specs.declared.ask.Answer.{Answer}
@@ -24,8 +25,8 @@ use Rattle.txc_shared.specs.declared.ask.Answer.TheVariants as answers
 use Rattle.txc_shared.specs.Eval.{Next, no_value, called_with, evaluation, eval, met}
 use Rattle.txc_shared.specs.Answering.{AreRight, queries_for}
 use Rattle.txc_shared.specs.Claims.{covers_all, RowsHold, IsTrueIn, IsShownTrue}
-use Rattle.txc_shared.specs.Histories.{cache_after, IsNext, IsLegal, events_of}
-use Rattle.txc_shared.specs.Runs.{KeepsTags, IsRun, IsTrueStep}
+use Rattle.txc_shared.specs.Histories.{cache_after, IsOfHistory, IsLegal, events_of, next_record}
+use Rattle.txc_shared.specs.Runs.{KeepsTags, IsTrueCache, IsNode, IsTrueStep}
 
 -- ---- calls
 
@@ -92,23 +93,33 @@ TrueAfterReplay = (next : Next) (L : History) (c : Cache) (e : Entry)
 
 -- ---- histories of a node
 
--- an empty node is a run without records
-abbrev pub RunBegins : Type 0
-RunBegins = (next : Next) (L : History) (capacity depth : ℕ)
-    → IsRun next L (empty_cache capacity depth) [] (empty_cache capacity depth)
+-- a node without records and entries
+abbrev pub NodeBegins : Type 0
+NodeBegins = (next : Next) (L : History) (capacity depth : ℕ) → IsNode next L [] (empty_cache capacity depth) false
 
--- a true step that may be made next, with its reply and its turn, leaves a run
-abbrev pub RunGoesOn : Type 0
-RunGoesOn = (next : Next) (L : History) (start : Cache) (rs : List Record) (c : Cache) (r : Record)
-    → IsRun next L start rs c → IsNext L start rs r → IsTrueStep next L r.op
-    → IsRun next L start (rs ++ r ∷ []) (after_step c r.op)
+-- the step may be made: the cache does not refuse it, its event is the history's, and what it hands in is true
+pub record MayStep (next : Next) (L : History) (c : Cache) (op : Op) : Type 0 where
+  pub possible : refusal_of c op ≡ None
+  pub event : IsOfHistory L op
+  pub is_true : IsTrueStep next L op
 
--- a run is one in a longer history of the database
-abbrev pub RunInLonger : Type 0
-RunInLonger = (next : Next) (L M : History) (start : Cache) (rs : List Record) (c : Cache)
-    → IsPrefix L M → IsRun next L start rs c → IsRun next M start rs c
+-- a node that makes such a step, with its record
+abbrev pub NodeGoesOn : Type 0
+NodeGoesOn = (next : Next) (L : History) (rs : List Record) (c : Cache) (pass : ℕ) (op : Op)
+    → IsNode next L rs c false → MayStep next L c op
+    → IsNode next L (rs ++ next_record pass rs op (step_reply c op) ∷ []) (after_step c op) false
 
--- so is a legal history
+-- a node that makes such a step without its record is broken
+abbrev pub NodeBreaks : Type 0
+NodeBreaks = (next : Next) (L : History) (rs : List Record) (c : Cache) (broken : Bool) (op : Op)
+    → IsNode next L rs c broken → MayStep next L c op → IsNode next L rs (after_step c op) true
+
+-- a node that sees a longer history of the database
+abbrev pub NodeSeesMore : Type 0
+NodeSeesMore = (next : Next) (L M : History) (rs : List Record) (c : Cache) (broken : Bool)
+    → IsPrefix L M → IsNode next L rs c broken → IsNode next M rs c broken
+
+-- a legal history is legal in a longer history of the database
 abbrev pub LegalInLonger : Type 0
 LegalInLonger = (L M : History) (start : Cache) (rs : List Record) → IsPrefix L M → IsLegal L start rs → IsLegal M start rs
 
@@ -116,10 +127,10 @@ LegalInLonger = (L M : History) (start : Cache) (rs : List Record) → IsPrefix 
 abbrev pub BeginningIsLegal : Type 0
 BeginningIsLegal = (L : History) (start : Cache) (rs all : List Record) → IsPrefix rs all → IsLegal L start all → IsLegal L start rs
 
--- what a lookup finds in a run is true as it is shown
+-- what a lookup finds in a true cache is true as it is shown
 abbrev pub AnswersAreTrue : Type 0
-AnswersAreTrue = (next : Next) (L : History) (start : Cache) (rs : List Record) (c : Cache) (key : Call) (lo hi : ℕ) (found : Shown)
-    → IsRun next L start rs c → answer c key lo hi ≡ Some found
+AnswersAreTrue = (next : Next) (L : History) (c : Cache) (key : Call) (lo hi : ℕ) (found : Shown)
+    → IsTrueCache next L c → answer c key lo hi ≡ Some found
     → IsTrueIn next L (record { key = key; value = found.value; reach = found.reach; tags = found.tags })
 
 -- a legal history leaves a cache that took as many events more as its records take

@@ -5,5 +5,7 @@ pub mod Claims
 pub mod Histories
 pub mod Runs
 pub mod Laws
+pub mod Nodes
+pub mod Refusals
 pub mod Worked
 pub mod WorkedNodes

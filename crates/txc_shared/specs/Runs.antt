@@ -1,9 +1,9 @@
 -- Nodes whose entries are all true.
-use Rattle.std.specs.Prelude.{◌≡◌, ℕ, suc, ◌+◌, ◌≤◌, List, [], ◌∷◌, length}
+use Rattle.std.specs.Prelude.{◌≡◌, ℕ, Bool, false, suc, ◌+◌, ◌≤◌, List, [], ◌∷◌, length}
 use Rattle.std.specs.List.{AllByRecursion}
 use Rattle.txc_tags.specs.declared.tag.Tag.{Tag}
 use Rattle.txc_db.specs.History.{History, tags_at}
-use Rattle.txc_node.specs.Cache.{Cache}
+use Rattle.txc_node.specs.Cache.{Cache, empty_cache}
 use Rattle.txc_node.specs.declared.record.Record.{Record}
 use Rattle.txc_node.specs.declared.op.Op.{Op}
 use Rattle.txc_node.specs.declared.op.Op.TheVariants.{Insert, Lookup, Event, Sweep}
@@ -22,14 +22,26 @@ pub record KeepsTags (L : History) (c : Cache) : Type 0 where
   pub upto : before + length c.recent ≡ c.processed
   pub tags : AreTagsAfter L before c.recent
 
--- The cache is what a legal history leaves of the cache at the start; what its entries show is true in the database's history,
--- and it keeps the tags of that history's events.
-pub record IsRun (next : Next) (L : History) (start : Cache) (rs : List Record) (c : Cache) : Type 0 where
-  pub is : c ≡ cache_after start rs
-  pub legal : IsLegal L start rs
-  pub true_as_shown : AllByRecursion (IsShownTrue next L c.processed) c.entries
+-- what the entries of the cache show is true in the history, and the tags that it keeps are that history's
+pub record IsTrueCache (next : Next) (L : History) (c : Cache) : Type 0 where
+  pub entries : AllByRecursion (IsShownTrue next L c.processed) c.entries
   pub recent : KeepsTags L c
   pub within : c.processed ≤ length L
+
+-- the empty cache of the same capacity and depth
+abbrev pub emptied : Cache → Cache
+emptied c = empty_cache c.capacity c.depth
+
+-- the cache is what these records leave of an empty one, and they are a legal history
+pub record IsRun (L : History) (rs : List Record) (c : Cache) : Type 0 where
+  pub is : c ≡ cache_after (emptied c) rs
+  pub legal : IsLegal L (emptied c) rs
+
+-- what is true of a node: its cache is true in what it has seen of the database's history, and, unless it is broken, what its
+-- records leave
+pub record IsNode (next : Next) (L : History) (rs : List Record) (c : Cache) (broken : Bool) : Type 0 where
+  pub is_true : IsTrueCache next L c
+  pub run : broken ≡ false → IsRun L rs c
 
 -- what the step hands in is true: an entry
 abbrev pub IsTrueStep : Next → History → Op → Type 0

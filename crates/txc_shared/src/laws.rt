@@ -1,5 +1,5 @@
 //! Laws over the definitions alone. None has anything to run: each one's contract is the law.
-ghost use Rattle.txc_shared.specs.Laws.{CallsAreOfFunctionsBelow, EqualAnswersDecide, EventLeaves, RightAnswersGiveTheValue, TrueInLonger, FoundRowsHold, DoneAfterIsTrue, TrueAfterEvent, TrueAfterReplay, RunBegins, RunGoesOn, RunInLonger, LegalInLonger, BeginningIsLegal, AnswersAreTrue, EventsAreTaken};
+ghost use Rattle.txc_shared.specs.Laws.{CallsAreOfFunctionsBelow, EqualAnswersDecide, EventLeaves, RightAnswersGiveTheValue, TrueInLonger, FoundRowsHold, DoneAfterIsTrue, TrueAfterEvent, TrueAfterReplay, NodeBegins, NodeGoesOn, NodeBreaks, NodeSeesMore, LegalInLonger, BeginningIsLegal, AnswersAreTrue, EventsAreTaken};
 ghost use Rattle.txc_shared.specs.Worked.{WorkedCalls, WorkedRefusals};
 ghost use Rattle.txc_shared.specs.WorkedNodes.{WorkedEntries, WorkedHistories};
 
@@ -46,11 +46,12 @@ pub fn entries_stay_true()
     insertion_replays_what_was_missed();
 }
 
-/// The steps of a node, one after another, keep what it holds true, in a longer history of the database too.
-pub fn runs_go_on()
-    ensures begins { RunBegins }
-    ensures step { RunGoesOn }
-    ensures longer { RunInLonger }
+/// The steps of a node, one after another, keep what it holds true, and so does what it sees of the database's history.
+pub fn nodes_go_on()
+    ensures begins { NodeBegins }
+    ensures step { NodeGoesOn }
+    ensures breaks { NodeBreaks }
+    ensures sees { NodeSeesMore }
 {
     states_stay();
     entries_stay_true();

@@ -1,0 +1,195 @@
+//! The node for one thread, which its lock holds too.
+ghost use Rattle.std.specs.Prelude.{◌≡◌, ◌+◌, ◌<◌, ◌≤◌, ◌⊎◌, ◌↔◌, ◌++◌, ◌∷◌, [], true, false, length, Some, None, Err, IsOk, IfOk, OnOk, OnErr, IfErr, IfSome, IsTrue};
+ghost use Rattle.std.specs.Option.{option_map};
+ghost use Rattle.txc_node.specs.Cache.{empty_cache, answer, outcome, swept_count};
+ghost use Rattle.txc_node.specs.Steps.{found_reply};
+ghost use Rattle.txc_stream.specs.declared.row.TheConstants as rows;
+ghost use Rattle.txc_node.specs.declared.op.Op.TheVariants.{Insert, Lookup, Sweep};
+ghost use Rattle.txc_shared.specs.Nodes.{NodeValue, after_call, seeing, IsLonger, entry_shown, insertion_of, HasAdvanced};
+ghost use Rattle.txc_shared.specs.Refusals.{IsOpen, IsStepRefused, IsLookupRefused, IsPassRefused, IsLeft};
+
+use crate::advanced::Advanced;
+use crate::app::App;
+use crate::error::NodeError;
+use crate::finding::Finding;
+use crate::insertion::Insertion;
+use crate::laws::{answers_are_true, entries_stay_true, nodes_go_on};
+use crate::log::{Log, MAX_PASSES};
+use crate::node_front::NodeFront;
+use std::alloc::{AllocError, Global};
+use std::marker::{Model, PhantomData};
+use std::sync::Arc;
+use txc_db::HistoryFront;
+use txc_node::{Entry, MAX_CAPACITY, MAX_RECENT, NodeCore, Op, Record, Reply, Shown};
+use txc_stamp::Stamp;
+use txc_stream::EventRow;
+use txc_tags::Key;
+
+/// A node of the cache, with the stored history of its steps and what it has seen of the database's history.
+///
+/// It is the state after its history, unless it is broken, and each result that it holds is true in what it has seen. A step
+/// is one of a pass, by the pass's number: its record has the pass's next turn.
+#[derive(Drop)]
+pub struct StoredNode<A: App> {
+    number: usize,
+    core: NodeCore,
+    log: Log,
+    seen: HistoryFront,
+    broken: bool,
+    of: PhantomData<A>,
+}
+
+impl<A: App> Model for StoredNode<A> {
+    ghost use Rattle.txc_shared.specs.Runs.{IsNode};
+    ghost use Rattle.txc_shared.specs.Nodes.{NodeValue};
+
+    ghost Value = { NodeValue };
+
+    ghost view = { λ n. record { number = n.number; cells = n.log.cells; records = n.log.records; passes = n.log.passes; cache = n.core; seen = n.seen; broken = n.broken } };
+
+    ghost invariant = { λ n. IsNode A.next n.seen.history n.log.records n.core n.broken };
+}
+
+impl<A: App> StoredNode<A> {
+    /// An empty node of that number, for at most `capacity` entries and `records` records, that keeps the tags of the last
+    /// `recent` events. The front shows what it has seen of the database's history.
+    pub fn new(
+        alloc: Global,
+        number: usize,
+        capacity: usize,
+        recent: usize,
+        records: usize,
+        seen: HistoryFront,
+    ) -> Result<StoredNode<A>, AllocError>
+        requires capacity { (1 ≤ capacity) × (capacity ≤ MAX_CAPACITY) }
+        requires recent { (1 ≤ recent) × (recent ≤ MAX_RECENT) }
+        requires records { (1 ≤ records) × (records ≤ rows.MAX_CAPACITY) }
+        ensures number { IfOk result (λ n. n.number ≡ number) }
+        ensures records { IfOk result (λ n. (n.records ≡ []) × (length n.cells ≡ records)) }
+        ensures passes { IfOk result (λ n. n.passes ≡ 0) }
+        ensures cache { IfOk result (λ n. n.cache ≡ empty_cache capacity recent) }
+        ensures seen { IfOk result (λ n. n.seen ≡ seen) }
+        ensures whole { IfOk result (λ n. n.broken ≡ false) }
+    {
+        nodes_go_on();
+        let row = Arc::new(alloc, EventRow::new(alloc, records)?)?;
+        let log = Log::new(alloc, NodeFront::new(alloc, row)?);
+        Ok(StoredNode {
+            number,
+            core: NodeCore::new(alloc, capacity, recent)?,
+            log,
+            seen,
+            broken: false,
+            of: PhantomData,
+        })
+    }
+
+    // Refused as broken.
+    fn check_whole(&self) -> Result<(), NodeError>
+        ensures only_if { IsOk result ↔ (self.now.broken ≡ false) }
+        ensures refused { OnErr result ((result ≡ Err NodeError.Broken) × (self.now.broken ≡ true)) }
+    {
+        if self.broken {
+            return Err(NodeError::Broken);
+        }
+        Ok(())
+    }
+
+    // Refused as full.
+    fn check_room(&self) -> Result<(), NodeError>
+        ensures only_if { OnOk result (length self.now.records < length self.now.cells) }
+        ensures refused { OnErr result ((result ≡ Err NodeError.HistoryFull) × (length self.now.records ≡ length self.now.cells)) }
+    {
+        if self.log.front().is_full() {
+            return Err(NodeError::HistoryFull);
+        }
+        Ok(())
+    }
+
+    /// One pass more, by its number.
+    pub fn pass(&mut self) -> Result<usize, NodeError>
+        ensures pass { IfOk result (λ pass. pass ≡ self.old.passes) }
+        ensures after { OnOk result (self.new ≡ record self.old { passes = self.old.passes + 1 }) }
+        ensures only_if { OnOk result ((self.old.broken ≡ false) × (self.old.passes < MAX_PASSES)) }
+        ensures unchanged { OnErr result (self.new ≡ self.old) }
+        ensures refused { IfErr result (IsPassRefused self.old) }
+    {
+        self.check_whole()?;
+        if self.log.passes() >= MAX_PASSES {
+            return Err(NodeError::PassesFull);
+        }
+        Ok(self.log.add_pass()?)
+    }
+
+    // What a lookup finds, as a finding and as a reply.
+    fn find(
+        &self,
+        alloc: Global,
+        key: &Key,
+        lo: Stamp,
+        hi: Stamp,
+    ) -> Result<(Option<Finding<A>>, Reply<Shown>), AllocError>
+        requires { lo ≤ hi }
+        ensures found { IfOk result (λ both. option_map (λ f. f.entry) both.0 ≡ option_map (entry_shown key.now) (answer self.now.cache key.now lo hi)) }
+        ensures front { IfOk result (λ both. IfSome both.0 (λ f. f.front ≡ self.now.seen)) }
+        ensures reply { IfOk result (λ both. both.1 ≡ found_reply (answer self.now.cache key.now lo hi)) }
+    {
+        answers_are_true();
+        let Ok(found) = self.core.find(key, lo, hi) else {
+            unreachable!();
+        };
+        let Some(hit) = found else {
+            return Ok((None, Reply::Miss));
+        };
+        let shown = hit.copy(alloc)?;
+        let entry = Entry {
+            key: key.copy(),
+            value: hit.value.copy(alloc)?,
+            reach: hit.reach(),
+            tags: hit.tags.copy(alloc)?,
+        };
+        let front = self.seen.again(alloc)?;
+        Ok((Some(Finding::new(entry, front)), Reply::Hit(shown)))
+    }
+
+    /// Looks up the call of `key` at the stamps from `lo` to `hi`, both included. The finding is true in the front beside it,
+    /// which is what the node has seen.
+    pub fn lookup(
+        &mut self,
+        alloc: Global,
+        pass: usize,
+        key: &Key,
+        lo: Stamp,
+        hi: Stamp,
+    ) -> Result<Option<Finding<A>>, NodeError>
+        requires { pass < self.old.passes }
+        ensures after { OnOk result (self.new ≡ after_call self.old pass (Lookup key.now lo hi)) }
+        ensures found { IfOk result (λ found. option_map (λ f. f.entry) found ≡ option_map (entry_shown key.now) (answer self.old.cache key.now lo hi)) }
+        ensures front { IfOk result (λ found. IfSome found (λ f. f.front ≡ self.old.seen)) }
+        ensures only_if { OnOk result (IsOpen self.old × (lo ≤ hi)) }
+        ensures left { IfErr result (IsLeft self.old self.new) }
+        ensures refused { IfErr result (IsLookupRefused self.old lo hi) }
+    {
+        nodes_go_on();
+        self.check_whole()?;
+        if hi < lo {
+            return Err(NodeError::EmptyRange);
+        }
+        self.check_room()?;
+        let (finding, reply) = self.find(alloc, key, lo, hi)?;
+        let op = Op::Lookup {
+            key: key.copy(),
+            lo,
+            hi,
+        };
+        let next = Box::new(alloc, self.log.next_record(pass, op, reply))?;
+        let Ok(_) = self.core.lookup(key, lo, hi) else {
+            unreachable!();
+        };
+        if !self.log.append(next) {
+            self.broken = true;
+            return Err(NodeError::Broken);
+        }
+        Ok(finding)
+    }
+}
