@@ -6,3 +6,5 @@ pub mod Entries
 pub mod Histories
 pub mod Runs
 pub mod WorkedNodes
+pub mod Turns
+pub mod Nodes

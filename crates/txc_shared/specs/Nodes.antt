@@ -3,7 +3,8 @@ use Rattle.std.specs.Prelude.{◌≡◌, ◌⊎◌, ℕ, ◌+◌, ◌<◌, ◌�
 use mathlib.Core.List.{IsPrefix}
 use Rattle.txc_stamp.specs.Interval.{Interval}
 use Rattle.txc_tags.specs.Keys.{Call}
-use Rattle.txc_db.specs.History.{tags_at}
+use Rattle.txc_tags.specs.declared.tag.Tag.{Tag}
+use Rattle.txc_db.specs.History.{History, tags_at}
 use Rattle.txc_db.specs.Seen.{FrontValue}
 use Rattle.txc_node.specs.declared.entry.Entry.{Entry}
 use Rattle.txc_node.specs.declared.hit.Shown.{Shown}
@@ -61,6 +62,10 @@ pub record IsLonger (one other longer : FrontValue) : Type 0 where
 -- the same, but that it has seen more
 abbrev pub seeing : NodeValue → FrontValue → NodeValue
 seeing n seen = record n { seen = seen }
+
+-- an event of the history, with its tags
+abbrev pub HasTags : History → ℕ → List Tag → Type 0
+HasTags L number tags = (number ≤ length L) × (tags ≡ tags_at L number)
 
 -- ---- answers
 

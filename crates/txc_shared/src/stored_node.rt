@@ -5,7 +5,7 @@ ghost use Rattle.txc_node.specs.Cache.{empty_cache, answer, outcome, swept_count
 ghost use Rattle.txc_node.specs.Steps.{found_reply};
 ghost use Rattle.txc_stream.specs.declared.row.TheConstants as rows;
 ghost use Rattle.txc_node.specs.declared.op.Op.TheVariants.{Insert, Lookup, Sweep};
-ghost use Rattle.txc_shared.specs.Nodes.{NodeValue, after_call, seeing, IsLonger, entry_shown, insertion_of, HasAdvanced};
+ghost use Rattle.txc_shared.specs.Nodes.{NodeValue, after_call, seeing, IsLonger, HasTags, entry_shown, insertion_of, HasAdvanced};
 ghost use Rattle.txc_shared.specs.Refusals.{IsOpen, IsStepRefused, IsLookupRefused, IsPassRefused, IsLeft};
 
 use crate::advanced::Advanced;
@@ -23,7 +23,7 @@ use txc_db::HistoryFront;
 use txc_node::{Entry, MAX_CAPACITY, MAX_RECENT, NodeCore, Op, Record, Reply, Shown};
 use txc_stamp::Stamp;
 use txc_stream::EventRow;
-use txc_tags::Key;
+use txc_tags::{Key, TagSet};
 
 /// A node of the cache, with the stored history of its steps and what it has seen of the database's history.
 ///
@@ -86,7 +86,7 @@ impl<A: App> StoredNode<A> {
 
     // Refused as broken.
     fn check_whole(&self) -> Result<(), NodeError>
-        ensures only_if { IsOk result ↔ (self.now.broken ≡ false) }
+        ensures only_if { OnOk result (self.now.broken ≡ false) }
         ensures refused { OnErr result ((result ≡ Err NodeError.Broken) × (self.now.broken ≡ true)) }
     {
         if self.broken {
@@ -192,4 +192,136 @@ impl<A: App> StoredNode<A> {
         }
         Ok(finding)
     }
+
+    /// Inserts the entry of a finding, which is true in the front beside it. The node keeps the longer of that front and its
+    /// own. Where it is refused, the finding is dropped.
+    pub fn insert(
+        &mut self,
+        alloc: Global,
+        pass: usize,
+        finding: Finding<A>,
+    ) -> Result<Insertion, NodeError>
+        requires own { pass < self.old.passes }
+        requires front { finding.front.events ≡ self.old.seen.events }
+        ensures seen { OnOk result (IsLonger self.old.seen finding.front self.new.seen) }
+        ensures after { OnOk result (self.new ≡ after_call (seeing self.old self.new.seen) pass (Insert finding.entry)) }
+        ensures answer { IfOk result (λ insertion. insertion ≡ insertion_of (outcome self.old.cache finding.entry)) }
+        ensures only_if { OnOk result (IsOpen self.old) }
+        ensures left { IfErr result (IsLeft self.old self.new) }
+        ensures refused { IfErr result (IsStepRefused self.old) }
+    {
+        nodes_go_on();
+        entries_stay_true();
+        self.check_whole()?;
+        self.check_room()?;
+        let Finding { entry, front, .. } = finding;
+        let _known = entry.reach.known();
+        let _bytes = entry.value.bytes();
+        let op = Op::Insert(entry.copy(alloc)?);
+        let mut next = Box::new(alloc, self.log.next_record(pass, op, Reply::Miss))?;
+        let inserted = self.core.insert(entry)?;
+        let insertion = Insertion::of(&inserted);
+        set_reply(&mut next, Reply::Inserted(inserted));
+        self.seen.longer(&front);
+        if !self.log.append(next) {
+            self.broken = true;
+            return Err(NodeError::Broken);
+        }
+        Ok(insertion)
+    }
+
+    // The tags of an event that the node has seen, or the front shows.
+    fn tags_of(
+        &self,
+        alloc: Global,
+        front: &HistoryFront,
+        number: usize,
+    ) -> Result<TagSet, AllocError>
+        requires first { 1 ≤ number }
+        requires seen { (number ≤ length self.now.seen.history) ⊎ (number ≤ length front.now.history) }
+        ensures { IfOk result (λ tags. HasTags self.now.seen.history number tags ⊎ HasTags front.now.history number tags) }
+    {
+        if number <= self.seen.len() {
+            return self.seen.event_at(number).tags.copy(alloc);
+        }
+        front.event_at(number).tags.copy(alloc)
+    }
+
+    /// Takes the next event of the database's history that the node or the front has seen, and says how many entries it
+    /// closed. The node keeps the longer of that front and its own.
+    pub fn advance(
+        &mut self,
+        alloc: Global,
+        pass: usize,
+        front: &HistoryFront,
+    ) -> Result<Advanced, NodeError>
+        requires own { pass < self.old.passes }
+        requires front { front.now.events ≡ self.old.seen.events }
+        ensures seen { OnOk result (IsLonger self.old.seen front.now self.new.seen) }
+        ensures after { IfOk result (HasAdvanced (seeing self.old self.new.seen) pass self.new) }
+        ensures only_if { OnOk result (self.old.broken ≡ false) }
+        ensures left { IfErr result (IsLeft self.old self.new) }
+        ensures refused { IfErr result (IsStepRefused self.old) }
+    {
+        nodes_go_on();
+        self.check_whole()?;
+        let number = self.core.processed().number() as usize + 1;
+        if number > self.seen.len() && number > front.len() {
+            self.seen.longer(front);
+            return Ok(Advanced::Idle);
+        }
+        self.check_room()?;
+        let stamp = Stamp::after(number);
+        let tags = self.tags_of(alloc, front, number)?;
+        let op = Op::Event {
+            stamp,
+            tags: tags.copy(alloc)?,
+        };
+        let mut next = Box::new(alloc, self.log.next_record(pass, op, Reply::Miss))?;
+        let Ok(closed) = self.core.event(stamp, tags) else {
+            unreachable!();
+        };
+        set_reply(&mut next, Reply::Closed(closed));
+        self.seen.longer(front);
+        if !self.log.append(next) {
+            self.broken = true;
+            return Err(NodeError::Broken);
+        }
+        Ok(Advanced::Taken { stamp, closed })
+    }
+
+    /// Drops the entries whose span ends at the horizon or before it, and counts them.
+    pub fn sweep(
+        &mut self,
+        alloc: Global,
+        pass: usize,
+        horizon: Stamp,
+    ) -> Result<usize, NodeError>
+        requires { pass < self.old.passes }
+        ensures after { OnOk result (self.new ≡ after_call self.old pass (Sweep horizon)) }
+        ensures answer { IfOk result (λ count. count ≡ swept_count self.old.cache horizon) }
+        ensures only_if { OnOk result (IsOpen self.old) }
+        ensures left { IfErr result (IsLeft self.old self.new) }
+        ensures refused { IfErr result (IsStepRefused self.old) }
+    {
+        nodes_go_on();
+        self.check_whole()?;
+        self.check_room()?;
+        let op = Op::Sweep { horizon };
+        let mut next = Box::new(alloc, self.log.next_record(pass, op, Reply::Miss))?;
+        let dropped = self.core.sweep(horizon);
+        set_reply(&mut next, Reply::Swept(dropped));
+        if !self.log.append(next) {
+            self.broken = true;
+            return Err(NodeError::Broken);
+        }
+        Ok(dropped)
+    }
+}
+
+// The reply of a record whose room was made before the step.
+fn set_reply(next: &mut Record, reply: Reply<Shown>)
+    ensures { next.new ≡ record next.old { reply = reply } }
+{
+    next.reply = reply;
 }
