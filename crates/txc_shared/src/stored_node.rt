@@ -19,7 +19,7 @@ use crate::node_front::NodeFront;
 use std::alloc::{AllocError, Global};
 use std::marker::{Model, PhantomData};
 use std::sync::Arc;
-use txc_db::HistoryFront;
+use txc_db::{HistoryFront, states_stay};
 use txc_node::{Entry, MAX_CAPACITY, MAX_RECENT, NodeCore, Op, Record, Reply, Shown};
 use txc_stamp::Stamp;
 use txc_stream::EventRow;
@@ -263,6 +263,7 @@ impl<A: App> StoredNode<A> {
         ensures left { IfErr result (IsLeft self.old self.new) }
         ensures refused { IfErr result (IsStepRefused self.old) }
     {
+        states_stay();
         nodes_go_on();
         self.check_whole()?;
         let number = self.core.processed().number() as usize + 1;
