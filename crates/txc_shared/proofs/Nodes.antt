@@ -1,5 +1,5 @@
 -- What a step leaves of a node.
-use Rattle.std.proofs.Common.{◌≡◌, ◌⊎◌, inl, inr, ℕ, ◌+◌, ◌-◌, ◌<◌, ◌≤◌, List, [], ◌∷◌, ◌++◌, length, length-append, Bool, true, false, None, refl, sym, ap, subst, ◌∙◌, arith}
+use Rattle.std.proofs.Common.{◌≡◌, ℕ, ◌+◌, ◌≤◌, List, [], ◌∷◌, ◌++◌, length, length-append, Bool, true, false, None, refl, sym, ap, subst, ◌∙◌, arith}
 use Rattle.std.proofs.lemmas.Bool.Decides.{nat_tests}
 use mathlib.Core.List.{IsPrefix}
 use Rattle.txc_tags.specs.declared.tag.Tag.{Tag}
@@ -34,7 +34,7 @@ module _ (next : Next) (L : History) where
       → r ≡ next_record pass rs op (step_reply c op) → all ≡ rs ++ r ∷ [] → d ≡ after_step c op → IsNode next L all d b
   stepped on rs all c d b pass op r h whole may r_is all_is d_is =
       node_as (rs ++ next_record pass rs op (step_reply c op) ∷ []) all (after_step c op) d false b
-          (all_is ∙ ap (λ (x : Record). rs ++ x ∷ []) r_is) d_is whole (on next L rs c pass op (subst (IsNode next L rs c) whole h) may)
+      (all_is ∙ ap (λ (x : Record). rs ++ x ∷ []) r_is) d_is whole (on next L rs c pass op (subst (IsNode next L rs c) whole h) may)
 
   -- a node that made a step, and has no record of it
   pub broke : NodeBreaks → (rs all : List Record) (c d : Cache) (b : Bool) (op : Op)
@@ -72,10 +72,10 @@ pub called : (n : NodeValue) (seen : FrontValue) (pass : ℕ) (op : Op) (r : Rec
     → r ≡ next_record pass n.records op (step_reply n.cache op)
     → log ≡ record { cells = n.cells; records = n.records ++ r ∷ []; passes = n.passes } → cache ≡ after_step n.cache op
     → record { number = n.number; cells = log.cells; records = log.records; passes = log.passes; cache = cache; seen = seen; broken = n.broken }
-        ≡ after_call (seeing n seen) pass op
+    ≡ after_call (seeing n seen) pass op
 called n seen pass op r log cache r_is log_is cache_is =
     let records : log.records ≡ n.records ++ next_record pass n.records op (step_reply n.cache op) ∷ [] =
-        ap (λ (l : LogValue). l.records) log_is ∙ ap (λ (x : Record). n.records ++ x ∷ []) r_is in
+    ap (λ (l : LogValue). l.records) log_is ∙ ap (λ (x : Record). n.records ++ x ∷ []) r_is in
     λ i. record {
       number = n.number;
       cells = (log_is i).cells;

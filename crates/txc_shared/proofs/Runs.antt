@@ -20,7 +20,7 @@ use Rattle.txc_node.specs.Steps.{refusal_of, step_reply, after_step}
 use Rattle.txc_shared.specs.Eval.{Next}
 use Rattle.txc_shared.specs.Claims.{IsTrueIn, IsShownTrue, shown_entry}
 use Rattle.txc_shared.specs.Histories.{cache_after, IsNext, IsLegal, next_record}
-use Rattle.txc_shared.specs.Runs.{AreTagsAfter, KeepsTags, IsTrueCache, emptied, IsRun, IsNode}
+use Rattle.txc_shared.specs.Runs.{AreTagsAfter, KeepsTags, IsTrueCache, emptied, IsRun}
 use Rattle.txc_shared.specs.Laws.{TrueInLonger, TrueAfterEvent, TrueAfterReplay, NodeBegins, MayStep, NodeGoesOn, NodeBreaks, NodeSeesMore, AnswersAreTrue}
 use Rattle.txc_shared.proofs.Each.{each_none, each_push}
 use Rattle.txc_shared.proofs.Entries.{drop_tags, drop_length}

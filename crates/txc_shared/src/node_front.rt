@@ -34,10 +34,7 @@ impl Model for NodeFront {
 
 impl NodeFront {
     /// A front that shows nothing yet of the row.
-    pub(crate) fn new(
-        alloc: Global,
-        row: Arc<EventRow<Record>>,
-    ) -> Result<NodeFront, AllocError>
+    pub(crate) fn new(alloc: Global, row: Arc<EventRow<Record>>) -> Result<NodeFront, AllocError>
         ensures { IfOk result (λ front. front ≡ record { cells = arc_value row; records = [] }) }
     {
         let front = row.start(alloc)?;

@@ -292,12 +292,7 @@ impl<A: App> StoredNode<A> {
     }
 
     /// Drops the entries whose span ends at the horizon or before it, and counts them.
-    pub fn sweep(
-        &mut self,
-        alloc: Global,
-        pass: usize,
-        horizon: Stamp,
-    ) -> Result<usize, NodeError>
+    pub fn sweep(&mut self, alloc: Global, pass: usize, horizon: Stamp) -> Result<usize, NodeError>
         requires { pass < self.old.passes }
         ensures after { OnOk result (self.new ≡ after_call self.old pass (Sweep horizon)) }
         ensures answer { IfOk result (λ count. count ≡ swept_count self.old.cache horizon) }

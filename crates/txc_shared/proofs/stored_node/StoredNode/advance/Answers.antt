@@ -3,7 +3,6 @@ use Rattle.txc_db.specs.History.{tags_at}
 use Rattle.txc_node.specs.declared.op.Op.{Op}
 use Rattle.txc_node.specs.declared.op.Op.TheVariants.{Event}
 use Rattle.txc_node.specs.declared.reply.Reply.TheVariants as replies
-use Rattle.txc_node.specs.declared.record.Record.{Record}
 use Rattle.txc_node.specs.Cache.{closed_count}
 use Rattle.txc_shared.specs.Histories.{next_record}
 use Rattle.txc_shared.specs.Nodes.{NodeValue, LogValue, HasTags, after_call, seeing, next_event}
@@ -24,8 +23,8 @@ invariant_of-self-then-not-append g c =
     let here : HasTags seen stamp tags = subst (λ k. HasTags seen k tags) (sym c.after-stamp.ensures) has in
     let held = c.nodes_go_on.ensures.sees g.A.App.next c.self.inside.seen.history seen c.self.inside.log.records core c.self.inside.broken c.longer-2.ensures.this c.self.invariant in
     broke g.A.App.next seen c.nodes_go_on.ensures.breaks c.self.inside.log.records c.append.new.self.records core c.event.new.self c.self.inside.broken
-        (Event stamp tags) held (may_take g.A.App.next seen core stamp tags (c.in-Ok.ensures.only_if.0 refl) here.0 here.1)
-        (ap (λ (l : LogValue). l.records) (c.if-not-append.ensures.unchanged refl)) c.in-Ok.ensures.after
+    (Event stamp tags) held (may_take g.A.App.next seen core stamp tags (c.in-Ok.ensures.only_if.0 refl) here.0 here.1)
+    (ap (λ (l : LogValue). l.records) (c.if-not-append.ensures.unchanged refl)) c.in-Ok.ensures.after
 
 pub invariant_of-self-else-not-append : goal.invariant_of-self-else-not-append
 invariant_of-self-else-not-append g c =
@@ -44,11 +43,11 @@ invariant_of-self-else-not-append g c =
     let whole : c.self.inside.broken ≡ false = ap (λ (n : NodeValue). n.broken) c.self.view_is ∙ c.in_ok-check_whole.ensures.only_if in
     let made = c.deref_mut.ensures.value ∙ (c.in_ok-next.ensures.ok ∙ c.next_record.ensures) in
     let record_is : c.set_reply.new.next ≡ next_record c.args.pass rs (Event stamp tags) (replies.Closed (closed_count core stamp tags)) =
-        c.set_reply.ensures ∙ ((λ i. record (made i) { reply = replies.Closed c.in-Ok.closed })
-        ∙ (λ i. next_record c.args.pass rs (Event stamp (c.in_ok-copy.ensures i)) (replies.Closed (c.in-Ok.ensures.answer i)))) in
+    c.set_reply.ensures ∙ ((λ i. record (made i) { reply = replies.Closed c.in-Ok.closed })
+    ∙ (λ i. next_record c.args.pass rs (Event stamp (c.in_ok-copy.ensures i)) (replies.Closed (c.in-Ok.ensures.answer i)))) in
     stepped g.A.App.next seen c.nodes_go_on.ensures.step rs c.append.new.self.records core c.event.new.self c.self.inside.broken
-        c.args.pass (Event stamp tags) c.set_reply.new.next held whole (may_take g.A.App.next seen core stamp tags (c.in-Ok.ensures.only_if.0 refl) here.0 here.1)
-        record_is (ap (λ (l : LogValue). l.records) (c.if-not-append.ensures.after refl)) c.in-Ok.ensures.after
+    c.args.pass (Event stamp tags) c.set_reply.new.next held whole (may_take g.A.App.next seen core stamp tags (c.in-Ok.ensures.only_if.0 refl) here.0 here.1)
+    record_is (ap (λ (l : LogValue). l.records) (c.if-not-append.ensures.after refl)) c.in-Ok.ensures.after
 
 pub returns-clause-after : goal.returns-clause-after
 returns-clause-after g c =
@@ -67,9 +66,8 @@ returns-clause-after g c =
     let op_is : ◌≡◌ {A = Op} (Event stamp tags) (next_event (seeing c.args.self.now c.longer-2.new.self)) = λ i. Event (stamp_is i) ((here.1 ∙ ap (tags_at seen) stamp_is) i) in
     let made = c.deref_mut.ensures.value ∙ (c.in_ok-next.ensures.ok ∙ c.next_record.ensures) in
     let record_is : c.set_reply.new.next ≡ next_record c.args.pass n.records (Event stamp tags) (replies.Closed (closed_count n.cache stamp tags)) =
-        c.set_reply.ensures ∙ ((λ i. record (made i) { reply = replies.Closed c.in-Ok.closed })
-        ∙ (λ i. next_record c.args.pass n.records (Event stamp (c.in_ok-copy.ensures i)) (replies.Closed (c.in-Ok.ensures.answer i)))) in
-    (
+    c.set_reply.ensures ∙ ((λ i. record (made i) { reply = replies.Closed c.in-Ok.closed })
+    ∙ (λ i. next_record c.args.pass n.records (Event stamp (c.in_ok-copy.ensures i)) (replies.Closed (c.in-Ok.ensures.answer i)))) in (
       called n c.longer-2.new.self c.args.pass (Event stamp tags) c.set_reply.new.next c.append.new.self c.event.new.self record_is (c.if-not-append.ensures.after refl) c.in-Ok.ensures.after
           ∙ (λ i. after_call (seeing (c.self.view_is i) c.longer-2.new.self) c.args.pass (op_is i)),
       stamp_is,
