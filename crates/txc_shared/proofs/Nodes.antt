@@ -22,26 +22,28 @@ use Rattle.txc_shared.specs.Runs.{IsNode}
 use Rattle.txc_shared.specs.Nodes.{LogValue, NodeValue, after_call, seeing, HasTags}
 use Rattle.txc_shared.specs.Laws.{MayStep, NodeGoesOn, NodeBreaks}
 
-module _ (next : Next) (L : History) where
-  node_as : (rs all : List Record) (c d : Cache) (b e : Bool) → all ≡ rs → d ≡ c → e ≡ b → IsNode next L rs c b → IsNode next L all d e
+module _ (next : Next) (L : History) (start : Cache) where
+  node_as : (rs all : List Record) (c d : Cache) (b e : Bool) → all ≡ rs → d ≡ c → e ≡ b → IsNode next L start rs c b → IsNode next L start all d e
   node_as rs all c d b e rs_is c_is b_is h =
-      subst (λ (l : List Record). IsNode next L l d e) (sym rs_is)
-      (subst (λ (k : Cache). IsNode next L rs k e) (sym c_is) (subst (IsNode next L rs c) (sym b_is) h))
+      subst (λ (l : List Record). IsNode next L start l d e) (sym rs_is)
+      (subst (λ (k : Cache). IsNode next L start rs k e) (sym c_is) (subst (IsNode next L start rs c) (sym b_is) h))
 
   -- a whole node that made a step, and has the record of it
   pub stepped : NodeGoesOn → (rs all : List Record) (c d : Cache) (b : Bool) (pass : ℕ) (op : Op) (r : Record)
-      → IsNode next L rs c b → b ≡ false → MayStep next L c op
-      → r ≡ next_record pass rs op (step_reply c op) → all ≡ rs ++ r ∷ [] → d ≡ after_step c op → IsNode next L all d b
+      → IsNode next L start rs c b → b ≡ false → MayStep next L c op
+      → r ≡ next_record pass rs op (step_reply c op) → all ≡ rs ++ r ∷ [] → d ≡ after_step c op → IsNode next L start all d b
   stepped on rs all c d b pass op r h whole may r_is all_is d_is =
       node_as (rs ++ next_record pass rs op (step_reply c op) ∷ []) all (after_step c op) d false b
-      (all_is ∙ ap (λ (x : Record). rs ++ x ∷ []) r_is) d_is whole (on next L rs c pass op (subst (IsNode next L rs c) whole h) may)
+      (all_is ∙ ap (λ (x : Record). rs ++ x ∷ []) r_is) d_is whole (on next L start rs c pass op (subst (IsNode next L start rs c) whole h) may)
 
   -- a node that made a step, and has no record of it
   pub broke : NodeBreaks → (rs all : List Record) (c d : Cache) (b : Bool) (op : Op)
-      → IsNode next L rs c b → MayStep next L c op → all ≡ rs → d ≡ after_step c op → IsNode next L all d true
-  broke breaks rs all c d b op h may all_is d_is = node_as rs all (after_step c op) d true true all_is d_is refl (breaks next L rs c b op h may)
+      → IsNode next L start rs c b → MayStep next L c op → all ≡ rs → d ≡ after_step c op → IsNode next L start all d true
+  broke breaks rs all c d b op h may all_is d_is = node_as rs all (after_step c op) d true true all_is d_is refl (breaks next L start rs c b op h may)
 
-  -- ---- steps that may be made
+-- ---- steps that may be made
+
+module _ (next : Next) (L : History) where
 
   pub may_look_up : (c : Cache) (key : Call) (lo hi : ℕ) → lo ≤ hi → MayStep next L c (Lookup key lo hi)
   may_look_up c key lo hi some =
@@ -71,13 +73,13 @@ tags_in_longer stay L M number tags begins h =
 pub called : (n : NodeValue) (seen : FrontValue) (pass : ℕ) (op : Op) (r : Record) (log : LogValue) (cache : Cache)
     → r ≡ next_record pass n.records op (step_reply n.cache op)
     → log ≡ record { cells = n.cells; records = n.records ++ r ∷ []; passes = n.passes } → cache ≡ after_step n.cache op
-    → record { number = n.number; cells = log.cells; records = log.records; passes = log.passes; cache = cache; seen = seen; broken = n.broken }
+    → record { settings = n.settings; cells = log.cells; records = log.records; passes = log.passes; cache = cache; seen = seen; broken = n.broken }
     ≡ after_call (seeing n seen) pass op
 called n seen pass op r log cache r_is log_is cache_is =
     let records : log.records ≡ n.records ++ next_record pass n.records op (step_reply n.cache op) ∷ [] =
     ap (λ (l : LogValue). l.records) log_is ∙ ap (λ (x : Record). n.records ++ x ∷ []) r_is in
     λ i. record {
-      number = n.number;
+      settings = n.settings;
       cells = (log_is i).cells;
       records = records i;
       passes = (log_is i).passes;

@@ -20,7 +20,7 @@ use Rattle.txc_node.specs.Steps.{refusal_of, step_reply, after_step}
 use Rattle.txc_shared.specs.Eval.{Next}
 use Rattle.txc_shared.specs.Claims.{IsTrueIn, IsShownTrue, shown_entry}
 use Rattle.txc_shared.specs.Histories.{cache_after, IsNext, IsLegal, next_record}
-use Rattle.txc_shared.specs.Runs.{AreTagsAfter, KeepsTags, IsTrueCache, emptied, IsRun}
+use Rattle.txc_shared.specs.Runs.{AreTagsAfter, KeepsTags, IsTrueCache, IsRun}
 use Rattle.txc_shared.specs.Laws.{TrueInLonger, TrueAfterEvent, TrueAfterReplay, NodeBegins, MayStep, NodeGoesOn, NodeBreaks, NodeSeesMore, AnswersAreTrue}
 use Rattle.txc_shared.proofs.Each.{each_none, each_push}
 use Rattle.txc_shared.proofs.Entries.{drop_tags, drop_length}
@@ -81,9 +81,9 @@ true_longer longer stay next L M c begins h = record {
 }
 
 pub node_sees_more : TrueInLonger → TagsStay → NodeSeesMore
-node_sees_more longer stay next L M rs c broken begins h = record {
+node_sees_more longer stay next L M start rs c broken begins h = record {
   is_true = true_longer longer stay next L M c begins h.is_true;
-  run = λ whole. let run = h.run whole in record { is = run.is; legal = legal_in_longer stay L M (emptied c) rs begins run.legal };
+  run = λ whole. let run = h.run whole in record { is = run.is; legal = legal_in_longer stay L M start rs begins run.legal };
 }
 
 -- ---- one step more
@@ -154,45 +154,29 @@ true_after event replay next L c (ops.Event stamp tags) h may =
 true_after event replay next L c (ops.Sweep horizon) h may =
     with_entries next L c _ h (all_filter (IsShownTrue next L c.processed) _ c.entries h.entries)
 
--- a step leaves the capacity and the depth
-used_emptied : (c : Cache) (f : Option Entry) → emptied (after_use c f) ≡ emptied c
-used_emptied c None = refl
-used_emptied c (Some e) = refl
-
-kept_emptied : (c : Cache) (e : Entry) (b : Bool) → emptied (cond b c (record c { entries = take c.capacity (entries_with c e) })) ≡ emptied c
-kept_emptied c e true = refl
-kept_emptied c e false = refl
-
-pub step_emptied : (c : Cache) (op : Op) → emptied (after_step c op) ≡ emptied c
-step_emptied c (ops.Lookup key lo hi) = used_emptied c (found c key lo hi)
-step_emptied c (ops.Insert e) = kept_emptied c e (is_kept c e)
-step_emptied c (ops.Event stamp tags) = refl
-step_emptied c (ops.Sweep horizon) = refl
-
-run_goes_on : (next : Next) (L : History) (rs : List Record) (c : Cache) (pass : ℕ) (op : Op) → IsRun L rs c → MayStep next L c op
-    → IsRun L (rs ++ next_record pass rs op (step_reply c op) ∷ []) (after_step c op)
-run_goes_on next L rs c pass op h may =
+run_goes_on : (next : Next) (L : History) (start : Cache) (rs : List Record) (c : Cache) (pass : ℕ) (op : Op) → IsRun L start rs c → MayStep next L c op
+    → IsRun L start (rs ++ next_record pass rs op (step_reply c op) ∷ []) (after_step c op)
+run_goes_on next L start rs c pass op h may =
     let r = next_record pass rs op (step_reply c op) in
-    let start = step_emptied c op in
-    let follows : IsNext L (emptied c) rs r = record {
+    let follows : IsNext L start rs r = record {
       possible = subst (λ (k : Cache). refusal_of k op ≡ None) h.is may.possible;
       reply = ap (λ (k : Cache). step_reply k op) h.is;
       event = may.event;
       turn = refl;
     } in
     record {
-      is = ap (λ (k : Cache). after_step k op) h.is ∙ (sym (cache_push (emptied c) rs r) ∙ ap (λ (k : Cache). cache_after k (rs ++ r ∷ [])) (sym start));
-      legal = subst (λ (k : Cache). IsLegal L k (rs ++ r ∷ [])) (sym start) (each_push (IsNext L (emptied c)) rs r h.legal follows);
+      is = ap (λ (k : Cache). after_step k op) h.is ∙ sym (cache_push start rs r);
+      legal = each_push (IsNext L start) rs r h.legal follows;
     }
 
 pub node_goes_on : TrueAfterEvent → TrueAfterReplay → NodeGoesOn
-node_goes_on event replay next L rs c pass op h may = record {
+node_goes_on event replay next L start rs c pass op h may = record {
   is_true = true_after event replay next L c op h.is_true may;
-  run = λ whole. run_goes_on next L rs c pass op (h.run refl) may;
+  run = λ whole. run_goes_on next L start rs c pass op (h.run refl) may;
 }
 
 pub node_breaks : TrueAfterEvent → TrueAfterReplay → NodeBreaks
-node_breaks event replay next L rs c broken op h may = record {
+node_breaks event replay next L start rs c broken op h may = record {
   is_true = true_after event replay next L c op h.is_true may;
   run = λ whole. absurd (true≢false whole);
 }

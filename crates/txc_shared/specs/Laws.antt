@@ -95,7 +95,7 @@ TrueAfterReplay = (next : Next) (L : History) (c : Cache) (e : Entry)
 
 -- a node without records and entries
 abbrev pub NodeBegins : Type 0
-NodeBegins = (next : Next) (L : History) (capacity depth : ℕ) → IsNode next L [] (empty_cache capacity depth) false
+NodeBegins = (next : Next) (L : History) (capacity depth : ℕ) → IsNode next L (empty_cache capacity depth) [] (empty_cache capacity depth) false
 
 -- the step may be made: the cache does not refuse it, its event is the history's, and what it hands in is true
 pub record MayStep (next : Next) (L : History) (c : Cache) (op : Op) : Type 0 where
@@ -105,19 +105,19 @@ pub record MayStep (next : Next) (L : History) (c : Cache) (op : Op) : Type 0 wh
 
 -- a node that makes such a step, with its record
 abbrev pub NodeGoesOn : Type 0
-NodeGoesOn = (next : Next) (L : History) (rs : List Record) (c : Cache) (pass : ℕ) (op : Op)
-    → IsNode next L rs c false → MayStep next L c op
-    → IsNode next L (rs ++ next_record pass rs op (step_reply c op) ∷ []) (after_step c op) false
+NodeGoesOn = (next : Next) (L : History) (start : Cache) (rs : List Record) (c : Cache) (pass : ℕ) (op : Op)
+    → IsNode next L start rs c false → MayStep next L c op
+    → IsNode next L start (rs ++ next_record pass rs op (step_reply c op) ∷ []) (after_step c op) false
 
 -- a node that makes such a step without its record is broken
 abbrev pub NodeBreaks : Type 0
-NodeBreaks = (next : Next) (L : History) (rs : List Record) (c : Cache) (broken : Bool) (op : Op)
-    → IsNode next L rs c broken → MayStep next L c op → IsNode next L rs (after_step c op) true
+NodeBreaks = (next : Next) (L : History) (start : Cache) (rs : List Record) (c : Cache) (broken : Bool) (op : Op)
+    → IsNode next L start rs c broken → MayStep next L c op → IsNode next L start rs (after_step c op) true
 
 -- a node that sees a longer history of the database
 abbrev pub NodeSeesMore : Type 0
-NodeSeesMore = (next : Next) (L M : History) (rs : List Record) (c : Cache) (broken : Bool)
-    → IsPrefix L M → IsNode next L rs c broken → IsNode next M rs c broken
+NodeSeesMore = (next : Next) (L M : History) (start : Cache) (rs : List Record) (c : Cache) (broken : Bool)
+    → IsPrefix L M → IsNode next L start rs c broken → IsNode next M start rs c broken
 
 -- a legal history is legal in a longer history of the database
 abbrev pub LegalInLonger : Type 0

@@ -12,13 +12,18 @@ use Rattle.txc_node.specs.declared.node.Inserted.TheVariants as inserts
 use Rattle.txc_node.specs.declared.op.Op.{Op}
 use Rattle.txc_node.specs.declared.op.Op.TheVariants.{Event}
 use Rattle.txc_node.specs.declared.record.Record.{Record}
-use Rattle.txc_node.specs.Cache.{Cache, closed_count}
+use Rattle.txc_node.specs.Cache.{Cache, empty_cache, closed_count}
 use Rattle.txc_node.specs.Steps.{step_reply, after_step}
 use Rattle.txc_shared.specs.declared.advanced.Advanced.{Advanced}
 use Rattle.txc_shared.specs.declared.advanced.Advanced.TheVariants.{Taken, Idle}
 use Rattle.txc_shared.specs.declared.insertion.Insertion.{Insertion}
 use Rattle.txc_shared.specs.declared.insertion.Insertion.TheVariants.{Stored, Kept}
+use Rattle.txc_shared.specs.declared.settings.NodeSettings.{NodeSettings}
 use Rattle.txc_shared.specs.Histories.{next_record}
+
+-- the cache of a node at the start
+abbrev pub start_of : NodeSettings → Cache
+start_of settings = empty_cache settings.capacity settings.recent
 
 -- the names of all cells for records, and what was seen in the first of them
 pub record NodeFrontValue : Type 0 where
@@ -31,10 +36,10 @@ pub record LogValue : Type 0 where
   pub records : List Record
   pub passes : ℕ
 
--- a node: its number; the names of all cells for its records, its records, and how many passes there are; its cache; what it has
+-- a node: its settings; the names of all cells for its records, its records, and how many passes there are; its cache; what it has
 -- seen of the database's history; and whether another record was found in its row
 pub record NodeValue : Type 0 where
-  pub number : ℕ
+  pub settings : NodeSettings
   pub cells : List ℕ
   pub records : List Record
   pub passes : ℕ

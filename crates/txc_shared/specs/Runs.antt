@@ -3,7 +3,7 @@ use Rattle.std.specs.Prelude.{◌≡◌, ℕ, Bool, false, suc, ◌+◌, ◌≤�
 use Rattle.std.specs.List.{AllByRecursion}
 use Rattle.txc_tags.specs.declared.tag.Tag.{Tag}
 use Rattle.txc_db.specs.History.{History, tags_at}
-use Rattle.txc_node.specs.Cache.{Cache, empty_cache}
+use Rattle.txc_node.specs.Cache.{Cache}
 use Rattle.txc_node.specs.declared.record.Record.{Record}
 use Rattle.txc_node.specs.declared.op.Op.{Op}
 use Rattle.txc_node.specs.declared.op.Op.TheVariants.{Insert, Lookup, Event, Sweep}
@@ -28,20 +28,16 @@ pub record IsTrueCache (next : Next) (L : History) (c : Cache) : Type 0 where
   pub recent : KeepsTags L c
   pub within : c.processed ≤ length L
 
--- the empty cache of the same capacity and depth
-abbrev pub emptied : Cache → Cache
-emptied c = empty_cache c.capacity c.depth
-
--- the cache is what these records leave of an empty one, and they are a legal history
-pub record IsRun (L : History) (rs : List Record) (c : Cache) : Type 0 where
-  pub is : c ≡ cache_after (emptied c) rs
-  pub legal : IsLegal L (emptied c) rs
+-- the cache is what these records leave of the one at the start, and they are a legal history
+pub record IsRun (L : History) (start : Cache) (rs : List Record) (c : Cache) : Type 0 where
+  pub is : c ≡ cache_after start rs
+  pub legal : IsLegal L start rs
 
 -- what is true of a node: its cache is true in what it has seen of the database's history, and, unless it is broken, what its
 -- records leave
-pub record IsNode (next : Next) (L : History) (rs : List Record) (c : Cache) (broken : Bool) : Type 0 where
+pub record IsNode (next : Next) (L : History) (start : Cache) (rs : List Record) (c : Cache) (broken : Bool) : Type 0 where
   pub is_true : IsTrueCache next L c
-  pub run : broken ≡ false → IsRun L rs c
+  pub run : broken ≡ false → IsRun L start rs c
 
 -- what the step hands in is true: an entry
 abbrev pub IsTrueStep : Next → History → Op → Type 0

@@ -10,6 +10,7 @@ mod insertion;
 pub mod laws;
 mod log;
 mod node_front;
+mod settings;
 mod stored_node;
 
 pub use advanced::Advanced;
@@ -20,4 +21,5 @@ pub use finding::Finding;
 pub use insertion::Insertion;
 pub use log::MAX_PASSES;
 pub use node_front::NodeFront;
+pub use settings::NodeSettings;
 pub use stored_node::StoredNode;

@@ -68,6 +68,15 @@ impl Log {
         Ok(pass)
     }
 
+    /// How many of its records a pass made.
+    pub(crate) fn turn(&self, pass: usize) -> usize
+        requires { pass < self.now.passes }
+        ensures { result ≡ records_of pass self.now.records }
+    {
+        let _len = self.front.len();
+        self.turns[pass]
+    }
+
     /// The next record of a pass.
     pub(crate) fn next_record(&self, pass: usize, op: Op, reply: Reply<Shown>) -> Record
         requires { pass < self.now.passes }
@@ -75,7 +84,7 @@ impl Log {
     {
         Record {
             pass,
-            turn: self.turns[pass],
+            turn: self.turn(pass),
             op,
             reply,
         }

@@ -1,11 +1,13 @@
 //! The node for one thread, which its lock holds too.
 ghost use Rattle.std.specs.Prelude.{◌≡◌, ◌+◌, ◌<◌, ◌≤◌, ◌⊎◌, ◌↔◌, ◌++◌, ◌∷◌, [], true, false, length, Some, None, Err, IsOk, IfOk, OnOk, OnErr, IfErr, IfSome, IsTrue};
 ghost use Rattle.std.specs.Option.{option_map};
-ghost use Rattle.txc_node.specs.Cache.{empty_cache, answer, outcome, swept_count};
+ghost use Rattle.txc_node.specs.Cache.{answer, outcome, swept_count};
 ghost use Rattle.txc_node.specs.Steps.{found_reply};
 ghost use Rattle.txc_stream.specs.declared.row.TheConstants as rows;
 ghost use Rattle.txc_node.specs.declared.op.Op.TheVariants.{Insert, Lookup, Sweep};
-ghost use Rattle.txc_shared.specs.Nodes.{NodeValue, after_call, seeing, IsLonger, HasTags, entry_shown, insertion_of, HasAdvanced};
+ghost use Rattle.txc_shared.specs.Nodes.{NodeValue, start_of, after_call, seeing, IsLonger, HasTags, entry_shown, insertion_of, HasAdvanced};
+ghost use Rattle.txc_shared.specs.Histories.{records_of};
+ghost use Rattle.txc_shared.specs.Runs.{IsNode};
 ghost use Rattle.txc_shared.specs.Refusals.{IsOpen, IsStepRefused, IsLookupRefused, IsPassRefused, IsLeft};
 
 use crate::advanced::Advanced;
@@ -16,6 +18,7 @@ use crate::insertion::Insertion;
 use crate::laws::{answers_are_true, entries_stay_true, nodes_go_on};
 use crate::log::{Log, MAX_PASSES};
 use crate::node_front::NodeFront;
+use crate::settings::NodeSettings;
 use std::alloc::{AllocError, Global};
 use std::marker::{Model, PhantomData};
 use std::sync::Arc;
@@ -31,7 +34,7 @@ use txc_tags::{Key, TagSet};
 /// is one of a pass, by the pass's number: its record has the pass's next turn.
 #[derive(Drop)]
 pub struct StoredNode<A: App> {
-    number: usize,
+    settings: NodeSettings,
     core: NodeCore,
     log: Log,
     seen: HistoryFront,
@@ -41,47 +44,112 @@ pub struct StoredNode<A: App> {
 
 impl<A: App> Model for StoredNode<A> {
     ghost use Rattle.txc_shared.specs.Runs.{IsNode};
-    ghost use Rattle.txc_shared.specs.Nodes.{NodeValue};
+    ghost use Rattle.txc_shared.specs.Nodes.{NodeValue, start_of};
 
     ghost Value = { NodeValue };
 
-    ghost view = { λ n. record { number = n.number; cells = n.log.cells; records = n.log.records; passes = n.log.passes; cache = n.core; seen = n.seen; broken = n.broken } };
+    ghost view = { λ n. record { settings = n.settings; cells = n.log.cells; records = n.log.records; passes = n.log.passes; cache = n.core; seen = n.seen; broken = n.broken } };
 
-    ghost invariant = { λ n. IsNode A.next n.seen.history n.log.records n.core n.broken };
+    ghost invariant = { λ n. IsNode A.next n.seen.history (start_of n.settings) n.log.records n.core n.broken };
 }
 
 impl<A: App> StoredNode<A> {
-    /// An empty node of that number, for at most `capacity` entries and `records` records, that keeps the tags of the last
-    /// `recent` events. The front shows what it has seen of the database's history.
+    /// An empty node. The front shows what it has seen of the database's history.
     pub fn new(
         alloc: Global,
-        number: usize,
-        capacity: usize,
-        recent: usize,
-        records: usize,
+        settings: NodeSettings,
         seen: HistoryFront,
     ) -> Result<StoredNode<A>, AllocError>
-        requires capacity { (1 ≤ capacity) × (capacity ≤ MAX_CAPACITY) }
-        requires recent { (1 ≤ recent) × (recent ≤ MAX_RECENT) }
-        requires records { (1 ≤ records) × (records ≤ rows.MAX_CAPACITY) }
-        ensures number { IfOk result (λ n. n.number ≡ number) }
-        ensures records { IfOk result (λ n. (n.records ≡ []) × (length n.cells ≡ records)) }
+        requires capacity { (1 ≤ settings.capacity) × (settings.capacity ≤ MAX_CAPACITY) }
+        requires recent { (1 ≤ settings.recent) × (settings.recent ≤ MAX_RECENT) }
+        requires records { (1 ≤ settings.records) × (settings.records ≤ rows.MAX_CAPACITY) }
+        ensures settings { IfOk result (λ n. n.settings ≡ settings) }
+        ensures records { IfOk result (λ n. (n.records ≡ []) × (length n.cells ≡ settings.records)) }
         ensures passes { IfOk result (λ n. n.passes ≡ 0) }
-        ensures cache { IfOk result (λ n. n.cache ≡ empty_cache capacity recent) }
+        ensures cache { IfOk result (λ n. n.cache ≡ start_of settings) }
         ensures seen { IfOk result (λ n. n.seen ≡ seen) }
         ensures whole { IfOk result (λ n. n.broken ≡ false) }
     {
         nodes_go_on();
-        let row = Arc::new(alloc, EventRow::new(alloc, records)?)?;
+        let row = Arc::new(alloc, EventRow::new(alloc, settings.records)?)?;
         let log = Log::new(alloc, NodeFront::new(alloc, row)?);
+        let core = NodeCore::new(alloc, settings.capacity, settings.recent)?;
         Ok(StoredNode {
-            number,
-            core: NodeCore::new(alloc, capacity, recent)?,
+            settings,
+            core,
             log,
             seen,
             broken: false,
             of: PhantomData,
         })
+    }
+
+    /// What holds of every node: the results that it shows are true in what it has seen of the database's history, and,
+    /// unless it is broken, it is the state after a legal history. It does nothing when it runs.
+    pub fn is_sound(&self)
+        ensures { IsNode A.next self.now.seen.history (start_of self.now.settings) self.now.records self.now.cache self.now.broken }
+    {
+        let _whole = self.broken;
+    }
+
+    /// How it was made.
+    pub fn settings(&self) -> NodeSettings
+        ensures { result ≡ self.now.settings }
+    {
+        self.settings
+    }
+
+    /// A front that shows its records.
+    pub fn front(&self) -> &NodeFront
+        ensures { result.now ≡ record { cells = self.now.cells; records = self.now.records } }
+    {
+        self.log.front()
+    }
+
+    /// What it has seen of the database's history.
+    pub fn seen(&self) -> &HistoryFront
+        ensures { result.now ≡ self.now.seen }
+    {
+        &self.seen
+    }
+
+    /// How many passes there are.
+    pub fn passes(&self) -> usize
+        ensures { result ≡ self.now.passes }
+    {
+        self.log.passes()
+    }
+
+    /// How many of its records a pass made.
+    pub fn turn(&self, pass: usize) -> usize
+        requires { pass < self.now.passes }
+        ensures { result ≡ records_of pass self.now.records }
+    {
+        self.log.turn(pass)
+    }
+
+    /// Whether another record was found in its row.
+    pub fn is_broken(&self) -> bool
+        ensures { result ≡ self.now.broken }
+    {
+        self.broken
+    }
+
+    /// Takes over what a front shows beyond what the node has seen of the database's history. It takes no memory.
+    pub fn see(&mut self, front: &HistoryFront)
+        requires { front.now.events ≡ self.old.seen.events }
+        ensures seen { IsLonger self.old.seen front.now self.new.seen }
+        ensures same { self.new ≡ seeing self.old self.new.seen }
+    {
+        nodes_go_on();
+        self.seen.longer(front);
+    }
+
+    /// From now on each call is refused as broken.
+    pub(crate) fn set_broken(&mut self)
+        ensures { self.new ≡ record self.old { broken = true } }
+    {
+        self.broken = true;
     }
 
     // Refused as broken.
