@@ -1,5 +1,7 @@
 -- The turns of passes.
-use Rattle.std.proofs.Common.{◌≡◌, ◌≢◌, inl, inr, ℕ, zero, suc, ◌+◌, ◌<◌, ◌≤◌, ◌==◌, List, [], ◌∷◌, ◌++◌, length, get_or, set, refl, ap, sym, ◌∙◌, arith, get_or-set_same, get_or-set_other}
+use Rattle.std.proofs.Common.{◌≡◌, ◌≢◌, inl, inr, ℕ, zero, suc, ◌+◌, ◌<◌, ◌≤◌, ◌==◌, List, [], ◌∷◌, ◌++◌, length, get_or, set, refl, ap, sym, ◌∙◌, arith, get_or-set_same, get_or-set_other, take, slice_get, Some}
+use Rattle.std.proofs.lemmas.List.{take_more}
+use Rattle.std.proofs.lemmas.Option.{slice_get_within, get_or_from_slice_get}
 use Rattle.std.proofs.lemmas.List.Sums.{count_by-le-length}
 use Rattle.std.proofs.lemmas.Bool.{cases_eq}
 use Rattle.std.proofs.lemmas.Bool.Decides.{nat_tests}
@@ -34,3 +36,16 @@ turns_set ts xs own r is below all p =
       | inr other ↦ let e = no_record r p (λ same. other (sym same ∙ is)) in
           get_or-set_other ts own p (get_or ts own 0 + 1) 0 other ∙ (all p ∙ (let f = records_of-append p xs (r ∷ []) in omega (arith, e, f)))
     ]
+
+-- ---- one record further
+
+pub take_read : (xs : List Record) (i : ℕ) (x : Record) → slice_get xs i ≡ Some x → take (i + 1) xs ≡ take i xs ++ x ∷ []
+take_read xs i x is = take_more xs i x (slice_get_within xs i x is) ∙ ap (λ e. take i xs ++ e ∷ []) (get_or_from_slice_get xs i x x is)
+
+pub counts_own : (p : ℕ) (xs : List Record) (i : ℕ) (x : Record) → slice_get xs i ≡ Some x → x.pass ≡ p → records_of p (take (i + 1) xs) ≡ records_of p (take i xs) + 1
+counts_own p xs i x is own =
+    let e = one_record x p own in let f = records_of-append p (take i xs) (x ∷ []) in ap (records_of p) (take_read xs i x is) ∙ omega (arith, e, f)
+
+pub counts_other : (p : ℕ) (xs : List Record) (i : ℕ) (x : Record) → slice_get xs i ≡ Some x → x.pass ≢ p → records_of p (take (i + 1) xs) ≡ records_of p (take i xs)
+counts_other p xs i x is other =
+    let e = no_record x p other in let f = records_of-append p (take i xs) (x ∷ []) in ap (records_of p) (take_read xs i x is) ∙ omega (arith, e, f)

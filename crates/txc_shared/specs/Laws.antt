@@ -123,6 +123,10 @@ NodeSeesMore = (next : Next) (L M : History) (start : Cache) (rs : List Record) 
 abbrev pub LegalInLonger : Type 0
 LegalInLonger = (L M : History) (start : Cache) (rs : List Record) → IsPrefix L M → IsLegal L start rs → IsLegal M start rs
 
+-- no record is a legal history
+abbrev pub NoRecordIsLegal : Type 0
+NoRecordIsLegal = (L : History) (start : Cache) → IsLegal L start []
+
 -- the first records of a legal history are legal
 abbrev pub BeginningIsLegal : Type 0
 BeginningIsLegal = (L : History) (start : Cache) (rs all : List Record) → IsPrefix rs all → IsLegal L start all → IsLegal L start rs

@@ -7,5 +7,6 @@ pub mod Runs
 pub mod Laws
 pub mod Nodes
 pub mod Refusals
+pub mod Passes
 pub mod Worked
 pub mod WorkedNodes

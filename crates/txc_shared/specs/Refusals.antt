@@ -37,6 +37,7 @@ IsPassRefused n e = ⊥
 pub record IsBroken (old new : NodeValue) : Type 0 where
   pub was : old.broken ≡ false
   pub is : new ≡ record old { cache = new.cache; seen = new.seen; broken = true }
+  pub events : new.seen.events ≡ old.seen.events
   pub seen : IsPrefix old.seen.history new.seen.history
 
 -- what a refusal leaves: the node as it was; and refused as broken, it was broken before, or is so from now on

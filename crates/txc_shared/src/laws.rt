@@ -1,5 +1,5 @@
 //! Laws over the definitions alone. None has anything to run: each one's contract is the law.
-ghost use Rattle.txc_shared.specs.Laws.{CallsAreOfFunctionsBelow, EqualAnswersDecide, EventLeaves, RightAnswersGiveTheValue, TrueInLonger, FoundRowsHold, DoneAfterIsTrue, TrueAfterEvent, TrueAfterReplay, NodeBegins, NodeGoesOn, NodeBreaks, NodeSeesMore, LegalInLonger, BeginningIsLegal, AnswersAreTrue, EventsAreTaken};
+ghost use Rattle.txc_shared.specs.Laws.{CallsAreOfFunctionsBelow, EqualAnswersDecide, EventLeaves, RightAnswersGiveTheValue, TrueInLonger, FoundRowsHold, DoneAfterIsTrue, TrueAfterEvent, TrueAfterReplay, NodeBegins, NodeGoesOn, NodeBreaks, NodeSeesMore, LegalInLonger, NoRecordIsLegal, BeginningIsLegal, AnswersAreTrue, EventsAreTaken};
 ghost use Rattle.txc_shared.specs.Worked.{WorkedCalls, WorkedRefusals};
 ghost use Rattle.txc_shared.specs.WorkedNodes.{WorkedEntries, WorkedHistories};
 
@@ -64,10 +64,11 @@ pub fn answers_are_true()
     lookup_finds_the_longest();
 }
 
-/// A legal history is legal in a longer history of the database, so is each beginning of it, and it names each event that was
-/// taken.
+/// A legal history is legal in a longer history of the database, so is each beginning of it, down to no record, and it names
+/// each event that was taken.
 pub fn legal_histories()
     ensures longer { LegalInLonger }
+    ensures none { NoRecordIsLegal }
     ensures beginning { BeginningIsLegal }
     ensures events { EventsAreTaken }
 {

@@ -10,6 +10,7 @@ mod insertion;
 pub mod laws;
 mod log;
 mod node_front;
+mod node_pass;
 mod settings;
 mod stored_node;
 
@@ -21,5 +22,6 @@ pub use finding::Finding;
 pub use insertion::Insertion;
 pub use log::MAX_PASSES;
 pub use node_front::NodeFront;
+pub use node_pass::{NodePass, audit, meet};
 pub use settings::NodeSettings;
 pub use stored_node::StoredNode;

@@ -49,6 +49,14 @@ impl NodeFront {
         &self.row
     }
 
+    /// A handle of its row.
+    pub(crate) fn row_handle(&self) -> Result<Arc<EventRow<Record>>, AllocError>
+        ensures { IfOk result (λ row. arc_value row ≡ self.now.cells) }
+    {
+        let _len = self.front.len();
+        Ok(Arc::try_clone(&self.row)?)
+    }
+
     /// How many records it shows.
     pub fn len(&self) -> usize
         ensures shown { result ≡ length self.now.records }

@@ -174,6 +174,18 @@ impl<A: App> StoredNode<A> {
         Ok(())
     }
 
+    /// Refuses a pass that cannot be made, whatever memory there is.
+    pub(crate) fn check_pass(&self) -> Result<(), NodeError>
+        ensures only_if { OnOk result ((self.now.broken ≡ false) × (self.now.passes < MAX_PASSES)) }
+        ensures refused { IfErr result (IsPassRefused self.now) }
+    {
+        self.check_whole()?;
+        if self.log.passes() >= MAX_PASSES {
+            return Err(NodeError::PassesFull);
+        }
+        Ok(())
+    }
+
     /// One pass more, by its number.
     pub fn pass(&mut self) -> Result<usize, NodeError>
         ensures pass { IfOk result (λ pass. pass ≡ self.old.passes) }
@@ -182,10 +194,7 @@ impl<A: App> StoredNode<A> {
         ensures unchanged { OnErr result (self.new ≡ self.old) }
         ensures refused { IfErr result (IsPassRefused self.old) }
     {
-        self.check_whole()?;
-        if self.log.passes() >= MAX_PASSES {
-            return Err(NodeError::PassesFull);
-        }
+        self.check_pass()?;
         Ok(self.log.add_pass()?)
     }
 
