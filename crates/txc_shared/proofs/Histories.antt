@@ -38,15 +38,17 @@ of_longer stay L more (ops.Insert e) h = h
 of_longer stay L more (ops.Sweep horizon) h = h
 
 legal_with_more : TagsStay → (L more : History) (start : Cache) (rs : List Record) → IsLegal L start rs → IsLegal (L ++ more) start rs
-legal_with_more stay L more start rs h i r is =
-    let next = h i r is in
-    record { possible = next.possible; reply = next.reply; event = of_longer stay L more r.op next.event; turn = next.turn }
+legal_with_more stay L more start rs h = record {
+  each = λ i r is.
+      let next = h.each i r is in
+      record { possible = next.possible; reply = next.reply; event = of_longer stay L more r.op next.event; turn = next.turn };
+}
 
 pub legal_in_longer : TagsStay → LegalInLonger
 legal_in_longer stay L M start rs begins h = subst (λ (l : History). IsLegal l start rs) begins.1 (legal_with_more stay L begins.0 start rs h)
 
 pub beginning_is_legal : BeginningIsLegal
-beginning_is_legal L start rs all begins h = each_beginning (IsNext L start) rs all begins h
+beginning_is_legal L start rs all begins h = record { each = each_beginning (IsNext L start) rs all begins h.each }
 
 -- ---- events
 
@@ -84,4 +86,4 @@ events_from c (r ∷ rs) h =
     rest ∙ omega (arith, one, all)
 
 pub events_are_taken : EventsAreTaken
-events_are_taken L start rs h = events_from start rs (λ i r is. (h i r is).possible)
+events_are_taken L start rs h = events_from start rs (λ i r is. (h.each i r is).possible)

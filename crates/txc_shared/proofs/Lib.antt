@@ -8,3 +8,4 @@ pub mod Runs
 pub mod WorkedNodes
 pub mod Turns
 pub mod Nodes
+pub mod Passes

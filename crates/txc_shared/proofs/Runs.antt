@@ -166,7 +166,7 @@ run_goes_on next L start rs c pass op h may =
     } in
     record {
       is = ap (λ (k : Cache). after_step k op) h.is ∙ sym (cache_push start rs r);
-      legal = each_push (IsNext L start) rs r h.legal follows;
+      legal = record { each = each_push (IsNext L start) rs r h.legal.each follows };
     }
 
 pub node_goes_on : TrueAfterEvent → TrueAfterReplay → NodeGoesOn
@@ -184,7 +184,7 @@ node_breaks event replay next L start rs c broken op h may = record {
 pub node_begins : NodeBegins
 node_begins next L capacity depth = record {
   is_true = record { entries = tt; recent = record { before = 0; upto = refl; tags = tt }; within = omega arith };
-  run = λ whole. record { is = refl; legal = each_none (IsNext L (empty_cache capacity depth)) };
+  run = λ whole. record { is = refl; legal = record { each = each_none (IsNext L (empty_cache capacity depth)) } };
 }
 
 -- ---- answers

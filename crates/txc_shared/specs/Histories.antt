@@ -34,8 +34,8 @@ pub record IsNext (L : History) (start : Cache) (before : List Record) (r : Reco
   pub turn : r.turn ≡ records_of r.pass before
 
 -- a legal history of a node that began with this cache: each record may follow those before it
-abbrev pub IsLegal : History → Cache → List Record → Type 0
-IsLegal L start rs = EachAfter (IsNext L start) rs
+pub record IsLegal (L : History) (start : Cache) (rs : List Record) : Type 0 where
+  pub each : EachAfter (IsNext L start) rs
 
 -- the step takes an event
 abbrev pub is_event : Op → Bool
