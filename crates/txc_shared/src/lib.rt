@@ -6,6 +6,7 @@ mod app;
 mod ask;
 mod error;
 mod finding;
+mod held;
 mod insertion;
 pub mod laws;
 mod log;
