@@ -1,4 +1,4 @@
-use Rattle.std.proofs.Common.{◌≡◌, refl, ap, sym, ◌∙◌}
+use Rattle.std.proofs.Common.{refl, ap, sym, ◌∙◌}
 use Rattle.txc_shared.specs.Histories.{records_of}
 use Rattle.txc_shared.specs.Nodes.{start_of}
 use Rattle.txc_shared.specs.Passes.{PassValue}
@@ -8,10 +8,9 @@ use Rattle.txc_shared.proofs.node_pass.NodePass.see.Goals as goal
 pub invariant_of-self : goal.invariant_of-self
 invariant_of-self g c =
     let records = taken_over c.self.inside.records.records c.args.records.now.records c.longer.new.self.records c.args.self.now.records c.args.records.now.records
-        (ap (λ (p : PassValue). p.records) c.self.view_is) refl c.requires.records c.longer.ensures.one c.longer.ensures.that in
+    (ap (λ (p : PassValue). p.records) c.self.view_is) refl c.requires.records c.longer.ensures.one c.longer.ensures.that in
     let history = taken_over c.self.inside.events.history c.args.events.now.history c.longer-2.new.self.history c.args.self.now.history c.args.events.now.history
-        (ap (λ (p : PassValue). p.history) c.self.view_is) refl c.requires.history c.longer-2.ensures.one c.longer-2.ensures.that in
-    (
+    (ap (λ (p : PassValue). p.history) c.self.view_is) refl c.requires.history c.longer-2.ensures.one c.longer-2.ensures.that in (
       c.longer.ensures.cells ∙ c.self.invariant.0,
       c.longer-2.ensures.events ∙ c.self.invariant.1,
       c.requires.turn ∙ (λ i. records_of ((sym c.self.view_is) i).pass ((sym records) i)),
@@ -22,7 +21,7 @@ invariant_of-self g c =
 pub returns : goal.returns
 returns g c =
     let records = taken_over c.self.inside.records.records c.args.records.now.records c.longer.new.self.records c.args.self.now.records c.args.records.now.records
-        (ap (λ (p : PassValue). p.records) c.self.view_is) refl c.requires.records c.longer.ensures.one c.longer.ensures.that in
+    (ap (λ (p : PassValue). p.records) c.self.view_is) refl c.requires.records c.longer.ensures.one c.longer.ensures.that in
     let history = taken_over c.self.inside.events.history c.args.events.now.history c.longer-2.new.self.history c.args.self.now.history c.args.events.now.history
-        (ap (λ (p : PassValue). p.history) c.self.view_is) refl c.requires.history c.longer-2.ensures.one c.longer-2.ensures.that in
+    (ap (λ (p : PassValue). p.history) c.self.view_is) refl c.requires.history c.longer-2.ensures.one c.longer-2.ensures.that in
     λ i. record { settings = (c.self.view_is i).settings; pass = (c.self.view_is i).pass; records = records i; history = history i }
