@@ -52,11 +52,11 @@ beginning_is_legal L start rs all begins h = record { each = each_beginning (IsN
 
 -- ---- events
 
-used_processed : (c : Cache) (f : Option Entry) → (after_use c f).processed ≡ c.processed
+pub used_processed : (c : Cache) (f : Option Entry) → (after_use c f).processed ≡ c.processed
 used_processed c None = refl
 used_processed c (Some e) = refl
 
-kept_processed : (c : Cache) (e : Entry) (b : Bool) → (let d : Cache = cond b c (record c { entries = take c.capacity (entries_with c e) }) in d.processed) ≡ c.processed
+pub kept_processed : (c : Cache) (e : Entry) (b : Bool) → (let d : Cache = cond b c (record c { entries = take c.capacity (entries_with c e) }) in d.processed) ≡ c.processed
 kept_processed c e true = refl
 kept_processed c e false = refl
 

@@ -9,3 +9,4 @@ pub mod WorkedNodes
 pub mod Turns
 pub mod Nodes
 pub mod Passes
+pub mod Locking

@@ -14,10 +14,10 @@ use crate::node_pass::NodePass;
 use crate::stored_node::StoredNode;
 use std::alloc::Global;
 use std::marker::Model;
-use txc_db::{Feed, Naming};
+use txc_db::{Event, Feed, Naming};
 use txc_node::Record;
 use txc_stamp::Stamp;
-use txc_stream::longer_of_two;
+use txc_stream::{longer_of_two, prefix_of_itself};
 use txc_tags::Key;
 
 /// What lies under the lock: the node, and a feed of the events that it takes.
@@ -89,5 +89,70 @@ impl<A: App, J: Naming> Held<A, J> {
         self.node.is_sound();
         let turn = self.node.turn(pass.pass);
         pass.see(self.node.front(), self.node.seen(), turn);
+    }
+
+    // Shows a full history to the pass whose call it refuses.
+    fn refuse(&self, pass: &mut NodePass<J>, refusal: NodeError) -> NodeError
+        requires { refusal ≡ NodeError.HistoryFull → IsAdmitted self.now pass.old × (length self.now.records ≡ length self.now.cells) }
+        ensures same { result ≡ refusal }
+        ensures pass { pass.new ≡ record pass.old { records = pass.new.records; history = pass.new.history } }
+        ensures history { IsPrefix pass.old.history pass.new.history }
+        ensures left { IsPassLeft self.now.cells pass.old pass.new refusal }
+    {
+        prefix_of_itself::<Record>();
+        prefix_of_itself::<Event>();
+        if let NodeError::HistoryFull = refusal {
+            self.show(pass);
+        }
+        refusal
+    }
+
+    /// Looks up the call of `key` at the stamps from `lo` to `hi`, both included.
+    pub(crate) fn lookup(
+        &mut self,
+        alloc: Global,
+        pass: &mut NodePass<J>,
+        key: &Key,
+        lo: Stamp,
+        hi: Stamp,
+    ) -> Result<Option<Finding<A>>, NodeError>
+        ensures pass { pass.new ≡ record pass.old { records = pass.new.records; history = pass.new.history } }
+        ensures history { IsPrefix pass.old.history pass.new.history }
+        ensures found { IfOk result (λ found. HasFound pass.old pass.new (Lookup key.now lo hi) (option_map (λ f. f.entry) found)) }
+        ensures key { IfOk result (λ found. IfSome found (λ f. f.entry.key ≡ key.now)) }
+        ensures front { IfOk result (λ found. IfSome found (λ f. f.front ≡ record { events = J.database_row; history = pass.new.history })) }
+        ensures left { IfErr result (IsPassLeft (J.node_rows pass.old.settings.number) pass.old pass.new) }
+        ensures empty { result ≡ Err NodeError.EmptyRange → hi < lo }
+    {
+        self.admit(pass)?;
+        match self.node.lookup(alloc, pass.pass, key, lo, hi) {
+            Ok(found) => {
+                self.show(pass);
+                Ok(found)
+            }
+            Err(refusal) => Err(self.refuse(pass, refusal)),
+        }
+    }
+
+    /// Drops the entries whose span ends at the horizon or before it.
+    pub(crate) fn sweep(
+        &mut self,
+        alloc: Global,
+        pass: &mut NodePass<J>,
+        horizon: Stamp,
+    ) -> Result<usize, NodeError>
+        ensures pass { pass.new ≡ record pass.old { records = pass.new.records; history = pass.new.history } }
+        ensures history { IsPrefix pass.old.history pass.new.history }
+        ensures made { IfOk result (λ count. HasMade pass.old pass.new (Sweep horizon) (Swept count)) }
+        ensures left { IfErr result (IsPassLeft (J.node_rows pass.old.settings.number) pass.old pass.new) }
+    {
+        self.admit(pass)?;
+        match self.node.sweep(alloc, pass.pass, horizon) {
+            Ok(count) => {
+                self.show(pass);
+                Ok(count)
+            }
+            Err(refusal) => Err(self.refuse(pass, refusal)),
+        }
     }
 }
