@@ -8,7 +8,7 @@ use Rattle.std.proofs.lemmas.List.Edits.{length-insert}
 use Rattle.std.proofs.lemmas.List.Elements.{All-nil, All-cons, All-head, All-tail, All-append, All-filter, All-weaker}
 use Rattle.std.proofs.lemmas.List.Kept.{AllPairs-cons}
 use Rattle.std.proofs.lemmas.List.Sums.{length-filter, count_by-le-length}
-use Rattle.txc_stream.proofs.Prefix.{prefix_get, prefix_length, prefix_whole}
+use Rattle.txc_stream.proofs.Offered.{prefix_get, prefix_length, prefix_whole}
 use Rattle.txc_db.specs.Facts.{EventValue}
 use Rattle.txc_db.specs.History.{History, moment_at, pinned_moment}
 use Rattle.txc_cushion.specs.declared.entry.PinEntry.{PinEntry}

@@ -16,7 +16,6 @@ the store refused: out of memory
 out of memory
 the stamp lies outside the kept stamps
 out of memory
-the pincushion is full
 out of memory
 read fault
 write fault
@@ -40,7 +39,6 @@ fn errors_say_what_was_refused(rt: HostRuntime) -> Result<(), Fail> {
         &ValidityError::OutsideKept(Stamp::ZERO, Stamp::ZERO),
     );
     say(&mut text, &ValidityError::Memory);
-    say(&mut text, &AddError::Full);
     say(&mut text, &AddError::Memory);
     for fault in [RunFault::Read, RunFault::Write, RunFault::Memory] {
         say(&mut text, &fault);

@@ -1,6 +1,7 @@
 //! What is called, and what is answered. `pin` pins the present at a moment, and `add` adds that pin; `skip` is an event
 //! between two pins. `fresh NOW STALENESS AT_LEAST` hands out pins, and `begin` begins a pin set with them and the
-//! present, which is shown as a star.
+//! present, which is shown as a star. `fill COUNT MOMENT` pins and adds so many times, and `crowd COUNT` has pins handed
+//! out so many times.
 
 /// The pins 2 and 4, of the moments 1000 and 2000, and no user.
 const TWO_PINS: &str = "skip => 1
@@ -23,17 +24,7 @@ pub(super) const SCRIPTS: [Script; 5] = [
     ("", SEVENTEEN),
 ];
 
-/// A pin with as many users as there may be is passed over, until one is given back.
-pub(super) const CROWDED: Script = (
-    "",
-    "pin 1000 => 1
-add =>
-crowd 65534 =>
-fresh 0 0 0 =>
-give 1 =>
-fresh 0 0 0 => 1
-",
-);
+pub(super) const LIMITS: [Script; 2] = [("", CROWDED), ("", FULL)];
 
 /// The sum of a moment and the staleness is 2,500, one less, and over 64 bits; stamps below the one asked for are left out.
 /// A stamp is given back as often as it was handed out, and the first that was not is named. Only pins without users are
@@ -128,4 +119,24 @@ fresh 1000 0 0 => 17 16 15 14 13 12 11 10 9 8 7 6 5 4 3 2
 give 1 1 => stamp 1 has no user to give back
 give 17 17 =>
 retire 2000 0 => 17
+";
+
+/// A pin with as many users as there may be is passed over, until one is given back.
+const CROWDED: &str = "pin 1000 => 1
+add =>
+crowd 65534 =>
+fresh 0 0 0 =>
+give 1 =>
+fresh 0 0 0 => 1
+";
+
+/// A full pincushion takes no pin, one that is there already neither, until one is retired.
+const FULL: &str = "fill 1024 1000 =>
+add => the pincushion is full
+pin 1000 => 1025
+add => the pincushion is full
+give 1 =>
+retire 9000 0 => 1
+add =>
+add => the pincushion is full
 ";

@@ -1,7 +1,7 @@
 //! The calls of a pincushion under its lock and of a pin set, as commands.
 ghost use Rattle.std.specs.Prelude.{◌≡◌};
 
-use super::scripts::{CROWDED, SCRIPTS, Script};
+use super::scripts::{LIMITS, SCRIPTS, Script};
 use crate::common::{Obeys, Player, is_played, number, room, say_number, say_unknown, stamp};
 use std::alloc::{AllocError, Global};
 use std::marker::{Brand, Model, PhantomData};
@@ -9,13 +9,13 @@ use std::process::Abort;
 use std::str::SplitWhitespace;
 use std::sync::Wait;
 use std::test::Fail;
-use txc_cushion::{Pin, Pincushion, Pins};
+use txc_cushion::{MAX_PINS, Pin, Pincushion, Pins};
 use txc_db::{Database, DbCore, Naming, Pinned};
 use txc_pinset::{Choice, PinSet};
 use txc_stamp::{Reach, Stamp};
 
-/// How many events the history has room for.
-const EVENTS: usize = 32;
+/// How many events the history has room for: a pin more than a pincushion may have.
+const EVENTS: usize = MAX_PINS + 1;
 
 /// A pin of the named row.
 #[derive(Drop)]
@@ -103,6 +103,16 @@ impl<J: Naming, R: Wait> Shared<'_, J, R> {
         {
             let _ = write!(answer, "{refusal}");
         }
+    }
+
+    /// Pins the present and adds the pin, so many times.
+    fn fill(&mut self, alloc: Global, words: &mut SplitWhitespace<'_>, answer: &mut String) {
+        let (count, moment) = (number(words), long(words));
+        for _ in 0..count {
+            self.pin(alloc, moment, answer);
+            self.add(answer);
+        }
+        answer.clear();
     }
 
     fn fresh(&mut self, alloc: Global, words: &mut SplitWhitespace<'_>, answer: &mut String) {
@@ -220,6 +230,7 @@ impl<J: Naming, R: Wait> Obeys for Shared<'_, J, R> {
             "pin" => self.pin(alloc, long(words), answer),
             "add" => self.add(answer),
             "fresh" => self.fresh(alloc, words, answer),
+            "fill" => self.fill(alloc, words, answer),
             "crowd" => self.crowd(alloc, words),
             "give" => self.give(alloc, words, answer),
             "retire" => self.retire(alloc, words, answer),
@@ -297,6 +308,6 @@ fn pins_are_handed_out_and_narrowed(rt: HostRuntime) -> Result<(), Fail> {
 }
 
 #[test]
-fn a_pin_has_no_more_users_than_it_may(rt: HostRuntime) -> Result<(), Fail> {
-    play(&rt, &[CROWDED])
+fn users_and_pins_have_a_limit(rt: HostRuntime) -> Result<(), Fail> {
+    play(&rt, &LIMITS)
 }
