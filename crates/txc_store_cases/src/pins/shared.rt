@@ -242,9 +242,9 @@ impl<J: Naming, R: Wait> Obeys for Shared<'_, J, R> {
 }
 
 impl<J: Naming, R: Wait> Player for Shared<'_, J, R> {
-    type Other = DbCore;
+    type Other = Self;
 
-    fn other(&self, _alloc: Global) -> Option<DbCore> {
+    fn other(&self, _alloc: Global) -> Option<Self> {
         None
     }
 }
