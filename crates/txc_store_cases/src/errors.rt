@@ -3,6 +3,7 @@ use crate::common::room;
 use sqlite::{Error, ErrorCode};
 use std::fmt::Display;
 use std::test::Fail;
+use txc_cushion::AddError;
 use txc_db::DbError;
 use txc_rows::StoreError;
 use txc_run::{RunFault, exit_of};
@@ -14,6 +15,7 @@ out of memory
 the store refused: out of memory
 out of memory
 the stamp lies outside the kept stamps
+out of memory
 out of memory
 read fault
 write fault
@@ -37,6 +39,7 @@ fn errors_say_what_was_refused(rt: HostRuntime) -> Result<(), Fail> {
         &ValidityError::OutsideKept(Stamp::ZERO, Stamp::ZERO),
     );
     say(&mut text, &ValidityError::Memory);
+    say(&mut text, &AddError::Memory);
     for fault in [RunFault::Read, RunFault::Write, RunFault::Memory] {
         say(&mut text, &fault);
     }

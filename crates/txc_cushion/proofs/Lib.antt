@@ -1,0 +1,6 @@
+pub mod Falling
+pub mod HandedOut
+pub mod Adding
+pub mod UserCounts
+pub mod Counts
+pub mod Offered

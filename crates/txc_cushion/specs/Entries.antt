@@ -1,0 +1,63 @@
+-- Pins with their users, and lists of them.
+use Rattle.std.specs.Prelude.{ℕ, ◌+◌, ◌-◌, ◌<◌, nat_le, nat_lt, ◌==◌, ◌&&◌, not, Bool, List, [], ◌∷◌, ◌++◌, map, filter, count_by, AllPairs, if◌then◌else◌}
+use Rattle.std.specs.List.{list_any}
+use Rattle.txc_cushion.specs.declared.pin.Pin.{Pin}
+use Rattle.txc_cushion.specs.declared.entry.PinEntry.{PinEntry}
+use Rattle.txc_cushion.specs.declared.limits.TheConstants.{MAX_USERS}
+use Rattle.txc_cushion.specs.Pinning.{is_older}
+
+-- the pins alone
+abbrev pub pins_of : List PinEntry → List Pin
+pins_of entries = map (λ e. e.pin) entries
+
+-- their stamps
+abbrev pub stamps_of : List PinEntry → List ℕ
+stamps_of entries = map (λ e. e.pin.stamp) entries
+
+-- the newest first: each stamp exceeds those after it
+abbrev pub EntriesFall : List PinEntry → Type 0
+EntriesFall entries = AllPairs (λ newer older. older.pin.stamp < newer.pin.stamp) entries
+
+-- a pin of this stamp is there
+abbrev pub is_pinned : ℕ → List PinEntry → Bool
+is_pinned stamp entries = list_any (λ e. e.pin.stamp == stamp) entries
+
+-- how many may use the pin of this stamp; none where it isn't there
+abbrev pub users_of : ℕ → List PinEntry → ℕ
+users_of stamp [] = 0
+users_of stamp (e ∷ es) = if e.pin.stamp == stamp then e.users else users_of stamp es
+
+-- how often the stamp is named
+abbrev pub times : ℕ → List ℕ → ℕ
+times stamp stamps = count_by (λ s. s == stamp) stamps
+
+-- ---- handed out
+
+-- it is fresh: its moment is no more than `staleness` before `now`; its stamp isn't below the one asked for; and one more
+-- may use it
+abbrev pub may_be_handed_out : ℕ → ℕ → ℕ → PinEntry → Bool
+may_be_handed_out now staleness at_least e =
+    not (is_older staleness now e.pin) && (nat_le at_least e.pin.stamp && nat_lt e.users MAX_USERS)
+
+-- one of the pins has this stamp
+abbrev pub is_among : ℕ → List Pin → Bool
+is_among stamp pins = list_any (λ p. p.stamp == stamp) pins
+
+-- one user more, where its pin is handed out
+abbrev pub with_user : List Pin → PinEntry → PinEntry
+with_user pins e = if is_among e.pin.stamp pins then record e { users = e.users + 1 } else e
+
+-- ---- given back, added and retired
+
+-- a user fewer for each time that its stamp is named
+abbrev pub without_users : List ℕ → PinEntry → PinEntry
+without_users stamps e = record e { users = e.users - times e.pin.stamp stamps }
+
+-- the entry between those with greater stamps and those with lesser ones
+abbrev pub with_entry : PinEntry → List PinEntry → List PinEntry
+with_entry new entries =
+    filter (λ e. nat_lt new.pin.stamp e.pin.stamp) entries ++ new ∷ filter (λ e. nat_lt e.pin.stamp new.pin.stamp) entries
+
+-- none may use it, and its moment is more than `age` before `now`
+abbrev pub is_retirable : ℕ → ℕ → PinEntry → Bool
+is_retirable now age e = e.users == 0 && is_older age now e.pin

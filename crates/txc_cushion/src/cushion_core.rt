@@ -1,0 +1,130 @@
+//! The pincushion for one thread, which its lock holds too.
+ghost use Rattle.std.specs.Prelude.{◌≡◌, ◌≤◌, ◌↔◌, All, IfOk, OnOk, OnErr, IfErr, IsOk};
+ghost use Rattle.txc_db.specs.History.{IsAllowed};
+ghost use Rattle.txc_cushion.specs.Refusals.{IsAddable, IsAddRefused, HaveUsers, IsFirstUnused};
+
+use crate::entry::PinEntry;
+use crate::error::{AddError, UnknownPin};
+use crate::handing::newest_fresh;
+use crate::limits::MAX_PINS;
+use crate::pin::pin_of;
+use crate::pins::Pins;
+use crate::places::{is_pinned, put};
+use crate::retiring::{retirable, retire};
+use crate::users::{add_users, check_users, take_users};
+use std::alloc::{AllocError, Global};
+use std::marker::Model;
+use txc_db::{HistoryFront, Pinned};
+use txc_stamp::Stamp;
+
+/// The pinned stamps of a history that transactions may use, for one thread.
+///
+/// It is a map from stamps to the moments of their pins and to how many transactions may use each. Its front shows each
+/// of its pins, so that what it hands out proves itself. Contracts see the pins, the newest first, and what the front
+/// shows.
+#[derive(Drop)]
+pub struct CushionCore {
+    front: HistoryFront,
+    // The newest first.
+    entries: Vec<PinEntry>,
+}
+
+impl Model for CushionCore {
+    ghost use Rattle.txc_cushion.specs.Cushion.{CushionValue, IsCushion};
+
+    ghost Value = { CushionValue };
+
+    ghost view = { λ c. record { events = c.front.events; history = c.front.history; entries = c.entries.items } };
+
+    ghost invariant = { λ c. IsCushion (record { events = c.front.events; history = c.front.history; entries = c.entries.items }) };
+}
+
+impl CushionCore {
+    ghost use Rattle.txc_cushion.specs.Cushion.{IsCushion, front_of, empty_cushion, handed_out, after_fresh, after_add, after_give_back, retired, after_retire};
+
+    /// A pincushion with no pin, for the pins of the front's row.
+    pub fn new(alloc: Global, front: HistoryFront) -> CushionCore
+        ensures { result ≡ empty_cushion front }
+    {
+        CushionCore {
+            front,
+            entries: Vec::new(alloc),
+        }
+    }
+
+    /// What holds of every pincushion: its newest pin stands first, and its history shows each. It does nothing when it
+    /// runs.
+    pub fn is_cushion(&self)
+        ensures { IsCushion self.now }
+    {
+        let _entries = &self.entries;
+    }
+
+    /// Hands out the newest of the fresh pins, at most [`crate::MAX_HANDED_OUT`], and counts one user more for each. A
+    /// pin is fresh where its moment is no more than `staleness` before `now`, all in milliseconds, and its stamp is not
+    /// below `at_least`. One with [`crate::MAX_USERS`] users is passed over.
+    pub fn fresh(
+        &mut self,
+        alloc: Global,
+        now: u64,
+        staleness: u64,
+        at_least: Stamp,
+    ) -> Result<Pins, AllocError>
+        ensures after { OnOk result (self.new ≡ after_fresh self.old now staleness at_least) }
+        ensures pins { IfOk result (λ given.
+            given.pins.items ≡ handed_out self.old now staleness at_least) }
+        ensures front { IfOk result (λ given. given.front ≡ front_of self.old) }
+        ensures allowed { IfOk result (λ given. All
+            (λ pin. IsAllowed given.front.history pin.stamp now staleness at_least) given.pins.items) }
+        ensures unchanged { OnErr result (self.new ≡ self.old) }
+    {
+        let pins = newest_fresh(alloc, &self.entries, now, staleness, at_least)?;
+        let front = self.front.again(alloc)?;
+        add_users(&mut self.entries, &pins);
+        Ok(Pins { pins, front })
+    }
+
+    /// Adds a pin of the front's row, with one user. From then on the front shows what the front of the pin shows.
+    pub fn add(&mut self, pinned: &Pinned) -> Result<(), AddError>
+        requires { pinned.now.front.events ≡ self.old.events }
+        ensures after { OnOk result (self.new ≡ after_add self.old pinned.now) }
+        ensures only_if { IsOk result → IsAddable self.old pinned.now.stamp }
+        ensures unchanged { OnErr result (self.new ≡ self.old) }
+        ensures refused { IfErr result (IsAddRefused self.old pinned.now.stamp) }
+    {
+        if self.entries.len() == MAX_PINS {
+            return Err(AddError::Full);
+        }
+        if is_pinned(&self.entries, pinned.stamp) {
+            return Err(AddError::Known(pinned.stamp));
+        }
+        put(&mut self.entries, pin_of(pinned))?;
+        self.front.longer(&pinned.front);
+        Ok(())
+    }
+
+    /// Takes one user away for each stamp named. It takes no memory.
+    pub fn give_back(&mut self, stamps: &[Stamp]) -> Result<(), UnknownPin>
+        ensures after { OnOk result (self.new ≡ after_give_back self.old stamps.now) }
+        ensures only_if { IsOk result → HaveUsers self.old.entries stamps.now }
+        ensures unchanged { OnErr result (self.new ≡ self.old) }
+        ensures refused { IfErr result (λ unknown.
+            IsFirstUnused self.old.entries stamps.now unknown.stamp) }
+    {
+        check_users(&self.entries, stamps)?;
+        take_users(&mut self.entries, stamps);
+        Ok(())
+    }
+
+    /// Takes out the pins that no transaction may use and whose moment is more than `age` before `now`, all in
+    /// milliseconds. It answers their stamps, the least first.
+    pub fn retire(&mut self, alloc: Global, now: u64, age: u64) -> Result<Vec<Stamp>, AllocError>
+        ensures after { OnOk result (self.new ≡ after_retire self.old now age) }
+        ensures answer { IfOk result (λ stamps. stamps.items ≡ retired self.old now age) }
+        ensures unchanged { OnErr result (self.new ≡ self.old) }
+    {
+        let stamps = retirable(alloc, &self.entries, now, age)?;
+        retire(&mut self.entries, now, age);
+        Ok(stamps)
+    }
+}

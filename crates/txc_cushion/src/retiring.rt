@@ -1,0 +1,32 @@
+//! The pins that are retired.
+ghost use Rattle.std.specs.Prelude.{◌≡◌, not, filter, reverse, IfOk};
+ghost use Rattle.txc_cushion.specs.Entries.{stamps_of, is_retirable};
+
+use crate::entry::PinEntry;
+use std::alloc::{AllocError, Global};
+use txc_stamp::Stamp;
+
+/// The stamps of the pins that may be retired, the least first.
+pub(crate) fn retirable(
+    alloc: Global,
+    entries: &[PinEntry],
+    now: u64,
+    age: u64,
+) -> Result<Vec<Stamp>, AllocError>
+    ensures { IfOk result (λ stamps. stamps.items
+        ≡ stamps_of (filter (is_retirable now age) (reverse entries.now))) }
+{
+    entries
+        .iter()
+        .rev()
+        .filter(|entry| entry.is_retirable(now, age))
+        .map(|entry| entry.pin.stamp)
+        .collect(alloc)
+}
+
+/// Takes out the pins that may be retired.
+pub(crate) fn retire(entries: &mut Vec<PinEntry>, now: u64, age: u64)
+    ensures { entries.new.items ≡ filter (λ e. not (is_retirable now age e)) entries.old.items }
+{
+    entries.retain(|entry| !entry.is_retirable(now, age));
+}
