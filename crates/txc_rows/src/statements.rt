@@ -18,11 +18,13 @@ use std::alloc::Global;
 use txc_stamp::Stamp;
 use txc_tags::Table;
 
-/// A row for each version.
+/// A row for each version, with a key for each way to read it. The second finds the versions of a group; it could
+/// not be broken where the first is not.
 const CREATE_TABLE: &str =
     "CREATE TABLE version (table_number INTEGER NOT NULL, id INTEGER NOT NULL, born INTEGER NOT NULL, \
      group_number INTEGER NOT NULL, body BLOB NOT NULL, died INTEGER, \
-     PRIMARY KEY (table_number, id, born)) STRICT";
+     PRIMARY KEY (table_number, id, born), \
+     UNIQUE (table_number, group_number, id, born)) STRICT";
 
 /// A version that has not died.
 const ADD_VERSION: &str =
