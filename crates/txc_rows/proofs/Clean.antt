@@ -1,5 +1,5 @@
 -- Where a purge has nothing to drop, it has nothing to drop after a later write.
-use Rattle.std.proofs.Common.{◌≡◌, inl, inr, ℕ, ◌<◌, nat_le, List, [], ◌∷◌, ◌++◌, map, filter, false, not, ◌&&◌, None, refl, ap, ◌∙◌, arith}
+use Rattle.std.proofs.Common.{◌≡◌, inl, inr, ℕ, ◌<◌, nat_le, List, [], ◌∷◌, ◌++◌, map, false, not, ◌&&◌, None, refl, ap, ◌∙◌, arith}
 use Rattle.std.proofs.lemmas.Bool.Decides.{nat_tests}
 use Rattle.std.proofs.lemmas.List.Elements.{filter-append}
 use Rattle.std.specs.List.{AllByRecursion}

@@ -1,4 +1,4 @@
-use Rattle.std.proofs.Common.{◌≡◌, ◌<◌, ◌≤◌, IfOk, length, map, ap, sym, ◌∙◌, arith}
+use Rattle.std.proofs.Common.{◌≡◌, ◌<◌, ◌≤◌, IfOk, length, map, ap, arith}
 use Rattle.txc_rows.specs.States.{query_table}
 use Rattle.txc_rows.specs.Stored.{version_shown}
 use Rattle.txc_rows.specs.Kept.{IsListing}
