@@ -1,7 +1,6 @@
-use Rattle.std.proofs.Common.{rules, ◌≡◌, ◌+◌, ◌<◌, ◌==◌, Bool, false, true, length, arith, sym, ap, subst, ◌∙◌}
+use Rattle.std.proofs.Common.{rules, ◌≡◌, ◌+◌, ◌<◌, ◌==◌, false, true, length, arith, sym, subst, ◌∙◌}
 use Rattle.std.proofs.lemmas.Grind.{common_steps}
 use Rattle.std.proofs.lemmas.List.{take_all}
-use Rattle.txc_stamp.specs.Interval.{Interval}
 use Rattle.txc_rows.specs.Versions.{suits, shown_at}
 use Rattle.txc_validity.specs.Validity.{IsValidity}
 use Rattle.txc_validity.proofs.Passes.{AreSteady, steady_hit, steady_miss, edge_next, valid_from}
