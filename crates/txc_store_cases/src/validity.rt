@@ -15,7 +15,10 @@ use txc_validity::answer_counted;
 fn version(alloc: Global, byte: u8, born: usize, died: Option<Stamp>) -> Option<Versioned>
     requires { born ≤ LAST_STAMP }
     ensures { IfSome result (λ v. v ≡ record {
-        row = record { table = 1; id = 7; group = 2; body = byte ∷ [] }; born = born; died = died }) }
+      row = record { table = 1; id = 7; group = 2; body = byte ∷ [] };
+      born = born;
+      died = died;
+    }) }
 {
     let body = Vec::from_slice(alloc, &[byte]).ok()?;
     Some(Versioned {
@@ -30,8 +33,12 @@ fn changing(alloc: Global) -> Option<Vec<Versioned>>
     ensures { IfSome result (λ versions. AreVersions versions.items) }
 {
     let mut versions = Vec::new(alloc);
-    versions.push(version(alloc, b'a', 1, Some(Stamp::after(2)))?).ok()?;
-    versions.push(version(alloc, b'b', 2, Some(Stamp::after(3)))?).ok()?;
+    versions
+        .push(version(alloc, b'a', 1, Some(Stamp::after(2)))?)
+        .ok()?;
+    versions
+        .push(version(alloc, b'b', 2, Some(Stamp::after(3)))?)
+        .ok()?;
     versions.push(version(alloc, b'a', 3, None)?).ok()?;
     Some(versions)
 }
@@ -52,6 +59,9 @@ fn each_version_is_tested_once(rt: HostRuntime) -> Result<(), Fail> {
     if say_counted(rt.alloc(), &mut answer).is_none() {
         let _again = say_counted(rt.alloc(), &mut answer);
     }
-    assert!(&rt; answer.as_str() == "1 row, [1,2) closed, 3 tests", "{answer}");
+    assert!(&rt;
+        answer.as_str() == "1 row, [1,2) closed, 3 tests",
+        "{answer}"
+    );
     Ok(())
 }
