@@ -9,7 +9,7 @@ use std::test::Fail;
 use txc_rows::{Query, Row, Versioned};
 use txc_stamp::Stamp;
 use txc_tags::Table;
-use txc_validity::answer_counted;
+use txc_validity::{Counted, answer_counted};
 
 /// The row of id 7 with this byte for a body, and the stamps at which it stands.
 fn version(alloc: Global, byte: u8, born: usize, died: Option<Stamp>) -> Option<Versioned>
@@ -43,21 +43,29 @@ fn changing(alloc: Global) -> Option<Vec<Versioned>>
     Some(versions)
 }
 
-fn say_counted(alloc: Global, answer: &mut String) -> Option<()> {
+fn say(answer: &mut String, counted: &Counted) {
+    let rows = counted.found.rows.len();
+    let reach = counted.found.reach;
+    let tests = counted.tests;
+    let _ = write!(answer, "{rows} row, {reach}, {tests} tests");
+}
+
+fn counted(alloc: Global) -> Option<Counted> {
     let versions = changing(alloc)?;
     let query = Query::All(Table::new(1)?);
     let (stamp, newest) = (Stamp::after(1), Stamp::after(3));
-    let counted = answer_counted(alloc, &versions, &query, stamp, Stamp::ZERO, newest).ok()?;
-    let (rows, reach, tests) = (counted.found.rows.len(), counted.found.reach, counted.tests);
-    let _ = write!(answer, "{rows} row, {reach}, {tests} tests");
-    Some(())
+    answer_counted(alloc, &versions, &query, stamp, Stamp::ZERO, newest).ok()
 }
 
 #[test]
 fn each_version_is_tested_once(rt: HostRuntime) -> Result<(), Fail> {
     let mut answer = room(rt.alloc())?;
-    if say_counted(rt.alloc(), &mut answer).is_none() {
-        let _again = say_counted(rt.alloc(), &mut answer);
+    let mut given = counted(rt.alloc());
+    if given.is_none() {
+        given = counted(rt.alloc());
+    }
+    if let Some(counted) = given {
+        say(&mut answer, &counted);
     }
     assert!(&rt;
         answer.as_str() == "1 row, [1,2) closed, 3 tests",
