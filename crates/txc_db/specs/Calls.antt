@@ -13,7 +13,7 @@ use Rattle.txc_rows.specs.Versions.{suits}
 use Rattle.txc_db.specs.declared.error.DbError.{DbError}
 use Rattle.txc_db.specs.declared.error.DbError.TheVariants.{SnapshotGone, Conflict, Full, Store, Broken, NotPinned, FutureStamp, HoldsFull, Memory}
 use Rattle.txc_db.specs.declared.holds.TheConstants.{MAX_HOLDS}
-use Rattle.txc_db.specs.DatabaseValue.{DatabaseValue, newest, newest_net, is_held, IsReadable}
+use Rattle.txc_db.specs.DatabaseValue.{DatabaseValue, newest, newest_net, next_horizon, is_held, IsReadable}
 use Rattle.txc_db.specs.Refusals.{IsOwn, IsConflict, NoneMatches}
 
 -- the call found another record in the row after the history: the history, the horizon and the holds are as
@@ -53,10 +53,10 @@ IsUnpinRefused d stamp (NotPinned named) =
     (d.broken ≡ false) × (is_held stamp d.holds ≡ false) × (named ≡ stamp)
 IsUnpinRefused d stamp e = ⊥
 
--- of a vacuum: broken; and then the store refused by itself
+-- of a vacuum: broken; and then, where it moves the horizon, the store refused by itself
 abbrev pub IsVacuumRefused : DatabaseValue → DbError → Type 0
 IsVacuumRefused d Broken = d.broken ≡ true
-IsVacuumRefused d (Store cause) = (d.broken ≡ false) × IsOwn cause
+IsVacuumRefused d (Store cause) = (d.broken ≡ false) × (next_horizon d ≢ d.horizon) × IsOwn cause
 IsVacuumRefused d e = ⊥
 
 -- ---- pins

@@ -227,7 +227,7 @@ impl DbCore {
     }
 
     /// Makes the horizon the least held stamp, or the newest where none is held, and drops the versions
-    /// that no stamp from there on shows.
+    /// that no stamp from there on shows. The store is asked only where the horizon moves.
     pub fn vacuum(&mut self) -> Result<Stamp, DbError>
         ensures after { OnOk result (self.new ≡ after_vacuum self.old) }
         ensures answer { IfOk result (λ horizon. horizon ≡ next_horizon self.old) }
@@ -240,6 +240,9 @@ impl DbCore {
         }
         let newest = self.front.newest();
         let horizon = least_held(&self.holds, newest);
+        if horizon == self.horizon {
+            return Ok(horizon);
+        }
         self.store.purge(horizon)?;
         self.horizon = horizon;
         Ok(horizon)

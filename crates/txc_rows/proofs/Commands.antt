@@ -15,7 +15,7 @@ use Rattle.sqlite_value.specs.declared.keys.Key.{Key}
 use Rattle.sqlite_tied.specs.Compute.{everything}
 use Rattle.sqlite.specs.Listing.{understood, reads_listing}
 use Rattle.sqlite.proofs.Callers.{command_of, statement_of, IsPlain}
-use Rattle.txc_rows.specs.declared.statements.TheConstants.{CREATE_TABLE, ADD_VERSION, END_VERSION, DELETE_DEAD, READ_TABLE, READ_ROW}
+use Rattle.txc_rows.specs.declared.statements.TheConstants.{CREATE_TABLE, ADD_VERSION, END_VERSION, DELETE_DEAD, READ_TABLE, READ_ROW, READ_GROUP}
 use Rattle.txc_rows.specs.Texts.{version_table, version_schema, no_schema}
 
 abbrev pub create_text : List ℕ
@@ -36,6 +36,9 @@ table_text = READ_TABLE.now
 abbrev pub row_text : List ℕ
 row_text = READ_ROW.now
 
+abbrev pub group_text : List ℕ
+group_text = READ_GROUP.now
+
 pub create_is : (command_of (understood no_schema create_text) ≡ CreateTable) × (statement_of create_text (understood no_schema create_text) ≡ create_text) × (table_defined_by create_text ≡ Ok version_table)
 unfolding understood everything
 create_is = (refl, refl, refl)
@@ -55,6 +58,10 @@ pub insert_plain : IsPlain (understood version_schema insert_text)
 unfolding understood everything
 insert_plain = (refl, refl)
 
+-- no limit
+abbrev pub endless : Term
+endless = lit (Int (negsuc 0))
+
 -- all rows of the table that pass
 abbrev pub whole : List Term → List Term → Query
 whole filter project = record {
@@ -65,7 +72,7 @@ whole filter project = record {
   distinct = false;
   collations = [];
   order = [];
-  limit = lit (Int (negsuc 0));
+  limit = endless;
   offset = lit (Int (pos 0));
 }
 
@@ -97,15 +104,20 @@ pub purge_plain : IsPlain (understood version_schema purge_text)
 unfolding understood everything
 purge_plain = (refl, refl)
 
--- versions that pass, by id and birth
+-- ---- what the statements that read share
+
+-- versions that pass, by id and birth, at most so many
 abbrev pub shown_columns : List Term
 shown_columns = col 1 2 ∷ col 1 4 ∷ col 1 5 ∷ col 1 3 ∷ col 1 6 ∷ []
 
 abbrev pub shown_order : List (Term × Key)
 shown_order = (col 1 2, ascending Binary) ∷ (col 1 3, ascending Binary) ∷ []
 
+abbrev pub most_shown : Term
+most_shown = col 0 1
+
 abbrev pub listed : List Term → Query
-listed filter = record (whole filter shown_columns) { order = shown_order }
+listed filter = record (whole filter shown_columns) { order = shown_order; limit = most_shown }
 
 abbrev pub shown_names : List (List ℕ)
 shown_names = codes "id" ∷ codes "group_number" ∷ codes "body" ∷ codes "born" ∷ codes "died" ∷ []
@@ -116,6 +128,8 @@ pub record IsListingOf (filter : List Term) (text : List ℕ) : Type 0 where
   pub rows : reads_listing version_schema text ≡ false
   pub plain : IsPlain (understood version_schema text)
 
+-- ---- the test of each
+
 abbrev pub table_filter : List Term
 table_filter = op2 (Compare Eq Binary) (col 1 1) (col 0 0) ∷ []
 
@@ -124,8 +138,15 @@ unfolding understood everything
 table_is = record { command = refl; rows = refl; plain = (refl, refl) }
 
 abbrev pub row_filter : List Term
-row_filter = op2 (Compare Eq Binary) (col 1 1) (col 0 0) ∷ op2 (Compare Eq Binary) (col 1 2) (col 0 1) ∷ []
+row_filter = op2 (Compare Eq Binary) (col 1 1) (col 0 0) ∷ op2 (Compare Eq Binary) (col 1 2) (col 0 2) ∷ []
 
 pub row_is : IsListingOf row_filter row_text
 unfolding understood everything
 row_is = record { command = refl; rows = refl; plain = (refl, refl) }
+
+abbrev pub group_filter : List Term
+group_filter = op2 (Compare Eq Binary) (col 1 1) (col 0 0) ∷ op2 (Compare Eq Binary) (col 1 4) (col 0 2) ∷ []
+
+pub group_is : IsListingOf group_filter group_text
+unfolding understood everything
+group_is = record { command = refl; rows = refl; plain = (refl, refl) }

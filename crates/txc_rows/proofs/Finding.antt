@@ -1,5 +1,5 @@
--- What is found of the versions of one table is what is found of all, and are versions by id and birth.
-use Rattle.std.proofs.Common.{◌≡◌, ◌⊎◌, inl, inr, ℕ, suc, ◌+◌, ◌<◌, ◌≤◌, List, [], ◌∷◌, filter, length, Bool, true, false, true≢false, cond, ◌&&◌, Some, refl, sym, ap, subst, ◌∙◌, arith}
+-- What is found are versions by id and birth.
+use Rattle.std.proofs.Common.{◌≡◌, ◌⊎◌, inl, inr, ℕ, suc, ◌+◌, ◌<◌, ◌≤◌, List, [], ◌∷◌, filter, length, Bool, true, false, true≢false, cond, ◌&&◌, Some, refl, sym, ap, ◌∙◌, arith}
 use Rattle.std.specs.declared.cmp.Ordering.TheVariants.{Equal}
 use Rattle.std.specs.Ordering.{is_lt, nat_cmp}
 use Rattle.std.specs.Cmp.{IsTotalOrder, IsStrictWeakOrder, tied_itself}
@@ -12,15 +12,14 @@ use Rattle.std.specs.List.{AllByRecursion}
 use Rattle.std.specs.List.Sorted.{IsPermutation, IsSorted}
 use Rattle.std.proofs.lemmas.Cmp.{then_total, on_total, nat_cmp_total}
 use Rattle.std.proofs.lemmas.List.MinMax.{ranks_by}
-use Rattle.std.proofs.lemmas.List.Kept.{IsSortedBy-filter}
 use Rattle.std.proofs.lemmas.List.Sorted.{IsPermutation-refl, IsPermutation-trans, IsPermutation-cons, IsPermutation-middle, length_permutation}
-use Rattle.sqlite_trees.proofs.ListLemmas.{filter-filter, IsPermutation-filter, along_permutation, all-permutation}
+use Rattle.sqlite_trees.proofs.ListLemmas.{along_permutation, all-permutation}
 use Rattle.txc_rows.specs.declared.version.Versioned.{Versioned}
 use Rattle.txc_rows.specs.declared.query.Query.{Query}
 use Rattle.txc_rows.specs.declared.query.Query.TheVariants.{ById, ByGroup, All}
 use Rattle.txc_rows.specs.Values.{RowValue}
 use Rattle.txc_rows.specs.States.{query_table}
-use Rattle.txc_rows.specs.Found.{is_in, is_read_for, Finds}
+use Rattle.txc_rows.specs.Found.{Finds}
 use Rattle.txc_rows.specs.Versions.{is_visible, lives_at, shown_at, suits, version_cmp, Follows, Pairwise, IsVersion, AreVersions}
 use Rattle.txc_rows.specs.Says.{IdsRise}
 use Rattle.txc_rows.proofs.VersionLemmas.{kept_versions}
@@ -35,21 +34,10 @@ front : (a b : Bool) → a && b ≡ true → a ≡ true
 front true b e = refl
 front false b e = e
 
-of_its_table : (q : Query) (v : Versioned) → suits q v ≡ true → is_in (query_table q) v ≡ true
-of_its_table (ById t i) v e = front _ _ e
-of_its_table (ByGroup t g) v e = front _ _ e
-of_its_table (All t) v e = e
-
-is_read : (q : Query) (v : Versioned) → suits q v ≡ true → is_read_for q v ≡ true
-is_read (ById t i) v e = e
-is_read (ByGroup t g) v e = of_its_table (ByGroup t g) v e
-is_read (All t) v e = e
-
-pub finds_in : (q : Query) (vs listed : List Versioned) → IsPermutation (filter (is_read_for q) vs) listed → IsSorted version_cmp listed → Finds q vs (filter (suits q) listed)
-finds_in q vs listed same sorted = record {
-  same = subst (λ xs. IsPermutation xs (filter (suits q) listed)) (filter-filter (suits q) (is_read_for q) (is_read q) vs) (IsPermutation-filter (suits q) _ listed same);
-  sorted = IsSortedBy-filter _ version_ranks (suits q) listed sorted;
-}
+pub of_its_table : (q : Query) (v : Versioned) → suits q v ≡ true → v.row.table ≡ query_table q
+of_its_table (ById t i) v e = eqb-true _ _ (front _ _ e)
+of_its_table (ByGroup t g) v e = eqb-true _ _ (front _ _ e)
+of_its_table (All t) v e = eqb-true _ _ e
 
 -- ---- in the order of the query too, each version follows those before it
 
@@ -167,7 +155,7 @@ above t q v fits seen (w ∷ ws) f l = go (is_visible t w && suits q w) refl (ab
         → AllByRecursion (λ (s : RowValue). v.row.id < s.id) (map (λ x. x.row) (cond b (w ∷ filter (λ x. is_visible t x && suits q x) ws) (filter (λ x. is_visible t x && suits q x) ws)))
     go true e on =
         let both = two _ _ e in
-        let table : v.row.table ≡ w.row.table = eqb-true _ _ (of_its_table q v fits) ∙ sym (eqb-true _ _ (of_its_table q w both.1)) in
+        let table : v.row.table ≡ w.row.table = of_its_table q v fits ∙ sym (of_its_table q w both.1) in
         (rising t v w table seen both.0 f.0 l.0, on)
     go false e on = on
 

@@ -1,9 +1,10 @@
 -- What the statements do to a connection over the table.
-use Rattle.std.proofs.Common.{◌≡◌, inl, inr, ℕ, ℤ, ◌≤◌, List, [], ◌∷◌, ◌++◌, map, filter, length, Bool, true, false, not, ◌&&◌, ◌==◌, None, Ok, Err, Result, OnOk, IfErr, IfOk, refl, sym, ap, subst, ◌∙◌, arith, IsTrue}
+use Rattle.std.proofs.Common.{◌≡◌, inl, inr, ℕ, ℤ, ◌≤◌, List, [], ◌∷◌, ◌++◌, map, filter, length, Bool, true, false, not, ◌&&◌, None, Some, Ok, Err, Result, OnOk, IfErr, IfOk, refl, sym, ap, subst, ◌∙◌, arith, IsTrue}
 use Rattle.std.proofs.lemmas.List.{length-map, map-append}
 use Rattle.std.specs.List.{AllByRecursion, list_all}
 use Rattle.sqlite.specs.Order.{Row, value_cmp}
-use Rattle.sqlite.specs.Term.{Term, holds}
+use Rattle.sqlite.specs.Term.{Term, holds, eval}
+use Rattle.sqlite.specs.Query.{as_count}
 use Rattle.sqlite.specs.Tree.{rowid, put_row, IsTable}
 use Rattle.sqlite.specs.Edit.{id_in, next_rowid}
 use Rattle.sqlite.specs.declared.error.Error.{Error}
@@ -22,17 +23,19 @@ use Rattle.sqlite_trees.proofs.TreeLemmas.{IsTable-put_row, all-put_row}
 use Rattle.std.specs.declared.cmp.Ordering.TheVariants.{Less}
 use Rattle.txc_rows.specs.declared.version.Versioned.{Versioned}
 use Rattle.txc_rows.specs.States.{is_at}
-use Rattle.txc_rows.specs.Versions.{is_current, closed, removed, purged, has_died_by, Pairwise}
-use Rattle.txc_rows.specs.Found.{is_in, is_of}
-use Rattle.txc_rows.proofs.Members.{bool_cases, both_true}
+use Rattle.txc_rows.specs.declared.query.Query.{Query}
+use Rattle.txc_rows.specs.declared.query.Query.TheVariants.{ById, ByGroup, All}
+use Rattle.txc_rows.specs.declared.statements.TheConstants.{MOST_READ}
+use Rattle.txc_rows.specs.Versions.{suits, is_current, closed, removed, purged, has_died_by, Pairwise}
+use Rattle.txc_rows.proofs.Members.{bool_cases}
 use Rattle.txc_rows.proofs.StoredVersions.{hit_is, held_kept}
 use Rattle.txc_rows.specs.Texts.{version_schema, no_schema}
 use Rattle.txc_rows.specs.Stored.{stored, number, version_in, versions_in, IsStored, AreStored}
 use Rattle.txc_rows.specs.Holdable.{AreHeld, HasEnded}
 use Rattle.txc_rows.specs.Kept.{rows_in, versions_of, HasTable, IsKept, IsStep, IsCall, IsReading}
-use Rattle.txc_rows.proofs.Commands.{insert_text, close_text, create_text, create_is, create_plain, purge_text, purge_is, purge_plain, IsListingOf, table_text, table_filter, table_is, row_text, row_filter, row_is}
+use Rattle.txc_rows.proofs.Commands.{insert_text, close_text, create_text, create_is, create_plain, purge_text, purge_is, purge_plain, IsListingOf, most_shown, table_text, table_filter, table_is, row_text, row_filter, row_is, group_text, group_filter, group_is}
 use Rattle.txc_rows.proofs.Steps.{insert_params, inserts, creates}
-use Rattle.txc_rows.proofs.StoredRows.{version_again, table_test, row_test}
+use Rattle.txc_rows.proofs.StoredRows.{version_again, table_test, row_test, group_test}
 use Rattle.txc_rows.proofs.Tables.{next_above, put_row_last}
 use Rattle.txc_rows.proofs.Writes.{keyed_all, is_hit, ended, close_params, closes, purges}
 use Rattle.txc_rows.proofs.Answering.{Refused, execute_refused, query_refused, shown_same, selects, listing}
@@ -210,29 +213,34 @@ ended_call old mid end (Err e) versions kept table apart base are idle ok (inl f
     let same = undone_call old mid end kept base fails.3 in record { kept = same.0; after = tt; unchanged = same.1 }
 ended_call old mid end (Err e) versions kept table apart base are idle ok (inr late) inside = absurd (let off = late.1 in cc)
 
--- ---- versions of a table
+-- ---- the versions of a query
 
-module _ (t : ℕ) (P : Versioned → Bool) (inside : (v : Versioned) → P v ≡ true → is_in t v ≡ true) (fs : List Term) (text : List ℕ) (is : IsListingOf fs text)
-    (params : Row) (test : (id : ℤ) (v : Versioned) → list_all (holds (params ∷ stored id v ∷ [])) fs ≡ P v) (old new : Held MemStore) (kept : IsKept old) where
+module _ (q : Query) (fs : List Term) (text : List ℕ) (is : IsListingOf fs text) (params : Row) (test : (id : ℤ) (v : Versioned) → list_all (holds (params ∷ stored id v ∷ [])) fs ≡ suits q v)
+    (limit : as_count (eval most_shown (params ∷ [])) ≡ Some MOST_READ) (old new : Held MemStore) (kept : IsKept old) where
   plain : IsPlain (understood (state over_memory old).now.schema text)
   plain = subst (λ s. IsPlain (understood s text)) (sym kept.table.schema) is.plain
 
   pub lists : (r : Result (Vec Row Global) Error) → IfOk r (λ rows. Shown text params (state over_memory old) (state over_memory new) rows.items)
-      → IfErr r (FailsToQuery text params (state over_memory old) (state over_memory new)) → IsReading t P old new r
+      → IfErr r (FailsToQuery text params (state over_memory old) (state over_memory new)) → IsReading q old new r
   lists (Ok rows) ok err =
       let same = refused_same old new kept (inl (shown_same text params (state over_memory old) (state over_memory new) rows.items plain ok)) in
-      let found = selects fs params text P test is (state over_memory old) (state over_memory new) rows.items kept.table.schema kept.table.rows ok in
-      record { kept = same.0; same = same.1; lists = listing t P inside (versions_of old) rows.items kept.versions.each found }
+      let found = selects fs params text (suits q) MOST_READ test limit is (state over_memory old) (state over_memory new) rows.items kept.table.schema kept.table.rows ok in
+      record { kept = same.0; same = same.1; lists = listing q (versions_of old) rows.items kept.versions.each found }
   lists (Err e) ok err =
       let same = refused_same old new kept (query_refused text params (state over_memory old) (state over_memory new) e plain err) in
       record { kept = same.0; same = same.1; lists = tt }
 
 pub lists_table : (t : ℕ) (old new : Held MemStore) → IsKept old → (r : Result (Vec Row Global) Error)
-    → IfOk r (λ rows. Shown table_text (number t ∷ []) (state over_memory old) (state over_memory new) rows.items)
-    → IfErr r (FailsToQuery table_text (number t ∷ []) (state over_memory old) (state over_memory new)) → IsReading t (is_in t) old new r
-lists_table t old new kept = lists t (is_in t) (λ v e. e) table_filter table_text table_is (number t ∷ []) (table_test t) old new kept
+    → IfOk r (λ rows. Shown table_text (number t ∷ number MOST_READ ∷ []) (state over_memory old) (state over_memory new) rows.items)
+    → IfErr r (FailsToQuery table_text (number t ∷ number MOST_READ ∷ []) (state over_memory old) (state over_memory new)) → IsReading (All t) old new r
+lists_table t old new kept = lists (All t) table_filter table_text table_is (number t ∷ number MOST_READ ∷ []) (table_test t MOST_READ) refl old new kept
 
 pub lists_row : (t i : ℕ) (old new : Held MemStore) → IsKept old → (r : Result (Vec Row Global) Error)
-    → IfOk r (λ rows. Shown row_text (number t ∷ number i ∷ []) (state over_memory old) (state over_memory new) rows.items)
-    → IfErr r (FailsToQuery row_text (number t ∷ number i ∷ []) (state over_memory old) (state over_memory new)) → IsReading t (is_of t i) old new r
-lists_row t i old new kept = lists t (is_of t i) (λ v e. (both_true (v.row.table == t) (v.row.id == i) e).0) row_filter row_text row_is (number t ∷ number i ∷ []) (row_test t i) old new kept
+    → IfOk r (λ rows. Shown row_text (number t ∷ number MOST_READ ∷ number i ∷ []) (state over_memory old) (state over_memory new) rows.items)
+    → IfErr r (FailsToQuery row_text (number t ∷ number MOST_READ ∷ number i ∷ []) (state over_memory old) (state over_memory new)) → IsReading (ById t i) old new r
+lists_row t i old new kept = lists (ById t i) row_filter row_text row_is (number t ∷ number MOST_READ ∷ number i ∷ []) (row_test t MOST_READ i) refl old new kept
+
+pub lists_group : (t g : ℕ) (old new : Held MemStore) → IsKept old → (r : Result (Vec Row Global) Error)
+    → IfOk r (λ rows. Shown group_text (number t ∷ number MOST_READ ∷ number g ∷ []) (state over_memory old) (state over_memory new) rows.items)
+    → IfErr r (FailsToQuery group_text (number t ∷ number MOST_READ ∷ number g ∷ []) (state over_memory old) (state over_memory new)) → IsReading (ByGroup t g) old new r
+lists_group t g old new kept = lists (ByGroup t g) group_filter group_text group_is (number t ∷ number MOST_READ ∷ number g ∷ []) (group_test t MOST_READ g) refl old new kept

@@ -1,5 +1,5 @@
 -- The versions of a store go on saying the kept states, and what is found of them shows the answers.
-use Rattle.std.proofs.Common.{◌≡◌, ◌⊎◌, inl, inr, ℕ, zero, suc, ◌+◌, ◌-◌, ◌≤◌, nat_le, true, false, not, List, [], ◌∷◌, sym, subst, ◌∙◌, add-zero, arith}
+use Rattle.std.proofs.Common.{◌≡◌, ◌⊎◌, inl, inr, ℕ, zero, suc, ◌+◌, ◌-◌, ◌≤◌, nat_le, true, false, not, List, [], ◌∷◌, refl, sym, subst, ◌∙◌, add-zero, arith}
 use Rattle.std.proofs.lemmas.Bool.Decides.{nat_tests}
 use Rattle.std.specs.List.Sorted.{IsPermutation}
 use Rattle.std.proofs.lemmas.List.Sorted.{IsPermutation-sym}
@@ -19,6 +19,7 @@ use Rattle.txc_rows.proofs.Rising.{changes_state}
 use Rattle.txc_rows.proofs.SaysLemmas.{says_answer, says_nothing, says_written, says_quiet, says_purged}
 use Rattle.txc_rows.proofs.Writable.{net_is_writable}
 use Rattle.txc_rows.proofs.VersionLemmas.{written_versions, kept_versions}
+use Rattle.txc_rows.proofs.Clean.{purged_twice, clean_net}
 use Rattle.txc_rows.proofs.Finding.{finds_versions, shown_rises}
 
 -- ---- no versions
@@ -28,6 +29,7 @@ keeps_nothing states empty = record {
   kept = omega arith;
   each = λ t low high. let now : t ≡ 0 = omega arith in rw (now, empty) tt;
   says = says_nothing states empty;
+  clean = refl;
   versions = record { each = tt; apart = tt };
 }
 
@@ -54,6 +56,7 @@ keeps_quiet states horizon newest vs same keeps = record {
   kept = let k = keeps.kept in omega arith;
   each = one_more_state states horizon newest vs keeps (rw same (keeps.each newest keeps.kept (omega arith)));
   says = says_quiet states horizon newest vs keeps.kept same keeps.says;
+  clean = keeps.clean;
   versions = keeps.versions;
 }
 
@@ -79,6 +82,7 @@ keeps_next states horizon newest net vs is held keeps = record {
   kept = let k = keeps.kept in omega arith;
   each = one_more_state states horizon newest vs keeps (subst IsState is.leads (changes_state net (states newest) (keeps.each newest keeps.kept (omega arith))));
   says = says_written states horizon newest net vs keeps.kept (sym is.leads) keeps.says;
+  clean = clean_net horizon (suc newest) (let k = keeps.kept in omega arith) net vs keeps.clean;
   versions = written_versions (suc newest) net vs keeps.versions (net_is_writable states horizon newest net vs (states (suc newest)) keeps.kept keeps.says is) held.each;
 }
 
@@ -97,6 +101,7 @@ keeps_purged next vs states horizon newest keeps later known = record {
   kept = known;
   each = λ t low high. keeps.each t (omega arith) high;
   says = says_purged states horizon newest next vs later keeps.says;
+  clean = purged_twice next vs;
   versions = kept_versions (λ v. not (has_died_by next v)) vs keeps.versions;
 }
 

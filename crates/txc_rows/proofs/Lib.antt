@@ -11,6 +11,7 @@ pub mod Writable
 pub mod Pairs
 pub mod StoredVersions
 pub mod VersionLemmas
+pub mod Clean
 pub mod Commands
 pub mod Steps
 pub mod StoredRows

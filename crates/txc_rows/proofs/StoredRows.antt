@@ -12,18 +12,19 @@ use Rattle.sqlite_sql.specs.declared.ops.CompareOp.TheVariants.{Eq, Le}
 use Rattle.sqlite_value.specs.declared.keys.Key.{Key}
 use Rattle.sqlite.specs.Tree.{rowid}
 use Rattle.sqlite.specs.Edit.{id_in}
-use Rattle.sqlite.specs.Query.{Query, IsAnswer, Output, output, output_cmp}
+use Rattle.sqlite.specs.Query.{Query, IsAnswer, Output, output, output_cmp, limited, as_count}
 use Rattle.sqlite.specs.Program.{overlay}
 use Rattle.sqlite.specs.Effect.{Database, Answers}
 use Rattle.sqlite_trees.proofs.ListLemmas.{map-map}
 use Rattle.sqlite.specs.Ops.{from_truth, is_true, binary}
-use Rattle.sqlite.specs.Term.{Term, holds}
+use Rattle.sqlite.specs.Term.{Term, holds, eval}
 use Rattle.sqlite_value.proofs.OrderLemmas.{value_cmp-Int, value_cmp-apart, value_cmp-Null}
 use Rattle.txc_rows.specs.declared.version.Versioned.{Versioned}
 use Rattle.txc_rows.specs.States.{is_at}
-use Rattle.txc_rows.specs.Versions.{is_current, has_died_by, died_by}
+use Rattle.txc_rows.specs.Versions.{suits, is_current, has_died_by, died_by}
+use Rattle.txc_rows.specs.declared.query.Query.TheVariants.{ById, ByGroup, All}
 use Rattle.txc_rows.specs.Stored.{stored, number, death, IsStored, death_in, version_in, shown, version_shown}
-use Rattle.txc_rows.proofs.Commands.{close_filter, purge_filter, table_filter, row_filter, whole, alone}
+use Rattle.txc_rows.proofs.Commands.{close_filter, purge_filter, table_filter, row_filter, group_filter, whole, alone}
 
 pub int_cmp-pos : (a b : ℕ) → int_cmp (pos a) (pos b) ≡ nat_cmp a b
 int_cmp-pos a b = grind (arith, nat_tests)
@@ -75,16 +76,19 @@ close_test t i s id v = all_three _ _ _ _ _ _ (eq_test v.row.table t) (eq_test v
 pub purge_test : (h : ℕ) (id : ℤ) (v : Versioned) → list_all (holds ((number h ∷ []) ∷ stored id v ∷ [])) purge_filter ≡ has_died_by h v
 purge_test h id v = one _ _ (le_test v.died h)
 
-pub table_test : (t : ℕ) (id : ℤ) (v : Versioned) → list_all (holds ((number t ∷ []) ∷ stored id v ∷ [])) table_filter ≡ (v.row.table == t)
-table_test t id v = one _ _ (eq_test v.row.table t)
+pub table_test : (t n : ℕ) (id : ℤ) (v : Versioned) → list_all (holds ((number t ∷ number n ∷ []) ∷ stored id v ∷ [])) table_filter ≡ suits (All t) v
+table_test t n id v = one _ _ (eq_test v.row.table t)
 
 both : (A B a b : Bool) → A ≡ a → B ≡ b → (A && (B && true)) ≡ (a && b)
 both A B true true p q = rw (p, q) refl
 both A B true false p q = rw (p, q) refl
 both A B false b p q = rw p refl
 
-pub row_test : (t i : ℕ) (id : ℤ) (v : Versioned) → list_all (holds ((number t ∷ number i ∷ []) ∷ stored id v ∷ [])) row_filter ≡ is_at t i v.row
-row_test t i id v = both _ _ _ _ (eq_test v.row.table t) (eq_test v.row.id i)
+pub row_test : (t n i : ℕ) (id : ℤ) (v : Versioned) → list_all (holds ((number t ∷ number n ∷ number i ∷ []) ∷ stored id v ∷ [])) row_filter ≡ suits (ById t i) v
+row_test t n i id v = both _ _ _ _ (eq_test v.row.table t) (eq_test v.row.id i)
+
+pub group_test : (t n g : ℕ) (id : ℤ) (v : Versioned) → list_all (holds ((number t ∷ number n ∷ number g ∷ []) ∷ stored id v ∷ [])) group_filter ≡ suits (ByGroup t g) v
+group_test t n g id v = both _ _ _ _ (eq_test v.row.table t) (eq_test v.row.group g)
 
 -- ---- rows that are stored versions
 
@@ -114,23 +118,23 @@ one_by_one p e [] = refl
 one_by_one p e (x ∷ xs) = elim (p x) as (λ b. cond b (e x ∷ []) [] ++ flat_map (λ y. cond (p y) (e y ∷ []) []) xs ≡ map e (cond b (x ∷ filter p xs) (filter p xs)))
     [ true ↦ ap (λ ys. e x ∷ ys) (one_by_one p e xs) | false ↦ one_by_one p e xs ]
 
--- all rows of table 0 that pass, in an order
-abbrev pub asked : List Term → List Term → List (Term × Key) → Query
-asked filter project order = record (whole filter project) { order = order }
+-- all rows of table 0 that pass, in an order, up to a limit
+abbrev pub asked : List Term → List Term → List (Term × Key) → Term → Query
+asked filter project order limit = record (whole filter project) { order = order; limit = limit }
 
 abbrev pub passing : List Term → Row → List Row → List Row
 passing fs params = filter (λ r. list_all (holds (params ∷ r ∷ [])) fs)
 
-pub record IsPage (fs project : List Term) (order : List (Term × Key)) (params : Row) (table found : List Row) : Type 0 where
+pub record IsPage (fs project : List Term) (order : List (Term × Key)) (limit : Term) (params : Row) (table found : List Row) : Type 0 where
   pub ordered : List Output
-  pub same : IsPermutation (map (λ r. output (asked fs project order) (params ∷ r ∷ [])) (passing fs params table)) ordered
-  pub sorted : IsSorted (output_cmp (asked fs project order)) ordered
-  pub rows : found ≡ map (λ (o : Output). o.1) ordered
+  pub same : IsPermutation (map (λ r. output (asked fs project order limit) (params ∷ r ∷ [])) (passing fs params table)) ordered
+  pub sorted : IsSorted (output_cmp (asked fs project order limit)) ordered
+  pub rows : found ≡ limited (as_count (eval limit (params ∷ []))) (map (λ (o : Output). o.1) ordered)
 
-pub answered : (fs project : List Term) (order : List (Term × Key)) (db : Database) (params : Row) (found : List Row) → Answers db (alone (asked fs project order)) params found
-    → IsPage fs project order params (db.trees 0) found
-answered fs project order db params found h =
-    let q = asked fs project order in
+pub answered : (fs project : List Term) (order : List (Term × Key)) (limit : Term) (db : Database) (params : Row) (found : List Row) → Answers db (alone (asked fs project order limit)) params found
+    → IsPage fs project order limit params (db.trees 0) found
+answered fs project order limit db params found h =
+    let q = asked fs project order limit in
     let a : IsAnswer q (overlay db.trees []) params found = h.answer Null in
     let kept : a.kept ≡ map (λ r. output q (params ∷ r ∷ [])) (passing fs params (db.trees 0))
     = a.distinct ∙ ap (map (output q)) (a.grouped ∙ one_by_one (λ r. list_all (holds (params ∷ r ∷ [])) fs) (λ r. params ∷ r ∷ []) (db.trees 0)) ∙ map-map (output q) (λ r. params ∷ r ∷ []) _ in

@@ -25,6 +25,7 @@ agreed_kept states others horizon newest vs same keeps = record {
   kept = keeps.kept;
   each = λ t low high. subst IsState (same t low high) (keeps.each t low high);
   says = says_agree states others horizon newest vs same keeps.says;
+  clean = keeps.clean;
   versions = keeps.versions;
 }
 

@@ -31,7 +31,7 @@ use Rattle.txc_rows.specs.States.{is_at}
 use Rattle.txc_rows.specs.Versions.{is_current, closed, has_died_by}
 use Rattle.txc_rows.specs.Texts.{version_table, version_schema}
 use Rattle.txc_rows.specs.Stored.{stored, number, version_in, IsStored, AreStored}
-use Rattle.txc_rows.proofs.Commands.{whole, alone, close_text, close_filter, close_project, close_is, close_plain, purge_text, purge_filter, purge_is, purge_plain}
+use Rattle.txc_rows.proofs.Commands.{whole, endless, alone, close_text, close_filter, close_project, close_is, close_plain, purge_text, purge_filter, purge_is, purge_plain}
 use Rattle.txc_rows.proofs.StoredRows.{close_test, purge_test, select_stored, answered, IsPage}
 use Rattle.txc_rows.proofs.Tables.{IsKeyed, replaced}
 use Rattle.txc_rows.proofs.Steps.{went, same_value, cast_int}
@@ -75,7 +75,7 @@ abbrev pub close_params : ℕ → ℕ → ℕ → Row
 close_params t i s = number t ∷ number i ∷ number s ∷ []
 
 pub closes_rows : (t i s : ℕ) (db : Trees) (given : List Row) → AreStored (db 0) → length (filter (is_hit t i) (db 0)) ≤ 1
-    → IsPage close_filter close_project [] (close_params t i s) (db 0) given
+    → IsPage close_filter close_project [] endless (close_params t i s) (db 0) given
     → edited db (edit_of db version_table (ids_of given) Given 1 given) ≡ map (ended t i s) (db 0)
 closes_rows t i s db given rows few page = go (filter (is_hit t i) (db 0)) refl few
   where
@@ -117,7 +117,7 @@ closes old new t i s (Ok count) has rows few h =
     let given = went done.1 in
     let written = went given.2 in
     let trees : done.0.trees ≡ written.0 = ap (λ (it : Written). it.trees) (same_value written.2) in
-    let page = answered close_filter close_project [] (record { schema = version_schema; trees = db }) params given.0 given.1 in
+    let page = answered close_filter close_project [] endless (record { schema = version_schema; trees = db }) params given.0 given.1 in
     let rows' = (one_step version_schema _ db written.0 (edit_of db version_table (ids_of given.0) Given 1 given.0) refl written.1).rows in
     (ap (λ (d : Database). d.schema) now, ap (λ (d : Database). d.trees 0) now ∙ ap (λ (x : Trees). x 0) trees ∙ rows' ∙ closes_rows t i s db given.0 rows few page)
 
@@ -206,7 +206,7 @@ purges old new h (Ok count) has rows ran =
     let given = went done.1 in
     let written = went given.2 in
     let trees : done.0.trees ≡ written.0 = ap (λ (it : Written). it.trees) (same_value written.2) in
-    let page = answered purge_filter (col 1 0 ∷ []) [] (record { schema = version_schema; trees = db }) params given.0 given.1 in
+    let page = answered purge_filter (col 1 0 ∷ []) [] endless (record { schema = version_schema; trees = db }) params given.0 given.1 in
     let rows' = (one_step version_schema _ db written.0 (edit_of db version_table (ids_of given.0) Given 0 []) refl written.1).rows in
     let passed = select_stored _ (has_died_by h) (purge_test h) (db 0) rows.each in
     let id = λ (o : Output). id_in (rowid o.1) in

@@ -5,15 +5,16 @@ use Rattle.txc_rows.specs.declared.query.Change.{Change}
 use Rattle.txc_rows.specs.declared.version.Versioned.{Versioned}
 use Rattle.txc_rows.specs.States.{State, IsState, answer}
 use Rattle.txc_rows.specs.Net.{IsNet}
-use Rattle.txc_rows.specs.Versions.{AreVersions, shown_at}
+use Rattle.txc_rows.specs.Versions.{AreVersions, shown_at, purged}
 use Rattle.txc_rows.specs.Says.{SaysStates}
 
--- the versions say each state from the horizon to the newest stamp, and of one table and id they follow one
--- another
+-- the versions say each state from the horizon to the newest stamp, a purge up to the horizon would drop none
+-- of them, and of one table and id they follow one another
 pub record KeepsStates (states : ℕ → State) (horizon newest : ℕ) (vs : List Versioned) : Type 0 where
   pub kept : horizon ≤ newest
   pub each : (t : ℕ) → horizon ≤ t → t ≤ newest → IsState (states t)
   pub says : SaysStates states horizon newest vs
+  pub clean : purged horizon vs ≡ vs
   pub versions : AreVersions vs
 
 -- after the newest stamp the state stays up to the one before the stamp, and there the net changes lead to

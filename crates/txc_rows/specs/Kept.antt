@@ -1,15 +1,17 @@
 -- What a connection over the table of versions keeps: words that only this crate's private functions promise.
-use Rattle.std.specs.Prelude.{◌≡◌, ℕ, Bool, true, false, List, map, filter, Result, Vec, OnOk, OnErr, IfOk}
+use Rattle.std.specs.Prelude.{◌≡◌, ℕ, true, false, List, map, take, Result, Vec, OnOk, OnErr, IfOk}
 use Rattle.std.specs.declared.alloc.Global.{Global}
 use Rattle.sqlite.specs.declared.error.Error.{Error}
 use Rattle.std.specs.List.{AllByRecursion}
-use Rattle.std.specs.List.Sorted.{IsPermutation, IsSorted}
 use Rattle.sqlite.specs.Order.{Row}
 use Rattle.sqlite.specs.Held.{Held, state}
 use Rattle.sqlite.specs.Steps.{over_memory}
 use Rattle.sqlite_trees.specs.declared.memory.MemStore.{MemStore}
 use Rattle.txc_rows.specs.declared.version.Versioned.{Versioned}
-use Rattle.txc_rows.specs.Versions.{version_cmp}
+use Rattle.txc_rows.specs.declared.query.Query.{Query}
+use Rattle.txc_rows.specs.declared.statements.TheConstants.{MOST_READ}
+use Rattle.txc_rows.specs.States.{query_table}
+use Rattle.txc_rows.specs.Found.{Finds}
 use Rattle.txc_rows.specs.Holdable.{IsHoldable, AreHeld}
 use Rattle.txc_rows.specs.Texts.{version_schema}
 use Rattle.txc_rows.specs.Stored.{versions_in, AreStored, shown, version_shown}
@@ -54,17 +56,16 @@ pub record IsShown (table : ℕ) (r : Row) : Type 0 where
   pub is : r ≡ shown (version_shown table r)
   pub version : IsHoldable (version_shown table r)
 
--- the rows show the versions that pass a test, all of one table, by id and birth
-pub record IsListing (table : ℕ) (passes : Versioned → Bool) (versions : List Versioned) (rows : List Row)
-    : Type 0 where
-  pub each : AllByRecursion (IsShown table) rows
-  pub same : IsPermutation (filter passes versions) (map (version_shown table) rows)
-  pub sorted : IsSorted version_cmp (map (version_shown table) rows)
+-- the rows show the versions that are found for the query, up to one more than may match
+pub record IsListing (q : Query) (versions : List Versioned) (rows : List Row) : Type 0 where
+  pub each : AllByRecursion (IsShown (query_table q)) rows
+  pub found : List Versioned
+  pub finds : Finds q versions found
+  pub first : map (version_shown (query_table q)) rows ≡ take MOST_READ found
 
--- a reading of a table: the rows show its versions that pass, or it is refused. All versions are as they
+-- a reading for a query: the rows show the versions that match, or it is refused. All versions are as they
 -- were.
-pub record IsReading (table : ℕ) (passes : Versioned → Bool) (old new : Held MemStore)
-    (outcome : Result (Vec Row Global) Error) : Type 0 where
+pub record IsReading (q : Query) (old new : Held MemStore) (outcome : Result (Vec Row Global) Error) : Type 0 where
   pub kept : IsKept new
   pub same : versions_of new ≡ versions_of old
-  pub lists : IfOk outcome (λ rows. IsListing table passes (versions_of old) rows.items)
+  pub lists : IfOk outcome (λ rows. IsListing q (versions_of old) rows.items)

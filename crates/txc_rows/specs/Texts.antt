@@ -25,7 +25,8 @@ column_of name kind needed = record {
 abbrev pub no_schema : Schema
 no_schema = record { tables = []; indexes = []; views = [] }
 
--- one row for each version, with the key (table, id, birth); a version that has not died has no death
+-- one row for each version, with the keys (table, id, birth) and (table, group, id, birth); a version that has
+-- not died has no death
 abbrev pub version_table : Table
 version_table = record {
   name = codes "version";
@@ -38,8 +39,8 @@ version_table = record {
       ∷ column_of (codes "died") Integer false ∷ [];
   key = None;
   primary = 1 ∷ 2 ∷ 3 ∷ [];
-  uniques = (1 ∷ 2 ∷ 3 ∷ []) ∷ [];
-  orders = plain ∷ [];
+  uniques = (1 ∷ 2 ∷ 3 ∷ []) ∷ (1 ∷ 4 ∷ 2 ∷ 3 ∷ []) ∷ [];
+  orders = plain ∷ plain ∷ [];
   checks = [];
   references = [];
   computed = [];

@@ -1,8 +1,9 @@
 -- A row as contracts see it.
-use Rattle.std.specs.Prelude.{ℕ, ◌<◌, ◌≤◌, ◌^◌, Bool, ◌&&◌, ◌==◌, List, length}
+use Rattle.std.specs.Prelude.{ℕ, ◌≤◌, Bool, ◌&&◌, ◌==◌, List, length}
 use Rattle.std.specs.List.{AllByRecursion}
 use Rattle.std.specs.Str.{bytes_eq}
 use Rattle.txc_tags.specs.declared.tag.TheConstants.{LAST_TABLE}
+use Rattle.txc_tags.specs.declared.text.number.TheConstants.{LAST_NUMBER}
 use Rattle.txc_rows.specs.declared.row.TheConstants.{MAX_BODY_LEN, FIRST_BODY_BYTE, LAST_BODY_BYTE}
 
 -- its table, its id in the table, its group and its body
@@ -22,9 +23,9 @@ pub record IsBody (body : List ℕ) : Type 0 where
   pub most : length body ≤ MAX_BODY_LEN
   pub each : AllByRecursion (λ byte. (FIRST_BODY_BYTE ≤ byte) × (byte ≤ LAST_BODY_BYTE)) body
 
--- one of the tables, an id and a group of 32 bits, and a body
+-- one of the tables, an id and a group that texts can name, and a body
 pub record IsRow (r : RowValue) : Type 0 where
   pub table : r.table ≤ LAST_TABLE
-  pub id : r.id < 2 ^ 32
-  pub group : r.group < 2 ^ 32
+  pub id : r.id ≤ LAST_NUMBER
+  pub group : r.group ≤ LAST_NUMBER
   pub body : IsBody r.body

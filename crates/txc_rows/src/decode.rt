@@ -1,18 +1,14 @@
 //! Versions from the rows that the store shows.
 
-ghost use Rattle.std.specs.Prelude.{◌≡◌, ◌⊎◌, ◌<◌, ◌≤◌, Err, IfOk, IfErr, Some, map, filter, length};
+ghost use Rattle.std.specs.Prelude.{◌≡◌, ◌≤◌, IfOk, IfErr, Some, map};
 ghost use Rattle.std.specs.List.{AllByRecursion};
 ghost use Rattle.txc_stamp.specs.declared.stamp.TheConstants.{LAST_STAMP};
-ghost use Rattle.txc_rows.specs.States.{query_table};
 ghost use Rattle.txc_rows.specs.Values.{IsBody};
-ghost use Rattle.txc_rows.specs.Versions.{suits};
 ghost use Rattle.txc_rows.specs.Stored.{version_shown};
 ghost use Rattle.txc_rows.specs.Kept.{IsShown};
-ghost use Rattle.txc_rows.specs.declared.store_error.TheConstants.{MAX_MATCHING};
 
-use crate::query::Query;
 use crate::row::Row;
-use crate::store_error::{MAX_MATCHING, StoreError};
+use crate::store_error::StoreError;
 use crate::version::Versioned;
 use std::alloc::Global;
 use txc_stamp::Stamp;
@@ -55,33 +51,23 @@ fn version_from(table: Table, shown: &sqlite::Row) -> Result<Versioned, sqlite::
     })
 }
 
-/// The versions of the query's table that match, in the order in which they are shown.
-pub(crate) fn select(
+/// The versions of a table that the rows show.
+pub(crate) fn versions_from(
     alloc: Global,
-    query: &Query,
+    table: Table,
     rows: &[sqlite::Row],
 ) -> Result<Vec<Versioned>, StoreError>
-    requires { AllByRecursion (IsShown (query_table query.now)) rows.now }
-    ensures answer { IfOk result (λ vs. vs.items
-        ≡ filter (suits query.now) (map (version_shown (query_table query.now)) rows.now)) }
-    ensures bound { IfOk result (λ vs. length vs.items ≤ MAX_MATCHING) }
-    ensures refused { result ≡ Err StoreError.TooManyRows → MAX_MATCHING
-        < length (filter (suits query.now) (map (version_shown (query_table query.now)) rows.now)) }
-    ensures only { IfErr result (λ e. (e ≡ StoreError.TooManyRows) ⊎ (e ≡ StoreError.Memory)) }
+    requires { AllByRecursion (IsShown table) rows.now }
+    ensures answer { IfOk result (λ vs. vs.items ≡ map (version_shown table) rows.now) }
+    ensures refused { IfErr result (λ e. e ≡ StoreError.Memory) }
 {
-    let table = query.table();
-    let mut found = Vec::new(alloc);
+    let mut versions = Vec::new(alloc);
     for shown in rows {
         // What is stored can be read back, where there is memory for it.
         let Ok(version) = version_from(table, shown) else {
             return Err(StoreError::Memory);
         };
-        if query.matches(&version.row) {
-            if found.len() == MAX_MATCHING {
-                return Err(StoreError::TooManyRows);
-            }
-            found.push(version)?;
-        }
+        versions.push(version)?;
     }
-    Ok(found)
+    Ok(versions)
 }

@@ -7,22 +7,24 @@ ghost use Rattle.txc_stamp.specs.declared.stamp.TheConstants.{LAST_STAMP};
 ghost use Rattle.txc_rows.specs.Values.{IsRow};
 ghost use Rattle.txc_rows.specs.Versions.{removed, purged, after_write, after_net};
 ghost use Rattle.txc_rows.specs.Holdable.{AreHeld, IsWritable};
-ghost use Rattle.txc_rows.specs.States.{query_table};
-ghost use Rattle.txc_rows.specs.Found.{is_in, is_of, is_read_for};
+ghost use Rattle.txc_rows.specs.declared.query.Query.TheVariants.{ById, ByGroup, All};
 ghost use Rattle.txc_rows.specs.Kept.{versions_of, HasTable, IsKept, IsStep, IsCall, IsReading};
 
 use crate::query::{Change, Query};
 use crate::row::Row;
+use crate::store_error::MAX_MATCHING;
 use sqlite::{Connection, Error, MemStore, Transaction, params};
 use std::alloc::Global;
 use txc_stamp::Stamp;
 use txc_tags::Table;
 
-/// A row for each version.
+/// A row for each version, with a key for each way to read it. The second finds the versions of a group; it could
+/// not be broken where the first is not.
 const CREATE_TABLE: &str =
     "CREATE TABLE version (table_number INTEGER NOT NULL, id INTEGER NOT NULL, born INTEGER NOT NULL, \
      group_number INTEGER NOT NULL, body BLOB NOT NULL, died INTEGER, \
-     PRIMARY KEY (table_number, id, born)) STRICT";
+     PRIMARY KEY (table_number, id, born), \
+     UNIQUE (table_number, group_number, id, born)) STRICT";
 
 /// A version that has not died.
 const ADD_VERSION: &str =
@@ -35,13 +37,26 @@ const END_VERSION: &str =
 /// The versions that died by a stamp.
 const DELETE_DEAD: &str = "DELETE FROM version WHERE died <= ?1";
 
-/// The versions of a table, by id and birth.
-const READ_TABLE: &str =
-    "SELECT id, group_number, body, born, died FROM version WHERE table_number = ?1 ORDER BY id, born";
+/// What the statements that read share: versions of a table, by id and birth, at most so many of them. Each has
+/// a test of its own, which the store answers by a key of the table.
+macro_rules! read_where {
+    ($test:literal) => {
+        concat!(
+            "SELECT id, group_number, body, born, died FROM version WHERE table_number = ?1",
+            $test,
+            " ORDER BY id, born LIMIT ?2"
+        )
+    };
+}
 
-/// The versions of a table and id, by birth.
-const READ_ROW: &str = "SELECT id, group_number, body, born, died FROM version \
-     WHERE table_number = ?1 AND id = ?2 ORDER BY id, born";
+const READ_TABLE: &str = read_where!("");
+
+const READ_ROW: &str = read_where!(" AND id = ?3");
+
+const READ_GROUP: &str = read_where!(" AND group_number = ?3");
+
+/// So many versions are read at most: one more than may match shows that too many do.
+const MOST_READ: u32 = MAX_MATCHING as u32 + 1;
 
 /// Makes the table in a store that has none.
 pub(crate) fn create(conn: &mut Connection<MemStore>) -> Result<usize, Error>
@@ -146,37 +161,49 @@ pub(crate) fn delete_dead(conn: &mut Connection<MemStore>, horizon: Stamp) -> Re
     conn.execute(DELETE_DEAD, params![horizon.number()])
 }
 
-/// The versions of a table, by id and birth.
 fn read_table(conn: &mut Connection<MemStore>, table: Table) -> Result<Vec<sqlite::Row>, Error>
     requires { IsKept conn.old }
-    ensures { IsReading table (is_in table) conn.old conn.new result }
+    ensures { IsReading (All table) conn.old conn.new result }
 {
-    conn.query_all(READ_TABLE, params![u32::from(table.number())])
+    conn.query_all(READ_TABLE, params![u32::from(table.number()), MOST_READ])
 }
 
-/// The versions of a table and id, by birth. The store finds them by the key of its table.
 fn read_row(
     conn: &mut Connection<MemStore>,
     table: Table,
     id: u32,
 ) -> Result<Vec<sqlite::Row>, Error>
     requires { IsKept conn.old }
-    ensures { IsReading table (is_of table id) conn.old conn.new result }
+    ensures { IsReading (ById table id) conn.old conn.new result }
 {
-    conn.query_all(READ_ROW, params![u32::from(table.number()), id])
+    conn.query_all(READ_ROW, params![u32::from(table.number()), MOST_READ, id])
 }
 
-/// Versions of the query's table, by id and birth, with all those that match among them.
+fn read_group(
+    conn: &mut Connection<MemStore>,
+    table: Table,
+    group: u32,
+) -> Result<Vec<sqlite::Row>, Error>
+    requires { IsKept conn.old }
+    ensures { IsReading (ByGroup table group) conn.old conn.new result }
+{
+    conn.query_all(
+        READ_GROUP,
+        params![u32::from(table.number()), MOST_READ, group],
+    )
+}
+
+/// The versions that match, by id and birth: at most one more of them than may match.
 pub(crate) fn read(
     conn: &mut Connection<MemStore>,
     query: &Query,
 ) -> Result<Vec<sqlite::Row>, Error>
     requires { IsKept conn.old }
-    ensures { IsReading (query_table query.now) (is_read_for query.now) conn.old conn.new result }
+    ensures { IsReading query.now conn.old conn.new result }
 {
     match *query {
         Query::ById(table, id) => read_row(conn, table, id),
-        Query::ByGroup(table, _) => read_table(conn, table),
+        Query::ByGroup(table, group) => read_group(conn, table, group),
         Query::All(table) => read_table(conn, table),
     }
 }

@@ -9,10 +9,10 @@ ghost use Rattle.txc_rows.specs.Kept.{IsKept, versions_of};
 ghost use Rattle.txc_rows.specs.StoreErrors.{IsStoreRefusal};
 ghost use Rattle.txc_rows.specs.declared.store_error.TheConstants.{MAX_MATCHING};
 
-use crate::decode::select;
+use crate::decode::versions_from;
 use crate::query::{Change, Query};
 use crate::statements::{create, delete_dead, read, write_all};
-use crate::store_error::StoreError;
+use crate::store_error::{MAX_MATCHING, StoreError};
 use crate::version::Versioned;
 use sqlite::{Connection, MemStore};
 use std::alloc::Global;
@@ -60,8 +60,7 @@ impl VersionRows {
         Ok(VersionRows { conn, alloc })
     }
 
-    /// The versions that match, by id and then by birth. Those of one row are found by the key of the table,
-    /// others by a look at the whole table.
+    /// The versions that match, by id and then by birth. No other version is looked at.
     pub fn matching(&mut self, query: &Query) -> Result<Vec<Versioned>, StoreError>
         ensures same { self.new ≡ self.old }
         ensures answer { IfOk result (λ found. Finds query.now self.old found.items) }
@@ -71,7 +70,10 @@ impl VersionRows {
             → MAX_MATCHING < length (filter (suits query.now) self.old) }
     {
         let rows = read(&mut self.conn, query)?;
-        select(self.alloc, query, rows.as_slice())
+        if rows.len() > MAX_MATCHING {
+            return Err(StoreError::TooManyRows);
+        }
+        versions_from(self.alloc, query.table(), &rows)
     }
 
     /// Writes the net changes of the commit with this stamp, all or none. A change ends the current version

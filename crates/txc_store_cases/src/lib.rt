@@ -19,3 +19,5 @@ mod pins;
 mod rows;
 #[cfg(test)]
 mod run;
+#[cfg(test)]
+mod validity;

@@ -1,2 +1,4 @@
 pub mod ValidityLemmas
 pub mod OneTag
+pub mod Edges
+pub mod Passes

@@ -1,7 +1,15 @@
 -- A validity is the largest interval, and there is one.
 use Rattle.std.proofs.Common.{◌≡◌, ◌⊎◌, inl, inr, ℕ, ◌≤◌, ◌+◌, ◌-◌, ◌==◌, Bool, true, false, nat_le, refl, sym, ap, ◌∙◌, arith}
 use Rattle.std.proofs.lemmas.Bool.Decides.{nat_tests}
-use Rattle.txc_validity.specs.Validity.{HoldsOn}
+use Rattle.std.specs.Prelude.{List}
+use Rattle.txc_rows.specs.declared.query.Query.{Query}
+use Rattle.txc_rows.specs.declared.version.Versioned.{Versioned}
+use Rattle.txc_rows.specs.States.{State, answer}
+use Rattle.txc_rows.specs.Versions.{shown_at}
+use Rattle.txc_rows.specs.Keeping.{ShowsAnswers}
+use Rattle.txc_validity.specs.declared.answer.Found.{Found}
+use Rattle.txc_validity.specs.Validity.{HoldsOn, IsValidity}
+use Rattle.txc_validity.specs.Answers.{IsAnswer}
 use Rattle.txc_validity.specs.Laws.{SameWithin, DiffersBelow, DiffersAbove, OneValidity, KeptAnswersDecide}
 
 pub same_within : SameWithin
@@ -69,3 +77,11 @@ kept_answers_decide answers others t horizon newest reach same is = record {
   where
     here : answers t ≡ others t
     here = same t (let a = is.around.0 in let b = is.low in omega arith) (let a = is.around.1 in let b = is.high in omega arith)
+
+-- what is right of the versions is right of states whose answers they show
+pub answers_found : (states : ℕ → State) (q : Query) (vs : List Versioned) (t horizon newest : ℕ) (found : Found) → ShowsAnswers q states horizon newest vs
+    → found.rows.items ≡ shown_at q t vs → IsValidity (λ s. shown_at q s vs) t horizon newest found.reach → IsAnswer states q t horizon newest found
+answers_found states q vs t horizon newest found shows rows is = record {
+  rows = rows ∙ shows.answers t (let a = is.around.0 in let b = is.low in omega arith) (let a = is.around.1 in let b = is.high in omega arith);
+  validity = kept_answers_decide (λ s. shown_at q s vs) (λ s. answer q (states s)) t horizon newest found.reach shows.answers is;
+}

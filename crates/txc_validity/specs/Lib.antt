@@ -1,3 +1,4 @@
 pub mod Validity
 pub mod Answers
+pub mod Turning
 pub mod Laws

@@ -1,10 +1,11 @@
-ghost use Rattle.std.specs.Prelude.{◌≡◌, ◌≢◌, ◌↔◌, ◌≤◌, ◌<◌, ◌⊎◌, ◌-◌, ◌+◌, ◌∷◌, [], ℕ, IsTrue, IfOk, IfErr, IsErrOf};
+ghost use Rattle.std.specs.Prelude.{◌≡◌, ◌↔◌, ◌≤◌, ◌<◌, ◌⊎◌, ◌-◌, ◌+◌, ◌∷◌, [], ℕ, IfOk, IfErr, IsErrOf, length};
 ghost use Rattle.txc_rows.specs.States.{State};
 ghost use Rattle.txc_rows.specs.RowTags.{query_tag};
-ghost use Rattle.txc_rows.specs.Versions.{shown_at, AreVersions};
+ghost use Rattle.txc_rows.specs.Versions.{shown_at, is_visible, IsVersion, AreVersions};
 ghost use Rattle.txc_rows.specs.Keeping.{ShowsAnswers};
-ghost use Rattle.txc_validity.specs.Validity.{HoldsOn, IsValidity};
+ghost use Rattle.txc_validity.specs.Validity.{IsValidity};
 ghost use Rattle.txc_validity.specs.Answers.{IsAnswer};
+ghost use Rattle.txc_validity.specs.Turning.{Turns, IsSteady};
 
 use crate::error::ValidityError;
 use std::alloc::{AllocError, Global};
@@ -18,6 +19,14 @@ pub struct Found {
     pub rows: Vec<Row>,
     pub reach: Reach,
     pub tags: TagSet,
+}
+
+/// An answer, and what it cost.
+#[derive(Drop)]
+pub struct Counted {
+    pub found: Found,
+    /// How often a version was tested for being visible at a stamp.
+    pub tests: usize,
 }
 
 /// The rows that the query shows at a stamp, by id where the versions are.
@@ -38,74 +47,49 @@ pub fn rows_at(
     Ok(rows)
 }
 
-/// Whether the query shows these rows at the stamp.
-fn shows(
-    alloc: Global,
-    versions: &[Versioned],
-    query: &Query,
-    stamp: Stamp,
-    rows: &[Row],
-) -> Result<bool, AllocError>
-    ensures { IfOk result (λ b. IsTrue b ↔ (shown_at query.now stamp versions.now ≡ rows.now)) }
+/// The stamp before another.
+fn before(stamp: Stamp) -> Stamp
+    requires { 1 ≤ stamp }
+    ensures { result ≡ stamp - 1 }
 {
-    let there = rows_at(alloc, versions, query, stamp)?;
-    Ok(there.as_slice() == rows)
+    Stamp::after(stamp.number() as usize - 1)
 }
 
-/// The first stamp from which on the rows are shown, not below the horizon.
-fn first_shown(
-    alloc: Global,
-    versions: &[Versioned],
-    query: &Query,
-    rows: &[Row],
-    stamp: Stamp,
-    horizon: Stamp,
-) -> Result<Stamp, AllocError>
-    requires kept { horizon ≤ stamp }
-    requires here { shown_at query.now stamp versions.now ≡ rows.now }
-    ensures within { IfOk result (λ first. (horizon ≤ first) × (first ≤ stamp)) }
-    ensures holds { IfOk result (λ first.
-        HoldsOn (λ s. shown_at query.now s versions.now) stamp first stamp) }
-    ensures ends { IfOk result (λ first. horizon < first
-        → shown_at query.now (first - 1) versions.now ≢ shown_at query.now stamp versions.now) }
-{
-    let mut first = stamp;
-    'down: while horizon < first {
-        let before = Stamp::after(first.number() as usize - 1);
-        if !shows(alloc, versions, query, before, rows)? {
-            return Ok(first);
-        }
-        first = before;
-    }
-    Ok(first)
+/// Stamps around one, from a first to a last.
+#[derive(Clone, Copy, Debug, PartialEq, Eq)]
+struct Stretch {
+    first: Stamp,
+    last: Stamp,
 }
 
-/// The last stamp up to which the rows are shown, not above the newest.
-fn last_shown(
-    alloc: Global,
-    versions: &[Versioned],
-    query: &Query,
-    rows: &[Row],
-    stamp: Stamp,
-    newest: Stamp,
-) -> Result<Stamp, AllocError>
-    requires kept { stamp ≤ newest }
-    requires here { shown_at query.now stamp versions.now ≡ rows.now }
-    ensures within { IfOk result (λ last. (stamp ≤ last) × (last ≤ newest)) }
-    ensures holds { IfOk result (λ last.
-        HoldsOn (λ s. shown_at query.now s versions.now) stamp stamp last) }
-    ensures ends { IfOk result (λ last. last < newest
-        → shown_at query.now (last + 1) versions.now ≢ shown_at query.now stamp versions.now) }
-{
-    let mut last = stamp;
-    'up: while last < newest {
-        let after = Stamp::after(last.number() as usize + 1);
-        if !shows(alloc, versions, query, after, rows)? {
-            return Ok(last);
+impl Stretch {
+    /// What is left of it around the stamp where the version is visible as at the stamp.
+    ///
+    /// A version that is visible there bounds the validity of what it is returned in; one that is not bounds
+    /// it too, as part of the mask of stamps at which the answer would have more rows.
+    fn cut(self, version: &Versioned, stamp: Stamp, visible: bool) -> Stretch
+        requires version { IsVersion version.now }
+        requires around { (self.first ≤ stamp) × (stamp ≤ self.last) }
+        requires visible { visible ≡ is_visible stamp version.now }
+        ensures low { (self.first ≤ result.first) × (result.first ≤ stamp) }
+        ensures high { (stamp ≤ result.last) × (result.last ≤ self.last) }
+        ensures steady { IsSteady stamp result.first result.last version.now }
+        ensures first { (result.first ≡ self.first) ⊎ Turns version.now result.first }
+        ensures last { (result.last ≡ self.last) ⊎ Turns version.now (result.last + 1) }
+    {
+        let (mut first, mut last) = (self.first, self.last);
+        if visible {
+            first = first.max(version.born);
+            if let Some(died) = version.died {
+                last = last.min(before(died));
+            }
+        } else if version.born > stamp {
+            last = last.min(before(version.born));
+        } else if let Some(died) = version.died {
+            first = first.max(died);
         }
-        last = after;
+        Stretch { first, last }
     }
-    Ok(last)
 }
 
 /// The query's one tag.
@@ -117,9 +101,59 @@ fn tags_of(alloc: Global, query: &Query) -> Result<TagSet, AllocError>
     Ok(tags)
 }
 
+/// The same as [`answer_at`], and beside it how often a version was tested for being visible at a stamp: once
+/// each.
+pub fn answer_counted(
+    alloc: Global,
+    versions: &[Versioned],
+    query: &Query,
+    stamp: Stamp,
+    horizon: Stamp,
+    newest: Stamp,
+) -> Result<Counted, ValidityError>
+    requires { AreVersions versions.now }
+    ensures outside { IsErrOf result (ValidityError.OutsideKept horizon newest)
+        ↔ ((stamp < horizon) ⊎ (newest < stamp)) }
+    ensures refused { IfErr result (λ e.
+        (e ≡ ValidityError.OutsideKept horizon newest) ⊎ (e ≡ ValidityError.Memory)) }
+    ensures rows { IfOk result (λ c. c.found.rows.items ≡ shown_at query.now stamp versions.now) }
+    ensures validity { IfOk result (λ c.
+        IsValidity (λ s. shown_at query.now s versions.now) stamp horizon newest c.found.reach) }
+    ensures tag { IfOk result (λ c. c.found.tags ≡ query_tag query.now ∷ []) }
+    ensures tests { IfOk result (λ c. c.tests ≡ length versions.now) }
+{
+    if stamp < horizon || newest < stamp {
+        return Err(ValidityError::OutsideKept(horizon, newest));
+    }
+    let mut rows = Vec::new(alloc);
+    let mut tests = 0;
+    let mut stretch = Stretch {
+        first: horizon,
+        last: newest,
+    };
+    for version in versions {
+        let visible = version.is_visible(stamp);
+        tests += 1;
+        if query.matches(&version.row) {
+            if visible {
+                rows.push(version.row.copy(alloc)?)?;
+            }
+            stretch = stretch.cut(version, stamp, visible);
+        }
+    }
+    let Stretch { first, last } = stretch;
+    let found = Found {
+        rows,
+        reach: Reach::from_stamps(first, last, last == newest).unwrap(),
+        tags: tags_of(alloc, query)?,
+    };
+    Ok(Counted { found, tests })
+}
+
 /// The answer of the query at a stamp from the horizon to the newest, from the row versions that match it.
 ///
-/// The reach is known to its last stamp, and still valid where that is the newest one.
+/// The reach is known to its last stamp, and still valid where that is the newest one. One pass over the
+/// versions finds it: the stamps at which each version is visible as it is at this one.
 pub fn answer_at(
     alloc: Global,
     versions: &[Versioned],
@@ -143,15 +177,8 @@ pub fn answer_at(
         → ShowsAnswers query.now states horizon newest versions.now
         → IfOk result (λ f. IsAnswer states query.now stamp horizon newest f) }
 {
-    if stamp < horizon || newest < stamp {
-        return Err(ValidityError::OutsideKept(horizon, newest));
+    match answer_counted(alloc, versions, query, stamp, horizon, newest) {
+        Ok(counted) => Ok(counted.found),
+        Err(refusal) => Err(refusal),
     }
-    let rows = rows_at(alloc, versions, query, stamp)?;
-    let first = first_shown(alloc, versions, query, &rows, stamp, horizon)?;
-    let last = last_shown(alloc, versions, query, &rows, stamp, newest)?;
-    Ok(Found {
-        rows,
-        reach: Reach::from_stamps(first, last, last == newest).unwrap(),
-        tags: tags_of(alloc, query)?,
-    })
 }

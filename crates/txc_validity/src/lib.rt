@@ -2,13 +2,14 @@
 //! the same.
 //!
 //! That a result is cached with the exact stretch of stamps on which it holds is the idea of the OSDI 2010
-//! paper of Ports, Clements, Zhang, Madden and Liskov.
+//! paper of Ports, Clements, Zhang, Madden and Liskov, and so is the way to it: the stretch on which all
+//! returned rows stand (result tuple validity), without those on which others would (invalidity mask).
 #![tactic(auto)]
 
 mod answer;
 mod error;
 mod laws;
 
-pub use answer::{Found, answer_at, rows_at};
+pub use answer::{Counted, Found, answer_at, answer_counted, rows_at};
 pub use error::ValidityError;
 pub use laws::validity_is_the_largest;

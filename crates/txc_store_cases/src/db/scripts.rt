@@ -66,6 +66,7 @@ unpin 5 =>
 unpin 5 =>
 unpin 5 => stamp 5 is not held
 vacuum => 7
+vacuum => 7
 ";
 
 const FULL_ROW: &str = "capacity => 1

@@ -1,0 +1,113 @@
+-- Where a version that matches begins or ends, the answer changes.
+use Rattle.std.proofs.Common.{◌≡◌, ◌≢◌, ◌⊎◌, inl, inr, ℕ, ◌+◌, ◌<◌, ◌≤◌, List, [], ◌∷◌, map, filter, true, ◌&&◌, Option, None, Some, nat_le, nat_lt, refl, sym, ap, subst, ◌∙◌, arith}
+use Rattle.std.proofs.lemmas.Bool.Decides.{nat_tests}
+use Rattle.std.specs.List.{AllByRecursion}
+use Rattle.txc_rows.specs.declared.version.Versioned.{Versioned}
+use Rattle.txc_rows.specs.declared.query.Query.{Query}
+use Rattle.txc_rows.specs.Members.{IsIn}
+use Rattle.txc_rows.specs.Values.{RowValue}
+use Rattle.txc_rows.specs.Versions.{row_of, suits, is_visible, lives_at, shown_at, Follows, Pairwise, IsVersion, AreVersions}
+use Rattle.txc_rows.proofs.Offered.{both_true, and_true, in_filter, from_filter}
+use Rattle.txc_validity.specs.Turning.{Turns}
+
+-- a version that matches begins or ends at the stamp
+abbrev pub IsEdge : Query → List Versioned → ℕ → Type 0
+IsEdge q vs s = (v : Versioned) × IsIn v vs × (suits q v ≡ true) × Turns v s
+
+le_of : (a b : ℕ) → nat_le a b ≡ true → a ≤ b
+le_of a b h = grind (arith, nat_tests)
+
+of_le : (a b : ℕ) → a ≤ b → nat_le a b ≡ true
+of_le a b h = grind (arith, nat_tests)
+
+lt_of : (a b : ℕ) → nat_lt a b ≡ true → a < b
+lt_of a b h = grind (arith, nat_tests)
+
+of_lt : (a b : ℕ) → a < b → nat_lt a b ≡ true
+of_lt a b h = grind (arith, nat_tests)
+
+lives_of : (s : ℕ) (x : Option ℕ) → lives_at s x ≡ true → (d : ℕ) → x ≡ Some d → s < d
+lives_of s None h d e = absurd (let f = e in cc)
+lives_of s (Some x) h d e = let same : x ≡ d = cc in subst (λ n. s < n) same (lt_of s x h)
+
+of_lives : (s : ℕ) (x : Option ℕ) → ((d : ℕ) → x ≡ Some d → s < d) → lives_at s x ≡ true
+of_lives s None h = refl
+of_lives s (Some x) h = of_lt s x (h x refl)
+
+seen_of : (s : ℕ) (v : Versioned) → is_visible s v ≡ true → (v.born ≤ s) × ((d : ℕ) → v.died ≡ Some d → s < d)
+seen_of s v h = let two = both_true _ _ h in (le_of _ _ two.0, lives_of s v.died two.1)
+
+of_seen : (s : ℕ) (v : Versioned) → v.born ≤ s → ((d : ℕ) → v.died ≡ Some d → s < d) → is_visible s v ≡ true
+of_seen s v a b = and_true _ _ (of_le _ _ a) (of_lives s v.died b)
+
+-- ---- what is shown is the row of a version that is visible
+
+in_mapped : {X Y : Type 0} (f : X → Y) (x : X) (xs : List X) → IsIn x xs → IsIn (f x) (map f xs)
+in_mapped f x [] h = absurd h
+in_mapped f x (y ∷ ys) (inl e) = inl (ap f e)
+in_mapped f x (y ∷ ys) (inr h) = inr (in_mapped f x ys h)
+
+from_mapped : {X Y : Type 0} (f : X → Y) (y : Y) (xs : List X) → IsIn y (map f xs) → (x : X) × IsIn x xs × (y ≡ f x)
+from_mapped f y [] h = absurd h
+from_mapped f y (x ∷ xs) (inl e) = (x, inl refl, e)
+from_mapped f y (x ∷ xs) (inr h) = let it = from_mapped f y xs h in (it.0, inr it.1, it.2)
+
+shown_from : (q : Query) (s : ℕ) (vs : List Versioned) (r : RowValue) → IsIn r (shown_at q s vs) → (w : Versioned) × IsIn w vs × (is_visible s w ≡ true) × (r ≡ w.row)
+shown_from q s vs r h =
+    let it = from_mapped row_of r (filter (λ v. is_visible s v && suits q v) vs) h in
+    let there = from_filter (λ v. is_visible s v && suits q v) it.0 vs it.1 in
+    (it.0, there.0, (both_true (is_visible s it.0) (suits q it.0) there.1).0, it.2)
+
+shown_has : (q : Query) (s : ℕ) (vs : List Versioned) (w : Versioned) → IsIn w vs → is_visible s w ≡ true → suits q w ≡ true → IsIn w.row (shown_at q s vs)
+shown_has q s vs w there seen fits =
+    in_mapped row_of w (filter (λ v. is_visible s v && suits q v) vs) (in_filter (λ v. is_visible s v && suits q v) w vs there (and_true _ _ seen fits))
+
+-- ---- two versions of a row
+
+all_in : {X : Type 0} (P : X → Type 0) (xs : List X) (x : X) → AllByRecursion P xs → IsIn x xs → P x
+all_in P [] x all h = absurd h
+all_in P (y ∷ ys) x all (inl e) = subst P (sym e) all.0
+all_in P (y ∷ ys) x all (inr h) = all_in P ys x all.1 h
+
+two_of : (vs : List Versioned) (v w : Versioned) → Pairwise Follows vs → IsIn v vs → IsIn w vs → (v ≡ w) ⊎ (Follows v w ⊎ Follows w v)
+two_of [] v w p a b = absurd a
+two_of (u ∷ us) v w p (inl a) (inl b) = inl (a ∙ sym b)
+two_of (u ∷ us) v w p (inl a) (inr b) = inr (inl (subst (λ x. Follows x w) (sym a) (all_in (Follows u) us w p.0 b)))
+two_of (u ∷ us) v w p (inr a) (inl b) = inr (inr (subst (λ x. Follows x v) (sym b) (all_in (Follows u) us v p.0 a)))
+two_of (u ∷ us) v w p (inr a) (inr b) = two_of us v w p.1 a b
+
+-- where a version ends no other shows its row
+ends_apart : (q : Query) (vs : List Versioned) (s : ℕ) (v : Versioned) → AreVersions vs → IsIn v vs → suits q v ≡ true → v.died ≡ Some (s + 1) → shown_at q s vs ≢ shown_at q (s + 1) vs
+ends_apart q vs s v are there fits died same =
+    let life = (all_in IsVersion vs v are.each there).life (s + 1) died in
+    let here = shown_has q s vs v there (of_seen s v (omega arith) (λ d e. let k : s + 1 ≡ d = (let two : ◌≡◌ {A = Option ℕ} (Some (s + 1)) (Some d) = sym died ∙ e in cc) in omega arith)) fits in
+    let it = shown_from q (s + 1) vs v.row (subst (λ rows. IsIn v.row rows) same here) in
+    let w = it.0 in
+    let seen = seen_of (s + 1) w it.2 in
+    let table : v.row.table ≡ w.row.table = ap (λ (r : RowValue). r.table) it.3 in
+    let id : v.row.id ≡ w.row.id = ap (λ (r : RowValue). r.id) it.3 in
+    elim (two_of vs v w are.apart there it.1) [
+      | inl e ↦ let late = seen.1 (s + 1) (subst (λ (x : Versioned). x.died ≡ Some (s + 1)) e died) in omega arith
+      | inr (inl f) ↦ let d = f.died table id in let k : d.0 ≡ s + 1 = (let two : ◌≡◌ {A = Option ℕ} (Some d.0) (Some (s + 1)) = sym d.1 ∙ died in cc) in d.3 (omega (arith, d.2, seen.0)) it.3
+      | inr (inr f) ↦ let d = f.died (sym table) (sym id) in let late = seen.1 d.0 d.1 in omega (arith, d.2, life.0)
+    ]
+
+-- where a version begins no other showed its row
+begins_apart : (q : Query) (vs : List Versioned) (s : ℕ) (v : Versioned) → AreVersions vs → IsIn v vs → suits q v ≡ true → v.born ≡ s + 1 → shown_at q s vs ≢ shown_at q (s + 1) vs
+begins_apart q vs s v are there fits born same =
+    let lives : (d : ℕ) → v.died ≡ Some d → s + 1 < d = λ d e. let l = (all_in IsVersion vs v are.each there).life d e in omega (arith, l.0) in
+    let here = shown_has q (s + 1) vs v there (of_seen (s + 1) v (omega arith) lives) fits in
+    let it = shown_from q s vs v.row (subst (λ rows. IsIn v.row rows) (sym same) here) in
+    let w = it.0 in
+    let seen = seen_of s w it.2 in
+    let table : v.row.table ≡ w.row.table = ap (λ (r : RowValue). r.table) it.3 in
+    let id : v.row.id ≡ w.row.id = ap (λ (r : RowValue). r.id) it.3 in
+    elim (two_of vs v w are.apart there it.1) [
+      | inl e ↦ let early : w.born ≡ s + 1 = subst (λ (x : Versioned). x.born ≡ s + 1) e born in omega (arith, seen.0)
+      | inr (inl f) ↦ let d = f.died table id in let l = lives d.0 d.1 in omega (arith, d.2, seen.0)
+      | inr (inr f) ↦ let d = f.died (sym table) (sym id) in let l = seen.1 d.0 d.1 in d.3 (omega (arith, d.2)) (sym it.3)
+    ]
+
+pub edge : (q : Query) (vs : List Versioned) (s : ℕ) → AreVersions vs → IsEdge q vs (s + 1) → shown_at q s vs ≢ shown_at q (s + 1) vs
+edge q vs s are (v, there, fits, inl born) = begins_apart q vs s v are there fits born
+edge q vs s are (v, there, fits, inr died) = ends_apart q vs s v are there fits died
