@@ -153,7 +153,7 @@ txcache node --settings a=1 --settings b=1 = 2 error: the argument '--settings <
 txcache node --settings = 2 error: a value is required for '--settings <TEXT>' but none was supplied;;For more information, try '--help'.;
 txcache node --settings -1 = 2 error: unexpected argument '-1' found;;  tip: to pass '-1' as a value, use '-- -1';;Usage: txcache [OPTIONS] <MODE>;;For more information, try '--help'.;
 no such option
-txcache --version = 2 error: unexpected argument '--version' found;;Usage: txcache [OPTIONS] <MODE>;;For more information, try '--help'.;
+txcache --version = 2 error: unexpected argument '--version' found;;  tip: to pass '--version' as a value, use '-- --version';;Usage: txcache [OPTIONS] <MODE>;;For more information, try '--help'.;
 ";
 
 #[test]
