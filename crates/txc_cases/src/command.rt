@@ -90,7 +90,8 @@ impl Player for CommandPlayer {
     }
 }
 
-const SETTINGS: &str = "the settings are capacity, nodes, permits, recent, renew_after, row_cap and workers
+const SETTINGS: &str =
+    "the settings are capacity, nodes, permits, recent, renew_after, row_cap and workers
 settings # = 1024 1 64 64 5000 4096 2
 settings capacity=1;nodes=1;permits=1;recent=1;renew_after=0;row_cap=1;workers=1 = 1 1 1 1 0 1 1
 settings workers=8;row_cap=1048576;renew_after=4294967295 = 1024 1 64 64 4294967295 1048576 8

@@ -3,9 +3,8 @@
 #![tactic(auto)]
 
 use clap::error::ErrorKind;
-use std::env;
-use std::io;
 use std::process::ExitCode;
+use std::{env, io};
 use txc_arguments::read_arguments;
 use txc_run::{exit_of, run};
 use txc_settings::{Settings, SettingsError};

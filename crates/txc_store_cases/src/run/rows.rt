@@ -297,7 +297,13 @@ pub const ROWS: [(&str, &str, &str, &str, &str); 28] = [
 
 /// What is shown of reports, the settings, the script, the report, and the status of the program.
 pub const REPORTS: [(&str, &str, &str, &str, &str); 7] = [
-    ("an empty script", "", "", "total events 0 closed 0 swept 0\n", "0"),
+    (
+        "an empty script",
+        "",
+        "",
+        "total events 0 closed 0 swept 0\n",
+        "0",
+    ),
     (
         "the stored script",
         "capacity = 4\nrecent = 4",
