@@ -10,6 +10,7 @@ use Rattle.txc_run.specs.Script.{BeginsWithLines, HasNoEnd, AreLinesOf, last_lin
 use Rattle.txc_run.specs.Given.{Given, Gives, AreGiven, is_malformed, is_refused}
 use Rattle.txc_run.specs.Output.{lines_text, closing_text}
 use Rattle.txc_settings.specs.declared.mode.Mode.{Mode}
+use Rattle.txc_settings.specs.declared.mode.Mode.TheVariants.{Report}
 use Rattle.txc_run.specs.Runs.{Start}
 use Rattle.txc_run.specs.Replies.{mode_of, HasCounted, counted_by}
 use Rattle.txc_run.specs.Sessions.{kept_of, flow_of, AnswersLine, HasAnswered, IsStopped, IsHalted, HasLast, HasEnded, IsUnclosed, AnswersAs, AnswersLast, EndsAs}
@@ -266,12 +267,12 @@ closed start read written s next h refused closes =
 
 -- memory ran out at the end
 unclosed_last : (start : Start) (read written : List ℕ) (s next : Session) → HasLast start read written s → string_bytes next.replies.text ≡ string_bytes s.replies.text
-    → IsUnclosed start read written next
-unclosed_last start read written s next h e = record {
+    → mode_of s.replies ≡ Report → IsUnclosed start read written next
+unclosed_last start read written s next h e reports = record {
   lines = h.lines;
   given = h.given;
   answers = h.answers;
-  first = inr h.all;
+  first = inr (sym h.mode ∙ reports, h.all);
   text = ap (λ (xs : List ℕ). written ++ xs) e ∙ h.text;
   well_formed = h.well_formed;
 }
@@ -280,9 +281,9 @@ unclosed_last start read written s next h e = record {
 pub finished : (start : Start) (read written : List ℕ) (s next : Session) (r : Result (Unit {0}) AllocError) → next.replies.is_refused ≡ s.replies.is_refused
     → OnOk r ((given : List Given) → HasCounted given s.replies → list_any is_malformed given ≡ false
     → string_bytes next.replies.text ≡ string_bytes s.replies.text ++ closing_text (mode_of s.replies) given)
-    → OnErr r (string_bytes next.replies.text ≡ string_bytes s.replies.text) → HasLast start read written s → EndsAs start read written next r
-finished start read written s next (Ok x) refused closes same h = closed start read written s next h refused closes
-finished start read written s next (Err e) refused closes same h = unclosed_last start read written s next h same
+    → OnErr r (string_bytes next.replies.text ≡ string_bytes s.replies.text) → OnErr r (mode_of s.replies ≡ Report) → HasLast start read written s → EndsAs start read written next r
+finished start read written s next (Ok x) refused closes same reports h = closed start read written s next h refused closes
+finished start read written s next (Err e) refused closes same reports h = unclosed_last start read written s next h same reports
 
 pub has_last : (start : Start) (read written : List ℕ) (s : Session) (flow : Flow) → flow ≡ GoesOn → AnswersLast start read written s (Ok flow) → HasLast start read written s
 has_last start read written s flow e h = subst (λ (f : Flow). AnswersLast start read written s (Ok f)) e h

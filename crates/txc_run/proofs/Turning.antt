@@ -8,12 +8,13 @@ use Rattle.std.proofs.Math.Seq.{take-append-add}
 use Rattle.std.proofs.lemmas.List.{append-nil, take_all}
 use Rattle.std.proofs.lemmas.List.Elements.{All-nil}
 use Rattle.txc_node.specs.Cache.{Cache}
+use Rattle.txc_settings.specs.declared.mode.Mode.{Mode}
 use Rattle.txc_run.specs.Script.{HasNoEnd}
 use Rattle.txc_run.specs.Written.{AppendsPrefix}
 use Rattle.txc_run.specs.Given.{Given, AreGiven}
 use Rattle.txc_run.specs.Output.{lines_text, output_of}
 use Rattle.txc_run.specs.Replies.{mode_by, HasReport}
-use Rattle.txc_run.specs.Runs.{Start, HasRun, HasWritten, IsWhole}
+use Rattle.txc_run.specs.Runs.{Start, HasRun, HasWritten, IsWhole, AreFirstLines, AreLinesBefore}
 use Rattle.txc_run.specs.Sessions.{HasAnswered, IsStopped, IsHalted, HasEnded, IsUnclosed, AnswersAs, EndsAs, IsKeptBeside}
 use Rattle.txc_run.specs.Turns.{EndsWith, EndsFlushed, TurnsTo, status_by}
 use Rattle.txc_run.specs.declared.fault.Status.{Status}
@@ -85,6 +86,11 @@ pub finish_out_of_memory : (start : Start) (read written : List ℕ) (s : Sessio
     → IsUnclosed start read written s → EndsWith start read (Unit {0}) written old new (Err Memory)
 finish_out_of_memory start read written s old new all k = (string_bytes s.replies.text, all, (k.lines, k.given, k.answers, k.first, k.text, k.well_formed))
 
+-- lines before one that could not be answered, or all, are first lines
+first_lines : (mode : Mode) (read : List ℕ) (lines : List (List ℕ)) → AreLinesBefore mode read lines → AreFirstLines read lines
+first_lines mode read lines (inl h) = inl h
+first_lines mode read lines (inr h) = inr h.1
+
 pub finish_faults : (start : Start) (read written : List ℕ) (s : Session) {T : Type 0} (r : Result T AllocError) (old new : Option (List ℕ)) → AppendsPrefix old new (string_bytes s.replies.text)
     → EndsAs start read written s r → EndsWith start read (Unit {0}) written old new (Err Write)
 finish_faults start read written s (Ok x) old new prefix k =
@@ -92,7 +98,7 @@ finish_faults start read written s (Ok x) old new prefix k =
     (take prefix.0 out, prefix.2, (k.lines, k.given, length written + prefix.0, k.answers, inr (inl (k.all, tt), prefix_of written out _ prefix.0 k.text)))
 finish_faults start read written s (Err e) old new prefix k =
     let out = string_bytes s.replies.text in
-    (take prefix.0 out, prefix.2, (k.lines, k.given, length written + prefix.0, k.answers, inl (k.first, prefix_of written out _ prefix.0 k.text)))
+    (take prefix.0 out, prefix.2, (k.lines, k.given, length written + prefix.0, k.answers, inl (first_lines start.mode read k.lines k.first, prefix_of written out _ prefix.0 k.text)))
 
 -- ---- whole runs
 

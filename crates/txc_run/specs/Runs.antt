@@ -3,6 +3,7 @@ use Rattle.std.specs.Prelude.{◌≡◌, ℕ, true, false, List, Option, Result,
 use Rattle.std.specs.List.{list_any}
 use Rattle.std.specs.Io.KnownBytes.{Appends, Consumes, IsAtEnd}
 use Rattle.txc_settings.specs.declared.mode.Mode.{Mode}
+use Rattle.txc_settings.specs.declared.mode.Mode.TheVariants.{Report}
 use Rattle.txc_settings.specs.declared.settings.Settings.{Settings}
 use Rattle.txc_node.specs.Cache.{Cache, empty_cache}
 use Rattle.txc_run.specs.Script.{BeginsWithLines, HasNoEnd, AreLinesOf}
@@ -42,6 +43,11 @@ abbrev pub AreFirstLines : List ℕ → List (List ℕ) → Type 0
 AreFirstLines read lines =
     ((others : List ℕ) × BeginsWithLines read lines others) ⊎ AreLinesOf read lines
 
+-- the lines before one that could not be answered; or all lines, where the report could not be made
+abbrev pub AreLinesBefore : Mode → List ℕ → List (List ℕ) → Type 0
+AreLinesBefore mode read lines =
+    ((others : List ℕ) × BeginsWithLines read lines others) ⊎ ((mode ≡ Report) × AreLinesOf read lines)
+
 -- What a run that read these bytes wrote, by how it ended: all that is written of what the lines give. After a
 -- fault of the reader that is what is written at once of all lines that had ended; out of memory, of those
 -- before; after a fault of the writer, a prefix of either. After a fault of the reader, and out of memory, no
@@ -61,7 +67,7 @@ HasWritten start read at_end written (Err Write) =
     ⊎ (IsWhole read at_end lines given × (written ≡ take n (output_of start.mode given))))
 HasWritten start read at_end written (Err Memory) =
     (lines : List (List ℕ)) × (given : List Given)
-    × Answers start lines given × AreFirstLines read lines
+    × Answers start lines given × AreLinesBefore start.mode read lines
     × (written ≡ lines_text start.mode given) × (list_any is_malformed given ≡ false)
 
 -- A run that begins so: what it read of the reader's bytes, what it wrote after the writer's,

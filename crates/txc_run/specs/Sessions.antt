@@ -6,7 +6,7 @@ use Rattle.txc_run.specs.Script.{BeginsWithLines, HasNoEnd, AreLinesOf}
 use Rattle.txc_run.specs.Given.{Given, Gives, AreGiven, is_refused, is_malformed}
 use Rattle.txc_run.specs.Output.{lines_text, output_of}
 use Rattle.txc_run.specs.Replies.{mode_of, HasCounted, Takes}
-use Rattle.txc_run.specs.Runs.{Start, Answers, AreFirstLines}
+use Rattle.txc_run.specs.Runs.{Start, Answers, AreLinesBefore}
 use Rattle.txc_run.specs.declared.piece.TheConstants.{MAX_KEPT}
 use Rattle.txc_run.specs.declared.session.Session.{Session}
 use Rattle.txc_run.specs.declared.session.Flow.{Flow}
@@ -77,13 +77,13 @@ pub record HasEnded (start : Start) (read written : List ℕ) (s : Session) : Ty
   pub text : written ++ string_bytes s.replies.text ≡ output_of start.mode given
   pub refused : s.replies.is_refused ≡ list_any is_refused given
 
--- first lines were answered, of which the last may lack its line feed, and none was malformed; what is written
+-- first lines were answered, or all where the report could not be made, and none was malformed; what is written
 -- after all lines is not at hand
 pub record IsUnclosed (start : Start) (read written : List ℕ) (s : Session) : Type 0 where
   pub lines : List (List ℕ)
   pub given : List Given
   pub answers : Answers start lines given
-  pub first : AreFirstLines read lines
+  pub first : AreLinesBefore start.mode read lines
   pub text : written ++ string_bytes s.replies.text ≡ lines_text start.mode given
   pub well_formed : list_any is_malformed given ≡ false
 

@@ -114,6 +114,7 @@ impl Replies {
             → list_any is_malformed given ≡ false
             → string_bytes self.new.text ≡ string_bytes self.old.text ++ closing_text (mode_of self.old) given) }
         ensures unchanged { OnErr result (string_bytes self.new.text ≡ string_bytes self.old.text) }
+        ensures only_report { OnErr result (mode_of self.old ≡ Mode.Report) }
         ensures refused { self.new.is_refused ≡ self.old.is_refused }
         ensures bound { counted_by self.new ≡ counted_by self.old }
     {

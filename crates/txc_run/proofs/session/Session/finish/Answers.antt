@@ -3,7 +3,7 @@ use Rattle.txc_run.proofs.session.Session.finish.Goals as goal
 
 pub returns-in-Ok-GoesOn : goal.returns-in-Ok-GoesOn
 returns-in-Ok-GoesOn c start read written h =
-    finished start read written c.answer_last.new.self _ c.close.result c.close.ensures.refused c.close.ensures.after c.close.ensures.unchanged
+    finished start read written c.answer_last.new.self _ c.close.result c.close.ensures.refused c.close.ensures.after c.close.ensures.unchanged c.close.ensures.only_report
     (has_last start read written c.answer_last.new.self c.in-Ok-GoesOn.field-0 c.in-Ok-GoesOn.field-0-is (c.in-Ok-GoesOn.ensures start read written h))
 
 pub returns-in-Ok-Stopped : goal.returns-in-Ok-Stopped
