@@ -1,5 +1,5 @@
 #!/usr/bin/env python3
-"""Writes the examples and their output as constants of the tests: crates/txc_store_cases/src/run/examples.rt.
+"""Writes the examples, their replies and their reports as constants of the tests: crates/txc_store_cases/src/run/examples.rt.
 
 usage: examples.py [--check]      --check writes nothing, and ends with 1 where the file is not what would be written
 """
@@ -10,8 +10,10 @@ MOST_BYTES = 4_096
 
 HEAD = """//! The scripts of examples/ with their output: written by scripts/examples.py, which the gate compares.
 
-/// Each example: its name, its script, its output, and the status of the program after it.
-pub const EXAMPLES: [(&str, &str, &str, u8); %d] = [
+use txc_settings::Mode;
+
+/// Each example: its name, a mode, its script, its output in that mode, and the status of the program after it.
+pub const EXAMPLES: [(&str, Mode, &str, &str, u8); %d] = [
 """
 
 
@@ -28,10 +30,14 @@ def constants(folder):
     for script in sorted(folder.glob("*.txc")):
         if script.stat().st_size > MOST_BYTES:
             continue
-        output = script.with_suffix(".out").read_text()
-        exit = 1 if re.search(r"^(refused |line \d+: malformed$)", output, re.M) else 0
-        parts = [f'"{script.stem}"', literal(script.read_text(), " " * 9), literal(output, " " * 9), str(exit)]
-        rows.append("    (\n" + "".join(f"        {part},\n" for part in parts) + "    ),\n")
+        replies = script.with_suffix(".out").read_text()
+        exit = 1 if re.search(r"^(refused |line \d+: malformed$)", replies, re.M) else 0
+        outputs = [("Mode::Node", replies)]
+        if script.with_suffix(".report").is_file():
+            outputs.append(("Mode::Report", script.with_suffix(".report").read_text()))
+        for mode, output in outputs:
+            parts = [f'"{script.stem}"', mode, literal(script.read_text(), " " * 9), literal(output, " " * 9), str(exit)]
+            rows.append("    (\n" + "".join(f"        {part},\n" for part in parts) + "    ),\n")
     return HEAD % len(rows) + "".join(rows) + "];\n"
 
 

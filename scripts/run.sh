@@ -1,12 +1,14 @@
 #!/usr/bin/env bash
-# Prints the replies of `txcache node` to a script, and builds the program first where it has to.
+# Prints what the program makes of a script, and builds it first where it has to.
 #
-# usage: scripts/run.sh SCRIPT
+# usage: scripts/run.sh SCRIPT [ARGUMENT..]      the program's arguments, `node` if there are none
 set -euo pipefail
 program=crates/txcache/out/txcache
 log=crates/txcache/out/build.log
 
-script=${1:?usage: scripts/run.sh SCRIPT}
+script=${1:?usage: scripts/run.sh SCRIPT [ARGUMENT..]}
+shift
+if [ $# = 0 ]; then set -- node; fi
 if [ -d "$script" ] || [ ! -r "$script" ]; then
     echo "run: $script: no such script, or it cannot be read" >&2
     exit 2
@@ -16,7 +18,7 @@ cd "$(dirname "$0")/.."
 
 # The sources of the program and of the libraries that it stands on.
 sources() {
-    find crates.txt crates/{txc_stamp,txc_tags,txc_node,txc_run,txcache} -path '*/out' -prune -o -type f \
+    find crates.txt crates/{txc_stamp,txc_tags,txc_node,txc_settings,txc_run,txc_arguments,txcache} -path '*/out' -prune -o -type f \
         \( -name crates.txt -o -name '*.rt' -o -name '*.antt' \) -newer "$program" -print
 }
 
@@ -31,7 +33,7 @@ if [ ! -x "$program" ] || [ -n "$(sources)" ]; then
 fi
 
 status=0
-"$program" node <"$script" || status=$?
+"$program" "$@" <"$script" || status=$?
 case $status in
     0) ;;
     1) echo "run: status 1: a line was refused or malformed" >&2 ;;

@@ -7,6 +7,8 @@
 #[cfg(test)]
 mod calling;
 #[cfg(test)]
+mod command;
+#[cfg(test)]
 mod node;
 #[cfg(test)]
 mod script;

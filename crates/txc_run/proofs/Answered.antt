@@ -1,5 +1,6 @@
 -- Lines that are answered one after another.
 use Rattle.std.proofs.Common.{◌≡◌, ◌≢◌, ℕ, ◌+◌, Bool, true, false, ◌||◌, zero, suc, List, [], ◌∷◌, ◌++◌, length, take, refl, sym, ap, subst, ◌∙◌, arith, append_assoc}
+use Rattle.std.specs.Prelude.{if◌then◌else◌}
 use Rattle.std.specs.List.{list_any, flat_map}
 use Rattle.std.proofs.lemmas.List.{append-nil, take_all, length-take}
 use Rattle.std.proofs.lemmas.List.Elements.{All-append, All-cons, All-nil}
@@ -8,18 +9,22 @@ use Rattle.std.proofs.lemmas.Grind.{flat_map-append}
 use Rattle.txc_node.specs.Cache.{Cache}
 use Rattle.txc_run.specs.Script.{BeginsWithLines, HasNoEnd, ended}
 use Rattle.txc_run.specs.Lines.{IsPlain, IsQuiet, IsStepLine}
-use Rattle.txc_run.specs.Runs.{Given, Nothing, Replied, Malformed, Gives, GoesOn, AreGiven, given_text, output_of, is_malformed}
+use Rattle.txc_run.specs.Given.{Given, Nothing, Replied, Malformed, Gives, GoesOn, AreGiven, is_malformed}
+use Rattle.txc_run.specs.Output.{line_text, lines_text, closing_text, output_of}
+use Rattle.txc_run.specs.Reports.{report_text}
+use Rattle.txc_settings.specs.declared.mode.Mode.{Mode}
+use Rattle.txc_settings.specs.declared.mode.Mode.TheVariants.{Node, Report}
 use Rattle.txc_run.specs.Sessions.{kept_of}
 use Rattle.txc_run.specs.declared.piece.TheConstants.{MAX_KEPT}
 
 goes_on : (g : Given) (lines : List (List ℕ)) → is_malformed g ≡ false → GoesOn g lines
 goes_on Nothing lines h = tt
-goes_on (Replied reply) lines h = tt
+goes_on (Replied op reply) lines h = tt
 goes_on (Malformed number) lines h = cc
 
 goes_nowhere : (g : Given) → GoesOn g []
 goes_nowhere Nothing = tt
-goes_nowhere (Replied reply) = tt
+goes_nowhere (Replied op reply) = tt
 goes_nowhere (Malformed number) = refl
 
 either_false : (a b : Bool) → (a || b) ≡ false → (a ≡ false) × (b ≡ false)
@@ -75,7 +80,7 @@ plain_whole line h = take_all MAX_KEPT line (omega (arith, h.few))
 
 pub gives_whole : (c : Cache) (n : ℕ) (line : List ℕ) (g : Given) (next : Cache) → Gives c n (kept_of line) g next → Gives c n line g next
 gives_whole c n line Nothing next h = (subst IsQuiet (plain_kept line h.0.0) h.0, h.1)
-gives_whole c n line (Replied reply) next h = (h.0, subst (λ l. IsStepLine l h.0) (plain_kept line h.1.0) h.1, h.2)
+gives_whole c n line (Replied op reply) next h = (subst (λ l. IsStepLine l op) (plain_kept line h.0.0) h.0, h.1)
 gives_whole c n line (Malformed k) next h = (
   record {
     not_quiet = λ quiet. h.0.not_quiet (subst IsQuiet (sym (plain_whole line quiet.0)) quiet);
@@ -87,8 +92,8 @@ gives_whole c n line (Malformed k) next h = (
 
 -- ---- the text, and tests of what lines give
 
-pub output_more : (given : List Given) (g : Given) → output_of (given ++ g ∷ []) ≡ output_of given ++ given_text g
-output_more given g = flat_map-append given_text given (g ∷ []) ∙ ap (λ (xs : List ℕ). output_of given ++ xs) (append-nil (given_text g))
+pub lines_text_more : (mode : Mode) (given : List Given) (g : Given) → lines_text mode (given ++ g ∷ []) ≡ lines_text mode given ++ line_text mode g
+lines_text_more mode given g = flat_map-append (line_text mode) given (g ∷ []) ∙ ap (λ (xs : List ℕ). lines_text mode given ++ xs) (append-nil (line_text mode g))
 
 or_nothing : (b : Bool) → (b || false) ≡ b
 or_nothing true = refl
@@ -97,6 +102,16 @@ or_nothing false = refl
 pub any_more : (p : Given → Bool) (given : List Given) (g : Given) → list_any p (given ++ g ∷ []) ≡ (list_any p given || p g)
 any_more p given g = list_any-append p given (g ∷ []) ∙ ap (λ b. list_any p given || b) (or_nothing (p g))
 
-pub text_more : (written old new : List ℕ) (given : List Given) (g : Given) → written ++ old ≡ output_of given → new ≡ old ++ given_text g → written ++ new ≡ output_of (given ++ g ∷ [])
-text_more written old new given g h e =
-    ap (λ (xs : List ℕ). written ++ xs) e ∙ sym (append_assoc written old (given_text g)) ∙ ap (λ (xs : List ℕ). xs ++ given_text g) h ∙ sym (output_more given g)
+pub text_more : (mode other : Mode) (written old new : List ℕ) (given : List Given) (g : Given) → other ≡ mode → written ++ old ≡ lines_text mode given → new ≡ old ++ line_text other g
+    → written ++ new ≡ lines_text mode (given ++ g ∷ [])
+text_more mode other written old new given g same h e =
+    ap (λ (xs : List ℕ). written ++ xs) e ∙ sym (append_assoc written old (line_text other g)) ∙ ap (λ (xs : List ℕ). xs ++ line_text other g) h
+    ∙ ap (λ (m : Mode). lines_text mode given ++ line_text m g) same ∙ sym (lines_text_more mode given g)
+
+-- what is written of a malformed line is all that is written at the end
+pub closed_malformed : (mode : Mode) (given : List Given) → list_any is_malformed given ≡ true → closing_text mode given ≡ []
+closed_malformed Node given h = refl
+closed_malformed Report given h = ap (λ (b : Bool). if b then [] else report_text given) h
+
+pub all_written : (mode : Mode) (text : List ℕ) (given : List Given) → list_any is_malformed given ≡ true → text ≡ lines_text mode given → text ≡ output_of mode given
+all_written mode text given h e = e ∙ sym (append-nil (lines_text mode given)) ∙ ap (λ (xs : List ℕ). lines_text mode given ++ xs) (sym (closed_malformed mode given h))

@@ -7,5 +7,7 @@ pub mod Answered
 pub mod LineRead
 pub mod SessionLines
 pub mod Turning
+pub mod Reporting
+pub mod Taking
 pub mod OneThing
 pub mod OneWay

@@ -8,7 +8,7 @@ use Rattle.txc_node.specs.declared.reply.Reply.TheVariants.{Refused}
 use Rattle.txc_node.specs.Cache.{Cache}
 use Rattle.txc_node.specs.Steps.{MayReply}
 use Rattle.txc_node.proofs.Offered.{replied_one_way}
-use Rattle.txc_run.specs.Runs.{Given, Nothing, Replied, Malformed, Gives, AreGiven}
+use Rattle.txc_run.specs.Given.{Given, Nothing, Replied, Malformed, Gives, AreGiven}
 use Rattle.txc_run.specs.Laws.{HadMemory}
 use Rattle.txc_run.proofs.OneThing.{no_quiet_step, one_step}
 
@@ -16,25 +16,25 @@ record SameGiven (a b : Given) (next other : Cache) : Type 0 where
   given : a ≡ b
   state : next ≡ other
 
-same_given : (c : Cache) (n : ℕ) (line : List ℕ) (a b : Given) (next other : Cache) → a ≢ Replied (Refused Memory) → b ≢ Replied (Refused Memory)
+same_given : (c : Cache) (n : ℕ) (line : List ℕ) (a b : Given) (next other : Cache) → ((op : Op) → a ≢ Replied op (Refused Memory)) → ((op : Op) → b ≢ Replied op (Refused Memory))
     → Gives c n line a next → Gives c n line b other → SameGiven a b next other
 same_given c n line Nothing Nothing next other u v h k = record { given = refl; state = h.1 ∙ sym k.1 }
 same_given c n line (Malformed m) (Malformed l) next other u v h k = record { given = ap Malformed (h.1 ∙ sym k.1); state = h.2 ∙ sym k.2 }
-same_given c n line (Replied r) (Replied s) next other u v h k =
-    let same : k.0 ≡ h.0 = one_step line k.0 h.0 k.1 h.1 in
-    let may : MayReply c h.0 s other = subst (λ (op : Op). MayReply c op s other) same k.2 in
-    let p = replied_one_way c h.0 r next (λ e. u (ap Replied e)) h.2 in
-    let q = replied_one_way c h.0 s other (λ e. v (ap Replied e)) may in
-    record { given = ap Replied (p.0 ∙ sym q.0); state = p.1 ∙ sym q.1 }
-same_given c n line Nothing (Replied s) next other u v h k = absurd (no_quiet_step line k.0 h.0 k.1)
+same_given c n line (Replied o r) (Replied p s) next other u v h k =
+    let same : p ≡ o = one_step line p o k.0 h.0 in
+    let may : MayReply c o s other = subst (λ (op : Op). MayReply c op s other) same k.1 in
+    let x = replied_one_way c o r next (λ e. u o (ap (Replied o) e)) h.1 in
+    let y = replied_one_way c o s other (λ e. v p (ap (Replied p) e)) may in
+    record { given = ap (λ (op : Op). Replied op r) (sym same) ∙ ap (Replied p) (x.0 ∙ sym y.0); state = x.1 ∙ sym y.1 }
+same_given c n line Nothing (Replied p s) next other u v h k = absurd (no_quiet_step line p h.0 k.0)
 same_given c n line Nothing (Malformed l) next other u v h k = absurd (k.0.not_quiet h.0)
-same_given c n line (Replied r) Nothing next other u v h k = absurd (no_quiet_step line h.0 k.0 h.1)
-same_given c n line (Replied r) (Malformed l) next other u v h k = absurd (k.0.no_step h.0 h.1)
+same_given c n line (Replied o r) Nothing next other u v h k = absurd (no_quiet_step line o k.0 h.0)
+same_given c n line (Replied o r) (Malformed l) next other u v h k = absurd (k.0.no_step o h.0)
 same_given c n line (Malformed m) Nothing next other u v h k = absurd (h.0.not_quiet k.0)
-same_given c n line (Malformed m) (Replied s) next other u v h k = absurd (h.0.no_step k.0 k.1)
+same_given c n line (Malformed m) (Replied p s) next other u v h k = absurd (h.0.no_step p k.0)
 
 one_way : (c : Cache) (n : ℕ) (lines : List (List ℕ)) (a b : List Given) (end other : Cache) → AreGiven c n lines a end → AreGiven c n lines b other
-    → AllByRecursion (λ g. g ≢ Replied (Refused Memory)) a → AllByRecursion (λ g. g ≢ Replied (Refused Memory)) b → (a ≡ b) × (end ≡ other)
+    → AllByRecursion (λ g. (op : Op) → g ≢ Replied op (Refused Memory)) a → AllByRecursion (λ g. (op : Op) → g ≢ Replied op (Refused Memory)) b → (a ≡ b) × (end ≡ other)
 one_way c n [] [] [] end other h k u v = (refl, h ∙ sym k)
 one_way c n [] [] (g ∷ b) end other h k u v = absurd k
 one_way c n [] (g ∷ a) b end other h k u v = absurd h
@@ -49,4 +49,4 @@ one_way c n (line ∷ lines) (f ∷ a) (g ∷ b) end other h k u v =
 pub answered_one_way : (c : Cache) (number : ℕ) (lines : List (List ℕ)) (a b : List Given) (end other : Cache)
     → AreGiven c number lines a end → AreGiven c number lines b other → HadMemory a → HadMemory b → (a ≡ b) × (end ≡ other)
 answered_one_way c number lines a b end other h k u v =
-    one_way c number lines a b end other h k (recursion_from_All (λ g. g ≢ Replied (Refused Memory)) a u) (recursion_from_All (λ g. g ≢ Replied (Refused Memory)) b v)
+    one_way c number lines a b end other h k (recursion_from_All (λ g. (op : Op) → g ≢ Replied op (Refused Memory)) a u) (recursion_from_All (λ g. (op : Op) → g ≢ Replied op (Refused Memory)) b v)

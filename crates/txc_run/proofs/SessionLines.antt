@@ -1,38 +1,47 @@
 -- A run answers its lines.
-use Rattle.std.proofs.Common.{◌≡◌, ◌≢◌, ℕ, ◌+◌, Bool, true, false, ◌||◌, List, [], ◌∷◌, ◌++◌, length, take, Ok, Err, Result, IfOk, OnErr, refl, sym, ap, subst, ◌∙◌, arith, append_assoc, eqb}
+use Rattle.std.proofs.Common.{◌≡◌, ◌≢◌, ℕ, ◌+◌, Bool, true, false, ◌||◌, suc, ◌≤◌, List, [], ◌∷◌, ◌++◌, length, take, Ok, Err, Result, IfOk, OnOk, OnErr, refl, sym, ap, subst, ◌∙◌, arith, append_assoc, eqb, inl, inr}
 use Rattle.std.specs.Prelude.{string_bytes}
 use Rattle.std.specs.List.{list_any}
 use Rattle.std.specs.declared.alloc.AllocError.{AllocError}
+use Rattle.std.proofs.lemmas.Bool.Decides.{nat_tests}
 use Rattle.std.proofs.lemmas.List.{append-nil, length-append}
 use Rattle.std.proofs.lemmas.List.Elements.{All-append, All-nil}
-use Rattle.txc_node.specs.Cache.{Cache}
-use Rattle.txc_run.specs.Script.{BeginsWithLines, HasNoEnd, last_line}
-use Rattle.txc_run.specs.Runs.{Given, Gives, AreGiven, is_malformed, is_refused, output_of}
-use Rattle.txc_run.specs.Sessions.{kept_of, flow_of, AnswersLine, HasAnswered, IsStopped, IsHalted, HasEnded, AnswersAs}
+use Rattle.txc_run.specs.Script.{BeginsWithLines, HasNoEnd, AreLinesOf, last_line}
+use Rattle.txc_run.specs.Given.{Given, Gives, AreGiven, is_malformed, is_refused}
+use Rattle.txc_run.specs.Output.{lines_text, closing_text}
+use Rattle.txc_settings.specs.declared.mode.Mode.{Mode}
+use Rattle.txc_settings.specs.declared.mode.Mode.TheVariants.{Report}
+use Rattle.txc_run.specs.Runs.{Start}
+use Rattle.txc_run.specs.Replies.{mode_of, HasCounted, counted_by}
+use Rattle.txc_run.specs.Sessions.{kept_of, flow_of, AnswersLine, HasAnswered, IsStopped, IsHalted, HasLast, HasEnded, IsUnclosed, AnswersAs, AnswersLast, EndsAs}
 use Rattle.txc_run.specs.declared.piece.TheConstants.{MAX_KEPT}
 use Rattle.txc_run.specs.declared.session.Session.{Session}
 use Rattle.txc_run.specs.declared.session.Flow.{Flow}
 use Rattle.txc_run.specs.declared.session.Flow.TheVariants.{GoesOn, Stopped}
-use Rattle.txc_run.proofs.Answered.{given_more, begins_more, begins_longer, kept_append, gives_whole, any_more, text_more}
+use Rattle.txc_run.proofs.Answered.{given_more, begins_more, begins_longer, kept_append, gives_whole, any_more, text_more, all_written}
 
 -- what holds where the line that began with `rest` was answered, as a line that is `line` whole
-record LineAdded (start : Cache) (written : List ℕ) (s : Session) (lines : List (List ℕ)) (given : List Given) : Type 0 where
-  are_given : AreGiven start 1 lines given s.node
-  text : written ++ string_bytes s.output ≡ output_of given
-  refused : s.is_refused ≡ list_any is_refused given
+record LineAdded (start : Start) (written : List ℕ) (s : Session) (lines : List (List ℕ)) (given : List Given) : Type 0 where
+  are_given : AreGiven start.cache 1 lines given s.node
+  mode : mode_of s.replies ≡ start.mode
+  text : written ++ string_bytes s.replies.text ≡ lines_text start.mode given
+  counted : HasCounted given s.replies
+  refused : s.replies.is_refused ≡ list_any is_refused given
   count : s.lines ≡ length lines
 
-added_line : (start : Cache) (read written before x : List ℕ) (s next : Session) (flow : Flow) (h : HasAnswered start read written s) → x ≡ kept_of (h.rest ++ before)
-    → (a : AnswersLine (record s { line = x }) next flow) → LineAdded start written next (h.lines ++ (h.rest ++ before) ∷ []) (h.given ++ a.given ∷ [])
-added_line start read written before x s next flow h is a =
+added_line : (start : Start) (read written before x : List ℕ) (s next : Session) (flow : Flow) (k : counted_by s.replies ≤ s.lines) (h : HasAnswered start read written s) → x ≡ kept_of (h.rest ++ before)
+    → (a : AnswersLine (record s { line = x; counted = k }) next flow) → LineAdded start written next (h.lines ++ (h.rest ++ before) ∷ []) (h.given ++ a.given ∷ [])
+added_line start read written before x s next flow k h is a =
     let line = h.rest ++ before in
     let number : s.lines + 1 ≡ 1 + length h.lines = omega (arith, h.count) in
     let gives : Gives s.node (1 + length h.lines) line a.given next.node = gives_whole s.node (1 + length h.lines) line a.given next.node
-    (subst (λ (l : List ℕ). Gives s.node (1 + length h.lines) l a.given next.node) is (subst (λ (k : ℕ). Gives s.node k x a.given next.node) number a.gives)) in
+    (subst (λ (l : List ℕ). Gives s.node (1 + length h.lines) l a.given next.node) is (subst (λ (m : ℕ). Gives s.node m x a.given next.node) number a.gives)) in
     record {
-      are_given = given_more start 1 h.lines h.given s.node line a.given next.node h.are_given h.well_formed gives;
-      text = text_more written (string_bytes s.output) (string_bytes next.output) h.given a.given h.text a.text;
-      refused = a.refused ∙ ap (λ (b : Bool). b || is_refused a.given) h.refused ∙ sym (any_more is_refused h.given a.given);
+      are_given = given_more start.cache 1 h.lines h.given s.node line a.given next.node h.are_given h.well_formed gives;
+      mode = a.takes.mode ∙ h.mode;
+      text = text_more start.mode (mode_of s.replies) written (string_bytes s.replies.text) (string_bytes next.replies.text) h.given a.given h.mode h.text a.takes.text;
+      counted = a.takes.counted h.given h.counted;
+      refused = a.takes.refused ∙ ap (λ (b : Bool). b || is_refused a.given) h.refused ∙ sym (any_more is_refused h.given a.given);
       count = omega (arith, a.count, h.count, length-append h.lines (line ∷ []));
     }
 
@@ -40,12 +49,12 @@ no_end : HasNoEnd []
 no_end = λ k d l. absurd (omega arith)
 
 -- the line that ends after `before` was answered
-pub answered_line : (start : Cache) (read written before x : List ℕ) (s next : Session) (flow : Flow) (h : HasAnswered start read written s) → HasNoEnd before
-    → x ≡ take MAX_KEPT (s.line ++ before) → AnswersLine (record s { line = x }) next flow → AnswersAs start (read ++ (before ++ 10 ∷ [])) written next (Ok flow)
-answered_line start read written before x s next flow h bare is a =
+pub answered_line : (start : Start) (read written before x : List ℕ) (s next : Session) (flow : Flow) (k : counted_by s.replies ≤ s.lines) (h : HasAnswered start read written s) → HasNoEnd before
+    → x ≡ take MAX_KEPT (s.line ++ before) → AnswersLine (record s { line = x; counted = k }) next flow → AnswersAs start (read ++ (before ++ 10 ∷ [])) written next (Ok flow)
+answered_line start read written before x s next flow k h bare is a =
     let line = h.rest ++ before in
     let whole : x ≡ kept_of line = is ∙ ap (λ (l : List ℕ). take MAX_KEPT (l ++ before)) h.kept ∙ kept_append MAX_KEPT h.rest before in
-    let added = added_line start read written before x s next flow h whole a in
+    let added = added_line start read written before x s next flow k h whole a in
     let begins = begins_more read h.lines h.rest before h.begins h.not_ended bare in
     let malformed : list_any is_malformed (h.given ++ a.given ∷ []) ≡ is_malformed a.given = any_more is_malformed h.given a.given ∙ ap (λ (b : Bool). b || is_malformed a.given) h.well_formed in
     let go : (b : Bool) → is_malformed a.given ≡ b → AnswersAs start (read ++ (before ++ 10 ∷ [])) written next (Ok (flow_of b)) = λ b. elim b as (λ v. is_malformed a.given ≡ v → AnswersAs start (read ++ (before ++ 10 ∷ [])) written next (Ok (flow_of v))) [
@@ -55,7 +64,7 @@ answered_line start read written before x s next flow h bare is a =
         others = [];
         answers = record { end = next.node; are_given = added.are_given };
         begins = begins;
-        text = added.text;
+        text = all_written start.mode _ (h.given ++ a.given ∷ []) (malformed ∙ e) added.text;
         refused = added.refused;
         malformed = malformed ∙ e;
       })
@@ -67,7 +76,9 @@ answered_line start read written before x s next flow h bare is a =
         begins = begins;
         not_ended = no_end;
         kept = a.emptied;
+        mode = added.mode;
         text = added.text;
+        counted = added.counted;
         count = added.count;
         refused = added.refused;
         well_formed = malformed ∙ e;
@@ -76,9 +87,9 @@ answered_line start read written before x s next flow h bare is a =
     subst (λ (f : Flow). AnswersAs start (read ++ (before ++ 10 ∷ [])) written next (Ok f)) (sym a.flow_is) (go (is_malformed a.given) refl)
 
 -- a line goes on
-pub extended_line : (start : Cache) (read written before x : List ℕ) (s : Session) → HasAnswered start read written s → HasNoEnd before → x ≡ take MAX_KEPT (s.line ++ before)
-    → HasAnswered start (read ++ before) written (record s { line = x })
-extended_line start read written before x s h bare is = record {
+pub extended_line : (start : Start) (read written before x : List ℕ) (s : Session) (k : counted_by s.replies ≤ s.lines) → HasAnswered start read written s → HasNoEnd before → x ≡ take MAX_KEPT (s.line ++ before)
+    → HasAnswered start (read ++ before) written (record s { line = x; counted = k })
+extended_line start read written before x s k h bare is = record {
   lines = h.lines;
   given = h.given;
   rest = h.rest ++ before;
@@ -86,14 +97,16 @@ extended_line start read written before x s h bare is = record {
   begins = begins_longer read h.lines h.rest before h.begins;
   not_ended = All-append (λ b. b ≢ 10) h.rest before h.not_ended bare;
   kept = is ∙ ap (λ (l : List ℕ). take MAX_KEPT (l ++ before)) h.kept ∙ kept_append MAX_KEPT h.rest before;
+  mode = h.mode;
   text = h.text;
+  counted = h.counted;
   count = h.count;
   refused = h.refused;
   well_formed = h.well_formed;
 }
 
 -- memory ran out after what was answered
-pub halted : (start : Cache) (read written more : List ℕ) (s next : Session) → HasAnswered start read written s → string_bytes next.output ≡ string_bytes s.output
+pub halted : (start : Start) (read written more : List ℕ) (s next : Session) → HasAnswered start read written s → string_bytes next.replies.text ≡ string_bytes s.replies.text
     → IsHalted start (read ++ more) written next
 halted start read written more s next h e = record {
   lines = h.lines;
@@ -105,14 +118,14 @@ halted start read written more s next h e = record {
   well_formed = h.well_formed;
 }
 
-pub answered_end : (start : Cache) (read written before x : List ℕ) (s next : Session) (r : Result Flow AllocError) → HasNoEnd before
-    → x ≡ take MAX_KEPT (s.line ++ before) → IfOk r (AnswersLine (record s { line = x }) next) → OnErr r (string_bytes next.output ≡ string_bytes s.output)
+pub answered_end : (start : Start) (read written before x : List ℕ) (s next : Session) (k : counted_by s.replies ≤ s.lines) (r : Result Flow AllocError) → HasNoEnd before
+    → x ≡ take MAX_KEPT (s.line ++ before) → IfOk r (AnswersLine (record s { line = x; counted = k }) next) → OnErr r (string_bytes next.replies.text ≡ string_bytes s.replies.text)
     → HasAnswered start read written s → AnswersAs start (read ++ (before ++ 10 ∷ [])) written next r
-answered_end start read written before x s next (Ok flow) bare is a e h = answered_line start read written before x s next flow h bare is a
-answered_end start read written before x s next (Err error) bare is a e h = halted start read written (before ++ 10 ∷ []) s next h e
+answered_end start read written before x s next k (Ok flow) bare is a e h = answered_line start read written before x s next flow k h bare is a
+answered_end start read written before x s next k (Err error) bare is a e h = halted start read written (before ++ 10 ∷ []) s next h e
 
 -- what is read after a malformed line, and once memory ran out, is not looked at
-pub stopped_longer : (start : Cache) (read written more all : List ℕ) (s : Session) → read ++ more ≡ all → IsStopped start read written s → IsStopped start all written s
+pub stopped_longer : (start : Start) (read written more all : List ℕ) (s : Session) → read ++ more ≡ all → IsStopped start read written s → IsStopped start all written s
 stopped_longer start read written more all s e h = record {
   lines = h.lines;
   given = h.given;
@@ -124,7 +137,7 @@ stopped_longer start read written more all s e h = record {
   malformed = h.malformed;
 }
 
-pub halted_longer : (start : Cache) (read written more all : List ℕ) (s : Session) → read ++ more ≡ all → IsHalted start read written s → IsHalted start all written s
+pub halted_longer : (start : Start) (read written more all : List ℕ) (s : Session) → read ++ more ≡ all → IsHalted start read written s → IsHalted start all written s
 halted_longer start read written more all s e h = record {
   lines = h.lines;
   given = h.given;
@@ -142,8 +155,9 @@ rejoined read done before after rest all e f = simp append_assoc (ap (λ (xs : L
 pub split_more : (done before after rest all : List ℕ) → all ≡ done ++ rest → rest ≡ before ++ 10 ∷ after → all ≡ (done ++ (before ++ 10 ∷ [])) ++ after
 split_more done before after rest all e f = simp append_assoc (e ∙ ap (λ (xs : List ℕ). done ++ xs) f)
 
-pub nothing_answered : (start : Cache) (s : Session) → s.node ≡ start → s.lines ≡ 0 → s.is_refused ≡ false → s.line ≡ [] → string_bytes s.output ≡ [] → HasAnswered start [] [] s
-nothing_answered start s node lines refused line output = record {
+pub nothing_answered : (start : Start) (s : Session) → s.node ≡ start.cache → s.lines ≡ 0 → s.line ≡ [] → mode_of s.replies ≡ start.mode → s.replies.is_refused ≡ false
+    → string_bytes s.replies.text ≡ [] → HasCounted [] s.replies → HasAnswered start [] [] s
+nothing_answered start s node lines line mode refused output counted = record {
   lines = [];
   given = [];
   rest = [];
@@ -151,10 +165,31 @@ nothing_answered start s node lines refused line output = record {
   begins = record { joined = refl; each_is_one = All-nil HasNoEnd };
   not_ended = no_end;
   kept = line;
+  mode = mode;
   text = output;
+  counted = counted;
   count = lines;
   refused = refused;
   well_formed = refl;
+}
+
+none_taken : (n : ℕ) (xs : List ℕ) → take (suc n) xs ≡ [] → xs ≡ []
+none_taken n [] h = refl
+none_taken n (x ∷ xs) h = cc
+
+nothing_kept : (rest : List ℕ) → kept_of rest ≡ [] → rest ≡ []
+nothing_kept rest h = none_taken 4096 rest h
+
+halted_same : (start : Start) (read written : List ℕ) (s next : Session) → HasAnswered start read written s → string_bytes next.replies.text ≡ string_bytes s.replies.text
+    → IsHalted start read written next
+halted_same start read written s next h e = record {
+  lines = h.lines;
+  given = h.given;
+  others = h.rest;
+  answers = record { end = s.node; are_given = h.are_given };
+  begins = h.begins;
+  text = ap (λ (xs : List ℕ). written ++ xs) e ∙ h.text;
+  well_formed = h.well_formed;
 }
 
 last_of_one : (rest : List ℕ) → (rest ≡ [] → ⊥) → last_line rest ≡ rest ∷ []
@@ -162,34 +197,119 @@ last_of_one [] h = absurd (h refl)
 last_of_one (b ∷ rest) h = refl
 
 -- the last line, whose line feed is missing, was answered
-pub ended_line : (start : Cache) (read written : List ℕ) (s next : Session) (flow : Flow) → HasAnswered start read written s → (s.line ≡ [] → ⊥)
-    → AnswersLine s next flow → HasEnded start read written next
+ended_line : (start : Start) (read written : List ℕ) (s next : Session) (flow : Flow) → HasAnswered start read written s → (s.line ≡ [] → ⊥)
+    → AnswersLine s next flow → AnswersLast start read written next (Ok flow)
 ended_line start read written s next flow h some a =
     let line = h.rest ++ [] in
     let same : line ≡ h.rest = append-nil h.rest in
-    let added = added_line start read written [] s.line s next flow h (h.kept ∙ ap kept_of (sym same)) a in
+    let added = added_line start read written [] s.line s next flow s.counted h (h.kept ∙ ap kept_of (sym same)) a in
     let not_empty : h.rest ≡ [] → ⊥ = λ e. some (h.kept ∙ ap kept_of e) in
+    let all : AreLinesOf read (h.lines ++ line ∷ []) =
+    (h.lines, h.rest, h.begins, h.not_ended, ap (λ (l : List ℕ). h.lines ++ l ∷ []) same ∙ ap (λ (ls : List (List ℕ)). h.lines ++ ls) (sym (last_of_one h.rest not_empty))) in
+    let malformed : list_any is_malformed (h.given ++ a.given ∷ []) ≡ is_malformed a.given = any_more is_malformed h.given a.given ∙ ap (λ (b : Bool). b || is_malformed a.given) h.well_formed in
+    let go : (b : Bool) → is_malformed a.given ≡ b → AnswersLast start read written next (Ok (flow_of b)) = λ b. elim b as (λ v. is_malformed a.given ≡ v → AnswersLast start read written next (Ok (flow_of v))) [
+      | true ↦ (λ e. record {
+        lines = h.lines ++ line ∷ [];
+        given = h.given ++ a.given ∷ [];
+        answers = record { end = next.node; are_given = added.are_given };
+        all = all;
+        text = all_written start.mode _ (h.given ++ a.given ∷ []) (malformed ∙ e) added.text;
+        refused = added.refused;
+      })
+      | false ↦ (λ e. record {
+        lines = h.lines ++ line ∷ [];
+        given = h.given ++ a.given ∷ [];
+        answers = record { end = next.node; are_given = added.are_given };
+        all = all;
+        mode = added.mode;
+        text = added.text;
+        counted = added.counted;
+        refused = added.refused;
+        well_formed = malformed ∙ e;
+      })
+    ] in
+    subst (λ (f : Flow). AnswersLast start read written next (Ok f)) (sym a.flow_is) (go (is_malformed a.given) refl)
+
+pub answered_last : (start : Start) (read written : List ℕ) (s next : Session) (r : Result Flow AllocError) → HasAnswered start read written s → (s.line ≡ [] → ⊥)
+    → IfOk r (AnswersLine s next) → OnErr r (string_bytes next.replies.text ≡ string_bytes s.replies.text) → AnswersLast start read written next r
+answered_last start read written s next (Ok flow) h some a e = ended_line start read written s next flow h some a
+answered_last start read written s next (Err error) h some a e = halted_same start read written s next h e
+
+-- no line was left
+pub none_left : (start : Start) (read written : List ℕ) (s : Session) → HasAnswered start read written s → s.line ≡ [] → HasLast start read written s
+none_left start read written s h none = record {
+  lines = h.lines;
+  given = h.given;
+  answers = record { end = s.node; are_given = h.are_given };
+  all = (h.lines, h.rest, h.begins, h.not_ended, sym (append-nil h.lines) ∙ ap (λ (rest : List ℕ). h.lines ++ last_line rest) (sym (nothing_kept h.rest (sym h.kept ∙ none))));
+  mode = h.mode;
+  text = h.text;
+  counted = h.counted;
+  refused = h.refused;
+  well_formed = h.well_formed;
+}
+
+-- the report was put after the lines
+closed : (start : Start) (read written : List ℕ) (s next : Session) → HasLast start read written s → next.replies.is_refused ≡ s.replies.is_refused
+    → ((given : List Given) → HasCounted given s.replies → list_any is_malformed given ≡ false
+    → string_bytes next.replies.text ≡ string_bytes s.replies.text ++ closing_text (mode_of s.replies) given) → HasEnded start read written next
+closed start read written s next h refused closes =
+    let text = closes h.given h.counted h.well_formed in
     record {
-      lines = h.lines ++ line ∷ [];
-      given = h.given ++ a.given ∷ [];
-      answers = record { end = next.node; are_given = added.are_given };
-      all = (h.lines, h.rest, h.begins, h.not_ended, ap (λ (l : List ℕ). h.lines ++ l ∷ []) same ∙ ap (λ (ls : List (List ℕ)). h.lines ++ ls) (sym (last_of_one h.rest not_empty)));
-      text = added.text;
-      refused = added.refused;
+      lines = h.lines;
+      given = h.given;
+      answers = h.answers;
+      all = h.all;
+      text = ap (λ (xs : List ℕ). written ++ xs) text ∙ sym (append_assoc written (string_bytes s.replies.text) _) ∙ ap (λ (xs : List ℕ). xs ++ closing_text (mode_of s.replies) h.given) h.text
+          ∙ ap (λ (m : Mode). lines_text start.mode h.given ++ closing_text m h.given) h.mode;
+      refused = refused ∙ h.refused;
     }
 
+-- memory ran out at the end
+unclosed_last : (start : Start) (read written : List ℕ) (s next : Session) → HasLast start read written s → string_bytes next.replies.text ≡ string_bytes s.replies.text
+    → mode_of s.replies ≡ Report → IsUnclosed start read written next
+unclosed_last start read written s next h e reports = record {
+  lines = h.lines;
+  given = h.given;
+  answers = h.answers;
+  first = inr (sym h.mode ∙ reports, h.all);
+  text = ap (λ (xs : List ℕ). written ++ xs) e ∙ h.text;
+  well_formed = h.well_formed;
+}
+
+-- the end of the script was taken
+pub finished : (start : Start) (read written : List ℕ) (s next : Session) (r : Result (Unit {0}) AllocError) → next.replies.is_refused ≡ s.replies.is_refused
+    → OnOk r ((given : List Given) → HasCounted given s.replies → list_any is_malformed given ≡ false
+    → string_bytes next.replies.text ≡ string_bytes s.replies.text ++ closing_text (mode_of s.replies) given)
+    → OnErr r (string_bytes next.replies.text ≡ string_bytes s.replies.text) → OnErr r (mode_of s.replies ≡ Report) → HasLast start read written s → EndsAs start read written next r
+finished start read written s next (Ok x) refused closes same reports h = closed start read written s next h refused closes
+finished start read written s next (Err e) refused closes same reports h = unclosed_last start read written s next h same reports
+
+pub has_last : (start : Start) (read written : List ℕ) (s : Session) (flow : Flow) → flow ≡ GoesOn → AnswersLast start read written s (Ok flow) → HasLast start read written s
+has_last start read written s flow e h = subst (λ (f : Flow). AnswersLast start read written s (Ok f)) e h
+
+pub has_ended : (start : Start) (read written : List ℕ) (s : Session) (flow : Flow) → flow ≡ Stopped → AnswersLast start read written s (Ok flow) → HasEnded start read written s
+has_ended start read written s flow e h = subst (λ (f : Flow). AnswersLast start read written s (Ok f)) e h
+
+pub unclosed : (start : Start) (read written : List ℕ) (s : Session) → IsHalted start read written s → IsUnclosed start read written s
+unclosed start read written s h = record { lines = h.lines; given = h.given; answers = h.answers; first = inl (h.others, h.begins); text = h.text; well_formed = h.well_formed }
+
 -- the same bytes in one list
-pub answers_same : (start : Cache) (a b written : List ℕ) (s : Session) (r : Result Flow AllocError) → a ≡ b → AnswersAs start a written s r → AnswersAs start b written s r
+pub answers_same : (start : Start) (a b written : List ℕ) (s : Session) (r : Result Flow AllocError) → a ≡ b → AnswersAs start a written s r → AnswersAs start b written s r
 answers_same start a b written s r e h = subst (λ (xs : List ℕ). AnswersAs start xs written s r) e h
 
-pub stopped_of : (start : Cache) (read written : List ℕ) (s : Session) (flow : Flow) → flow ≡ Stopped → AnswersAs start read written s (Ok flow) → IsStopped start read written s
+pub stopped_of : (start : Start) (read written : List ℕ) (s : Session) (flow : Flow) → flow ≡ Stopped → AnswersAs start read written s (Ok flow) → IsStopped start read written s
 stopped_of start read written s flow e h = subst (λ (f : Flow). AnswersAs start read written s (Ok f)) e h
 
-pub answered_of : (start : Cache) (read written : List ℕ) (s : Session) (flow : Flow) → flow ≡ GoesOn → AnswersAs start read written s (Ok flow) → HasAnswered start read written s
+pub answered_of : (start : Start) (read written : List ℕ) (s : Session) (flow : Flow) → flow ≡ GoesOn → AnswersAs start read written s (Ok flow) → HasAnswered start read written s
 answered_of start read written s flow e h = subst (λ (f : Flow). AnswersAs start read written s (Ok f)) e h
 
-pub answered_same : (start : Cache) (a b written : List ℕ) (s : Session) → a ≡ b → HasAnswered start a written s → HasAnswered start b written s
+pub answered_same : (start : Start) (a b written : List ℕ) (s : Session) → a ≡ b → HasAnswered start a written s → HasAnswered start b written s
 answered_same start a b written s e h = subst (λ (xs : List ℕ). HasAnswered start xs written s) e h
+
+pub is_nothing : (xs : List ℕ) → eqb (length xs) 0 ≡ true → xs ≡ []
+is_nothing [] h = refl
+is_nothing (x ∷ xs) h = let none : length (x ∷ xs) ≡ 0 = grind (arith, nat_tests, h) in absurd (omega (arith, none))
 
 pub not_nothing : (xs : List ℕ) → eqb (length xs) 0 ≡ false → xs ≡ [] → ⊥
 not_nothing [] h e = cc

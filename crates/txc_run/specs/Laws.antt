@@ -7,7 +7,7 @@ use Rattle.txc_node.specs.declared.reply.Reply.TheVariants.{Refused}
 use Rattle.txc_node.specs.Cache.{Cache}
 use Rattle.txc_run.specs.Lines.{IsQuiet, IsStepLine}
 use Rattle.txc_run.specs.Reading.{IsLine}
-use Rattle.txc_run.specs.Runs.{Given, Replied, AreGiven}
+use Rattle.txc_run.specs.Given.{Given, Replied, AreGiven}
 use Rattle.txc_run.specs.declared.line.Line.{Line}
 
 -- no line without a reply names a step
@@ -24,7 +24,7 @@ IsOneThing = (line : List ℕ) (a b : Line) → IsLine line a → IsLine line b 
 
 -- no step was refused for memory
 abbrev pub HadMemory : List Given → Type 0
-HadMemory given = All (λ g. g ≢ Replied (Refused Memory)) given
+HadMemory given = All (λ g. (op : Op) → g ≢ Replied op (Refused Memory)) given
 
 -- Lines that are answered from one state, where no step is refused for memory, are answered in one way: they
 -- give the same, and leave the same state.

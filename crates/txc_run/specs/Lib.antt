@@ -4,8 +4,11 @@ pub mod Words
 pub mod Written
 pub mod Reads
 pub mod Lines
-pub mod Replies
+pub mod Given
+pub mod Reports
+pub mod Output
 pub mod Runs
+pub mod Replies
 pub mod Reading
 pub mod Sessions
 pub mod Turns

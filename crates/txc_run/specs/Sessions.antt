@@ -1,12 +1,13 @@
 -- Only private functions need this file: a run in progress.
-use Rattle.std.specs.Prelude.{◌≡◌, ℕ, ◌+◌, Bool, ◌||◌, true, false, List, [], ◌++◌, Result, Ok, Err, length, take, string_bytes}
+use Rattle.std.specs.Prelude.{◌≡◌, ℕ, ◌+◌, Bool, true, false, List, [], ◌++◌, Result, Ok, Err, length, take, string_bytes}
 use Rattle.std.specs.List.{list_any}
 use Rattle.std.specs.declared.alloc.AllocError.{AllocError}
-use Rattle.txc_node.specs.Cache.{Cache}
 use Rattle.txc_run.specs.Script.{BeginsWithLines, HasNoEnd, AreLinesOf}
-use Rattle.txc_run.specs.Runs.{Given, Gives, AreGiven, Answers, given_text, output_of, is_refused, is_malformed}
+use Rattle.txc_run.specs.Given.{Given, Gives, AreGiven, is_refused, is_malformed}
+use Rattle.txc_run.specs.Output.{lines_text, output_of}
+use Rattle.txc_run.specs.Replies.{mode_of, HasCounted, Takes}
+use Rattle.txc_run.specs.Runs.{Start, Answers, AreLinesBefore}
 use Rattle.txc_run.specs.declared.piece.TheConstants.{MAX_KEPT}
-use Rattle.txc_run.specs.declared.reply.ReplyLine.{ReplyLine}
 use Rattle.txc_run.specs.declared.session.Session.{Session}
 use Rattle.txc_run.specs.declared.session.Flow.{Flow}
 use Rattle.txc_run.specs.declared.session.Flow.TheVariants.{GoesOn, Stopped}
@@ -20,83 +21,106 @@ abbrev pub flow_of : Bool → Flow
 flow_of false = GoesOn
 flow_of true = Stopped
 
--- the reply's text is at hand after those before it
-pub record AddsReply (old new : Session) (reply : ReplyLine) : Type 0 where
-  pub text : string_bytes new.output ≡ string_bytes old.output ++ string_bytes reply.text
-  pub refused : new.is_refused ≡ (old.is_refused || reply.is_refusal)
-  pub node : new.node ≡ old.node
-  pub line : new.line ≡ old.line
-
 -- the line that ended was answered
 pub record AnswersLine (old new : Session) (flow : Flow) : Type 0 where
   pub given : Given
   pub gives : Gives old.node (old.lines + 1) old.line given new.node
-  pub text : string_bytes new.output ≡ string_bytes old.output ++ given_text given
-  pub refused : new.is_refused ≡ (old.is_refused || is_refused given)
+  pub takes : Takes old.replies new.replies given
   pub flow_is : flow ≡ flow_of (is_malformed given)
   pub emptied : new.line ≡ []
   pub count : new.lines ≡ old.lines + 1
 
 -- the lines that have ended were answered, and none was malformed; these bytes were written, and the rest
 -- of the replies is at hand
-pub record HasAnswered (start : Cache) (read written : List ℕ) (s : Session) : Type 0 where
+pub record HasAnswered (start : Start) (read written : List ℕ) (s : Session) : Type 0 where
   pub lines : List (List ℕ)
   pub given : List Given
   pub rest : List ℕ
-  pub are_given : AreGiven start 1 lines given s.node
+  pub are_given : AreGiven start.cache 1 lines given s.node
   pub begins : BeginsWithLines read lines rest
   pub not_ended : HasNoEnd rest
   pub kept : s.line ≡ kept_of rest
-  pub text : written ++ string_bytes s.output ≡ output_of given
+  pub mode : mode_of s.replies ≡ start.mode
+  pub text : written ++ string_bytes s.replies.text ≡ lines_text start.mode given
+  pub counted : HasCounted given s.replies
   pub count : s.lines ≡ length lines
-  pub refused : s.is_refused ≡ list_any is_refused given
+  pub refused : s.replies.is_refused ≡ list_any is_refused given
   pub well_formed : list_any is_malformed given ≡ false
 
 -- first lines were answered, and the last of them was malformed
-pub record IsStopped (start : Cache) (read written : List ℕ) (s : Session) : Type 0 where
+pub record IsStopped (start : Start) (read written : List ℕ) (s : Session) : Type 0 where
   pub lines : List (List ℕ)
   pub given : List Given
   pub others : List ℕ
   pub answers : Answers start lines given
   pub begins : BeginsWithLines read lines others
-  pub text : written ++ string_bytes s.output ≡ output_of given
-  pub refused : s.is_refused ≡ list_any is_refused given
+  pub text : written ++ string_bytes s.replies.text ≡ output_of start.mode given
+  pub refused : s.replies.is_refused ≡ list_any is_refused given
   pub malformed : list_any is_malformed given ≡ true
 
 -- first lines were answered, none of them malformed, as far as there was memory
-pub record IsHalted (start : Cache) (read written : List ℕ) (s : Session) : Type 0 where
+pub record IsHalted (start : Start) (read written : List ℕ) (s : Session) : Type 0 where
   pub lines : List (List ℕ)
   pub given : List Given
   pub others : List ℕ
   pub answers : Answers start lines given
   pub begins : BeginsWithLines read lines others
-  pub text : written ++ string_bytes s.output ≡ output_of given
+  pub text : written ++ string_bytes s.replies.text ≡ lines_text start.mode given
   pub well_formed : list_any is_malformed given ≡ false
 
--- all lines of the script were answered
-pub record HasEnded (start : Cache) (read written : List ℕ) (s : Session) : Type 0 where
+-- all lines of the script were answered, and all that is written of them is at hand
+pub record HasEnded (start : Start) (read written : List ℕ) (s : Session) : Type 0 where
   pub lines : List (List ℕ)
   pub given : List Given
   pub answers : Answers start lines given
   pub all : AreLinesOf read lines
-  pub text : written ++ string_bytes s.output ≡ output_of given
-  pub refused : s.is_refused ≡ list_any is_refused given
+  pub text : written ++ string_bytes s.replies.text ≡ output_of start.mode given
+  pub refused : s.replies.is_refused ≡ list_any is_refused given
+
+-- first lines were answered, or all where the report could not be made, and none was malformed; what is written
+-- after all lines is not at hand
+pub record IsUnclosed (start : Start) (read written : List ℕ) (s : Session) : Type 0 where
+  pub lines : List (List ℕ)
+  pub given : List Given
+  pub answers : Answers start lines given
+  pub first : AreLinesBefore start.mode read lines
+  pub text : written ++ string_bytes s.replies.text ≡ lines_text start.mode given
+  pub well_formed : list_any is_malformed given ≡ false
 
 -- the lines that end in the bytes were answered: the session goes on, or was stopped by a malformed line, or
 -- is out of memory
-abbrev pub AnswersAs : Cache → List ℕ → List ℕ → Session → Result Flow AllocError → Type 0
+abbrev pub AnswersAs : Start → List ℕ → List ℕ → Session → Result Flow AllocError → Type 0
 AnswersAs start read written s (Ok GoesOn) = HasAnswered start read written s
 AnswersAs start read written s (Ok Stopped) = IsStopped start read written s
 AnswersAs start read written s (Err e) = IsHalted start read written s
 
--- the last line was answered, or the session is out of memory
-abbrev pub EndsAs : {T : Type 0} → Cache → List ℕ → List ℕ → Session → Result T AllocError → Type 0
+-- all lines of the script were answered, and none was malformed; what is written after them is not at hand
+pub record HasLast (start : Start) (read written : List ℕ) (s : Session) : Type 0 where
+  pub lines : List (List ℕ)
+  pub given : List Given
+  pub answers : Answers start lines given
+  pub all : AreLinesOf read lines
+  pub mode : mode_of s.replies ≡ start.mode
+  pub text : written ++ string_bytes s.replies.text ≡ lines_text start.mode given
+  pub counted : HasCounted given s.replies
+  pub refused : s.replies.is_refused ≡ list_any is_refused given
+  pub well_formed : list_any is_malformed given ≡ false
+
+-- the last line was answered, or was malformed, or the session is out of memory
+abbrev pub AnswersLast : Start → List ℕ → List ℕ → Session → Result Flow AllocError → Type 0
+AnswersLast start read written s (Ok GoesOn) = HasLast start read written s
+AnswersLast start read written s (Ok Stopped) = HasEnded start read written s
+AnswersLast start read written s (Err e) = IsHalted start read written s
+
+-- all lines were answered, and what is written after them is at hand; or the session is out of memory
+abbrev pub EndsAs : {T : Type 0} → Start → List ℕ → List ℕ → Session → Result T AllocError → Type 0
 EndsAs start read written s (Ok x) = HasEnded start read written s
-EndsAs start read written s (Err e) = IsHalted start read written s
+EndsAs start read written s (Err e) = IsUnclosed start read written s
 
 -- all but the replies at hand stay as they were
 pub record IsKeptBeside (old new : Session) : Type 0 where
   pub node : new.node ≡ old.node
   pub lines : new.lines ≡ old.lines
-  pub refused : new.is_refused ≡ old.is_refused
+  pub refused : new.replies.is_refused ≡ old.replies.is_refused
+  pub report : new.replies.report ≡ old.replies.report
   pub line : new.line ≡ old.line

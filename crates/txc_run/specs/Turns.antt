@@ -1,8 +1,7 @@
 -- Only private functions need this file: one read of a run.
 use Rattle.std.specs.Prelude.{◌≡◌, ℕ, Bool, List, [], ◌++◌, Option, Result, Ok, Err, string_bytes, ◌⊎◌, if◌then◌else◌}
 use Rattle.std.specs.Io.KnownBytes.{Appends, Keeps}
-use Rattle.txc_node.specs.Cache.{Cache}
-use Rattle.txc_run.specs.Runs.{HasWritten}
+use Rattle.txc_run.specs.Runs.{Start, HasWritten}
 use Rattle.txc_run.specs.Sessions.{HasAnswered}
 use Rattle.txc_run.specs.declared.fault.Status.{Status}
 use Rattle.txc_run.specs.declared.fault.Status.TheVariants.{Done, Refused}
@@ -13,7 +12,7 @@ use Rattle.txc_run.specs.declared.session.Flow.{Flow}
 use Rattle.txc_run.specs.declared.session.Flow.TheVariants.{GoesOn, Stopped}
 
 -- more bytes were written after these, and the run ended so
-abbrev pub EndsWith : Cache → List ℕ → Type 0 → List ℕ → Option (List ℕ) → Option (List ℕ)
+abbrev pub EndsWith : Start → List ℕ → Type 0 → List ℕ → Option (List ℕ) → Option (List ℕ)
     → Result Status RunFault → Type 0
 EndsWith start read at_end written contents_old contents_new result =
     (more : List ℕ) × Appends contents_old contents_new more
@@ -25,13 +24,13 @@ status_by refused = if refused then Refused else Done
 
 -- the lines that end in the bytes of a read were answered, and the replies written: the run goes on, or it
 -- ends so
-abbrev pub TurnsTo : Cache → List ℕ → List ℕ → Session → Option (List ℕ) → Option (List ℕ)
+abbrev pub TurnsTo : Start → List ℕ → List ℕ → Session → Option (List ℕ) → Option (List ℕ)
     → Result Flow RunFault → Type 0
 TurnsTo start read written s contents_old contents_new (Ok GoesOn) =
     (more : List ℕ) × Appends contents_old contents_new more
-    × HasAnswered start read (written ++ more) s × (string_bytes s.output ≡ [])
+    × HasAnswered start read (written ++ more) s × (string_bytes s.replies.text ≡ [])
 TurnsTo start read written s contents_old contents_new (Ok Stopped) =
-    EndsWith start read ⊥ written contents_old contents_new (Ok (status_by s.is_refused))
+    EndsWith start read ⊥ written contents_old contents_new (Ok (status_by s.replies.is_refused))
 TurnsTo start read written s contents_old contents_new (Err fault) =
     EndsWith start read ⊥ written contents_old contents_new (Err fault)
 

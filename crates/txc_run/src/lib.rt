@@ -1,6 +1,7 @@
-//! Runs of scripts: modes, settings, sessions, lines and replies, and the status that a program ends with.
+//! Runs of scripts: sessions, lines, replies and reports, and the status that a program ends with.
 #![tactic(auto)]
 
+mod answer;
 mod fault;
 mod hex;
 mod laws;
@@ -8,10 +9,11 @@ mod line;
 mod piece;
 mod reading;
 mod reads;
-mod reply;
+mod replies;
+mod report;
 mod script;
 mod session;
-mod settings;
+mod step;
 mod unread;
 mod words;
 mod writer;
@@ -19,5 +21,4 @@ mod writer;
 pub use fault::{RunFault, Status, exit_of};
 pub use laws::{a_line_is_one_thing, lines_are_answered_one_way};
 pub use reads::MAX_READS;
-pub use script::{Mode, run};
-pub use settings::Settings;
+pub use script::run;

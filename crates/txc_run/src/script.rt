@@ -1,29 +1,21 @@
 //! Runs of scripts.
 ghost use Rattle.std.specs.Prelude.{◌≡◌, ◌≢◌, ℕ, ◌+◌, ◌^◌, ◌<◌, ◌≤◌, List, None, Err, ◌++◌, length};
-ghost use Rattle.txc_node.specs.Cache.{Cache, empty_cache};
 ghost use Rattle.txc_run.specs.Reads.{IsOver};
-ghost use Rattle.txc_run.specs.Runs.{HasRun};
+ghost use Rattle.txc_run.specs.Runs.{HasRun, Start, start_of};
 ghost use Rattle.txc_run.specs.Sessions.{HasAnswered};
 ghost use Rattle.txc_run.specs.Turns.{TurnsTo, EndsWith, EndsFlushed};
 
 use crate::fault::{RunFault, Status};
 use crate::reads::Reads;
 use crate::session::{Flow, Session};
-use crate::settings::Settings;
 use std::alloc::Global;
 use std::io::{Read, Write};
+use txc_settings::{Mode, Settings};
 
 /// How many bytes a read is asked for.
 const PIECE_LEN: usize = 16_384;
 
-/// Which lines a script has.
-#[derive(Clone, Copy, Debug, PartialEq, Eq)]
-pub enum Mode {
-    /// The steps of one node: `insert`, `lookup`, `event` and `sweep`.
-    Node,
-}
-
-/// Reads a script and writes the replies to its lines. A reader is read at most [`crate::MAX_READS`] times,
+/// Reads a script, and writes the replies to its lines or a report of them, as the mode says. A reader is read at most [`crate::MAX_READS`] times,
 /// where a read that was interrupted counts and is made again: one that has not come to its end by then is a
 /// read fault. The writer is flushed at the end.
 pub fn run<R: Read, W: Write>(
@@ -33,14 +25,11 @@ pub fn run<R: Read, W: Write>(
     reader: &mut R,
     writer: &mut W,
 ) -> Result<Status, RunFault>
-    ensures { HasRun (empty_cache settings.capacity settings.recent)
-        (R.remaining reader.old) (R.remaining reader.new)
+    ensures { HasRun (start_of mode settings) (R.remaining reader.old) (R.remaining reader.new)
         (W.contents writer.old) (W.contents writer.new) result }
 {
     let mut reads = Reads::new();
-    let ended = match mode {
-        Mode::Node => run_node(alloc, settings, reader, writer, &mut reads),
-    };
+    let ended = run_session(alloc, mode, settings, reader, writer, &mut reads);
     flush(writer, ended)
 }
 
@@ -65,7 +54,7 @@ fn turn<W: Write>(
 ) -> Result<Flow, RunFault>
     requires { session.old.lines + length bytes.now < 2 ^ 64 }
     ensures counted { session.new.lines ≤ session.old.lines + length bytes.now }
-    ensures turned { (start : Cache) (read written : List ℕ) → HasAnswered start read written session.old
+    ensures turned { (start : Start) (read written : List ℕ) → HasAnswered start read written session.old
         → TurnsTo start (read ++ bytes.now) written session.new
         (W.contents writer.old) (W.contents writer.new) result }
     ensures refused { result ≢ Err RunFault.Read }
@@ -87,12 +76,12 @@ fn finish<W: Write>(
     writer: &mut W,
 ) -> Result<Status, RunFault>
     requires { session.old.lines + 1 < 2 ^ 64 }
-    ensures ended { (start : Cache) (read written : List ℕ) → HasAnswered start read written session.old
+    ensures ended { (start : Start) (read written : List ℕ) → HasAnswered start read written session.old
         → EndsWith start read (Unit {0}) written
         (W.contents writer.old) (W.contents writer.new) result }
     ensures refused { result ≢ Err RunFault.Read }
 {
-    let answered = session.answer_last(alloc);
+    let answered = session.finish(alloc);
     match session.write_out(writer) {
         Ok(()) => match answered {
             Ok(()) => Ok(session.status()),
@@ -102,21 +91,21 @@ fn finish<W: Write>(
     }
 }
 
-/// Runs a script of mode node. A fault of the reader comes only where no read is left or the reader failed.
-fn run_node<R: Read, W: Write>(
+/// Runs a script. A fault of the reader comes only where no read is left or the reader failed.
+fn run_session<R: Read, W: Write>(
     alloc: Global,
+    mode: Mode,
     settings: Settings,
     reader: &mut R,
     writer: &mut W,
     reads: &mut Reads,
 ) -> Result<Status, RunFault>
     requires { reads.old ≡ record { left = 1048576; failure = None } }
-    ensures after { HasRun (empty_cache settings.capacity settings.recent)
-        (R.remaining reader.old) (R.remaining reader.new)
+    ensures after { HasRun (start_of mode settings) (R.remaining reader.old) (R.remaining reader.new)
         (W.contents writer.old) (W.contents writer.new) result }
     ensures refused { result ≡ Err RunFault.Read → IsOver reads.new }
 {
-    let mut session = match Session::new(alloc, settings) {
+    let mut session = match Session::new(alloc, mode, settings) {
         Ok(session) => session,
         Err(_) => return Err(RunFault::Memory),
     };

@@ -5,11 +5,12 @@ mod rows;
 
 use crate::common::room;
 use examples::EXAMPLES;
-use rows::{LONG, REPLIES, ROWS, SCRIPT};
+use rows::{LONG, REPLIES, REPORTS, ROWS, SCRIPT};
 use std::alloc::{AllocError, Global};
 use std::io::{self, Read, Write};
 use std::process::Abort;
-use txc_run::{MAX_READS, Mode, RunFault, Settings, Status, exit_of, run};
+use txc_run::{MAX_READS, RunFault, Status, exit_of, run};
+use txc_settings::{Mode, Settings};
 
 /// The reply to an insertion that is refused memory.
 const NO_MEMORY: &[u8] = b"refused memory\n";
@@ -84,6 +85,7 @@ impl Write for Taker {
 /// A run, and what it is to write and how it is to end.
 #[derive(Clone, Copy)]
 struct Case<'a> {
+    mode: Mode,
     settings: Settings,
     script: &'a [u8],
     /// The number of the read and of the write that fail, and how many bytes a read and a write take at most.
@@ -96,12 +98,14 @@ struct Case<'a> {
 }
 
 fn whole_case<'a>(
+    mode: Mode,
     settings: Settings,
     script: &'a [u8],
     replies: &'a [u8],
     end: &'a str,
 ) -> Case<'a> {
     Case {
+        mode,
         settings,
         script,
         read_fails: 0,
@@ -145,7 +149,7 @@ fn ran(alloc: Global, case: Case, after: &[u8]) -> Result<(Vec<u8>, &'static str
         is_endless: false,
         reads: 0,
     };
-    let ended = run(alloc, Mode::Node, case.settings, &mut feeder, &mut taker);
+    let ended = run(alloc, case.mode, case.settings, &mut feeder, &mut taker);
     Ok((taker.taken, end_of(ended)))
 }
 
@@ -174,7 +178,7 @@ fn without_line(script: &[u8], reply: usize) -> (&[u8], &[u8]) {
 }
 
 /// Whether a run that was refused memory wrote whole replies, or that one insertion was refused, and else what the
-/// script without that line gives.
+/// script without that line gives; a report does not say which one was refused.
 fn is_left(alloc: Global, case: Case, written: &[u8], end: &str) -> bool {
     if case.read_fails != 0 || case.write_fails != usize::MAX {
         return true;
@@ -182,6 +186,9 @@ fn is_left(alloc: Global, case: Case, written: &[u8], end: &str) -> bool {
     if end == "memory" {
         return case.replies.starts_with(written)
             && (written.is_empty() || written.ends_with(b"\n"));
+    }
+    if case.mode == Mode::Report {
+        return end == "1";
     }
     let Some(at) = written
         .windows(NO_MEMORY.len())
@@ -222,15 +229,34 @@ fn play(alloc: Global, case: Case, name: &'static str) -> Result<(), &'static st
     }
 }
 
-fn play_rows(alloc: Global) -> Result<(), &'static str> {
-    for (name, capacity, recent, script, replies, end) in &ROWS {
-        if let Some(settings) = Settings::new(*capacity, *recent) {
-            play(
-                alloc,
-                whole_case(settings, script.as_bytes(), replies.as_bytes(), end),
-                name,
-            )?;
-        }
+/// The settings of a text, which is read once more where memory is refused.
+fn settings_of(alloc: Global, text: &str) -> Result<Settings, &'static str> {
+    match Settings::read(alloc, text) {
+        Ok(settings) => Ok(settings),
+        Err(_) => Settings::read(alloc, text).or(Err("no settings")),
+    }
+}
+
+/// A case of a reader and a writer that do not fail, at the settings of the empty document.
+fn default_case<'a>(
+    alloc: Global,
+    mode: Mode,
+    script: &'a [u8],
+    output: &'a [u8],
+    end: &'a str,
+) -> Result<Case<'a>, &'static str> {
+    Ok(whole_case(mode, settings_of(alloc, "")?, script, output, end))
+}
+
+fn play_rows(
+    alloc: Global,
+    mode: Mode,
+    rows: &[(&'static str, &str, &str, &str, &str)],
+) -> Result<(), &'static str> {
+    for (name, settings, script, replies, end) in rows {
+        let settings = settings_of(alloc, settings)?;
+        let case = whole_case(mode, settings, script.as_bytes(), replies.as_bytes(), end);
+        play(alloc, case, name)?;
     }
     Ok(())
 }
@@ -240,18 +266,10 @@ fn status_of(is_refused: bool) -> &'static str {
 }
 
 fn play_examples(alloc: Global) -> Result<(), &'static str> {
-    for (name, script, replies, exit) in &EXAMPLES {
+    for (name, mode, script, output, exit) in &EXAMPLES {
         let end = status_of(*exit != 0);
-        play(
-            alloc,
-            whole_case(
-                Settings::default(),
-                script.as_bytes(),
-                replies.as_bytes(),
-                end,
-            ),
-            name,
-        )?;
+        let case = default_case(alloc, *mode, script.as_bytes(), output.as_bytes(), end)?;
+        play(alloc, case, name)?;
     }
     Ok(())
 }
@@ -271,11 +289,8 @@ fn play_long(alloc: Global) -> Result<(), &'static str> {
             Ok(script) => script,
             Err(_) => long_script(alloc, start, *byte, *count).or(Err("no room"))?,
         };
-        play(
-            alloc,
-            whole_case(Settings::default(), &script, replies.as_bytes(), end),
-            start,
-        )?;
+        let case = default_case(alloc, Mode::Node, &script, replies.as_bytes(), end)?;
+        play(alloc, case, start)?;
     }
     Ok(())
 }
@@ -294,24 +309,14 @@ fn play_front(
         let _ = write!(replies, "line {line}: malformed\n");
     }
     let end = status_of(cut_line.is_some());
-    let case = whole_case(
-        Settings::default(),
-        front.as_bytes(),
-        replies.as_bytes(),
-        end,
-    );
+    let case = default_case(alloc, Mode::Node, front.as_bytes(), replies.as_bytes(), end)?;
     play(alloc, case, "a cut script")
 }
 
 /// A reader that fails after so many bytes of the stored script leaves the replies up to a length.
 fn play_broken(alloc: Global, len: usize, known: usize) -> Result<(), &'static str> {
     let replies = REPLIES.get(..known).unwrap_or("").as_bytes();
-    let case = whole_case(
-        Settings::default(),
-        SCRIPT.as_bytes(),
-        replies,
-        "read fault",
-    );
+    let case = default_case(alloc, Mode::Node, SCRIPT.as_bytes(), replies, "read fault")?;
     let read_fails = len.saturating_add(1);
     play(
         alloc,
@@ -353,7 +358,7 @@ fn play_slow(alloc: Global) -> Result<(), &'static str> {
     let slow = Case {
         reads: 1,
         writes: 1,
-        ..whole_case(Settings::default(), script, replies, "0")
+        ..default_case(alloc, Mode::Node, script, replies, "0")?
     };
     play(alloc, slow, "one byte at a time")?;
     for (write_fails, len) in (1usize..).zip(0..=replies.len()) {
@@ -369,22 +374,6 @@ fn play_slow(alloc: Global) -> Result<(), &'static str> {
     Ok(())
 }
 
-fn are_ranges() -> bool {
-    for (capacity, recent, in_range) in [
-        (0, 1, false),
-        (1, 0, false),
-        (1, 1, true),
-        (65_536, 4_096, true),
-        (65_537, 1, false),
-        (1, 4_097, false),
-    ] {
-        if Settings::new(capacity, recent).is_some() != in_range {
-            return false;
-        }
-    }
-    true
-}
-
 fn say_played(rt: &impl Abort, played: Result<(), &'static str>) {
     if let Err(name) = played {
         assert!(rt; false, "{name}");
@@ -393,10 +382,10 @@ fn say_played(rt: &impl Abort, played: Result<(), &'static str>) {
 
 #[test]
 fn scripts_give_their_replies(rt: HostRuntime) {
-    say_played(&rt, play_rows(rt.alloc()));
+    say_played(&rt, play_rows(rt.alloc(), Mode::Node, &ROWS));
+    say_played(&rt, play_rows(rt.alloc(), Mode::Report, &REPORTS));
     say_played(&rt, play_examples(rt.alloc()));
     say_played(&rt, play_long(rt.alloc()));
-    assert!(rt; are_ranges());
 }
 
 #[test]
@@ -410,7 +399,8 @@ fn slow_ways_and_a_writer_that_fails(rt: HostRuntime) {
 }
 
 #[test]
-fn a_reader_that_never_ends(rt: HostRuntime) {
+fn a_reader_that_never_ends(rt: HostRuntime) -> Result<(), &'static str> {
+    let settings = settings_of(rt.alloc(), "")?;
     for line in ["\n", "a", "event 5 -\n"] {
         let mut reader = Feeder {
             left: b"",
@@ -423,7 +413,7 @@ fn a_reader_that_never_ends(rt: HostRuntime) {
         let ended = run(
             rt.alloc(),
             Mode::Node,
-            Settings::default(),
+            settings,
             &mut reader,
             &mut io::sink(),
         );
@@ -432,4 +422,5 @@ fn a_reader_that_never_ends(rt: HostRuntime) {
             "{line}"
         );
     }
+    Ok(())
 }

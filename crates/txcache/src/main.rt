@@ -1,44 +1,46 @@
-//! The program: `txcache node` reads a script on standard input and prints the replies.
+//! The program: `txcache node` reads a script on standard input and prints the replies; `txcache report`
+//! prints counts of them.
 #![tactic(auto)]
 
-use std::env::{self, Env};
-use std::io;
+use clap::error::ErrorKind;
 use std::process::ExitCode;
-use txc_run::{Mode, Settings, exit_of, run};
+use std::{env, io};
+use txc_arguments::read_arguments;
+use txc_run::{exit_of, run};
+use txc_settings::{Settings, SettingsError};
 
 fn main(rt: HostRuntime) -> ExitCode {
-    let mode = match read_arguments(&rt) {
-        Ok(Some(mode)) => mode,
-        Ok(None) => return end(&rt, "usage: txcache node", 2),
-        Err(_) => return end(&rt, "memory", 5),
+    let alloc = rt.alloc();
+    let Ok(arguments) = env::args(&rt) else {
+        return end(&rt, "memory", 5);
+    };
+    let Ok(words) = arguments.collect::<Vec<String>>(alloc) else {
+        return end(&rt, "memory", 5);
+    };
+    let arguments = match read_arguments(alloc, words.as_slice()) {
+        Ok(arguments) => arguments,
+        Err(error) if error.kind() == ErrorKind::OutOfMemory => return end(&rt, "memory", 5),
+        Err(error) => {
+            // Help goes to standard output, all else to standard error.
+            let _ = error.print(&rt);
+            return ExitCode::from(if error.exit_code() == 0 { 0 } else { 2 });
+        }
+    };
+    let settings = match Settings::read(alloc, arguments.settings.unwrap_or("")) {
+        Ok(settings) => settings,
+        Err(SettingsError::Memory) => return end(&rt, "memory", 5),
+        Err(error) => {
+            let _ = rt.eprintln(&error);
+            return ExitCode::from(3);
+        }
     };
     let mut reader = rt.reader();
     let mut writer = io::writer(&rt);
-    let ended = run(
-        rt.alloc(),
-        mode,
-        Settings::default(),
-        &mut reader,
-        &mut writer,
-    );
+    let ended = run(alloc, arguments.mode, settings, &mut reader, &mut writer);
     if let Err(fault) = ended {
         let _ = rt.eprintln(fault);
     }
     ExitCode::from(exit_of(ended))
-}
-
-/// The mode that the command line names; None if it is not one mode's name alone. An error means out of
-/// memory.
-fn read_arguments(rt: &(impl Env + AllocGlobal)) -> io::Result<Option<Mode>> {
-    let mut arguments = env::args(rt)?;
-    let _program = arguments.next();
-    let Some(word) = arguments.next() else {
-        return Ok(None);
-    };
-    if arguments.next().is_some() || word.as_str() != "node" {
-        return Ok(None);
-    }
-    Ok(Some(Mode::Node))
 }
 
 /// Prints on standard error why the program ends with this status.

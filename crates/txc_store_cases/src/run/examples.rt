@@ -1,9 +1,12 @@
 //! The scripts of examples/ with their output: written by scripts/examples.py, which the gate compares.
 
-/// Each example: its name, its script, its output, and the status of the program after it.
-pub const EXAMPLES: [(&str, &str, &str, u8); 7] = [
+use txc_settings::Mode;
+
+/// Each example: its name, a mode, its script, its output in that mode, and the status of the program after it.
+pub const EXAMPLES: [(&str, Mode, &str, &str, u8); 8] = [
     (
         "1_page",
+        Mode::Node,
         "# Why a page must not mix data of two moments.\n\
          #\n\
          # A shop's page shows the price of article 7 and how many of it are in stock. f1(7) computes the price,\n\
@@ -49,7 +52,45 @@ pub const EXAMPLES: [(&str, &str, &str, u8); 7] = [
         0,
     ),
     (
+        "1_page",
+        Mode::Report,
+        "# Why a page must not mix data of two moments.\n\
+         #\n\
+         # A shop's page shows the price of article 7 and how many of it are in stock. f1(7) computes the price,\n\
+         # f2(7) the stock; both read the row with id 7 of table 1, so both results carry the tag t1:id=7.\n\
+         #\n\
+         # The state after n events of the database has the stamp n. At stamp 0 the price is 0a and 14 are in stock.\n\
+         insert f1(7) 0 0 still t1:id=7 0a\n\
+         insert f2(7) 0 0 still t1:id=7 14\n\
+         # An event that changes another row leaves both valid: now they hold at the stamps 0 and 1.\n\
+         event 1 t1:id=8\n\
+         lookup f1(7) 0 9\n\
+         # One commit changes the row: the price rises to 0b and the stock falls to 13. Both old results end at stamp 1.\n\
+         event 2 t1:id=7\n\
+         # The new price is computed first. It holds from stamp 2 on.\n\
+         insert f1(7) 2 2 still t1:id=7 0b\n\
+         # A cache that kept one value for each key would now answer the new price and the old stock: a page that was\n\
+         # never true. Here a page asks for its stamps. For a page of stamp 1 both answers are old ..\n\
+         lookup f1(7) 1 1\n\
+         lookup f2(7) 1 1\n\
+         # .. and for a page of stamp 2 the price is new, and the stock is a miss that has to be computed anew.\n\
+         lookup f1(7) 2 2\n\
+         lookup f2(7) 2 2\n\
+         insert f2(7) 2 2 still t1:id=7 13\n\
+         lookup f2(7) 2 2\n\
+         # A result that was computed at stamp 0 and comes late is replayed against the events it missed: it is stored as\n\
+         # one that ended at stamp 1, and never as one that still holds.\n\
+         insert f3(7) 0 0 still t1:id=7 ff\n\
+         lookup f3(7) 2 2\n",
+        "f1 lookups 3 hits 3 stored 2 kept 0 evicted 0\n\
+         f2 lookups 3 hits 2 stored 2 kept 0 evicted 0\n\
+         f3 lookups 1 hits 0 stored 1 kept 0 evicted 0\n\
+         total events 2 closed 2 swept 0\n",
+        0,
+    ),
+    (
         "2_closing",
+        Mode::Node,
         "# An event closes the results that it changed, and no other.\n\
          # Without it: a page of stamp 2 would show what the row held before the event.\n\
          insert f1(2) 0 0 still t1:id=2 0a\n\
@@ -73,6 +114,7 @@ pub const EXAMPLES: [(&str, &str, &str, u8); 7] = [
     ),
     (
         "3_replay",
+        Mode::Node,
         "# A result that comes late is replayed against the events that it missed.\n\
          # Without it: a result that was computed before event 2 would be shown after it, as if nothing had happened.\n\
          event 1 t1:id=3\n\
@@ -89,6 +131,7 @@ pub const EXAMPLES: [(&str, &str, &str, u8); 7] = [
     ),
     (
         "4_known_ahead",
+        Mode::Node,
         "# A result may be known to hold beyond the last event that the node has taken: its database was ahead of the node.\n\
          # Such a result is not closed by the events that it knows already.\n\
          # Without it: no page would be wrong, but the freshest results would be lost when the node catches up.\n\
@@ -113,6 +156,7 @@ pub const EXAMPLES: [(&str, &str, &str, u8); 7] = [
     ),
     (
         "5_groups",
+        Mode::Node,
         "# A result may depend on rows that are not there yet: a list depends on its group, a count on its whole table.\n\
          # Without it: a list would lack a new row, and a count would not count it.\n\
          #\n\
@@ -154,6 +198,7 @@ pub const EXAMPLES: [(&str, &str, &str, u8); 7] = [
     ),
     (
         "6_sweep",
+        Mode::Node,
         "# A sweep drops the results that end at the horizon or before it: no page may ask for those stamps any more.\n\
          # Without it: no page would be wrong, but old results would fill the node.\n\
          insert f1(1) 0 0 closed - 01\n\
@@ -172,6 +217,7 @@ pub const EXAMPLES: [(&str, &str, &str, u8); 7] = [
     ),
     (
         "7_refusals",
+        Mode::Node,
         "# A refused line changes nothing, and the script goes on; the status at its end is then 1.\n\
          insert f1(2) 0 0 still t1:id=2 0a\n\
          event 1 t1:id=3\n\

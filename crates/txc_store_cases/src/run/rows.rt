@@ -18,14 +18,12 @@ pub const REPLIES: &str = "stored [0,1) still\n\
     miss\n\
     hit [0,2) closed 0a\n";
 
-/// What is shown, the capacity of the node and of how many events it keeps the tags, the script, the replies, and the
-/// status of the program.
-pub const ROWS: [(&str, usize, usize, &str, &str, &str); 28] = [
-    ("an empty script", 1024, 64, "", "", "0"),
+/// What is shown, the settings, the script, the replies, and the status of the program.
+pub const ROWS: [(&str, &str, &str, &str, &str); 28] = [
+    ("an empty script", "", "", "", "0"),
     (
         "empty lines and comments",
-        1024,
-        64,
+        "",
         "\n\
          # a comment\n",
         "",
@@ -33,8 +31,7 @@ pub const ROWS: [(&str, usize, usize, &str, &str, &str); 28] = [
     ),
     (
         "a late insertion misses no event",
-        4,
-        4,
+        "capacity = 4\nrecent = 4",
         "event 1 t1:id=3\n\
          event 2 t1:id=2\n\
          insert f1(2) 0 0 still t1:id=2 0a\n",
@@ -45,8 +42,7 @@ pub const ROWS: [(&str, usize, usize, &str, &str, &str); 28] = [
     ),
     (
         "an event that is no longer kept is not trusted",
-        4,
-        1,
+        "capacity = 4\nrecent = 1",
         "event 1 t1:id=3\n\
          event 2 t1:id=2\n\
          insert f1(2) 0 0 still t1:id=2 0a\n",
@@ -57,8 +53,7 @@ pub const ROWS: [(&str, usize, usize, &str, &str, &str); 28] = [
     ),
     (
         "a full node drops what was used longest ago",
-        2,
-        4,
+        "capacity = 2\nrecent = 4",
         "insert f1(1) 0 0 still t1:id=1 0a\n\
          insert f1(1) 0 0 still t1:id=1 0a\n\
          insert f1(2) 0 0 still t1:id=2 0b\n\
@@ -75,8 +70,7 @@ pub const ROWS: [(&str, usize, usize, &str, &str, &str); 28] = [
     ),
     (
         "refused lines change nothing",
-        4,
-        4,
+        "capacity = 4\nrecent = 4",
         "insert f1(2) 0 0 still t1:id=2 0a\n\
          lookup f1(2) 0 9\n\
          event 1 t1:id=3\n\
@@ -101,8 +95,7 @@ pub const ROWS: [(&str, usize, usize, &str, &str, &str); 28] = [
     ),
     (
         "an entry without tags and without a value",
-        1024,
-        64,
+        "",
         "insert f1(2) 0 0 closed - -\n\
          lookup f1(2) 0 9\n",
         "stored [0,1) closed\n\
@@ -111,8 +104,7 @@ pub const ROWS: [(&str, usize, usize, &str, &str, &str); 28] = [
     ),
     (
         "of equal ends the later begin is found",
-        4,
-        4,
+        "capacity = 4\nrecent = 4",
         "event 1 -\n\
          insert f1(2) 0 0 still - 0a\n\
          insert f1(2) 1 1 still - 0b\n\
@@ -129,8 +121,7 @@ pub const ROWS: [(&str, usize, usize, &str, &str, &str); 28] = [
     ),
     (
         "lists of tags and arguments",
-        2,
-        4,
+        "capacity = 2\nrecent = 4",
         "insert f1(1,2) 0 0 still t1:id=1,t1:grp=4,t2:? 0a0b0c\n\
          insert f2(3) 0 0 closed t3:id=1,t3:id=2 -\n\
          lookup f1(1,2) 0 9\n\
@@ -151,8 +142,7 @@ pub const ROWS: [(&str, usize, usize, &str, &str, &str); 28] = [
     ),
     (
         "nothing is known beyond the processed stamp",
-        1024,
-        64,
+        "",
         "event 1 -\n\
          event 2 -\n\
          insert f1(2) 1 5 still t1:? 0a\n\
@@ -173,16 +163,14 @@ pub const ROWS: [(&str, usize, usize, &str, &str, &str); 28] = [
     ),
     (
         "the last stamp",
-        1024,
-        64,
+        "",
         "lookup f1(2) 0 1048576\n",
         "miss\n",
         "0",
     ),
     (
         "refusals",
-        1024,
-        64,
+        "",
         "event 5 -\n\
          lookup f1(2) 5 4\n\
          insert f1(2) 3 2 closed - 0a\n",
@@ -193,8 +181,7 @@ pub const ROWS: [(&str, usize, usize, &str, &str, &str); 28] = [
     ),
     (
         "a word too few ends the run",
-        1024,
-        64,
+        "",
         "\n\
          lookup f1(2) 0\n\
          lookup f1(2) 0 9\n",
@@ -203,122 +190,185 @@ pub const ROWS: [(&str, usize, usize, &str, &str, &str); 28] = [
     ),
     (
         "two blanks",
-        1024,
-        64,
+        "",
         "lookup f1(2)  0 9\n",
         "line 1: malformed\n",
         "1",
     ),
     (
         "a blank first",
-        1024,
-        64,
+        "",
         " lookup f1(2) 0 9\n",
         "line 1: malformed\n",
         "1",
     ),
     (
         "a blank last",
-        1024,
-        64,
+        "",
         "lookup f1(2) 0 9 \n",
         "line 1: malformed\n",
         "1",
     ),
     (
         "a leading zero",
-        1024,
-        64,
+        "",
         "lookup f1(2) 00 9\n",
         "line 1: malformed\n",
         "1",
     ),
     (
         "a stamp past the last",
-        1024,
-        64,
+        "",
         "lookup f1(2) 0 1048577\n",
         "line 1: malformed\n",
         "1",
     ),
     (
         "a function past the last",
-        1024,
-        64,
+        "",
         "lookup f32() 0 1\n",
         "line 1: malformed\n",
         "1",
     ),
     (
         "a table past the last",
-        1024,
-        64,
+        "",
         "event 1 t16:?\n",
         "line 1: malformed\n",
         "1",
     ),
     (
         "another command",
-        1024,
-        64,
+        "",
         "purge 5\n",
         "line 1: malformed\n",
         "1",
     ),
     (
         "a sweep of two horizons",
-        1024,
-        64,
+        "",
         "sweep 0\nsweep 5 5\n",
         "swept 0\nline 2: malformed\n",
         "1",
     ),
     (
         "a horizon after the last stamp",
-        1024,
-        64,
+        "",
         "sweep 1048576\nsweep 1048577\n",
         "swept 0\nline 2: malformed\n",
         "1",
     ),
     (
         "neither still nor closed",
-        1024,
-        64,
+        "",
         "insert f1(2) 0 0 open - -\n",
         "line 1: malformed\n",
         "1",
     ),
     (
         "a digit in upper case",
-        1024,
-        64,
+        "",
         "insert f1(2) 0 0 still - 0A\n",
         "line 1: malformed\n",
         "1",
     ),
     (
         "half a byte",
-        1024,
-        64,
+        "",
         "insert f1(2) 0 0 still - 0\n",
         "line 1: malformed\n",
         "1",
     ),
     (
         "a carriage return",
-        1024,
-        64,
+        "",
         "lookup f1(2) 0 9\r\n",
         "line 1: malformed\n",
         "1",
     ),
     (
         "a byte past ASCII in a comment",
-        1024,
-        64,
+        "",
         "# é\n",
         "line 1: malformed\n",
+        "1",
+    ),
+];
+
+/// What is shown of reports, the settings, the script, the report, and the status of the program.
+pub const REPORTS: [(&str, &str, &str, &str, &str); 7] = [
+    (
+        "an empty script",
+        "",
+        "",
+        "total events 0 closed 0 swept 0\n",
+        "0",
+    ),
+    (
+        "the stored script",
+        "capacity = 4\nrecent = 4",
+        SCRIPT,
+        "f1 lookups 4 hits 3 stored 1 kept 0 evicted 0\n\
+         total events 2 closed 1 swept 0\n",
+        "0",
+    ),
+    (
+        "functions stand in the order in which they are first named",
+        "",
+        "lookup f30() 0 9\n\
+         insert f2(1) 0 0 still - -\n\
+         lookup f1() 0 0\n\
+         lookup f2(1) 0 0\n\
+         lookup f30() 0 0\n\
+         insert f2(1) 0 0 still - -\n",
+        "f30 lookups 2 hits 0 stored 0 kept 0 evicted 0\n\
+         f2 lookups 1 hits 1 stored 1 kept 1 evicted 0\n\
+         f1 lookups 1 hits 0 stored 0 kept 0 evicted 0\n\
+         total events 0 closed 0 swept 0\n",
+        "0",
+    ),
+    (
+        "an eviction counts for the function of the entry that was dropped",
+        "capacity = 1",
+        "insert f3(1) 0 0 closed - 0a\n\
+         insert f4(2) 0 0 closed - 0b\n",
+        "f3 lookups 0 hits 0 stored 1 kept 0 evicted 1\n\
+         f4 lookups 0 hits 0 stored 1 kept 0 evicted 0\n\
+         total events 0 closed 0 swept 0\n",
+        "0",
+    ),
+    (
+        "what is refused is not counted and names no function",
+        "",
+        "lookup f5() 5 4\n\
+         insert f6() 3 2 closed - -\n\
+         event 2 -\n\
+         lookup f7() 0 0\n",
+        "f7 lookups 1 hits 0 stored 0 kept 0 evicted 0\n\
+         total events 0 closed 0 swept 0\n",
+        "1",
+    ),
+    (
+        "events, and what they close and sweeps drop",
+        "",
+        "insert f0(1) 0 0 still t1:? -\n\
+         insert f0(2) 0 0 still t2:? -\n\
+         event 1 t1:id=7\n\
+         event 2 -\n\
+         event 3 t2:grp=1,t3:?\n\
+         sweep 1\n\
+         sweep 3\n",
+        "f0 lookups 0 hits 0 stored 2 kept 0 evicted 0\n\
+         total events 3 closed 2 swept 2\n",
+        "0",
+    ),
+    (
+        "a malformed line is all that is written",
+        "",
+        "lookup f1(2) 0 9\n\
+         lookup f1(2) 0\n\
+         lookup f1(3) 0 9\n",
+        "line 2: malformed\n",
         "1",
     ),
 ];

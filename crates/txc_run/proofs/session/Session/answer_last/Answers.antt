@@ -1,7 +1,10 @@
 use Rattle.std.proofs.Common.{sym, ◌∙◌}
-use Rattle.txc_run.proofs.SessionLines.{ended_line, not_nothing}
+use Rattle.txc_run.proofs.SessionLines.{answered_last, none_left, is_nothing, not_nothing}
 use Rattle.txc_run.proofs.session.Session.answer_last.Goals as goal
 
-pub returns-in-Ok : goal.returns-in-Ok
-returns-in-Ok c start read written h =
-    ended_line start read written c.args.self.now c.answer_line.new.self _ h (not_nothing c.args.self.now.line (sym c.is_empty.ensures ∙ c.if-is_empty.false)) c.in-Ok.ensures.answered
+pub returns-then-is_empty : goal.returns-then-is_empty
+returns-then-is_empty c start read written h = none_left start read written c.args.self.now h (is_nothing c.args.self.now.line (sym c.is_empty.ensures ∙ c.if-is_empty.true))
+
+pub returns : goal.returns
+returns c start read written h =
+    answered_last start read written c.args.self.now c.answer_line.new.self c.answer_line.result h (not_nothing c.args.self.now.line (sym c.is_empty.ensures ∙ c.if-is_empty.false)) c.answer_line.ensures.answered c.answer_line.ensures.unchanged

@@ -1,5 +1,5 @@
 use Rattle.std.proofs.Common.{◌≡◌, ◌+◌, ◌≤◌, List, ℕ, ◌++◌, length}
-use Rattle.txc_node.specs.Cache.{Cache}
+use Rattle.txc_run.specs.Runs.{Start}
 use Rattle.txc_run.specs.Sessions.{HasAnswered}
 use Rattle.txc_run.proofs.session.Session.answer_lines.Given as goal
 
@@ -8,7 +8,7 @@ invariant-lines l = record {
   counted : l.self.lines + length l.rest ≤ l.fn.self.lines + length l.fn.bytes;
   done : List ℕ;
   split : l.fn.bytes ≡ done ++ l.rest;
-  answered : (start : Cache) (read written : List ℕ) → HasAnswered start read written l.fn.self → HasAnswered start (read ++ done) written l.self;
+  answered : (start : Start) (read written : List ℕ) → HasAnswered start read written l.fn.self → HasAnswered start (read ++ done) written l.self;
 }
 
 abbrev pub decreases-lines : goal.decreases-lines

@@ -1,0 +1,35 @@
+use Rattle.std.proofs.Common.{◌∙◌, ap, sym, inl, Some, codes, map, option_map, string_bytes}
+use Rattle.clap.specs.Words.{app_of, first_of, found_of, is_simple, matches_of}
+use Rattle.clap.proofs.WalkLemmas.{first_value-rows}
+use Rattle.txc_arguments.specs.Program.{IsRefusedAs}
+use Rattle.txc_arguments.proofs.Refusals.{passed_on, of_kind}
+use Rattle.txc_arguments.proofs.arguments.read_arguments.Goals as goal
+
+pub returns-in-Some-mode_named-clause-mode : goal.returns-in-Some-mode_named-clause-mode
+returns-in-Some-mode_named-clause-mode c =
+    let shape = c.in_ok-command.ensures.shape in
+    let rows = (c.in_ok-matches.ensures.matches (ap is_simple shape.2)).0 ∙ ap (λ a. matches_of a (map string_bytes c.args.words.now)) shape.2 in (
+      shape.0,
+      shape.1,
+      sym (ap (first_of (codes "mode")) rows) ∙ sym (first_value-rows (found_of c.in_ok-matches.matches) (codes "mode"))
+          ∙ sym c.get_str-mode.ensures ∙ ap (option_map (λ s. s.now)) c.in-Some.is ∙ ap Some c.in-Some-mode_named.ensures.answer,
+    )
+
+pub returns-in-Some-mode_named-clause-settings : goal.returns-in-Some-mode_named-clause-settings
+returns-in-Some-mode_named-clause-settings c =
+    let shape = c.in_ok-command.ensures.shape in
+    let rows = (c.in_ok-matches.ensures.matches (ap is_simple shape.2)).0 ∙ ap (λ a. matches_of a (map string_bytes c.args.words.now)) shape.2 in (
+      shape.0,
+      shape.1,
+      sym (ap (first_of (codes "settings")) rows) ∙ sym (first_value-rows (found_of c.in_ok-matches.matches) (codes "settings")) ∙ sym c.get_str-settings.ensures,
+    )
+
+pub returns-in_err-command-clause-refused : goal.returns-in_err-command-clause-refused
+returns-in_err-command-clause-refused c = passed_on c.from_residual.result c.in_err-command.field-0.0 _ c.from_residual.ensures.1 (inl c.in_err-command.ensures.refused)
+
+pub returns-in_err-matches-clause-refused : goal.returns-in_err-matches-clause-refused
+returns-in_err-matches-clause-refused c =
+    let shape = c.in_ok-command.ensures.shape in
+    let words = map string_bytes c.args.words.now in
+    passed_on c.from_residual-in_err-matches.result c.in_err-matches.field-0.0 (IsRefusedAs words) c.from_residual-in_err-matches.ensures.1
+    (of_kind (app_of c.in_ok-command.command) shape.0 words c.in_err-matches.field-0.0 shape.2 shape.1 c.in_err-matches.ensures.kinds)

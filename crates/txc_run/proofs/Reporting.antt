@@ -1,0 +1,176 @@
+-- What a report counts, one step after another.
+use Rattle.std.proofs.Common.{◌≡◌, ℕ, ◌+◌, Bool, true, false, ◌||◌, List, [], ◌∷◌, ◌++◌, Option, Some, None, Result, Ok, Err, OnOk, refl, sym, ap, ◌∙◌, arith, append_assoc}
+use Rattle.std.specs.Prelude.{nat_eq, not, filter, if◌then◌else◌}
+use Rattle.std.specs.List.{list_any, sum_by}
+use Rattle.std.proofs.lemmas.Bool.Decides.{nat_tests}
+use Rattle.std.proofs.lemmas.Grind.{flat_map-append}
+use Rattle.std.proofs.lemmas.List.{append-nil, length-append}
+use Rattle.std.proofs.lemmas.List.Elements.{filter-append}
+use Rattle.std.proofs.lemmas.List.Sums.{sum_by_push}
+use Rattle.txc_node.specs.declared.counts.FunctionCounts.{FunctionCounts}
+use Rattle.txc_node.specs.declared.hit.Hit.{Hit}
+use Rattle.txc_node.specs.declared.node.Inserted.TheVariants.{Stored, Kept}
+use Rattle.txc_node.specs.declared.op.Op.{Op}
+use Rattle.txc_node.specs.declared.record.Record.{Record}
+use Rattle.txc_node.specs.declared.reply.Reply.{Reply}
+use Rattle.txc_node.specs.declared.reply.Reply.TheVariants as replies
+use Rattle.txc_node.specs.Counts.{Totals, AreCountsOf, counts_for, counts_of, sum_of, step_counts, events_by, closed_by, swept_by}
+use Rattle.txc_node.specs.Steps.{function_of, seen_reply}
+use Rattle.txc_run.specs.Given.{Given}
+use Rattle.txc_run.specs.Reports.{IsReportOf, before_others, counts_in, functions_named, functions_text, function_line, step_by, steps_in, steps_of, steps_report, total_line, with_name}
+
+-- the counts of one step more
+pub counted_more : (steps : List Record) (step : Record) (old new : Totals)
+    → ((f : ℕ) → counts_of new.functions f ≡ sum_of (counts_of old.functions f) (step_counts f step))
+    → new.replies ≡ old.replies + 1 → new.events ≡ old.events + events_by step.reply
+    → new.closed ≡ old.closed + closed_by step.reply → new.swept ≡ old.swept + swept_by step.reply
+    → AreCountsOf steps old → AreCountsOf (steps ++ step ∷ []) new
+counted_more steps step old new functions replies events closed swept h = record {
+  lookups = λ f. ap (λ (k : FunctionCounts). k.lookups) (functions f) ∙ ap (λ n. n + (step_counts f step).lookups) (h.lookups f) ∙ sym (sum_by_push (λ s. (step_counts f s).lookups) steps step);
+  hits = λ f. ap (λ (k : FunctionCounts). k.hits) (functions f) ∙ ap (λ n. n + (step_counts f step).hits) (h.hits f) ∙ sym (sum_by_push (λ s. (step_counts f s).hits) steps step);
+  stored = λ f. ap (λ (k : FunctionCounts). k.stored) (functions f) ∙ ap (λ n. n + (step_counts f step).stored) (h.stored f) ∙ sym (sum_by_push (λ s. (step_counts f s).stored) steps step);
+  kept = λ f. ap (λ (k : FunctionCounts). k.kept) (functions f) ∙ ap (λ n. n + (step_counts f step).kept) (h.kept f) ∙ sym (sum_by_push (λ s. (step_counts f s).kept) steps step);
+  evicted = λ f. ap (λ (k : FunctionCounts). k.evicted) (functions f) ∙ ap (λ n. n + (step_counts f step).evicted) (h.evicted f) ∙ sym (sum_by_push (λ s. (step_counts f s).evicted) steps step);
+  all = omega (arith, replies, h.all, length-append steps (step ∷ []));
+  events = events ∙ ap (λ n. n + events_by step.reply) h.events ∙ sym (sum_by_push (λ s. events_by s.reply) steps step);
+  closed = closed ∙ ap (λ n. n + closed_by step.reply) h.closed ∙ sym (sum_by_push (λ s. closed_by s.reply) steps step);
+  swept = swept ∙ ap (λ n. n + swept_by step.reply) h.swept ∙ sym (sum_by_push (λ s. swept_by s.reply) steps step);
+}
+
+-- a lent hit counts as what it shows
+pub counts_seen : (f : ℕ) (function : Option ℕ) (reply : Reply Hit) → counts_for f function (seen_reply reply) ≡ counts_for f function reply
+counts_seen f function (replies.Inserted (Stored reach evicted)) = refl
+counts_seen f function (replies.Inserted (Kept entry)) = refl
+counts_seen f function (replies.Hit hit) = refl
+counts_seen f function replies.Miss = refl
+counts_seen f function (replies.Closed count) = refl
+counts_seen f function (replies.Swept count) = refl
+counts_seen f function (replies.Refused refusal) = refl
+
+pub events_seen : (reply : Reply Hit) → events_by (seen_reply reply) ≡ events_by reply
+events_seen (replies.Inserted inserted) = refl
+events_seen (replies.Hit hit) = refl
+events_seen replies.Miss = refl
+events_seen (replies.Closed count) = refl
+events_seen (replies.Swept count) = refl
+events_seen (replies.Refused refusal) = refl
+
+pub closed_seen : (reply : Reply Hit) → closed_by (seen_reply reply) ≡ closed_by reply
+closed_seen (replies.Inserted inserted) = refl
+closed_seen (replies.Hit hit) = refl
+closed_seen replies.Miss = refl
+closed_seen (replies.Closed count) = refl
+closed_seen (replies.Swept count) = refl
+closed_seen (replies.Refused refusal) = refl
+
+pub swept_seen : (reply : Reply Hit) → swept_by (seen_reply reply) ≡ swept_by reply
+swept_seen (replies.Inserted inserted) = refl
+swept_seen (replies.Hit hit) = refl
+swept_seen replies.Miss = refl
+swept_seen (replies.Closed count) = refl
+swept_seen (replies.Swept count) = refl
+swept_seen (replies.Refused refusal) = refl
+
+-- ---- names
+
+-- whether f is among others, where one name that is not f is left out
+one_left_out : (b : Bool) (f n : ℕ) (kept names : List ℕ) → (b ≡ true → nat_eq f n ≡ false) → list_any (nat_eq f) kept ≡ list_any (nat_eq f) names
+    → list_any (nat_eq f) (if not b then n ∷ kept else kept) ≡ (nat_eq f n || list_any (nat_eq f) names)
+one_left_out true f n kept names h e = e ∙ ap (λ (c : Bool). c || list_any (nat_eq f) names) (sym (h refl))
+one_left_out false f n kept names h e = ap (λ (c : Bool). nat_eq f n || c) e
+
+not_both : (f g n : ℕ) → nat_eq f g ≡ false → nat_eq g n ≡ true → nat_eq f n ≡ false
+not_both f g n apart same = grind (arith, nat_tests, apart, same)
+
+among_others : (f g : ℕ) (names : List ℕ) → nat_eq f g ≡ false → list_any (nat_eq f) (filter (λ other. not (nat_eq g other)) names) ≡ list_any (nat_eq f) names
+among_others f g [] apart = refl
+among_others f g (n ∷ names) apart = one_left_out (nat_eq g n) f n _ names (not_both f g n apart) (among_others f g names apart)
+
+left_out : (f g : ℕ) → nat_eq f g ≡ true → filter (λ other. not (nat_eq g other)) (f ∷ []) ≡ []
+left_out f g same = let turned : nat_eq g f ≡ true = grind (arith, nat_tests, same) in rw turned refl
+
+stays : (f g : ℕ) → nat_eq f g ≡ false → filter (λ other. not (nat_eq g other)) (f ∷ []) ≡ f ∷ []
+stays f g apart = let turned : nat_eq g f ≡ false = grind (arith, nat_tests, apart) in rw turned refl
+
+name_after : (there same : Bool) (f g : ℕ) (names : List ℕ) → list_any (nat_eq f) names ≡ there → nat_eq f g ≡ same
+    → g ∷ filter (λ other. not (nat_eq g other)) (if there then names else names ++ f ∷ [])
+    ≡ (if same || list_any (nat_eq f) (filter (λ other. not (nat_eq g other)) names) then g ∷ filter (λ other. not (nat_eq g other)) names
+    else g ∷ (filter (λ other. not (nat_eq g other)) names ++ f ∷ []))
+name_after true true f g names e k = refl
+name_after false true f g names e k =
+    let p : ℕ → Bool = λ other. not (nat_eq g other) in
+    ap (λ (xs : List ℕ). g ∷ xs) (filter-append p names (f ∷ []) ∙ ap (λ (xs : List ℕ). filter p names ++ xs) (left_out f g k) ∙ append-nil (filter p names))
+name_after true false f g names e k =
+    let p : ℕ → Bool = λ other. not (nat_eq g other) in
+    sym (ap (λ (b : Bool). if b then g ∷ filter p names else g ∷ (filter p names ++ f ∷ [])) (among_others f g names k ∙ e))
+name_after false false f g names e k =
+    let p : ℕ → Bool = λ other. not (nat_eq g other) in
+    ap (λ (xs : List ℕ). g ∷ xs) (filter-append p names (f ∷ []) ∙ ap (λ (xs : List ℕ). filter p names ++ xs) (stays f g k))
+    ∙ sym (ap (λ (b : Bool). if b then g ∷ filter p names else g ∷ (filter p names ++ f ∷ [])) (among_others f g names k ∙ e))
+
+before_with : (first last : Option ℕ) (names : List ℕ) → before_others first (with_name last names) ≡ with_name last (before_others first names)
+before_with None last names = refl
+before_with (Some g) None names = refl
+before_with (Some g) (Some f) names = name_after (list_any (nat_eq f) names) (nat_eq f g) f g names refl refl
+
+first_name : (last : Option ℕ) → before_others last [] ≡ with_name last []
+first_name None = refl
+first_name (Some f) = refl
+
+-- the name of one step more
+pub named_more : (steps : List Record) (step : Record) → functions_named (steps ++ step ∷ []) ≡ with_name (function_of step.op) (functions_named steps)
+named_more [] step = first_name (function_of step.op)
+named_more (first ∷ steps) step = ap (before_others (function_of first.op)) (named_more steps step) ∙ before_with (function_of first.op) (function_of step.op) (functions_named steps)
+
+-- ---- the report
+
+pub reported_more : (steps : List Record) (op : Op) (function : Option ℕ) (reply : Reply Hit) (names others : List ℕ) (old new : Totals) → function ≡ function_of op
+    → ((f : ℕ) → counts_of new.functions f ≡ sum_of (counts_of old.functions f) (counts_for f function reply))
+    → new.replies ≡ old.replies + 1 → new.events ≡ old.events + events_by reply → new.closed ≡ old.closed + closed_by reply → new.swept ≡ old.swept + swept_by reply
+    → others ≡ with_name function names → IsReportOf steps names old → IsReportOf (steps ++ step_by op (seen_reply reply) ∷ []) others new
+reported_more steps op function reply names others old new of functions counted events closed swept named h =
+    let step = step_by op (seen_reply reply) in
+    record {
+      names_are = named ∙ ap (λ (o : Option ℕ). with_name o names) of ∙ ap (with_name (function_of op)) h.names_are ∙ sym (named_more steps step);
+      counts_are = counted_more steps step old new
+          (λ f. functions f ∙ ap (sum_of (counts_of old.functions f)) (sym (counts_seen f function reply) ∙ ap (λ (o : Option ℕ). counts_for f o (seen_reply reply)) of))
+          counted (events ∙ ap (λ n. old.events + n) (sym (events_seen reply))) (closed ∙ ap (λ n. old.closed + n) (sym (closed_seen reply)))
+          (swept ∙ ap (λ n. old.swept + n) (sym (swept_seen reply))) h.counts_are;
+    }
+
+same_counts : (a b : FunctionCounts) → a.lookups ≡ b.lookups → a.hits ≡ b.hits → a.stored ≡ b.stored → a.kept ≡ b.kept → a.evicted ≡ b.evicted → a ≡ b
+same_counts a b lookups hits stored kept evicted =
+    ap (λ n. record a { lookups = n }) lookups ∙ ap (λ n. record a { lookups = b.lookups; hits = n }) hits ∙ ap (λ n. record a { lookups = b.lookups; hits = b.hits; stored = n }) stored
+    ∙ ap (λ n. record a { lookups = b.lookups; hits = b.hits; stored = b.stored; kept = n }) kept
+    ∙ ap (λ n. record a { lookups = b.lookups; hits = b.hits; stored = b.stored; kept = b.kept; evicted = n }) evicted
+
+functions_same : (a b : ℕ → FunctionCounts) (names : List ℕ) → ((f : ℕ) → a f ≡ b f) → functions_text a names ≡ functions_text b names
+functions_same a b [] e = refl
+functions_same a b (f ∷ names) e = ap (λ (c : FunctionCounts). function_line f c ++ functions_text a names) (e f) ∙ ap (λ (xs : List ℕ). function_line f (b f) ++ xs) (functions_same a b names e)
+
+pub report_is : (steps : List Record) (names : List ℕ) (t : Totals) → IsReportOf steps names t
+    → functions_text (counts_of t.functions) names ++ total_line t.events t.closed t.swept ≡ steps_report steps
+report_is steps names t h =
+    let c = h.counts_are in
+    let of : (f : ℕ) → counts_of t.functions f ≡ counts_in steps f = λ f. same_counts _ _ (c.lookups f) (c.hits f) (c.stored f) (c.kept f) (c.evicted f) in
+    ap (λ (xs : List ℕ). xs ++ total_line t.events t.closed t.swept)
+    (ap (functions_text (counts_of t.functions)) h.names_are ∙ functions_same (counts_of t.functions) (counts_in steps) (functions_named steps) of)
+    ∙ ap (λ (xs : List ℕ). functions_text (counts_in steps) (functions_named steps) ++ xs)
+    (ap (λ n. total_line n t.closed t.swept) c.events ∙ ap (λ n. total_line (sum_by (λ s. events_by s.reply) steps) n t.swept) c.closed
+    ∙ ap (total_line (sum_by (λ s. events_by s.reply) steps) (sum_by (λ s. closed_by s.reply) steps)) c.swept)
+
+-- ---- what lines give
+
+pub steps_more : (given : List Given) (g : Given) → steps_of (given ++ g ∷ []) ≡ steps_of given ++ steps_in g
+steps_more given g = flat_map-append steps_in given (g ∷ []) ∙ ap (λ (xs : List Record). steps_of given ++ xs) (append-nil (steps_in g))
+
+pub on_ok : {T E : Type 0} (r : Result T E) (P Q : Type 0) → (P → Q) → OnOk r P → OnOk r Q
+on_ok (Ok x) P Q f h = f h
+on_ok (Err e) P Q f h = tt
+
+-- the line of one function more
+pub line_more : (counts : ℕ → FunctionCounts) (text line new all : List ℕ) (f : ℕ) (left rest : List ℕ) → left ≡ f ∷ rest → text ++ functions_text counts left ≡ all
+    → new ≡ text ++ line → line ≡ function_line f (counts f) → new ++ functions_text counts rest ≡ all
+line_more counts text line new all f left rest at so_far pushed is =
+    ap (λ (xs : List ℕ). xs ++ functions_text counts rest) (pushed ∙ ap (λ (xs : List ℕ). text ++ xs) is) ∙ append_assoc text (function_line f (counts f)) (functions_text counts rest)
+    ∙ ap (λ (xs : List ℕ). text ++ functions_text counts xs) (sym at) ∙ so_far

@@ -1,0 +1,20 @@
+use Rattle.std.proofs.Common.{◌≡◌, ◌+◌, ◌*◌, ◌≤◌, List, ℕ, []}
+use Rattle.std.specs.Prelude.{string_bytes}
+use Rattle.std.specs.Io.KnownBytes.{Appends, Consumes}
+use Rattle.txc_run.specs.Sessions.{HasAnswered}
+use Rattle.txc_run.specs.Runs.{start_of}
+use Rattle.txc_run.proofs.script.run_session.Given as goal
+
+abbrev pub invariant-reads : goal.invariant-reads
+invariant-reads g l = record {
+  counted : l.session.lines + l.reads.left * 16384 ≤ 1048576 * 16384;
+  read : List ℕ;
+  written : List ℕ;
+  consumed : Consumes (g.R.Read.remaining l.fn.reader) (g.R.Read.remaining l.reader) read;
+  appended : Appends (g.W.Write.contents l.fn.writer) (g.W.Write.contents l.writer) written;
+  answered : HasAnswered (start_of l.fn.mode l.fn.settings) read written l.session;
+  none : string_bytes l.session.replies.text ≡ [];
+}
+
+abbrev pub decreases-reads : goal.decreases-reads
+decreases-reads g l = l.reads.left

@@ -1,0 +1,13 @@
+use Rattle.std.proofs.Common.{rules}
+use Rattle.std.specs.Prelude.{Some}
+use Rattle.txc_node.specs.declared.op.Op.TheVariants.{Insert}
+use Rattle.txc_node.specs.declared.refusal.Refusal.TheVariants.{Memory}
+use Rattle.txc_node.specs.declared.reply.Reply.TheVariants as replies
+use Rattle.txc_run.proofs.Taking.{taken}
+use Rattle.txc_run.proofs.step.insert.Goals as goal
+
+pub returns-in-Ok-clause-after : goal.returns-in-Ok-clause-after
+returns-in-Ok-clause-after c = taken c.take.result c.args.node.now c.insert.new.self (Insert c.args.entry) (replies.Inserted c.in-Ok.inserted) (Some c.function.result) c.args.replies.now c.take.new.self (search rules) (λ _. search rules) c.take.ensures.after
+
+pub returns-clause-after : goal.returns-clause-after
+returns-clause-after c = taken c.take-in-Err.result c.args.node.now c.insert.new.self (Insert c.args.entry) (replies.Refused Memory) (Some c.function.result) c.args.replies.now c.take-in-Err.new.self (search rules) (λ _. search rules) c.take-in-Err.ensures.after

@@ -1,0 +1,17 @@
+use Rattle.std.proofs.Common.{rules}
+use Rattle.std.specs.Prelude.{Some}
+use Rattle.txc_node.specs.Hit.{seen}
+use Rattle.txc_node.specs.declared.op.Op.TheVariants.{Lookup}
+use Rattle.txc_node.specs.declared.refusal.Refusal.TheVariants.{EmptyRange}
+use Rattle.txc_node.specs.declared.reply.Reply.TheVariants as replies
+use Rattle.txc_run.proofs.Taking.{taken}
+use Rattle.txc_run.proofs.step.lookup.Goals as goal
+
+pub returns-in-Ok-Some-clause-after : goal.returns-in-Ok-Some-clause-after
+returns-in-Ok-Some-clause-after c = taken c.take.result c.args.node.now _ (Lookup c.args.key c.args.lo c.args.hi) (replies.Hit (seen c.in-Ok-Some.hit)) (Some c.function.result) c.args.replies.now c.take.new.self (search rules) (λ _. search rules) c.take.ensures.after
+
+pub returns-in-Ok-None-clause-after : goal.returns-in-Ok-None-clause-after
+returns-in-Ok-None-clause-after c = taken c.take-in-Ok-None.result c.args.node.now _ (Lookup c.args.key c.args.lo c.args.hi) (replies.Miss) (Some c.function.result) c.args.replies.now c.take-in-Ok-None.new.self (search rules) (λ _. search rules) c.take-in-Ok-None.ensures.after
+
+pub returns-in-Err-clause-after : goal.returns-in-Err-clause-after
+returns-in-Err-clause-after c = taken c.take-in-Err.result c.args.node.now _ (Lookup c.args.key c.args.lo c.args.hi) (replies.Refused EmptyRange) (Some c.function.result) c.args.replies.now c.take-in-Err.new.self (search rules) (λ _. search rules) c.take-in-Err.ensures.after

@@ -1,0 +1,136 @@
+//! Reports: counts of replies, in place of the replies.
+ghost use Rattle.std.specs.Prelude.{◌≡◌, ◌+◌, ◌^◌, ◌<◌, ◌≤◌, ◌++◌, [], ◌∷◌, ℕ, List, All, IfOk, OnOk, IfSome, codes, string_bytes};
+ghost use Rattle.std.specs.Fmt.{decimal};
+ghost use Rattle.txc_node.specs.Steps.{function_of, seen_reply};
+ghost use Rattle.txc_node.specs.Counts.{counts_of};
+ghost use Rattle.txc_node.specs.declared.op.Op.{Op};
+ghost use Rattle.txc_node.specs.declared.record.Record.{Record};
+ghost use Rattle.txc_tags.specs.declared.key.TheConstants.{LAST_FUNCTION};
+ghost use Rattle.txc_run.specs.Reports.{IsReportOf, function_line, functions_text, step_by, steps_report, total_line, with_name};
+
+use indexmap::IndexSet;
+use std::alloc::{AllocError, Global};
+use txc_node::{Counts, FunctionCounts, Hit, Reply};
+use txc_tags::LAST_FUNCTION;
+
+/// How many functions there are.
+const FUNCTIONS: usize = LAST_FUNCTION as usize + 1;
+
+/// What a report says of the replies so far.
+#[derive(Drop)]
+pub struct Report {
+    counts: Counts,
+    /// The functions that lookups and insertions named which were not refused, in the order of their first
+    /// naming.
+    functions: IndexSet<u8>,
+    ghost in_range: { All (λ f. f ≤ LAST_FUNCTION) functions.keys },
+}
+
+/// The beginning of a function's line.
+fn lookups_text(alloc: Global, function: u8, lookups: u64, hits: u64) -> Result<String, AllocError>
+    ensures { IfOk result (λ text. string_bytes text ≡ codes "f" ++ (decimal function ++ (codes " lookups "
+        ++ (decimal lookups ++ (codes " hits " ++ decimal hits))))) }
+{
+    format!(in alloc; "f{function} lookups {lookups} hits {hits}")
+}
+
+/// The end of a function's line.
+fn insertions_text(
+    alloc: Global,
+    stored: u64,
+    kept: u64,
+    evicted: u64,
+) -> Result<String, AllocError>
+    ensures { IfOk result (λ text. string_bytes text ≡ codes " stored " ++ (decimal stored ++ (codes " kept "
+        ++ (decimal kept ++ (codes " evicted " ++ (decimal evicted ++ 10 ∷ [])))))) }
+{
+    format!(in alloc; " stored {stored} kept {kept} evicted {evicted}\n")
+}
+
+/// The line of what is counted in all.
+fn total_line(alloc: Global, events: u64, closed: u128, swept: u128) -> Result<String, AllocError>
+    ensures { IfOk result (λ line. string_bytes line ≡ total_line events closed swept) }
+{
+    format!(in alloc; "total events {events} closed {closed} swept {swept}\n")
+}
+
+/// The line of a function.
+fn function_line(alloc: Global, function: u8, counts: FunctionCounts) -> Result<String, AllocError>
+    ensures { IfOk result (λ line. string_bytes line ≡ function_line function counts) }
+{
+    let mut line = lookups_text(alloc, function, counts.lookups, counts.hits)?;
+    let end = insertions_text(alloc, counts.stored, counts.kept, counts.evicted)?;
+    line.push_str(end.as_str())?;
+    Ok(line)
+}
+
+impl Report {
+    /// No reply was counted. The room for all functions is made now.
+    pub fn new(alloc: Global) -> Result<Report, AllocError>
+        ensures empty { IfOk result (λ r. IsReportOf [] r.functions.keys r.counts) }
+        ensures replies { IfOk result (λ r. r.counts.replies ≡ 0) }
+    {
+        Ok(Report {
+            counts: Counts::new(),
+            functions: IndexSet::with_capacity(alloc, FUNCTIONS)?,
+        })
+    }
+
+    /// Notes that a function was named.
+    fn name(&mut self, function: Option<u8>) -> Result<(), AllocError>
+        requires { IfSome function (λ f. f ≤ LAST_FUNCTION) }
+        ensures after { OnOk result (self.new.functions.keys ≡ with_name function self.old.functions.keys) }
+        ensures unchanged { self.new.counts ≡ self.old.counts }
+    {
+        match function {
+            None => Ok(()),
+            Some(function) => match self.functions.insert(function) {
+                Ok(_) => Ok(()),
+                Err(_) => Err(AllocError),
+            },
+        }
+    }
+
+    /// Counts a reply to a step of that function, if it is of one.
+    pub fn count(&mut self, function: Option<u8>, reply: &Reply<Hit<'_>>) -> Result<(), AllocError>
+        requires function { IfSome function (λ f. f ≤ LAST_FUNCTION) }
+        requires room { self.old.counts.replies + 1 < 2 ^ 64 }
+        ensures after { OnOk result ((steps : List Record) (op : Op) → function ≡ function_of op
+            → IsReportOf steps self.old.functions.keys self.old.counts
+            → IsReportOf (steps ++ step_by op (seen_reply reply.now) ∷ [])
+            self.new.functions.keys self.new.counts) }
+        ensures bound { self.new.counts.replies ≤ self.old.counts.replies + 1 }
+    {
+        self.counts.count(function, reply);
+        self.name(function)
+    }
+
+    /// The lines of the functions.
+    fn function_lines(&self, alloc: Global) -> Result<String, AllocError>
+        ensures { IfOk result (λ text. string_bytes text
+            ≡ functions_text (counts_of self.now.counts.functions) self.now.functions.keys) }
+    {
+        let mut text = String::new(alloc);
+        for function in &self.functions {
+            let line = function_line(alloc, *function, self.counts.of(*function))?;
+            text.push_str(line.as_str())?;
+        }
+        Ok(text)
+    }
+
+    /// What is written: a line for each function, and a line for all.
+    pub fn text(&self, alloc: Global) -> Result<String, AllocError>
+        ensures { (steps : List Record) → IsReportOf steps self.now.functions.keys self.now.counts
+            → IfOk result (λ text. string_bytes text ≡ steps_report steps) }
+    {
+        let mut text = self.function_lines(alloc)?;
+        let total = total_line(
+            alloc,
+            self.counts.events(),
+            self.counts.closed(),
+            self.counts.swept(),
+        )?;
+        text.push_str(total.as_str())?;
+        Ok(text)
+    }
+}

@@ -1,0 +1,14 @@
+//! What a run is set to: its mode, and its settings, which are read from a TOML document.
+#![tactic(auto)]
+
+mod error;
+mod keys;
+mod limits;
+mod mode;
+mod read;
+mod settings;
+
+pub use error::SettingsError;
+pub use limits::{MAX_NODES, MAX_PERMITS, MAX_RENEW_AFTER, MAX_ROW_CAP, MAX_WORKERS};
+pub use mode::Mode;
+pub use settings::Settings;
