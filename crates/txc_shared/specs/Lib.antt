@@ -1,0 +1,12 @@
+pub mod Each
+pub mod Eval
+pub mod Answering
+pub mod Claims
+pub mod Histories
+pub mod Runs
+pub mod Laws
+pub mod Nodes
+pub mod Refusals
+pub mod Passes
+pub mod Worked
+pub mod WorkedNodes
