@@ -10,3 +10,4 @@ pub mod Turns
 pub mod Nodes
 pub mod Passes
 pub mod Locking
+pub mod Crosses

@@ -1,8 +1,10 @@
 -- What calls under the lock leave of the node, and what they show a pass.
 use Rattle.std.proofs.Common.{◌≡◌, ◌≢◌, ◌⊎◌, inl, inr, ℕ, ◌+◌, ◌≤◌, List, [], ◌∷◌, ◌++◌, length, append_assoc, Bool, true, false, true≢false, Option, Some, None, cond, take, refl, sym, ap, subst, ◌∙◌, arith}
+use Rattle.std.specs.Prelude.{Result, Ok, Err, IfErr}
 use Rattle.std.specs.Option.{option_map}
+use Rattle.std.proofs.lemmas.Result.{IfErr-weaker}
 use mathlib.Core.List.{IsPrefix}
-use Rattle.txc_stream.proofs.Prefix.{prefix_trans, prefix_push}
+use Rattle.txc_stream.proofs.Offered.{prefix_trans, prefix_push}
 use Rattle.txc_tags.specs.Keys.{Call}
 use Rattle.txc_db.specs.Facts.{EventValue}
 use Rattle.txc_db.specs.Seen.{FrontValue}
@@ -18,8 +20,9 @@ use Rattle.txc_shared.specs.declared.error.NodeError.{NodeError}
 use Rattle.txc_shared.specs.declared.error.NodeError.TheVariants.{Broken, EmptyRange, HistoryFull, PassesFull, Memory}
 use Rattle.txc_shared.specs.Histories.{records_of, next_record, is_event}
 use Rattle.txc_shared.specs.Nodes.{NodeValue, after_call, seeing, entry_shown}
-use Rattle.txc_shared.specs.Refusals.{IsLeft}
-use Rattle.txc_shared.specs.Passes.{PassValue, seeing_all, IsAhead, IsAdmitted, IsNamed, GrowsByOthers, Follows, HasMade, HasFound}
+use Rattle.txc_shared.specs.Refusals.{IsStepRefused, IsLookupRefused, IsLeft, IsRefusedThrough, MayRefuse}
+use Rattle.txc_shared.specs.Passes.{PassValue, DoAgree, GrowsByOthers, HasMade, HasFound}
+use Rattle.txc_shared.specs.Locked.{IsNamed, IsAhead, IsAdmitted}
 use Rattle.txc_shared.proofs.Histories.{records_of-append, used_processed, kept_processed}
 
 -- ---- the node
@@ -60,14 +63,13 @@ module _ (rows : ℕ → List ℕ) (row : List ℕ) (taken : ℕ) where
 -- ---- a step of an admitted pass
 
 -- the node goes on ahead of the pass
-pub ahead_after : (n : NodeValue) (p : PassValue) (seen : FrontValue) (op : Op) → IsPrefix n.seen.history seen.history → IsAdmitted n p → IsAhead (after_call (seeing n seen) p.pass op) p
-ahead_after n p seen op more h = record {
+pub ahead_after : (n m : NodeValue) (p : PassValue) (seen : FrontValue) (op : Op) → IsAdmitted n p → m ≡ after_call (seeing n seen) p.pass op → IsAhead m p
+ahead_after n m p seen op h is = subst (λ (k : NodeValue). IsAhead k p) (sym is) (record {
   whole = h.ahead.whole;
   settings = h.ahead.settings;
   own = h.ahead.own;
   records = prefix_trans p.records n.records _ h.ahead.records (prefix_push n.records (next_record p.pass n.records op (step_reply n.cache op)));
-  history = prefix_trans p.history n.seen.history seen.history h.ahead.history more;
-}
+})
 
 -- what others did since
 pub others_did : (own : ℕ) (old all : List Record) → IsPrefix old all → records_of own all ≡ records_of own old → GrowsByOthers own old all
@@ -78,15 +80,16 @@ others_did own old all begins same = record {
 }
 
 -- and then a step of its own
-pub then_own : (n : NodeValue) (p : PassValue) (op : Op) (reply : Reply Shown) (new : List Record) → IsAdmitted n p → reply ≡ step_reply n.cache op
-    → new ≡ n.records ++ next_record p.pass n.records op (step_reply n.cache op) ∷ [] → Follows p.pass p.records new op reply
-then_own n p op reply new h reply_is new_is =
+pub then_own : (n m : NodeValue) (p q : PassValue) (seen : FrontValue) (op : Op) (reply : Reply Shown) → IsAdmitted n p
+    → m ≡ after_call (seeing n seen) p.pass op → q.records ≡ m.records → reply ≡ step_reply n.cache op → HasMade p q op reply
+then_own n m p q seen op reply h is shows reply_is =
     let o = others_did p.pass p.records n.records h.ahead.records h.turn in
     let last : next_record p.pass n.records op (step_reply n.cache op) ≡ next_record p.pass p.records op reply =
         λ i. record { pass = p.pass; turn = h.turn i; op = op; reply = (sym reply_is) i } in
     record {
       others = o.others;
-      is = new_is ∙ ((λ i. o.is i ++ last i ∷ []) ∙ append_assoc p.records o.others (next_record p.pass p.records op reply ∷ []));
+      is = shows ∙ (ap (λ (k : NodeValue). k.records) is
+          ∙ ((λ i. o.is i ++ last i ∷ []) ∙ append_assoc p.records o.others (next_record p.pass p.records op reply ∷ [])));
       none = o.none;
     }
 
@@ -95,3 +98,31 @@ pub has_found : (old new : PassValue) (key : Call) (op : Op) (shown : Option Sho
     → HasMade old new op (found_reply shown) → HasFound old new op found
 has_found old new key op None found is h = subst (HasFound old new op) (sym is) h
 has_found old new key op (Some s) found is h = subst (HasFound old new op) (sym is) h
+
+-- ---- refusals
+
+-- refused by a node that the pass agrees with
+pub refused_through : (refused : NodeValue → NodeError → Type 0) (n : NodeValue) (p : PassValue) (e : NodeError) → DoAgree n p → refused n e → IsRefusedThrough refused n p e
+refused_through refused n p Broken agrees h = inl h
+refused_through refused n p EmptyRange agrees h = (h, agrees)
+refused_through refused n p HistoryFull agrees h = (h, agrees)
+refused_through refused n p PassesFull agrees h = (h, agrees)
+refused_through refused n p Memory agrees h = (h, agrees)
+
+-- a full history leaves the node as it was
+pub full_left : (n m : NodeValue) (p : PassValue) (e : NodeError) → IsAdmitted n p → IsLeft n m e → (e ≡ HistoryFull → length n.records ≡ length n.cells)
+    → e ≡ HistoryFull → IsAdmitted m p × (length m.records ≡ length m.cells)
+full_left n m p e h left full is =
+    let same : m ≡ n = subst (IsLeft n m) is left in
+    subst (λ (k : NodeValue). IsAdmitted k p × (length k.records ≡ length k.cells)) (sym same) (h, full is)
+
+pub step_full : (n : NodeValue) (e : NodeError) → IsStepRefused n e → e ≡ HistoryFull → length n.records ≡ length n.cells
+step_full n e h is = (let full : IsStepRefused n HistoryFull = subst (IsStepRefused n) is h in full).1
+
+pub lookup_full : (n : NodeValue) (lo hi : ℕ) (e : NodeError) → IsLookupRefused n lo hi e → e ≡ HistoryFull → length n.records ≡ length n.cells
+lookup_full n lo hi e h is = (let full : IsLookupRefused n lo hi HistoryFull = subst (IsLookupRefused n lo hi) is h in full).0.1
+
+-- the node under the lock is the one that refuses
+pub may_refuse : {T : Type 0} (n : NodeValue) (rows : ℕ → List ℕ) (refused : NodeValue → NodeError → Type 0) (r : Result T NodeError)
+    → n.cells ≡ rows n.settings.number → IfErr r (refused n) → IfErr r (MayRefuse rows refused)
+may_refuse n rows refused r named h = IfErr-weaker r (refused n) (MayRefuse rows refused) (λ e w. (n, named, w)) h

@@ -1,7 +1,7 @@
 -- What passes show.
 use Rattle.std.proofs.Common.{◌≡◌, ◌⊎◌, inl, inr, List, [], ◌∷◌, ◌++◌, refl, sym, ap, subst, ◌∙◌}
 use mathlib.Core.List.{IsPrefix}
-use Rattle.txc_stream.proofs.Prefix.{longer_is}
+use Rattle.txc_stream.proofs.Offered.{longer_is}
 use Rattle.txc_db.specs.History.{History}
 use Rattle.txc_node.specs.Cache.{Cache}
 use Rattle.txc_node.specs.declared.record.Record.{Record}

@@ -6,7 +6,8 @@ pub mod Histories
 pub mod Runs
 pub mod Laws
 pub mod Nodes
-pub mod Refusals
 pub mod Passes
+pub mod Refusals
+pub mod Locked
 pub mod Worked
 pub mod WorkedNodes

@@ -1,5 +1,5 @@
 -- Passes through a node, and what their calls leave.
-use Rattle.std.specs.Prelude.{◌≡◌, ◌⊎◌, ℕ, ◌<◌, ◌≤◌, false, List, [], ◌∷◌, ◌++◌, length, Option, Some, None}
+use Rattle.std.specs.Prelude.{◌≡◌, ◌⊎◌, ℕ, ◌<◌, ◌≤◌, List, [], ◌∷◌, ◌++◌, length, Option, Some, None}
 use mathlib.Core.List.{IsPrefix}
 use Rattle.txc_tags.specs.declared.tag.Tag.{Tag}
 use Rattle.txc_db.specs.History.{History}
@@ -27,22 +27,18 @@ pub record PassValue : Type 0 where
   pub records : List Record
   pub history : History
 
--- the pass, when it sees what the node has seen
-abbrev pub seeing_all : PassValue → NodeValue → PassValue
-seeing_all p n = record p { records = n.records; history = n.seen.history }
+-- the pass, having seen no less than before
+pub record HasGrown (old new : PassValue) : Type 0 where
+  pub is : new ≡ record old { records = new.records; history = new.history }
+  pub records : IsPrefix old.records new.records
+  pub history : IsPrefix old.history new.history
 
--- a whole node of the pass, which has seen all that the pass has seen
-pub record IsAhead (n : NodeValue) (p : PassValue) : Type 0 where
-  pub whole : n.broken ≡ false
-  pub settings : p.settings ≡ n.settings
-  pub own : p.pass < n.passes
-  pub records : IsPrefix p.records n.records
-  pub history : IsPrefix p.history n.seen.history
-
--- the pass may make a step: the node is ahead of it, with as many records of the pass
-pub record IsAdmitted (n : NodeValue) (p : PassValue) : Type 0 where
-  pub ahead : IsAhead n p
-  pub turn : records_of p.pass n.records ≡ records_of p.pass p.records
+-- the pass, having seen these records, and the longer of its own history and another
+pub record HasSeen (old : PassValue) (records : List Record) (history : History) (new : PassValue) : Type 0 where
+  pub grown : HasGrown old new
+  pub records : new.records ≡ records
+  pub either : (new.history ≡ old.history) ⊎ (new.history ≡ history)
+  pub whole : IsPrefix history new.history
 
 -- the node agrees with what the pass says of it: its settings, its number, its turn, and how many records it has seen
 pub record DoAgree (n : NodeValue) (p : PassValue) : Type 0 where
@@ -50,13 +46,6 @@ pub record DoAgree (n : NodeValue) (p : PassValue) : Type 0 where
   pub own : p.pass < n.passes
   pub turn : records_of p.pass n.records ≡ records_of p.pass p.records
   pub seen : length p.records ≤ length n.records
-
--- what lies under a node's lock: the node's row and the database's are the named ones, and, unless it is broken, as many events
--- were taken from the feed as it took
-pub record IsNamed (rows : ℕ → List ℕ) (row : List ℕ) (taken : ℕ) (n : NodeValue) : Type 0 where
-  pub cells : n.cells ≡ rows n.settings.number
-  pub events : n.seen.events ≡ row
-  pub in_step : n.broken ≡ false → taken ≡ n.cache.processed
 
 -- ---- what a call leaves
 

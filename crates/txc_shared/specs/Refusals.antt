@@ -1,10 +1,12 @@
 -- Why calls of a node are refused, and what a refusal leaves.
-use Rattle.std.specs.Prelude.{◌≡◌, ◌⊎◌, ℕ, ◌<◌, ◌≤◌, true, false, length}
+use Rattle.std.specs.Prelude.{◌≡◌, ◌≢◌, ◌⊎◌, ℕ, ◌<◌, ◌≤◌, List, true, false, length}
 use mathlib.Core.List.{IsPrefix}
 use Rattle.txc_shared.specs.declared.error.NodeError.{NodeError}
 use Rattle.txc_shared.specs.declared.error.NodeError.TheVariants.{Broken, EmptyRange, HistoryFull, PassesFull, Memory}
 use Rattle.txc_shared.specs.declared.log.TheConstants.{MAX_PASSES}
+use Rattle.txc_shared.specs.declared.settings.NodeSettings.{NodeSettings}
 use Rattle.txc_shared.specs.Nodes.{NodeValue}
+use Rattle.txc_shared.specs.Passes.{PassValue, DoAgree}
 
 -- a step can be recorded: the node is whole, and there is room for one record more
 pub record IsOpen (n : NodeValue) : Type 0 where
@@ -44,3 +46,19 @@ pub record IsBroken (old new : NodeValue) : Type 0 where
 abbrev pub IsLeft : NodeValue → NodeValue → NodeError → Type 0
 IsLeft old new Broken = ((new ≡ old) × (old.broken ≡ true)) ⊎ IsBroken old new
 IsLeft old new e = new ≡ old
+
+-- ---- under the lock
+
+-- through a pass: before all else broken, where the node does not agree with the pass
+abbrev pub IsRefusedThrough : (NodeValue → NodeError → Type 0) → NodeValue → PassValue → NodeError → Type 0
+IsRefusedThrough refused n p Broken = refused n Broken ⊎ ¬ (DoAgree n p)
+IsRefusedThrough refused n p e = refused n e × DoAgree n p
+
+-- of a new pass: before all else broken, where the node was made otherwise
+abbrev pub IsNewPassRefused : NodeSettings → NodeValue → NodeError → Type 0
+IsNewPassRefused settings n Broken = (n.broken ≡ true) ⊎ (settings ≢ n.settings)
+IsNewPassRefused settings n e = IsPassRefused n e × (settings ≡ n.settings)
+
+-- some node of a named row refuses so
+abbrev pub MayRefuse : (ℕ → List ℕ) → (NodeValue → NodeError → Type 0) → NodeError → Type 0
+MayRefuse rows refused e = (n : NodeValue) × (n.cells ≡ rows n.settings.number) × refused n e

@@ -13,6 +13,7 @@ mod log;
 mod node_front;
 mod node_pass;
 mod settings;
+mod shared_node;
 mod stored_node;
 
 pub use advanced::Advanced;
@@ -25,4 +26,5 @@ pub use log::MAX_PASSES;
 pub use node_front::NodeFront;
 pub use node_pass::{NodePass, audit, meet};
 pub use settings::NodeSettings;
+pub use shared_node::SharedNode;
 pub use stored_node::StoredNode;

@@ -4,7 +4,7 @@ ghost use mathlib.Core.List.{IsPrefix};
 ghost use Rattle.txc_node.specs.Counts.{AreCountsOf};
 ghost use Rattle.txc_shared.specs.Histories.{records_of, IsLegal};
 ghost use Rattle.txc_shared.specs.Nodes.{start_of};
-ghost use Rattle.txc_shared.specs.Passes.{PassValue};
+ghost use Rattle.txc_shared.specs.Passes.{PassValue, HasSeen};
 
 use crate::laws::legal_histories;
 use crate::node_front::NodeFront;
@@ -64,12 +64,25 @@ impl<J: Naming> NodePass<J> {
         }
     }
 
-    /// How many records it has seen, of itself and of others. They are a legal history of the node.
+    /// How its node was made.
+    pub fn settings(&self) -> NodeSettings
+        ensures { result ≡ self.now.settings }
+    {
+        self.settings
+    }
+
+    /// How many records it has seen, of itself and of others.
     pub fn len(&self) -> usize
-        ensures len { result ≡ length self.now.records }
-        ensures legal { IsLegal self.now.history (start_of self.now.settings) self.now.records }
+        ensures { result ≡ length self.now.records }
     {
         self.records.len()
+    }
+
+    /// What it has seen is a legal history of its node. It does nothing when it runs.
+    pub fn is_legal(&self)
+        ensures { IsLegal self.now.history (start_of self.now.settings) self.now.records }
+    {
+        let _len = self.records.len();
     }
 
     /// The records that it has seen.
@@ -88,16 +101,17 @@ impl<J: Naming> NodePass<J> {
         &self.events
     }
 
-    /// Sees the whole of what the fronts show, which go on from its own, and which have that many records of its own.
+    /// Sees the records that a front shows, which go on from its own and have that many of its own, and what the other
+    /// front shows of the database's history beyond what it has seen itself.
     pub(crate) fn see(&mut self, records: &NodeFront, events: &HistoryFront, turn: usize)
         requires cells { records.now.cells ≡ J.node_rows self.old.settings.number }
         requires row { events.now.events ≡ J.database_row }
         requires records { IsPrefix self.old.records records.now.records }
-        requires history { IsPrefix self.old.history events.now.history }
         requires turn { turn ≡ records_of self.old.pass records.now.records }
         requires legal { IsLegal events.now.history (start_of self.old.settings) records.now.records }
-        ensures { self.new ≡ record self.old { records = records.now.records; history = events.now.history } }
+        ensures { HasSeen self.old records.now.records events.now.history self.new }
     {
+        legal_histories();
         self.records.longer(records);
         self.events.longer(events);
         self.turn = turn;
@@ -125,6 +139,7 @@ pub fn meet<J: Naming>(one: &mut NodePass<J>, other: &mut NodePass<J>)
     ensures either { (one.new.records ≡ one.old.records) ⊎ (one.new.records ≡ other.old.records) }
     ensures seen { IsPrefix one.old.records one.new.records }
     ensures others_seen { IsPrefix other.old.records one.new.records }
+    ensures either_history { (one.new.history ≡ one.old.history) ⊎ (one.new.history ≡ other.old.history) }
     ensures history { IsPrefix one.old.history one.new.history }
     ensures others_history { IsPrefix other.old.history one.new.history }
     ensures legal { IsLegal one.new.history (start_of one.new.settings) one.new.records }

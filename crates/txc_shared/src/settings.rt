@@ -7,6 +7,4 @@ pub struct NodeSettings {
     pub capacity: usize,
     /// How many of the last events it keeps the tags of, from 1 to [`txc_node::MAX_RECENT`].
     pub recent: usize,
-    /// The most records of its history, from 1 to [`txc_stream::MAX_CAPACITY`].
-    pub records: usize,
 }

@@ -3,7 +3,6 @@ ghost use Rattle.std.specs.Prelude.{◌≡◌, ◌+◌, ◌<◌, ◌≤◌, ◌�
 ghost use Rattle.std.specs.Option.{option_map};
 ghost use Rattle.txc_node.specs.Cache.{answer, outcome, swept_count};
 ghost use Rattle.txc_node.specs.Steps.{found_reply};
-ghost use Rattle.txc_stream.specs.declared.row.TheConstants as rows;
 ghost use Rattle.txc_node.specs.declared.op.Op.TheVariants.{Insert, Lookup, Sweep};
 ghost use Rattle.txc_shared.specs.Nodes.{NodeValue, start_of, after_call, seeing, IsLonger, HasTags, entry_shown, insertion_of, HasAdvanced};
 ghost use Rattle.txc_shared.specs.Histories.{records_of};
@@ -54,24 +53,25 @@ impl<A: App> Model for StoredNode<A> {
 }
 
 impl<A: App> StoredNode<A> {
-    /// An empty node. The front shows what it has seen of the database's history.
+    /// An empty node, whose records the row will have. The front shows what it has seen of the database's history.
     pub fn new(
         alloc: Global,
         settings: NodeSettings,
+        row: EventRow<Record>,
         seen: HistoryFront,
     ) -> Result<StoredNode<A>, AllocError>
         requires capacity { (1 ≤ settings.capacity) × (settings.capacity ≤ MAX_CAPACITY) }
         requires recent { (1 ≤ settings.recent) × (settings.recent ≤ MAX_RECENT) }
-        requires records { (1 ≤ settings.records) × (settings.records ≤ rows.MAX_CAPACITY) }
         ensures settings { IfOk result (λ n. n.settings ≡ settings) }
-        ensures records { IfOk result (λ n. (n.records ≡ []) × (length n.cells ≡ settings.records)) }
+        ensures cells { IfOk result (λ n. n.cells ≡ row) }
+        ensures records { IfOk result (λ n. n.records ≡ []) }
         ensures passes { IfOk result (λ n. n.passes ≡ 0) }
         ensures cache { IfOk result (λ n. n.cache ≡ start_of settings) }
         ensures seen { IfOk result (λ n. n.seen ≡ seen) }
         ensures whole { IfOk result (λ n. n.broken ≡ false) }
     {
         nodes_go_on();
-        let row = Arc::new(alloc, EventRow::new(alloc, settings.records)?)?;
+        let row = Arc::new(alloc, row)?;
         let log = Log::new(alloc, NodeFront::new(alloc, row)?);
         let core = NodeCore::new(alloc, settings.capacity, settings.recent)?;
         Ok(StoredNode {

@@ -17,3 +17,5 @@ mod errors;
 mod rows;
 #[cfg(test)]
 mod run;
+#[cfg(test)]
+mod shared;

@@ -1,5 +1,5 @@
 use Rattle.std.proofs.Common.{◌≡◌, refl, ap, sym, subst, ◌∙◌}
-use Rattle.txc_stream.proofs.Prefix.{longer_is}
+use Rattle.txc_stream.proofs.Offered.{longer_is}
 use Rattle.txc_node.specs.Cache.{Cache}
 use Rattle.txc_shared.specs.Histories.{IsLegal}
 use Rattle.txc_shared.specs.Nodes.{start_of}

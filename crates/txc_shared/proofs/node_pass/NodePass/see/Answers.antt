@@ -9,20 +9,13 @@ pub invariant_of-self : goal.invariant_of-self
 invariant_of-self g c =
     let records = taken_over c.self.inside.records.records c.args.records.now.records c.longer.new.self.records c.args.self.now.records c.args.records.now.records
         (ap (λ (p : PassValue). p.records) c.self.view_is) refl c.requires.records c.longer.ensures.one c.longer.ensures.that in
-    let history = taken_over c.self.inside.events.history c.args.events.now.history c.longer-2.new.self.history c.args.self.now.history c.args.events.now.history
-        (ap (λ (p : PassValue). p.history) c.self.view_is) refl c.requires.history c.longer-2.ensures.one c.longer-2.ensures.that in
+    let start = start_of c.args.self.now.settings in
+    let now = c.longer-2.new.self.history in
+    let legal = c.legal_histories.ensures.longer c.args.events.now.history now start c.args.records.now.records c.longer-2.ensures.that c.requires.legal in
     (
       c.longer.ensures.cells ∙ c.self.invariant.0,
       c.longer-2.ensures.events ∙ c.self.invariant.1,
       c.requires.turn ∙ (λ i. records_of ((sym c.self.view_is) i).pass ((sym records) i)),
-      legal_as c.longer-2.new.self.history c.args.events.now.history (start_of c.self.inside.settings) (start_of c.args.self.now.settings) c.longer.new.self.records c.args.records.now.records
-          history (ap (λ (p : PassValue). start_of p.settings) c.self.view_is) records c.requires.legal,
+      legal_as now now (start_of c.self.inside.settings) start c.longer.new.self.records c.args.records.now.records
+          refl (ap (λ (p : PassValue). start_of p.settings) c.self.view_is) records legal,
     )
-
-pub returns : goal.returns
-returns g c =
-    let records = taken_over c.self.inside.records.records c.args.records.now.records c.longer.new.self.records c.args.self.now.records c.args.records.now.records
-        (ap (λ (p : PassValue). p.records) c.self.view_is) refl c.requires.records c.longer.ensures.one c.longer.ensures.that in
-    let history = taken_over c.self.inside.events.history c.args.events.now.history c.longer-2.new.self.history c.args.self.now.history c.args.events.now.history
-        (ap (λ (p : PassValue). p.history) c.self.view_is) refl c.requires.history c.longer-2.ensures.one c.longer-2.ensures.that in
-    λ i. record { settings = (c.self.view_is i).settings; pass = (c.self.view_is i).pass; records = records i; history = history i }
