@@ -4,61 +4,33 @@ use Rattle.std.specs.Prelude.{Result, Ok, Err, IfErr}
 use Rattle.std.specs.Option.{option_map}
 use Rattle.std.proofs.lemmas.Result.{IfErr-weaker}
 use mathlib.Core.List.{IsPrefix}
-use Rattle.txc_stream.proofs.Offered.{prefix_trans, prefix_push}
+use Rattle.txc_stream.proofs.Offered.{prefix_trans, prefix_push, longer_is}
 use Rattle.txc_tags.specs.Keys.{Call}
-use Rattle.txc_db.specs.Facts.{EventValue}
+use Rattle.txc_db.specs.History.{tags_at}
 use Rattle.txc_db.specs.Seen.{FrontValue}
 use Rattle.txc_node.specs.declared.entry.Entry.{Entry}
 use Rattle.txc_node.specs.declared.hit.Shown.{Shown}
 use Rattle.txc_node.specs.declared.op.Op.{Op}
 use Rattle.txc_node.specs.declared.op.Op.TheVariants as ops
 use Rattle.txc_node.specs.declared.reply.Reply.{Reply}
+use Rattle.txc_node.specs.declared.reply.Reply.TheVariants as replies
 use Rattle.txc_node.specs.declared.record.Record.{Record}
 use Rattle.txc_node.specs.Cache.{Cache, found, is_kept}
 use Rattle.txc_node.specs.Steps.{found_reply, step_reply, after_step}
+use Rattle.txc_shared.specs.declared.advanced.Advanced.{Advanced}
+use Rattle.txc_shared.specs.declared.advanced.Advanced.TheVariants.{Taken, Idle}
+use Rattle.txc_shared.specs.declared.settings.NodeSettings.{NodeSettings}
+use Rattle.txc_shared.specs.Eval.{Next}
+use Rattle.txc_shared.specs.Runs.{IsNode}
+use Rattle.txc_shared.specs.Laws.{EventsAreTaken}
 use Rattle.txc_shared.specs.declared.error.NodeError.{NodeError}
 use Rattle.txc_shared.specs.declared.error.NodeError.TheVariants.{Broken, EmptyRange, HistoryFull, PassesFull, Memory}
-use Rattle.txc_shared.specs.Histories.{records_of, next_record, is_event}
-use Rattle.txc_shared.specs.Nodes.{NodeValue, after_call, seeing, entry_shown}
+use Rattle.txc_shared.specs.Histories.{cache_after, records_of, events_of, next_record, is_event}
+use Rattle.txc_shared.specs.Nodes.{NodeValue, start_of, after_call, seeing, entry_shown, next_event, HasAdvanced}
 use Rattle.txc_shared.specs.Refusals.{IsStepRefused, IsLookupRefused, IsLeft, IsRefusedThrough, MayRefuse}
-use Rattle.txc_shared.specs.Passes.{PassValue, DoAgree, GrowsByOthers, HasMade, HasFound}
+use Rattle.txc_shared.specs.Passes.{PassValue, DoAgree, HasSeen, GrowsByOthers, HasMade, HasFound, HasTaken}
 use Rattle.txc_shared.specs.Locked.{IsNamed, IsAhead, IsAdmitted}
 use Rattle.txc_shared.proofs.Histories.{records_of-append, used_processed, kept_processed}
-
--- ---- the node
-
-module _ (rows : ℕ → List ℕ) (row : List ℕ) (taken : ℕ) where
-  -- a step that is no event
-  quiet : (c : Cache) (op : Op) → is_event op ≡ false → (after_step c op).processed ≡ c.processed
-  quiet c (ops.Lookup key lo hi) none = used_processed c (found c key lo hi)
-  quiet c (ops.Insert e) none = kept_processed c e (is_kept c e)
-  quiet c (ops.Event stamp tags) none = absurd (true≢false none)
-  quiet c (ops.Sweep horizon) none = refl
-
-  pub named_after : (n m : NodeValue) (seen : FrontValue) (pass : ℕ) (op : Op) → IsNamed rows row taken n → is_event op ≡ false → seen.events ≡ n.seen.events
-      → m ≡ after_call (seeing n seen) pass op → IsNamed rows row taken m
-  named_after n m seen pass op h none same is = subst (IsNamed rows row taken) (sym is) (record {
-    cells = h.cells;
-    events = same ∙ h.events;
-    in_step = λ whole. h.in_step whole ∙ sym (quiet n.cache op none);
-  })
-
-  broken_named : (n m : NodeValue) → IsNamed rows row taken n → (m ≡ n) ⊎ ((m.settings ≡ n.settings) × (m.cells ≡ n.cells) × (m.seen.events ≡ n.seen.events) × (m.broken ≡ true)) → IsNamed rows row taken m
-  broken_named n m h (inl same) = subst (IsNamed rows row taken) (sym same) h
-  broken_named n m h (inr b) = record {
-    cells = b.1 ∙ (h.cells ∙ ap (λ (s : NodeValue). rows s.settings.number) (refl {x = n}) ∙ ap (λ k. rows k.number) (sym b.0));
-    events = b.2 ∙ h.events;
-    in_step = λ whole. absurd (true≢false (sym b.3 ∙ whole));
-  }
-
-  pub named_left : (n m : NodeValue) (e : NodeError) → IsNamed rows row taken n → IsLeft n m e → IsNamed rows row taken m
-  named_left n m Broken h (inl same) = broken_named n m h (inl same.0)
-  named_left n m Broken h (inr b) =
-      broken_named n m h (inr (ap (λ (s : NodeValue). s.settings) b.is, ap (λ (s : NodeValue). s.cells) b.is, b.events, ap (λ (s : NodeValue). s.broken) b.is))
-  named_left n m EmptyRange h same = broken_named n m h (inl same)
-  named_left n m HistoryFull h same = broken_named n m h (inl same)
-  named_left n m PassesFull h same = broken_named n m h (inl same)
-  named_left n m Memory h same = broken_named n m h (inl same)
 
 -- ---- a step of an admitted pass
 
@@ -88,10 +60,40 @@ then_own n m p q seen op reply h is shows reply_is =
         λ i. record { pass = p.pass; turn = h.turn i; op = op; reply = (sym reply_is) i } in
     record {
       others = o.others;
-      is = shows ∙ (ap (λ (k : NodeValue). k.records) is
-          ∙ ((λ i. o.is i ++ last i ∷ []) ∙ append_assoc p.records o.others (next_record p.pass p.records op reply ∷ [])));
+      is = shows ∙ (ap (λ (k : NodeValue). k.records) is ∙ (λ i. o.is i ++ last i ∷ []));
       none = o.none;
     }
+
+-- the same where the node sees more in between
+pub ahead_seeing : (n m k : NodeValue) (p : PassValue) (seen more : FrontValue) (op : Op) → IsAdmitted n p → m ≡ after_call (seeing n seen) p.pass op
+    → k ≡ seeing m more → IsAhead k p
+ahead_seeing n m k p seen more op h is sees =
+    let a = ahead_after n m p seen op h is in
+    subst (λ (j : NodeValue). IsAhead j p) (sym sees) (record { whole = a.whole; settings = a.settings; own = a.own; records = a.records })
+
+-- what an advance did
+pub has_taken : EventsAreTaken → (next : Next) (n m : NodeValue) (p q : PassValue) (advanced : Advanced) → IsAdmitted n p
+    → HasAdvanced (seeing n m.seen) p.pass m advanced → IsNode next m.seen.history (start_of m.settings) m.records m.cache m.broken
+    → IsPrefix p.history m.seen.history → HasSeen p m.records m.seen.history q → HasTaken p q advanced
+has_taken events next n m p q (Taken stamp closed) h a node begins s =
+    let tags = tags_at m.seen.history stamp in
+    let op_is : ◌≡◌ {A = Op} (next_event (seeing n m.seen)) (ops.Event stamp tags) = λ i. ops.Event (sym a.1 i) (tags_at m.seen.history (sym a.1 i)) in
+    (tags, then_own n m p q m.seen (ops.Event stamp tags) (replies.Closed closed) h
+        (a.0 ∙ ap (after_call (seeing n m.seen) p.pass) op_is) s.records (ap replies.Closed a.3))
+has_taken events next n m p q Idle h a node begins s =
+    let whole : m.broken ≡ false = ap (λ (k : NodeValue). k.broken) a.0 ∙ h.ahead.whole in
+    let run = node.run whole in
+    let count = events m.seen.history (start_of m.settings) m.records run.legal in
+    let taken : m.cache.processed ≡ length m.seen.history = ap (λ (k : NodeValue). k.cache.processed) a.0 ∙ a.1 in
+    let made : m.cache.processed ≡ (cache_after (start_of m.settings) m.records).processed = ap (λ (c : Cache). c.processed) run.is in
+    let seen : q.history ≡ m.seen.history = longer_is p.history m.seen.history q.history begins s.either s.history in
+    let shown : events_of q.records ≡ events_of m.records = ap events_of s.records in
+    let long : length q.history ≡ length m.seen.history = ap length seen in
+    let records : m.records ≡ n.records = ap (λ (k : NodeValue). k.records) a.0 in
+    (
+      subst (GrowsByOthers p.pass p.records) (sym (s.records ∙ records)) (others_did p.pass p.records n.records h.ahead.records h.turn),
+      omega (arith, count, taken, made, shown, long),
+    )
 
 -- a lookup that found these entries
 pub has_found : (old new : PassValue) (key : Call) (op : Op) (shown : Option Shown) (found : Option Entry) → found ≡ option_map (entry_shown key) shown
@@ -121,6 +123,14 @@ step_full n e h is = (let full : IsStepRefused n HistoryFull = subst (IsStepRefu
 
 pub lookup_full : (n : NodeValue) (lo hi : ℕ) (e : NodeError) → IsLookupRefused n lo hi e → e ≡ HistoryFull → length n.records ≡ length n.cells
 lookup_full n lo hi e h is = (let full : IsLookupRefused n lo hi HistoryFull = subst (IsLookupRefused n lo hi) is h in full).0.1
+
+-- a full history is shown whole
+pub full_shown : (rows : ℕ → List ℕ) (n : NodeValue) (p q : PassValue) → IsAdmitted n p → length n.records ≡ length n.cells
+    → n.cells ≡ rows n.settings.number → q.records ≡ n.records → GrowsByOthers p.pass p.records q.records × (length q.records ≡ length (rows p.settings.number))
+full_shown rows n p q h full named shows = (
+  subst (GrowsByOthers p.pass p.records) (sym shows) (others_did p.pass p.records n.records h.ahead.records h.turn),
+  ap length shows ∙ (full ∙ (ap length named ∙ ap (λ (s : NodeSettings). length (rows s.number)) (sym h.ahead.settings))),
+)
 
 -- the node under the lock is the one that refuses
 pub may_refuse : {T : Type 0} (n : NodeValue) (rows : ℕ → List ℕ) (refused : NodeValue → NodeError → Type 0) (r : Result T NodeError)

@@ -34,11 +34,11 @@ pub record HasGrown (old new : PassValue) : Type 0 where
   pub history : IsPrefix old.history new.history
 
 -- the pass, having seen these records, and the longer of its own history and another
-pub record HasSeen (old : PassValue) (records : List Record) (history : History) (new : PassValue) : Type 0 where
+pub record HasSeen (old : PassValue) (all : List Record) (other : History) (new : PassValue) : Type 0 where
   pub grown : HasGrown old new
-  pub records : new.records ≡ records
-  pub either : (new.history ≡ old.history) ⊎ (new.history ≡ history)
-  pub whole : IsPrefix history new.history
+  pub records : new.records ≡ all
+  pub either : (new.history ≡ old.history) ⊎ (new.history ≡ other)
+  pub history : IsPrefix other new.history
 
 -- the node agrees with what the pass says of it: its settings, its number, its turn, and how many records it has seen
 pub record DoAgree (n : NodeValue) (p : PassValue) : Type 0 where

@@ -14,6 +14,7 @@ use crate::app::App;
 use crate::error::NodeError;
 use crate::finding::Finding;
 use crate::insertion::Insertion;
+use crate::laws::legal_histories;
 use crate::node_front::NodeFront;
 use crate::node_pass::NodePass;
 use crate::settings::NodeSettings;
@@ -60,14 +61,16 @@ impl<A: App, J: Naming> Held<A, J> {
     fn agrees(&self, pass: &NodePass<J>) -> bool
         ensures { result ≡ true ↔ DoAgree self.now pass.now }
     {
-        self.node.settings() == pass.settings
-            && pass.pass < self.node.passes()
-            && self.node.turn(pass.pass) == pass.turn
-            && pass.records.len() <= self.node.front().len()
+        let seen = pass.records.len();
+        if self.node.settings() != pass.settings || pass.pass >= self.node.passes() {
+            return false;
+        }
+        self.node.turn(pass.pass) == pass.turn && seen <= self.node.front().len()
     }
 
     // Lets a pass make a step, where the node is whole and agrees with it. A pass that it does not agree with breaks it.
     fn admit(&mut self, pass: &NodePass<J>) -> Result<(), NodeError>
+        ensures named { self.old.cells ≡ J.node_rows self.old.settings.number }
         ensures ok { OnOk result (IsAdmitted self.old pass.now) }
         ensures agrees { OnOk result (DoAgree self.old pass.now) }
         ensures unchanged { OnOk result (self.new ≡ self.old) }
@@ -106,6 +109,7 @@ impl<A: App, J: Naming> Held<A, J> {
     {
         prefix_of_itself::<Record>();
         prefix_of_itself::<Event>();
+        let _named = &self.node;
         if let NodeError::HistoryFull = refusal {
             self.show(pass);
         }
@@ -211,15 +215,20 @@ impl<A: App, J: Naming> Held<A, J> {
         ensures taken { IfOk result (HasTaken pass.old pass.new) }
         ensures left { IfErr result (IsPassLeft (J.node_rows pass.old.settings.number) pass.old pass.new) }
     {
+        legal_histories();
+        prefix_of_prefix::<Event>();
         self.admit(pass)?;
         self.feed.longer(&pass.events);
         self.feed.longer(self.node.seen());
         self.feed.look();
         match self.node.advance(alloc, pass.pass, self.feed.front()) {
             Ok(advanced) => {
-                if let Advanced::Taken { .. } = advanced {
-                    self.feed.take();
-                }
+                self.node.is_sound();
+                let Advanced::Taken { .. } = advanced else {
+                    self.show(pass);
+                    return Ok(advanced);
+                };
+                self.feed.take();
                 self.show(pass);
                 Ok(advanced)
             }
