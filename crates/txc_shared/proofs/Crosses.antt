@@ -1,7 +1,7 @@
 -- A node may be sent to threads and shared between them, whatever names its row. The terms are written out, one proof for
 -- each field.
 use denote.RattleType.{RattleType}
-use denote.Param.Send.{IsSend, IsSync, plain_send, plain_sync, view_send, view_sync}
+use denote.Param.Send.{IsSend, IsSync, view_send, view_sync}
 use denote.Param.SendFields.{declared_send, declared_sync}
 use Rattle.std.proofs.Crossing.{Arc-send, Arc-sync}
 use Rattle.std.proofs.sync.Mutex.TheSendSync as mutex
@@ -16,6 +16,7 @@ use Rattle.txc_shared.specs.contracts.held.Held as Held
 use Rattle.txc_shared.specs.contracts.held.Held.TheInside as held_inside
 use Rattle.txc_shared.specs.contracts.shared_node.SharedNode as SharedNode
 use Rattle.txc_shared.specs.contracts.shared_node.SharedNode.TheInside as node_inside
+use Rattle.txc_shared.proofs.settings.NodeSettings.TheSendSync as settings
 use Rattle.txc_shared.proofs.stored_node.StoredNode.TheSendSync as stored
 
 records_send : IsSend (EventRow.the_row Record.the_row)
@@ -30,12 +31,12 @@ module _ (A : RattleType) (a : app.Ghosts A.Denot) (J : RattleType) (g : naming.
 
   pub node_send : IsSend (SharedNode.the_row A J a g)
   node_send = view_send (node_inside.the_row A J a g) _ _ _ _ (declared_send (node_inside.the_type A J a g) (
-    plain_send _ _ _ _ _,
+    settings.the_send,
     (Arc-send (EventRow.the_row Record.the_row) records_send records_sync, (mutex.the_send (Held.the_row A J a g) held_send, tt)),
   ))
 
   pub node_sync : IsSync (SharedNode.the_row A J a g)
   node_sync = view_sync (node_inside.the_row A J a g) _ _ _ _ (declared_sync (node_inside.the_type A J a g) (
-    plain_sync _ _ _ _ _,
+    settings.the_sync,
     (Arc-sync (EventRow.the_row Record.the_row) records_send records_sync, (mutex.the_sync (Held.the_row A J a g) held_send, tt)),
   ))

@@ -103,27 +103,6 @@ has_found old new key op (Some s) found is h = subst (HasFound old new op) (sym 
 
 -- ---- refusals
 
--- refused by a node that the pass agrees with
-pub refused_through : (refused : NodeValue → NodeError → Type 0) (n : NodeValue) (p : PassValue) (e : NodeError) → DoAgree n p → refused n e → IsRefusedThrough refused n p e
-refused_through refused n p Broken agrees h = inl h
-refused_through refused n p EmptyRange agrees h = (h, agrees)
-refused_through refused n p HistoryFull agrees h = (h, agrees)
-refused_through refused n p PassesFull agrees h = (h, agrees)
-refused_through refused n p Memory agrees h = (h, agrees)
-
--- a full history leaves the node as it was
-pub full_left : (n m : NodeValue) (p : PassValue) (e : NodeError) → IsAdmitted n p → IsLeft n m e → (e ≡ HistoryFull → length n.records ≡ length n.cells)
-    → e ≡ HistoryFull → IsAdmitted m p × (length m.records ≡ length m.cells)
-full_left n m p e h left full is =
-    let same : m ≡ n = subst (IsLeft n m) is left in
-    subst (λ (k : NodeValue). IsAdmitted k p × (length k.records ≡ length k.cells)) (sym same) (h, full is)
-
-pub step_full : (n : NodeValue) (e : NodeError) → IsStepRefused n e → e ≡ HistoryFull → length n.records ≡ length n.cells
-step_full n e h is = (let full : IsStepRefused n HistoryFull = subst (IsStepRefused n) is h in full).1
-
-pub lookup_full : (n : NodeValue) (lo hi : ℕ) (e : NodeError) → IsLookupRefused n lo hi e → e ≡ HistoryFull → length n.records ≡ length n.cells
-lookup_full n lo hi e h is = (let full : IsLookupRefused n lo hi HistoryFull = subst (IsLookupRefused n lo hi) is h in full).0.1
-
 -- a full history is shown whole
 pub full_shown : (rows : ℕ → List ℕ) (n : NodeValue) (p q : PassValue) → IsAdmitted n p → length n.records ≡ length n.cells
     → n.cells ≡ rows n.settings.number → q.records ≡ n.records → GrowsByOthers p.pass p.records q.records × (length q.records ≡ length (rows p.settings.number))
@@ -131,8 +110,3 @@ full_shown rows n p q h full named shows = (
   subst (GrowsByOthers p.pass p.records) (sym shows) (others_did p.pass p.records n.records h.ahead.records h.turn),
   ap length shows ∙ (full ∙ (ap length named ∙ ap (λ (s : NodeSettings). length (rows s.number)) (sym h.ahead.settings))),
 )
-
--- the node under the lock is the one that refuses
-pub may_refuse : {T : Type 0} (n : NodeValue) (rows : ℕ → List ℕ) (refused : NodeValue → NodeError → Type 0) (r : Result T NodeError)
-    → n.cells ≡ rows n.settings.number → IfErr r (refused n) → IfErr r (MayRefuse rows refused)
-may_refuse n rows refused r named h = IfErr-weaker r (refused n) (MayRefuse rows refused) (λ e w. (n, named, w)) h

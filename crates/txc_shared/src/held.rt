@@ -122,6 +122,7 @@ impl<A: App, J: Naming> Held<A, J> {
         alloc: Global,
         settings: NodeSettings,
     ) -> Result<NodePass<J>, NodeError>
+        ensures named { self.old.cells ≡ J.node_rows self.old.settings.number }
         ensures pass { IfOk result (λ pass. pass ≡ record {
             settings = settings; pass = self.old.passes; records = []; history = self.old.seen.history }) }
         ensures after { OnOk result (self.new ≡ record self.old { passes = self.old.passes + 1 }) }
