@@ -1,8 +1,6 @@
 -- What calls under the lock leave of the node, and what they show a pass.
-use Rattle.std.proofs.Common.{◌≡◌, ◌≢◌, ◌⊎◌, inl, inr, ℕ, ◌+◌, ◌≤◌, List, [], ◌∷◌, ◌++◌, length, append_assoc, Bool, true, false, true≢false, Option, Some, None, cond, take, refl, sym, ap, subst, ◌∙◌, arith}
-use Rattle.std.specs.Prelude.{Result, Ok, Err, IfErr}
+use Rattle.std.proofs.Common.{◌≡◌, ℕ, List, [], ◌∷◌, ◌++◌, length, false, Option, Some, None, sym, ap, subst, ◌∙◌, arith}
 use Rattle.std.specs.Option.{option_map}
-use Rattle.std.proofs.lemmas.Result.{IfErr-weaker}
 use mathlib.Core.List.{IsPrefix}
 use Rattle.txc_stream.proofs.Offered.{prefix_trans, prefix_push, longer_is}
 use Rattle.txc_tags.specs.Keys.{Call}
@@ -15,22 +13,19 @@ use Rattle.txc_node.specs.declared.op.Op.TheVariants as ops
 use Rattle.txc_node.specs.declared.reply.Reply.{Reply}
 use Rattle.txc_node.specs.declared.reply.Reply.TheVariants as replies
 use Rattle.txc_node.specs.declared.record.Record.{Record}
-use Rattle.txc_node.specs.Cache.{Cache, found, is_kept}
-use Rattle.txc_node.specs.Steps.{found_reply, step_reply, after_step}
+use Rattle.txc_node.specs.Cache.{Cache, found}
+use Rattle.txc_node.specs.Steps.{found_reply, step_reply}
 use Rattle.txc_shared.specs.declared.advanced.Advanced.{Advanced}
 use Rattle.txc_shared.specs.declared.advanced.Advanced.TheVariants.{Taken, Idle}
 use Rattle.txc_shared.specs.declared.settings.NodeSettings.{NodeSettings}
 use Rattle.txc_shared.specs.Eval.{Next}
 use Rattle.txc_shared.specs.Runs.{IsNode}
 use Rattle.txc_shared.specs.Laws.{EventsAreTaken}
-use Rattle.txc_shared.specs.declared.error.NodeError.{NodeError}
-use Rattle.txc_shared.specs.declared.error.NodeError.TheVariants.{Broken, EmptyRange, HistoryFull, PassesFull, Memory}
-use Rattle.txc_shared.specs.Histories.{cache_after, records_of, events_of, next_record, is_event}
+use Rattle.txc_shared.specs.Histories.{cache_after, records_of, events_of, next_record}
 use Rattle.txc_shared.specs.Nodes.{NodeValue, start_of, after_call, seeing, entry_shown, next_event, HasAdvanced}
-use Rattle.txc_shared.specs.Refusals.{IsStepRefused, IsLookupRefused, IsLeft, IsRefusedThrough, MayRefuse}
-use Rattle.txc_shared.specs.Passes.{PassValue, DoAgree, HasSeen, GrowsByOthers, HasMade, HasFound, HasTaken}
-use Rattle.txc_shared.specs.Locked.{IsNamed, IsAhead, IsAdmitted}
-use Rattle.txc_shared.proofs.Histories.{records_of-append, used_processed, kept_processed}
+use Rattle.txc_shared.specs.Passes.{PassValue, HasSeen, GrowsByOthers, HasMade, HasFound, HasTaken}
+use Rattle.txc_shared.specs.Locked.{IsAhead, IsAdmitted}
+use Rattle.txc_shared.proofs.Histories.{records_of-append}
 
 -- ---- a step of an admitted pass
 
@@ -57,7 +52,7 @@ pub then_own : (n m : NodeValue) (p q : PassValue) (seen : FrontValue) (op : Op)
 then_own n m p q seen op reply h is shows reply_is =
     let o = others_did p.pass p.records n.records h.ahead.records h.turn in
     let last : next_record p.pass n.records op (step_reply n.cache op) ≡ next_record p.pass p.records op reply =
-        λ i. record { pass = p.pass; turn = h.turn i; op = op; reply = (sym reply_is) i } in
+    λ i. record { pass = p.pass; turn = h.turn i; op = op; reply = (sym reply_is) i } in
     record {
       others = o.others;
       is = shows ∙ (ap (λ (k : NodeValue). k.records) is ∙ (λ i. o.is i ++ last i ∷ []));
@@ -77,9 +72,11 @@ pub has_taken : EventsAreTaken → (next : Next) (n m : NodeValue) (p q : PassVa
     → IsPrefix p.history m.seen.history → HasSeen p m.records m.seen.history q → HasTaken p q advanced
 has_taken events next n m p q (Taken stamp closed) h a node begins s =
     let tags = tags_at m.seen.history stamp in
-    let op_is : ◌≡◌ {A = Op} (next_event (seeing n m.seen)) (ops.Event stamp tags) = λ i. ops.Event (sym a.1 i) (tags_at m.seen.history (sym a.1 i)) in
-    (tags, then_own n m p q m.seen (ops.Event stamp tags) (replies.Closed closed) h
-        (a.0 ∙ ap (after_call (seeing n m.seen) p.pass) op_is) s.records (ap replies.Closed a.3))
+    let op_is : ◌≡◌ {A = Op} (next_event (seeing n m.seen)) (ops.Event stamp tags) = λ i. ops.Event (sym a.1 i) (tags_at m.seen.history (sym a.1 i)) in (
+      tags,
+      then_own n m p q m.seen (ops.Event stamp tags) (replies.Closed closed) h
+          (a.0 ∙ ap (after_call (seeing n m.seen) p.pass) op_is) s.records (ap replies.Closed a.3),
+    )
 has_taken events next n m p q Idle h a node begins s =
     let whole : m.broken ≡ false = ap (λ (k : NodeValue). k.broken) a.0 ∙ h.ahead.whole in
     let run = node.run whole in
@@ -89,8 +86,7 @@ has_taken events next n m p q Idle h a node begins s =
     let seen : q.history ≡ m.seen.history = longer_is p.history m.seen.history q.history begins s.either s.history in
     let shown : events_of q.records ≡ events_of m.records = ap events_of s.records in
     let long : length q.history ≡ length m.seen.history = ap length seen in
-    let records : m.records ≡ n.records = ap (λ (k : NodeValue). k.records) a.0 in
-    (
+    let records : m.records ≡ n.records = ap (λ (k : NodeValue). k.records) a.0 in (
       subst (GrowsByOthers p.pass p.records) (sym (s.records ∙ records)) (others_did p.pass p.records n.records h.ahead.records h.turn),
       omega (arith, count, taken, made, shown, long),
     )

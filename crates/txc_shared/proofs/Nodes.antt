@@ -44,7 +44,6 @@ module _ (next : Next) (L : History) (start : Cache) where
 -- ---- steps that may be made
 
 module _ (next : Next) (L : History) where
-
   pub may_look_up : (c : Cache) (key : Call) (lo hi : ℕ) → lo ≤ hi → MayStep next L c (Lookup key lo hi)
   may_look_up c key lo hi some =
       let none : refusal_of c (Lookup key lo hi) ≡ None = grind (arith, nat_tests) in

@@ -19,7 +19,7 @@ use Rattle.txc_node.specs.Laws.{FindsTheLongest}
 use Rattle.txc_node.specs.Steps.{refusal_of, step_reply, after_step}
 use Rattle.txc_shared.specs.Eval.{Next}
 use Rattle.txc_shared.specs.Claims.{IsTrueIn, IsShownTrue, shown_entry}
-use Rattle.txc_shared.specs.Histories.{cache_after, IsNext, IsLegal, next_record}
+use Rattle.txc_shared.specs.Histories.{IsNext, next_record}
 use Rattle.txc_shared.specs.Runs.{AreTagsAfter, KeepsTags, IsTrueCache, IsRun}
 use Rattle.txc_shared.specs.Laws.{TrueInLonger, TrueAfterEvent, TrueAfterReplay, NodeBegins, MayStep, NodeGoesOn, NodeBreaks, NodeSeesMore, AnswersAreTrue}
 use Rattle.txc_shared.proofs.Each.{each_none, each_push}

@@ -124,7 +124,11 @@ impl<A: App, J: Naming> Held<A, J> {
     ) -> Result<NodePass<J>, NodeError>
         ensures named { self.old.cells ≡ J.node_rows self.old.settings.number }
         ensures pass { IfOk result (λ pass. pass ≡ record {
-            settings = settings; pass = self.old.passes; records = []; history = self.old.seen.history }) }
+          settings = settings;
+          pass = self.old.passes;
+          records = [];
+          history = self.old.seen.history;
+        }) }
         ensures after { OnOk result (self.new ≡ record self.old { passes = self.old.passes + 1 }) }
         ensures left { IfErr result (IsLeft self.old self.new) }
         ensures refused { IfErr result (IsNewPassRefused settings self.old) }

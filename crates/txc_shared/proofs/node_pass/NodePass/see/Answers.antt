@@ -9,11 +9,10 @@ use Rattle.txc_shared.proofs.node_pass.NodePass.see.Goals as goal
 pub invariant_of-self : goal.invariant_of-self
 invariant_of-self g c =
     let records = taken_over c.self.inside.records.records c.args.records.now.records c.longer.new.self.records c.args.self.now.records c.args.records.now.records
-        (ap (λ (p : PassValue). p.records) c.self.view_is) refl c.requires.records c.longer.ensures.one c.longer.ensures.that in
+    (ap (λ (p : PassValue). p.records) c.self.view_is) refl c.requires.records c.longer.ensures.one c.longer.ensures.that in
     let start = start_of c.args.self.now.settings in
     let now = c.longer-2.new.self.history in
-    let legal = c.legal_histories.ensures.longer c.args.events.now.history now start c.args.records.now.records c.longer-2.ensures.that c.requires.legal in
-    (
+    let legal = c.legal_histories.ensures.longer c.args.events.now.history now start c.args.records.now.records c.longer-2.ensures.that c.requires.legal in (
       c.longer.ensures.cells ∙ c.self.invariant.0,
       c.longer-2.ensures.events ∙ c.self.invariant.1,
       c.requires.turn ∙ (λ i. records_of ((sym c.self.view_is) i).pass ((sym records) i)),
@@ -24,7 +23,7 @@ invariant_of-self g c =
 pub returns : goal.returns
 returns g c =
     let records = taken_over c.self.inside.records.records c.args.records.now.records c.longer.new.self.records c.args.self.now.records c.args.records.now.records
-        (ap (λ (p : PassValue). p.records) c.self.view_is) refl c.requires.records c.longer.ensures.one c.longer.ensures.that in
+    (ap (λ (p : PassValue). p.records) c.self.view_is) refl c.requires.records c.longer.ensures.one c.longer.ensures.that in
     let now = c.longer-2.new.self.history in
     record {
       grown = record {
