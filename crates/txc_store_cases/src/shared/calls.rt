@@ -78,7 +78,10 @@ fn say_audit<J: Naming>(answer: &mut String, pass: &NodePass<J>) {
     let counts = audit(pass);
     let own = counts.of(0);
     let (lookups, hits, stored, kept) = (own.lookups, own.hits, own.stored, own.kept);
-    let _ = write!(answer, "lookups {lookups} hits {hits} stored {stored} kept {kept}");
+    let _ = write!(
+        answer,
+        "lookups {lookups} hits {hits} stored {stored} kept {kept}"
+    );
     let (events, closed, swept) = (counts.events(), counts.closed(), counts.swept());
     let _ = write!(answer, " events {events} closed {closed} swept {swept}");
 }
