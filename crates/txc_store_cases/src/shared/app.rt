@@ -57,6 +57,7 @@ pub(super) fn find_body<J: Naming>(
     let Answered { answer, front } = database.query(rt, alloc, &query, stamp)?;
     let Found { rows, reach, tags } = answer;
     let value = body_of(alloc, &rows)?;
+    let _bytes = value.bytes();
     let entry = Entry {
         key,
         value,

@@ -30,16 +30,17 @@ fn say_reach(answer: &mut String, reach: Reach) {
     let _ = write!(answer, "[{lo},{known}]{still}");
 }
 
-fn say_found(answer: &mut String, found: Result<Option<Finding<Functions>>, NodeError>) {
+fn say_found(answer: &mut String, found: &Result<Option<Finding<Functions>>, NodeError>) {
     match found {
         Ok(Some(finding)) => {
+            let value = &finding.entry.value;
             say_reach(answer, finding.entry.reach);
-            let _ = write!(answer, " {}", finding.entry.value);
+            let _ = write!(answer, " {value}");
         }
         Ok(None) => {
             let _ = answer.push_str("none");
         }
-        Err(refusal) => say_refusal(answer, refusal),
+        Err(refusal) => say_refusal(answer, *refusal),
     }
 }
 
@@ -106,10 +107,8 @@ impl<'a, J: Naming, R: Wait> Caller<'a, J, R> {
     fn lookup(&mut self, alloc: Global, words: &mut SplitWhitespace<'_>, answer: &mut String) {
         if let Ok(key) = Key::new(0, &[number(words)]) {
             let (lo, hi) = (stamp(words), stamp(words));
-            say_found(
-                answer,
-                self.pass.lookup(self.rt, alloc, self.node, &key, lo, hi),
-            );
+            let found = self.pass.lookup(self.rt, alloc, self.node, &key, lo, hi);
+            say_found(answer, &found);
         }
     }
 
