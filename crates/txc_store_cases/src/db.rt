@@ -1,5 +1,5 @@
 //! Calls of the database, alone and under its lock, with what they answer.
-pub(crate) mod alone;
+mod alone;
 mod calls;
 mod locked;
 mod scripts;

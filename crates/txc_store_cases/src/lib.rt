@@ -17,5 +17,3 @@ mod errors;
 mod rows;
 #[cfg(test)]
 mod run;
-#[cfg(test)]
-mod shared;
