@@ -1,0 +1,108 @@
+-- What calls under the lock leave of the node, and what they show a pass.
+use Rattle.std.proofs.Common.{◌≡◌, ℕ, List, [], ◌∷◌, ◌++◌, length, false, Option, Some, None, sym, ap, subst, ◌∙◌, arith}
+use Rattle.std.specs.Option.{option_map}
+use mathlib.Core.List.{IsPrefix}
+use Rattle.txc_stream.proofs.Offered.{prefix_trans, prefix_push, longer_is}
+use Rattle.txc_tags.specs.Keys.{Call}
+use Rattle.txc_db.specs.History.{tags_at}
+use Rattle.txc_db.specs.Seen.{FrontValue}
+use Rattle.txc_node.specs.declared.entry.Entry.{Entry}
+use Rattle.txc_node.specs.declared.hit.Shown.{Shown}
+use Rattle.txc_node.specs.declared.op.Op.{Op}
+use Rattle.txc_node.specs.declared.op.Op.TheVariants as ops
+use Rattle.txc_node.specs.declared.reply.Reply.{Reply}
+use Rattle.txc_node.specs.declared.reply.Reply.TheVariants as replies
+use Rattle.txc_node.specs.declared.record.Record.{Record}
+use Rattle.txc_node.specs.Cache.{Cache, found}
+use Rattle.txc_node.specs.Steps.{found_reply, step_reply}
+use Rattle.txc_shared.specs.declared.advanced.Advanced.{Advanced}
+use Rattle.txc_shared.specs.declared.advanced.Advanced.TheVariants.{Taken, Idle}
+use Rattle.txc_shared.specs.declared.settings.NodeSettings.{NodeSettings}
+use Rattle.txc_shared.specs.Eval.{Next}
+use Rattle.txc_shared.specs.Runs.{IsNode}
+use Rattle.txc_shared.specs.Laws.{EventsAreTaken}
+use Rattle.txc_shared.specs.Histories.{cache_after, records_of, events_of, next_record}
+use Rattle.txc_shared.specs.Nodes.{NodeValue, start_of, after_call, seeing, entry_shown, next_event, HasAdvanced}
+use Rattle.txc_shared.specs.Passes.{PassValue, HasSeen, GrowsByOthers, HasMade, HasFound, HasTaken}
+use Rattle.txc_shared.specs.Locked.{IsAhead, IsAdmitted}
+use Rattle.txc_shared.proofs.Histories.{records_of-append}
+
+-- ---- a step of an admitted pass
+
+-- the node goes on ahead of the pass
+pub ahead_after : (n m : NodeValue) (p : PassValue) (seen : FrontValue) (op : Op) → IsAdmitted n p → m ≡ after_call (seeing n seen) p.pass op → IsAhead m p
+ahead_after n m p seen op h is = subst (λ (k : NodeValue). IsAhead k p) (sym is) (record {
+  whole = h.ahead.whole;
+  settings = h.ahead.settings;
+  own = h.ahead.own;
+  records = prefix_trans p.records n.records _ h.ahead.records (prefix_push n.records (next_record p.pass n.records op (step_reply n.cache op)));
+})
+
+-- what others did since
+pub others_did : (own : ℕ) (old all : List Record) → IsPrefix old all → records_of own all ≡ records_of own old → GrowsByOthers own old all
+others_did own old all begins same = record {
+  others = begins.0;
+  is = sym begins.1;
+  none = let e = records_of-append own old begins.0 in let f = ap (records_of own) begins.1 in omega (arith, e, f, same);
+}
+
+-- and then a step of its own
+pub then_own : (n m : NodeValue) (p q : PassValue) (seen : FrontValue) (op : Op) (reply : Reply Shown) → IsAdmitted n p
+    → m ≡ after_call (seeing n seen) p.pass op → q.records ≡ m.records → reply ≡ step_reply n.cache op → HasMade p q op reply
+then_own n m p q seen op reply h is shows reply_is =
+    let o = others_did p.pass p.records n.records h.ahead.records h.turn in
+    let last : next_record p.pass n.records op (step_reply n.cache op) ≡ next_record p.pass p.records op reply =
+    λ i. record { pass = p.pass; turn = h.turn i; op = op; reply = (sym reply_is) i } in
+    record {
+      others = o.others;
+      is = shows ∙ (ap (λ (k : NodeValue). k.records) is ∙ (λ i. o.is i ++ last i ∷ []));
+      none = o.none;
+    }
+
+-- the same where the node sees more in between
+pub ahead_seeing : (n m k : NodeValue) (p : PassValue) (seen more : FrontValue) (op : Op) → IsAdmitted n p → m ≡ after_call (seeing n seen) p.pass op
+    → k ≡ seeing m more → IsAhead k p
+ahead_seeing n m k p seen more op h is sees =
+    let a = ahead_after n m p seen op h is in
+    subst (λ (j : NodeValue). IsAhead j p) (sym sees) (record { whole = a.whole; settings = a.settings; own = a.own; records = a.records })
+
+-- what an advance did
+pub has_taken : EventsAreTaken → (next : Next) (n m : NodeValue) (p q : PassValue) (advanced : Advanced) → IsAdmitted n p
+    → HasAdvanced (seeing n m.seen) p.pass m advanced → IsNode next m.seen.history (start_of m.settings) m.records m.cache m.broken
+    → IsPrefix p.history m.seen.history → HasSeen p m.records m.seen.history q → HasTaken p q advanced
+has_taken events next n m p q (Taken stamp closed) h a node begins s =
+    let tags = tags_at m.seen.history stamp in
+    let op_is : ◌≡◌ {A = Op} (next_event (seeing n m.seen)) (ops.Event stamp tags) = λ i. ops.Event (sym a.1 i) (tags_at m.seen.history (sym a.1 i)) in (
+      tags,
+      then_own n m p q m.seen (ops.Event stamp tags) (replies.Closed closed) h
+          (a.0 ∙ ap (after_call (seeing n m.seen) p.pass) op_is) s.records (ap replies.Closed a.3),
+    )
+has_taken events next n m p q Idle h a node begins s =
+    let whole : m.broken ≡ false = ap (λ (k : NodeValue). k.broken) a.0 ∙ h.ahead.whole in
+    let run = node.run whole in
+    let count = events m.seen.history (start_of m.settings) m.records run.legal in
+    let taken : m.cache.processed ≡ length m.seen.history = ap (λ (k : NodeValue). k.cache.processed) a.0 ∙ a.1 in
+    let made : m.cache.processed ≡ (cache_after (start_of m.settings) m.records).processed = ap (λ (c : Cache). c.processed) run.is in
+    let seen : q.history ≡ m.seen.history = longer_is p.history m.seen.history q.history begins s.either s.history in
+    let shown : events_of q.records ≡ events_of m.records = ap events_of s.records in
+    let long : length q.history ≡ length m.seen.history = ap length seen in
+    let records : m.records ≡ n.records = ap (λ (k : NodeValue). k.records) a.0 in (
+      subst (GrowsByOthers p.pass p.records) (sym (s.records ∙ records)) (others_did p.pass p.records n.records h.ahead.records h.turn),
+      omega (arith, count, taken, made, shown, long),
+    )
+
+-- a lookup that found these entries
+pub has_found : (old new : PassValue) (key : Call) (op : Op) (shown : Option Shown) (found : Option Entry) → found ≡ option_map (entry_shown key) shown
+    → HasMade old new op (found_reply shown) → HasFound old new op found
+has_found old new key op None found is h = subst (HasFound old new op) (sym is) h
+has_found old new key op (Some s) found is h = subst (HasFound old new op) (sym is) h
+
+-- ---- refusals
+
+-- a full history is shown whole
+pub full_shown : (rows : ℕ → List ℕ) (n : NodeValue) (p q : PassValue) → IsAdmitted n p → length n.records ≡ length n.cells
+    → n.cells ≡ rows n.settings.number → q.records ≡ n.records → GrowsByOthers p.pass p.records q.records × (length q.records ≡ length (rows p.settings.number))
+full_shown rows n p q h full named shows = (
+  subst (GrowsByOthers p.pass p.records) (sym shows) (others_did p.pass p.records n.records h.ahead.records h.turn),
+  ap length shows ∙ (full ∙ (ap length named ∙ ap (λ (s : NodeSettings). length (rows s.number)) (sym h.ahead.settings))),
+)

@@ -1,0 +1,30 @@
+use Rattle.std.proofs.Common.{◌≡◌, refl, ap, sym, ◌∙◌, false, rules}
+use Rattle.txc_node.specs.declared.op.Op.TheVariants.{Lookup}
+use Rattle.txc_node.specs.Cache.{answer, after_lookup}
+use Rattle.txc_node.specs.Steps.{found_reply}
+use Rattle.txc_shared.specs.Histories.{next_record}
+use Rattle.txc_shared.specs.Nodes.{start_of, NodeValue, LogValue}
+use Rattle.txc_shared.proofs.Nodes.{stepped, broke, may_look_up}
+use Rattle.txc_shared.proofs.stored_node.StoredNode.lookup.Goals as goal
+
+pub invariant_of-self : goal.invariant_of-self
+invariant_of-self g c =
+    let next : c.lookup.follows.lender-at-none ≡ after_lookup c.self.inside.core c.args.key.now c.args.lo c.args.hi = search rules in
+    broke g.A.App.next c.self.inside.seen.history (start_of c.self.inside.settings) c.nodes_go_on.ensures.breaks c.self.inside.log.records c.append.new.self.records c.self.inside.core c.lookup.follows.lender-at-none c.self.inside.broken
+    (Lookup c.args.key.now c.args.lo c.args.hi) c.self.invariant (may_look_up g.A.App.next c.self.inside.seen.history c.self.inside.core c.args.key.now c.args.lo c.args.hi c.in-Ok.ensures.only_if)
+    (ap (λ (l : LogValue). l.records) (c.if-not-append.ensures.unchanged refl)) next
+
+pub invariant_of-self-else-not-append : goal.invariant_of-self-else-not-append
+invariant_of-self-else-not-append g c =
+    let rs = c.self.inside.log.records in
+    let key = c.args.key.now in
+    let op = Lookup key c.args.lo c.args.hi in
+    let next : c.lookup.follows.lender-at-none ≡ after_lookup c.self.inside.core key c.args.lo c.args.hi = search rules in
+    let whole : c.self.inside.broken ≡ false = ap (λ (n : NodeValue). n.broken) c.self.view_is ∙ c.in_ok-check_whole.ensures.only_if in
+    let reply : c.in_ok-finding.reply ≡ found_reply (answer c.self.inside.core key c.args.lo c.args.hi) =
+    c.in_ok-finding.ensures.reply ∙ ap (λ (n : NodeValue). found_reply (answer n.cache key c.args.lo c.args.hi)) (sym c.self.view_is) in
+    let record_is : c.in_ok-next.next.value ≡ next_record c.args.pass rs op (found_reply (answer c.self.inside.core key c.args.lo c.args.hi)) =
+    c.in_ok-next.ensures.ok ∙ (c.next_record.ensures ∙ (λ i. next_record c.args.pass rs (Lookup (c.copy.ensures i) c.args.lo c.args.hi) (reply i))) in
+    stepped g.A.App.next c.self.inside.seen.history (start_of c.self.inside.settings) c.nodes_go_on.ensures.step rs c.append.new.self.records c.self.inside.core c.lookup.follows.lender-at-none c.self.inside.broken
+    c.args.pass op c.in_ok-next.next.value c.self.invariant whole (may_look_up g.A.App.next c.self.inside.seen.history c.self.inside.core key c.args.lo c.args.hi c.in-Ok.ensures.only_if)
+    record_is (ap (λ (l : LogValue). l.records) (c.if-not-append.ensures.after refl)) next

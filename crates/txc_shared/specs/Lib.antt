@@ -1,0 +1,13 @@
+pub mod Each
+pub mod Eval
+pub mod Answering
+pub mod Claims
+pub mod Histories
+pub mod Runs
+pub mod Laws
+pub mod Nodes
+pub mod Passes
+pub mod Refusals
+pub mod Locked
+pub mod Worked
+pub mod WorkedNodes

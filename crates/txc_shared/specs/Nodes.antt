@@ -1,0 +1,97 @@
+-- What callers see of a node with its stored history.
+use Rattle.std.specs.Prelude.{◌≡◌, ◌⊎◌, ℕ, ◌+◌, ◌≤◌, Bool, List, [], ◌∷◌, ◌++◌, length}
+use mathlib.Core.List.{IsPrefix}
+use Rattle.txc_tags.specs.Keys.{Call}
+use Rattle.txc_tags.specs.declared.tag.Tag.{Tag}
+use Rattle.txc_db.specs.History.{History, tags_at}
+use Rattle.txc_db.specs.Seen.{FrontValue}
+use Rattle.txc_node.specs.declared.entry.Entry.{Entry}
+use Rattle.txc_node.specs.declared.hit.Shown.{Shown}
+use Rattle.txc_node.specs.declared.node.Inserted.{Inserted}
+use Rattle.txc_node.specs.declared.node.Inserted.TheVariants as inserts
+use Rattle.txc_node.specs.declared.op.Op.{Op}
+use Rattle.txc_node.specs.declared.op.Op.TheVariants.{Event}
+use Rattle.txc_node.specs.declared.record.Record.{Record}
+use Rattle.txc_node.specs.Cache.{Cache, empty_cache, closed_count}
+use Rattle.txc_node.specs.Steps.{step_reply, after_step}
+use Rattle.txc_shared.specs.declared.advanced.Advanced.{Advanced}
+use Rattle.txc_shared.specs.declared.advanced.Advanced.TheVariants.{Taken, Idle}
+use Rattle.txc_shared.specs.declared.insertion.Insertion.{Insertion}
+use Rattle.txc_shared.specs.declared.insertion.Insertion.TheVariants.{Stored, Kept}
+use Rattle.txc_shared.specs.declared.settings.NodeSettings.{NodeSettings}
+use Rattle.txc_shared.specs.Histories.{next_record}
+
+-- the cache of a node at the start
+abbrev pub start_of : NodeSettings → Cache
+start_of settings = empty_cache settings.capacity settings.recent
+
+-- the names of all cells for records, and what was seen in the first of them
+pub record NodeFrontValue : Type 0 where
+  pub cells : List ℕ
+  pub records : List Record
+
+-- the same, and how many passes there are
+pub record LogValue : Type 0 where
+  pub cells : List ℕ
+  pub records : List Record
+  pub passes : ℕ
+
+-- a node: its settings; the names of all cells for its records, its records, and how many passes there are; its cache; what it has
+-- seen of the database's history; and whether another record was found in its row
+pub record NodeValue : Type 0 where
+  pub settings : NodeSettings
+  pub cells : List ℕ
+  pub records : List Record
+  pub passes : ℕ
+  pub cache : Cache
+  pub seen : FrontValue
+  pub broken : Bool
+
+-- ---- what calls leave
+
+-- the node after a step of a pass: its cache made the step, and its history has the record of it
+abbrev pub after_call : NodeValue → ℕ → Op → NodeValue
+after_call n pass op = record n {
+  records = n.records ++ next_record pass n.records op (step_reply n.cache op) ∷ [];
+  cache = after_step n.cache op;
+}
+
+-- the longer of two fronts of one row
+pub record IsLonger (one other longer : FrontValue) : Type 0 where
+  pub events : longer.events ≡ one.events
+  pub either : (longer.history ≡ one.history) ⊎ (longer.history ≡ other.history)
+  pub first : IsPrefix one.history longer.history
+  pub second : IsPrefix other.history longer.history
+
+-- the same, but that it has seen more
+abbrev pub seeing : NodeValue → FrontValue → NodeValue
+seeing n seen = record n { seen = seen }
+
+-- an event of the history, with its tags
+abbrev pub HasTags : History → ℕ → List Tag → Type 0
+HasTags L number tags = (number ≤ length L) × (tags ≡ tags_at L number)
+
+-- ---- answers
+
+-- the entry of the call that is shown so
+abbrev pub entry_shown : Call → Shown → Entry
+entry_shown key shown = record { key = key; value = shown.value; reach = shown.reach; tags = shown.tags }
+
+-- what an insertion did, without its entries
+abbrev pub insertion_of : Inserted → Insertion
+insertion_of (inserts.Stored reach evicted) = Stored reach
+insertion_of (inserts.Kept e) = Kept
+
+-- the stamp of the next event, and its step
+abbrev pub next_stamp : NodeValue → ℕ
+next_stamp n = n.cache.processed + 1
+
+abbrev pub next_event : NodeValue → Op
+next_event n = Event (next_stamp n) (tags_at n.seen.history (next_stamp n))
+
+-- It took the next event that it has seen, which closed so many entries; or it has taken all.
+abbrev pub HasAdvanced : NodeValue → ℕ → NodeValue → Advanced → Type 0
+HasAdvanced n pass new (Taken stamp closed) =
+    (new ≡ after_call n pass (next_event n)) × (stamp ≡ next_stamp n) × (stamp ≤ length n.seen.history)
+    × (closed ≡ closed_count n.cache stamp (tags_at n.seen.history stamp))
+HasAdvanced n pass new Idle = (new ≡ n) × (n.cache.processed ≡ length n.seen.history)

@@ -1,0 +1,91 @@
+-- Passes through a node, and what their calls leave.
+use Rattle.std.specs.Prelude.{◌≡◌, ◌⊎◌, ℕ, ◌<◌, ◌≤◌, List, [], ◌∷◌, ◌++◌, length, Option, Some, None}
+use mathlib.Core.List.{IsPrefix}
+use Rattle.txc_tags.specs.declared.tag.Tag.{Tag}
+use Rattle.txc_db.specs.History.{History}
+use Rattle.txc_node.specs.declared.entry.Entry.{Entry}
+use Rattle.txc_node.specs.declared.hit.Shown.{Shown}
+use Rattle.txc_node.specs.declared.node.Inserted.{Inserted}
+use Rattle.txc_node.specs.declared.op.Op.{Op}
+use Rattle.txc_node.specs.declared.op.Op.TheVariants.{Insert, Event}
+use Rattle.txc_node.specs.declared.reply.Reply.{Reply}
+use Rattle.txc_node.specs.declared.reply.Reply.TheVariants as replies
+use Rattle.txc_node.specs.declared.record.Record.{Record}
+use Rattle.txc_shared.specs.declared.advanced.Advanced.{Advanced}
+use Rattle.txc_shared.specs.declared.advanced.Advanced.TheVariants.{Taken, Idle}
+use Rattle.txc_shared.specs.declared.error.NodeError.{NodeError}
+use Rattle.txc_shared.specs.declared.error.NodeError.TheVariants.{HistoryFull}
+use Rattle.txc_shared.specs.declared.insertion.Insertion.{Insertion}
+use Rattle.txc_shared.specs.declared.settings.NodeSettings.{NodeSettings}
+use Rattle.txc_shared.specs.Histories.{records_of, next_record, events_of}
+use Rattle.txc_shared.specs.Nodes.{NodeValue, insertion_of}
+
+-- a pass: the settings of its node, its number, the records that it has seen, and what it has seen of the database's history
+pub record PassValue : Type 0 where
+  pub settings : NodeSettings
+  pub pass : ℕ
+  pub records : List Record
+  pub history : History
+
+-- the pass, having seen no less than before
+pub record HasGrown (old new : PassValue) : Type 0 where
+  pub is : new ≡ record old { records = new.records; history = new.history }
+  pub records : IsPrefix old.records new.records
+  pub history : IsPrefix old.history new.history
+
+-- the pass, having seen these records, and the longer of its own history and another
+pub record HasSeen (old : PassValue) (all : List Record) (other : History) (new : PassValue) : Type 0 where
+  pub grown : HasGrown old new
+  pub records : new.records ≡ all
+  pub either : (new.history ≡ old.history) ⊎ (new.history ≡ other)
+  pub history : IsPrefix other new.history
+
+-- the node agrees with what the pass says of it: its settings, its number, its turn, and how many records it has seen
+pub record DoAgree (n : NodeValue) (p : PassValue) : Type 0 where
+  pub settings : p.settings ≡ n.settings
+  pub own : p.pass < n.passes
+  pub turn : records_of p.pass n.records ≡ records_of p.pass p.records
+  pub seen : length p.records ≤ length n.records
+
+-- ---- what a call leaves
+
+-- what was seen is followed by records of other passes alone
+pub record GrowsByOthers (pass : ℕ) (old new : List Record) : Type 0 where
+  pub others : List Record
+  pub is : new ≡ old ++ others
+  pub none : records_of pass others ≡ 0
+
+-- what was seen is followed by records of other passes, and then by the next one of its own
+pub record Follows (pass : ℕ) (old new : List Record) (op : Op) (reply : Reply Shown) : Type 0 where
+  pub others : List Record
+  pub is : new ≡ old ++ others ++ next_record pass old op reply ∷ []
+  pub none : records_of pass others ≡ 0
+
+-- its own next record is of this step and reply
+abbrev pub HasMade : PassValue → PassValue → Op → Reply Shown → Type 0
+HasMade old new op reply = Follows old.pass old.records new.records op reply
+
+-- what a hit showed of the entry
+abbrev pub shown_of_entry : Entry → Shown
+shown_of_entry e = record { reach = e.reach; value = e.value; tags = e.tags }
+
+-- it looked up and found the entry, or nothing
+abbrev pub HasFound : PassValue → PassValue → Op → Option Entry → Type 0
+HasFound old new op None = HasMade old new op replies.Miss
+HasFound old new op (Some e) = HasMade old new op (replies.Hit (shown_of_entry e))
+
+-- it inserted the entry, and was answered so
+pub record HasInserted (old new : PassValue) (e : Entry) (insertion : Insertion) : Type 0 where
+  pub inserted : Inserted
+  pub made : HasMade old new (Insert e) (replies.Inserted inserted)
+  pub answer : insertion ≡ insertion_of inserted
+
+-- it took the event of the stamp, which closed so many entries; or as many events were taken as it has seen
+abbrev pub HasTaken : PassValue → PassValue → Advanced → Type 0
+HasTaken old new (Taken stamp closed) = (tags : List Tag) × HasMade old new (Event stamp tags) (replies.Closed closed)
+HasTaken old new Idle = GrowsByOthers old.pass old.records new.records × (events_of new.records ≡ length new.history)
+
+-- what a refusal leaves: a full history is seen up to the last of the row's cells; any other leaves the pass as it was
+abbrev pub IsPassLeft : List ℕ → PassValue → PassValue → NodeError → Type 0
+IsPassLeft cells old new HistoryFull = GrowsByOthers old.pass old.records new.records × (length new.records ≡ length cells)
+IsPassLeft cells old new e = new ≡ old

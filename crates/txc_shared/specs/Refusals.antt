@@ -1,0 +1,64 @@
+-- Why calls of a node are refused, and what a refusal leaves.
+use Rattle.std.specs.Prelude.{◌≡◌, ◌≢◌, ◌⊎◌, ℕ, ◌<◌, ◌≤◌, List, true, false, length}
+use mathlib.Core.List.{IsPrefix}
+use Rattle.txc_shared.specs.declared.error.NodeError.{NodeError}
+use Rattle.txc_shared.specs.declared.error.NodeError.TheVariants.{Broken, EmptyRange, HistoryFull, PassesFull, Memory}
+use Rattle.txc_shared.specs.declared.log.TheConstants.{MAX_PASSES}
+use Rattle.txc_shared.specs.declared.settings.NodeSettings.{NodeSettings}
+use Rattle.txc_shared.specs.Nodes.{NodeValue}
+use Rattle.txc_shared.specs.Passes.{PassValue, DoAgree}
+
+-- a step can be recorded: the node is whole, and there is room for one record more
+pub record IsOpen (n : NodeValue) : Type 0 where
+  pub whole : n.broken ≡ false
+  pub room : length n.records < length n.cells
+
+-- of a step: broken, or the history is full; and then out of memory, or another record stands in the row
+abbrev pub IsStepRefused : NodeValue → NodeError → Type 0
+IsStepRefused n Broken = (n.broken ≡ true) ⊎ IsOpen n
+IsStepRefused n EmptyRange = ⊥
+IsStepRefused n HistoryFull = (n.broken ≡ false) × (length n.records ≡ length n.cells)
+IsStepRefused n PassesFull = ⊥
+IsStepRefused n Memory = IsOpen n
+
+-- of a lookup: the stamps too, before a full history, end before they begin
+abbrev pub IsLookupRefused : NodeValue → ℕ → ℕ → NodeError → Type 0
+IsLookupRefused n lo hi Broken = (n.broken ≡ true) ⊎ (IsOpen n × (lo ≤ hi))
+IsLookupRefused n lo hi EmptyRange = (n.broken ≡ false) × (hi < lo)
+IsLookupRefused n lo hi e = IsStepRefused n e × (lo ≤ hi)
+
+-- of a pass: broken, or too many passes; and then out of memory
+abbrev pub IsPassRefused : NodeValue → NodeError → Type 0
+IsPassRefused n Broken = n.broken ≡ true
+IsPassRefused n PassesFull = (n.broken ≡ false) × (MAX_PASSES ≤ n.passes)
+IsPassRefused n Memory = (n.broken ≡ false) × (n.passes < MAX_PASSES)
+IsPassRefused n e = ⊥
+
+-- the call found another record in the row after the node's: nothing that callers were shown has changed, and each later call
+-- is refused; the cache may have made the step
+pub record IsBroken (old new : NodeValue) : Type 0 where
+  pub was : old.broken ≡ false
+  pub is : new ≡ record old { cache = new.cache; seen = new.seen; broken = true }
+  pub events : new.seen.events ≡ old.seen.events
+  pub seen : IsPrefix old.seen.history new.seen.history
+
+-- what a refusal leaves: the node as it was; and refused as broken, it was broken before, or is so from now on
+abbrev pub IsLeft : NodeValue → NodeValue → NodeError → Type 0
+IsLeft old new Broken = ((new ≡ old) × (old.broken ≡ true)) ⊎ IsBroken old new
+IsLeft old new e = new ≡ old
+
+-- ---- under the lock
+
+-- through a pass: before all else broken, where the node does not agree with the pass
+abbrev pub IsRefusedThrough : (NodeValue → NodeError → Type 0) → NodeValue → PassValue → NodeError → Type 0
+IsRefusedThrough refused n p Broken = refused n Broken ⊎ ¬ (DoAgree n p)
+IsRefusedThrough refused n p e = refused n e × DoAgree n p
+
+-- of a new pass: before all else broken, where the node was made otherwise
+abbrev pub IsNewPassRefused : NodeSettings → NodeValue → NodeError → Type 0
+IsNewPassRefused settings n Broken = (n.broken ≡ true) ⊎ (settings ≢ n.settings)
+IsNewPassRefused settings n e = IsPassRefused n e × (settings ≡ n.settings)
+
+-- some node of a named row refuses so
+abbrev pub MayRefuse : (ℕ → List ℕ) → (NodeValue → NodeError → Type 0) → NodeError → Type 0
+MayRefuse rows refused e = (n : NodeValue) × (n.cells ≡ rows n.settings.number) × refused n e

@@ -1,0 +1,47 @@
+-- Nodes whose entries are all true.
+use Rattle.std.specs.Prelude.{◌≡◌, ℕ, Bool, false, suc, ◌+◌, ◌≤◌, List, [], ◌∷◌, length}
+use Rattle.std.specs.List.{AllByRecursion}
+use Rattle.txc_tags.specs.declared.tag.Tag.{Tag}
+use Rattle.txc_db.specs.History.{History, tags_at}
+use Rattle.txc_node.specs.Cache.{Cache}
+use Rattle.txc_node.specs.declared.record.Record.{Record}
+use Rattle.txc_node.specs.declared.op.Op.{Op}
+use Rattle.txc_node.specs.declared.op.Op.TheVariants.{Insert, Lookup, Event, Sweep}
+use Rattle.txc_shared.specs.Eval.{Next}
+use Rattle.txc_shared.specs.Claims.{IsTrueIn, IsShownTrue}
+use Rattle.txc_shared.specs.Histories.{cache_after, IsLegal}
+
+-- these are the tags of the events after that stamp, one after the other
+abbrev pub AreTagsAfter : History → ℕ → List (List Tag) → Type 0
+AreTagsAfter L stamp [] = Unit {0}
+AreTagsAfter L stamp (tags ∷ more) = (tags ≡ tags_at L (suc stamp)) × AreTagsAfter L (suc stamp) more
+
+-- the tags that the cache keeps are those of the last events that it took
+pub record KeepsTags (L : History) (c : Cache) : Type 0 where
+  pub before : ℕ
+  pub upto : before + length c.recent ≡ c.processed
+  pub tags : AreTagsAfter L before c.recent
+
+-- what the entries of the cache show is true in the history, and the tags that it keeps are that history's
+pub record IsTrueCache (next : Next) (L : History) (c : Cache) : Type 0 where
+  pub entries : AllByRecursion (IsShownTrue next L c.processed) c.entries
+  pub recent : KeepsTags L c
+  pub within : c.processed ≤ length L
+
+-- the cache is what these records leave of the one at the start, and they are a legal history
+pub record IsRun (L : History) (start : Cache) (rs : List Record) (c : Cache) : Type 0 where
+  pub is : c ≡ cache_after start rs
+  pub legal : IsLegal L start rs
+
+-- what is true of a node: its cache is true in what it has seen of the database's history, and, unless it is broken, what its
+-- records leave
+pub record IsNode (next : Next) (L : History) (start : Cache) (rs : List Record) (c : Cache) (broken : Bool) : Type 0 where
+  pub is_true : IsTrueCache next L c
+  pub run : broken ≡ false → IsRun L start rs c
+
+-- what the step hands in is true: an entry
+abbrev pub IsTrueStep : Next → History → Op → Type 0
+IsTrueStep next L (Insert e) = IsTrueIn next L e
+IsTrueStep next L (Lookup key lo hi) = Unit {0}
+IsTrueStep next L (Event stamp tags) = Unit {0}
+IsTrueStep next L (Sweep horizon) = Unit {0}

@@ -1,0 +1,268 @@
+//! What is done to a node under its lock.
+ghost use Rattle.std.specs.Prelude.{◌≡◌, ◌+◌, ◌⊎◌, ◌↔◌, [], true, false, length, Some, None, Ok, Err, IfOk, OnOk, OnErr, IfErr, IfSome};
+ghost use Rattle.std.specs.Option.{option_map};
+ghost use mathlib.Core.List.{IsPrefix};
+ghost use Rattle.txc_node.specs.declared.op.Op.TheVariants.{Lookup, Insert, Sweep};
+ghost use Rattle.txc_node.specs.declared.reply.Reply.TheVariants.{Swept};
+ghost use Rattle.txc_shared.specs.Nodes.{NodeValue, after_call, seeing, HasAdvanced};
+ghost use Rattle.txc_shared.specs.Passes.{PassValue, HasGrown, HasSeen, DoAgree, HasFound, HasMade, HasInserted, HasTaken, IsPassLeft};
+ghost use Rattle.txc_shared.specs.Refusals.{IsLookupRefused, IsStepRefused, IsLeft, IsRefusedThrough, IsNewPassRefused};
+ghost use Rattle.txc_shared.specs.Locked.{IsAhead, IsAdmitted, IsNamed};
+
+use crate::advanced::Advanced;
+use crate::app::App;
+use crate::error::NodeError;
+use crate::finding::Finding;
+use crate::insertion::Insertion;
+use crate::laws::legal_histories;
+use crate::node_front::NodeFront;
+use crate::node_pass::NodePass;
+use crate::settings::NodeSettings;
+use crate::stored_node::StoredNode;
+use std::alloc::Global;
+use std::marker::Model;
+use txc_db::{Event, Feed, Naming};
+use txc_node::Record;
+use txc_stamp::Stamp;
+use txc_stream::{longer_of_two, prefix_of_itself, prefix_of_prefix};
+use txc_tags::Key;
+
+/// What lies under the lock: the named node, and a feed of the events that it takes.
+#[derive(Drop)]
+pub(crate) struct Held<A: App, J: Naming> {
+    node: StoredNode<A>,
+    feed: Feed<J>,
+}
+
+impl<A: App, J: Naming> Model for Held<A, J> {
+    ghost use Rattle.txc_shared.specs.Nodes.{NodeValue};
+    ghost use Rattle.txc_shared.specs.Locked.{IsNamed};
+
+    ghost Value = { NodeValue };
+
+    ghost view = { λ h. h.node };
+
+    ghost invariant = { λ h. IsNamed J.node_rows J.database_row h.feed.taken h.node };
+}
+
+impl<A: App, J: Naming> Held<A, J> {
+    /// The named node, which has taken no event, and a feed of which none was taken.
+    pub(crate) fn new(node: StoredNode<A>, feed: Feed<J>) -> Held<A, J>
+        requires cells { node.cells ≡ J.node_rows node.settings.number }
+        requires events { node.seen.events ≡ J.database_row }
+        requires none { node.cache.processed ≡ 0 }
+        requires feed { feed.taken ≡ 0 }
+        ensures { result ≡ node }
+    {
+        Held { node, feed }
+    }
+
+    // Whether the node agrees with what a pass says of it.
+    fn agrees(&self, pass: &NodePass<J>) -> bool
+        ensures { result ≡ true ↔ DoAgree self.now pass.now }
+    {
+        let seen = pass.records.len();
+        if self.node.settings() != pass.settings || pass.pass >= self.node.passes() {
+            return false;
+        }
+        self.node.turn(pass.pass) == pass.turn && seen <= self.node.front().len()
+    }
+
+    // Lets a pass make a step, where the node is whole and agrees with it. A pass that it does not agree with breaks it.
+    fn admit(&mut self, pass: &NodePass<J>) -> Result<(), NodeError>
+        ensures named { self.old.cells ≡ J.node_rows self.old.settings.number }
+        ensures ok { OnOk result (IsAdmitted self.old pass.now) }
+        ensures agrees { OnOk result (DoAgree self.old pass.now) }
+        ensures unchanged { OnOk result (self.new ≡ self.old) }
+        ensures left { IfErr result (IsLeft self.old self.new) }
+        ensures refused { OnErr result ((result ≡ Err NodeError.Broken) × ((self.old.broken ≡ true) ⊎ ¬ (DoAgree self.old pass.now))) }
+    {
+        longer_of_two::<Record>();
+        prefix_of_itself::<Event>();
+        if self.node.is_broken() {
+            return Err(NodeError::Broken);
+        }
+        if !self.agrees(pass) {
+            self.node.set_broken();
+            return Err(NodeError::Broken);
+        }
+        pass.records.agree(self.node.front());
+        Ok(())
+    }
+
+    // Gives the pass what the node has seen.
+    fn show(&self, pass: &mut NodePass<J>)
+        requires { IsAhead self.now pass.old }
+        ensures { HasSeen pass.old self.now.records self.now.seen.history pass.new }
+    {
+        self.node.is_sound();
+        let turn = self.node.turn(pass.pass);
+        pass.see(self.node.front(), self.node.seen(), turn);
+    }
+
+    // Shows a full history to the pass whose call it refuses.
+    fn refuse(&self, pass: &mut NodePass<J>, refusal: NodeError) -> NodeError
+        requires { refusal ≡ NodeError.HistoryFull → IsAdmitted self.now pass.old × (length self.now.records ≡ length self.now.cells) }
+        ensures same { result ≡ refusal }
+        ensures longer { HasGrown pass.old pass.new }
+        ensures left { IsPassLeft (J.node_rows pass.old.settings.number) pass.old pass.new refusal }
+    {
+        prefix_of_itself::<Record>();
+        prefix_of_itself::<Event>();
+        let _named = &self.node;
+        if let NodeError::HistoryFull = refusal {
+            self.show(pass);
+        }
+        refusal
+    }
+
+    /// One pass more, which has seen no record. It is broken where the node was made with other settings.
+    pub(crate) fn pass(
+        &mut self,
+        alloc: Global,
+        settings: NodeSettings,
+    ) -> Result<NodePass<J>, NodeError>
+        ensures named { self.old.cells ≡ J.node_rows self.old.settings.number }
+        ensures pass { IfOk result (λ pass. pass ≡ record {
+          settings = settings;
+          pass = self.old.passes;
+          records = [];
+          history = self.old.seen.history;
+        }) }
+        ensures after { OnOk result (self.new ≡ record self.old { passes = self.old.passes + 1 }) }
+        ensures left { IfErr result (IsLeft self.old self.new) }
+        ensures refused { IfErr result (IsNewPassRefused settings self.old) }
+    {
+        prefix_of_itself::<Event>();
+        if !self.node.is_broken() && self.node.settings() != settings {
+            self.node.set_broken();
+            return Err(NodeError::Broken);
+        }
+        self.node.check_pass()?;
+        let row = self.node.front().row_handle()?;
+        let records = NodeFront::new(alloc, row)?;
+        let events = self.node.seen().again(alloc)?;
+        let pass = self.node.pass()?;
+        Ok(NodePass::new(settings, pass, records, events))
+    }
+
+    /// Looks up the call of `key` at the stamps from `lo` to `hi`, both included.
+    pub(crate) fn lookup(
+        &mut self,
+        alloc: Global,
+        pass: &mut NodePass<J>,
+        key: &Key,
+        lo: Stamp,
+        hi: Stamp,
+    ) -> Result<Option<Finding<A>>, NodeError>
+        ensures named { self.old.cells ≡ J.node_rows self.old.settings.number }
+        ensures after { OnOk result (self.new ≡ after_call self.old pass.old.pass (Lookup key.now lo hi)) }
+        ensures unchanged { IfErr result (IsLeft self.old self.new) }
+        ensures refused { IfErr result (IsRefusedThrough (λ n. IsLookupRefused n lo hi) self.old pass.old) }
+        ensures longer { HasGrown pass.old pass.new }
+        ensures found { IfOk result (λ found. HasFound pass.old pass.new (Lookup key.now lo hi) (option_map (λ f. f.entry) found)) }
+        ensures key { IfOk result (λ found. IfSome found (λ f. f.entry.key ≡ key.now)) }
+        ensures front { IfOk result (λ found. IfSome found (λ f. f.front.events ≡ J.database_row)) }
+        ensures shown { IfOk result (λ found. IfSome found (λ f. IsPrefix f.front.history pass.new.history)) }
+        ensures left { IfErr result (IsPassLeft (J.node_rows pass.old.settings.number) pass.old pass.new) }
+    {
+        self.admit(pass)?;
+        match self.node.lookup(alloc, pass.pass, key, lo, hi) {
+            Ok(found) => {
+                self.show(pass);
+                Ok(found)
+            }
+            Err(refusal) => Err(self.refuse(pass, refusal)),
+        }
+    }
+
+    /// Inserts the entry of a finding. The node keeps the longest of the fronts that it meets.
+    pub(crate) fn insert(
+        &mut self,
+        alloc: Global,
+        pass: &mut NodePass<J>,
+        finding: Finding<A>,
+    ) -> Result<Insertion, NodeError>
+        requires { finding.front.events ≡ J.database_row }
+        ensures named { self.old.cells ≡ J.node_rows self.old.settings.number }
+        ensures after { OnOk result (self.new ≡ after_call (seeing self.old self.new.seen) pass.old.pass (Insert finding.entry)) }
+        ensures seen { OnOk result (IsPrefix finding.front.history self.new.seen.history) }
+        ensures unchanged { IfErr result (IsLeft self.old self.new) }
+        ensures refused { IfErr result (IsRefusedThrough IsStepRefused self.old pass.old) }
+        ensures longer { HasGrown pass.old pass.new }
+        ensures made { IfOk result (HasInserted pass.old pass.new finding.entry) }
+        ensures shown { OnOk result (IsPrefix finding.front.history pass.new.history) }
+        ensures left { IfErr result (IsPassLeft (J.node_rows pass.old.settings.number) pass.old pass.new) }
+    {
+        prefix_of_prefix::<Event>();
+        self.admit(pass)?;
+        match self.node.insert(alloc, pass.pass, finding) {
+            Ok(insertion) => {
+                self.node.see(&pass.events);
+                self.show(pass);
+                Ok(insertion)
+            }
+            Err(refusal) => Err(self.refuse(pass, refusal)),
+        }
+    }
+
+    /// Takes the next event that the feed, the pass or the node has seen.
+    pub(crate) fn advance(
+        &mut self,
+        alloc: Global,
+        pass: &mut NodePass<J>,
+    ) -> Result<Advanced, NodeError>
+        ensures named { self.old.cells ≡ J.node_rows self.old.settings.number }
+        ensures after { IfOk result (HasAdvanced (seeing self.old self.new.seen) pass.old.pass self.new) }
+        ensures unchanged { IfErr result (IsLeft self.old self.new) }
+        ensures refused { IfErr result (IsRefusedThrough IsStepRefused self.old pass.old) }
+        ensures longer { HasGrown pass.old pass.new }
+        ensures taken { IfOk result (HasTaken pass.old pass.new) }
+        ensures left { IfErr result (IsPassLeft (J.node_rows pass.old.settings.number) pass.old pass.new) }
+    {
+        legal_histories();
+        prefix_of_prefix::<Event>();
+        self.admit(pass)?;
+        self.feed.longer(&pass.events);
+        self.feed.longer(self.node.seen());
+        self.feed.look();
+        match self.node.advance(alloc, pass.pass, self.feed.front()) {
+            Ok(advanced) => {
+                self.node.is_sound();
+                let Advanced::Taken { .. } = advanced else {
+                    self.show(pass);
+                    return Ok(advanced);
+                };
+                self.feed.take();
+                self.show(pass);
+                Ok(advanced)
+            }
+            Err(refusal) => Err(self.refuse(pass, refusal)),
+        }
+    }
+
+    /// Drops the entries whose span ends at the horizon or before it.
+    pub(crate) fn sweep(
+        &mut self,
+        alloc: Global,
+        pass: &mut NodePass<J>,
+        horizon: Stamp,
+    ) -> Result<usize, NodeError>
+        ensures named { self.old.cells ≡ J.node_rows self.old.settings.number }
+        ensures after { OnOk result (self.new ≡ after_call self.old pass.old.pass (Sweep horizon)) }
+        ensures unchanged { IfErr result (IsLeft self.old self.new) }
+        ensures refused { IfErr result (IsRefusedThrough IsStepRefused self.old pass.old) }
+        ensures longer { HasGrown pass.old pass.new }
+        ensures made { IfOk result (λ count. HasMade pass.old pass.new (Sweep horizon) (Swept count)) }
+        ensures left { IfErr result (IsPassLeft (J.node_rows pass.old.settings.number) pass.old pass.new) }
+    {
+        self.admit(pass)?;
+        match self.node.sweep(alloc, pass.pass, horizon) {
+            Ok(count) => {
+                self.show(pass);
+                Ok(count)
+            }
+            Err(refusal) => Err(self.refuse(pass, refusal)),
+        }
+    }
+}

@@ -1,0 +1,30 @@
+//! Cache nodes that threads share, each with the stored history of its steps.
+#![tactic(auto)]
+
+mod advanced;
+mod app;
+mod ask;
+mod error;
+mod finding;
+mod held;
+mod insertion;
+pub mod laws;
+mod log;
+mod node_front;
+mod node_pass;
+mod settings;
+mod shared_node;
+mod stored_node;
+
+pub use advanced::Advanced;
+pub use app::{App, MAX_ASKS};
+pub use ask::{Answer, Ask, Bytes, Rows};
+pub use error::NodeError;
+pub use finding::Finding;
+pub use insertion::Insertion;
+pub use log::MAX_PASSES;
+pub use node_front::NodeFront;
+pub use node_pass::{NodePass, audit, meet};
+pub use settings::NodeSettings;
+pub use shared_node::SharedNode;
+pub use stored_node::StoredNode;

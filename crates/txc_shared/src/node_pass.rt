@@ -1,0 +1,165 @@
+//! What a caller has seen of a node.
+ghost use Rattle.std.specs.Prelude.{◌≡◌, ◌+◌, ◌<◌, ◌≤◌, ◌⊎◌, [], ℕ, take, length};
+ghost use mathlib.Core.List.{IsPrefix};
+ghost use Rattle.txc_node.specs.Counts.{AreCountsOf};
+ghost use Rattle.txc_shared.specs.Histories.{records_of, IsLegal};
+ghost use Rattle.txc_shared.specs.Nodes.{start_of};
+ghost use Rattle.txc_shared.specs.Passes.{PassValue, HasSeen};
+
+use crate::laws::legal_histories;
+use crate::node_front::NodeFront;
+use crate::settings::NodeSettings;
+use std::marker::{Model, PhantomData};
+use txc_db::{HistoryFront, Naming};
+use txc_node::Counts;
+
+/// What a caller has seen of a node: a legal history of its records, and what they name of the database's history.
+///
+/// A caller makes its steps through a pass of its own, and finds the records of them in each history that the pass meets.
+#[derive(Drop)]
+pub struct NodePass<J: Naming> {
+    pub(crate) settings: NodeSettings,
+    pub(crate) pass: usize,
+    // How many of the records that it shows are its own.
+    pub(crate) turn: usize,
+    pub(crate) records: NodeFront,
+    pub(crate) events: HistoryFront,
+    of: PhantomData<J>,
+}
+
+impl<J: Naming> Model for NodePass<J> {
+    ghost use Rattle.std.specs.Prelude.{◌≡◌};
+    ghost use Rattle.txc_shared.specs.Histories.{records_of, IsLegal};
+    ghost use Rattle.txc_shared.specs.Nodes.{start_of};
+    ghost use Rattle.txc_shared.specs.Passes.{PassValue};
+
+    ghost Value = { PassValue };
+
+    ghost view = { λ p. record { settings = p.settings; pass = p.pass; records = p.records.records; history = p.events.history } };
+
+    ghost invariant = { λ p. (p.records.cells ≡ J.node_rows p.settings.number) × (p.events.events ≡ J.database_row) × (p.turn ≡ records_of p.pass p.records.records) × IsLegal p.events.history (start_of p.settings) p.records.records };
+}
+
+impl<J: Naming> NodePass<J> {
+    /// A pass that has seen no record.
+    pub(crate) fn new(
+        settings: NodeSettings,
+        pass: usize,
+        records: NodeFront,
+        events: HistoryFront,
+    ) -> NodePass<J>
+        requires cells { records.cells ≡ J.node_rows settings.number }
+        requires none { records.records ≡ [] }
+        requires events { events.events ≡ J.database_row }
+        ensures { result ≡ record { settings = settings; pass = pass; records = []; history = events.history } }
+    {
+        legal_histories();
+        NodePass {
+            settings,
+            pass,
+            turn: 0,
+            records,
+            events,
+            of: PhantomData,
+        }
+    }
+
+    /// How its node was made.
+    pub fn settings(&self) -> NodeSettings
+        ensures { result ≡ self.now.settings }
+    {
+        self.settings
+    }
+
+    /// How many records it has seen, of itself and of others.
+    pub fn len(&self) -> usize
+        ensures { result ≡ length self.now.records }
+    {
+        self.records.len()
+    }
+
+    /// What it has seen is a legal history of its node. It does nothing when it runs.
+    pub fn is_legal(&self)
+        ensures { IsLegal self.now.history (start_of self.now.settings) self.now.records }
+    {
+        let _len = self.records.len();
+    }
+
+    /// The records that it has seen.
+    pub fn records(&self) -> &NodeFront
+        ensures cells { result.now.cells ≡ J.node_rows self.now.settings.number }
+        ensures records { result.now.records ≡ self.now.records }
+    {
+        &self.records
+    }
+
+    /// What it has seen of the database's history.
+    pub fn events(&self) -> &HistoryFront
+        ensures events { result.now.events ≡ J.database_row }
+        ensures history { result.now.history ≡ self.now.history }
+    {
+        &self.events
+    }
+
+    /// Sees the records that a front shows, which go on from its own and have that many of its own, and what the other
+    /// front shows of the database's history beyond what it has seen itself.
+    pub(crate) fn see(&mut self, records: &NodeFront, events: &HistoryFront, turn: usize)
+        requires cells { records.now.cells ≡ J.node_rows self.old.settings.number }
+        requires row { events.now.events ≡ J.database_row }
+        requires records { IsPrefix self.old.records records.now.records }
+        requires turn { turn ≡ records_of self.old.pass records.now.records }
+        requires legal { IsLegal events.now.history (start_of self.old.settings) records.now.records }
+        ensures { HasSeen self.old records.now.records events.now.history self.new }
+    {
+        legal_histories();
+        self.records.longer(records);
+        self.events.longer(events);
+        self.turn = turn;
+    }
+}
+
+// How many of the records that a front shows a pass made.
+fn count_records(front: &NodeFront, pass: usize) -> usize
+    ensures { result ≡ records_of pass front.now.records }
+{
+    let mut count = 0;
+    for at in 0..front.len() {
+        if front.get(at).pass == pass {
+            count += 1;
+        }
+    }
+    count
+}
+
+/// Gives two passes of one node what either of them has seen. It takes no lock and no memory.
+pub fn meet<J: Naming>(one: &mut NodePass<J>, other: &mut NodePass<J>)
+    requires { one.old.settings ≡ other.old.settings }
+    ensures one { one.new ≡ record one.old { records = one.new.records; history = one.new.history } }
+    ensures other { other.new ≡ record other.old { records = one.new.records; history = one.new.history } }
+    ensures either { (one.new.records ≡ one.old.records) ⊎ (one.new.records ≡ other.old.records) }
+    ensures seen { IsPrefix one.old.records one.new.records }
+    ensures others_seen { IsPrefix other.old.records one.new.records }
+    ensures either_history { (one.new.history ≡ one.old.history) ⊎ (one.new.history ≡ other.old.history) }
+    ensures history { IsPrefix one.old.history one.new.history }
+    ensures others_history { IsPrefix other.old.history one.new.history }
+    ensures legal { IsLegal one.new.history (start_of one.new.settings) one.new.records }
+{
+    legal_histories();
+    one.records.longer(&other.records);
+    other.records.longer(&one.records);
+    one.events.longer(&other.events);
+    other.events.longer(&one.events);
+    one.turn = count_records(&one.records, one.pass);
+    other.turn = count_records(&other.records, other.pass);
+}
+
+/// The counts of the records that a pass has seen. It takes no lock and no memory.
+pub fn audit<J: Naming>(pass: &NodePass<J>) -> Counts
+    ensures { AreCountsOf pass.now.records result }
+{
+    let mut counts = Counts::new();
+    for at in 0..pass.records.len() {
+        counts.add(pass.records.get(at));
+    }
+    counts
+}

@@ -1,0 +1,180 @@
+//! The node under its lock, and the steps of passes through it.
+ghost use Rattle.std.specs.Prelude.{◌≡◌, ◌≤◌, [], Ok, Err, IfOk, OnOk, IfErr, IfSome};
+ghost use Rattle.std.specs.Option.{option_map};
+ghost use Rattle.std.specs.Arc.{arc_value};
+ghost use mathlib.Core.List.{IsPrefix};
+ghost use Rattle.txc_node.specs.declared.op.Op.TheVariants.{Lookup, Sweep};
+ghost use Rattle.txc_node.specs.declared.reply.Reply.TheVariants.{Swept};
+ghost use Rattle.txc_shared.specs.Histories.{IsLegal};
+ghost use Rattle.txc_shared.specs.Nodes.{start_of};
+ghost use Rattle.txc_shared.specs.Passes.{HasGrown, HasFound, HasMade, HasInserted, HasTaken, IsPassLeft};
+ghost use Rattle.txc_shared.specs.Refusals.{IsLookupRefused, IsStepRefused, IsRefusedThrough, IsNewPassRefused, MayRefuse};
+
+use crate::advanced::Advanced;
+use crate::app::App;
+use crate::error::NodeError;
+use crate::finding::Finding;
+use crate::held::Held;
+use crate::insertion::Insertion;
+use crate::node_pass::NodePass;
+use crate::settings::NodeSettings;
+use crate::stored_node::StoredNode;
+use std::alloc::{AllocError, Global};
+use std::marker::Model;
+use std::sync::{Arc, Mutex, Wait};
+use txc_db::{Database, Naming};
+use txc_node::{MAX_CAPACITY, MAX_RECENT, Record};
+use txc_stamp::Stamp;
+use txc_stream::EventRow;
+use txc_tags::Key;
+
+/// A node that threads share. Contracts see how it was made.
+///
+/// A caller draws a pass, and makes its steps through it: each does the step of [`StoredNode`] of its name, for some
+/// history of the named row, and leaves the pass with what it has seen of that history. A node that a call
+/// finds `Broken` refuses each call so from then on.
+#[derive(Drop)]
+pub struct SharedNode<A: App, J: Naming> {
+    settings: NodeSettings,
+    row: Arc<EventRow<Record>>,
+    lock: Mutex<Held<A, J>>,
+}
+
+impl<A: App, J: Naming> Model for SharedNode<A, J> {
+    ghost use Rattle.std.specs.Prelude.{◌≡◌};
+    ghost use Rattle.std.specs.Arc.{arc_value};
+    ghost use Rattle.txc_shared.specs.declared.settings.NodeSettings.{NodeSettings};
+
+    ghost Value = { NodeSettings };
+
+    ghost view = { λ n. n.settings };
+
+    ghost invariant = { λ n. arc_value n.row ≡ J.node_rows n.settings.number };
+}
+
+impl<A: App, J: Naming> SharedNode<A, J> {
+    /// An empty node, which will take the events of the database. Its row is the one named at its number. Where memory is
+    /// refused, the row is dropped.
+    pub fn new(
+        alloc: Global,
+        settings: NodeSettings,
+        row: EventRow<Record>,
+        database: &Database<J>,
+    ) -> Result<SharedNode<A, J>, AllocError>
+        requires capacity { (1 ≤ settings.capacity) × (settings.capacity ≤ MAX_CAPACITY) }
+        requires recent { (1 ≤ settings.recent) × (settings.recent ≤ MAX_RECENT) }
+        requires named { row ≡ J.node_rows settings.number }
+        ensures { IfOk result (λ node. node ≡ settings) }
+    {
+        let node = StoredNode::new(alloc, settings, row, database.reader(alloc)?)?;
+        let row = node.front().row_handle()?;
+        let held = Held::new(node, database.feed(alloc)?);
+        Ok(SharedNode {
+            settings,
+            row,
+            lock: Mutex::new(held),
+        })
+    }
+
+    /// A pass of its own for a caller, which has seen no record. At most [`crate::MAX_PASSES`] are given.
+    pub fn pass(&self, rt: &impl Wait, alloc: Global) -> Result<NodePass<J>, NodeError>
+        ensures settings { IfOk result (λ pass. pass.settings ≡ self.now) }
+        ensures records { IfOk result (λ pass. pass.records ≡ []) }
+        ensures refused { IfErr result (MayRefuse J.node_rows (IsNewPassRefused self.now)) }
+    {
+        self.lock.lock(rt).pass(alloc, self.settings)
+    }
+
+    /// The row of its records, which anybody reads without the lock. Whoever appends to it breaks the node; tests do.
+    pub fn row(&self) -> &EventRow<Record>
+        ensures { result.now ≡ J.node_rows self.now.number }
+    {
+        let _number = self.settings.number;
+        &self.row
+    }
+}
+
+impl<J: Naming> NodePass<J> {
+    /// Looks up the call of `key` at the stamps from `lo` to `hi`, both included. What it finds is true in the history of the
+    /// front beside it.
+    pub fn lookup<A: App>(
+        &mut self,
+        rt: &impl Wait,
+        alloc: Global,
+        node: &SharedNode<A, J>,
+        key: &Key,
+        lo: Stamp,
+        hi: Stamp,
+    ) -> Result<Option<Finding<A>>, NodeError>
+        ensures longer { HasGrown self.old self.new }
+        ensures legal { IsLegal self.new.history (start_of self.new.settings) self.new.records }
+        ensures found { IfOk result (λ found. HasFound self.old self.new (Lookup key.now lo hi) (option_map (λ f. f.entry) found)) }
+        ensures key { IfOk result (λ found. IfSome found (λ f. f.entry.key ≡ key.now)) }
+        ensures front { IfOk result (λ found. IfSome found (λ f. f.front.events ≡ J.database_row)) }
+        ensures shown { IfOk result (λ found. IfSome found (λ f. IsPrefix f.front.history self.new.history)) }
+        ensures left { IfErr result (IsPassLeft (J.node_rows self.old.settings.number) self.old self.new) }
+        ensures refused { IfErr result (MayRefuse J.node_rows (λ n. IsRefusedThrough (λ m. IsLookupRefused m lo hi) n self.old)) }
+    {
+        let found = node.lock.lock(rt).lookup(alloc, self, key, lo, hi);
+        self.is_legal();
+        found
+    }
+
+    /// Inserts the entry of a finding. Where it is refused, the finding is dropped.
+    pub fn insert<A: App>(
+        &mut self,
+        rt: &impl Wait,
+        alloc: Global,
+        node: &SharedNode<A, J>,
+        finding: Finding<A>,
+    ) -> Result<Insertion, NodeError>
+        requires { finding.front.events ≡ J.database_row }
+        ensures longer { HasGrown self.old self.new }
+        ensures legal { IsLegal self.new.history (start_of self.new.settings) self.new.records }
+        ensures made { IfOk result (HasInserted self.old self.new finding.entry) }
+        ensures shown { OnOk result (IsPrefix finding.front.history self.new.history) }
+        ensures left { IfErr result (IsPassLeft (J.node_rows self.old.settings.number) self.old self.new) }
+        ensures refused { IfErr result (MayRefuse J.node_rows (λ n. IsRefusedThrough IsStepRefused n self.old)) }
+    {
+        let insertion = node.lock.lock(rt).insert(alloc, self, finding);
+        self.is_legal();
+        insertion
+    }
+
+    /// Takes the next event of the database's history. Where it is idle, the pass has seen as many events as were taken.
+    pub fn advance<A: App>(
+        &mut self,
+        rt: &impl Wait,
+        alloc: Global,
+        node: &SharedNode<A, J>,
+    ) -> Result<Advanced, NodeError>
+        ensures longer { HasGrown self.old self.new }
+        ensures legal { IsLegal self.new.history (start_of self.new.settings) self.new.records }
+        ensures taken { IfOk result (HasTaken self.old self.new) }
+        ensures left { IfErr result (IsPassLeft (J.node_rows self.old.settings.number) self.old self.new) }
+        ensures refused { IfErr result (MayRefuse J.node_rows (λ n. IsRefusedThrough IsStepRefused n self.old)) }
+    {
+        let advanced = node.lock.lock(rt).advance(alloc, self);
+        self.is_legal();
+        advanced
+    }
+
+    /// Drops the entries whose span ends at the horizon or before it, and counts them.
+    pub fn sweep<A: App>(
+        &mut self,
+        rt: &impl Wait,
+        alloc: Global,
+        node: &SharedNode<A, J>,
+        horizon: Stamp,
+    ) -> Result<usize, NodeError>
+        ensures longer { HasGrown self.old self.new }
+        ensures legal { IsLegal self.new.history (start_of self.new.settings) self.new.records }
+        ensures made { IfOk result (λ count. HasMade self.old self.new (Sweep horizon) (Swept count)) }
+        ensures left { IfErr result (IsPassLeft (J.node_rows self.old.settings.number) self.old self.new) }
+        ensures refused { IfErr result (MayRefuse J.node_rows (λ n. IsRefusedThrough IsStepRefused n self.old)) }
+    {
+        let count = node.lock.lock(rt).sweep(alloc, self, horizon);
+        self.is_legal();
+        count
+    }
+}

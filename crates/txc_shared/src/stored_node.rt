@@ -1,0 +1,400 @@
+//! The node for one thread, which its lock holds too.
+ghost use Rattle.std.specs.Prelude.{◌≡◌, ◌+◌, ◌<◌, ◌≤◌, ◌⊎◌, ◌↔◌, ◌++◌, ◌∷◌, [], true, false, length, Some, None, Err, IsOk, IfOk, OnOk, OnErr, IfErr, IfSome, IsTrue};
+ghost use Rattle.std.specs.Option.{option_map};
+ghost use Rattle.txc_node.specs.Cache.{answer, outcome, swept_count};
+ghost use Rattle.txc_node.specs.Steps.{found_reply};
+ghost use Rattle.txc_node.specs.declared.op.Op.TheVariants.{Insert, Lookup, Sweep};
+ghost use Rattle.txc_shared.specs.Nodes.{NodeValue, start_of, after_call, seeing, IsLonger, HasTags, entry_shown, insertion_of, HasAdvanced};
+ghost use Rattle.txc_shared.specs.Histories.{records_of};
+ghost use Rattle.txc_shared.specs.Runs.{IsNode};
+ghost use Rattle.txc_shared.specs.Refusals.{IsOpen, IsStepRefused, IsLookupRefused, IsPassRefused, IsLeft};
+
+use crate::advanced::Advanced;
+use crate::app::App;
+use crate::error::NodeError;
+use crate::finding::Finding;
+use crate::insertion::Insertion;
+use crate::laws::{answers_are_true, entries_stay_true, nodes_go_on};
+use crate::log::{Log, MAX_PASSES};
+use crate::node_front::NodeFront;
+use crate::settings::NodeSettings;
+use std::alloc::{AllocError, Global};
+use std::marker::{Model, PhantomData};
+use std::sync::Arc;
+use txc_db::{HistoryFront, states_stay};
+use txc_node::{Entry, MAX_CAPACITY, MAX_RECENT, NodeCore, Op, Record, Reply, Shown};
+use txc_stamp::Stamp;
+use txc_stream::EventRow;
+use txc_tags::{Key, TagSet};
+
+/// A node of the cache, with the stored history of its steps and what it has seen of the database's history.
+///
+/// It is the state after its history, unless it is broken, and each result that it holds is true in what it has seen. A step
+/// is one of a pass, by the pass's number: its record has the pass's next turn.
+#[derive(Drop)]
+pub struct StoredNode<A: App> {
+    settings: NodeSettings,
+    core: NodeCore,
+    log: Log,
+    seen: HistoryFront,
+    broken: bool,
+    of: PhantomData<A>,
+}
+
+impl<A: App> Model for StoredNode<A> {
+    ghost use Rattle.txc_shared.specs.Runs.{IsNode};
+    ghost use Rattle.txc_shared.specs.Nodes.{NodeValue, start_of};
+
+    ghost Value = { NodeValue };
+
+    ghost view = { λ n. record { settings = n.settings; cells = n.log.cells; records = n.log.records; passes = n.log.passes; cache = n.core; seen = n.seen; broken = n.broken } };
+
+    ghost invariant = { λ n. IsNode A.next n.seen.history (start_of n.settings) n.log.records n.core n.broken };
+}
+
+impl<A: App> StoredNode<A> {
+    /// An empty node, whose records the row will have. The front shows what it has seen of the database's history.
+    pub fn new(
+        alloc: Global,
+        settings: NodeSettings,
+        row: EventRow<Record>,
+        seen: HistoryFront,
+    ) -> Result<StoredNode<A>, AllocError>
+        requires capacity { (1 ≤ settings.capacity) × (settings.capacity ≤ MAX_CAPACITY) }
+        requires recent { (1 ≤ settings.recent) × (settings.recent ≤ MAX_RECENT) }
+        ensures settings { IfOk result (λ n. n.settings ≡ settings) }
+        ensures cells { IfOk result (λ n. n.cells ≡ row) }
+        ensures records { IfOk result (λ n. n.records ≡ []) }
+        ensures passes { IfOk result (λ n. n.passes ≡ 0) }
+        ensures cache { IfOk result (λ n. n.cache ≡ start_of settings) }
+        ensures seen { IfOk result (λ n. n.seen ≡ seen) }
+        ensures whole { IfOk result (λ n. n.broken ≡ false) }
+    {
+        nodes_go_on();
+        let row = Arc::new(alloc, row)?;
+        let log = Log::new(alloc, NodeFront::new(alloc, row)?);
+        let core = NodeCore::new(alloc, settings.capacity, settings.recent)?;
+        Ok(StoredNode {
+            settings,
+            core,
+            log,
+            seen,
+            broken: false,
+            of: PhantomData,
+        })
+    }
+
+    /// What holds of every node: the results that it shows are true in what it has seen of the database's history, and,
+    /// unless it is broken, it is the state after a legal history. It does nothing when it runs.
+    pub fn is_sound(&self)
+        ensures { IsNode A.next self.now.seen.history (start_of self.now.settings) self.now.records self.now.cache self.now.broken }
+    {
+        let _whole = self.broken;
+    }
+
+    /// How it was made.
+    pub fn settings(&self) -> NodeSettings
+        ensures { result ≡ self.now.settings }
+    {
+        self.settings
+    }
+
+    /// A front that shows its records.
+    pub fn front(&self) -> &NodeFront
+        ensures { result.now ≡ record { cells = self.now.cells; records = self.now.records } }
+    {
+        self.log.front()
+    }
+
+    /// What it has seen of the database's history.
+    pub fn seen(&self) -> &HistoryFront
+        ensures { result.now ≡ self.now.seen }
+    {
+        &self.seen
+    }
+
+    /// How many passes there are.
+    pub fn passes(&self) -> usize
+        ensures { result ≡ self.now.passes }
+    {
+        self.log.passes()
+    }
+
+    /// How many of its records a pass made.
+    pub fn turn(&self, pass: usize) -> usize
+        requires { pass < self.now.passes }
+        ensures { result ≡ records_of pass self.now.records }
+    {
+        self.log.turn(pass)
+    }
+
+    /// Whether another record was found in its row.
+    pub fn is_broken(&self) -> bool
+        ensures { result ≡ self.now.broken }
+    {
+        self.broken
+    }
+
+    /// Takes over what a front shows beyond what the node has seen of the database's history. It takes no memory.
+    pub fn see(&mut self, front: &HistoryFront)
+        requires { front.now.events ≡ self.old.seen.events }
+        ensures seen { IsLonger self.old.seen front.now self.new.seen }
+        ensures same { self.new ≡ seeing self.old self.new.seen }
+    {
+        nodes_go_on();
+        self.seen.longer(front);
+    }
+
+    /// From now on each call is refused as broken.
+    pub(crate) fn set_broken(&mut self)
+        ensures { self.new ≡ record self.old { broken = true } }
+    {
+        self.broken = true;
+    }
+
+    // Refused as broken.
+    fn check_whole(&self) -> Result<(), NodeError>
+        ensures only_if { OnOk result (self.now.broken ≡ false) }
+        ensures refused { OnErr result ((result ≡ Err NodeError.Broken) × (self.now.broken ≡ true)) }
+    {
+        if self.broken {
+            return Err(NodeError::Broken);
+        }
+        Ok(())
+    }
+
+    // Refused as full.
+    fn check_room(&self) -> Result<(), NodeError>
+        ensures only_if { OnOk result (length self.now.records < length self.now.cells) }
+        ensures refused { OnErr result ((result ≡ Err NodeError.HistoryFull) × (length self.now.records ≡ length self.now.cells)) }
+    {
+        if self.log.front().is_full() {
+            return Err(NodeError::HistoryFull);
+        }
+        Ok(())
+    }
+
+    /// Refuses a pass that cannot be made, whatever memory there is.
+    pub(crate) fn check_pass(&self) -> Result<(), NodeError>
+        ensures only_if { OnOk result ((self.now.broken ≡ false) × (self.now.passes < MAX_PASSES)) }
+        ensures refused { IfErr result (IsPassRefused self.now) }
+    {
+        self.check_whole()?;
+        if self.log.passes() >= MAX_PASSES {
+            return Err(NodeError::PassesFull);
+        }
+        Ok(())
+    }
+
+    /// One pass more, by its number.
+    pub fn pass(&mut self) -> Result<usize, NodeError>
+        ensures pass { IfOk result (λ pass. pass ≡ self.old.passes) }
+        ensures after { OnOk result (self.new ≡ record self.old { passes = self.old.passes + 1 }) }
+        ensures only_if { OnOk result ((self.old.broken ≡ false) × (self.old.passes < MAX_PASSES)) }
+        ensures unchanged { OnErr result (self.new ≡ self.old) }
+        ensures refused { IfErr result (IsPassRefused self.old) }
+    {
+        self.check_pass()?;
+        Ok(self.log.add_pass()?)
+    }
+
+    // What a lookup finds, as a finding and as a reply.
+    fn find(
+        &self,
+        alloc: Global,
+        key: &Key,
+        lo: Stamp,
+        hi: Stamp,
+    ) -> Result<(Option<Finding<A>>, Reply<Shown>), AllocError>
+        requires { lo ≤ hi }
+        ensures found { IfOk result (λ both. option_map (λ f. f.entry) both.0 ≡ option_map (entry_shown key.now) (answer self.now.cache key.now lo hi)) }
+        ensures front { IfOk result (λ both. IfSome both.0 (λ f. f.front ≡ self.now.seen)) }
+        ensures reply { IfOk result (λ both. both.1 ≡ found_reply (answer self.now.cache key.now lo hi)) }
+    {
+        answers_are_true();
+        let Ok(found) = self.core.find(key, lo, hi) else {
+            unreachable!();
+        };
+        let Some(hit) = found else {
+            return Ok((None, Reply::Miss));
+        };
+        let shown = hit.copy(alloc)?;
+        let entry = Entry {
+            key: key.copy(),
+            value: hit.value.copy(alloc)?,
+            reach: hit.reach(),
+            tags: hit.tags.copy(alloc)?,
+        };
+        let front = self.seen.again(alloc)?;
+        Ok((Some(Finding::new(entry, front)), Reply::Hit(shown)))
+    }
+
+    /// Looks up the call of `key` at the stamps from `lo` to `hi`, both included. The finding is true in the front beside it,
+    /// which is what the node has seen.
+    pub fn lookup(
+        &mut self,
+        alloc: Global,
+        pass: usize,
+        key: &Key,
+        lo: Stamp,
+        hi: Stamp,
+    ) -> Result<Option<Finding<A>>, NodeError>
+        requires { pass < self.old.passes }
+        ensures after { OnOk result (self.new ≡ after_call self.old pass (Lookup key.now lo hi)) }
+        ensures found { IfOk result (λ found. option_map (λ f. f.entry) found ≡ option_map (entry_shown key.now) (answer self.old.cache key.now lo hi)) }
+        ensures front { IfOk result (λ found. IfSome found (λ f. f.front ≡ self.old.seen)) }
+        ensures only_if { OnOk result (IsOpen self.old × (lo ≤ hi)) }
+        ensures left { IfErr result (IsLeft self.old self.new) }
+        ensures refused { IfErr result (IsLookupRefused self.old lo hi) }
+    {
+        nodes_go_on();
+        self.check_whole()?;
+        if hi < lo {
+            return Err(NodeError::EmptyRange);
+        }
+        self.check_room()?;
+        let (finding, reply) = self.find(alloc, key, lo, hi)?;
+        let op = Op::Lookup {
+            key: key.copy(),
+            lo,
+            hi,
+        };
+        let next = Box::new(alloc, self.log.next_record(pass, op, reply))?;
+        let Ok(_) = self.core.lookup(key, lo, hi) else {
+            unreachable!();
+        };
+        if !self.log.append(next) {
+            self.broken = true;
+            return Err(NodeError::Broken);
+        }
+        Ok(finding)
+    }
+
+    /// Inserts the entry of a finding, which is true in the front beside it. The node keeps the longer of that front and its
+    /// own. Where it is refused, the finding is dropped.
+    pub fn insert(
+        &mut self,
+        alloc: Global,
+        pass: usize,
+        finding: Finding<A>,
+    ) -> Result<Insertion, NodeError>
+        requires own { pass < self.old.passes }
+        requires front { finding.front.events ≡ self.old.seen.events }
+        ensures seen { OnOk result (IsLonger self.old.seen finding.front self.new.seen) }
+        ensures after { OnOk result (self.new ≡ after_call (seeing self.old self.new.seen) pass (Insert finding.entry)) }
+        ensures answer { IfOk result (λ insertion. insertion ≡ insertion_of (outcome self.old.cache finding.entry)) }
+        ensures only_if { OnOk result (IsOpen self.old) }
+        ensures left { IfErr result (IsLeft self.old self.new) }
+        ensures refused { IfErr result (IsStepRefused self.old) }
+    {
+        nodes_go_on();
+        entries_stay_true();
+        self.check_whole()?;
+        self.check_room()?;
+        let Finding { entry, front, .. } = finding;
+        let _known = entry.reach.known();
+        let _bytes = entry.value.bytes();
+        let op = Op::Insert(entry.copy(alloc)?);
+        let mut next = Box::new(alloc, self.log.next_record(pass, op, Reply::Miss))?;
+        let inserted = self.core.insert(entry)?;
+        let insertion = Insertion::of(&inserted);
+        set_reply(&mut next, Reply::Inserted(inserted));
+        self.seen.longer(&front);
+        if !self.log.append(next) {
+            self.broken = true;
+            return Err(NodeError::Broken);
+        }
+        Ok(insertion)
+    }
+
+    // The tags of an event that the node has seen, or the front shows.
+    fn tags_of(
+        &self,
+        alloc: Global,
+        front: &HistoryFront,
+        number: usize,
+    ) -> Result<TagSet, AllocError>
+        requires first { 1 ≤ number }
+        requires seen { (number ≤ length self.now.seen.history) ⊎ (number ≤ length front.now.history) }
+        ensures { IfOk result (λ tags. HasTags self.now.seen.history number tags ⊎ HasTags front.now.history number tags) }
+    {
+        if number <= self.seen.len() {
+            return self.seen.event_at(number).tags.copy(alloc);
+        }
+        front.event_at(number).tags.copy(alloc)
+    }
+
+    /// Takes the next event of the database's history that the node or the front has seen, and says how many entries it
+    /// closed. The node keeps the longer of that front and its own.
+    pub fn advance(
+        &mut self,
+        alloc: Global,
+        pass: usize,
+        front: &HistoryFront,
+    ) -> Result<Advanced, NodeError>
+        requires own { pass < self.old.passes }
+        requires front { front.now.events ≡ self.old.seen.events }
+        ensures seen { OnOk result (IsLonger self.old.seen front.now self.new.seen) }
+        ensures after { IfOk result (HasAdvanced (seeing self.old self.new.seen) pass self.new) }
+        ensures only_if { OnOk result (self.old.broken ≡ false) }
+        ensures left { IfErr result (IsLeft self.old self.new) }
+        ensures refused { IfErr result (IsStepRefused self.old) }
+    {
+        states_stay();
+        nodes_go_on();
+        self.check_whole()?;
+        let number = self.core.processed().number() as usize + 1;
+        if number > self.seen.len() && number > front.len() {
+            self.seen.longer(front);
+            return Ok(Advanced::Idle);
+        }
+        self.check_room()?;
+        let stamp = Stamp::after(number);
+        let tags = self.tags_of(alloc, front, number)?;
+        let op = Op::Event {
+            stamp,
+            tags: tags.copy(alloc)?,
+        };
+        let mut next = Box::new(alloc, self.log.next_record(pass, op, Reply::Miss))?;
+        let Ok(closed) = self.core.event(stamp, tags) else {
+            unreachable!();
+        };
+        set_reply(&mut next, Reply::Closed(closed));
+        self.seen.longer(front);
+        if !self.log.append(next) {
+            self.broken = true;
+            return Err(NodeError::Broken);
+        }
+        Ok(Advanced::Taken { stamp, closed })
+    }
+
+    /// Drops the entries whose span ends at the horizon or before it, and counts them.
+    pub fn sweep(&mut self, alloc: Global, pass: usize, horizon: Stamp) -> Result<usize, NodeError>
+        requires { pass < self.old.passes }
+        ensures after { OnOk result (self.new ≡ after_call self.old pass (Sweep horizon)) }
+        ensures answer { IfOk result (λ count. count ≡ swept_count self.old.cache horizon) }
+        ensures only_if { OnOk result (IsOpen self.old) }
+        ensures left { IfErr result (IsLeft self.old self.new) }
+        ensures refused { IfErr result (IsStepRefused self.old) }
+    {
+        nodes_go_on();
+        self.check_whole()?;
+        self.check_room()?;
+        let op = Op::Sweep { horizon };
+        let mut next = Box::new(alloc, self.log.next_record(pass, op, Reply::Miss))?;
+        let dropped = self.core.sweep(horizon);
+        set_reply(&mut next, Reply::Swept(dropped));
+        if !self.log.append(next) {
+            self.broken = true;
+            return Err(NodeError::Broken);
+        }
+        Ok(dropped)
+    }
+}
+
+// The reply of a record whose room was made before the step.
+fn set_reply(next: &mut Record, reply: Reply<Shown>)
+    ensures { next.new ≡ record next.old { reply = reply } }
+{
+    next.reply = reply;
+}
