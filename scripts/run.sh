@@ -23,7 +23,7 @@ sources() {
 }
 
 if [ ! -x "$program" ] || [ -n "$(sources)" ]; then
-    echo "run: proving and building the program: some fourteen minutes of one core the first time (log: $log)" >&2
+    echo "run: proving and building the program: some fifteen minutes of one core the first time (log: $log)" >&2
     mkdir -p "$(dirname "$log")"
     if ! (cd crates/txcache && rt run -- node </dev/null) >"$log" 2>&1; then
         tail -n 20 "$log" >&2
