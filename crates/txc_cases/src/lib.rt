@@ -11,6 +11,8 @@ mod command;
 #[cfg(test)]
 mod node;
 #[cfg(test)]
+mod permits;
+#[cfg(test)]
 mod script;
 #[cfg(test)]
 mod stamp;
