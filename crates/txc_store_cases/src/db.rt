@@ -1,5 +1,5 @@
 //! Calls of the database, alone and under its lock, with what they answer.
-mod alone;
+pub(crate) mod alone;
 mod calls;
 mod locked;
 mod scripts;

@@ -20,4 +20,6 @@ mod rows;
 #[cfg(test)]
 mod run;
 #[cfg(test)]
+mod shared;
+#[cfg(test)]
 mod validity;

@@ -83,7 +83,7 @@ impl Player for DbCore {
 
 /// A database with room for so many events, to which the commands were given that come before its lock. None where
 /// memory for the database itself was refused, or an answer is not wanted.
-pub(super) fn played(
+pub(crate) fn played(
     alloc: Global,
     capacity: usize,
     before: &str,
