@@ -232,12 +232,7 @@ fn is_answered<J: Naming, R: Wait>(
     Some(is_played(&mut callers, alloc, "", script.1, answer))
 }
 
-fn starts<R: Wait>(
-    rt: &R,
-    alloc: Global,
-    script: Script,
-    answer: &mut String,
-) -> Option<bool> {
+fn starts<R: Wait>(rt: &R, alloc: Global, script: Script, answer: &mut String) -> Option<bool> {
     let core = played(alloc, 16, HISTORY, answer)?;
     let row = EventRow::new(alloc, script.0.clamp(1, 64)).ok()?;
     is_answered::<Brand, _>(rt, alloc, core, row, script, answer)
