@@ -10,6 +10,7 @@ pub mod Output
 pub mod Runs
 pub mod Replies
 pub mod Reading
+pub mod LineFaults
 pub mod Sessions
 pub mod Turns
 pub mod Laws

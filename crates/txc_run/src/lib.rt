@@ -2,10 +2,13 @@
 #![tactic(auto)]
 
 mod answer;
+mod excerpt;
 mod fault;
+mod finding;
 mod hex;
 mod laws;
 mod line;
+mod line_fault;
 mod piece;
 mod reading;
 mod reads;
