@@ -106,11 +106,11 @@ pub more_tested : (kinds : List WordKind) (words : List (List ℕ)) (rest : List
     → HasTested kinds words rest left number → 1 ≤ length rest → left ≡ word ∷ others → IsOfKind (get_or rest 0 d) word → HasTested kinds words (take (length rest - 1) (drop 1 rest)) others (number + 1)
 more_tested kinds words rest left others word number d h some e is = rw (take_rest rest 1) (tested_more kinds words rest left others word number d h some e is)
 
-pub bad_tested : (kinds : List WordKind) (words : List (List ℕ)) (rest : List WordKind) (left others : List (List ℕ)) (word : List ℕ) (d : WordKind) (fault : WordFault)
-    → HasTested kinds words rest left fault.number → 1 ≤ length rest → left ≡ word ∷ others → fault.kind ≡ get_or rest 0 d → (IsOfKind (get_or rest 0 d) word → ⊥)
+pub bad_tested : (kinds : List WordKind) (words : List (List ℕ)) (rest : List WordKind) (left others : List (List ℕ)) (word : List ℕ) (number : ℕ) (d : WordKind) (fault : WordFault)
+    → HasTested kinds words rest left number → fault.number ≡ number + 1 → 1 ≤ length rest → left ≡ word ∷ others → fault.kind ≡ get_or rest 0 d → (IsOfKind (get_or rest 0 d) word → ⊥)
     → fault.text ≡ take MAX_SHOWN word → StopsAt (get_or rest 0 d) word fault.at → IsBadWord kinds words fault
-bad_tested kinds words [] left others word d fault h some e kind bad text stops = absurd (omega arith)
-bad_tested kinds words (k ∷ rest) left others word d fault h some e kind bad text stops = record {
+bad_tested kinds words [] left others word number d fault h next some e kind bad text stops = absurd (omega arith)
+bad_tested kinds words (k ∷ rest) left others word number d fault h next some e kind bad text stops = record {
   good_kinds = h.good_kinds;
   good = h.good;
   word = word;
@@ -120,7 +120,7 @@ bad_tested kinds words (k ∷ rest) left others word d fault h some e kind bad t
   words_are = h.words_are ∙ ap (λ (ws : List (List ℕ)). h.good ++ ws) e;
   are_good = h.are_good;
   is_bad = subst (λ (j : WordKind). IsOfKind j word → ⊥) (sym kind) bad;
-  number = h.counted;
+  number = next ∙ ap (λ n. n + 1) h.counted;
   text = text;
   stops = subst (λ (j : WordKind). StopsAt j word fault.at) (sym kind) stops;
 }

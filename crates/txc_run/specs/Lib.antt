@@ -4,13 +4,13 @@ pub mod Words
 pub mod Written
 pub mod Reads
 pub mod Lines
+pub mod LineFaults
 pub mod Given
 pub mod Reports
 pub mod Output
 pub mod Runs
 pub mod Replies
 pub mod Reading
-pub mod LineFaults
 pub mod Sessions
 pub mod Turns
 pub mod Laws

@@ -1,5 +1,5 @@
 -- What is wrong with a malformed line.
-use Rattle.std.specs.Prelude.{◌≡◌, ◌≢◌, ◌<◌, ◌≤◌, ◌==◌, ℕ, Bool, true, false, List, [], ◌∷◌, ◌++◌, Option, Some, None, if◌then◌else◌, length, take, codes, nat_lt, ◌||◌, position}
+use Rattle.std.specs.Prelude.{◌≡◌, ◌≢◌, ◌<◌, ◌≤◌, ◌==◌, ◌+◌, ℕ, Bool, true, false, List, [], ◌∷◌, ◌++◌, Option, Some, None, if◌then◌else◌, length, take, codes, nat_lt, ◌||◌, position}
 use Rattle.std.specs.List.{list_any, flat_map}
 use Rattle.std.specs.Str.{bytes_eq}
 use Rattle.txc_tags.specs.Keys.{Call}
@@ -79,7 +79,7 @@ pub record IsBadWord (kinds : List WordKind) (words : List (List ℕ)) (fault : 
   pub words_are : words ≡ good ++ word ∷ others
   pub are_good : AreOfKinds good_kinds good
   pub is_bad : IsOfKind fault.kind word → ⊥
-  pub number : fault.number ≡ length good
+  pub number : fault.number ≡ length good + 1
   pub text : fault.text ≡ take MAX_SHOWN word
   pub stops : StopsAt fault.kind word fault.at
 

@@ -171,7 +171,7 @@ fn bad_word(alloc: Global, kinds: &[WordKind], words: WordsLeft<'_>) -> Option<W
                 let word = left.next();
                 if let Err(at) = test_word(alloc, *kind, word) {
                     return Some(WordFault {
-                        number,
+                        number: number + 1,
                         kind: *kind,
                         at,
                         text: Excerpt::new(word),

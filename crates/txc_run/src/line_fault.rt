@@ -20,7 +20,7 @@ pub enum WordKind {
 /// A word that is not of its kind.
 #[derive(Debug, Drop)]
 pub struct WordFault {
-    /// Its number among the words after the command, counted from 0.
+    /// Its number among the words after the command, counted from 1.
     pub number: usize,
     pub kind: WordKind,
     /// After how many bytes a key or tags cannot be continued.

@@ -84,7 +84,7 @@ fn finish<W: Write>(
     let answered = session.finish(alloc);
     match session.write_out(writer) {
         Ok(()) => match answered {
-            Ok(()) => Ok(session.status()),
+            Ok(end) => Ok(session.status(end)),
             Err(_) => Err(RunFault::Memory),
         },
         Err(_) => Err(RunFault::Write),
@@ -117,7 +117,7 @@ fn run_session<R: Read, W: Write>(
         }
         match turn(alloc, &mut session, &piece[..n], writer)? {
             Flow::GoesOn => {}
-            Flow::Stopped => return Ok(session.status()),
+            Flow::Stopped(fault) => return Ok(Status::Malformed(fault)),
         }
     }
 }
