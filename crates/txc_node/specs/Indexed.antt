@@ -1,0 +1,139 @@
+-- The entries of a node as they are held, and the indexes that find them. Proofs alone need it.
+use Rattle.std.specs.Prelude.{◌≡◌, ℕ, ◌+◌, ◌-◌, ◌<◌, Bool, true, false, ◌&&◌, ◌||◌, ◌==◌, not, nat_lt, nat_le, if◌then◌else◌, Option, Some, None, unwrap_or, List, [], ◌∷◌, ◌++◌, map, length, take, slice_get}
+use Rattle.std.specs.List.{AllByRecursion, filter, find, list_any}
+use Rattle.std.specs.Map.{lookup, lookup_entry}
+use Rattle.std.specs.HashMap.{HashMap}
+use Rattle.std.specs.HashSet.{HashSet}
+use Rattle.std.specs.Option.{option_map}
+use Rattle.txc_stamp.specs.Interval.{Interval, end_at}
+use Rattle.txc_tags.specs.declared.tag.Rows.{Rows}
+use Rattle.txc_tags.specs.declared.tag.Tag.{Tag}
+use Rattle.txc_tags.specs.Tags.{same_rows}
+use Rattle.txc_tags.specs.Keys.{Call, same_call}
+use Rattle.txc_node.specs.declared.entry.Entry.{Entry}
+use Rattle.txc_node.specs.declared.place.Place.{Place}
+use Rattle.txc_node.specs.declared.stored.Stored.{Stored}
+use Rattle.txc_node.specs.declared.versions.Found.{Found}
+use Rattle.txc_node.specs.Places.{place_of, equal_places}
+use Rattle.txc_node.specs.Entries.{AreApart}
+use Rattle.txc_node.specs.Cache.{is_invalidated}
+
+-- ---- entries at their places
+
+-- the entry of a place and what is stored there
+abbrev pub entry_of : Place × Stored → Entry
+entry_of p = record { key = p.0.key; value = p.1.value; reach = p.1.reach; tags = p.1.tags }
+
+-- the entries of a cache, in its order
+abbrev pub entries_of : List (Place × Stored) → List Entry
+entries_of ps = map entry_of ps
+
+-- each stands at the place of its entry
+abbrev pub ArePlaced : List (Place × Stored) → Type 0
+ArePlaced ps = AllByRecursion (λ p. p.0 ≡ place_of (entry_of p)) ps
+
+-- the entry at a place
+abbrev pub entry_at : List (Place × Stored) → Place → Option Entry
+entry_at ps q = option_map entry_of (lookup_entry (equal_places q) ps)
+
+-- a still valid entry stands at the place
+abbrev pub is_live : List (Place × Stored) → Place → Bool
+is_live ps q = unwrap_or (option_map (λ p. p.1.reach.still) (lookup_entry (equal_places q) ps)) false
+
+-- entries, the most recently used first, and the most that there may be
+pub record Held : Type 0 where
+  pub entries : List Entry
+  pub capacity : ℕ
+
+-- ---- by key
+
+-- the entries of a key
+abbrev pub entries_under : Call → List Entry → List Entry
+entries_under key es = filter (λ e. same_call e.key key) es
+
+-- their reaches
+abbrev pub reaches_under : Call → List Entry → List Interval
+reaches_under key es = map (λ e. e.reach) (entries_under key es)
+
+-- what an index lists for a key
+abbrev pub listed : List (Call × List Interval) → Call → List Interval
+listed index key = unwrap_or (lookup (same_call key) index) []
+
+-- the index lists of each key the reaches of its entries
+abbrev pub IndexesKeys : List (Call × List Interval) → List Entry → Type 0
+IndexesKeys index es = (key : Call) → listed index key ≡ reaches_under key es
+
+-- of the key it lists these now, and of all others what it listed
+abbrev pub Relists : Call → List Interval → List (Call × List Interval) → List (Call × List Interval) → Type 0
+Relists key rs old new = (k : Call) → listed new k ≡ (if same_call key k then rs else listed old k)
+
+-- a span meets the stamps from lo to hi
+abbrev pub meets : ℕ → ℕ → ℕ → Interval → Bool
+meets processed lo hi i = nat_le i.lo hi && nat_lt lo (end_at processed i)
+
+-- the span of a ends later than that of b, or equally and begins later
+abbrev pub lasts_longer : ℕ → Interval → Interval → Bool
+lasts_longer processed a b =
+    nat_lt (end_at processed b) (end_at processed a) || (end_at processed b == end_at processed a && nat_lt b.lo a.lo)
+
+-- the entries are all of the key, and have these reaches
+pub record AreOf (key : Call) (es : List Entry) (rs : List Interval) : Type 0 where
+  pub of_key : AllByRecursion (λ e. same_call e.key key ≡ true) es
+  pub reaches : map (λ e. e.reach) es ≡ rs
+
+-- the reach in the stead of one that begins alike
+abbrev pub in_stead : Interval → Interval → Interval
+in_stead new old = if old.lo == new.lo then new else old
+
+-- no entry is found, or the one that stands there among those of the key, and has that reach
+abbrev pub IsFound : Call → List Entry → Option Entry → Option Found → Type 0
+IsFound key es o None = o ≡ None
+IsFound key es o (Some f) =
+    (e : Entry) × (o ≡ Some e) × (slice_get (entries_under key es) f.at ≡ Some e) × (f.reach ≡ e.reach)
+
+-- ---- by tag
+
+-- the places that a table lists under rows
+abbrev pub places_under : {S : Type 0} → List (Rows × HashSet Place S) → Rows → List Place
+places_under [] rows = []
+places_under (b ∷ bs) rows = if same_rows rows b.0 then b.1.keys else places_under bs rows
+
+-- the place is among these
+abbrev pub has_place : List Place → Place → Bool
+has_place places q = list_any (equal_places q) places
+
+-- the place is listed under rows of a table
+abbrev pub lists_rows : {S : Type 0} → List (Rows × HashSet Place S) → Rows → Place → Bool
+lists_rows bs rows q = has_place (places_under bs rows) q
+
+-- the place is listed under the tag
+abbrev pub lists : {S : Type 0} → List (HashMap Rows (HashSet Place S) S) → Tag → Place → Bool
+lists tables tag q = unwrap_or (option_map (λ t. lists_rows t.entries tag.rows q) (slice_get tables tag.table)) false
+
+-- each still valid entry is listed under each of its tags
+abbrev pub IndexesTags : {S : Type 0} → List (HashMap Rows (HashSet Place S) S) → List Entry → Type 0
+IndexesTags tables es =
+    AllByRecursion (λ e. e.reach.still ≡ true → AllByRecursion (λ t. lists tables t (place_of e) ≡ true) e.tags) es
+
+-- what was listed still is, but for what P leaves open
+abbrev pub KeepsListed : {S : Type 0} → (Tag → Place → Type 0) → (old new : List (HashMap Rows (HashSet Place S) S)) → Type 0
+KeepsListed P old new = (t : Tag) (q : Place) → P t q → lists old t q ≡ true → lists new t q ≡ true
+
+-- ---- what an event has closed so far
+
+-- the event invalidates no entry at the place
+abbrev pub IsSpared : ℕ → List Tag → List (Place × Stored) → Place → Type 0
+IsSpared stamp tags ps q = (e : Entry) → entry_at ps q ≡ Some e → is_invalidated stamp tags e ≡ false
+
+-- where it invalidated none before, it does so now
+abbrev pub StaySpared : ℕ → List Tag → List (Place × Stored) → List (Place × Stored) → Type 0
+StaySpared stamp tags old new = (q : Place) → IsSpared stamp tags old q → IsSpared stamp tags new q
+
+-- ---- all of it
+
+-- each entry at its place, at most one for a place, and each in the indexes
+pub record IsIndexed {S : Type 0} (ps : List (Place × Stored)) (index : List (Call × List Interval)) (tables : List (HashMap Rows (HashSet Place S) S)) : Type 0 where
+  pub placed : ArePlaced ps
+  pub apart : AreApart (entries_of ps)
+  pub keys : IndexesKeys index (entries_of ps)
+  pub tags : IndexesTags tables (entries_of ps)

@@ -1,0 +1,415 @@
+//! The entries of a node, with what finds them.
+ghost use Rattle.std.specs.Prelude.{◌≡◌, ◌+◌, ◌<◌, ◌≤◌, [], ◌∷◌, ◌++◌, length, map, take, not, true, false, Some, None, OnOk, OnErr, IfOk, IfErr, if◌then◌else◌, slice_get, option_copied};
+ghost use Rattle.std.specs.List.{find, filter, count_by, AllByRecursion};
+ghost use Rattle.txc_stamp.specs.Interval.{Interval};
+ghost use Rattle.txc_tags.specs.declared.tag.Tag.{Tag};
+ghost use Rattle.txc_tags.specs.Tags.{tags_match, has_tag};
+ghost use Rattle.txc_tags.specs.Keys.{same_call};
+ghost use Rattle.txc_node.specs.declared.entry.Entry.{Entry};
+ghost use Rattle.txc_node.specs.Places.{place_of, place_at};
+ghost use Rattle.txc_node.specs.Entries.{is_best, others, same_place, AreApart};
+ghost use Rattle.txc_node.specs.Cache.{is_invalidated, entry_after, has_ended};
+ghost use Rattle.txc_node.specs.Indexed.{entry_of, entries_of, entry_at, ArePlaced, entries_under, IndexesKeys, IsFound, IsSpared, StaySpared, AreSpared, IsStored, lists, lists_rows};
+
+use crate::entry::Entry;
+use crate::key_index::KeyIndex;
+use crate::place::Place;
+use crate::stored::{Stored, in_reach, join, split};
+use crate::tag_index::{Buckets, TagIndex};
+use crate::versions::{Found, Versions};
+use lru::LruCache;
+use std::alloc::{AllocError, AllocFailed, Global};
+use std::marker::Model;
+use std::num::NonZeroUsize;
+use txc_stamp::{Reach, Stamp};
+use txc_tags::{Key, Rows, Tag, TagSet};
+
+/// At most so many entries, the most recently used first, that are found by their key and by their tags.
+#[derive(Debug, Drop)]
+pub(crate) struct IndexedEntries {
+    cache: LruCache<Place, Stored>,
+    keys: KeyIndex,
+    tags: TagIndex,
+}
+
+impl Model for IndexedEntries {
+    ghost use Rattle.txc_node.specs.Indexed.{Held, entries_of, IsIndexed};
+
+    ghost Value = { Held };
+
+    ghost view = { λ x. record { entries = entries_of x.cache.entries; capacity = x.cache.cap } };
+
+    ghost invariant = { λ x. IsIndexed x.cache.entries x.keys.versions.entries x.tags.tables.items };
+}
+
+// Whether an event closes what is stored.
+fn is_invalidated(stored: &Stored, stamp: Stamp, tags: &TagSet) -> bool
+    ensures { (q : Place) → result ≡ is_invalidated stamp tags.now (entry_of (q, stored.now)) }
+{
+    stored.reach.is_still() && stored.reach.known() < stamp && tags.matches(&stored.tags)
+}
+
+// Closes what is stored just below an event that invalidates it, and says whether it does.
+fn invalidate_one(stored: &mut Stored, stamp: Stamp, tags: &TagSet) -> bool
+    ensures entry { (q : Place) → entry_of (q, stored.new)
+        ≡ entry_after stamp tags.now (entry_of (q, stored.old)) }
+    ensures is_invalidated { (q : Place) → result
+        ≡ is_invalidated stamp tags.now (entry_of (q, stored.old)) }
+{
+    if is_invalidated(stored, stamp, tags) {
+        stored.reach = stored.reach.close_before(stamp);
+        return true;
+    }
+    false
+}
+
+// Closes the entry at a place just below an event that invalidates it, and returns its new reach.
+fn invalidate_in(
+    cache: &mut LruCache<Place, Stored>,
+    place: &Place,
+    stamp: Stamp,
+    tags: &TagSet,
+) -> Option<Reach>
+{
+    match cache.peek_mut(place) {
+        None => None,
+        Some(stored) => {
+            if !invalidate_one(stored, stamp, tags) {
+                return None;
+            }
+            Some(stored.reach)
+        }
+    }
+}
+
+// The same, in the index of the keys too.
+fn invalidate_at(
+    cache: &mut LruCache<Place, Stored>,
+    keys: &mut KeyIndex,
+    place: &Place,
+    stamp: Stamp,
+    tags: &TagSet,
+) -> bool
+{
+    match invalidate_in(cache, place, stamp, tags) {
+        None => false,
+        Some(reach) => {
+            keys.set(&place.key, reach);
+            true
+        }
+    }
+}
+
+// The same at each of these places, and counts the entries that it closes.
+fn invalidate_each(
+    cache: &mut LruCache<Place, Stored>,
+    keys: &mut KeyIndex,
+    places: &[Place],
+    stamp: Stamp,
+    tags: &TagSet,
+) -> usize
+{
+    let mut count: usize = 0;
+    for i in 0..places.len() {
+        if invalidate_at(cache, keys, &places[i], stamp, tags) {
+            count += 1;
+        }
+    }
+    count
+}
+
+// The same at the places under rows of a table.
+fn invalidate_rows(
+    cache: &mut LruCache<Place, Stored>,
+    keys: &mut KeyIndex,
+    buckets: &Buckets,
+    rows: Rows,
+    stamp: Stamp,
+    tags: &TagSet,
+) -> usize
+{
+    match buckets.get(&rows) {
+        None => 0,
+        Some(places) => invalidate_each(cache, keys, places.as_slice(), stamp, tags),
+    }
+}
+
+// The same at the places under all rows of a table.
+fn invalidate_table(
+    cache: &mut LruCache<Place, Stored>,
+    keys: &mut KeyIndex,
+    buckets: &Buckets,
+    stamp: Stamp,
+    tags: &TagSet,
+) -> usize
+{
+    let mut count: usize = 0;
+    for i in 0..buckets.len() {
+        if let Some((_, places)) = buckets.get_index(i) {
+            count += invalidate_each(cache, keys, places.as_slice(), stamp, tags);
+        }
+    }
+    count
+}
+
+// The same at the places that match a tag.
+fn invalidate_by(
+    cache: &mut LruCache<Place, Stored>,
+    keys: &mut KeyIndex,
+    buckets: &Buckets,
+    tag: Tag,
+    stamp: Stamp,
+    tags: &TagSet,
+) -> usize
+{
+    if tag.is_wildcard() {
+        return invalidate_table(cache, keys, buckets, stamp, tags);
+    }
+    let count = invalidate_rows(cache, keys, buckets, tag.rows, stamp, tags);
+    count + invalidate_rows(cache, keys, buckets, Rows::All, stamp, tags)
+}
+
+impl IndexedEntries {
+    /// No entries, and room for `capacity`.
+    pub(crate) fn new(alloc: Global, capacity: NonZeroUsize) -> Result<IndexedEntries, AllocError> {
+        let tags = TagIndex::new(alloc)?;
+        let cache = LruCache::sparse(alloc, capacity)?;
+        Ok(IndexedEntries {
+            cache,
+            keys: KeyIndex::new(alloc),
+            tags,
+        })
+    }
+
+    /// How many there are.
+    pub(crate) fn len(&self) -> usize
+        ensures { result ≡ length self.now.entries }
+    {
+        self.cache.len()
+    }
+
+    /// The entry of the key whose span meets the stamps from `lo` to `hi`, and that lasts longest; and how
+    /// many entries were looked at.
+    pub(crate) fn best(
+        &self,
+        processed: Stamp,
+        key: &Key,
+        lo: Stamp,
+        hi: Stamp,
+    ) -> (Option<Found>, usize)
+        ensures found { IsFound key.now self.now.entries
+            (find (is_best processed key.now lo hi self.now.entries) self.now.entries) result.0 }
+        ensures looked { result.1 ≡ length (entries_under key.now self.now.entries) }
+    {
+        match self.keys.get(key) {
+            None => (None, 0),
+            Some(versions) => (best_of(versions, processed, lo, hi), versions.len()),
+        }
+    }
+
+    /// The entry of a key that begins at a stamp.
+    pub(crate) fn standing(&self, key: &Key, lo: Stamp) -> Option<Found>
+        ensures { IsFound key.now self.now.entries
+            (find (λ o. same_call o.key key.now && o.reach.lo == lo) self.now.entries) result }
+    {
+        match self.keys.get(key) {
+            None => None,
+            Some(versions) => begins_at(versions, lo),
+        }
+    }
+
+    /// The entry at a place.
+    pub(crate) fn get(&self, place: &Place) -> Option<&Stored> {
+        self.cache.peek(place)
+    }
+
+    /// The entry that was used last.
+    pub(crate) fn first(&self) -> Option<&Stored> {
+        match self.cache.peek_mru() {
+            None => None,
+            Some((_, stored)) => Some(stored),
+        }
+    }
+
+    /// Moves an entry that was found to the front.
+    pub(crate) fn bring_first(&mut self, key: &Key, found: Found) {
+        let place = Place::new(key, found.reach.lo());
+        self.cache.promote(&place);
+        if found.at > 0 {
+            self.keys.bring_first(key, found.at, found.reach);
+        }
+    }
+
+    // Takes off the indexes what names an entry that was dropped from the end.
+    fn forget_last(&mut self, place: &Place, tags: &TagSet) {
+        self.keys.drop_last(&place.key);
+        self.tags.unlist(tags, place);
+    }
+
+    // Lists a new entry in the indexes. Out of memory changes nothing in that of the keys.
+    fn list_new(&mut self, place: &Place, stored: &Stored) -> Result<(), AllocError> {
+        if stored.reach.is_still() {
+            self.tags.list(&stored.tags, place)?;
+        }
+        self.keys.add(&place.key, stored.reach)
+    }
+
+    // A new entry first. The last one makes room where there are too many.
+    fn add(
+        &mut self,
+        place: Place,
+        stored: Stored,
+    ) -> Result<Option<Entry>, AllocFailed<(Place, Stored)>> {
+        if self.list_new(&place, &stored).is_err() {
+            self.tags.unlist(&stored.tags, &place);
+            return Err(AllocFailed {
+                value: (place, stored),
+            });
+        }
+        match self.cache.push(place, stored) {
+            Err(failed) => {
+                let (place, stored) = failed.value;
+                self.keys.drop_first(&place.key);
+                self.tags.unlist(&stored.tags, &place);
+                Err(AllocFailed {
+                    value: (place, stored),
+                })
+            }
+            Ok(None) => Ok(None),
+            Ok(Some((place, stored))) => {
+                self.forget_last(&place, &stored.tags);
+                Ok(Some(join(place, stored)))
+            }
+        }
+    }
+
+    // A new entry first, in the stead of the one at its place, that stands there among those of the key.
+    fn replace(
+        &mut self,
+        at: usize,
+        place: Place,
+        stored: Stored,
+    ) -> Result<(), AllocFailed<(Place, Stored)>> {
+        let reach = stored.reach;
+        if reach.is_still() && self.tags.list(&stored.tags, &place).is_err() {
+            return Err(AllocFailed {
+                value: (place, stored),
+            });
+        }
+        match self.cache.push(place, stored) {
+            Err(failed) => Err(failed),
+            Ok(None) => Ok(()),
+            Ok(Some((place, before))) => {
+                self.keys.bring_first(&place.key, at, reach);
+                if let Some((_, stored)) = self.cache.peek_mru() {
+                    self.tags
+                        .unlist_others(&before.tags, &stored.tags, &place);
+                }
+                Ok(())
+            }
+        }
+    }
+
+    /// A new entry first, in its new reach, before all entries at other places, of which as many stay as
+    /// there is room for.
+    pub(crate) fn put(
+        &mut self,
+        found: Option<Found>,
+        entry: Entry,
+        reach: Reach,
+    ) -> Result<Option<Entry>, AllocFailed<Entry>> {
+        let before = entry.reach;
+        let (place, stored) = split(entry, reach);
+        let put = match found {
+            None => self.add(place, stored),
+            Some(found) => match self.replace(found.at, place, stored) {
+                Ok(()) => Ok(None),
+                Err(failed) => Err(failed),
+            },
+        };
+        match put {
+            Ok(evicted) => Ok(evicted),
+            Err(failed) => {
+                let (place, stored) = failed.value;
+                Err(AllocFailed {
+                    value: in_reach(place, stored, before),
+                })
+            }
+        }
+    }
+
+    // Closes the entries that an event invalidates and that have a tag that matches this one.
+    fn invalidate_tag(&mut self, tag: Tag, stamp: Stamp, tags: &TagSet) -> usize {
+        let buckets = self.tags.of_table(tag);
+        invalidate_by(&mut self.cache, &mut self.keys, buckets, tag, stamp, tags)
+    }
+
+    /// Closes the entries that an event invalidates just below it, and counts them.
+    pub(crate) fn invalidate(&mut self, stamp: Stamp, tags: &TagSet) -> usize
+        ensures entries { self.new.entries ≡ map (entry_after stamp tags.now) self.old.entries }
+        ensures capacity { self.new.capacity ≡ self.old.capacity }
+        ensures count { result ≡ count_by (is_invalidated stamp tags.now) self.old.entries }
+    {
+        let mut count: usize = 0;
+        for tag in tags.tags() {
+            count += self.invalidate_tag(*tag, stamp, tags);
+        }
+        for tag in tags.tags() {
+            self.tags.clean(*tag, &self.cache);
+        }
+        count
+    }
+
+    // Drops the last entry if its span ends at the horizon or before it, and else moves it to the front.
+    fn sweep_last(&mut self, processed: Stamp, horizon: Stamp)
+    {
+        let Some((place, stored)) = self.cache.peek_lru() else {
+            return;
+        };
+        if stored.reach.end(processed) > horizon.number() {
+            let place = place.copy();
+            self.cache.promote(&place);
+            self.keys.bring_last_first(&place.key);
+            return;
+        }
+        if let Some((place, stored)) = self.cache.pop_lru() {
+            self.forget_last(&place, &stored.tags);
+        }
+    }
+
+    /// Drops the entries whose span ends at the horizon or before it, and counts them.
+    pub(crate) fn drop_ended(&mut self, processed: Stamp, horizon: Stamp) -> usize
+        ensures entries { self.new.entries
+            ≡ filter (λ e. not (has_ended processed horizon e)) self.old.entries }
+        ensures capacity { self.new.capacity ≡ self.old.capacity }
+        ensures count { result ≡ count_by (has_ended processed horizon) self.old.entries }
+    {
+        let before = self.cache.len();
+        for _ in 0..before {
+            self.sweep_last(processed, horizon);
+        }
+        before - self.cache.len()
+    }
+}
+
+// Which of these lasts longest of those whose span meets the stamps from `lo` to `hi`.
+fn best_of(versions: &Versions, processed: Stamp, lo: Stamp, hi: Stamp) -> Option<Found> {
+    match versions.best(processed, lo, hi) {
+        None => None,
+        Some(at) => {
+            let reach = versions.get(at);
+            Some(Found { at, reach })
+        }
+    }
+}
+
+// Which of these begins at a stamp.
+fn begins_at(versions: &Versions, lo: Stamp) -> Option<Found> {
+    match versions.position(lo) {
+        None => None,
+        Some(at) => {
+            let reach = versions.get(at);
+            Some(Found { at, reach })
+        }
+    }
+}
