@@ -6,7 +6,11 @@ pub mod Inserts
 pub mod LawLemmas
 pub mod ReplayLemmas
 mod Dropped
-mod Swept
+pub mod Swept
 mod Counting
 pub mod Offered
+pub mod Positions
+pub mod KeyReaches
+pub mod KeyLists
+pub mod Pairs
 mod History

@@ -157,7 +157,7 @@ fn invalidate_by(
     cache: &mut LruCache<Place, Stored>,
     keys: &mut KeyIndex,
     buckets: &Buckets,
-    tag: Tag,
+    tag: &Tag,
     stamp: Stamp,
     tags: &TagSet,
 ) -> usize
@@ -167,6 +167,30 @@ fn invalidate_by(
     }
     let count = invalidate_rows(cache, keys, buckets, tag.rows, stamp, tags);
     count + invalidate_rows(cache, keys, buckets, Rows::All, stamp, tags)
+}
+
+// The same at the places that match one of the event's tags.
+fn invalidate_all(
+    cache: &mut LruCache<Place, Stored>,
+    keys: &mut KeyIndex,
+    index: &TagIndex,
+    stamp: Stamp,
+    tags: &TagSet,
+) -> usize
+{
+    let mut count: usize = 0;
+    for tag in tags.tags() {
+        let buckets = index.of_table(tag);
+        count += invalidate_by(cache, keys, buckets, tag, stamp, tags);
+    }
+    count
+}
+
+// Keeps in the index of the tags of an event those places at which still valid entries stand.
+fn clean_all(index: &mut TagIndex, cache: &LruCache<Place, Stored>, tags: &TagSet) {
+    for tag in tags.tags() {
+        index.clean(tag, cache);
+    }
 }
 
 impl IndexedEntries {
@@ -207,14 +231,14 @@ impl IndexedEntries {
         }
     }
 
-    /// The entry of a key that begins at a stamp.
-    pub(crate) fn standing(&self, key: &Key, lo: Stamp) -> Option<Found>
-        ensures { IsFound key.now self.now.entries
-            (find (λ o. same_call o.key key.now && o.reach.lo == lo) self.now.entries) result }
+    /// The entry that has the key and the first stamp of another.
+    pub(crate) fn standing(&self, e: &Entry) -> Option<Found>
+        ensures { IsFound e.now.key self.now.entries
+            (find (λ o. same_place o e.now) self.now.entries) result }
     {
-        match self.keys.get(key) {
+        match self.keys.get(&e.key) {
             None => None,
-            Some(versions) => begins_at(versions, lo),
+            Some(versions) => begins_at(versions, e.reach.lo()),
         }
     }
 
@@ -314,7 +338,7 @@ impl IndexedEntries {
     /// there is room for.
     pub(crate) fn put(
         &mut self,
-        found: Option<Found>,
+        found: &Option<Found>,
         entry: Entry,
         reach: Reach,
     ) -> Result<Option<Entry>, AllocFailed<Entry>> {
@@ -338,25 +362,14 @@ impl IndexedEntries {
         }
     }
 
-    // Closes the entries that an event invalidates and that have a tag that matches this one.
-    fn invalidate_tag(&mut self, tag: Tag, stamp: Stamp, tags: &TagSet) -> usize {
-        let buckets = self.tags.of_table(tag);
-        invalidate_by(&mut self.cache, &mut self.keys, buckets, tag, stamp, tags)
-    }
-
     /// Closes the entries that an event invalidates just below it, and counts them.
     pub(crate) fn invalidate(&mut self, stamp: Stamp, tags: &TagSet) -> usize
         ensures entries { self.new.entries ≡ map (entry_after stamp tags.now) self.old.entries }
         ensures capacity { self.new.capacity ≡ self.old.capacity }
         ensures count { result ≡ count_by (is_invalidated stamp tags.now) self.old.entries }
     {
-        let mut count: usize = 0;
-        for tag in tags.tags() {
-            count += self.invalidate_tag(*tag, stamp, tags);
-        }
-        for tag in tags.tags() {
-            self.tags.clean(*tag, &self.cache);
-        }
+        let count = invalidate_all(&mut self.cache, &mut self.keys, &self.tags, stamp, tags);
+        clean_all(&mut self.tags, &self.cache, tags);
         count
     }
 

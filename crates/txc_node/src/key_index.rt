@@ -1,5 +1,5 @@
 //! The index of the entries by their keys.
-ghost use Rattle.std.specs.Prelude.{◌≡◌, ◌<◌, ◌∷◌, [], ◌++◌, length, map, remove, if◌then◌else◌, is_ok, MatchOption};
+ghost use Rattle.std.specs.Prelude.{List, Some, take, slice_get, ◌-◌, ◌≡◌, ◌<◌, ◌∷◌, [], ◌++◌, length, map, remove, if◌then◌else◌, is_ok, MatchOption};
 ghost use Rattle.txc_stamp.specs.Interval.{Interval};
 ghost use Rattle.txc_node.specs.Indexed.{listed, Relists, in_stead};
 
@@ -64,9 +64,10 @@ impl KeyIndex {
 
     /// Puts the last reach of a key first.
     pub(crate) fn bring_last_first(&mut self, key: &Key)
-        ensures { (front : List Interval) (r : Interval)
-            → listed self.old.versions.entries key.now ≡ front ++ r ∷ []
-            → Relists key.now (r ∷ front) self.old.versions.entries self.new.versions.entries }
+        ensures { let rs = listed self.old.versions.entries key.now in
+            (r : Interval) → slice_get rs (length rs - 1) ≡ Some r
+            → Relists key.now (r ∷ remove rs (length rs - 1))
+            self.old.versions.entries self.new.versions.entries }
     {
         if let Some(versions) = self.versions.get_mut(key) {
             versions.bring_last_first();
@@ -100,9 +101,9 @@ impl KeyIndex {
 
     /// Drops the last reach of a key.
     pub(crate) fn drop_last(&mut self, key: &Key)
-        ensures { (front : List Interval) (r : Interval)
-            → listed self.old.versions.entries key.now ≡ front ++ r ∷ []
-            → Relists key.now front self.old.versions.entries self.new.versions.entries }
+        ensures { let rs = listed self.old.versions.entries key.now in
+            Relists key.now (take (length rs - 1) rs)
+            self.old.versions.entries self.new.versions.entries }
     {
         let stays = match self.versions.get_mut(key) {
             None => true,

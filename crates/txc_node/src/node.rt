@@ -15,6 +15,7 @@ use crate::indexed::IndexedEntries;
 use crate::place::Place;
 use crate::replay::replay_for;
 use crate::stored::Stored;
+use crate::versions::Found;
 use circular_buffer::HeapCircularBuffer;
 use std::alloc::{AllocError, AllocFailed, Global};
 use std::marker::Model;
@@ -107,6 +108,14 @@ fn hit_first(entries: &IndexedEntries, processed: Stamp, is_hit: bool) -> Option
         return None;
     }
     hit_of(entries.first(), processed)
+}
+
+// Whether there is a reach that ends no earlier than a new one.
+fn ends_no_earlier(found: &Option<Found>, reach: Reach, processed: Stamp) -> bool {
+    match found {
+        None => false,
+        Some(old) => reach.end(processed) <= old.reach.end(processed),
+    }
 }
 
 // Whether stamps begin before they end.
@@ -252,13 +261,11 @@ impl NodeCore {
         ensures handed_back { IfErr result (λ e. e.value ≡ entry) }
     {
         let reach = replay_for(&entry, self.processed, &self.recent);
-        let found = self.entries.standing(&entry.key, entry.reach.lo());
-        if let Some(old) = found {
-            if reach.end(self.processed) <= old.reach.end(self.processed) {
-                return Ok(Inserted::Kept(entry));
-            }
+        let found = self.entries.standing(&entry);
+        if ends_no_earlier(&found, reach, self.processed) {
+            return Ok(Inserted::Kept(entry));
         }
-        let evicted = self.entries.put(found, entry, reach)?;
+        let evicted = self.entries.put(&found, entry, reach)?;
         let reach = reach.shown(self.processed);
         Ok(Inserted::Stored { reach, evicted })
     }

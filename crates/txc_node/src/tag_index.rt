@@ -1,5 +1,5 @@
 //! The index of the still valid entries by their tags.
-ghost use Rattle.std.specs.Prelude.{◌≡◌, ◌≢◌, ◌⊎◌, ◌<◌, [], length, true, false, OnOk, IfOk, MatchOption, Some, slice_get, Unit, ◌×◌};
+ghost use Rattle.std.specs.Prelude.{vec_len, ◌≡◌, ◌≢◌, ◌⊎◌, ◌<◌, [], length, true, false, OnOk, IfOk, MatchOption, Some, slice_get};
 ghost use Rattle.std.specs.List.{AllByRecursion};
 ghost use Rattle.txc_tags.specs.declared.tag.Tag.{Tag};
 ghost use Rattle.txc_tags.specs.Tags.{has_tag, tags_match};
@@ -137,16 +137,16 @@ impl TagIndex {
     }
 
     /// The places by the rows of the tag's table.
-    pub(crate) fn of_table(&self, tag: Tag) -> &Buckets
-        ensures { slice_get self.now.tables.items tag.table ≡ Some result.now }
+    pub(crate) fn of_table(&self, tag: &Tag) -> &Buckets
+        ensures { slice_get self.now.tables.items tag.now.table ≡ Some result.now }
     {
         let at = tag.table.number() as usize;
         &self.tables[at]
     }
 
     // Lists a place under a tag.
-    fn list_one(&mut self, tag: Tag, place: &Place) -> Result<(), AllocError>
-        ensures listed { OnOk result (lists self.new.tables.items tag place.now ≡ true) }
+    fn list_one(&mut self, tag: &Tag, place: &Place) -> Result<(), AllocError>
+        ensures listed { OnOk result (lists self.new.tables.items tag.now place.now ≡ true) }
         ensures kept { KeepsListed (λ t q. Unit {0}) self.old.tables.items self.new.tables.items }
     {
         let at = tag.table.number() as usize;
@@ -154,8 +154,8 @@ impl TagIndex {
     }
 
     // Takes a place off those under a tag.
-    fn unlist_one(&mut self, tag: Tag, place: &Place)
-        ensures { KeepsListed (λ t q. (t ≢ tag) ⊎ (q ≢ place.now))
+    fn unlist_one(&mut self, tag: &Tag, place: &Place)
+        ensures { KeepsListed (λ t q. (t ≢ tag.now) ⊎ (q ≢ place.now))
             self.old.tables.items self.new.tables.items }
     {
         let at = tag.table.number() as usize;
@@ -169,7 +169,7 @@ impl TagIndex {
         ensures kept { KeepsListed (λ t q. Unit {0}) self.old.tables.items self.new.tables.items }
     {
         for tag in tags.tags() {
-            self.list_one(*tag, place)?;
+            self.list_one(tag, place)?;
         }
         Ok(())
     }
@@ -179,7 +179,7 @@ impl TagIndex {
         ensures { KeepsListed (λ t q. q ≢ place.now) self.old.tables.items self.new.tables.items }
     {
         for tag in tags.tags() {
-            self.unlist_one(*tag, place);
+            self.unlist_one(tag, place);
         }
     }
 
@@ -190,13 +190,13 @@ impl TagIndex {
     {
         for tag in tags.tags() {
             if !others.tags().contains(tag) {
-                self.unlist_one(*tag, place);
+                self.unlist_one(tag, place);
             }
         }
     }
 
     /// Keeps of the places under tags that match this one those at which still valid entries stand.
-    pub(crate) fn clean(&mut self, tag: Tag, cache: &LruCache<Place, Stored>)
+    pub(crate) fn clean(&mut self, tag: &Tag, cache: &LruCache<Place, Stored>)
         ensures { KeepsListed (λ t q. is_live cache.now.entries q ≡ true)
             self.old.tables.items self.new.tables.items }
     {

@@ -1,5 +1,5 @@
 //! The reaches of the entries of one key.
-ghost use Rattle.std.specs.Prelude.{◌≡◌, ◌+◌, ◌<◌, ◌≤◌, ◌==◌, ◌∷◌, [], ◌++◌, length, map, IsTrue, IsFalse, IfSome, Some, OnOk, OnErr, slice_get, remove};
+ghost use Rattle.std.specs.Prelude.{List, take, ◌≡◌, ◌+◌, ◌-◌, ◌<◌, ◌≤◌, ◌==◌, ◌∷◌, [], ◌++◌, length, map, IsTrue, IsFalse, IfSome, Some, OnOk, OnErr, slice_get, remove};
 ghost use Rattle.std.specs.List.{position};
 ghost use Rattle.txc_stamp.specs.Interval.{Interval};
 ghost use Rattle.txc_tags.specs.Keys.{Call};
@@ -55,6 +55,29 @@ fn in_stead(new: Reach, old: Reach) -> Reach
     ensures { result ≡ in_stead new old }
 {
     if old.lo() == new.lo() { new } else { old }
+}
+
+// Which of these begins at a stamp.
+fn begins_at(reaches: &[Reach], lo: Stamp) -> Option<usize>
+    ensures { result ≡ position (λ i. i.lo == lo) reaches.now }
+{
+    reaches.iter().position(|reach| reach.lo() == lo)
+}
+
+// Changes each of these that begins where this one does.
+fn change_each(reaches: &mut [Reach], reach: Reach)
+    ensures { reaches.new ≡ map (in_stead reach) reaches.old }
+{
+    for other in reaches.iter_mut() {
+        *other = in_stead(reach, *other);
+    }
+}
+
+// The same in a list that may grow.
+fn change_all(reaches: &mut Vec<Reach>, reach: Reach)
+    ensures { reaches.new.items ≡ map (in_stead reach) reaches.old.items }
+{
+    change_each(reaches, reach);
 }
 
 impl Versions {
@@ -138,7 +161,7 @@ impl Versions {
         if self.first.lo() == lo {
             return Some(0);
         }
-        match self.others.iter().position(|reach| reach.lo() == lo) {
+        match begins_at(&self.others, lo) {
             None => None,
             Some(at) => Some(at + 1),
         }
@@ -168,10 +191,10 @@ impl Versions {
 
     /// Puts the last reach first.
     pub(crate) fn bring_last_first(&mut self)
-        ensures { (front : List Interval) (r : Interval) → self.old ≡ front ++ r ∷ []
-            → self.new ≡ r ∷ front }
+        ensures { (r : Interval) → slice_get self.old (length self.old - 1) ≡ Some r
+            → self.new ≡ r ∷ remove self.old (length self.old - 1) }
     {
-        let last = self.len() - 1;
+        let last = self.others.len();
         let reach = self.get(last);
         self.bring_first(last, reach);
     }
@@ -181,9 +204,7 @@ impl Versions {
         ensures { self.new ≡ map (in_stead reach) self.old }
     {
         self.first = in_stead(reach, self.first);
-        for other in self.others.iter_mut() {
-            *other = in_stead(reach, *other);
-        }
+        change_all(&mut self.others, reach);
     }
 
     /// Drops the first where there are others, and says whether there were.
@@ -202,10 +223,8 @@ impl Versions {
 
     /// Drops the last where there are others, and says whether there were.
     pub(crate) fn drop_last(&mut self) -> bool
-        ensures more { IsTrue result → (front : List Interval) (r : Interval)
-            → self.old ≡ front ++ r ∷ [] → self.new ≡ front }
-        ensures alone { IsFalse result → (front : List Interval) (r : Interval)
-            → self.old ≡ front ++ r ∷ [] → front ≡ [] }
+        ensures more { IsTrue result → self.new ≡ take (length self.old - 1) self.old }
+        ensures alone { IsFalse result → take (length self.old - 1) self.old ≡ [] }
     {
         self.others.pop().is_some()
     }
