@@ -38,7 +38,7 @@ entry_at ps q = option_map entry_of (lookup_entry (equal_places q) ps)
 
 -- a still valid entry stands at the place
 abbrev pub is_live : List (Place × Stored) → Place → Bool
-is_live ps q = unwrap_or (option_map (λ p. p.1.reach.still) (lookup_entry (equal_places q) ps)) false
+is_live ps q = unwrap_or (option_map (λ s. s.reach.still) (lookup (equal_places q) ps)) false
 
 -- entries, the most recently used first, and the most that there may be
 pub record Held : Type 0 where

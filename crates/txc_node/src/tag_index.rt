@@ -2,6 +2,8 @@
 ghost use Rattle.std.specs.Prelude.{vec_len, ◌≡◌, ◌≢◌, ◌⊎◌, ◌<◌, [], length, true, false, OnOk, IfOk, MatchOption, Some, slice_get};
 ghost use Rattle.std.specs.List.{AllByRecursion};
 ghost use Rattle.txc_tags.specs.declared.tag.Tag.{Tag};
+ghost use Rattle.txc_tags.specs.declared.tag.Rows.{Rows};
+ghost use Rattle.txc_node.specs.declared.place.Place.{Place};
 ghost use Rattle.txc_tags.specs.Tags.{has_tag, tags_match};
 ghost use Rattle.txc_node.specs.Places.{equal_places};
 ghost use Rattle.txc_node.specs.Indexed.{has_place, lists_rows, lists, KeepsListed, is_live};
@@ -130,7 +132,7 @@ impl TagIndex {
     /// The index of no entries.
     pub(crate) fn new(alloc: Global) -> Result<TagIndex, AllocError> {
         let mut tables = Vec::with_capacity(alloc, TABLES)?;
-        for _ in 0..TABLES {
+        for i in 0..TABLES {
             tables.push(IndexMap::new(alloc))?;
         }
         Ok(TagIndex { alloc, tables })

@@ -1,0 +1,7 @@
+use Rattle.std.proofs.Common.{◌≡◌, ◌≢◌, ◌⊎◌, true}
+use Rattle.txc_tags.specs.Tags.{has_tag}
+use Rattle.txc_node.specs.Indexed.{KeepsListed}
+use Rattle.txc_node.proofs.tag_index.TagIndex.unlist_others.Given as goal
+
+abbrev pub invariant-loop-tag : goal.invariant-loop-tag
+invariant-loop-tag l = KeepsListed (λ t q. (has_tag l.others t ≡ true) ⊎ (q ≢ l.place)) l.fn.self.tables.items l.self.tables.items
