@@ -13,4 +13,5 @@ pub mod Positions
 pub mod KeyReaches
 pub mod KeyLists
 pub mod Pairs
+pub mod Listing
 mod History

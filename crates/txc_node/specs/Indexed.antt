@@ -8,7 +8,7 @@ use Rattle.std.specs.Option.{option_map}
 use Rattle.txc_stamp.specs.Interval.{Interval, end_at}
 use Rattle.txc_tags.specs.declared.tag.Rows.{Rows}
 use Rattle.txc_tags.specs.declared.tag.Tag.{Tag}
-use Rattle.txc_tags.specs.Tags.{same_rows}
+use Rattle.txc_tags.specs.contracts.tag.RowsPartialEq.TheImpl as rows_eq
 use Rattle.txc_tags.specs.Keys.{Call, same_call}
 use Rattle.txc_node.specs.declared.entry.Entry.{Entry}
 use Rattle.txc_node.specs.declared.place.Place.{Place}
@@ -93,10 +93,13 @@ IsFound key es o (Some f) =
 
 -- ---- by tag
 
+-- the test of rows by which a map finds them
+abbrev pub equal_rows : Rows → Rows → Bool
+equal_rows = rows_eq.ghosts.eq
+
 -- the places that a table lists under rows
 abbrev pub places_under : {S : Type 0} → List (Rows × HashSet Place S) → Rows → List Place
-places_under [] rows = []
-places_under (b ∷ bs) rows = if same_rows rows b.0 then b.1.keys else places_under bs rows
+places_under bs rows = unwrap_or (option_map (λ s. s.keys) (lookup (equal_rows rows) bs)) []
 
 -- the place is among these
 abbrev pub has_place : List Place → Place → Bool

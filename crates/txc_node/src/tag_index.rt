@@ -4,9 +4,9 @@ ghost use Rattle.std.specs.List.{AllByRecursion};
 ghost use Rattle.txc_tags.specs.declared.tag.Tag.{Tag};
 ghost use Rattle.txc_tags.specs.declared.tag.Rows.{Rows};
 ghost use Rattle.txc_node.specs.declared.place.Place.{Place};
-ghost use Rattle.txc_tags.specs.Tags.{has_tag, tags_match};
+ghost use Rattle.txc_tags.specs.Tags.{same_tag, has_tag, tags_match};
 ghost use Rattle.txc_node.specs.Places.{equal_places};
-ghost use Rattle.txc_node.specs.Indexed.{has_place, lists_rows, lists, KeepsListed, is_live};
+ghost use Rattle.txc_node.specs.Indexed.{equal_rows, has_place, lists_rows, lists, KeepsListed, is_live};
 
 use crate::place::Place;
 use crate::stored::Stored;
@@ -51,7 +51,9 @@ fn list(buckets: &mut Buckets, alloc: Global, rows: Rows, place: &Place) -> Resu
 
 // Takes a place off those under rows of a table.
 fn unlist(buckets: &mut Buckets, rows: Rows, place: &Place)
-    ensures kept { (r : Rows) (q : Place) → (r ≢ rows) ⊎ (q ≢ place.now)
+    ensures places { (r : Rows) (q : Place) → equal_places place.now q ≡ false
+        → lists_rows buckets.old.entries r q ≡ true → lists_rows buckets.new.entries r q ≡ true }
+    ensures rows { (r : Rows) (q : Place) → equal_rows rows r ≡ false
         → lists_rows buckets.old.entries r q ≡ true → lists_rows buckets.new.entries r q ≡ true }
 {
     let emptied = match buckets.get_mut(&rows) {
@@ -115,16 +117,11 @@ fn clean_all(buckets: &mut Buckets, cache: &LruCache<Place, Stored>)
         → lists_rows buckets.old.entries r q ≡ true → lists_rows buckets.new.entries r q ≡ true }
 {
     for i in (0..buckets.len()).rev() {
-        let emptied = match buckets.get_index_mut(i) {
-            None => false,
-            Some(bucket) => {
-                clean_bucket(bucket, cache);
-                bucket.is_empty()
-            }
+        let rows = match buckets.get_index(i) {
+            None => Rows::All,
+            Some((rows, _)) => *rows,
         };
-        if emptied {
-            buckets.swap_remove_index(i);
-        }
+        clean_rows(buckets, rows, cache);
     }
 }
 
@@ -157,7 +154,9 @@ impl TagIndex {
 
     // Takes a place off those under a tag.
     fn unlist_one(&mut self, tag: &Tag, place: &Place)
-        ensures { KeepsListed (λ t q. (t ≢ tag.now) ⊎ (q ≢ place.now))
+        ensures places { KeepsListed (λ t q. equal_places place.now q ≡ false)
+            self.old.tables.items self.new.tables.items }
+        ensures tags { KeepsListed (λ t q. same_tag t tag.now ≡ false)
             self.old.tables.items self.new.tables.items }
     {
         let at = tag.table.number() as usize;
@@ -178,7 +177,8 @@ impl TagIndex {
 
     /// Takes a place off those under each of these tags.
     pub(crate) fn unlist(&mut self, tags: &TagSet, place: &Place)
-        ensures { KeepsListed (λ t q. q ≢ place.now) self.old.tables.items self.new.tables.items }
+        ensures { KeepsListed (λ t q. equal_places place.now q ≡ false)
+            self.old.tables.items self.new.tables.items }
     {
         for tag in tags.tags() {
             self.unlist_one(tag, place);
@@ -187,7 +187,9 @@ impl TagIndex {
 
     /// Takes a place off those under each of these tags that is not one of the others.
     pub(crate) fn unlist_others(&mut self, tags: &TagSet, others: &TagSet, place: &Place)
-        ensures { KeepsListed (λ t q. (has_tag others.now t ≡ true) ⊎ (q ≢ place.now))
+        ensures places { KeepsListed (λ t q. equal_places place.now q ≡ false)
+            self.old.tables.items self.new.tables.items }
+        ensures tags { KeepsListed (λ t q. has_tag others.now t ≡ true)
             self.old.tables.items self.new.tables.items }
     {
         for tag in tags.tags() {
