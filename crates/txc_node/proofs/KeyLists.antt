@@ -62,27 +62,28 @@ under_others : (key : Call) (e : Entry) (es : List Entry) → entries_under key 
 under_others key e es = filter_swap (λ o. same_call o.key key) (λ o. not (same_place o e)) es
 
 not_false : (b : Bool) → not b ≡ false → b ≡ true
-not_false b h = cc
+not_false true h = refl
+not_false false h = absurd (false≢true (sym h))
 
 of_place : (o e : Entry) → same_place o e ≡ true → o.key ≡ e.key
 of_place o e h = same_call_is o.key e.key (both_true (same_call o.key e.key) (eqb o.reach.lo e.reach.lo) h).0
 
 under_other_key : (key : Call) (e : Entry) (es : List Entry) → same_call e.key key ≡ false → entries_under key (others e es) ≡ entries_under key es
-under_other_key key e es h = filter_within (λ o. not (same_place o e)) (λ o. same_call o.key key) (λ o no. ap (λ (c : Call). same_call c key) (of_place o e (not_false (same_place o e) no)) ∙ h) es
+under_other_key key e es h = filter_within (λ o. not (same_place o e)) (λ o. same_call o.key key) (λ o other. ap (λ (c : Call). same_call c key) (of_place o e (not_false (same_place o e) other)) ∙ h) es
 
 -- ---- what is found among them
 
 pub find_under : (p : ℕ) (key : Call) (lo hi : ℕ) (es : List Entry) → find (is_best p key lo hi (entries_under key es)) (entries_under key es) ≡ find (is_best p key lo hi es) es
 find_under p key lo hi es =
     let s : Entry → Bool = λ o. same_call o.key key in
-    let misses : (o : Entry) → s o ≡ false → meets_range p key lo hi o ≡ false = λ o no. first_no (s o) _ no in
+    let misses : (o : Entry) → s o ≡ false → meets_range p key lo hi o ≡ false = λ o other. first_no (s o) _ other in
     let alike : (e : Entry) → is_best p key lo hi (filter s es) e ≡ is_best p key lo hi es e = λ e.
-    ap (λ b. meets_range p key lo hi e && b) (all_filter s (λ o. not (meets_range p key lo hi o && outlasts p o e)) (λ o no. ap not (first_no _ _ (misses o no))) es) in
-    let fails : (o : Entry) → s o ≡ false → is_best p key lo hi es o ≡ false = λ o no. first_no _ _ (misses o no) in
+    ap (λ b. meets_range p key lo hi e && b) (all_filter s (λ o. not (meets_range p key lo hi o && outlasts p o e)) (λ o other. ap not (first_no _ _ (misses o other))) es) in
+    let fails : (o : Entry) → s o ≡ false → is_best p key lo hi es o ≡ false = λ o other. first_no _ _ (misses o other) in
     find_same (is_best p key lo hi (filter s es)) (is_best p key lo hi es) alike (filter s es) ∙ find_filter s (is_best p key lo hi es) fails es
 
 pub find_place_under : (e : Entry) (es : List Entry) → find (λ o. same_place o e) (entries_under e.key es) ≡ find (λ o. same_place o e) es
-find_place_under e es = find_filter (λ o. same_call o.key e.key) (λ o. same_place o e) (λ o no. first_no _ _ no) es
+find_place_under e es = find_filter (λ o. same_call o.key e.key) (λ o. same_place o e) (λ o other. first_no _ _ other) es
 
 -- ---- the entry that is brought to the front
 
@@ -104,7 +105,7 @@ relisted_here : (key : Call) (rs : List Interval) (old new : List (Call × List 
 relisted_here key rs old new h = h key ∙ ap (λ b. cond b rs (listed old key)) (same_call_itself key)
 
 relisted_there : (key k : Call) (rs : List Interval) (old new : List (Call × List Interval)) → Relists key rs old new → same_call key k ≡ false → listed new k ≡ listed old k
-relisted_there key k rs old new h no = h k ∙ ap (λ b. cond b rs (listed old k)) no
+relisted_there key k rs old new h other = h k ∙ ap (λ b. cond b rs (listed old k)) other
 
 -- an index of the keys, as that of one key changes
 pub indexes_by : (key : Call) (old new : List (Call × List Interval)) (es fs : List Entry) → IndexesKeys old es → Relists key (reaches_under key fs) old new
@@ -124,7 +125,7 @@ brought_first index new es e f at apart indexed stands keys relists =
         ap (λ xs. map (λ o. o.reach) xs) (under_yes e.key f (others e es) own ∙ ap (λ xs. f ∷ xs) (under_others e.key e es ∙ removed_others U at e (filter_apart (λ o. same_call o.key e.key) es apart) stands))
         ∙ ap (λ xs. f.reach ∷ xs) (map_remove (λ o. o.reach) U at ∙ ap (λ xs. remove xs at) (sym (indexed e.key))) in
     indexes_by e.key index new es (f ∷ others e es) indexed (subst (λ (rs : List Interval). Relists e.key rs index new) (sym reaches) relists)
-    (λ k no. under_no k f (others e es) (ap (λ (c : Call). same_call c k) keys ∙ no) ∙ under_other_key k e es no)
+    (λ k other. under_no k f (others e es) (ap (λ (c : Call). same_call c k) keys ∙ other) ∙ under_other_key k e es other)
 
 -- ---- a new entry in front
 
@@ -132,7 +133,7 @@ pub put_first : (index new : List (Call × List Interval)) (es : List Entry) (e 
 put_first index new es e indexed relists =
     let reaches : reaches_under e.key (e ∷ es) ≡ e.reach ∷ listed index e.key =
         ap (λ xs. map (λ o. o.reach) xs) (under_yes e.key e es (same_call_itself e.key)) ∙ ap (λ xs. e.reach ∷ xs) (sym (indexed e.key)) in
-    indexes_by e.key index new es (e ∷ es) indexed (subst (λ (rs : List Interval). Relists e.key rs index new) (sym reaches) relists) (λ k no. under_no k e es no)
+    indexes_by e.key index new es (e ∷ es) indexed (subst (λ (rs : List Interval). Relists e.key rs index new) (sym reaches) relists) (λ k other. under_no k e es other)
 
 -- ---- the last entry
 
@@ -158,13 +159,13 @@ reaches_last index front e indexed =
     ∙ map_last (entries_under e.key front) e
 
 last_other : (key : Call) (front : List Entry) (e : Entry) → same_call e.key key ≡ false → entries_under key (front ++ e ∷ []) ≡ entries_under key front
-last_other key front e no = under_last key front e ∙ ap (λ ys. entries_under key front ++ ys) (under_no key e [] no) ∙ append_none (entries_under key front)
+last_other key front e other = under_last key front e ∙ ap (λ ys. entries_under key front ++ ys) (under_no key e [] other) ∙ append_none (entries_under key front)
 
 pub dropped_last : (index new : List (Call × List Interval)) (front : List Entry) (e : Entry) → IndexesKeys index (front ++ e ∷ []) → Relists e.key (reaches_under e.key front) index new → IndexesKeys new front
 dropped_last index new front e indexed relists =
-    indexes_by e.key index new (front ++ e ∷ []) front indexed relists (λ k no. sym (last_other k front e no))
+    indexes_by e.key index new (front ++ e ∷ []) front indexed relists (λ k other. sym (last_other k front e other))
 
 pub last_first : (index new : List (Call × List Interval)) (front : List Entry) (e : Entry) → IndexesKeys index (front ++ e ∷ []) → Relists e.key (e.reach ∷ reaches_under e.key front) index new → IndexesKeys new (e ∷ front)
 last_first index new front e indexed relists =
     let reaches : reaches_under e.key (e ∷ front) ≡ e.reach ∷ reaches_under e.key front = ap (λ xs. map (λ o. o.reach) xs) (under_yes e.key e front (same_call_itself e.key)) in
-    indexes_by e.key index new (front ++ e ∷ []) (e ∷ front) indexed (subst (λ (rs : List Interval). Relists e.key rs index new) (sym reaches) relists) (λ k no. under_no k e front no ∙ sym (last_other k front e no))
+    indexes_by e.key index new (front ++ e ∷ []) (e ∷ front) indexed (subst (λ (rs : List Interval). Relists e.key rs index new) (sym reaches) relists) (λ k other. under_no k e front other ∙ sym (last_other k front e other))

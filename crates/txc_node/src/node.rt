@@ -1,12 +1,11 @@
 //! The node: its entries, and the tags of the last events.
-ghost use Rattle.std.specs.Prelude.{◌≡◌, ◌+◌, ◌<◌, ◌≤◌, ◌↔◌, map, length, [], IsTrue, Ok, Err, IfOk, IfErr, OnOk, OnErr, IsOk, MatchResult, false, vec_len};
+ghost use Rattle.std.specs.Prelude.{is_some, ◌≡◌, ◌+◌, ◌<◌, ◌≤◌, ◌↔◌, map, length, [], IsTrue, Ok, Err, IfOk, IfErr, OnOk, OnErr, IsOk, MatchResult, false, vec_len};
 ghost use Rattle.std.specs.List.{count_by};
 ghost use Rattle.std.specs.Option.{option_map};
 ghost use Rattle.std.specs.Borrow.{sem};
 ghost use Rattle.std.specs.Io.BufRead.{Rests};
 ghost use Rattle.txc_node.specs.contracts.node.NodeCore.{the_row};
 ghost use Rattle.txc_node.specs.Cache.{empty_cache, found, answer, after_lookup, is_kept, after_insert, outcome, is_invalidated, entry_after, after_event, closed_count, after_sweep, swept_count};
-ghost use Rattle.txc_node.specs.Best.{StandsAt};
 ghost use Rattle.txc_node.specs.Hit.{seen};
 
 use crate::entry::Entry;
@@ -190,13 +189,13 @@ impl NodeCore {
         Ok(hit_of(self.entries.get(&place), self.processed))
     }
 
-    // Looks an entry up and moves it to the front, and says where it then stands.
+    // Looks an entry up and moves it to the front, and says whether there is one.
     fn touch(&mut self, key: &Key, lo: Stamp, hi: Stamp) -> Result<bool, EmptyRange>
         ensures only_if { OnOk result (lo ≤ hi) }
         ensures refused { OnErr result (hi < lo) }
         ensures unchanged { OnErr result (self.new ≡ self.old) }
         ensures after { OnOk result (self.new ≡ after_lookup self.old key.now lo hi) }
-        ensures place { IfOk result (StandsAt (found self.old key.now lo hi) self.new.entries) }
+        ensures is_hit { IfOk result (λ b. b ≡ is_some (found self.old key.now lo hi)) }
     {
         self.looked = 0;
         check_range(lo, hi)?;
