@@ -125,6 +125,13 @@ fn clean_all(buckets: &mut Buckets, cache: &LruCache<Place, Stored>)
     }
 }
 
+// Whether a set has a tag.
+fn has_tag(tags: &TagSet, tag: &Tag) -> bool
+    ensures { result ≡ has_tag tags.now tag.now }
+{
+    tags.tags().contains(tag)
+}
+
 impl TagIndex {
     /// The index of no entries.
     pub(crate) fn new(alloc: Global) -> Result<TagIndex, AllocError> {
@@ -185,6 +192,18 @@ impl TagIndex {
         }
     }
 
+    // Takes a place off those under a tag that is not one of the others.
+    fn unlist_other(&mut self, tag: &Tag, others: &TagSet, place: &Place)
+        ensures places { KeepsListed (λ t q. equal_places place.now q ≡ false)
+            self.old.tables.items self.new.tables.items }
+        ensures tags { KeepsListed (λ t q. has_tag others.now t ≡ true)
+            self.old.tables.items self.new.tables.items }
+    {
+        if !has_tag(others, tag) {
+            self.unlist_one(tag, place);
+        }
+    }
+
     /// Takes a place off those under each of these tags that is not one of the others.
     pub(crate) fn unlist_others(&mut self, tags: &TagSet, others: &TagSet, place: &Place)
         ensures places { KeepsListed (λ t q. equal_places place.now q ≡ false)
@@ -193,9 +212,7 @@ impl TagIndex {
             self.old.tables.items self.new.tables.items }
     {
         for tag in tags.tags() {
-            if !others.tags().contains(tag) {
-                self.unlist_one(tag, place);
-            }
+            self.unlist_other(tag, others, place);
         }
     }
 
