@@ -9,7 +9,7 @@ use Rattle.txc_tags.specs.Keys.{Call, same_call}
 use Rattle.txc_tags.proofs.Offered.{same_call_is, same_call_itself, both_true}
 use Rattle.txc_node.specs.declared.entry.Entry.{Entry}
 use Rattle.txc_node.specs.Entries.{same_place, meets_range, outlasts, is_best, others, AreApart}
-use Rattle.txc_node.specs.Indexed.{entries_under, reaches_under, listed, IndexesKeys, Relists}
+use Rattle.txc_node.specs.Indexed.{AreOf, entries_under, reaches_under, listed, IndexesKeys, Relists}
 use Rattle.txc_node.proofs.Apart.{remove_is_others, filter_apart}
 use Rattle.txc_node.proofs.Swept.{find_filter, all_filter, find_same}
 
@@ -169,3 +169,16 @@ pub last_first : (index new : List (Call × List Interval)) (front : List Entry)
 last_first index new front e indexed relists =
     let reaches : reaches_under e.key (e ∷ front) ≡ e.reach ∷ reaches_under e.key front = ap (λ xs. map (λ o. o.reach) xs) (under_yes e.key e front (same_call_itself e.key)) in
     indexes_by e.key index new (front ++ e ∷ []) (e ∷ front) indexed (subst (λ (rs : List Interval). Relists e.key rs index new) (sym reaches) relists) (λ k other. under_no k e front other ∙ sym (last_other k front e other))
+
+-- ---- what the index gives of a key
+
+no_reach : (es : List Entry) → map (λ e. e.reach) es ≡ [] → es ≡ []
+no_reach [] h = refl
+no_reach (e ∷ es) h = cc
+
+pub listed_are : (index : List (Call × List Interval)) (key : Call) (es : List Entry) (rs : List Interval) → IndexesKeys index es → listed index key ≡ rs → AreOf key (entries_under key es) rs
+listed_are index key es rs indexed h = record { of_key = all_under key es; reaches = sym (indexed key) ∙ h }
+
+-- a key of which nothing is listed has no entry
+pub none_under : (index : List (Call × List Interval)) (key : Call) (es : List Entry) → IndexesKeys index es → listed index key ≡ [] → entries_under key es ≡ []
+none_under index key es indexed h = no_reach (entries_under key es) (sym (indexed key) ∙ h)

@@ -85,11 +85,10 @@ pub record AreOf (key : Call) (es : List Entry) (rs : List Interval) : Type 0 wh
 abbrev pub in_stead : Interval → Interval → Interval
 in_stead new old = if old.lo == new.lo then new else old
 
--- no entry is found, or the one that stands there among those of the key, and has that reach
-abbrev pub IsFound : Call → List Entry → Option Entry → Option Found → Type 0
-IsFound key es o None = o ≡ None
-IsFound key es o (Some f) =
-    (e : Entry) × (o ≡ Some e) × (slice_get (entries_under key es) f.at ≡ Some e) × (f.reach ≡ e.reach)
+-- no entry is found, or the one that stands there in the list, and has that reach
+abbrev pub IsFound : List Entry → Option Entry → Option Found → Type 0
+IsFound es o None = o ≡ None
+IsFound es o (Some f) = (e : Entry) × (o ≡ Some e) × (slice_get es f.at ≡ Some e) × (f.reach ≡ e.reach)
 
 -- ---- by tag
 

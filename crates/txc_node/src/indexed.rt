@@ -1,15 +1,15 @@
 //! The entries of a node, with what finds them.
-ghost use Rattle.std.specs.Prelude.{◌≡◌, ◌+◌, ◌<◌, ◌≤◌, [], ◌∷◌, ◌++◌, length, map, take, not, true, false, Some, None, OnOk, OnErr, IfOk, IfErr, if◌then◌else◌, slice_get, option_copied};
+ghost use Rattle.std.specs.Prelude.{List, ◌≡◌, ◌+◌, ◌<◌, ◌≤◌, [], ◌∷◌, ◌++◌, length, map, take, not, true, false, Some, None, OnOk, OnErr, IfOk, IfErr, if◌then◌else◌, slice_get, option_copied};
 ghost use Rattle.std.specs.List.{find, filter, count_by, AllByRecursion};
 ghost use Rattle.txc_stamp.specs.Interval.{Interval};
 ghost use Rattle.txc_tags.specs.declared.tag.Tag.{Tag};
 ghost use Rattle.txc_tags.specs.Tags.{tags_match, has_tag};
-ghost use Rattle.txc_tags.specs.Keys.{same_call};
+ghost use Rattle.txc_tags.specs.Keys.{Call, same_call};
 ghost use Rattle.txc_node.specs.declared.entry.Entry.{Entry};
 ghost use Rattle.txc_node.specs.Places.{place_of, place_at};
 ghost use Rattle.txc_node.specs.Entries.{is_best, others, same_place, AreApart};
 ghost use Rattle.txc_node.specs.Cache.{is_invalidated, entry_after, has_ended};
-ghost use Rattle.txc_node.specs.Indexed.{entry_of, entries_of, entry_at, ArePlaced, entries_under, IndexesKeys, IsFound, IsSpared, StaySpared, lists, lists_rows};
+ghost use Rattle.txc_node.specs.Indexed.{entry_of, entries_of, entry_at, ArePlaced, entries_under, AreOf, IndexesKeys, IsFound, IsSpared, StaySpared, lists, lists_rows};
 
 use crate::entry::Entry;
 use crate::key_index::KeyIndex;
@@ -221,7 +221,7 @@ impl IndexedEntries {
         lo: Stamp,
         hi: Stamp,
     ) -> (Option<Found>, usize)
-        ensures found { IsFound key.now self.now.entries
+        ensures found { IsFound (entries_under key.now self.now.entries)
             (find (is_best processed key.now lo hi self.now.entries) self.now.entries) result.0 }
         ensures looked { result.1 ≡ length (entries_under key.now self.now.entries) }
     {
@@ -233,7 +233,7 @@ impl IndexedEntries {
 
     /// The entry that has the key and the first stamp of another.
     pub(crate) fn standing(&self, e: &Entry) -> Option<Found>
-        ensures { IsFound e.now.key self.now.entries
+        ensures { IsFound (entries_under e.now.key self.now.entries)
             (find (λ o. same_place o e.now) self.now.entries) result }
     {
         match self.keys.get(&e.key) {
@@ -406,7 +406,10 @@ impl IndexedEntries {
 }
 
 // Which of these lasts longest of those whose span meets the stamps from `lo` to `hi`.
-fn best_of(versions: &Versions, processed: Stamp, lo: Stamp, hi: Stamp) -> Option<Found> {
+fn best_of(versions: &Versions, processed: Stamp, lo: Stamp, hi: Stamp) -> Option<Found>
+    ensures { (key : Call) (es : List Entry) → AreOf key es versions.now
+        → IsFound es (find (is_best processed key lo hi es) es) result }
+{
     match versions.best(processed, lo, hi) {
         None => None,
         Some(at) => {
@@ -417,7 +420,10 @@ fn best_of(versions: &Versions, processed: Stamp, lo: Stamp, hi: Stamp) -> Optio
 }
 
 // Which of these begins at a stamp.
-fn begins_at(versions: &Versions, lo: Stamp) -> Option<Found> {
+fn begins_at(versions: &Versions, lo: Stamp) -> Option<Found>
+    ensures { (e : Entry) (es : List Entry) → AreOf e.key es versions.now → lo ≡ e.reach.lo
+        → IsFound es (find (λ o. same_place o e) es) result }
+{
     match versions.position(lo) {
         None => None,
         Some(at) => {
