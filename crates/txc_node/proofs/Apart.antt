@@ -49,7 +49,7 @@ remove_is_others (e ∷ es) (suc i) d l h =
 
 -- ---- what stays apart
 
-filter_keeps : (P : Entry → Type 0) (test : Entry → Bool) (es : List Entry) → AllByRecursion P es → AllByRecursion P (filter test es)
+pub filter_keeps : (P : Entry → Type 0) (test : Entry → Bool) (es : List Entry) → AllByRecursion P es → AllByRecursion P (filter test es)
 filter_keeps P test [] h = tt
 filter_keeps P test (e ∷ es) h =
     let go : (b : Bool) → AllByRecursion P (cond b (e ∷ filter test es) (filter test es)) = λ b. elim b as (λ v. AllByRecursion P (cond v (e ∷ filter test es) (filter test es))) [ true ↦ (h.0, filter_keeps P test es h.1) | false ↦ filter_keeps P test es h.1 ] in

@@ -12,6 +12,7 @@ pub mod Offered
 pub mod Positions
 pub mod KeyReaches
 pub mod KeyLists
+pub mod Fronts
 pub mod Pairs
 pub mod Listing
 mod History

@@ -12,7 +12,7 @@ use Rattle.txc_node.specs.declared.place.Place.{Place}
 use Rattle.txc_node.specs.declared.stored.Stored.{Stored}
 use Rattle.txc_node.specs.Places.{place_of, equal_places, equal_places_is, equal_places_itself}
 use Rattle.txc_node.specs.Entries.{same_place, others, AreApart}
-use Rattle.txc_node.specs.Indexed.{entry_of, entries_of, entry_at, ArePlaced}
+use Rattle.txc_node.specs.Indexed.{entry_of, stored_of, entries_of, entry_at, ArePlaced}
 use Rattle.txc_node.proofs.Apart.{same_place_sym}
 
 -- ---- each pair is found at its place
@@ -35,6 +35,15 @@ stand_each ps (x ∷ xs) placed h = (ap (λ q. option_map entry_of (lookup_entry
 
 pub stands_each : (ps : List (Place × Stored)) → ArePlaced ps → AreApart (entries_of ps) → AllByRecursion (λ o. entry_at ps (place_of o) ≡ Some o) (entries_of ps)
 stands_each ps placed apart = stand_each ps ps placed (found_each ps placed apart)
+
+-- what is stored at a place, by the entry that stands there
+pub stored_at : (q : Place) (ps : List (Place × Stored)) → ArePlaced ps → lookup (equal_places q) ps ≡ option_map stored_of (find (λ e. equal_places q (place_of e)) (entries_of ps))
+stored_at q [] placed = refl
+stored_at q (x ∷ ps) placed =
+    let e = entry_of x in
+    let rest = find (λ o. equal_places q (place_of o)) (entries_of ps) in
+    ap (λ (r : Place). cond (equal_places q r) (Some x.1) (lookup (equal_places q) ps)) placed.0
+    ∙ elim (equal_places q (place_of e)) as (λ b. cond b (Some x.1) (lookup (equal_places q) ps) ≡ option_map stored_of (cond b (Some e) rest)) [ true ↦ refl | false ↦ stored_at q ps placed.1 ]
 
 -- ---- promotion
 

@@ -5,12 +5,13 @@ use Rattle.std.specs.Map.{lookup, lookup_entry}
 use Rattle.std.specs.HashMap.{HashMap}
 use Rattle.std.specs.HashSet.{HashSet}
 use Rattle.std.specs.Option.{option_map}
-use Rattle.txc_stamp.specs.Interval.{Interval, end_at}
+use Rattle.txc_stamp.specs.Interval.{Interval, end_at, shown}
 use Rattle.txc_tags.specs.declared.tag.Rows.{Rows}
 use Rattle.txc_tags.specs.declared.tag.Tag.{Tag}
 use Rattle.txc_tags.specs.contracts.tag.RowsPartialEq.TheImpl as rows_eq
 use Rattle.txc_tags.specs.Keys.{Call, same_call}
 use Rattle.txc_node.specs.declared.entry.Entry.{Entry}
+use Rattle.txc_node.specs.declared.hit.Shown.{Shown}
 use Rattle.txc_node.specs.declared.place.Place.{Place}
 use Rattle.txc_node.specs.declared.stored.Stored.{Stored}
 use Rattle.txc_node.specs.declared.versions.Found.{Found}
@@ -23,6 +24,14 @@ use Rattle.txc_node.specs.Cache.{is_invalidated}
 -- the entry of a place and what is stored there
 abbrev pub entry_of : Place × Stored → Entry
 entry_of p = record { key = p.0.key; value = p.1.value; reach = p.1.reach; tags = p.1.tags }
+
+-- what is stored of an entry
+abbrev pub stored_of : Entry → Stored
+stored_of e = record { value = e.value; reach = e.reach; tags = e.tags }
+
+-- what a hit shows of what is stored
+abbrev pub shown_as : ℕ → Stored → Shown
+shown_as processed s = record { reach = shown processed s.reach; value = s.value; tags = s.tags }
 
 -- the entries of a cache, in its order
 abbrev pub entries_of : List (Place × Stored) → List Entry

@@ -1,15 +1,16 @@
 //! The entries of a node, with what finds them.
 ghost use Rattle.std.specs.Prelude.{List, ◌≡◌, ◌+◌, ◌<◌, ◌≤◌, [], ◌∷◌, ◌++◌, length, map, take, not, true, false, Some, None, OnOk, OnErr, IfOk, IfErr, if◌then◌else◌, slice_get, option_copied};
 ghost use Rattle.std.specs.List.{find, filter, count_by, AllByRecursion};
+ghost use Rattle.std.specs.Option.{option_map};
 ghost use Rattle.txc_stamp.specs.Interval.{Interval};
 ghost use Rattle.txc_tags.specs.declared.tag.Tag.{Tag};
 ghost use Rattle.txc_tags.specs.Tags.{tags_match, has_tag};
 ghost use Rattle.txc_tags.specs.Keys.{Call, same_call};
 ghost use Rattle.txc_node.specs.declared.entry.Entry.{Entry};
-ghost use Rattle.txc_node.specs.Places.{place_of, place_at};
+ghost use Rattle.txc_node.specs.Places.{place_of, place_at, equal_places};
 ghost use Rattle.txc_node.specs.Entries.{is_best, others, same_place, AreApart};
 ghost use Rattle.txc_node.specs.Cache.{is_invalidated, entry_after, has_ended};
-ghost use Rattle.txc_node.specs.Indexed.{entry_of, entries_of, entry_at, ArePlaced, entries_under, AreOf, IndexesKeys, IsFound, IsSpared, StaySpared, lists, lists_rows};
+ghost use Rattle.txc_node.specs.Indexed.{entry_of, entries_of, entry_at, ArePlaced, entries_under, reaches_under, stored_of, AreOf, IndexesKeys, IsFound, IsSpared, StaySpared, lists, lists_rows};
 
 use crate::entry::Entry;
 use crate::key_index::KeyIndex;
@@ -243,12 +244,17 @@ impl IndexedEntries {
     }
 
     /// The entry at a place.
-    pub(crate) fn get(&self, place: &Place) -> Option<&Stored> {
+    pub(crate) fn get(&self, place: &Place) -> Option<&Stored>
+        ensures { option_copied result ≡ option_map stored_of
+            (find (λ e. equal_places place.now (place_of e)) self.now.entries) }
+    {
         self.cache.peek(place)
     }
 
     /// The entry that was used last.
-    pub(crate) fn first(&self) -> Option<&Stored> {
+    pub(crate) fn first(&self) -> Option<&Stored>
+        ensures { option_copied result ≡ option_map stored_of (slice_get self.now.entries 0) }
+    {
         match self.cache.peek_mru() {
             None => None,
             Some((_, stored)) => Some(stored),
@@ -256,7 +262,13 @@ impl IndexedEntries {
     }
 
     /// Moves an entry that was found to the front.
-    pub(crate) fn bring_first(&mut self, key: &Key, found: Found) {
+    pub(crate) fn bring_first(&mut self, key: &Key, found: Found)
+        requires { slice_get (reaches_under key.now self.old.entries) found.at ≡ Some found.reach }
+        ensures entries { (e : Entry)
+            → slice_get (entries_under key.now self.old.entries) found.at ≡ Some e
+            → self.new.entries ≡ e ∷ others e self.old.entries }
+        ensures capacity { self.new.capacity ≡ self.old.capacity }
+    {
         let place = Place::new(key, found.reach.lo());
         self.cache.promote(&place);
         if found.at > 0 {

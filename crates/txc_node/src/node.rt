@@ -1,12 +1,13 @@
 //! The node: its entries, and the tags of the last events.
-ghost use Rattle.std.specs.Prelude.{is_some, ◌≡◌, ◌+◌, ◌<◌, ◌≤◌, ◌↔◌, map, length, [], IsTrue, Ok, Err, IfOk, IfErr, OnOk, OnErr, IsOk, MatchResult, false, vec_len};
+ghost use Rattle.std.specs.Prelude.{None, option_copied, slice_get, if◌then◌else◌, is_some, ◌≡◌, ◌+◌, ◌<◌, ◌≤◌, ◌↔◌, map, length, [], IsTrue, Ok, Err, IfOk, IfErr, OnOk, OnErr, IsOk, MatchResult, false, vec_len};
 ghost use Rattle.std.specs.List.{count_by};
 ghost use Rattle.std.specs.Option.{option_map};
 ghost use Rattle.std.specs.Borrow.{sem};
 ghost use Rattle.std.specs.Io.BufRead.{Rests};
 ghost use Rattle.txc_node.specs.contracts.node.NodeCore.{the_row};
-ghost use Rattle.txc_node.specs.Cache.{empty_cache, found, answer, after_lookup, is_kept, after_insert, outcome, is_invalidated, entry_after, after_event, closed_count, after_sweep, swept_count};
+ghost use Rattle.txc_node.specs.Cache.{shown_of, empty_cache, found, answer, after_lookup, is_kept, after_insert, outcome, is_invalidated, entry_after, after_event, closed_count, after_sweep, swept_count};
 ghost use Rattle.txc_node.specs.Hit.{seen};
+ghost use Rattle.txc_node.specs.Indexed.{shown_as};
 
 use crate::entry::Entry;
 use crate::hit::Hit;
@@ -89,7 +90,9 @@ impl Model for NodeCore {
 }
 
 // What is lent of an entry.
-fn hit_of(stored: Option<&Stored>, processed: Stamp) -> Option<Hit<'_>> {
+fn hit_of(stored: Option<&Stored>, processed: Stamp) -> Option<Hit<'_>>
+    ensures { option_map seen result ≡ option_map (shown_as processed) (option_copied stored.entry) }
+{
     let stored = stored?;
     let _known = stored.reach.known();
     let last = stored.reach.end(processed) - 1;
@@ -102,7 +105,10 @@ fn hit_of(stored: Option<&Stored>, processed: Stamp) -> Option<Hit<'_>> {
 }
 
 // The hit of the entry that was used last, or none.
-fn hit_first(entries: &IndexedEntries, processed: Stamp, is_hit: bool) -> Option<Hit<'_>> {
+fn hit_first(entries: &IndexedEntries, processed: Stamp, is_hit: bool) -> Option<Hit<'_>>
+    ensures { option_map seen result
+        ≡ (if is_hit then option_map (shown_of processed) (slice_get entries.now.entries 0) else None) }
+{
     if !is_hit {
         return None;
     }
