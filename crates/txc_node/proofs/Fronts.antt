@@ -1,7 +1,7 @@
 -- An entry of a key that is brought to the front.
 use Rattle.std.proofs.Common.{◌≡◌, ℕ, Bool, true, false, cond, List, [], ◌∷◌, map, Option, Some, None, refl, sym, ap, subst, ◌∙◌, suc, zero}
 use Rattle.std.specs.Prelude.{slice_get, remove}
-use Rattle.std.specs.List.{AllByRecursion}
+use Rattle.std.specs.List.{AllByRecursion, find}
 use Rattle.std.specs.Option.{option_map}
 use Rattle.std.specs.Map.{lookup_entry}
 use Rattle.std.specs.HashMap.{HashMap}
@@ -15,9 +15,9 @@ use Rattle.txc_node.specs.declared.entry.Entry.{Entry}
 use Rattle.txc_node.specs.declared.place.Place.{Place}
 use Rattle.txc_node.specs.declared.stored.Stored.{Stored}
 use Rattle.txc_node.specs.Places.{place_of, place_at, equal_places}
-use Rattle.txc_node.specs.Entries.{others, AreApart}
+use Rattle.txc_node.specs.Entries.{same_place, others, AreApart}
 use Rattle.txc_node.specs.Indexed.{entry_of, entries_of, entry_at, ArePlaced, entries_under, reaches_under, listed, IndexesKeys, Relists, lists, IsIndexed}
-use Rattle.txc_node.proofs.Apart.{filter_keeps, first_apart}
+use Rattle.txc_node.proofs.Apart.{filter_keeps, first_apart, same_place_self}
 use Rattle.txc_node.proofs.KeyLists.{all_under, brought_first}
 use Rattle.txc_node.proofs.Pairs.{stands_each, promoted_is, promoted_keeps}
 
@@ -52,6 +52,23 @@ pair_of ps q e h = (elim (lookup_entry (equal_places q) ps) as (λ f. lookup_ent
   | Some x ↦ λ t. let is : Some (entry_of x) ≡ Some e = sym (ap (λ f. option_map entry_of f) t) ∙ h in let same : entry_of x ≡ e = cc in (x, t, same)
 ]) refl
 
+-- each entry is found at its place
+found_later : (y : Entry) (es xs : List Entry) → AllByRecursion (λ o. same_place o y ≡ false) xs → AllByRecursion (λ x. find (λ o. same_place x o) es ≡ Some x) xs → AllByRecursion (λ x. find (λ o. same_place x o) (y ∷ es) ≡ Some x) xs
+found_later y es [] other h = tt
+found_later y es (x ∷ xs) other h = (ap (λ b. cond b (Some y) (find (λ o. same_place x o) es)) other.0 ∙ h.0, found_later y es xs other.1 h.1)
+
+found_self : (es : List Entry) → AreApart es → AllByRecursion (λ x. find (λ o. same_place x o) es ≡ Some x) es
+found_self [] apart = tt
+found_self (y ∷ es) apart = (ap (λ b. cond b (Some y) (find (λ o. same_place y o) es)) (same_place_self y), found_later y es es apart.0 (found_self es apart.1))
+
+place_is : (key : Call) (es : List Entry) (at : ℕ) (e : Entry) (r : Interval) → slice_get (entries_under key es) at ≡ Some e → e.reach ≡ r → place_of e ≡ place_at key r.lo
+place_is key es at e r is reach = ap (λ (k : Call). place_at k e.reach.lo) (key_at key es at e is) ∙ ap (λ (i : Interval). place_at key i.lo) reach
+
+pub found_again : (key : Call) (es : List Entry) (at : ℕ) (e : Entry) (r : Interval) → AreApart es → slice_get (entries_under key es) at ≡ Some e → r ≡ e.reach
+    → find (λ o. equal_places (place_at key r.lo) (place_of o)) es ≡ Some e
+found_again key es at e r apart is reach =
+    subst (λ (q : Place). find (λ o. equal_places q (place_of o)) es ≡ Some e) (place_is key es at e r is (sym reach)) (holds_under (λ x. find (λ o. same_place x o) es ≡ Some x) key es at e (found_self es apart) is)
+
 -- ---- its promotion
 
 pub brought : (ps : List (Place × Stored)) (key : Call) (at : ℕ) (e : Entry) → ArePlaced ps → AreApart (entries_of ps) → slice_get (entries_under key (entries_of ps)) at ≡ Some e
@@ -69,9 +86,6 @@ of_pairs P (x ∷ ps) h = (h.0, of_pairs P ps h.1)
 pub of_entries : (P : Entry → Type 0) (ps : List (Place × Stored)) → AllByRecursion (λ p. P (entry_of p)) ps → AllByRecursion P (entries_of ps)
 of_entries P [] h = tt
 of_entries P (x ∷ ps) h = (h.0, of_entries P ps h.1)
-
-place_is : (key : Call) (es : List Entry) (at : ℕ) (e : Entry) (r : Interval) → slice_get (entries_under key es) at ≡ Some e → e.reach ≡ r → place_of e ≡ place_at key r.lo
-place_is key es at e r is reach = ap (λ (k : Call). place_at k e.reach.lo) (key_at key es at e is) ∙ ap (λ (i : Interval). place_at key i.lo) reach
 
 -- the entries after the promotion of the place of a listed reach
 pub brought_entries : (ps : List (Place × Stored)) (key : Call) (at : ℕ) (r : Interval) (e : Entry) → ArePlaced ps → AreApart (entries_of ps) → slice_get (reaches_under key (entries_of ps)) at ≡ Some r

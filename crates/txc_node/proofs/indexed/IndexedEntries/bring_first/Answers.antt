@@ -1,4 +1,4 @@
-use Rattle.std.proofs.Common.{◌≡◌, ℕ, List, Some, ap, sym, subst, ◌∙◌, arith, ◌×◌, ◌∷◌}
+use Rattle.std.proofs.Common.{◌≡◌, ℕ, List, Some, ap, sym, subst, ◌∙◌, arith, ◌∷◌}
 use Rattle.std.specs.Prelude.{slice_get, remove}
 use Rattle.lru.specs.LruCache.{LruCache, promoted}
 use Rattle.txc_stamp.specs.Interval.{Interval}
@@ -40,8 +40,7 @@ returns-then-found-gt0-clause-entries c =
     let i = c.self.inside in
     let moved : c.promote.new.self.entries ≡ promoted (equal_places (place_at a.key.now a.found.reach.lo)) i.cache.entries =
         ap (λ (m : LruCache Place Stored). m.entries) c.promote.ensures.entries ∙ ap (λ (q : Place). promoted (equal_places q) i.cache.entries) (c.new-place.ensures ∙ ap (place_at a.key.now) c.lo.ensures) in
-    let all = λ e. brought_entries i.cache.entries a.key.now a.found.at a.found.reach e c.self.invariant.placed c.self.invariant.apart in
-    rw moved (subst (λ (m : Held). slice_get (reaches_under a.key.now m.entries) a.found.at ≡ Some a.found.reach → (e : Entry) → slice_get (entries_under a.key.now m.entries) a.found.at ≡ Some e → entries_of (promoted (equal_places (place_at a.key.now a.found.reach.lo)) i.cache.entries) ≡ e ∷ others e m.entries) c.self.view_is (λ is e at. all e is at) c.requires)
+    rw moved (subst (λ (m : Held). slice_get (reaches_under a.key.now m.entries) a.found.at ≡ Some a.found.reach → (e : Entry) → slice_get (entries_under a.key.now m.entries) a.found.at ≡ Some e → entries_of (promoted (equal_places (place_at a.key.now a.found.reach.lo)) i.cache.entries) ≡ e ∷ others e m.entries) c.self.view_is (λ is e at. brought_entries i.cache.entries a.key.now a.found.at a.found.reach e c.self.invariant.placed c.self.invariant.apart is at) c.requires)
 
 pub returns-else-found-gt0-clause-entries : goal.returns-else-found-gt0-clause-entries
 returns-else-found-gt0-clause-entries c =
@@ -49,5 +48,4 @@ returns-else-found-gt0-clause-entries c =
     let i = c.self.inside in
     let moved : c.promote.new.self.entries ≡ promoted (equal_places (place_at a.key.now a.found.reach.lo)) i.cache.entries =
         ap (λ (m : LruCache Place Stored). m.entries) c.promote.ensures.entries ∙ ap (λ (q : Place). promoted (equal_places q) i.cache.entries) (c.new-place.ensures ∙ ap (place_at a.key.now) c.lo.ensures) in
-    let all = λ e. brought_entries i.cache.entries a.key.now a.found.at a.found.reach e c.self.invariant.placed c.self.invariant.apart in
-    rw moved (subst (λ (m : Held). slice_get (reaches_under a.key.now m.entries) a.found.at ≡ Some a.found.reach → (e : Entry) → slice_get (entries_under a.key.now m.entries) a.found.at ≡ Some e → entries_of (promoted (equal_places (place_at a.key.now a.found.reach.lo)) i.cache.entries) ≡ e ∷ others e m.entries) c.self.view_is (λ is e at. all e is at) c.requires)
+    rw moved (subst (λ (m : Held). slice_get (reaches_under a.key.now m.entries) a.found.at ≡ Some a.found.reach → (e : Entry) → slice_get (entries_under a.key.now m.entries) a.found.at ≡ Some e → entries_of (promoted (equal_places (place_at a.key.now a.found.reach.lo)) i.cache.entries) ≡ e ∷ others e m.entries) c.self.view_is (λ is e at. brought_entries i.cache.entries a.key.now a.found.at a.found.reach e c.self.invariant.placed c.self.invariant.apart is at) c.requires)
