@@ -10,7 +10,7 @@ use Rattle.txc_node.specs.declared.entry.Entry.{Entry}
 use Rattle.txc_node.specs.Entries.{same_place, others, AreApart}
 use Rattle.txc_node.specs.Cache.{is_invalidated, entry_after}
 
-eqb_sym : (m n : ℕ) → eqb m n ≡ eqb n m
+pub eqb_sym : (m n : ℕ) → eqb m n ≡ eqb n m
 eqb_sym m n = same_from_decides (eqb m n) (eqb n m) (Decides-eqb m n) (Decides-like (eqb n m) (λ (e : n ≡ m). sym e) (λ (e : m ≡ n). sym e) (Decides-eqb n m))
 
 same_call_sym : (a b : Call) → same_call a b ≡ same_call b a

@@ -1,22 +1,23 @@
 -- What an event closes at one place.
-use Rattle.std.proofs.Common.{◌≡◌, ℕ, ◌+◌, ◌-◌, Bool, true, false, not, ◌&&◌, eqb, cond, List, [], ◌∷◌, map, Option, Some, None, refl, sym, ap, subst, ◌∙◌, arith, ◌⊎◌, inl, inr}
+use Rattle.std.proofs.Common.{◌≡◌, ℕ, ◌+◌, ◌-◌, Bool, true, false, not, ◌&&◌, ◌||◌, ◌<◌, eqb, get_or, length, suc, cond, List, [], ◌∷◌, map, Option, Some, None, refl, sym, ap, subst, ◌∙◌, arith, ◌⊎◌, inl, inr}
 use Rattle.std.specs.List.{count_by, AllByRecursion}
 use Rattle.std.specs.Map.{lookup, lookup_entry, set_value}
-use Rattle.std.specs.Option.{option_map}
+use Rattle.std.specs.Option.{option_map, option_map_or}
 use Rattle.std.proofs.lemmas.List.Sums.{sum_by-cons}
 use Rattle.std.proofs.lemmas.Bool.{false≢true}
 use Rattle.txc_stamp.specs.Interval.{Interval, closed_at}
 use Rattle.txc_tags.specs.declared.tag.Tag.{Tag}
 use Rattle.txc_tags.specs.Keys.{Call, same_call}
 use Rattle.txc_tags.proofs.Offered.{same_call_is, same_call_itself, both_true}
+use borrow.Author.Tests.{eq-eqb}
 use Rattle.txc_node.specs.declared.entry.Entry.{Entry}
 use Rattle.txc_node.specs.declared.place.Place.{Place}
 use Rattle.txc_node.specs.declared.stored.Stored.{Stored}
 use Rattle.txc_node.specs.Places.{place_of, equal_places, equal_places_is}
 use Rattle.txc_node.specs.Entries.{same_place, AreApart}
 use Rattle.txc_node.specs.Cache.{is_invalidated, entry_after}
-use Rattle.txc_node.specs.Indexed.{entry_of, entries_of, entry_at, ArePlaced, entries_under, reaches_under, in_stead, listed, IndexesKeys, Relists, is_stale, stored_after, closed_reach, after_at, AreTied, Closes, IsSpared, StaySpared}
-use Rattle.txc_node.proofs.Apart.{after_both, after_apart}
+use Rattle.txc_node.specs.Indexed.{entry_of, entries_of, entry_at, ArePlaced, entries_under, reaches_under, in_stead, has_place, listed, IndexesKeys, Relists, is_stale, stored_after, closed_reach, after_at, AreTied, Closes, IsSpared, StaySpared}
+use Rattle.txc_node.proofs.Apart.{eqb_sym, after_both, after_apart}
 use Rattle.txc_node.proofs.KeyLists.{indexes_by, under_yes, under_no}
 
 module _ (stamp : ℕ) (tags : List Tag) where
@@ -141,6 +142,12 @@ module _ (stamp : ℕ) (tags : List Tag) where
 
 -- ---- what the index lists of the key
 
+itself : (n : ℕ) → eqb n n ≡ true
+itself n = eq-eqb n n refl
+
+unequal : (b : Bool) (m n : ℕ) → b ≡ true → (b && eqb m n) ≡ false → eqb n m ≡ false
+unequal b m n own other = eqb_sym n m ∙ sym (ap (λ v. v && eqb m n) own) ∙ other
+
 -- the reach of an entry at another place stays
 other_reach : (x : Entry) (o : Entry) (i : Interval) → same_call o.key x.key ≡ true → same_place o x ≡ false → i.lo ≡ x.reach.lo → in_stead i o.reach ≡ o.reach
 other_reach x o i own other begins =
@@ -198,3 +205,114 @@ module _ (q : Place) (s w : Stored) where
               | false ↦ λ no'. rest
             ]) refl
       ]) refl
+
+-- ---- the event at a place
+
+-- what is stored there begins as the place says
+stored_lo : (q : Place) (ps : List (Place × Stored)) (s : Stored) → ArePlaced ps → lookup (equal_places q) ps ≡ Some s → s.reach.lo ≡ q.lo
+stored_lo q [] s placed h = let none : None ≡ Some s = h in cc
+stored_lo q (x ∷ ps) s placed h = (elim (equal_places q x.0) as (λ v. equal_places q x.0 ≡ v → cond v (Some x.1) (lookup (equal_places q) ps) ≡ Some s → s.reach.lo ≡ q.lo) [
+  | true ↦ λ t h.
+      let is : Some x.1 ≡ Some s = h in
+      let same : x.1 ≡ s = cc in
+      ap (λ (u : Stored). u.reach.lo) (sym same) ∙ ap (λ (p : Place). p.lo) (sym (equal_places_is q x.0 t ∙ placed.0))
+  | false ↦ λ t h. stored_lo q ps s placed.1 h
+]) refl h
+
+set_same : (test : Place → Bool) (ps : List (Place × Stored)) (s : Stored) → lookup test ps ≡ Some s → set_value test ps s ≡ ps
+set_same test [] s h = refl
+set_same test (x ∷ ps) s h = (elim (test x.0) as (λ v. cond v (Some x.1) (lookup test ps) ≡ Some s → cond v ((x.0, s) ∷ ps) (x ∷ set_value test ps s) ≡ x ∷ ps) [
+  | true ↦ λ h. let is : Some x.1 ≡ Some s = h in let same : x.1 ≡ s = cc in ap (λ (u : Stored). (x.0, u) ∷ ps) (sym same)
+  | false ↦ λ h. ap (λ ys. x ∷ ys) (set_same test ps s h)
+]) h
+
+no_entry : (test : Place → Bool) (ps : List (Place × Stored)) (o : Entry) → lookup test ps ≡ None → option_map entry_of (lookup_entry test ps) ≡ Some o → true ≡ false
+no_entry test [] o h k = let none : None ≡ Some o = k in cc
+no_entry test (x ∷ ps) o h k = (elim (test x.0) as (λ v. cond v (Some x.1) (lookup test ps) ≡ None → option_map entry_of (cond v (Some x) (lookup_entry test ps)) ≡ Some o → true ≡ false) [
+  | true ↦ λ h k. let some : Some x.1 ≡ None = h in cc
+  | false ↦ λ h k. no_entry test ps o h k
+]) h k
+
+module _ (stamp : ℕ) (tags : List Tag) where
+  tied_after : (q : Place) (ps : List (Place × Stored)) (index new : List (Call × List Interval)) (s : Stored) → AreTied ps index → lookup (equal_places q) ps ≡ Some s
+      → Relists q.key (map (in_stead (stored_after stamp tags s).reach) (listed index q.key)) index new → AreTied (set_value (equal_places q) ps (stored_after stamp tags s)) new
+  tied_after q ps index new s tied h relists =
+      let w = stored_after stamp tags s in
+      let reaches : reaches_under q.key (entries_of (set_value (equal_places q) ps w)) ≡ map (in_stead w.reach) (listed index q.key) =
+          set_reaches q s w ps tied.placed tied.apart h (begins_alike stamp tags s ∙ stored_lo q ps s tied.placed h) ∙ ap (map (in_stead w.reach)) (sym (tied.keys q.key)) in
+      record {
+        placed = set_placed stamp tags (equal_places q) ps s h tied.placed;
+        apart = still_apart stamp tags (entries_of ps) (entries_of (set_value (equal_places q) ps w)) (set_kept stamp tags (equal_places q) ps s h) tied.apart;
+        keys = indexes_by q.key index new (entries_of ps) (entries_of (set_value (equal_places q) ps w)) tied.keys (subst (λ (rs : List Interval). Relists q.key rs index new) (sym reaches) relists) (λ k other. set_other_key q s w k ps other);
+      }
+
+  closes_here : (q : Place) (ps : List (Place × Stored)) (s : Stored) → lookup (equal_places q) ps ≡ Some s → Closes stamp tags ps (set_value (equal_places q) ps (stored_after stamp tags s)) (cond (is_stale stamp tags s) 1 0)
+  closes_here q ps s h = record {
+    after = set_kept stamp tags (equal_places q) ps s h;
+    count = set_count stamp tags (equal_places q) ps s h;
+    spared = set_spared stamp tags q ps s h;
+  }
+
+  pub closes_none : (ps : List (Place × Stored)) → Closes stamp tags ps ps 0
+  closes_none ps = record { after = refl; count = omega arith; spared = λ q h. h }
+
+  -- where nothing is closed, nothing changes
+  pub untouched : (q : Place) (ps : List (Place × Stored)) → closed_reach stamp tags (lookup (equal_places q) ps) ≡ None → after_at stamp tags q ps ≡ ps
+  untouched q ps h = (elim (lookup (equal_places q) ps) as (λ f. lookup (equal_places q) ps ≡ f → closed_reach stamp tags f ≡ None → option_map_or (λ s. set_value (equal_places q) ps (stored_after stamp tags s)) f ps ≡ ps) [
+    | None ↦ λ t h. refl
+    | Some s ↦ λ t h.
+        (elim (is_stale stamp tags s) as (λ b. cond b (Some (closed_at (stamp - 1) s.reach)) None ≡ None → set_value (equal_places q) ps (cond b (record s { reach = closed_at (stamp - 1) s.reach }) s) ≡ ps) [
+          | true ↦ λ h. let some : Some (closed_at (stamp - 1) s.reach) ≡ None = h in cc
+          | false ↦ λ h. set_same (equal_places q) ps s t
+        ]) h
+  ]) refl h
+
+  -- what was closed stood there
+  closed_there : (f : Option Stored) (r : Interval) → closed_reach stamp tags f ≡ Some r → (s : Stored) × (f ≡ Some s) × (is_stale stamp tags s ≡ true) × ((stored_after stamp tags s).reach ≡ r)
+  closed_there None r h = let none : None ≡ Some r = h in cc
+  closed_there (Some s) r h = (elim (is_stale stamp tags s) as (λ b. is_stale stamp tags s ≡ b → cond b (Some (closed_at (stamp - 1) s.reach)) None ≡ Some r → (u : Stored) × (Some s ≡ Some u) × (is_stale stamp tags u ≡ true) × ((stored_after stamp tags u).reach ≡ r)) [
+    | true ↦ λ t h.
+        let is : Some (closed_at (stamp - 1) s.reach) ≡ Some r = h in
+        let same : closed_at (stamp - 1) s.reach ≡ r = cc in
+        (s, refl, t, ap (λ b. (cond b (record s { reach = closed_at (stamp - 1) s.reach }) s).reach) t ∙ same)
+    | false ↦ λ t h. let none : None ≡ Some r = h in cc
+  ]) refl h
+
+  pub tied_at : (q : Place) (ps : List (Place × Stored)) (index new : List (Call × List Interval)) (r : Interval) → AreTied ps index → closed_reach stamp tags (lookup (equal_places q) ps) ≡ Some r
+      → Relists q.key (map (in_stead r) (listed index q.key)) index new → AreTied (after_at stamp tags q ps) new
+  tied_at q ps index new r tied h relists =
+      let s = closed_there (lookup (equal_places q) ps) r h in
+      subst (λ f. AreTied (option_map_or (λ u. set_value (equal_places q) ps (stored_after stamp tags u)) f ps) new) (sym s.1)
+      (tied_after q ps index new s.0 tied s.1 (subst (λ (i : Interval). Relists q.key (map (in_stead i) (listed index q.key)) index new) (sym s.3) relists))
+
+  pub closes_at : (q : Place) (ps : List (Place × Stored)) (r : Interval) → closed_reach stamp tags (lookup (equal_places q) ps) ≡ Some r → Closes stamp tags ps (after_at stamp tags q ps) 1
+  closes_at q ps r h =
+      let s = closed_there (lookup (equal_places q) ps) r h in
+      subst (λ f. Closes stamp tags ps (option_map_or (λ u. set_value (equal_places q) ps (stored_after stamp tags u)) f ps) 1) (sym s.1)
+      (subst (λ b. Closes stamp tags ps (set_value (equal_places q) ps (stored_after stamp tags s.0)) (cond b 1 0)) s.2 (closes_here q ps s.0 s.1))
+
+  -- it invalidates nothing there any more
+  pub spared_at : (q : Place) (ps : List (Place × Stored)) → IsSpared stamp tags (after_at stamp tags q ps) q
+  spared_at q ps = (elim (lookup (equal_places q) ps) as (λ f. lookup (equal_places q) ps ≡ f → IsSpared stamp tags (option_map_or (λ s. set_value (equal_places q) ps (stored_after stamp tags s)) f ps) q) [
+    | None ↦ λ t o k. absurd (false≢true (sym (no_entry (equal_places q) ps o t k)))
+    | Some s ↦ λ t. set_here stamp tags q ps s t
+  ]) refl
+
+  pub closes_more : (a b c : List (Place × Stored)) (m n : ℕ) → Closes stamp tags a b m → Closes stamp tags b c n → Closes stamp tags a c (m + n)
+  closes_more a b c m n h k = record {
+    after = k.after ∙ h.after;
+    count = omega (arith, h.count, k.count);
+    spared = λ q s. k.spared q (h.spared q s);
+  }
+
+pub all_from_places : {X : Type 0} (P : X → Type 0) (xs : List X) → ((k : ℕ) → k < length xs → (d : X) → P (get_or xs k d)) → AllByRecursion P xs
+all_from_places P [] h = tt
+all_from_places P (x ∷ xs) h = (h 0 (omega arith) x, all_from_places P xs (λ k l d. h (suc k) (omega arith) d))
+
+-- what holds of all places holds of one that is among them
+pub among : (P : Place → Type 0) (places : List Place) (q : Place) → AllByRecursion P places → has_place places q ≡ true → P q
+among P [] q h is = absurd (false≢true is)
+among P (x ∷ xs) q h is = (elim (equal_places q x) as (λ b. equal_places q x ≡ b → (b || has_place xs q) ≡ true → P q) [
+  | true ↦ λ t is. subst P (sym (equal_places_is q x t)) h.0
+  | false ↦ λ t is. among P xs q h.1 is
+]) refl is

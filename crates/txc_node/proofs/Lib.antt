@@ -13,6 +13,7 @@ pub mod Positions
 pub mod KeyReaches
 pub mod KeyLists
 pub mod Fronts
+pub mod Closings
 pub mod Pairs
 pub mod Listing
 mod History

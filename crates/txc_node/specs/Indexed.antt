@@ -1,14 +1,15 @@
 -- The entries of a node as they are held, and the indexes that find them. Proofs alone need it.
 use Rattle.std.specs.Prelude.{◌≡◌, ℕ, ◌+◌, ◌-◌, ◌<◌, Bool, true, false, ◌&&◌, ◌||◌, ◌==◌, not, nat_lt, nat_le, if◌then◌else◌, Option, Some, None, unwrap_or, List, [], ◌∷◌, ◌++◌, map, length, take, slice_get}
-use Rattle.std.specs.List.{AllByRecursion, filter, find, list_any}
-use Rattle.std.specs.Map.{lookup, lookup_entry}
+use Rattle.std.specs.List.{AllByRecursion, filter, find, list_any, count_by}
+use Rattle.std.specs.Map.{lookup, lookup_entry, set_value}
 use Rattle.std.specs.HashMap.{HashMap}
 use Rattle.std.specs.HashSet.{HashSet}
-use Rattle.std.specs.Option.{option_map}
-use Rattle.txc_stamp.specs.Interval.{Interval, end_at, shown}
+use Rattle.std.specs.Option.{option_map, option_map_or}
+use Rattle.txc_stamp.specs.Interval.{Interval, end_at, shown, closed_at}
 use Rattle.txc_tags.specs.declared.tag.Rows.{Rows}
 use Rattle.txc_tags.specs.declared.tag.Tag.{Tag}
 use Rattle.txc_tags.specs.contracts.tag.RowsPartialEq.TheImpl as rows_eq
+use Rattle.txc_tags.specs.Tags.{sets_match}
 use Rattle.txc_tags.specs.Keys.{Call, same_call}
 use Rattle.txc_node.specs.declared.entry.Entry.{Entry}
 use Rattle.txc_node.specs.declared.hit.Shown.{Shown}
@@ -17,7 +18,7 @@ use Rattle.txc_node.specs.declared.stored.Stored.{Stored}
 use Rattle.txc_node.specs.declared.versions.Found.{Found}
 use Rattle.txc_node.specs.Places.{place_of, equal_places}
 use Rattle.txc_node.specs.Entries.{AreApart}
-use Rattle.txc_node.specs.Cache.{is_invalidated}
+use Rattle.txc_node.specs.Cache.{is_invalidated, entry_after}
 
 -- ---- entries at their places
 
@@ -132,6 +133,24 @@ KeepsListed P old new = (t : Tag) (q : Place) → P t q → lists old t q ≡ tr
 
 -- ---- what an event has closed so far
 
+-- the event closes what is stored
+abbrev pub is_stale : ℕ → List Tag → Stored → Bool
+is_stale stamp tags s = s.reach.still && (nat_lt s.reach.known stamp && sets_match tags s.tags)
+
+-- what is stored after it
+abbrev pub stored_after : ℕ → List Tag → Stored → Stored
+stored_after stamp tags s = if is_stale stamp tags s then record s { reach = closed_at (stamp - 1) s.reach } else s
+
+-- the new reach of what it closes
+abbrev pub closed_reach : ℕ → List Tag → Option Stored → Option Interval
+closed_reach stamp tags None = None
+closed_reach stamp tags (Some s) = if is_stale stamp tags s then Some (closed_at (stamp - 1) s.reach) else None
+
+-- the pairs after the event has come to a place
+abbrev pub after_at : ℕ → List Tag → Place → List (Place × Stored) → List (Place × Stored)
+after_at stamp tags q ps =
+    option_map_or (λ s. set_value (equal_places q) ps (stored_after stamp tags s)) (lookup (equal_places q) ps) ps
+
 -- the event invalidates no entry at the place
 abbrev pub IsSpared : ℕ → List Tag → List (Place × Stored) → Place → Type 0
 IsSpared stamp tags ps q = (e : Entry) → entry_at ps q ≡ Some e → is_invalidated stamp tags e ≡ false
@@ -139,6 +158,22 @@ IsSpared stamp tags ps q = (e : Entry) → entry_at ps q ≡ Some e → is_inval
 -- where it invalidated none before, it does so now
 abbrev pub StaySpared : ℕ → List Tag → List (Place × Stored) → List (Place × Stored) → Type 0
 StaySpared stamp tags old new = (q : Place) → IsSpared stamp tags old q → IsSpared stamp tags new q
+
+-- it invalidates none at the places that a table lists under the rows at an index
+abbrev pub AreSparedAt : {S : Type 0} → ℕ → List Tag → List (Place × Stored) → List (Rows × HashSet Place S) → ℕ → Type 0
+AreSparedAt {S} stamp tags ps bs i = (x : Rows × HashSet Place S) → slice_get bs i ≡ Some x → AllByRecursion (IsSpared stamp tags ps) x.1.keys
+
+-- of the old pairs the event has closed n
+pub record Closes (stamp : ℕ) (tags : List Tag) (old new : List (Place × Stored)) (n : ℕ) : Type 0 where
+  pub after : map (entry_after stamp tags) (entries_of new) ≡ map (entry_after stamp tags) (entries_of old)
+  pub count : n + count_by (is_invalidated stamp tags) (entries_of new) ≡ count_by (is_invalidated stamp tags) (entries_of old)
+  pub spared : StaySpared stamp tags old new
+
+-- each entry at its place, at most one for a place, and each in the index of the keys
+pub record AreTied (ps : List (Place × Stored)) (index : List (Call × List Interval)) : Type 0 where
+  pub placed : ArePlaced ps
+  pub apart : AreApart (entries_of ps)
+  pub keys : IndexesKeys index (entries_of ps)
 
 -- ---- all of it
 

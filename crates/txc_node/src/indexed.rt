@@ -2,6 +2,7 @@
 ghost use Rattle.std.specs.Prelude.{List, ◌≡◌, ◌+◌, ◌<◌, ◌≤◌, [], ◌∷◌, ◌++◌, length, map, take, not, true, false, Some, None, OnOk, OnErr, IfOk, IfErr, if◌then◌else◌, slice_get, option_copied};
 ghost use Rattle.std.specs.List.{find, filter, count_by, AllByRecursion};
 ghost use Rattle.std.specs.Option.{option_map};
+ghost use Rattle.std.specs.Map.{lookup};
 ghost use Rattle.txc_stamp.specs.Interval.{Interval};
 ghost use Rattle.txc_tags.specs.declared.tag.Tag.{Tag};
 ghost use Rattle.txc_tags.specs.Tags.{tags_match, has_tag};
@@ -10,7 +11,7 @@ ghost use Rattle.txc_node.specs.declared.entry.Entry.{Entry};
 ghost use Rattle.txc_node.specs.Places.{place_of, place_at, equal_places};
 ghost use Rattle.txc_node.specs.Entries.{is_best, others, same_place, AreApart};
 ghost use Rattle.txc_node.specs.Cache.{is_invalidated, entry_after, has_ended};
-ghost use Rattle.txc_node.specs.Indexed.{entry_of, entries_of, entry_at, ArePlaced, entries_under, reaches_under, stored_of, AreOf, IndexesKeys, IsFound, IsSpared, StaySpared, lists, lists_rows};
+ghost use Rattle.txc_node.specs.Indexed.{entry_of, entries_of, entry_at, ArePlaced, entries_under, reaches_under, stored_of, AreOf, IndexesKeys, IsFound, is_stale, stored_after, closed_reach, after_at, AreTied, AreSparedAt, Closes, IsSpared, lists, lists_rows};
 
 use crate::entry::Entry;
 use crate::key_index::KeyIndex;
@@ -44,24 +45,22 @@ impl Model for IndexedEntries {
 }
 
 // Whether an event closes what is stored.
-fn is_invalidated(stored: &Stored, stamp: Stamp, tags: &TagSet) -> bool
-    ensures { (q : Place) → result ≡ is_invalidated stamp tags.now (entry_of (q, stored.now)) }
+fn is_stale(stored: &Stored, stamp: Stamp, tags: &TagSet) -> bool
+    ensures { result ≡ is_stale stamp tags.now stored.now }
 {
     stored.reach.is_still() && stored.reach.known() < stamp && tags.matches(&stored.tags)
 }
 
 // Closes what is stored just below an event that invalidates it, and says whether it does.
 fn invalidate_one(stored: &mut Stored, stamp: Stamp, tags: &TagSet) -> bool
-    ensures entry { (q : Place) → entry_of (q, stored.new)
-        ≡ entry_after stamp tags.now (entry_of (q, stored.old)) }
-    ensures is_invalidated { (q : Place) → result
-        ≡ is_invalidated stamp tags.now (entry_of (q, stored.old)) }
+    ensures stored { stored.new ≡ stored_after stamp tags.now stored.old }
+    ensures is_stale { result ≡ is_stale stamp tags.now stored.old }
 {
-    if is_invalidated(stored, stamp, tags) {
+    let stale = is_stale(stored, stamp, tags);
+    if stale {
         stored.reach = stored.reach.close_before(stamp);
-        return true;
     }
-    false
+    stale
 }
 
 // Closes the entry at a place just below an event that invalidates it, and returns its new reach.
@@ -71,6 +70,10 @@ fn invalidate_in(
     stamp: Stamp,
     tags: &TagSet,
 ) -> Option<Reach>
+    ensures entries { cache.new.entries ≡ after_at stamp tags.now place.now cache.old.entries }
+    ensures cap { cache.new.cap ≡ cache.old.cap }
+    ensures reach { result
+        ≡ closed_reach stamp tags.now (lookup (equal_places place.now) cache.old.entries) }
 {
     match cache.peek_mut(place) {
         None => None,
@@ -83,25 +86,30 @@ fn invalidate_in(
     }
 }
 
-// The same, in the index of the keys too.
+// The same, in the index of the keys too, and counts it.
 fn invalidate_at(
     cache: &mut LruCache<Place, Stored>,
     keys: &mut KeyIndex,
     place: &Place,
     stamp: Stamp,
     tags: &TagSet,
-) -> bool
+) -> usize
+    requires tied { AreTied cache.old.entries keys.old.versions.entries }
+    ensures tied { AreTied cache.new.entries keys.new.versions.entries }
+    ensures cap { cache.new.cap ≡ cache.old.cap }
+    ensures closes { Closes stamp tags.now cache.old.entries cache.new.entries result }
+    ensures spared { IsSpared stamp tags.now cache.new.entries place.now }
 {
     match invalidate_in(cache, place, stamp, tags) {
-        None => false,
+        None => 0,
         Some(reach) => {
             keys.set(&place.key, reach);
-            true
+            1
         }
     }
 }
 
-// The same at each of these places, and counts the entries that it closes.
+// The same at each of these places.
 fn invalidate_each(
     cache: &mut LruCache<Place, Stored>,
     keys: &mut KeyIndex,
@@ -109,12 +117,16 @@ fn invalidate_each(
     stamp: Stamp,
     tags: &TagSet,
 ) -> usize
+    requires tied { AreTied cache.old.entries keys.old.versions.entries }
+    ensures tied { AreTied cache.new.entries keys.new.versions.entries }
+    ensures cap { cache.new.cap ≡ cache.old.cap }
+    ensures closes { Closes stamp tags.now cache.old.entries cache.new.entries result }
+    ensures spared { AllByRecursion (IsSpared stamp tags.now cache.new.entries) places.now }
 {
+    let _len = cache.len();
     let mut count: usize = 0;
     for i in 0..places.len() {
-        if invalidate_at(cache, keys, &places[i], stamp, tags) {
-            count += 1;
-        }
+        count += invalidate_at(cache, keys, &places[i], stamp, tags);
     }
     count
 }
@@ -128,10 +140,37 @@ fn invalidate_rows(
     stamp: Stamp,
     tags: &TagSet,
 ) -> usize
+    requires tied { AreTied cache.old.entries keys.old.versions.entries }
+    ensures tied { AreTied cache.new.entries keys.new.versions.entries }
+    ensures cap { cache.new.cap ≡ cache.old.cap }
+    ensures closes { Closes stamp tags.now cache.old.entries cache.new.entries result }
+    ensures spared { (q : Place) → lists_rows buckets.now.entries rows q ≡ true
+        → IsSpared stamp tags.now cache.new.entries q }
 {
     match buckets.get(&rows) {
         None => 0,
         Some(places) => invalidate_each(cache, keys, places.as_slice(), stamp, tags),
+    }
+}
+
+// The same at the places under the rows that a table has at an index.
+fn invalidate_index(
+    cache: &mut LruCache<Place, Stored>,
+    keys: &mut KeyIndex,
+    buckets: &Buckets,
+    i: usize,
+    stamp: Stamp,
+    tags: &TagSet,
+) -> usize
+    requires tied { AreTied cache.old.entries keys.old.versions.entries }
+    ensures tied { AreTied cache.new.entries keys.new.versions.entries }
+    ensures cap { cache.new.cap ≡ cache.old.cap }
+    ensures closes { Closes stamp tags.now cache.old.entries cache.new.entries result }
+    ensures spared { AreSparedAt stamp tags.now cache.new.entries buckets.now.entries i }
+{
+    match buckets.get_index(i) {
+        None => 0,
+        Some((_, places)) => invalidate_each(cache, keys, places.as_slice(), stamp, tags),
     }
 }
 
@@ -143,12 +182,17 @@ fn invalidate_table(
     stamp: Stamp,
     tags: &TagSet,
 ) -> usize
+    requires tied { AreTied cache.old.entries keys.old.versions.entries }
+    ensures tied { AreTied cache.new.entries keys.new.versions.entries }
+    ensures cap { cache.new.cap ≡ cache.old.cap }
+    ensures closes { Closes stamp tags.now cache.old.entries cache.new.entries result }
+    ensures spared { (r : Rows) (q : Place) → lists_rows buckets.now.entries r q ≡ true
+        → IsSpared stamp tags.now cache.new.entries q }
 {
+    let _len = cache.len();
     let mut count: usize = 0;
     for i in 0..buckets.len() {
-        if let Some((_, places)) = buckets.get_index(i) {
-            count += invalidate_each(cache, keys, places.as_slice(), stamp, tags);
-        }
+        count += invalidate_index(cache, keys, buckets, i, stamp, tags);
     }
     count
 }

@@ -1,6 +1,6 @@
 //! The replay of recent events at an insertion.
-ghost use Rattle.std.specs.Prelude.{◌≡◌};
-ghost use Rattle.std.specs.List.{position};
+ghost use Rattle.std.specs.Prelude.{◌≡◌, ◌<◌, ◌≤◌, length, drop};
+ghost use Rattle.std.specs.List.{position, HoldsAt};
 ghost use Rattle.txc_tags.specs.Tags.{sets_match};
 ghost use Rattle.txc_node.specs.Cache.{reach_after_replay};
 
@@ -9,17 +9,29 @@ use circular_buffer::HeapCircularBuffer;
 use txc_stamp::{Reach, Stamp};
 use txc_tags::TagSet;
 
-// The number after the first `missed` of the recent events of the first that matches.
+// Whether the recent event at a place matches.
+fn matches_at(recent: &HeapCircularBuffer<TagSet>, i: usize, tags: &TagSet) -> bool
+    requires { i < length recent.now.items }
+    ensures { HoldsAt (λ t. result ≡ sets_match t tags.now) recent.now.items i }
+{
+    match recent.get(i) {
+        None => false,
+        Some(event) => event.matches(tags),
+    }
+}
+
+// The first that matches of the recent events from a place on, as it is counted from there.
 fn first_match(
     recent: &HeapCircularBuffer<TagSet>,
     from: usize,
     tags: &TagSet,
-) -> Option<usize> {
+) -> Option<usize>
+    requires { from ≤ length recent.now.items }
+    ensures { result ≡ position (λ t. sets_match t tags.now) (drop from recent.now.items) }
+{
     for i in from..recent.len() {
-        if let Some(event) = recent.get(i) {
-            if event.matches(tags) {
-                return Some(i - from);
-            }
+        if matches_at(recent, i, tags) {
+            return Some(i - from);
         }
     }
     None
