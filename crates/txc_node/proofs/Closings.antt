@@ -2,6 +2,9 @@
 use Rattle.std.proofs.Common.{◌≡◌, ℕ, ◌+◌, ◌-◌, Bool, true, false, not, ◌&&◌, ◌||◌, ◌<◌, eqb, get_or, length, suc, cond, List, [], ◌∷◌, map, Option, Some, None, refl, sym, ap, subst, ◌∙◌, arith, ◌⊎◌, inl, inr}
 use Rattle.std.specs.List.{count_by, AllByRecursion}
 use Rattle.std.specs.Map.{lookup, lookup_entry, set_value}
+use Rattle.std.specs.Prelude.{unwrap_or, slice_get}
+use Rattle.std.specs.HashSet.{HashSet}
+use Rattle.txc_tags.specs.declared.tag.Rows.{Rows}
 use Rattle.std.specs.Option.{option_map, option_map_or}
 use Rattle.std.proofs.lemmas.List.Sums.{sum_by-cons}
 use Rattle.std.proofs.lemmas.Bool.{false≢true}
@@ -16,7 +19,7 @@ use Rattle.txc_node.specs.declared.stored.Stored.{Stored}
 use Rattle.txc_node.specs.Places.{place_of, equal_places, equal_places_is}
 use Rattle.txc_node.specs.Entries.{same_place, AreApart}
 use Rattle.txc_node.specs.Cache.{is_invalidated, entry_after}
-use Rattle.txc_node.specs.Indexed.{entry_of, entries_of, entry_at, ArePlaced, entries_under, reaches_under, in_stead, has_place, listed, IndexesKeys, Relists, is_stale, stored_after, closed_reach, after_at, AreTied, Closes, IsSpared, StaySpared}
+use Rattle.txc_node.specs.Indexed.{entry_of, entries_of, entry_at, ArePlaced, entries_under, reaches_under, in_stead, has_place, equal_rows, lists_rows, AreSparedAt, listed, IndexesKeys, Relists, is_stale, stored_after, closed_reach, after_at, AreTied, Closes, IsSpared, StaySpared}
 use Rattle.txc_node.proofs.Apart.{eqb_sym, after_both, after_apart}
 use Rattle.txc_node.proofs.KeyLists.{indexes_by, under_yes, under_no}
 
@@ -316,3 +319,22 @@ among P (x ∷ xs) q h is = (elim (equal_places q x) as (λ b. equal_places q x 
   | true ↦ λ t is. subst P (sym (equal_places_is q x t)) h.0
   | false ↦ λ t is. among P xs q h.1 is
 ]) refl is
+
+pub all_stay : (stamp : ℕ) (tags : List Tag) (old new : List (Place × Stored)) (places : List Place) → StaySpared stamp tags old new → AllByRecursion (IsSpared stamp tags old) places → AllByRecursion (IsSpared stamp tags new) places
+all_stay stamp tags old new [] stay h = tt
+all_stay stamp tags old new (q ∷ places) stay h = (stay q h.0, all_stay stamp tags old new places stay h.1)
+
+module _ {S : Type 0} where
+  -- where a table lists what it finds
+  lookup_index : (test : Rows → Bool) (bs : List (Rows × HashSet Place S)) (b : HashSet Place S) → lookup test bs ≡ Some b → (k : ℕ) × (k < length bs) × (r : Rows) × (slice_get bs k ≡ Some (r, b))
+  lookup_index test [] b h = let none : None ≡ Some b = h in cc
+  lookup_index test (x ∷ bs) b h = (elim (test x.0) as (λ v. cond v (Some x.1) (lookup test bs) ≡ Some b → (k : ℕ) × (k < length (x ∷ bs)) × (r : Rows) × (slice_get (x ∷ bs) k ≡ Some (r, b))) [
+    | true ↦ λ h. let is : Some x.1 ≡ Some b = h in let same : x.1 ≡ b = cc in (0, omega arith, x.0, ap (λ (y : HashSet Place S). Some (x.0, y)) same)
+    | false ↦ λ h. let k = lookup_index test bs b h in (suc k.0, omega (arith, k.1), k.2, k.3)
+  ]) h
+
+  pub table_spared : (stamp : ℕ) (tags : List Tag) (ps : List (Place × Stored)) (bs : List (Rows × HashSet Place S)) (r : Rows) (q : Place) → ((k : ℕ) → k < length bs → AreSparedAt stamp tags ps bs k) → lists_rows bs r q ≡ true → IsSpared stamp tags ps q
+  table_spared stamp tags ps bs r q h l = (elim (lookup (equal_rows r) bs) as (λ f. lookup (equal_rows r) bs ≡ f → has_place (unwrap_or (option_map (λ s. s.keys) f) []) q ≡ true → IsSpared stamp tags ps q) [
+    | None ↦ λ t l. absurd (false≢true l)
+    | Some b ↦ λ t l. let k = lookup_index (equal_rows r) bs b t in among (IsSpared stamp tags ps) b.keys q (h k.0 k.1 (k.2, b) k.3) l
+  ]) refl l

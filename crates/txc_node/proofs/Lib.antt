@@ -14,6 +14,7 @@ pub mod KeyReaches
 pub mod KeyLists
 pub mod Fronts
 pub mod Closings
+pub mod Invalidated
 pub mod Pairs
 pub mod Listing
 mod History

@@ -92,7 +92,7 @@ removed_keeps P test (x ∷ ps) h =
     let go : (v : Bool) → AllByRecursion P (cond v ps (x ∷ remove_entry test ps)) = λ v. elim v as (λ w. AllByRecursion P (cond w ps (x ∷ remove_entry test ps))) [ true ↦ h.1 | false ↦ (h.0, removed_keeps P test ps h.1) ] in
     go (test x.0)
 
-looked_up : (P : Place × Stored → Type 0) (test : Place → Bool) (ps : List (Place × Stored)) (e : Place × Stored) → AllByRecursion P ps → lookup_entry test ps ≡ Some e → P e
+pub looked_up : (P : Place × Stored → Type 0) (test : Place → Bool) (ps : List (Place × Stored)) (e : Place × Stored) → AllByRecursion P ps → lookup_entry test ps ≡ Some e → P e
 looked_up P test [] e h k = cc
 looked_up P test (x ∷ ps) e h k = (elim (test x.0) as (λ v. test x.0 ≡ v → P e) [
   | true ↦ λ t. let k' : Some x ≡ Some e = sym (ap (λ v. cond v (Some x) (lookup_entry test ps)) t) ∙ k in let same : x ≡ e = cc in subst P same h.0

@@ -9,7 +9,7 @@ use Rattle.txc_stamp.specs.Interval.{Interval, end_at, shown, closed_at}
 use Rattle.txc_tags.specs.declared.tag.Rows.{Rows}
 use Rattle.txc_tags.specs.declared.tag.Tag.{Tag}
 use Rattle.txc_tags.specs.contracts.tag.RowsPartialEq.TheImpl as rows_eq
-use Rattle.txc_tags.specs.Tags.{sets_match}
+use Rattle.txc_tags.specs.Tags.{sets_match, tags_match}
 use Rattle.txc_tags.specs.Keys.{Call, same_call}
 use Rattle.txc_node.specs.declared.entry.Entry.{Entry}
 use Rattle.txc_node.specs.declared.hit.Shown.{Shown}
@@ -162,6 +162,10 @@ StaySpared stamp tags old new = (q : Place) → IsSpared stamp tags old q → Is
 -- it invalidates none at the places that a table lists under the rows at an index
 abbrev pub AreSparedAt : {S : Type 0} → ℕ → List Tag → List (Place × Stored) → List (Rows × HashSet Place S) → ℕ → Type 0
 AreSparedAt {S} stamp tags ps bs i = (x : Rows × HashSet Place S) → slice_get bs i ≡ Some x → AllByRecursion (IsSpared stamp tags ps) x.1.keys
+
+-- it invalidates none at the places that are listed under tags which match this one
+abbrev pub AreSparedBy : {S : Type 0} → ℕ → List Tag → List (Place × Stored) → List (HashMap Rows (HashSet Place S) S) → Tag → Type 0
+AreSparedBy stamp tags ps tables tag = (t : Tag) (q : Place) → tags_match tag t ≡ true → lists tables t q ≡ true → IsSpared stamp tags ps q
 
 -- of the old pairs the event has closed n
 pub record Closes (stamp : ℕ) (tags : List Tag) (old new : List (Place × Stored)) (n : ℕ) : Type 0 where

@@ -5,13 +5,15 @@ ghost use Rattle.std.specs.Option.{option_map};
 ghost use Rattle.std.specs.Map.{lookup};
 ghost use Rattle.txc_stamp.specs.Interval.{Interval};
 ghost use Rattle.txc_tags.specs.declared.tag.Tag.{Tag};
-ghost use Rattle.txc_tags.specs.Tags.{tags_match, has_tag};
+ghost use Rattle.txc_tags.specs.declared.tag.Rows.{Rows};
+ghost use Rattle.txc_node.specs.declared.place.Place.{Place};
+ghost use Rattle.txc_tags.specs.Tags.{rows_match, tags_match, has_tag};
 ghost use Rattle.txc_tags.specs.Keys.{Call, same_call};
 ghost use Rattle.txc_node.specs.declared.entry.Entry.{Entry};
 ghost use Rattle.txc_node.specs.Places.{place_of, place_at, equal_places};
 ghost use Rattle.txc_node.specs.Entries.{is_best, others, same_place, AreApart};
 ghost use Rattle.txc_node.specs.Cache.{is_invalidated, entry_after, has_ended};
-ghost use Rattle.txc_node.specs.Indexed.{entry_of, entries_of, entry_at, ArePlaced, entries_under, reaches_under, stored_of, AreOf, IndexesKeys, IsFound, is_stale, stored_after, closed_reach, after_at, AreTied, AreSparedAt, Closes, IsSpared, lists, lists_rows};
+ghost use Rattle.txc_node.specs.Indexed.{entry_of, entries_of, entry_at, ArePlaced, entries_under, reaches_under, stored_of, AreOf, IndexesKeys, IsFound, is_stale, stored_after, closed_reach, after_at, AreTied, AreSparedAt, AreSparedBy, KeepsListed, is_live, Closes, IsSpared, lists, lists_rows};
 
 use crate::entry::Entry;
 use crate::key_index::KeyIndex;
@@ -197,7 +199,7 @@ fn invalidate_table(
     count
 }
 
-// The same at the places that match a tag.
+// The same at the places under rows of a tag's table that match the tag.
 fn invalidate_by(
     cache: &mut LruCache<Place, Stored>,
     keys: &mut KeyIndex,
@@ -206,12 +208,38 @@ fn invalidate_by(
     stamp: Stamp,
     tags: &TagSet,
 ) -> usize
+    requires tied { AreTied cache.old.entries keys.old.versions.entries }
+    ensures tied { AreTied cache.new.entries keys.new.versions.entries }
+    ensures cap { cache.new.cap ≡ cache.old.cap }
+    ensures closes { Closes stamp tags.now cache.old.entries cache.new.entries result }
+    ensures spared { (r : Rows) (q : Place) → rows_match tag.now.rows r ≡ true
+        → lists_rows buckets.now.entries r q ≡ true → IsSpared stamp tags.now cache.new.entries q }
 {
+    let _len = cache.len();
     if tag.is_wildcard() {
         return invalidate_table(cache, keys, buckets, stamp, tags);
     }
     let count = invalidate_rows(cache, keys, buckets, tag.rows, stamp, tags);
     count + invalidate_rows(cache, keys, buckets, Rows::All, stamp, tags)
+}
+
+// The same at the places that match a tag.
+fn invalidate_tag(
+    cache: &mut LruCache<Place, Stored>,
+    keys: &mut KeyIndex,
+    index: &TagIndex,
+    tag: &Tag,
+    stamp: Stamp,
+    tags: &TagSet,
+) -> usize
+    requires tied { AreTied cache.old.entries keys.old.versions.entries }
+    ensures tied { AreTied cache.new.entries keys.new.versions.entries }
+    ensures cap { cache.new.cap ≡ cache.old.cap }
+    ensures closes { Closes stamp tags.now cache.old.entries cache.new.entries result }
+    ensures spared { AreSparedBy stamp tags.now cache.new.entries index.now.tables.items tag.now }
+{
+    let buckets = index.of_table(tag);
+    invalidate_by(cache, keys, buckets, tag, stamp, tags)
 }
 
 // The same at the places that match one of the event's tags.
@@ -222,17 +250,26 @@ fn invalidate_all(
     stamp: Stamp,
     tags: &TagSet,
 ) -> usize
+    requires tied { AreTied cache.old.entries keys.old.versions.entries }
+    ensures tied { AreTied cache.new.entries keys.new.versions.entries }
+    ensures cap { cache.new.cap ≡ cache.old.cap }
+    ensures closes { Closes stamp tags.now cache.old.entries cache.new.entries result }
+    ensures spared { AllByRecursion
+        (AreSparedBy stamp tags.now cache.new.entries index.now.tables.items) tags.now }
 {
+    let _len = cache.len();
     let mut count: usize = 0;
     for tag in tags.tags() {
-        let buckets = index.of_table(tag);
-        count += invalidate_by(cache, keys, buckets, tag, stamp, tags);
+        count += invalidate_tag(cache, keys, index, tag, stamp, tags);
     }
     count
 }
 
 // Keeps in the index of the tags of an event those places at which still valid entries stand.
-fn clean_all(index: &mut TagIndex, cache: &LruCache<Place, Stored>, tags: &TagSet) {
+fn clean_all(index: &mut TagIndex, cache: &LruCache<Place, Stored>, tags: &TagSet)
+    ensures { KeepsListed (λ t q. is_live cache.now.entries q ≡ true)
+        index.old.tables.items index.new.tables.items }
+{
     for tag in tags.tags() {
         index.clean(tag, cache);
     }
