@@ -110,7 +110,7 @@ module _ (stamp : ℕ) (tags : List Tag) where
       let T : Entry → Type 0 = λ o. o.reach.still ≡ true → AllByRecursion (λ t. lists tables t (place_of o) ≡ true) o.tags in
       (elim (is_invalidated stamp tags e) as (λ b. T (cond b (record e { reach = closed_at (stamp - 1) e.reach }) e)) [ true ↦ (λ still. absurd (false≢true still)) | false ↦ h.0 ], tags_after tables es h.1)
 
-kept_tags : {S : Type 0} (tables new : List (HashMap Rows (HashSet Place S) S)) (q : Place) (ts : List Tag) → ((t : Tag) → lists tables t q ≡ true → lists new t q ≡ true) → AllByRecursion (λ t. lists tables t q ≡ true) ts → AllByRecursion (λ t. lists new t q ≡ true) ts
+pub kept_tags : {S : Type 0} (tables new : List (HashMap Rows (HashSet Place S) S)) (q : Place) (ts : List Tag) → ((t : Tag) → lists tables t q ≡ true → lists new t q ≡ true) → AllByRecursion (λ t. lists tables t q ≡ true) ts → AllByRecursion (λ t. lists new t q ≡ true) ts
 kept_tags tables new q [] k h = tt
 kept_tags tables new q (t ∷ ts) k h = (k t h.0, kept_tags tables new q ts k h.1)
 

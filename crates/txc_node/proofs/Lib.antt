@@ -15,6 +15,7 @@ pub mod KeyLists
 pub mod Fronts
 pub mod Closings
 pub mod Invalidated
+pub mod Lasts
 pub mod Pairs
 pub mod Listing
 mod History

@@ -27,12 +27,16 @@ module _ {X : Type 0} (p : X → Bool) where
   counted_here [] n d l h t = absurd (omega arith)
   counted_here (x ∷ xs) zero d l h t = ap (λ b. cond (not b) (1 + position_or_len p xs) 0) t
   counted_here (x ∷ xs) (suc n) d l h t =
-      ap (λ b. cond (not b) (1 + position_or_len p xs) 0) (h 0 (omega arith)) ∙ ap (λ m. 1 + m) (counted_here xs n d (omega arith) (λ k below. h (suc k) (omega arith)) t)
+      let rest = counted_here xs n d (omega arith) (λ k below. h (suc k) (omega arith)) t in
+      let more : 1 + position_or_len p xs ≡ suc n = omega (arith, rest) in
+      ap (λ b. cond (not b) (1 + position_or_len p xs) 0) (h 0 (omega arith)) ∙ more
 
   counted_all : (xs : List X) → ((k : ℕ) → k < length xs → (d : X) → p (get_or xs k d) ≡ false) → position_or_len p xs ≡ length xs
   counted_all [] h = refl
   counted_all (x ∷ xs) h =
-      ap (λ b. cond (not b) (1 + position_or_len p xs) 0) (h 0 (omega arith) x) ∙ ap (λ m. 1 + m) (counted_all xs (λ k below d. h (suc k) (omega arith) d))
+      let rest = counted_all xs (λ k below d. h (suc k) (omega arith) d) in
+      let more : 1 + position_or_len p xs ≡ suc (length xs) = omega (arith, rest) in
+      ap (λ b. cond (not b) (1 + position_or_len p xs) 0) (h 0 (omega arith) x) ∙ more
 
   -- the first that passes from a place on
   pub position_from_here : (xs : List X) (from i : ℕ) (d : X) → from ≤ i → i < length xs → ((k : ℕ) → k < i → from ≤ k → (e : X) → p (get_or xs k e) ≡ false) → p (get_or xs i d) ≡ true

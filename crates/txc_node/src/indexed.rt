@@ -1,5 +1,5 @@
 //! The entries of a node, with what finds them.
-ghost use Rattle.std.specs.Prelude.{List, ◌≡◌, ◌+◌, ◌<◌, ◌≤◌, [], ◌∷◌, ◌++◌, length, map, take, not, true, false, Some, None, OnOk, OnErr, IfOk, IfErr, if◌then◌else◌, slice_get, option_copied};
+ghost use Rattle.std.specs.Prelude.{List, ◌≡◌, ◌+◌, ◌-◌, ◌<◌, ◌≤◌, [], ◌∷◌, ◌++◌, length, map, take, not, true, false, Some, None, OnOk, OnErr, IfOk, IfErr, if◌then◌else◌, slice_get, option_copied};
 ghost use Rattle.std.specs.List.{find, filter, count_by, AllByRecursion};
 ghost use Rattle.std.specs.Option.{option_map};
 ghost use Rattle.std.specs.Map.{lookup};
@@ -13,7 +13,7 @@ ghost use Rattle.txc_node.specs.declared.entry.Entry.{Entry};
 ghost use Rattle.txc_node.specs.Places.{place_of, place_at, equal_places};
 ghost use Rattle.txc_node.specs.Entries.{is_best, others, same_place, AreApart};
 ghost use Rattle.txc_node.specs.Cache.{is_invalidated, entry_after, has_ended};
-ghost use Rattle.txc_node.specs.Indexed.{entry_of, entries_of, entry_at, ArePlaced, entries_under, reaches_under, stored_of, AreOf, IndexesKeys, IsFound, is_stale, stored_after, closed_reach, after_at, AreTied, AreSparedAt, AreSparedBy, KeepsListed, is_live, Closes, IsSpared, lists, lists_rows};
+ghost use Rattle.txc_node.specs.Indexed.{entry_of, entries_of, entry_at, ArePlaced, entries_under, reaches_under, stored_of, AreOf, listed, Relists, IsIndexed, IndexesKeys, IsFound, is_stale, stored_after, closed_reach, after_at, AreTied, AreSparedAt, AreSparedBy, KeepsListed, is_live, Closes, IsSpared, lists, lists_rows};
 
 use crate::entry::Entry;
 use crate::key_index::KeyIndex;
@@ -275,6 +275,31 @@ fn clean_all(index: &mut TagIndex, cache: &LruCache<Place, Stored>, tags: &TagSe
     }
 }
 
+// Takes off the indexes what names an entry that was dropped from the end.
+fn forget_last(keys: &mut KeyIndex, index: &mut TagIndex, place: &Place, tags: &TagSet)
+    ensures keys { let rs = listed keys.old.versions.entries place.now.key in
+        Relists place.now.key (take (length rs - 1) rs)
+        keys.old.versions.entries keys.new.versions.entries }
+    ensures tags { KeepsListed (λ t q. equal_places place.now q ≡ false)
+        index.old.tables.items index.new.tables.items }
+{
+    keys.drop_last(&place.key);
+    index.unlist(tags, place);
+}
+
+// Drops the last entry.
+fn drop_last(cache: &mut LruCache<Place, Stored>, keys: &mut KeyIndex, index: &mut TagIndex)
+    requires { IsIndexed cache.old.entries keys.old.versions.entries index.old.tables.items }
+    ensures indexed { IsIndexed cache.new.entries keys.new.versions.entries index.new.tables.items }
+    ensures entries { cache.new.entries
+        ≡ take (length cache.old.entries - 1) cache.old.entries }
+    ensures cap { cache.new.cap ≡ cache.old.cap }
+{
+    if let Some((place, stored)) = cache.pop_lru() {
+        forget_last(keys, index, &place, &stored.tags);
+    }
+}
+
 impl IndexedEntries {
     /// No entries, and room for `capacity`.
     pub(crate) fn new(alloc: Global, capacity: NonZeroUsize) -> Result<IndexedEntries, AllocError> {
@@ -357,12 +382,6 @@ impl IndexedEntries {
         }
     }
 
-    // Takes off the indexes what names an entry that was dropped from the end.
-    fn forget_last(&mut self, place: &Place, tags: &TagSet) {
-        self.keys.drop_last(&place.key);
-        self.tags.unlist(tags, place);
-    }
-
     // Lists a new entry in the indexes. Out of memory changes nothing in that of the keys.
     fn list_new(&mut self, place: &Place, stored: &Stored) -> Result<(), AllocError> {
         if stored.reach.is_still() {
@@ -394,7 +413,7 @@ impl IndexedEntries {
             }
             Ok(None) => Ok(None),
             Ok(Some((place, stored))) => {
-                self.forget_last(&place, &stored.tags);
+                forget_last(&mut self.keys, &mut self.tags, &place, &stored.tags);
                 Ok(Some(join(place, stored)))
             }
         }
@@ -478,9 +497,7 @@ impl IndexedEntries {
             self.keys.bring_last_first(&place.key);
             return;
         }
-        if let Some((place, stored)) = self.cache.pop_lru() {
-            self.forget_last(&place, &stored.tags);
-        }
+        drop_last(&mut self.cache, &mut self.keys, &mut self.tags);
     }
 
     /// Drops the entries whose span ends at the horizon or before it, and counts them.
