@@ -1,7 +1,8 @@
 -- The entry that stands last.
-use Rattle.std.proofs.Common.{◌≡◌, ℕ, ◌+◌, ◌-◌, Bool, true, false, cond, List, [], ◌∷◌, ◌++◌, map, length, take, Option, Some, None, refl, sym, ap, subst, ◌∙◌, arith, suc, zero, length-append}
+use Rattle.std.proofs.Common.{◌≡◌, ℕ, ◌+◌, ◌-◌, Bool, true, false, cond, List, [], ◌∷◌, ◌++◌, map, length, get_or, take, Option, Some, None, refl, sym, ap, subst, ◌∙◌, arith, suc, zero, length-append}
 use Rattle.std.specs.Prelude.{slice_get}
 use Rattle.std.specs.List.{AllByRecursion}
+use Rattle.std.proofs.lemmas.Option.{slice_get-get_or}
 use Rattle.std.specs.HashMap.{HashMap}
 use Rattle.std.specs.HashSet.{HashSet}
 use Rattle.txc_stamp.specs.Interval.{Interval}
@@ -36,6 +37,11 @@ split_at (suc n) (y ∷ xs) x l h = ap (λ ys. y ∷ ys) (split_at n xs x (omega
 pub last_split : {X : Type 0} (xs : List X) (x : X) → slice_get xs (length xs - 1) ≡ Some x → xs ≡ take (length xs - 1) xs ++ x ∷ []
 last_split [] x h = let none : None ≡ Some x = h in cc
 last_split (y ∷ xs) x h = split_at (length (y ∷ xs) - 1) (y ∷ xs) x (omega arith) h
+
+-- a list with no last is empty
+pub no_last : {X : Type 0} (xs : List X) → slice_get xs (length xs - 1) ≡ None → take (length xs - 1) xs ≡ xs
+no_last [] h = refl
+no_last (y ∷ xs) h = let some : Some (get_or (y ∷ xs) (length (y ∷ xs) - 1) y) ≡ None = sym (slice_get-get_or (y ∷ xs) (length (y ∷ xs) - 1) y (omega arith)) ∙ h in cc
 
 pub entries_last : (ps : List (Place × Stored)) (x : Place × Stored) → entries_of (ps ++ x ∷ []) ≡ entries_of ps ++ entry_of x ∷ []
 entries_last [] x = refl

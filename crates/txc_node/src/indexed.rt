@@ -1,9 +1,11 @@
 //! The entries of a node, with what finds them.
-ghost use Rattle.std.specs.Prelude.{List, ◌≡◌, ◌+◌, ◌-◌, ◌<◌, ◌≤◌, [], ◌∷◌, ◌++◌, length, map, take, not, true, false, Some, None, OnOk, OnErr, IfOk, IfErr, if◌then◌else◌, slice_get, option_copied};
+ghost use Rattle.std.specs.Prelude.{List, unwrap_or, nat_lt, ◌≡◌, ◌+◌, ◌-◌, ◌<◌, ◌≤◌, [], ◌∷◌, ◌++◌, length, map, take, not, true, false, Some, None, OnOk, OnErr, IfOk, IfErr, if◌then◌else◌, slice_get, option_copied};
 ghost use Rattle.std.specs.List.{find, filter, count_by, AllByRecursion};
 ghost use Rattle.std.specs.Option.{option_map};
 ghost use Rattle.std.specs.Map.{lookup};
-ghost use Rattle.txc_stamp.specs.Interval.{Interval};
+ghost use Rattle.std.specs.NonZero.{non_zero_usize_get};
+ghost use Rattle.txc_stamp.specs.Interval.{Interval, end_at};
+ghost use Rattle.lru.specs.LruCache.{last_entry};
 ghost use Rattle.txc_tags.specs.declared.tag.Tag.{Tag};
 ghost use Rattle.txc_tags.specs.declared.tag.Rows.{Rows};
 ghost use Rattle.txc_node.specs.declared.place.Place.{Place};
@@ -300,9 +302,38 @@ fn drop_last(cache: &mut LruCache<Place, Stored>, keys: &mut KeyIndex, index: &m
     }
 }
 
+// Whether the last entry's span ends after the horizon; none's does not.
+fn last_stays(cache: &LruCache<Place, Stored>, processed: Stamp, horizon: Stamp) -> bool
+    ensures { result ≡ unwrap_or (option_map (λ p. nat_lt horizon (end_at processed p.1.reach))
+        (last_entry cache.now.entries)) false }
+{
+    match cache.peek_lru() {
+        None => false,
+        Some((_, stored)) => horizon.number() < stored.reach.end(processed),
+    }
+}
+
+// Moves the last entry to the front.
+fn last_first(cache: &mut LruCache<Place, Stored>, keys: &mut KeyIndex, index: &TagIndex)
+    requires { IsIndexed cache.old.entries keys.old.versions.entries index.now.tables.items }
+    ensures indexed { IsIndexed cache.new.entries keys.new.versions.entries index.now.tables.items }
+    ensures entries { (e : Entry) → last_entry (entries_of cache.old.entries) ≡ Some e
+        → entries_of cache.new.entries ≡ e ∷ others e (entries_of cache.old.entries) }
+    ensures cap { cache.new.cap ≡ cache.old.cap }
+{
+    if let Some((place, _)) = cache.peek_lru() {
+        let place = place.copy();
+        cache.promote(&place);
+        keys.bring_last_first(&place.key);
+    }
+}
+
 impl IndexedEntries {
     /// No entries, and room for `capacity`.
-    pub(crate) fn new(alloc: Global, capacity: NonZeroUsize) -> Result<IndexedEntries, AllocError> {
+    pub(crate) fn new(alloc: Global, capacity: NonZeroUsize) -> Result<IndexedEntries, AllocError>
+        ensures { IfOk result (λ x. x
+            ≡ record { entries = []; capacity = non_zero_usize_get capacity }) }
+    {
         let tags = TagIndex::new(alloc)?;
         let cache = LruCache::sparse(alloc, capacity)?;
         Ok(IndexedEntries {
@@ -485,21 +516,6 @@ impl IndexedEntries {
         count
     }
 
-    // Drops the last entry if its span ends at the horizon or before it, and else moves it to the front.
-    fn sweep_last(&mut self, processed: Stamp, horizon: Stamp)
-    {
-        let Some((place, stored)) = self.cache.peek_lru() else {
-            return;
-        };
-        if stored.reach.end(processed) > horizon.number() {
-            let place = place.copy();
-            self.cache.promote(&place);
-            self.keys.bring_last_first(&place.key);
-            return;
-        }
-        drop_last(&mut self.cache, &mut self.keys, &mut self.tags);
-    }
-
     /// Drops the entries whose span ends at the horizon or before it, and counts them.
     pub(crate) fn drop_ended(&mut self, processed: Stamp, horizon: Stamp) -> usize
         ensures entries { self.new.entries
@@ -509,7 +525,11 @@ impl IndexedEntries {
     {
         let before = self.cache.len();
         for _ in 0..before {
-            self.sweep_last(processed, horizon);
+            if last_stays(&self.cache, processed, horizon) {
+                last_first(&mut self.cache, &mut self.keys, &self.tags);
+            } else {
+                drop_last(&mut self.cache, &mut self.keys, &mut self.tags);
+            }
         }
         before - self.cache.len()
     }
