@@ -1,6 +1,6 @@
 -- The entry that stands last.
-use Rattle.std.proofs.Common.{◌≡◌, ℕ, ◌+◌, ◌-◌, Bool, true, false, cond, List, [], ◌∷◌, ◌++◌, map, length, get_or, take, Option, Some, None, refl, sym, ap, subst, ◌∙◌, arith, suc, zero, length-append}
-use Rattle.std.specs.Prelude.{slice_get}
+use Rattle.std.proofs.Common.{◌≡◌, ℕ, ◌+◌, ◌-◌, Bool, true, false, not, cond, List, [], ◌∷◌, ◌++◌, map, length, get_or, take, Option, Some, None, refl, sym, ap, subst, ◌∙◌, arith, suc, zero, length-append}
+use Rattle.std.specs.Prelude.{slice_get, remove}
 use Rattle.std.specs.List.{AllByRecursion}
 use Rattle.std.proofs.lemmas.Option.{slice_get-get_or}
 use Rattle.std.specs.HashMap.{HashMap}
@@ -8,14 +8,18 @@ use Rattle.std.specs.HashSet.{HashSet}
 use Rattle.txc_stamp.specs.Interval.{Interval}
 use Rattle.txc_tags.specs.declared.tag.Rows.{Rows}
 use Rattle.txc_tags.specs.declared.tag.Tag.{Tag}
-use Rattle.txc_tags.specs.Keys.{Call}
+use Rattle.txc_tags.specs.Keys.{Call, same_call}
 use Rattle.txc_node.specs.declared.entry.Entry.{Entry}
 use Rattle.txc_node.specs.declared.place.Place.{Place}
 use Rattle.txc_node.specs.declared.stored.Stored.{Stored}
-use Rattle.txc_node.specs.Places.{place_of, equal_places}
-use Rattle.txc_node.specs.Entries.{same_place, AreApart}
-use Rattle.txc_node.specs.Indexed.{entry_of, entries_of, ArePlaced, reaches_under, listed, IndexesKeys, IndexesTags, Relists, KeepsListed, lists, IsIndexed}
-use Rattle.txc_node.proofs.KeyLists.{reaches_last, dropped_last}
+use Rattle.txc_node.specs.Places.{place_of, place_at, equal_places}
+use Rattle.txc_node.specs.Entries.{same_place, others, AreApart}
+use Rattle.txc_node.specs.Indexed.{entry_of, entries_of, ArePlaced, entries_under, reaches_under, listed, IndexesKeys, IndexesTags, Relists, KeepsListed, lists, IsIndexed}
+use Rattle.txc_node.proofs.KeyLists.{reaches_last, dropped_last, under_last, under_yes}
+use Rattle.txc_node.proofs.Fronts.{brought, brought_indexed}
+use Rattle.txc_node.proofs.Apart.{same_place_self, same_place_sym}
+use Rattle.txc_tags.proofs.Offered.{same_call_itself}
+use Rattle.lru.specs.LruCache.{promoted}
 use Rattle.txc_node.proofs.Invalidated.{kept_tags}
 
 -- ---- lists and their last
@@ -94,3 +98,48 @@ forgotten {S} front x index new tables new_tables h relists keeps =
       tags = kept_elsewhere tables new_tables x.0 es (at_place x.0 e es (all_last (λ p. p.0 ≡ place_of (entry_of p)) front x h.placed) (last_apart es e apart)) keeps
         (all_front T es e (subst (λ (xs : List Entry). AllByRecursion T xs) split h.tags));
     }
+
+-- ---- the last entry is brought to the front
+
+slice_last : {X : Type 0} (xs : List X) (x : X) → slice_get (xs ++ x ∷ []) (length xs) ≡ Some x
+slice_last [] x = refl
+slice_last (y ∷ xs) x = slice_last xs x
+
+pub last_there : {X : Type 0} (xs : List X) (x : X) → slice_get (xs ++ x ∷ []) (length (xs ++ x ∷ []) - 1) ≡ Some x
+last_there xs x = ap (λ n. slice_get (xs ++ x ∷ []) n) (omega (arith, length-append xs (x ∷ []))) ∙ slice_last xs x
+
+others_last : (es : List Entry) (e : Entry) → AllByRecursion (λ o. same_place e o ≡ false) es → others e (es ++ e ∷ []) ≡ es
+others_last [] e h = ap (λ b. cond (not b) (e ∷ []) []) (same_place_self e)
+others_last (o ∷ es) e h = ap (λ b. cond (not b) (o ∷ others e (es ++ e ∷ [])) (others e (es ++ e ∷ []))) (same_place_sym o e ∙ h.0) ∙ ap (λ xs. o ∷ xs) (others_last es e h.1)
+
+module _ {S : Type 0} (front : List (Place × Stored)) (x : Place × Stored) (index new : List (Call × List Interval)) (tables : List (HashMap Rows (HashSet Place S) S)) where
+  place_last : IsIndexed (front ++ x ∷ []) index tables → x.0 ≡ place_at x.0.key x.1.reach.lo
+  place_last h = all_last (λ p. p.0 ≡ place_of (entry_of p)) front x h.placed
+
+  listed_last : IsIndexed (front ++ x ∷ []) index tables → slice_get (listed index x.0.key) (length (listed index x.0.key) - 1) ≡ Some x.1.reach
+  listed_last h =
+      let indexed : IndexesKeys index (entries_of front ++ entry_of x ∷ []) = subst (λ (xs : List Entry). IndexesKeys index xs) (entries_last front x) h.keys in
+      ap (λ (rs : List Interval). slice_get rs (length rs - 1)) (reaches_last index (entries_of front) (entry_of x) indexed) ∙ last_there (reaches_under x.0.key (entries_of front)) x.1.reach
+
+  pub last_brought : IsIndexed (front ++ x ∷ []) index tables
+      → ((r : Interval) → slice_get (listed index x.0.key) (length (listed index x.0.key) - 1) ≡ Some r → Relists x.0.key (r ∷ remove (listed index x.0.key) (length (listed index x.0.key) - 1)) index new)
+      → IsIndexed (promoted (equal_places x.0) (front ++ x ∷ [])) new tables
+  last_brought h relists =
+      let at = length (listed index x.0.key) - 1 in
+      let there = listed_last h in
+      let under : slice_get (reaches_under x.0.key (entries_of (front ++ x ∷ []))) at ≡ Some x.1.reach = ap (λ (rs : List Interval). slice_get rs at) (sym (h.keys x.0.key)) ∙ there in
+      subst (λ (q : Place). IsIndexed (promoted (equal_places q) (front ++ x ∷ [])) new tables) (sym (place_last h))
+      (brought_indexed (front ++ x ∷ []) index new tables x.0.key at x.1.reach h under (relists x.1.reach there))
+
+  pub last_brought_entries : IsIndexed (front ++ x ∷ []) index tables → entries_of (promoted (equal_places x.0) (front ++ x ∷ [])) ≡ entry_of x ∷ entries_of front
+  last_brought_entries h =
+      let e = entry_of x in
+      let es = entries_of front in
+      let split = entries_last front x in
+      let own : entries_under x.0.key (es ++ e ∷ []) ≡ entries_under x.0.key es ++ e ∷ [] = under_last x.0.key es e ∙ ap (λ ys. entries_under x.0.key es ++ ys) (under_yes x.0.key e [] (same_call_itself x.0.key)) in
+      let under : slice_get (entries_under x.0.key (entries_of (front ++ x ∷ []))) (length (entries_under x.0.key es)) ≡ Some e =
+          ap (λ (xs : List Entry). slice_get (entries_under x.0.key xs) (length (entries_under x.0.key es))) split ∙ ap (λ xs. slice_get xs (length (entries_under x.0.key es))) own ∙ slice_last (entries_under x.0.key es) e in
+      let apart : AreApart (es ++ e ∷ []) = subst AreApart split h.apart in
+      ap (λ (q : Place). entries_of (promoted (equal_places q) (front ++ x ∷ []))) (place_last h)
+      ∙ brought (front ++ x ∷ []) x.0.key (length (entries_under x.0.key es)) e h.placed h.apart under
+      ∙ ap (λ xs. e ∷ xs) (ap (others e) split ∙ others_last es e (last_apart es e apart))

@@ -317,8 +317,9 @@ fn last_stays(cache: &LruCache<Place, Stored>, processed: Stamp, horizon: Stamp)
 fn last_first(cache: &mut LruCache<Place, Stored>, keys: &mut KeyIndex, index: &TagIndex)
     requires { IsIndexed cache.old.entries keys.old.versions.entries index.now.tables.items }
     ensures indexed { IsIndexed cache.new.entries keys.new.versions.entries index.now.tables.items }
-    ensures entries { (e : Entry) → last_entry (entries_of cache.old.entries) ≡ Some e
-        → entries_of cache.new.entries ≡ e ∷ others e (entries_of cache.old.entries) }
+    ensures entries { let es = entries_of cache.old.entries in
+        (e : Entry) → slice_get es (length es - 1) ≡ Some e
+        → entries_of cache.new.entries ≡ e ∷ take (length es - 1) es }
     ensures cap { cache.new.cap ≡ cache.old.cap }
 {
     if let Some((place, _)) = cache.peek_lru() {
