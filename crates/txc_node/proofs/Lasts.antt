@@ -143,3 +143,7 @@ module _ {S : Type 0} (front : List (Place × Stored)) (x : Place × Stored) (in
       ap (λ (q : Place). entries_of (promoted (equal_places q) (front ++ x ∷ []))) (place_last h)
       ∙ brought (front ++ x ∷ []) x.0.key (length (entries_under x.0.key es)) e h.placed h.apart under
       ∙ ap (λ xs. e ∷ xs) (ap (others e) split ∙ others_last es e (last_apart es e apart))
+
+pub none_last : (ps : List (Place × Stored)) (e : Entry) → slice_get ps (length ps - 1) ≡ None → slice_get (entries_of ps) (length (entries_of ps) - 1) ≡ Some e → true ≡ false
+none_last [] e h k = let none : None ≡ Some e = k in cc
+none_last (y ∷ ps) e h k = let some : Some (get_or (y ∷ ps) (length (y ∷ ps) - 1) y) ≡ None = sym (slice_get-get_or (y ∷ ps) (length (y ∷ ps) - 1) y (omega arith)) ∙ h in cc

@@ -16,6 +16,7 @@ pub mod Fronts
 pub mod Closings
 pub mod Invalidated
 pub mod Lasts
+pub mod Turns
 pub mod Pairs
 pub mod Listing
 mod History
