@@ -1,5 +1,5 @@
 -- The entries of a node as they are held, and the indexes that find them. Proofs alone need it.
-use Rattle.std.specs.Prelude.{◌≡◌, ℕ, ◌+◌, ◌-◌, ◌<◌, Bool, true, false, ◌&&◌, ◌||◌, ◌==◌, not, nat_lt, nat_le, if◌then◌else◌, Option, Some, None, unwrap_or, List, [], ◌∷◌, ◌++◌, map, length, take, slice_get}
+use Rattle.std.specs.Prelude.{◌≡◌, ℕ, ◌+◌, ◌-◌, ◌<◌, Bool, true, false, ◌&&◌, ◌||◌, ◌==◌, not, nat_lt, nat_le, if◌then◌else◌, Option, Some, None, unwrap_or, List, [], ◌∷◌, ◌++◌, map, length, take, drop, slice_get}
 use Rattle.std.specs.List.{AllByRecursion, filter, find, list_any, count_by}
 use Rattle.std.specs.Map.{lookup, lookup_entry, set_value}
 use Rattle.std.specs.HashMap.{HashMap}
@@ -187,3 +187,11 @@ pub record IsIndexed {S : Type 0} (ps : List (Place × Stored)) (index : List (C
   pub apart : AreApart (entries_of ps)
   pub keys : IndexesKeys index (entries_of ps)
   pub tags : IndexesTags tables (entries_of ps)
+
+-- what a turn of a sweep leaves of entries whose last is e
+abbrev pub turned : (Entry → Bool) → List Entry → Entry → List Entry
+turned ended es e = if ended e then take (length es - 1) es else e ∷ take (length es - 1) es
+
+-- what it leaves when all but the first m were looked at
+abbrev pub swept_to : (Entry → Bool) → List Entry → ℕ → List Entry
+swept_to ended es m = filter (λ e. not (ended e)) (drop m es) ++ take m es

@@ -15,7 +15,7 @@ ghost use Rattle.txc_node.specs.declared.entry.Entry.{Entry};
 ghost use Rattle.txc_node.specs.Places.{place_of, place_at, equal_places};
 ghost use Rattle.txc_node.specs.Entries.{is_best, others, same_place, AreApart};
 ghost use Rattle.txc_node.specs.Cache.{is_invalidated, entry_after, has_ended};
-ghost use Rattle.txc_node.specs.Indexed.{entry_of, entries_of, entry_at, ArePlaced, entries_under, reaches_under, stored_of, AreOf, listed, Relists, IsIndexed, IndexesKeys, IsFound, is_stale, stored_after, closed_reach, after_at, AreTied, AreSparedAt, AreSparedBy, KeepsListed, is_live, Closes, IsSpared, lists, lists_rows};
+ghost use Rattle.txc_node.specs.Indexed.{entry_of, entries_of, turned, entry_at, ArePlaced, entries_under, reaches_under, stored_of, AreOf, listed, Relists, IsIndexed, IndexesKeys, IsFound, is_stale, stored_after, closed_reach, after_at, AreTied, AreSparedAt, AreSparedBy, KeepsListed, is_live, Closes, IsSpared, lists, lists_rows};
 
 use crate::entry::Entry;
 use crate::key_index::KeyIndex;
@@ -329,6 +329,47 @@ fn last_first(cache: &mut LruCache<Place, Stored>, keys: &mut KeyIndex, index: &
     }
 }
 
+// Drops the last entry if its span ends at the horizon or before it, and else moves it to the front.
+fn sweep_last(
+    cache: &mut LruCache<Place, Stored>,
+    keys: &mut KeyIndex,
+    index: &mut TagIndex,
+    processed: Stamp,
+    horizon: Stamp,
+)
+    requires { IsIndexed cache.old.entries keys.old.versions.entries index.old.tables.items }
+    ensures indexed { IsIndexed cache.new.entries keys.new.versions.entries index.new.tables.items }
+    ensures entries { let es = entries_of cache.old.entries in
+        (e : Entry) → slice_get es (length es - 1) ≡ Some e
+        → entries_of cache.new.entries ≡ turned (has_ended processed horizon) es e }
+    ensures cap { cache.new.cap ≡ cache.old.cap }
+{
+    if last_stays(cache, processed, horizon) {
+        last_first(cache, keys, index);
+    } else {
+        drop_last(cache, keys, index);
+    }
+}
+
+// Drops the entries whose span ends at the horizon or before it.
+fn sweep_all(
+    cache: &mut LruCache<Place, Stored>,
+    keys: &mut KeyIndex,
+    index: &mut TagIndex,
+    processed: Stamp,
+    horizon: Stamp,
+)
+    requires { IsIndexed cache.old.entries keys.old.versions.entries index.old.tables.items }
+    ensures indexed { IsIndexed cache.new.entries keys.new.versions.entries index.new.tables.items }
+    ensures entries { entries_of cache.new.entries
+        ≡ filter (λ e. not (has_ended processed horizon e)) (entries_of cache.old.entries) }
+    ensures cap { cache.new.cap ≡ cache.old.cap }
+{
+    for i in 0..cache.len() {
+        sweep_last(cache, keys, index, processed, horizon);
+    }
+}
+
 impl IndexedEntries {
     /// No entries, and room for `capacity`.
     pub(crate) fn new(alloc: Global, capacity: NonZeroUsize) -> Result<IndexedEntries, AllocError>
@@ -525,13 +566,7 @@ impl IndexedEntries {
         ensures count { result ≡ count_by (has_ended processed horizon) self.old.entries }
     {
         let before = self.cache.len();
-        for _ in 0..before {
-            if last_stays(&self.cache, processed, horizon) {
-                last_first(&mut self.cache, &mut self.keys, &self.tags);
-            } else {
-                drop_last(&mut self.cache, &mut self.keys, &mut self.tags);
-            }
-        }
+        sweep_all(&mut self.cache, &mut self.keys, &mut self.tags, processed, horizon);
         before - self.cache.len()
     }
 }
