@@ -114,7 +114,7 @@ removed_length test (x ∷ ps) e h = (elim (test x.0) as (λ v. test x.0 ≡ v �
 
 -- ---- what is put
 
-entries_take : (n : ℕ) (ps : List (Place × Stored)) → entries_of (take n ps) ≡ take n (entries_of ps)
+pub entries_take : (n : ℕ) (ps : List (Place × Stored)) → entries_of (take n ps) ≡ take n (entries_of ps)
 entries_take zero ps = refl
 entries_take (suc n) [] = refl
 entries_take (suc n) (x ∷ ps) = ap (λ ys. entry_of x ∷ ys) (entries_take n ps)
