@@ -1,7 +1,8 @@
 -- The functions of the program: what each asks, and gives, by its arguments and the answers so far.
-use Rattle.std.specs.Prelude.{ℕ, ◌==◌, if◌then◌else◌, List, [], ◌∷◌, ◌++◌, Option, Some, None}
+use Rattle.std.specs.Prelude.{ℕ, ◌==◌, if◌then◌else◌, List, [], ◌∷◌, ◌++◌, length, Option, Some, None}
+use Rattle.std.specs.Fmt.{decimal}
 use Rattle.txc_rows.specs.Values.{RowValue}
-use Rattle.txc_rows.specs.declared.query.Query.TheVariants.{ById, ByGroup}
+use Rattle.txc_rows.specs.declared.query.Query.TheVariants.{ById, ByGroup, All}
 use Rattle.txc_shared.specs.declared.ask.Ask.{Ask}
 use Rattle.txc_shared.specs.declared.ask.Ask.TheVariants.{Query, Call, Done}
 use Rattle.txc_shared.specs.declared.ask.Answer.{Answer}
@@ -42,6 +43,12 @@ bodies_and_body (group ∷ id ∷ []) (a ∷ []) = Some (Query (ById TABLE id))
 bodies_and_body (group ∷ id ∷ []) (a ∷ b ∷ more) = Some (Done (bytes_in a ++ 59 ∷ body_of (rows_in b)))
 bodies_and_body args given = None
 
+-- 3: the number of rows, in decimal
+abbrev pub row_count : List ℕ → List Answer → Option Ask
+row_count [] [] = Some (Query (All TABLE))
+row_count [] (a ∷ more) = Some (Done (decimal (length (rows_in a))))
+row_count (arg ∷ args) given = None
+
 -- 4: it calls itself
 abbrev pub itself : List ℕ → List Answer → Option Ask
 itself [] given = Some (Call (call_of 4 []))
@@ -62,6 +69,7 @@ program f =
     if f == 0 then body_at
     else (if f == 1 then bodies_in
     else (if f == 2 then bodies_and_body
+    else (if f == 3 then row_count
     else (if f == 4 then itself
     else (if f == 5 then again
-    else refuses))))
+    else refuses)))))

@@ -5,17 +5,21 @@
 //! activation ends.
 #![tactic(auto)]
 
-mod body_at;
 mod bodies_and_body;
+mod bodies_in;
+mod body_at;
 mod definition;
 mod endless;
 mod function;
 mod held;
 mod program;
+mod row_count;
 
 pub use bodies_and_body::BodiesAndBody;
+pub use bodies_in::BodiesIn;
 pub use body_at::BodyAt;
 pub use definition::Definition;
 pub use endless::{Again, Itself};
 pub use function::Function;
 pub use program::Program;
+pub use row_count::RowCount;
