@@ -9,6 +9,8 @@ mod calling;
 #[cfg(test)]
 mod node;
 #[cfg(test)]
+mod permits;
+#[cfg(test)]
 mod script;
 #[cfg(test)]
 mod stamp;
