@@ -14,6 +14,8 @@ mod db;
 #[cfg(test)]
 mod errors;
 #[cfg(test)]
+mod functions;
+#[cfg(test)]
 mod rows;
 #[cfg(test)]
 mod run;

@@ -1,0 +1,52 @@
+-- A call that a machine runs.
+use Rattle.std.specs.Prelude.{◌≡◌, ◌≢◌, ◌++◌, ℕ, List, [], ◌∷◌, Option, Some, None}
+use Rattle.txc_tags.specs.Keys.{Call}
+use Rattle.txc_node.specs.declared.hit.Shown.{Shown}
+use Rattle.txc_db.specs.History.{History}
+use Rattle.txc_shared.specs.declared.ask.Ask.{Ask}
+use Rattle.txc_shared.specs.declared.ask.Answer.TheVariants as answers
+use Rattle.txc_shared.specs.Eval.{Next}
+use Rattle.txc_registry.specs.Objects.{Objects, AllIdle}
+use Rattle.txc_call.specs.declared.frame.Frame.{Frame}
+use Rattle.txc_call.specs.declared.need.Need.{Need}
+use Rattle.txc_call.specs.declared.need.Need.TheVariants as needs
+use Rattle.txc_call.specs.Frames.{answers_in, given}
+use Rattle.txc_call.specs.Needs.{InNeed, IsUnreached, NeedFits, NeedHolds, NeedOf}
+
+-- the call, how often all its activations asked, its open frames, innermost first, and what it needs, while it is open
+pub record Calling : Type 0 where
+  pub top : Call
+  pub asked : ℕ
+  pub frames : List Frame
+  pub need : Option Need
+
+-- a call that was just started
+abbrev pub started : Call → Calling
+started k = record { top = k; asked = 0; frames = []; need = Some (needs.Lookup k) }
+
+-- no call is open, and all objects are idle
+abbrev pub IsAtRest : Objects → Calling → Type 0
+IsAtRest objects c = (c.frames ≡ []) × AllIdle objects
+
+-- the frames wait for what is needed
+abbrev pub IsCalling : Next → Objects → Calling → Type 0
+IsCalling next objects c = NeedFits next objects c.top c.need c.frames
+
+-- all answers so far are right in the history
+abbrev pub CallHolds : Next → History → Objects → Calling → Type 0
+CallHolds next L objects c = NeedHolds next L objects c.need c.frames
+
+-- the stamp lies in all reaches of the call
+abbrev pub InCall : ℕ → Calling → Type 0
+InCall t c = InNeed t c.need c.frames
+
+-- nothing that was given to the call has a reach
+abbrev pub CallIsUnreached : Calling → Type 0
+CallIsUnreached c = IsUnreached c.need c.frames
+
+-- a hit's value is the value of the call, or the next answer of the innermost frame, which is joined by its reach and its tags
+abbrev pub HitGoes : Next → Objects → List Frame → Call → Shown → Need → Type 0
+HitGoes next objects [] k hit need = need ≡ needs.Value (record { key = k; value = hit.value; reach = Some hit.reach; tags = hit.tags })
+HitGoes next objects (frame ∷ frames) k hit need =
+    (ask : Ask) × (next frame.key.function frame.key.args (answers_in objects frame.key.function ++ answers.Value hit.value ∷ []) ≡ Some ask)
+    × NeedOf ask (given frame (Some hit.reach) hit.tags) need

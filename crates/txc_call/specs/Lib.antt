@@ -1,0 +1,4 @@
+pub mod Reaches
+pub mod Frames
+pub mod Needs
+pub mod Calling

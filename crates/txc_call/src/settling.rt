@@ -1,0 +1,98 @@
+//! From what is asked to what is needed next.
+ghost use Rattle.std.specs.Prelude.{◌≡◌, ◌≢◌, ◌++◌, ◌≤◌, ◌<◌, ℕ, List, [], ◌∷◌, drop, length, IfErr, IfOk, IsErrOf, IsSome, MatchOption, None, OnErr, OnOk, Some};
+ghost use Rattle.txc_db.specs.History.{History};
+ghost use Rattle.txc_shared.specs.Claims.{ValueHolds};
+ghost use Rattle.txc_registry.specs.Objects.{activity_of, AllIdle};
+ghost use Rattle.txc_call.specs.declared.frame.Frame.{Frame};
+ghost use Rattle.txc_call.specs.Frames.{released, AreFew, AreUnreached, FramesHold, InAll, IsOpen, IsRising};
+ghost use Rattle.txc_call.specs.Needs.{InNeed, IsUnreached, IsWaiting, NeedFits, NeedHolds, NeedOf};
+
+use crate::error::CallError;
+use crate::frame::Frame;
+use crate::frames::Frames;
+use crate::need::{Need, Outcome};
+use txc_node::{Entry, Value};
+use txc_registry::{Cacheable, Registry};
+use txc_shared::{Answer, App, Ask};
+use txc_tags::Key;
+
+/// Whether the call may be made: of a function below the innermost frame's, which there is.
+pub(crate) fn check_call<A: App, C: Cacheable>(
+    frames: &Frames,
+    registry: &Registry<A, C>,
+    key: &Key,
+) -> Result<(), CallError>
+    requires { IsOpen A.next registry.now frames.now.top (Ask.Call key.now) frames.now.stack }
+    ensures rising { OnOk result (IsRising key.now.function frames.now.stack) }
+    ensures there { OnOk result (IsSome (activity_of registry.now key.now.function)) }
+{
+    let function = key.function();
+    if let Some(frame) = frames.stack.top() {
+        let caller = frame.key.function();
+        if function >= caller {
+            return Err(CallError::CallOrder(caller, function));
+        }
+    }
+    if !registry.has(function) {
+        return Err(CallError::NoFunction(function));
+    }
+    Ok(())
+}
+
+/// What is needed after the innermost frame asked this. A frame that is done is closed: where it has a reach its value is
+/// inserted first, else the frame around it is given the value at once.
+pub(crate) fn settle<A: App, C: Cacheable>(
+    frames: &mut Frames,
+    registry: &mut Registry<A, C>,
+    ask: Ask,
+) -> Result<Need, CallError>
+    requires open { IsOpen A.next registry.old frames.old.top ask frames.old.stack }
+    requires some { frames.old.stack ≢ [] }
+    requires few { AreFew (drop 1 frames.old.stack) }
+    ensures fits { IfOk result (λ need. NeedFits A.next registry.new frames.new.top (Some need) frames.new.stack) }
+    ensures holds { IfOk result (λ need. (L : History) → FramesHold A.next L registry.old frames.old.stack
+        → NeedHolds A.next L registry.new (Some need) frames.new.stack) }
+    ensures within { IfOk result (λ need. (t : ℕ) → InAll t frames.old.stack → InNeed t (Some need) frames.new.stack) }
+    ensures unreached { IfOk result (λ need. AreUnreached frames.old.stack → IsUnreached (Some need) frames.new.stack) }
+    ensures asked { IfOk result (λ need. (frame : Frame) (rest : List Frame) → frames.old.stack ≡ frame ∷ rest → NeedOf ask frame need) }
+    ensures released { OnErr result (AllIdle (released frames.new.stack registry.new)) }
+    ensures same_top { frames.new.top ≡ frames.old.top }
+{
+    frames.count()?;
+    match ask {
+        Ask::Query(query) => Ok(Need::Query(query)),
+        Ask::Call(key) => {
+            check_call(frames, registry, &key)?;
+            Ok(Need::Lookup(key))
+        }
+        Ask::Done(bytes) => {
+            let Some(value) = Value::new(bytes.into_vec()) else {
+                return Err(CallError::ValueTooLong);
+            };
+            let Frame {
+                key,
+                answers: _,
+                reach,
+                tags,
+            } = frames.close(registry);
+            if let Some(reach) = reach {
+                return Ok(Need::Insert(Entry {
+                    key,
+                    value,
+                    reach,
+                    tags,
+                }));
+            }
+            let Some(_) = frames.stack.top() else {
+                return Ok(Need::Value(Outcome {
+                    key,
+                    value,
+                    reach,
+                    tags,
+                }));
+            };
+            let next = frames.resume(registry, Answer::Value(value), reach, &tags)?;
+            settle(frames, registry, next)
+        }
+    }
+}
