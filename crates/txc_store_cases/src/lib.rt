@@ -14,6 +14,8 @@ mod db;
 #[cfg(test)]
 mod errors;
 #[cfg(test)]
+mod functions;
+#[cfg(test)]
 mod pins;
 #[cfg(test)]
 mod rows;
