@@ -1,0 +1,4 @@
+pub mod Claims
+pub mod Answering
+pub mod OpenFrames
+pub mod Stacks
