@@ -3,3 +3,4 @@ pub mod Answering
 pub mod OpenFrames
 pub mod Stacks
 pub mod Leading
+pub mod Offered
