@@ -2,3 +2,4 @@ pub mod Claims
 pub mod Answering
 pub mod OpenFrames
 pub mod Stacks
+pub mod Keeping

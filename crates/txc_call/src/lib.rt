@@ -4,6 +4,7 @@
 mod error;
 mod frame;
 mod frames;
+mod machine;
 mod need;
 mod reply;
 mod settling;
@@ -12,5 +13,6 @@ mod stack;
 pub use error::CallError;
 pub use frame::Frame;
 pub use frames::MAX_CALL_ASKS;
+pub use machine::CallMachine;
 pub use need::{Need, Outcome};
 pub use reply::Reply;
