@@ -66,7 +66,7 @@ pub idle_there : (objects : Objects) (f : ℕ)
 idle_there [] f free there = absurd (cc)
 idle_there (o ∷ os) f free there =
     idle_by_head f o os (eqb o.0 f) refl (free 0 o (omega arith)) there
-        (idle_there os f (λ k d h. free (suc k) d (omega arith)))
+    (idle_there os f (λ k d h. free (suc k) d (omega arith)))
 
 -- an object that runs an activation which wants an answer may go on
 pub asking_there : (next : Next) (objects : Objects) (f : ℕ) (a : Activation)
@@ -74,4 +74,4 @@ pub asking_there : (next : Next) (objects : Objects) (f : ℕ) (a : Activation)
 asking_there next objects f a here wants =
     let run : Option Activity → Activation = λ (o : Option Activity). activation_in (unwrap_or o idle) in
     subst (λ (o : Option Activity). (o ≡ Some (running (run o))) × WantsAnswer (next_of (next f) (run o)))
-        (sym here) (refl, wants)
+    (sym here) (refl, wants)
