@@ -2,4 +2,5 @@ pub mod Claims
 pub mod Answering
 pub mod OpenFrames
 pub mod Stacks
+pub mod Leading
 pub mod Keeping

@@ -144,7 +144,7 @@ AfterValue next (frame ∷ outer) asked o objects turn =
       (ask : Ask) × (next_ask next objects frame (answers.Value o.value) ≡ Some ask)
       × AskLeads outer asked (given frame o.reach o.tags) ask
       (with_answer objects frame.key.function (answers.Value o.value))
-      (λ idle bytes. AfterValue next outer (asked + 1) (unreached (given frame o.reach o.tags) bytes) idle turn)
+      (λ after bytes. AfterValue next outer (asked + 1) (unreached (given frame o.reach o.tags) bytes) after turn)
       turn
     )
 
@@ -152,7 +152,7 @@ AfterValue next (frame ∷ outer) asked o objects turn =
 abbrev pub AfterAsk : Next → List Frame → ℕ → Frame → Ask → Objects → Turn → Type 0
 AfterAsk next outer asked frame ask objects turn =
     AskLeads outer asked frame ask objects
-    (λ idle bytes. AfterValue next outer (asked + 1) (unreached frame bytes) idle turn) turn
+    (λ after bytes. AfterValue next outer (asked + 1) (unreached frame bytes) after turn) turn
 
 -- an answer, where it holds, and what it depends on
 pub record Held : Type 0 where

