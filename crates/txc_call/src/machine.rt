@@ -2,6 +2,7 @@ ghost use Rattle.std.specs.Prelude.{◌≡◌, ◌≢◌, ◌≤◌, ℕ, [], If
 ghost use Rattle.txc_rows.specs.declared.query.Query.{Query};
 ghost use Rattle.txc_call.specs.declared.need.Need.{Need};
 ghost use Rattle.txc_db.specs.History.{History};
+ghost use Rattle.txc_shared.specs.declared.ask.Ask.TheVariants as asks;
 ghost use Rattle.txc_registry.specs.Objects.{activity_of, AllIdle};
 ghost use Rattle.txc_call.specs.declared.frames.TheConstants.{MAX_CALL_ASKS};
 ghost use Rattle.txc_call.specs.Reaches.{InReach};
@@ -54,7 +55,7 @@ fn deliver<A: App, C: Cacheable>(
     registry: &mut Registry<A, C>,
     outcome: Outcome,
 ) -> Result<Need, CallError>
-    requires waiting { IsWaiting A.next registry.old frames.old.top (Ask.Call outcome.key) frames.old.stack }
+    requires waiting { IsWaiting A.next registry.old frames.old.top (asks.Call outcome.key) frames.old.stack }
     requires common { (t : ℕ) × InReach t outcome.reach × InAll t frames.old.stack }
     ensures answer { AfterValue A.next frames.old.stack frames.old.asked outcome registry.old
         (turn_of result frames.new.stack frames.new.asked registry.new) }
