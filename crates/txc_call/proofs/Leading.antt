@@ -1,19 +1,26 @@
 -- What comes of asks, step by step.
-use Rattle.std.proofs.Common.{◌≡◌, ◌⊎◌, inl, inr, ℕ, ◌+◌, ◌<◌, ◌≤◌, Bool, true, false, nat_le, List, [], ◌∷◌, length, Option, Some, None, Err, refl, sym, ap, subst, ◌∙◌, arith}
+use Rattle.std.proofs.Common.{◌≡◌, ◌≢◌, ◌⊎◌, inl, inr, ℕ, ◌+◌, ◌<◌, ◌≤◌, Bool, true, false, nat_le, List, [], ◌∷◌, length, Option, Some, None, Err, refl, sym, ap, subst, ◌∙◌, arith}
 use Rattle.std.proofs.lemmas.Bool.Decides.{nat_tests}
 use Rattle.std.specs.Prelude.{Result, Ok}
 use Rattle.std.specs.Result.{result_err}
+use Rattle.txc_stamp.specs.Interval.{Interval}
 use Rattle.txc_tags.proofs.Offered.{bool_cases}
 use Rattle.txc_node.specs.declared.value.TheConstants.{MAX_VALUE_LEN}
 use Rattle.txc_shared.specs.declared.app.TheConstants.{MAX_ASKS}
 use Rattle.txc_shared.specs.declared.ask.Ask.{Ask}
+use Rattle.txc_shared.specs.declared.ask.Ask.TheVariants as asks
+use Rattle.txc_shared.specs.declared.ask.Answer.TheVariants as answers
+use Rattle.txc_shared.specs.Eval.{Next}
 use Rattle.txc_registry.specs.declared.cacheable.CallFault.{CallFault}
 use Rattle.txc_registry.specs.declared.cacheable.CallFault.TheVariants as faults
-use Rattle.txc_registry.specs.Objects.{Objects}
+use Rattle.txc_registry.specs.Activity.{idle}
+use Rattle.txc_registry.specs.Objects.{Objects, with_activity}
 use Rattle.txc_call.specs.declared.error.CallError.{CallError}
 use Rattle.txc_call.specs.declared.error.CallError.TheVariants as errors
 use Rattle.txc_call.specs.declared.frame.Frame.{Frame}
-use Rattle.txc_call.specs.Turns.{Turn, Onward, count_refusal, value_refusal, ask_refusal, error_of, AllowedLeads, AskLeads, IsBeginRefusal, IsOutOfMemory, UnlessRefused}
+use Rattle.txc_call.specs.declared.need.Outcome.{Outcome}
+use Rattle.txc_call.specs.Frames.{given}
+use Rattle.txc_call.specs.Turns.{Turn, Onward, count_refusal, value_refusal, ask_refusal, error_of, next_ask, unreached, with_answer, AfterAsk, AfterValue, AllowedLeads, AskLeads, DoneLeads, IsBeginRefusal, IsOutOfMemory, UnlessRefused}
 
 -- ---- refusals
 
@@ -63,6 +70,39 @@ pub long_by : (bytes : List ℕ) → MAX_VALUE_LEN < length bytes → Some error
 long_by bytes long =
     let is : nat_le (length bytes) MAX_VALUE_LEN ≡ false = grind (arith, nat_tests) in
     rw is refl
+
+-- ---- values
+
+module _ (next : Next) (asked : ℕ) where
+  -- a frame that is done without a reach
+  pub done_onward : (outer : List Frame) (frame : Frame) (bytes : List ℕ) (objects : Objects) (turn : Turn)
+      → None ≡ count_refusal frame.answers asked → None ≡ value_refusal bytes → frame.reach ≡ None
+      → AfterValue next outer (asked + 1) (unreached frame bytes) (with_activity objects frame.key.function idle) turn
+      → AfterAsk next outer asked frame (asks.Done bytes) objects turn
+  done_onward outer frame bytes objects turn counted short none value =
+      let goes_on : Onward = λ after more. AfterValue next outer (asked + 1) (unreached frame more) after turn in
+      asked_for outer asked frame (asks.Done bytes) objects goes_on turn counted short
+      (subst (λ (reach : Option Interval). DoneLeads outer (asked + 1) frame reach bytes (with_activity objects frame.key.function idle) goes_on turn) (sym none) value)
+
+  -- a value that comes to a frame
+  pub value_onward : (frames frames' : List Frame) (o : Outcome) (ask : Ask) (objects objects' : Objects) (turn : Turn) → frames ≢ []
+      → ((frame : Frame) (outer : List Frame) → frames ≡ frame ∷ outer → frames' ≡ given frame o.reach o.tags ∷ outer)
+      → ((frame : Frame) (outer : List Frame) → frames ≡ frame ∷ outer → objects' ≡ with_answer objects frame.key.function (answers.Value o.value))
+      → ((frame : Frame) (outer : List Frame) → frames ≡ frame ∷ outer → next_ask next objects frame (answers.Value o.value) ≡ Some ask)
+      → ((frame : Frame) (outer : List Frame) → frames' ≡ frame ∷ outer → AfterAsk next outer asked frame ask objects' turn)
+      → AfterValue next frames asked o objects turn
+  value_onward [] frames' o ask objects objects' turn some stack becomes asks leads = absurd (some refl)
+  value_onward (frame ∷ outer) frames' o ask objects objects' turn some stack becomes asks leads = inr (
+    ask,
+    asks frame outer refl,
+    subst (λ (os : Objects). AfterAsk next outer asked (given frame o.reach o.tags) ask os turn) (becomes frame outer refl) (leads (given frame o.reach o.tags) outer (stack frame outer refl)),
+  )
+
+  -- a value that finds no memory
+  pub value_out : (frames : List Frame) (o : Outcome) (objects : Objects) (error : CallError) → frames ≢ [] → IsOutOfMemory error
+      → AfterValue next frames asked o objects (Err error)
+  value_out [] o objects error some is = absurd (some refl)
+  value_out (frame ∷ outer) o objects error some is = inl (error, refl, is)
 
 -- ---- an object that did not begin
 
