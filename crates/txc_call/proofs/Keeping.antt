@@ -1,5 +1,5 @@
 -- What comes of a reply keeps the frames and what holds of them.
-use Rattle.std.proofs.Common.{◌≡◌, ◌≢◌, ◌⊎◌, ⊎_elim, ℕ, ◌+◌, ◌<◌, ◌≤◌, nat_le, Bool, true, false, cond, List, [], ◌∷◌, ◌++◌, length, Option, Some, None, IsSome, Ok, Err, sym, refl, ap, subst, ◌∙◌, arith}
+use Rattle.std.proofs.Common.{◌≡◌, ◌≢◌, ◌⊎◌, inl, inr, ⊎_elim, ℕ, ◌+◌, ◌<◌, ◌≤◌, nat_le, Bool, true, false, cond, List, [], ◌∷◌, ◌++◌, length, Option, Some, None, IsSome, Ok, Err, sym, refl, ap, subst, ◌∙◌, arith}
 use Rattle.std.specs.Prelude.{is_some}
 use Rattle.std.proofs.lemmas.Bool.Decides.{nat_tests}
 use Rattle.txc_stamp.specs.Interval.{Interval}
@@ -32,6 +32,7 @@ use Rattle.txc_call.specs.declared.reply.Reply.TheVariants as replies
 use Rattle.txc_call.specs.Reaches.{InReach}
 use Rattle.txc_call.specs.Frames.{answers_in, begun_frame, given, AnswerHolds, AreFew, AreUnreached, FramesHold, InAll, IsOpen, IsRising}
 use Rattle.txc_call.specs.Needs.{reply_reach, InNeed, IsUnreached, IsWaiting, NeedFits, NeedHolds, ReplyHolds}
+use Rattle.txc_call.specs.Calling.{Calling, CallHolds, CallIsUnreached, InCall, IsCalling}
 use Rattle.txc_call.specs.Turns.{Standing, UnlessRefused, count_refusal, call_refusal, value_refusal, ask_refusal, entry_of, outcome_of, unreached, Onward, DoneLeads, AllowedLeads, AskLeads, AfterAsk, AfterMiss, AfterReply, AfterRows, AfterValue, next_ask, with_answer, with_begun}
 use Rattle.txc_call.proofs.Claims.{in_meet, meets_at}
 use Rattle.txc_call.proofs.Answering.{rows_answer, value_answers}
@@ -294,3 +295,120 @@ module _ (next : Next) (top : Call) (law : RightAnswersGiveTheValue) (s : Standi
   reply_keeps frames asked os (needs.Value o) (replies.Hit hit) fits t here all leads = absurd leads
   reply_keeps frames asked os (needs.Value o) (replies.Found found) fits t here all leads = absurd leads
   reply_keeps frames asked os (needs.Value o) replies.Inserted fits t here all leads = absurd leads
+
+-- what a call keeps
+pub record KeepsCall (next : Next) (os : Objects) (c : Calling) (reply : Reply) (s : Standing) : Type 0 where
+  pub fits : NeedFits next s.objects c.top s.need s.frames
+  pub holds : (L : History) (need : Need) → c.need ≡ Some need → ReplyHolds next L need reply → CallHolds next L os c → NeedHolds next L s.objects s.need s.frames
+  pub within : (t : ℕ) → InReach t (reply_reach reply) → InCall t c → InNeed t s.need s.frames
+  pub no_reach : reply_reach reply ≡ None → CallIsUnreached c → IsUnreached s.need s.frames
+
+pub call_keeps : (next : Next) → RightAnswersGiveTheValue → (c : Calling) (os : Objects) (need : Need) (reply : Reply) (s : Standing) → c.need ≡ Some need → IsCalling next os c
+    → (t : ℕ) → InReach t (reply_reach reply) → InCall t c → AfterReply next c.frames c.asked os need reply (Ok s) → KeepsCall next os c reply s
+call_keeps next law c os need reply s is calling t here all leads =
+    let fits : NeedFits next os c.top (Some need) c.frames = subst (λ (n : Option Need). NeedFits next os c.top n c.frames) is calling in
+    let all' : InNeed t (Some need) c.frames = subst (λ (n : Option Need). InNeed t n c.frames) is all in
+    let kept = reply_keeps next c.top law s c.frames c.asked os need reply fits t here all' leads in
+    record {
+      fits = kept.fits;
+      holds = λ L n is_n right hold.
+          let two : Some n ≡ Some need = sym is_n ∙ is in
+          let same : n ≡ need = cc in
+          kept.holds L (subst (λ (m : Need). ReplyHolds next L m reply) same right, subst (λ (o : Option Need). NeedHolds next L os o c.frames) is hold);
+      within = λ t' here' all''. kept.within t' (here', subst (λ (n : Option Need). InNeed t' n c.frames) is all'');
+      no_reach = λ none none'. kept.no_reach (none, subst (λ (n : Option Need). IsUnreached n c.frames) is none');
+    }
+
+-- ---- how often the call asked
+
+module _ (next : Next) (s : Standing) where
+  -- the call is done, or it asked more often than so
+  abbrev Counts : ℕ → Type 0
+  Counts asked = ((o : Outcome) × (s.need ≡ Some (needs.Value o))) ⊎ (asked < s.asked)
+
+  counts_less : (asked : ℕ) → Counts (asked + 1) → Counts asked
+  counts_less asked = ⊎_elim (λ done. inl done) (λ more. inr (omega arith))
+
+  counts_one : (asked : ℕ) → s.asked ≡ asked + 1 → Counts asked
+  counts_one asked is = inr (omega arith)
+
+  done_counts : (outer : List Frame) (asked : ℕ) (frame : Frame) (r : Option Interval) (bytes : List ℕ) (os : Objects) (goes_on : Onward)
+      → ((idle_os : Objects) (bytes : List ℕ) → goes_on idle_os bytes → Counts (asked + 1)) → DoneLeads outer (asked + 1) frame r bytes os goes_on (Ok s) → Counts asked
+  done_counts outer asked frame (Some r) bytes os goes_on on leads =
+      let e : s ≡ record { frames = outer; asked = asked + 1; need = Some (needs.Insert (entry_of frame bytes r)); objects = os } = cc in
+      counts_one asked (ap (λ (st : Standing). st.asked) e)
+  done_counts outer asked frame None bytes os goes_on on leads = counts_less asked (on os bytes leads)
+
+  allowed_counts : (outer : List Frame) (asked : ℕ) (frame : Frame) (ask : Ask) (os : Objects) (goes_on : Onward)
+      → ((idle_os : Objects) (bytes : List ℕ) → goes_on idle_os bytes → Counts (asked + 1)) → AllowedLeads outer (asked + 1) frame ask os goes_on (Ok s) → Counts asked
+  allowed_counts outer asked frame (asks.Query q) os goes_on on leads =
+      let e : s ≡ record { frames = frame ∷ outer; asked = asked + 1; need = Some (needs.Query q); objects = os } = cc in
+      counts_one asked (ap (λ (st : Standing). st.asked) e)
+  allowed_counts outer asked frame (asks.Call k) os goes_on on leads =
+      let e : s ≡ record { frames = frame ∷ outer; asked = asked + 1; need = Some (needs.Lookup k); objects = os } = cc in
+      counts_one asked (ap (λ (st : Standing). st.asked) e)
+  allowed_counts outer asked frame (asks.Done bytes) os goes_on on leads =
+      done_counts outer asked frame frame.reach bytes (with_activity os frame.key.function idle) goes_on on leads
+
+  ask_counts : (outer : List Frame) (asked : ℕ) (frame : Frame) (ask : Ask) (os : Objects) (goes_on : Onward)
+      → ((idle_os : Objects) (bytes : List ℕ) → goes_on idle_os bytes → Counts (asked + 1)) → AskLeads outer asked frame ask os goes_on (Ok s) → Counts asked
+  ask_counts outer asked frame ask os goes_on on leads =
+      let counted = allowed (count_refusal frame.answers asked) s (UnlessRefused (ask_refusal os frame.key.function ask) (Ok s) (AllowedLeads outer (asked + 1) frame ask os goes_on (Ok s))) leads in
+      let fine = allowed (ask_refusal os frame.key.function ask) s (AllowedLeads outer (asked + 1) frame ask os goes_on (Ok s)) counted.1 in
+      allowed_counts outer asked frame ask os goes_on on fine.1
+
+  value_counts : (frames : List Frame) (asked : ℕ) (o : Outcome) (os : Objects) → AfterValue next frames asked o os (Ok s) → Counts asked
+  value_counts [] asked o os leads =
+      let e : s ≡ record { frames = []; asked = asked; need = Some (needs.Value o); objects = os } = cc in
+      inl (o, ap (λ (st : Standing). st.need) e)
+  value_counts (frame ∷ outer) asked o os leads =
+      let after : Frame = given frame o.reach o.tags in
+      let goes_on : Onward = λ idle_os bytes. AfterValue next outer (asked + 1) (unreached after bytes) idle_os (Ok s) in
+      let os' : Objects = with_answer os frame.key.function (answers.Value o.value) in
+      ⊎_elim
+      (λ no. let no' : Ok s ≡ Err no.0 = no.1 in absurd (cc))
+      (λ (three : (ask : Ask) × (next_ask next os frame (answers.Value o.value) ≡ Some ask) × AskLeads outer asked after ask os' goes_on (Ok s)).
+          ask_counts outer asked after three.0 os' goes_on (λ idle_os bytes leads'. value_counts outer (asked + 1) (unreached after bytes) idle_os leads') three.2)
+      leads
+
+  after_ask_counts : (outer : List Frame) (asked : ℕ) (frame : Frame) (ask : Ask) (os : Objects) → AfterAsk next outer asked frame ask os (Ok s) → Counts asked
+  after_ask_counts outer asked frame ask os leads =
+      ask_counts outer asked frame ask os (λ idle_os bytes. AfterValue next outer (asked + 1) (unreached frame bytes) idle_os (Ok s))
+      (λ idle_os bytes leads'. value_counts outer (asked + 1) (unreached frame bytes) idle_os leads') leads
+
+  rows_count : (frames : List Frame) (asked : ℕ) (found : Found) (os : Objects) → AfterRows next frames asked found os (Ok s) → Counts asked
+  rows_count [] asked found os leads = absurd leads
+  rows_count (frame ∷ outer) asked found os leads =
+      let after : Frame = given frame (Some found.reach) found.tags in
+      let os' : Objects = with_answer os frame.key.function (answers.Rows found.rows.items) in
+      ⊎_elim
+      (λ no. let no' : Ok s ≡ Err no.0 = no.1 in absurd (cc))
+      (λ (three : (ask : Ask) × (next_ask next os frame (answers.Rows found.rows.items) ≡ Some ask) × AfterAsk next outer asked after ask os' (Ok s)).
+          after_ask_counts outer asked after three.0 os' three.2)
+      leads
+
+  miss_counts : (frames : List Frame) (asked : ℕ) (k : Call) (os : Objects) → AfterMiss next frames asked k os (Ok s) → Counts asked
+  miss_counts frames asked k os leads =
+      ⊎_elim
+      (λ no. let no' : Ok s ≡ Err no.0 = no.1 in absurd (cc))
+      (λ (three : (ask : Ask) × (next k.function k.args [] ≡ Some ask) × AfterAsk next frames asked (begun_frame k) ask (with_begun os k) (Ok s)).
+          after_ask_counts frames asked (begun_frame k) three.0 (with_begun os k) three.2)
+      leads
+
+  pub reply_counts : (frames : List Frame) (asked : ℕ) (os : Objects) (need : Need) (reply : Reply) → AfterReply next frames asked os need reply (Ok s) → Counts asked
+  reply_counts frames asked os (needs.Lookup k) replies.Miss leads = miss_counts frames asked k os leads
+  reply_counts frames asked os (needs.Lookup k) (replies.Hit hit) leads = value_counts frames asked (outcome_of k hit.value hit.reach hit.tags) os leads
+  reply_counts frames asked os (needs.Lookup k) (replies.Found found) leads = absurd leads
+  reply_counts frames asked os (needs.Lookup k) replies.Inserted leads = absurd leads
+  reply_counts frames asked os (needs.Query q) (replies.Found found) leads = rows_count frames asked found os leads
+  reply_counts frames asked os (needs.Query q) replies.Miss leads = absurd leads
+  reply_counts frames asked os (needs.Query q) (replies.Hit hit) leads = absurd leads
+  reply_counts frames asked os (needs.Query q) replies.Inserted leads = absurd leads
+  reply_counts frames asked os (needs.Insert e) replies.Inserted leads = value_counts frames asked (outcome_of e.key e.value e.reach e.tags) os leads
+  reply_counts frames asked os (needs.Insert e) replies.Miss leads = absurd leads
+  reply_counts frames asked os (needs.Insert e) (replies.Hit hit) leads = absurd leads
+  reply_counts frames asked os (needs.Insert e) (replies.Found found) leads = absurd leads
+  reply_counts frames asked os (needs.Value o) replies.Miss leads = absurd leads
+  reply_counts frames asked os (needs.Value o) (replies.Hit hit) leads = absurd leads
+  reply_counts frames asked os (needs.Value o) (replies.Found found) leads = absurd leads
+  reply_counts frames asked os (needs.Value o) replies.Inserted leads = absurd leads
