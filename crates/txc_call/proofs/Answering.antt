@@ -15,7 +15,7 @@ use Rattle.txc_shared.specs.declared.ask.Answer.{Answer}
 use Rattle.txc_shared.specs.declared.ask.Answer.TheVariants as answers
 use Rattle.txc_shared.specs.Eval.{Next, eval, met}
 use Rattle.txc_shared.specs.Answering.{IsRight, AreRight, queries_of, queries_after, queries_for}
-use Rattle.txc_shared.specs.Claims.{HoldsOver, RowsHold, ValueHolds}
+use Rattle.txc_shared.specs.Claims.{RowsHold, ValueHolds}
 use Rattle.txc_shared.specs.Laws.{RightAnswersGiveTheValue}
 use Rattle.txc_shared.proofs.Each.{each_push}
 use Rattle.txc_call.specs.Reaches.{Meets, meet}
@@ -28,8 +28,8 @@ module _ (next : Next) (k : Call) where
   queries_more s before [] x = rw (append-nil before, append-nil (queries_of next s (next k.function k.args before))) refl
   queries_more s before (y ∷ given) x =
       ap (λ (qs : List Query). queries_of next s (next k.function k.args before) ++ qs)
-          (queries_more s (before ++ y ∷ []) given x
-          ∙ ap (λ (zs : List Answer). queries_after next k s (before ++ y ∷ []) given ++ queries_of next s (next k.function k.args zs)) (append_assoc before (y ∷ []) given))
+      (queries_more s (before ++ y ∷ []) given x
+      ∙ ap (λ (zs : List Answer). queries_after next k s (before ++ y ∷ []) given ++ queries_of next s (next k.function k.args zs)) (append_assoc before (y ∷ []) given))
       ∙ sym (append_assoc (queries_of next s (next k.function k.args before)) (queries_after next k s (before ++ y ∷ []) given) (queries_of next s (next k.function k.args (before ++ y ∷ given))))
 
   -- what was given, and one answer more

@@ -7,12 +7,12 @@ use Rattle.txc_tags.specs.declared.tag.Tag.{Tag}
 use Rattle.txc_tags.specs.declared.tag.Rows.{Rows}
 use Rattle.txc_tags.specs.declared.tag.Rows.TheVariants.{All, Id, Group}
 use Rattle.txc_tags.specs.Tags.{covers, has_tag, same_rows, same_tag, wildcard, with_tags}
-use Rattle.txc_tags.proofs.Offered.{bool_cases, both_true, and_true, IsIn, any_found, all_keep, all_covered}
+use Rattle.txc_tags.proofs.Offered.{bool_cases, both_true, and_true, any_found, all_keep, all_covered}
 use Rattle.txc_rows.specs.declared.query.Query.{Query}
 use Rattle.txc_rows.specs.States.{State}
 use Rattle.txc_rows.specs.RowTags.{query_tag, covers_query}
 use Rattle.txc_db.specs.History.{History, state_at}
-use Rattle.txc_shared.specs.Claims.{covers_all, HoldsIn, HoldsOver}
+use Rattle.txc_shared.specs.Claims.{covers_all, HoldsOver}
 use Rattle.txc_call.specs.Reaches.{InReach, Meets, meet}
 
 -- ---- cover

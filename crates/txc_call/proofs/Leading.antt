@@ -1,9 +1,9 @@
 -- What comes of asks, step by step.
-use Rattle.std.proofs.Common.{◌≡◌, ◌≢◌, ◌⊎◌, inl, inr, ℕ, ◌+◌, ◌<◌, ◌≤◌, Bool, true, false, nat_le, List, [], ◌∷◌, length, Option, Some, None, Err, refl, sym, ap, subst, ◌∙◌, arith}
+use Rattle.std.proofs.Common.{◌≡◌, ◌≢◌, inl, inr, ℕ, ◌+◌, ◌<◌, ◌≤◌, true, false, nat_le, List, [], ◌∷◌, length, drop, Option, Some, None, Err, refl, sym, ap, subst, ◌∙◌, arith}
 use Rattle.std.proofs.lemmas.Bool.Decides.{nat_tests}
-use Rattle.std.specs.Prelude.{Result, Ok}
-use Rattle.std.specs.Result.{result_err}
+use Rattle.std.specs.Prelude.{Result, Ok, IsErrAnd}
 use Rattle.txc_stamp.specs.Interval.{Interval}
+use Rattle.txc_tags.specs.declared.tag.Tag.{Tag}
 use Rattle.txc_tags.proofs.Offered.{bool_cases}
 use Rattle.txc_node.specs.declared.value.TheConstants.{MAX_VALUE_LEN}
 use Rattle.txc_shared.specs.declared.app.TheConstants.{MAX_ASKS}
@@ -18,9 +18,10 @@ use Rattle.txc_registry.specs.Objects.{Objects, with_activity}
 use Rattle.txc_call.specs.declared.error.CallError.{CallError}
 use Rattle.txc_call.specs.declared.error.CallError.TheVariants as errors
 use Rattle.txc_call.specs.declared.frame.Frame.{Frame}
+use Rattle.txc_call.specs.declared.need.Need.{Need}
 use Rattle.txc_call.specs.declared.need.Outcome.{Outcome}
-use Rattle.txc_call.specs.Frames.{given}
-use Rattle.txc_call.specs.Turns.{Turn, Onward, count_refusal, value_refusal, ask_refusal, error_of, next_ask, unreached, with_answer, AfterAsk, AfterValue, AllowedLeads, AskLeads, DoneLeads, IsBeginRefusal, IsOutOfMemory, UnlessRefused}
+use Rattle.txc_call.specs.Frames.{given, AreFew}
+use Rattle.txc_call.specs.Turns.{Turn, Onward, count_refusal, value_refusal, ask_refusal, error_of, next_ask, turn_of, unreached, with_answer, AfterAsk, AfterValue, AllowedLeads, AskLeads, DoneLeads, IsBeginRefusal, IsOutOfMemory, UnlessRefused}
 
 -- ---- refusals
 
@@ -71,6 +72,12 @@ long_by bytes long =
     let is : nat_le (length bytes) MAX_VALUE_LEN ≡ false = grind (arith, nat_tests) in
     rw is refl
 
+-- what `?` returns for an error
+pub turn_err : (r : Result Need CallError) (error : CallError) (frames : List Frame) (asked : ℕ) (objects : Objects)
+    → IsErrAnd r (λ e. e ≡ error) → turn_of r frames asked objects ≡ Err error
+turn_err (Ok need) error frames asked objects h = absurd h
+turn_err (Err e) error frames asked objects h = ap (λ (x : CallError). Err x) h
+
 -- ---- values
 
 module _ (next : Next) (asked : ℕ) where
@@ -103,6 +110,18 @@ module _ (next : Next) (asked : ℕ) where
       → AfterValue next frames asked o objects (Err error)
   value_out [] o objects error some is = absurd (some refl)
   value_out (frame ∷ outer) o objects error some is = inl (error, refl, is)
+
+-- a frame that was given an answer stands in its place
+pub given_place : (frames frames' : List Frame) (reach : Option Interval) (tags : List Tag) → frames ≢ []
+    → ((frame : Frame) (outer : List Frame) → frames ≡ frame ∷ outer → frames' ≡ given frame reach tags ∷ outer)
+    → AreFew frames → (length frames' ≡ length frames) × (frames' ≢ []) × AreFew (drop 1 frames')
+given_place [] frames' reach tags some stack few = absurd (some refl)
+given_place (frame ∷ outer) frames' reach tags some stack few =
+    let is = stack frame outer refl in (
+      ap (λ (fs : List Frame). length fs) is,
+      λ none. let no : given frame reach tags ∷ outer ≡ [] = sym is ∙ none in absurd (cc),
+      subst (λ (fs : List Frame). AreFew (drop 1 fs)) (sym is) few.1,
+    )
 
 -- ---- an object that did not begin
 

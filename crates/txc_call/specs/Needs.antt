@@ -1,9 +1,8 @@
 -- What a call needs, and what that is answered.
-use Rattle.std.specs.Prelude.{◌≡◌, ◌≢◌, ℕ, List, [], ◌∷◌, ◌++◌, Option, Some, None, IsSome}
+use Rattle.std.specs.Prelude.{◌≡◌, ◌≢◌, ℕ, List, [], Option, Some, None, IsSome}
 use Rattle.txc_stamp.specs.Interval.{Interval}
 use Rattle.txc_tags.specs.Keys.{Call}
 use Rattle.txc_db.specs.History.{History}
-use Rattle.txc_validity.specs.declared.answer.Found.{Found}
 use Rattle.txc_shared.specs.declared.ask.Ask.{Ask}
 use Rattle.txc_shared.specs.declared.ask.Ask.TheVariants as asks
 use Rattle.txc_shared.specs.Eval.{Next}
@@ -12,11 +11,10 @@ use Rattle.txc_registry.specs.Objects.{Objects, activity_of, AllIdle}
 use Rattle.txc_call.specs.declared.frame.Frame.{Frame}
 use Rattle.txc_call.specs.declared.need.Need.{Need}
 use Rattle.txc_call.specs.declared.need.Need.TheVariants as needs
-use Rattle.txc_call.specs.declared.need.Outcome.{Outcome}
 use Rattle.txc_call.specs.declared.reply.Reply.{Reply}
 use Rattle.txc_call.specs.declared.reply.Reply.TheVariants as replies
 use Rattle.txc_call.specs.Reaches.{InReach}
-use Rattle.txc_call.specs.Frames.{answers_in, given, AreFew, AreUnreached, FramesHold, InAll, IsOpen, IsRising}
+use Rattle.txc_call.specs.Frames.{AreFew, AreUnreached, FramesHold, InAll, IsOpen, IsRising}
 
 -- ---- needs
 

@@ -141,11 +141,11 @@ abbrev pub AfterValue : Next → List Frame → ℕ → Outcome → Objects → 
 AfterValue next [] asked o objects turn = turn ≡ needing [] asked (needs.Value o) objects
 AfterValue next (frame ∷ outer) asked o objects turn =
     UnlessMemory turn (
-      (ask : Ask) × (next_ask next objects frame (answers.Value o.value) ≡ Some ask)
-      × AskLeads outer asked (given frame o.reach o.tags) ask
-      (with_answer objects frame.key.function (answers.Value o.value))
-      (λ after bytes. AfterValue next outer (asked + 1) (unreached (given frame o.reach o.tags) bytes) after turn)
-      turn
+    (ask : Ask) × (next_ask next objects frame (answers.Value o.value) ≡ Some ask)
+    × AskLeads outer asked (given frame o.reach o.tags) ask
+    (with_answer objects frame.key.function (answers.Value o.value))
+    (λ after bytes. AfterValue next outer (asked + 1) (unreached (given frame o.reach o.tags) bytes) after turn)
+    turn
     )
 
 -- what comes of what the innermost frame asks
@@ -164,9 +164,9 @@ pub record Held : Type 0 where
 abbrev pub AfterAnswer : Next → List Frame → ℕ → Frame → Held → Objects → Turn → Type 0
 AfterAnswer next outer asked frame x objects turn =
     UnlessMemory turn (
-      (ask : Ask) × (next_ask next objects frame x.answer ≡ Some ask)
-      × AfterAsk next outer asked (given frame x.reach x.tags) ask
-      (with_answer objects frame.key.function x.answer) turn
+    (ask : Ask) × (next_ask next objects frame x.answer ≡ Some ask)
+    × AfterAsk next outer asked (given frame x.reach x.tags) ask
+    (with_answer objects frame.key.function x.answer) turn
     )
 
 -- why a call that no node has does not begin, where its function asks this first
@@ -183,7 +183,7 @@ abbrev pub AfterMiss : Next → List Frame → ℕ → Call → Objects → Turn
 AfterMiss next frames asked k objects turn =
     ((error : CallError) × (turn ≡ Err error) × IsBeginRefusal k.function (next k.function k.args []) error)
     ⊎ ((ask : Ask) × (next k.function k.args [] ≡ Some ask)
-      × AfterAsk next frames asked (begun_frame k) ask (with_begun objects k) turn)
+    × AfterAsk next frames asked (begun_frame k) ask (with_begun objects k) turn)
 
 -- the answer of what was found
 abbrev pub rows_held : Found → Held

@@ -51,7 +51,7 @@ pub(crate) fn settle<A: App, C: Cacheable>(
     requires few { AreFew (drop 1 frames.old.stack) }
     ensures answer { (frame : Frame) (rest : List Frame) → frames.old.stack ≡ frame ∷ rest
         → AfterAsk A.next rest frames.old.asked frame ask registry.old
-            (turn_of result frames.new.stack frames.new.asked registry.new) }
+        (turn_of result frames.new.stack frames.new.asked registry.new) }
     ensures released { OnErr result (AllIdle (released frames.new.stack registry.new)) }
     ensures same_top { frames.new.top ≡ frames.old.top }
 {

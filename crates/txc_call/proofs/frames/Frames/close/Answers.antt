@@ -1,4 +1,4 @@
-use Rattle.std.proofs.Common.{List, ◌∷◌, subst}
+use Rattle.std.proofs.Common.{List, subst}
 use Rattle.txc_call.specs.declared.frame.Frame.{Frame}
 use Rattle.txc_call.specs.Frames.{IsOpen}
 use Rattle.txc_call.proofs.OpenFrames.{closed}
