@@ -36,6 +36,7 @@ use Rattle.txc_call.specs.Calling.{Calling, CallHolds, CallIsUnreached, InCall, 
 use Rattle.txc_call.specs.Turns.{Standing, UnlessRefused, count_refusal, call_refusal, value_refusal, ask_refusal, entry_of, outcome_of, unreached, Onward, DoneLeads, AllowedLeads, AskLeads, AfterAsk, AfterMiss, AfterReply, AfterRows, AfterValue, next_ask, with_answer, with_begun}
 use Rattle.txc_call.proofs.Claims.{in_meet, meets_at}
 use Rattle.txc_call.proofs.Answering.{rows_answer, value_answers}
+use Rattle.txc_call.proofs.Leading.{few_by}
 use Rattle.txc_call.proofs.OpenFrames.{closed, free_below, hold_closed, hold_opened, hold_resumed, in_given, opened, resumed, unreached_given}
 
 -- ---- refusals that did not come
@@ -43,13 +44,6 @@ use Rattle.txc_call.proofs.OpenFrames.{closed, free_below, hold_closed, hold_ope
 allowed : (o : Option CallError) (s : Standing) (T : Type 0) → UnlessRefused o (Ok s) T → (o ≡ None) × T
 allowed (Some error) s T h = absurd (cc)
 allowed None s T h = (refl, h)
-
-few_by_test : (own all : ℕ) (b : Bool) → nat_le MAX_ASKS own ≡ b → count_refusal own all ≡ None → own < MAX_ASKS
-few_by_test own all true is h = let no : Some errors.AskLimit ≡ None = rw is at h in absurd (cc)
-few_by_test own all false is h = grind (arith, nat_tests)
-
-few_asked : (own all : ℕ) → count_refusal own all ≡ None → own < MAX_ASKS
-few_asked own all h = few_by_test own all (nat_le MAX_ASKS own) refl h
 
 there_by_test : (g : ℕ) (o : Option Activity) → cond (is_some o) None (Some (errors.NoFunction g)) ≡ None → IsSome o
 there_by_test g (Some a) h = refl
@@ -149,7 +143,7 @@ module _ (next : Next) (top : Call) (law : RightAnswersGiveTheValue) (s : Standi
   ask_keeps outer asked frame ask os goes_on few h on leads =
       let counted = allowed (count_refusal frame.answers asked) s (UnlessRefused (ask_refusal os frame.key.function ask) (Ok s) (AllowedLeads outer (asked + 1) frame ask os goes_on (Ok s))) leads in
       let fine = allowed (ask_refusal os frame.key.function ask) s (AllowedLeads outer (asked + 1) frame ask os goes_on (Ok s)) counted.1 in
-      allowed_keeps outer (asked + 1) frame os goes_on few (few_asked frame.answers asked counted.0) ask fine.0 h on fine.1
+      allowed_keeps outer (asked + 1) frame os goes_on few (few_by frame.answers asked (sym counted.0)) ask fine.0 h on fine.1
 
   -- an answer comes to the innermost frame
   given_keeps : (outer : List Frame) (asked : ℕ) (frame : Frame) (wanted ask : Ask) (x : Answer) (reach : Option Interval) (tags : List Tag) (os : Objects) (goes_on : Onward)

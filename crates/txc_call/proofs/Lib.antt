@@ -3,5 +3,4 @@ pub mod Answering
 pub mod OpenFrames
 pub mod Stacks
 pub mod Leading
-pub mod Delivering
 pub mod Keeping
