@@ -230,7 +230,7 @@ impl CallMachine {
         requires common { (t : ℕ) × InReach t (reply_reach reply) × InCall t self.old }
         ensures answer { (need : Need) → self.old.need ≡ Some need
             → AfterReply A.next self.old.frames self.old.asked registry.old need reply
-                (turn_after result self.new registry.new) }
+            (turn_after result self.new registry.new) }
         ensures fits { IsCalling A.next registry.new self.new }
         ensures open { OnOk result (IsSome self.new.need) }
         ensures rest { OnErr result ((self.new.need ≡ None) × IsAtRest registry.new self.new) }
@@ -266,7 +266,7 @@ impl CallMachine {
         ensures { MatchOption result
             (((outcome : Outcome) → self.old.need ≢ Some (Need.Value outcome)) × (self.new ≡ self.old))
             (λ outcome. (self.old.need ≡ Some (Need.Value outcome))
-                × (self.new ≡ record self.old { need = None })) }
+            × (self.new ≡ record self.old { need = None })) }
     {
         match mem::replace(&mut self.need, None) {
             Some(Need::Value(outcome)) => Some(outcome),
