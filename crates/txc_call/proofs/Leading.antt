@@ -5,6 +5,8 @@ use Rattle.std.specs.Prelude.{Result, Ok, IsErrAnd}
 use Rattle.txc_stamp.specs.Interval.{Interval}
 use Rattle.txc_tags.specs.declared.tag.Tag.{Tag}
 use Rattle.txc_tags.proofs.Offered.{bool_cases}
+use Rattle.txc_rows.specs.Values.{RowValue}
+use Rattle.txc_validity.specs.declared.answer.Found.{Found}
 use Rattle.txc_node.specs.declared.value.TheConstants.{MAX_VALUE_LEN}
 use Rattle.txc_shared.specs.declared.app.TheConstants.{MAX_ASKS}
 use Rattle.txc_shared.specs.declared.ask.Ask.{Ask}
@@ -21,7 +23,7 @@ use Rattle.txc_call.specs.declared.frame.Frame.{Frame}
 use Rattle.txc_call.specs.declared.need.Need.{Need}
 use Rattle.txc_call.specs.declared.need.Outcome.{Outcome}
 use Rattle.txc_call.specs.Frames.{given, AreFew}
-use Rattle.txc_call.specs.Turns.{Turn, Onward, count_refusal, value_refusal, ask_refusal, error_of, next_ask, turn_of, unreached, with_answer, AfterAsk, AfterValue, AllowedLeads, AskLeads, DoneLeads, IsBeginRefusal, IsOutOfMemory, UnlessRefused}
+use Rattle.txc_call.specs.Turns.{Turn, Onward, count_refusal, value_refusal, ask_refusal, error_of, next_ask, turn_of, unreached, with_answer, AfterAsk, AfterRows, AfterValue, AllowedLeads, AskLeads, DoneLeads, IsBeginRefusal, IsOutOfMemory, UnlessRefused}
 
 -- ---- refusals
 
@@ -103,6 +105,22 @@ module _ (next : Next) (asked : ℕ) where
     ask,
     asks frame outer refl,
     subst (λ (os : Objects). AfterAsk next outer asked (given frame o.reach o.tags) ask os turn) (becomes frame outer refl) (leads (given frame o.reach o.tags) outer (stack frame outer refl)),
+  )
+
+  -- what was found comes to the innermost frame, which asks this next
+  pub rows_onward : (frames frames' : List Frame) (found : Found) (rows : List RowValue) (ask : Ask) (objects objects' : Objects) (turn : Turn) → rows ≡ found.rows.items → frames ≢ []
+      → ((frame : Frame) (outer : List Frame) → frames ≡ frame ∷ outer → frames' ≡ given frame (Some found.reach) found.tags ∷ outer)
+      → ((frame : Frame) (outer : List Frame) → frames ≡ frame ∷ outer → objects' ≡ with_answer objects frame.key.function (answers.Rows rows))
+      → ((frame : Frame) (outer : List Frame) → frames ≡ frame ∷ outer → next_ask next objects frame (answers.Rows rows) ≡ Some ask)
+      → ((frame : Frame) (outer : List Frame) → frames' ≡ frame ∷ outer → AfterAsk next outer asked frame ask objects' turn)
+      → AfterRows next frames asked found objects turn
+  rows_onward [] frames' found rows ask objects objects' turn is some stack becomes asks leads = absurd (some refl)
+  rows_onward (frame ∷ outer) frames' found rows ask objects objects' turn is some stack becomes asks leads = inr (
+    ask,
+    subst (λ (rs : List RowValue). next_ask next objects frame (answers.Rows rs) ≡ Some ask) is (asks frame outer refl),
+    subst (λ (os : Objects). AfterAsk next outer asked (given frame (Some found.reach) found.tags) ask os turn)
+        (becomes frame outer refl ∙ ap (λ (rs : List RowValue). with_answer objects frame.key.function (answers.Rows rs)) is)
+        (leads (given frame (Some found.reach) found.tags) outer (stack frame outer refl)),
   )
 
   -- a value that finds no memory

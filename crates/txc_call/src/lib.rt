@@ -4,6 +4,8 @@
 mod error;
 mod frame;
 mod frames;
+pub mod laws;
+mod machine;
 mod need;
 mod reply;
 mod settling;
@@ -12,5 +14,6 @@ mod stack;
 pub use error::CallError;
 pub use frame::Frame;
 pub use frames::MAX_CALL_ASKS;
+pub use machine::CallMachine;
 pub use need::{Need, Outcome};
 pub use reply::Reply;
