@@ -1,5 +1,5 @@
 -- What a call comes to, over all the replies that lead it there.
-use Rattle.std.specs.Prelude.{◌≡◌, ℕ, List, [], ◌∷◌, Option, Some, IsSome, Ok}
+use Rattle.std.specs.Prelude.{◌≡◌, ℕ, List, [], ◌∷◌, Some, IsSome, Ok}
 use Rattle.txc_tags.specs.Keys.{Call}
 use Rattle.txc_db.specs.History.{History}
 use Rattle.txc_node.specs.declared.entry.Entry.{Entry}
