@@ -6,13 +6,13 @@ use Rattle.txc_node.specs.declared.record.Record.{Record}
 use Rattle.txc_shared.specs.Eval.{activation, call_below, eval, met}
 use Rattle.txc_shared.specs.Claims.{covers_all}
 use Rattle.txc_shared.specs.Histories.{IsNext, IsLegal}
-use Rattle.txc_shared.specs.Worked.{functions, call_of}
-use Rattle.txc_shared.specs.WorkedNodes.{absent, WorkedEntries, three_steps, start, WorkedHistories}
-use Rattle.txc_shared.proofs.Each.{each_none, each_push}
+use Rattle.txc_functions.specs.Program.{program, call_of}
+use Rattle.txc_functions.specs.WorkedNodes.{absent, WorkedEntries, three_steps, start, WorkedHistories}
+use Rattle.txc_shared.proofs.Offered.{each_none, each_push}
 
 -- ---- entries
 
-none_at : (t : ℕ) → t ≤ 4 → eval functions (call_of 0 (9 ∷ [])) (state_at worked t) ≡ Some []
+none_at : (t : ℕ) → t ≤ 4 → eval program (call_of 0 (9 ∷ [])) (state_at worked t) ≡ Some []
 unfolding activation call_below
 none_at zero h = refl
 none_at (suc zero) h = refl
@@ -21,7 +21,7 @@ none_at (suc (suc (suc zero))) h = refl
 none_at (suc (suc (suc (suc zero)))) h = refl
 none_at (suc (suc (suc (suc (suc t))))) h = absurd (omega arith)
 
-covered_at : (t : ℕ) → t ≤ 4 → covers_all absent.tags (met functions (call_of 0 (9 ∷ [])) (state_at worked t)) ≡ true
+covered_at : (t : ℕ) → t ≤ 4 → covers_all absent.tags (met program (call_of 0 (9 ∷ [])) (state_at worked t)) ≡ true
 unfolding activation call_below
 covered_at zero h = refl
 covered_at (suc zero) h = refl
@@ -30,7 +30,7 @@ covered_at (suc (suc (suc zero))) h = refl
 covered_at (suc (suc (suc (suc zero)))) h = refl
 covered_at (suc (suc (suc (suc (suc t))))) h = absurd (omega arith)
 
-one_at : (t : ℕ) → 1 ≤ t → t ≤ 4 → eval functions (call_of 0 (7 ∷ [])) (state_at worked t) ≡ Some (97 ∷ [])
+one_at : (t : ℕ) → 1 ≤ t → t ≤ 4 → eval program (call_of 0 (7 ∷ [])) (state_at worked t) ≡ Some (97 ∷ [])
 unfolding activation call_below
 one_at zero some h = absurd (omega arith)
 one_at (suc zero) some h = refl
@@ -39,7 +39,7 @@ one_at (suc (suc (suc zero))) some h = refl
 one_at (suc (suc (suc (suc zero)))) some h = refl
 one_at (suc (suc (suc (suc (suc t))))) some h = absurd (omega arith)
 
-nothing_yet : eval functions (call_of 0 (7 ∷ [])) (state_at worked 0) ≡ Some []
+nothing_yet : eval program (call_of 0 (7 ∷ [])) (state_at worked 0) ≡ Some []
 unfolding activation call_below
 nothing_yet = refl
 

@@ -1,26 +1,18 @@
-//! The application of the cases.
+//! Findings for the cases, by function 0 of the program.
 ghost use Rattle.std.specs.Prelude.{◌≡◌, IfOk};
-ghost use Rattle.txc_shared.specs.Worked.{body_of};
+ghost use Rattle.txc_functions.specs.Program.{body_of};
 
 use std::alloc::{AllocError, Global};
 use std::sync::Wait;
 use txc_db::{Answered, Database, DbError, Naming};
+use txc_functions::Program;
 use txc_node::{Entry, Value};
 use txc_rows::{Query, Row};
+use txc_shared::Finding;
 use txc_shared::laws::found_rows_give_true_entries;
-use txc_shared::{App, Finding};
 use txc_stamp::Stamp;
 use txc_tags::{Key, Table};
 use txc_validity::Found;
-
-/// The functions that were worked by hand. Number 0 is the body at an id.
-pub(super) struct Functions;
-
-impl App for Functions {
-    ghost use Rattle.txc_shared.specs.Worked.{functions};
-
-    ghost next = { functions };
-}
 
 /// The first row's body, or no byte.
 fn body_of(alloc: Global, rows: &[Row]) -> Result<Value, AllocError>
@@ -43,7 +35,7 @@ pub(super) fn find_body<J: Naming>(
     database: &Database<J>,
     id: u32,
     stamp: Stamp,
-) -> Result<Finding<Functions>, DbError>
+) -> Result<Finding<Program>, DbError>
     ensures { IfOk result (λ finding. finding.front.events ≡ J.database_row) }
 {
     found_rows_give_true_entries();
