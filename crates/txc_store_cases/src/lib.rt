@@ -8,6 +8,8 @@
 #[cfg(test)]
 mod calling;
 #[cfg(test)]
+mod calls;
+#[cfg(test)]
 mod common;
 #[cfg(test)]
 mod db;
