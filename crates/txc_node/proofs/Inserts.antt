@@ -27,7 +27,7 @@ same_place_like x e o h =
     let l : x.reach.lo ≡ e.reach.lo = (Decides-eqb x.reach.lo e.reach.lo).0 p.1 in
     ap (λ (c : Call). same_call o.key c && eqb o.reach.lo x.reach.lo) k ∙ ap (λ (n : ℕ). same_call o.key e.key && eqb o.reach.lo n) l
 
-filter_same : (p q : Entry → Bool) → ((o : Entry) → p o ≡ q o) → (es : List Entry) → filter p es ≡ filter q es
+pub filter_same : (p q : Entry → Bool) → ((o : Entry) → p o ≡ q o) → (es : List Entry) → filter p es ≡ filter q es
 filter_same p q h [] = refl
 filter_same p q h (e ∷ es) = rw (h e, filter_same p q h es)
 
@@ -59,7 +59,7 @@ find_at p es i d h =
     let k = position-Some p es i d h in
     found_at (find p) p (λ x. Some x) None refl (λ _ _. refl) es i d k.0 k.2 k.1
 
-others_none : (e : Entry) (es : List Entry) → AllByRecursion (λ o. same_place o e ≡ false) es → others e es ≡ es
+pub others_none : (e : Entry) (es : List Entry) → AllByRecursion (λ o. same_place o e ≡ false) es → others e es ≡ es
 others_none e [] h = refl
 others_none e (x ∷ es) h = rw (h.0, others_none e es h.1)
 
@@ -97,7 +97,7 @@ replay_lo i tags p recent =
     top i.still
 
 -- the place of an entry is that of the entry after the replay
-place_moved : (e : Entry) (i : Interval) (o : Entry) → i.lo ≡ e.reach.lo → (let f : Entry = record e { reach = i } in same_place o f ≡ same_place o e)
+pub place_moved : (e : Entry) (i : Interval) (o : Entry) → i.lo ≡ e.reach.lo → (let f : Entry = record e { reach = i } in same_place o f ≡ same_place o e)
 place_moved e i o h = ap (λ l. same_call o.key e.key && eqb o.reach.lo l) h
 
 pub cut_apart : (capacity : ℕ) (e : Entry) (i : Interval) (es : List Entry) → i.lo ≡ e.reach.lo → AreApart es → (let f : Entry = record e { reach = i } in AreApart (take capacity (f ∷ others e es)))

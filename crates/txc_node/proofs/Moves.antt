@@ -16,7 +16,7 @@ an_entry [] i l = absurd (omega arith)
 an_entry (e ∷ es) i l = e
 
 -- the cache after a lookup that found e
-after_found : (c : Cache) (key : Call) (lo hi : ℕ) (e : Entry) (es : List Entry) → found c key lo hi ≡ Some e
+pub after_found : (c : Cache) (key : Call) (lo hi : ℕ) (e : Entry) (es : List Entry) → found c key lo hi ≡ Some e
     → es ≡ e ∷ others e c.entries → (let d : Cache = record c { entries = es } in d ≡ after_lookup c key lo hi)
 after_found c key lo hi e es h k = ap (λ (xs : List Entry). let d : Cache = record c { entries = xs } in d) k ∙ sym (ap (after_use c) h)
 
