@@ -6,6 +6,7 @@ use Rattle.std.specs.Option.{option_map, option_map_or}
 use Rattle.std.specs.Map.{lookup, lookup_entry, remove_entry}
 use Rattle.std.specs.HashMap.{HashMap}
 use Rattle.std.specs.HashSet.{HashSet}
+use Rattle.std.proofs.lemmas.Bool.{false≢true}
 use Rattle.std.proofs.lemmas.List.{length-map}
 use Rattle.std.proofs.lemmas.Option.{slice_get_within, slice_get_past}
 use borrow.Author.Tests.{eq-eqb}
@@ -23,7 +24,7 @@ use Rattle.txc_node.specs.declared.stored.Stored.{Stored}
 use Rattle.txc_node.specs.declared.versions.Found.{Found}
 use Rattle.txc_node.specs.Places.{place_of, place_at, equal_places}
 use Rattle.txc_node.specs.Entries.{same_place, others, AreApart}
-use Rattle.txc_node.specs.Indexed.{entry_of, entries_of, ArePlaced, entries_under, reaches_under, listed, IndexesKeys, Relists, StandsUnder, with_first, IsFound, lists, IsListed, IndexesTags, KeepsListed, IsIndexed}
+use Rattle.txc_node.specs.Indexed.{entry_of, stored_of, entries_of, ArePlaced, entries_under, reaches_under, listed, IndexesKeys, Relists, StandsUnder, with_first, IsFound, lists, IsListed, IndexesTags, KeepsListed, IsIndexed}
 use Rattle.txc_node.proofs.Apart.{same_place_sym, first_apart, others_elsewhere, filter_keeps}
 use Rattle.txc_node.proofs.Inserts.{others_like, others_none, filter_same, place_moved}
 use Rattle.txc_node.proofs.Swept.{find_same}
@@ -137,7 +138,7 @@ module _ {S : Type 0} (ps : List (Place × Stored)) (index new : List (Call × L
 
 module _ {S : Type 0} (ps : List (Place × Stored)) (q : Place) (s : Stored) (index new : List (Call × List Interval)) (tables mid : List (HashMap Rows (HashSet Place S) S)) where
   pub put_indexed : q ≡ place_of (entry_of (q, s)) → find (λ o. same_place o (entry_of (q, s))) (entries_of ps) ≡ None → IsIndexed ps index tables → Relists q.key (s.reach ∷ listed index q.key) index new
-      → IsListed mid (entry_of (q, s)) → KeepsListed (λ t q. Unit {0}) tables mid → IsIndexed ((q, s) ∷ ps) new mid
+      → IsListed mid q s → KeepsListed (λ t q. Unit {0}) tables mid → IsIndexed ((q, s) ∷ ps) new mid
   put_indexed at absent h relists own more =
       let e = entry_of (q, s) in
       let es = entries_of ps in
@@ -145,7 +146,7 @@ module _ {S : Type 0} (ps : List (Place × Stored)) (q : Place) (s : Stored) (in
         placed = (at, h.placed);
         apart = (none_there (λ o. same_place o e) es absent, h.apart);
         keys = put_first index new es e h.keys relists;
-        tags = (own, all_kept tables mid es more h.tags);
+        tags = (subst (λ (p : Place). IsListed mid p s) at own, all_kept tables mid es more h.tags);
       }
 
 pub absent_put : (c : LruCache Place Stored) (q : Place) (s : Stored) → q ≡ place_of (entry_of (q, s)) → find (λ o. same_place o (entry_of (q, s))) (entries_of c.entries) ≡ None → ArePlaced c.entries
@@ -209,7 +210,7 @@ none_evicted n ps e at placed apart there within =
 
 module _ {S : Type 0} (ps : List (Place × Stored)) (q : Place) (s : Stored) (at : ℕ) (index new : List (Call × List Interval)) (tables mid left : List (HashMap Rows (HashSet Place S) S)) where
   pub replaced_indexed : q ≡ place_of (entry_of (q, s)) → StandsUnder (entry_of (q, s)) (entries_of ps) at → IsIndexed ps index tables → Relists q.key (s.reach ∷ remove (listed index q.key) at) index new
-      → IsListed mid (entry_of (q, s)) → KeepsListed (λ t q. Unit {0}) tables mid → KeepsListed (λ t p. equal_places q p ≡ false) mid left → KeepsListed (λ t p. has_tag s.tags t ≡ true) mid left
+      → IsListed mid q s → KeepsListed (λ t q. Unit {0}) tables mid → KeepsListed (λ t p. equal_places q p ≡ false) mid left → KeepsListed (λ t p. has_tag s.tags t ≡ true) mid left
       → IsIndexed ((q, s) ∷ remove_entry (equal_places q) ps) new left
   replaced_indexed is there h relists own more places keeps =
       let e = entry_of (q, s) in
@@ -223,12 +224,12 @@ module _ {S : Type 0} (ps : List (Place × Stored)) (q : Place) (s : Stored) (at
       let keys : IndexesKeys new (e ∷ others o es) = brought_first index new es o e at h.apart h.keys stands (sym key) relisted in
       let first : e ∷ others o es ≡ e ∷ entries_of (remove_entry (equal_places q) ps) = ap (λ (xs : List Entry). e ∷ xs) (others_like o e es x.3 ∙ sym rest) in
       let elsewhere = at_place q e (others e es) is (turned_round e (others e es) (others_elsewhere e es)) in
-      let kept = filter_keeps (λ d. IsListed mid d) (λ d. not (same_place d e)) es (all_kept tables mid es more h.tags) in
+      let kept = filter_keeps (λ d. IsListed mid (place_of d) (stored_of d)) (λ d. not (same_place d e)) es (all_kept tables mid es more h.tags) in
       record {
         placed = (is, removed_keeps (λ p. p.0 ≡ place_of (entry_of p)) (equal_places q) ps h.placed);
         apart = subst (λ (xs : List Entry). AreApart (e ∷ xs)) (sym rest) (first_apart e es h.apart);
         keys = subst (λ (xs : List Entry). IndexesKeys new xs) first keys;
-        tags = (λ still. own_kept mid left q s.tags s.tags (own_tags s.tags) keeps (own still), subst (λ (xs : List Entry). IndexesTags left xs) (sym rest) (kept_elsewhere mid left q (others e es) elsewhere places kept));
+        tags = (subst (λ (p : Place). IsListed left p s) is (λ still. own_kept mid left q s.tags s.tags (own_tags s.tags) keeps (own still)), subst (λ (xs : List Entry). IndexesTags left xs) (sym rest) (kept_elsewhere mid left q (others e es) elsewhere places kept));
       }
 
 -- ---- the entry that is handed in, in its new reach
@@ -247,3 +248,19 @@ module _ (e f : Entry) (i : Interval) (lo : i.lo ≡ e.reach.lo) (is : (let g : 
 
   pub place_is : place_of f ≡ place_of e
   place_is = ap place_of is ∙ ap (place_at e.key) lo
+
+pub same_first : (p q : Place) (s t : Stored) → (let P : Place × Stored = (p, s) in let Q : Place × Stored = (q, t) in Some P ≡ Some Q) → p ≡ q
+same_first p q s t h =
+    let P : Place × Stored = (p, s) in
+    let Q : Place × Stored = (q, t) in
+    let both : Some P ≡ Some Q = h in
+    let same : P ≡ Q = cc in
+    ap (λ (x : Place × Stored). x.0) same
+
+-- what was there before is pushed out
+pub never_none : {A : Type 0} (q : Place) (s : Stored) → (let Q : Place × Stored = (q, s) in None ≡ Some Q) → A
+never_none q s h =
+    let Q : Place × Stored = (q, s) in
+    let none : None ≡ Some Q = h in
+    let no : true ≡ false = cc in
+    absurd (false≢true (sym no))

@@ -130,13 +130,13 @@ lists_rows bs rows q = has_place (places_under bs rows) q
 abbrev pub lists : {S : Type 0} → List (HashMap Rows (HashSet Place S) S) → Tag → Place → Bool
 lists tables tag q = unwrap_or (option_map (λ t. lists_rows t.entries tag.rows q) (slice_get tables tag.table)) false
 
--- the entry is listed under each of its tags, if it is still valid
-abbrev pub IsListed : {S : Type 0} → List (HashMap Rows (HashSet Place S) S) → Entry → Type 0
-IsListed tables e = e.reach.still ≡ true → AllByRecursion (λ t. lists tables t (place_of e) ≡ true) e.tags
+-- the place is listed under each tag of what is stored there, if that is still valid
+abbrev pub IsListed : {S : Type 0} → List (HashMap Rows (HashSet Place S) S) → Place → Stored → Type 0
+IsListed tables q s = s.reach.still ≡ true → AllByRecursion (λ t. lists tables t q ≡ true) s.tags
 
--- so is each entry
+-- so is the place of each entry
 abbrev pub IndexesTags : {S : Type 0} → List (HashMap Rows (HashSet Place S) S) → List Entry → Type 0
-IndexesTags tables es = AllByRecursion (λ e. IsListed tables e) es
+IndexesTags tables es = AllByRecursion (λ e. IsListed tables (place_of e) (stored_of e)) es
 
 -- what was listed still is, but for what P leaves open
 abbrev pub KeepsListed : {S : Type 0} → (Tag → Place → Type 0) → (old new : List (HashMap Rows (HashSet Place S) S)) → Type 0

@@ -299,7 +299,7 @@ fn forget_last(keys: &mut KeyIndex, index: &mut TagIndex, place: &Place, tags: &
 
 // Lists what is still valid under its tags.
 fn list_still(index: &mut TagIndex, place: &Place, stored: &Stored) -> Result<(), AllocError>
-    ensures listed { OnOk result (IsListed index.new.tables.items (entry_of (place.now, stored.now))) }
+    ensures listed { OnOk result (IsListed index.new.tables.items place.now stored.now) }
     ensures kept { KeepsListed (λ t q. Unit {0}) index.old.tables.items index.new.tables.items }
 {
     if stored.reach.is_still() {
@@ -320,7 +320,7 @@ fn list_new(
         keys.old.versions.entries keys.new.versions.entries) }
     ensures same_keys { OnErr result (let rs = listed keys.old.versions.entries place.now.key in
         Relists place.now.key rs keys.old.versions.entries keys.new.versions.entries) }
-    ensures listed { OnOk result (IsListed index.new.tables.items (entry_of (place.now, stored.now))) }
+    ensures listed { OnOk result (IsListed index.new.tables.items place.now stored.now) }
     ensures kept { KeepsListed (λ t q. Unit {0}) index.old.tables.items index.new.tables.items }
 {
     list_still(index, place, stored)?;

@@ -1,5 +1,5 @@
 //! The node: its entries, and the tags of the last events.
-ghost use Rattle.std.specs.Prelude.{List, None, option_copied, slice_get, if◌then◌else◌, is_some, ◌≡◌, ◌+◌, ◌<◌, ◌≤◌, ◌↔◌, map, length, [], IsTrue, Ok, Err, IfOk, IfErr, OnOk, OnErr, IsOk, MatchResult, false, vec_len};
+ghost use Rattle.std.specs.Prelude.{List, Option, None, option_copied, slice_get, if◌then◌else◌, is_some, ◌≡◌, ◌+◌, ◌<◌, ◌≤◌, ◌↔◌, map, length, [], IsTrue, Ok, Err, IfOk, IfErr, OnOk, OnErr, IsOk, MatchResult, false, vec_len};
 ghost use Rattle.std.specs.List.{count_by};
 ghost use Rattle.std.specs.Option.{option_map};
 ghost use Rattle.std.specs.Borrow.{sem};
@@ -65,7 +65,7 @@ pub struct NodeCore {
     entries: IndexedEntries,
     processed: Stamp,
     recent: HeapCircularBuffer<TagSet>,
-    looked: usize,
+    looked: u64,
 }
 
 impl Model for NodeCore {
@@ -180,7 +180,7 @@ impl NodeCore {
 
     /// How many entries the last lookup looked at to take a key or a span: what
     /// [`NodeCore::lookup_counted`] returns, and 0 where its stamps were refused, or before any lookup.
-    pub fn looked(&self) -> usize {
+    pub fn looked(&self) -> u64 {
         self.looked
     }
 
@@ -201,7 +201,7 @@ impl NodeCore {
 
     // Looks an entry up and moves it to the front, and says whether there is one, and how many entries were
     // looked at.
-    fn touch(&mut self, key: &Key, lo: Stamp, hi: Stamp) -> Result<(bool, usize), EmptyRange>
+    fn touch(&mut self, key: &Key, lo: Stamp, hi: Stamp) -> Result<(bool, u64), EmptyRange>
         ensures only_if { OnOk result (lo ≤ hi) }
         ensures refused { OnErr result (hi < lo) }
         ensures unchanged { OnErr result (self.new ≡ self.old) }
@@ -212,6 +212,7 @@ impl NodeCore {
         self.looked = 0;
         check_range(lo, hi)?;
         let (found, looked) = self.entries.best(self.processed, key, lo, hi);
+        let looked = looked as u64;
         self.looked = looked;
         match found {
             None => Ok((false, looked)),
@@ -247,7 +248,7 @@ impl NodeCore {
         key: &Key,
         lo: Stamp,
         hi: Stamp,
-    ) -> Result<(Option<Hit<'_>>, usize), EmptyRange>
+    ) -> Result<(Option<Hit<'_>>, u64), EmptyRange>
         ensures only_if { OnOk result (lo ≤ hi) }
         ensures refused { OnErr result (hi < lo) }
         ensures answer { IfOk result (λ r. option_map seen r.0 ≡ answer self.old key.now lo hi) }
