@@ -24,6 +24,7 @@ use Rattle.txc_node.specs.declared.stored.Stored.{Stored}
 use Rattle.txc_node.specs.declared.versions.Found.{Found}
 use Rattle.txc_node.specs.Places.{place_of, place_at, equal_places}
 use Rattle.txc_node.specs.Entries.{same_place, others, AreApart}
+use Rattle.txc_node.specs.Cache.{Cache, ends_no_earlier, is_kept, replayed_reach}
 use Rattle.txc_node.specs.Indexed.{entry_of, stored_of, entries_of, ArePlaced, entries_under, reaches_under, listed, IndexesKeys, Relists, StandsUnder, with_first, IsFound, lists, IsListed, IndexesTags, KeepsListed, IsIndexed}
 use Rattle.txc_node.proofs.Apart.{same_place_sym, first_apart, others_elsewhere, filter_keeps}
 use Rattle.txc_node.proofs.Inserts.{others_like, others_none, filter_same, place_moved}
@@ -264,3 +265,12 @@ never_none q s h =
     let none : None ≡ Some Q = h in
     let no : true ≡ false = cc in
     absurd (false≢true (sym no))
+
+-- ---- whether the old entry stays
+
+pub kept_by : (c : Cache) (e : Entry) (i : Interval) (found : Option Found) (stays : Bool)
+    → ((x : Entry) (es : List Entry) (o : Option Entry) → IsFound es o found → (let f : Entry = record x { reach = i } in stays ≡ ends_no_earlier c.processed f o))
+    → IsFound (entries_under e.key c.entries) (find (λ o. same_place o e) c.entries) found → i ≡ replayed_reach c e → stays ≡ is_kept c e
+kept_by c e i found stays h is replayed =
+    let old = find (λ o. same_place o e) c.entries in
+    h e (entries_under e.key c.entries) old is ∙ ap (λ (r : Interval). let f : Entry = record e { reach = r } in ends_no_earlier c.processed f old) replayed
