@@ -1,5 +1,5 @@
 -- What an event closes at one place.
-use Rattle.std.proofs.Common.{◌≡◌, ℕ, ◌+◌, ◌-◌, Bool, true, false, not, ◌&&◌, ◌||◌, ◌<◌, eqb, get_or, length, suc, cond, List, [], ◌∷◌, map, Option, Some, None, refl, sym, ap, subst, ◌∙◌, arith, ◌⊎◌, inl, inr}
+use Rattle.std.proofs.Common.{◌≡◌, ℕ, ◌+◌, ◌-◌, Bool, true, false, ◌&&◌, ◌||◌, ◌<◌, eqb, get_or, length, suc, cond, List, [], ◌∷◌, map, Option, Some, None, refl, sym, ap, subst, ◌∙◌, arith, ◌⊎◌, inl, inr}
 use Rattle.std.specs.List.{count_by, AllByRecursion}
 use Rattle.std.specs.Map.{lookup, lookup_entry, set_value}
 use Rattle.std.specs.Prelude.{unwrap_or, slice_get}
@@ -11,7 +11,7 @@ use Rattle.std.proofs.lemmas.Bool.{false≢true}
 use Rattle.txc_stamp.specs.Interval.{Interval, closed_at}
 use Rattle.txc_tags.specs.declared.tag.Tag.{Tag}
 use Rattle.txc_tags.specs.Keys.{Call, same_call}
-use Rattle.txc_tags.proofs.Offered.{same_call_is, same_call_itself, both_true}
+use Rattle.txc_tags.proofs.Offered.{same_call_is, same_call_itself}
 use borrow.Author.Tests.{eq-eqb}
 use Rattle.txc_node.specs.declared.entry.Entry.{Entry}
 use Rattle.txc_node.specs.declared.place.Place.{Place}
@@ -19,7 +19,7 @@ use Rattle.txc_node.specs.declared.stored.Stored.{Stored}
 use Rattle.txc_node.specs.Places.{place_of, equal_places, equal_places_is}
 use Rattle.txc_node.specs.Entries.{same_place, AreApart}
 use Rattle.txc_node.specs.Cache.{is_invalidated, entry_after}
-use Rattle.txc_node.specs.Indexed.{entry_of, entries_of, entry_at, ArePlaced, entries_under, reaches_under, in_stead, has_place, equal_rows, lists_rows, AreSparedAt, listed, IndexesKeys, Relists, is_stale, stored_after, closed_reach, after_at, AreTied, Closes, IsSpared, StaySpared}
+use Rattle.txc_node.specs.Indexed.{entry_of, entries_of, entry_at, ArePlaced, entries_under, reaches_under, in_stead, has_place, equal_rows, lists_rows, AreSparedAt, listed, Relists, is_stale, stored_after, closed_reach, after_at, AreTied, Closes, IsSpared, StaySpared}
 use Rattle.txc_node.proofs.Apart.{eqb_sym, after_both, after_apart}
 use Rattle.txc_node.proofs.KeyLists.{indexes_by, under_yes, under_no}
 
@@ -242,7 +242,7 @@ module _ (stamp : ℕ) (tags : List Tag) where
   tied_after q ps index new s tied h relists =
       let w = stored_after stamp tags s in
       let reaches : reaches_under q.key (entries_of (set_value (equal_places q) ps w)) ≡ map (in_stead w.reach) (listed index q.key) =
-          set_reaches q s w ps tied.placed tied.apart h (begins_alike stamp tags s ∙ stored_lo q ps s tied.placed h) ∙ ap (map (in_stead w.reach)) (sym (tied.keys q.key)) in
+      set_reaches q s w ps tied.placed tied.apart h (begins_alike stamp tags s ∙ stored_lo q ps s tied.placed h) ∙ ap (map (in_stead w.reach)) (sym (tied.keys q.key)) in
       record {
         placed = set_placed stamp tags (equal_places q) ps s h tied.placed;
         apart = still_apart stamp tags (entries_of ps) (entries_of (set_value (equal_places q) ps w)) (set_kept stamp tags (equal_places q) ps s h) tied.apart;

@@ -1,5 +1,5 @@
 -- An entry of a key that is brought to the front.
-use Rattle.std.proofs.Common.{◌≡◌, ℕ, Bool, true, false, cond, List, [], ◌∷◌, map, Option, Some, None, refl, sym, ap, subst, ◌∙◌, suc, zero}
+use Rattle.std.proofs.Common.{◌≡◌, ℕ, true, false, cond, List, [], ◌∷◌, map, Some, None, refl, sym, ap, subst, ◌∙◌, suc, zero}
 use Rattle.std.specs.Prelude.{slice_get, remove}
 use Rattle.std.specs.List.{AllByRecursion, find}
 use Rattle.std.specs.Option.{option_map}
@@ -106,7 +106,7 @@ brought_indexed ps index new tables key at r h is relists =
     let after : entries_of (promoted test ps) ≡ e.0 ∷ others e.0 es = brought_entries ps key at r e.0 h.placed h.apart is e.1 in
     let stands : slice_get (entries_under e.0.key es) at ≡ Some e.0 = subst (λ (k : Call). slice_get (entries_under k es) at ≡ Some e.0) (sym own) e.1 in
     let relisted : Relists e.0.key (e.0.reach ∷ remove (listed index e.0.key) at) index new =
-        subst (λ (k : Call). Relists k (e.0.reach ∷ remove (listed index k) at) index new) (sym own) (subst (λ (i : Interval). Relists key (i ∷ remove (listed index key) at) index new) (sym e.2) relists) in
+    subst (λ (k : Call). Relists k (e.0.reach ∷ remove (listed index k) at) index new) (sym own) (subst (λ (i : Interval). Relists key (i ∷ remove (listed index key) at) index new) (sym e.2) relists) in
     let T : Entry → Type 0 = λ o. o.reach.still ≡ true → AllByRecursion (λ t. lists tables t (place_of o) ≡ true) o.tags in
     record {
       placed = promoted_keeps (λ p. p.0 ≡ place_of (entry_of p)) test ps h.placed;

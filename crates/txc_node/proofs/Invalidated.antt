@@ -1,5 +1,5 @@
 -- What an event leaves, when it has come to all places that its tags list.
-use Rattle.std.proofs.Common.{◌≡◌, ℕ, ◌+◌, ◌-◌, Bool, true, false, ◌&&◌, ◌||◌, eqb, cond, List, [], ◌∷◌, map, Option, Some, None, refl, sym, ap, subst, ◌∙◌, arith, ◌⊎◌, inl, inr}
+use Rattle.std.proofs.Common.{◌≡◌, ℕ, ◌-◌, Bool, true, false, ◌&&◌, ◌||◌, eqb, cond, List, [], ◌∷◌, map, Option, Some, None, refl, sym, ap, subst, ◌∙◌, arith, ◌⊎◌, inl, inr}
 use Rattle.std.specs.Prelude.{unwrap_or, slice_get, nat_lt}
 use Rattle.std.specs.List.{count_by, AllByRecursion, list_any}
 use Rattle.std.specs.Map.{lookup, lookup_entry}
@@ -13,14 +13,13 @@ use Rattle.txc_stamp.specs.Interval.{Interval, closed_at}
 use Rattle.txc_tags.specs.declared.tag.Rows.{Rows}
 use Rattle.txc_tags.specs.declared.tag.Rows.TheVariants.{All, Id, Group}
 use Rattle.txc_tags.specs.declared.tag.Tag.{Tag}
-use Rattle.txc_tags.specs.Tags.{are_all, same_rows, rows_match, tags_match, sets_match}
+use Rattle.txc_tags.specs.Tags.{are_all, rows_match, tags_match, sets_match}
 use Rattle.txc_tags.specs.Keys.{Call}
 use Rattle.txc_tags.proofs.Offered.{both_true}
 use Rattle.txc_node.specs.declared.entry.Entry.{Entry}
 use Rattle.txc_node.specs.declared.place.Place.{Place}
 use Rattle.txc_node.specs.declared.stored.Stored.{Stored}
 use Rattle.txc_node.specs.Places.{place_of, equal_places}
-use Rattle.txc_node.specs.Entries.{AreApart}
 use Rattle.txc_node.specs.Cache.{is_invalidated, entry_after}
 use Rattle.txc_node.specs.Indexed.{entry_of, entries_of, entry_at, is_live, ArePlaced, lists_rows, lists, IndexesTags, KeepsListed, AreSparedBy, AreTied, Closes, IsSpared, IsIndexed}
 use Rattle.txc_node.proofs.Pairs.{stands_each, pair_at, looked_up}
@@ -74,9 +73,9 @@ module _ {S : Type 0} (stamp : ℕ) (tags : List Tag) (tables : List (HashMap Ro
   none_left old new n placed indexed spared closes q = (elim (entry_at old q) as (λ f. entry_at old q ≡ f → IsSpared stamp tags new q) [
     | None ↦ λ t. closes.spared q (λ e h. let none : None ≡ Some e = sym t ∙ h in cc)
     | Some e ↦ λ t. (elim (is_invalidated stamp tags e) as (λ v. is_invalidated stamp tags e ≡ v → IsSpared stamp tags new q) [
-        | true ↦ λ u. spared_there old new q e placed indexed spared t u
-        | false ↦ λ u. closes.spared q (λ o h. let both : Some e ≡ Some o = sym t ∙ h in let same : e ≡ o = cc in ap (is_invalidated stamp tags) (sym same) ∙ u)
-      ]) refl
+      | true ↦ λ u. spared_there old new q e placed indexed spared t u
+      | false ↦ λ u. closes.spared q (λ o h. let both : Some e ≡ Some o = sym t ∙ h in let same : e ≡ o = cc in ap (is_invalidated stamp tags) (sym same) ∙ u)
+    ]) refl
   ]) refl
 
 module _ (stamp : ℕ) (tags : List Tag) where

@@ -1,7 +1,7 @@
 -- What the index of the keys lists, as the entries change.
-use Rattle.std.proofs.Common.{◌≡◌, ℕ, ◌+◌, ◌-◌, ◌<◌, ◌≤◌, Bool, true, false, not, ◌&&◌, eqb, ltb, leb, cond, List, [], ◌∷◌, ◌++◌, map, length, get_or, Option, Some, None, refl, sym, ap, subst, ◌∙◌, arith, suc, zero}
+use Rattle.std.proofs.Common.{◌≡◌, ℕ, ◌<◌, Bool, true, false, not, ◌&&◌, eqb, cond, List, [], ◌∷◌, ◌++◌, map, length, get_or, Some, refl, sym, ap, subst, ◌∙◌, suc, zero}
 use Rattle.std.specs.Prelude.{slice_get, remove}
-use Rattle.std.specs.List.{AllByRecursion, filter, find, list_all}
+use Rattle.std.specs.List.{AllByRecursion, filter, find}
 use Rattle.std.proofs.lemmas.Bool.{false≢true}
 use Rattle.std.proofs.lemmas.Option.{slice_get_within, slice_get-get_or}
 use Rattle.txc_stamp.specs.Interval.{Interval}
@@ -122,8 +122,8 @@ brought_first index new es e f at apart indexed stands keys relists =
     let U = entries_under e.key es in
     let own : same_call f.key e.key ≡ true = ap (λ (c : Call). same_call c e.key) keys ∙ same_call_itself e.key in
     let reaches : reaches_under e.key (f ∷ others e es) ≡ f.reach ∷ remove (listed index e.key) at =
-        ap (λ xs. map (λ o. o.reach) xs) (under_yes e.key f (others e es) own ∙ ap (λ xs. f ∷ xs) (under_others e.key e es ∙ removed_others U at e (filter_apart (λ o. same_call o.key e.key) es apart) stands))
-        ∙ ap (λ xs. f.reach ∷ xs) (map_remove (λ o. o.reach) U at ∙ ap (λ xs. remove xs at) (sym (indexed e.key))) in
+    ap (λ xs. map (λ o. o.reach) xs) (under_yes e.key f (others e es) own ∙ ap (λ xs. f ∷ xs) (under_others e.key e es ∙ removed_others U at e (filter_apart (λ o. same_call o.key e.key) es apart) stands))
+    ∙ ap (λ xs. f.reach ∷ xs) (map_remove (λ o. o.reach) U at ∙ ap (λ xs. remove xs at) (sym (indexed e.key))) in
     indexes_by e.key index new es (f ∷ others e es) indexed (subst (λ (rs : List Interval). Relists e.key rs index new) (sym reaches) relists)
     (λ k other. under_no k f (others e es) (ap (λ (c : Call). same_call c k) keys ∙ other) ∙ under_other_key k e es other)
 
@@ -132,7 +132,7 @@ brought_first index new es e f at apart indexed stands keys relists =
 pub put_first : (index new : List (Call × List Interval)) (es : List Entry) (e : Entry) → IndexesKeys index es → Relists e.key (e.reach ∷ listed index e.key) index new → IndexesKeys new (e ∷ es)
 put_first index new es e indexed relists =
     let reaches : reaches_under e.key (e ∷ es) ≡ e.reach ∷ listed index e.key =
-        ap (λ xs. map (λ o. o.reach) xs) (under_yes e.key e es (same_call_itself e.key)) ∙ ap (λ xs. e.reach ∷ xs) (sym (indexed e.key)) in
+    ap (λ xs. map (λ o. o.reach) xs) (under_yes e.key e es (same_call_itself e.key)) ∙ ap (λ xs. e.reach ∷ xs) (sym (indexed e.key)) in
     indexes_by e.key index new es (e ∷ es) indexed (subst (λ (rs : List Interval). Relists e.key rs index new) (sym reaches) relists) (λ k other. under_no k e es other)
 
 -- ---- the last entry

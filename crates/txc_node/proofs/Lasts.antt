@@ -1,5 +1,5 @@
 -- The entry that stands last.
-use Rattle.std.proofs.Common.{◌≡◌, ℕ, ◌+◌, ◌-◌, Bool, true, false, not, cond, List, [], ◌∷◌, ◌++◌, map, length, get_or, take, Option, Some, None, refl, sym, ap, subst, ◌∙◌, arith, suc, zero, length-append}
+use Rattle.std.proofs.Common.{◌≡◌, ℕ, ◌-◌, true, false, not, cond, List, [], ◌∷◌, ◌++◌, length, get_or, take, Some, None, refl, sym, ap, subst, ◌∙◌, arith, suc, zero, length-append}
 use Rattle.std.specs.Prelude.{slice_get, remove}
 use Rattle.std.specs.List.{AllByRecursion}
 use Rattle.std.proofs.lemmas.Option.{slice_get-get_or}
@@ -7,14 +7,13 @@ use Rattle.std.specs.HashMap.{HashMap}
 use Rattle.std.specs.HashSet.{HashSet}
 use Rattle.txc_stamp.specs.Interval.{Interval}
 use Rattle.txc_tags.specs.declared.tag.Rows.{Rows}
-use Rattle.txc_tags.specs.declared.tag.Tag.{Tag}
-use Rattle.txc_tags.specs.Keys.{Call, same_call}
+use Rattle.txc_tags.specs.Keys.{Call}
 use Rattle.txc_node.specs.declared.entry.Entry.{Entry}
 use Rattle.txc_node.specs.declared.place.Place.{Place}
 use Rattle.txc_node.specs.declared.stored.Stored.{Stored}
 use Rattle.txc_node.specs.Places.{place_of, place_at, equal_places}
 use Rattle.txc_node.specs.Entries.{same_place, others, AreApart}
-use Rattle.txc_node.specs.Indexed.{entry_of, entries_of, ArePlaced, entries_under, reaches_under, listed, IndexesKeys, IndexesTags, Relists, KeepsListed, lists, IsIndexed}
+use Rattle.txc_node.specs.Indexed.{entry_of, entries_of, entries_under, reaches_under, listed, IndexesKeys, IndexesTags, Relists, KeepsListed, lists, IsIndexed}
 use Rattle.txc_node.proofs.KeyLists.{reaches_last, dropped_last, under_last, under_yes}
 use Rattle.txc_node.proofs.Fronts.{brought, brought_indexed}
 use Rattle.txc_node.proofs.Apart.{same_place_self, same_place_sym}
@@ -89,14 +88,14 @@ forgotten {S} front x index new tables new_tables h relists keeps =
     let apart : AreApart (es ++ e ∷ []) = subst AreApart split h.apart in
     let indexed : IndexesKeys index (es ++ e ∷ []) = subst (λ (xs : List Entry). IndexesKeys index xs) split h.keys in
     let reaches : take (length (listed index e.key) - 1) (listed index e.key) ≡ reaches_under e.key es =
-        ap (λ (rs : List Interval). take (length rs - 1) rs) (reaches_last index es e indexed) ∙ take_init (reaches_under e.key es) e.reach in
+    ap (λ (rs : List Interval). take (length rs - 1) rs) (reaches_last index es e indexed) ∙ take_init (reaches_under e.key es) e.reach in
     let T : Entry → Type 0 = λ o. o.reach.still ≡ true → AllByRecursion (λ t. lists tables t (place_of o) ≡ true) o.tags in
     record {
       placed = all_front (λ p. p.0 ≡ place_of (entry_of p)) front x h.placed;
       apart = front_apart es e apart;
       keys = dropped_last index new es e indexed (subst (λ (rs : List Interval). Relists e.key rs index new) reaches relists);
       tags = kept_elsewhere tables new_tables x.0 es (at_place x.0 e es (all_last (λ p. p.0 ≡ place_of (entry_of p)) front x h.placed) (last_apart es e apart)) keeps
-        (all_front T es e (subst (λ (xs : List Entry). AllByRecursion T xs) split h.tags));
+          (all_front T es e (subst (λ (xs : List Entry). AllByRecursion T xs) split h.tags));
     }
 
 -- ---- the last entry is brought to the front
@@ -138,7 +137,7 @@ module _ {S : Type 0} (front : List (Place × Stored)) (x : Place × Stored) (in
       let split = entries_last front x in
       let own : entries_under x.0.key (es ++ e ∷ []) ≡ entries_under x.0.key es ++ e ∷ [] = under_last x.0.key es e ∙ ap (λ ys. entries_under x.0.key es ++ ys) (under_yes x.0.key e [] (same_call_itself x.0.key)) in
       let under : slice_get (entries_under x.0.key (entries_of (front ++ x ∷ []))) (length (entries_under x.0.key es)) ≡ Some e =
-          ap (λ (xs : List Entry). slice_get (entries_under x.0.key xs) (length (entries_under x.0.key es))) split ∙ ap (λ xs. slice_get xs (length (entries_under x.0.key es))) own ∙ slice_last (entries_under x.0.key es) e in
+      ap (λ (xs : List Entry). slice_get (entries_under x.0.key xs) (length (entries_under x.0.key es))) split ∙ ap (λ xs. slice_get xs (length (entries_under x.0.key es))) own ∙ slice_last (entries_under x.0.key es) e in
       let apart : AreApart (es ++ e ∷ []) = subst AreApart split h.apart in
       ap (λ (q : Place). entries_of (promoted (equal_places q) (front ++ x ∷ []))) (place_last h)
       ∙ brought (front ++ x ∷ []) x.0.key (length (entries_under x.0.key es)) e h.placed h.apart under

@@ -1,5 +1,5 @@
 -- The test of rows by which a map finds them.
-use Rattle.std.proofs.Common.{◌≡◌, Bool, true, false, rules}
+use Rattle.std.proofs.Common.{◌≡◌, rules}
 use Rattle.std.specs.Bool.{Decides}
 use Rattle.std.specs.Cmp.Rules.{comparing}
 use Rattle.txc_tags.specs.declared.tag.Rows.{Rows}

@@ -1,5 +1,5 @@
 -- Where the first item stands that passes a test.
-use Rattle.std.proofs.Common.{◌≡◌, ℕ, ◌+◌, ◌<◌, Bool, true, false, ltb, cond, suc, zero, get_or, drop, not, ◌-◌, ◌≤◌, List, [], ◌∷◌, length, Option, Some, None, refl, sym, ap, ◌∙◌, arith}
+use Rattle.std.proofs.Common.{◌≡◌, ℕ, ◌+◌, ◌<◌, Bool, true, false, ltb, cond, suc, zero, get_or, drop, not, ◌-◌, ◌≤◌, List, [], ◌∷◌, length, Option, Some, None, refl, ap, ◌∙◌, arith}
 use Rattle.std.specs.List.{position, position_or_len}
 use Rattle.std.proofs.lemmas.List.{get_or-drop, length-drop}
 use Rattle.std.proofs.lemmas.Bool.Decides.{nat_tests}
@@ -43,13 +43,13 @@ module _ {X : Type 0} (p : X → Bool) where
       → position p (drop from xs) ≡ Some (i - from)
   position_from_here xs from i d a l h t =
       let n : position_or_len p (drop from xs) ≡ i - from =
-          counted_here (drop from xs) (i - from) d (omega (arith, length-drop from xs))
-          (λ k below. ap p (get_or-drop from xs k d) ∙ h (from + k) (omega arith) (omega arith) d)
-          (ap p (get_or-drop from xs (i - from) d ∙ ap (λ k. get_or xs k d) (omega arith)) ∙ t) in
+      counted_here (drop from xs) (i - from) d (omega (arith, length-drop from xs))
+      (λ k below. ap p (get_or-drop from xs k d) ∙ h (from + k) (omega arith) (omega arith) d)
+      (ap p (get_or-drop from xs (i - from) d ∙ ap (λ k. get_or xs k d) (omega arith)) ∙ t) in
       ap (λ m. cond (ltb m (length (drop from xs))) (Some m) None) n ∙ here (i - from) (length (drop from xs)) (omega (arith, length-drop from xs))
 
   pub position_from_none : (xs : List X) (from : ℕ) → ((k : ℕ) → k < length xs → from ≤ k → (e : X) → p (get_or xs k e) ≡ false) → position p (drop from xs) ≡ None
   position_from_none xs from h =
       let n : position_or_len p (drop from xs) ≡ length (drop from xs) =
-          counted_all (drop from xs) (λ k below d. ap p (get_or-drop from xs k d) ∙ h (from + k) (omega (arith, length-drop from xs)) (omega arith) d) in
+      counted_all (drop from xs) (λ k below d. ap p (get_or-drop from xs k d) ∙ h (from + k) (omega (arith, length-drop from xs)) (omega arith) d) in
       ap (λ m. cond (ltb m (length (drop from xs))) (Some m) None) n ∙ past (length (drop from xs))

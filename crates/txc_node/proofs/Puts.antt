@@ -1,7 +1,7 @@
 -- A new entry that goes first.
-use Rattle.std.proofs.Common.{◌≡◌, ℕ, ◌+◌, ◌-◌, ◌<◌, ◌≤◌, Bool, true, false, not, ◌&&◌, ◌||◌, cond, eqb, List, [], ◌∷◌, ◌++◌, map, length, take, Option, Some, None, refl, sym, ap, subst, ◌∙◌, arith, suc, zero}
+use Rattle.std.proofs.Common.{◌≡◌, ℕ, ◌-◌, ◌<◌, ◌≤◌, Bool, true, false, not, ◌||◌, cond, eqb, List, [], ◌∷◌, ◌++◌, length, take, Option, Some, None, refl, sym, ap, subst, ◌∙◌, arith, suc, zero}
 use Rattle.std.specs.Prelude.{slice_get, remove}
-use Rattle.std.specs.List.{AllByRecursion, find, list_any}
+use Rattle.std.specs.List.{AllByRecursion, find}
 use Rattle.std.specs.Option.{option_map, option_map_or}
 use Rattle.std.specs.Map.{lookup, lookup_entry, remove_entry}
 use Rattle.std.specs.HashMap.{HashMap}
@@ -30,7 +30,7 @@ use Rattle.txc_node.proofs.Apart.{same_place_sym, first_apart, others_elsewhere,
 use Rattle.txc_node.proofs.Inserts.{others_like, others_none, filter_same, place_moved}
 use Rattle.txc_node.proofs.Swept.{find_same}
 use Rattle.txc_node.proofs.Pairs.{pair_at, without_is_others, removed_keeps, removed_length}
-use Rattle.txc_node.proofs.KeyLists.{indexes_by, put_first, brought_first, relisted_here, relisted_there}
+use Rattle.txc_node.proofs.KeyLists.{indexes_by, put_first, brought_first, relisted_there}
 use Rattle.txc_node.proofs.Fronts.{key_at}
 use Rattle.txc_node.proofs.Invalidated.{kept_tags}
 use Rattle.txc_node.proofs.Lasts.{kept_elsewhere, at_place, split_at, forgotten}
@@ -65,7 +65,7 @@ pair_there [] q e o at placed h = let none : None ≡ Some o = h in cc
 pair_there (y ∷ ps) q e o at placed h =
     let there : equal_places q y.0 ≡ same_place (entry_of y) e = ap (λ p. equal_places p y.0) at ∙ ap (equal_places (place_of e)) placed.0 ∙ same_place_sym e (entry_of y) in
     (elim (same_place (entry_of y) e) as (λ b. same_place (entry_of y) e ≡ b → cond b (Some (entry_of y)) (find (λ z. same_place z e) (entries_of ps)) ≡ Some o
-        → (x : Place × Stored) × (lookup_entry (equal_places q) (y ∷ ps) ≡ Some x) × (lookup (equal_places q) (y ∷ ps) ≡ Some x.1) × (same_place o e ≡ true)) [
+    → (x : Place × Stored) × (lookup_entry (equal_places q) (y ∷ ps) ≡ Some x) × (lookup (equal_places q) (y ∷ ps) ≡ Some x.1) × (same_place o e ≡ true)) [
       | true ↦ λ t h.
           let is : Some (entry_of y) ≡ Some o = h in
           let same : entry_of y ≡ o = cc in
@@ -153,9 +153,10 @@ module _ {S : Type 0} (ps : List (Place × Stored)) (q : Place) (s : Stored) (in
 pub absent_put : (c : LruCache Place Stored) (q : Place) (s : Stored) → q ≡ place_of (entry_of (q, s)) → find (λ o. same_place o (entry_of (q, s))) (entries_of c.entries) ≡ None → ArePlaced c.entries
     → (put_entries equal_places c q s ≡ (q, s) ∷ take (c.cap - 1) c.entries) × (displaced equal_places c q s ≡ slice_get c.entries (c.cap - 1))
 absent_put c q s at absent placed =
-    let none = no_pair c.entries q (entry_of (q, s)) at placed (none_there (λ o. same_place o (entry_of (q, s))) (entries_of c.entries) absent) in
-    (ap (λ f. option_map_or (λ p. (p.0, s) ∷ remove_entry (equal_places q) c.entries) f ((q, s) ∷ take (c.cap - 1) c.entries)) none.0,
-    ap (λ f. option_map_or (λ old. Some (q, old)) f (slice_get c.entries (c.cap - 1))) none.1)
+    let none = no_pair c.entries q (entry_of (q, s)) at placed (none_there (λ o. same_place o (entry_of (q, s))) (entries_of c.entries) absent) in (
+      ap (λ f. option_map_or (λ p. (p.0, s) ∷ remove_entry (equal_places q) c.entries) f ((q, s) ∷ take (c.cap - 1) c.entries)) none.0,
+      ap (λ f. option_map_or (λ old. Some (q, old)) f (slice_get c.entries (c.cap - 1))) none.1,
+    )
 
 pub absent_others : (e : Entry) (es : List Entry) → find (λ o. same_place o e) es ≡ None → others e es ≡ es
 absent_others e es absent = others_none e es (none_there (λ o. same_place o e) es absent)
@@ -189,10 +190,11 @@ pub there_put : (c : LruCache Place Stored) (q : Place) (s : Stored) (at : ℕ) 
     → (old : Stored) × (put_entries equal_places c q s ≡ (q, s) ∷ remove_entry (equal_places q) c.entries) × (displaced equal_places c q s ≡ Some (q, old))
 there_put c q s at is there placed =
     let x = pair_there c.entries q (entry_of (q, s)) there.0 is placed there.1 in
-    let here : x.0.0 ≡ q = (pair_at c.entries q x.0 placed x.1).0 in
-    (x.0.1,
-    ap (λ f. option_map_or (λ p. (p.0, s) ∷ remove_entry (equal_places q) c.entries) f ((q, s) ∷ take (c.cap - 1) c.entries)) x.1 ∙ ap (λ k. (k, s) ∷ remove_entry (equal_places q) c.entries) here,
-    ap (λ f. option_map_or (λ old. Some (q, old)) f (slice_get c.entries (c.cap - 1))) x.2)
+    let here : x.0.0 ≡ q = (pair_at c.entries q x.0 placed x.1).0 in (
+      x.0.1,
+      ap (λ f. option_map_or (λ p. (p.0, s) ∷ remove_entry (equal_places q) c.entries) f ((q, s) ∷ take (c.cap - 1) c.entries)) x.1 ∙ ap (λ k. (k, s) ∷ remove_entry (equal_places q) c.entries) here,
+      ap (λ f. option_map_or (λ old. Some (q, old)) f (slice_get c.entries (c.cap - 1))) x.2,
+    )
 
 -- where it stands in the index of the keys
 pub within_listed : (ps : List (Place × Stored)) (index : List (Call × List Interval)) (e : Entry) (at : ℕ) → IndexesKeys index (entries_of ps) → StandsUnder e (entries_of ps) at → at < length (listed index e.key)

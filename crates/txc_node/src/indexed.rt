@@ -668,7 +668,14 @@ impl IndexedEntries {
         ensures handed_back { IfErr result (λ e. e.value ≡ entry) }
     {
         let (place, stored, before) = split(entry, reach);
-        match put(&mut self.cache, &mut self.keys, &mut self.tags, found, place, stored) {
+        match put(
+            &mut self.cache,
+            &mut self.keys,
+            &mut self.tags,
+            found,
+            place,
+            stored,
+        ) {
             Ok(evicted) => Ok(evicted),
             Err(failed) => {
                 let (place, stored) = failed.value;
@@ -698,7 +705,13 @@ impl IndexedEntries {
         ensures count { result ≡ count_by (has_ended processed horizon) self.old.entries }
     {
         let before = self.cache.len();
-        sweep_all(&mut self.cache, &mut self.keys, &mut self.tags, processed, horizon);
+        sweep_all(
+            &mut self.cache,
+            &mut self.keys,
+            &mut self.tags,
+            processed,
+            horizon,
+        );
         before - self.cache.len()
     }
 }

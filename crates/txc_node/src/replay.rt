@@ -21,11 +21,7 @@ fn matches_at(recent: &HeapCircularBuffer<TagSet>, i: usize, tags: &TagSet) -> b
 }
 
 // The first that matches of the recent events from a place on, as it is counted from there.
-fn first_match(
-    recent: &HeapCircularBuffer<TagSet>,
-    from: usize,
-    tags: &TagSet,
-) -> Option<usize>
+fn first_match(recent: &HeapCircularBuffer<TagSet>, from: usize, tags: &TagSet) -> Option<usize>
     requires { from ≤ length recent.now.items }
     ensures { result ≡ position (λ t. sets_match t tags.now) (drop from recent.now.items) }
 {
@@ -64,11 +60,7 @@ fn replay(
 }
 
 /// The reach of an entry after the events that it missed.
-pub(crate) fn replay_for(
-    e: &Entry,
-    processed: Stamp,
-    recent: &HeapCircularBuffer<TagSet>,
-) -> Reach
+pub(crate) fn replay_for(e: &Entry, processed: Stamp, recent: &HeapCircularBuffer<TagSet>) -> Reach
     ensures value { result ≡ reach_after_replay e.now.reach e.now.tags processed recent.now.items }
     ensures lo { result.lo ≡ e.now.reach.lo }
 {

@@ -1,4 +1,4 @@
-use Rattle.std.proofs.Common.{◌≡◌, ◌-◌, ◌∷◌, List, Some, None, false, length, take, refl, ap, sym, subst, ◌∙◌}
+use Rattle.std.proofs.Common.{◌≡◌, ◌-◌, ◌∷◌, List, Some, None, false, take, ap, sym, subst, ◌∙◌}
 use Rattle.std.specs.Prelude.{slice_get}
 use Rattle.lru.specs.LruCache.{LruCache}
 use Rattle.txc_stamp.specs.Interval.{Interval}
@@ -30,7 +30,7 @@ returns-in-Err-clause-indexed c =
     let more = a.stored.reach ∷ rs in
     let back : c.in-Err.failed.value.0 ≡ a.place = ap (λ (p : Place × Stored). p.0) c.in-Err.ensures.value_returned in
     let taken : (r : Interval) (is : List Interval) → listed mid a.place.key ≡ r ∷ is → Relists a.place.key is mid new =
-        subst (λ (q : Place). (r : Interval) (is : List Interval) → listed mid q.key ≡ r ∷ is → Relists q.key is mid new) back c.forget_first.ensures.keys in
+    subst (λ (q : Place). (r : Interval) (is : List Interval) → listed mid q.key ≡ r ∷ is → Relists q.key is mid new) back c.forget_first.ensures.keys in
     let first = relisted_here a.place.key more index mid c.in-Ok.ensures.keys in
     let relists = relists_over a.place.key rs more index mid new c.in-Ok.ensures.keys (taken a.stored.reach rs first) in
     let fewer = subst (λ (q : Place). KeepsListed (λ t p. equal_places q p ≡ false) listed_tags left) back c.forget_first.ensures.tags in
@@ -44,9 +44,9 @@ returns-in-Ok-None-clause-indexed c =
     let put = absent_put a.cache.now a.place a.stored c.requires.placed c.requires.absent c.requires.indexed.placed in
     let none : slice_get ps (a.cache.now.cap - 1) ≡ None = sym put.1 ∙ sym c.in-Ok-None.ensures.old ∙ c.in-Ok-None.field-0-is in
     let new : c.push.new.self.entries ≡ (a.place, a.stored) ∷ ps =
-        ap (λ (m : LruCache Place Stored). m.entries) c.in-Ok-None.ensures.entries ∙ put.0 ∙ ap (λ (qs : List (Place × Stored)). (a.place, a.stored) ∷ qs) (take_past (a.cache.now.cap - 1) ps none) in
+    ap (λ (m : LruCache Place Stored). m.entries) c.in-Ok-None.ensures.entries ∙ put.0 ∙ ap (λ (qs : List (Place × Stored)). (a.place, a.stored) ∷ qs) (take_past (a.cache.now.cap - 1) ps none) in
     rw new (put_indexed ps a.place a.stored a.keys.now.versions.entries c.list_new.new.keys.versions.entries a.index.now.tables.items c.list_new.new.index.tables.items
-      c.requires.placed c.requires.absent c.requires.indexed c.in-Ok.ensures.keys c.in-Ok.ensures.listed c.list_new.ensures.kept)
+    c.requires.placed c.requires.absent c.requires.indexed c.in-Ok.ensures.keys c.in-Ok.ensures.listed c.list_new.ensures.kept)
 
 pub returns-in-Ok-None-clause-entries : goal.returns-in-Ok-None-clause-entries
 returns-in-Ok-None-clause-entries c =
@@ -71,7 +71,7 @@ returns-in-Ok-Some-clause-indexed c =
     let whole = put_indexed ps a.place a.stored a.keys.now.versions.entries c.list_new.new.keys.versions.entries a.index.now.tables.items c.list_new.new.index.tables.items
     c.requires.placed c.requires.absent c.requires.indexed c.in-Ok.ensures.keys c.in-Ok.ensures.listed c.list_new.ensures.kept in
     rw new (pushed_out a.cache.now.cap ps p x c.list_new.new.keys.versions.entries c.forget_last.new.keys.versions.entries c.list_new.new.index.tables.items c.forget_last.new.index.tables.items
-      c.requires.some c.requires.within last whole c.forget_last.ensures.keys c.forget_last.ensures.tags)
+    c.requires.some c.requires.within last whole c.forget_last.ensures.keys c.forget_last.ensures.tags)
 
 pub returns-in-Ok-Some-clause-entries : goal.returns-in-Ok-Some-clause-entries
 returns-in-Ok-Some-clause-entries c =

@@ -15,7 +15,7 @@ returns-in-Some-clause-indexed c =
     let tables = a.index.now.tables.items in
     let left : c.pop_lru.new.self.entries ≡ take (length ps - 1) ps = ap (λ (m : LruCache Place Stored). m.entries) c.pop_lru.ensures.entries in
     rw left (forgotten (take (length ps - 1) ps) x index c.forget_last.new.keys.versions.entries tables c.forget_last.new.index.tables.items
-      (subst (λ (qs : List (Place × Stored)). IsIndexed qs index tables) (last_split ps x (sym c.pop_lru.ensures.value ∙ c.in-Some.is)) c.requires) c.forget_last.ensures.keys c.forget_last.ensures.tags)
+    (subst (λ (qs : List (Place × Stored)). IsIndexed qs index tables) (last_split ps x (sym c.pop_lru.ensures.value ∙ c.in-Some.is)) c.requires) c.forget_last.ensures.keys c.forget_last.ensures.tags)
 
 pub returns-in_default-clause-indexed : goal.returns-in_default-clause-indexed
 returns-in_default-clause-indexed c =

@@ -1,4 +1,4 @@
-use Rattle.std.proofs.Common.{ℕ, ◌<◌, ◌∙◌, List, length, get_or, ap, subst, arith}
+use Rattle.std.proofs.Common.{◌∙◌, List, length, get_or, ap, subst, arith}
 use Rattle.std.proofs.lemmas.List.{get_or_read}
 use borrow.Author.Count.{below_more}
 use Rattle.txc_tags.specs.declared.tag.Tag.{Tag}
@@ -18,8 +18,8 @@ loop-tag-preserved c =
       cap = step.cap ∙ inv.cap;
       closes = closes_more a.stamp a.tags.now a.cache.now.entries c.loop-tag.cache.entries new c.loop-tag.count c.invalidate_tag-count.result inv.closes step.closes;
       spared = below_more (λ k. (d : Tag) → AreSparedBy a.stamp a.tags.now new tables (get_or a.tags.now k d)) c.loop-tag.tag-index
-        (λ k l d t q m there. step.closes.spared q (inv.spared k l d t q m there))
-        (λ d. subst (λ (x : Tag). AreSparedBy a.stamp a.tags.now new tables x) (get_or_read c.tags-tag-items.result.now c.loop-tag.tag-index c.tag-item.result c.loop-tag-test.true c.tag-item.is d ∙ ap (λ (ts : List Tag). get_or ts c.loop-tag.tag-index d) c.tags-tag-items.ensures.answer) step.spared);
+          (λ k l d t q m there. step.closes.spared q (inv.spared k l d t q m there))
+          (λ d. subst (λ (x : Tag). AreSparedBy a.stamp a.tags.now new tables x) (get_or_read c.tags-tag-items.result.now c.loop-tag.tag-index c.tag-item.result c.loop-tag-test.true c.tag-item.is d ∙ ap (λ (ts : List Tag). get_or ts c.loop-tag.tag-index d) c.tags-tag-items.ensures.answer) step.spared);
     }
 
 pub returns-clause-spared : goal.returns-clause-spared

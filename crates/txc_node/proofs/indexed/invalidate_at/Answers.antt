@@ -1,5 +1,4 @@
-use Rattle.std.proofs.Common.{◌≡◌, Some, None, sym, subst, ◌∙◌}
-use Rattle.txc_node.specs.Indexed.{AreTied, Closes, IsSpared, closed_reach, after_at}
+use Rattle.std.proofs.Common.{sym, ◌∙◌}
 use Rattle.txc_node.proofs.Closings.{untouched, tied_at, closes_at, closes_none, spared_at}
 use Rattle.txc_node.proofs.indexed.invalidate_at.Goals as goal
 

@@ -1,4 +1,4 @@
-use Rattle.std.proofs.Common.{ℕ, ◌≡◌, ◌<◌, ◌∙◌, get_or, subst, arith}
+use Rattle.std.proofs.Common.{◌∙◌, get_or, subst, arith}
 use Rattle.std.proofs.lemmas.List.{get_or_read}
 use borrow.Author.Count.{below_more}
 use Rattle.txc_node.specs.declared.place.Place.{Place}
@@ -18,8 +18,8 @@ loop-i-preserved c =
       cap = step.cap ∙ inv.cap;
       closes = closes_more a.stamp a.tags.now a.cache.now.entries c.loop-i.cache.entries new c.loop-i.count c.invalidate_at-count.result inv.closes step.closes;
       spared = below_more (λ k. (d : Place) → IsSpared a.stamp a.tags.now new (get_or a.places.now k d)) c.loop-i.i
-        (λ k l d. step.closes.spared (get_or a.places.now k d) (inv.spared k l d))
-        (λ d. subst (IsSpared a.stamp a.tags.now new) (get_or_read a.places.now c.loop-i.i x c.loop-i-test.true c.index-places-i.is d) step.spared);
+          (λ k l d. step.closes.spared (get_or a.places.now k d) (inv.spared k l d))
+          (λ d. subst (IsSpared a.stamp a.tags.now new) (get_or_read a.places.now c.loop-i.i x c.loop-i-test.true c.index-places-i.is d) step.spared);
     }
 
 pub returns-clause-spared : goal.returns-clause-spared

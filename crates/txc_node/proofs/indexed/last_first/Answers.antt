@@ -22,7 +22,7 @@ returns-in-Some-clause-indexed c =
     let split : ps ≡ front ++ x ∷ [] = last_split ps x (sym (rw c.in-Some.is at c.peek_lru.ensures)) in
     let indexed = subst (λ (qs : List (Place × Stored)). IsIndexed qs index tables) split c.requires in
     let moved : c.promote.new.self.entries ≡ promoted (equal_places x.0) ps =
-        ap (λ (m : LruCache Place Stored). m.entries) c.promote.ensures.entries ∙ ap (λ (q : Place). promoted (equal_places q) ps) c.copy-place.ensures in
+    ap (λ (m : LruCache Place Stored). m.entries) c.promote.ensures.entries ∙ ap (λ (q : Place). promoted (equal_places q) ps) c.copy-place.ensures in
     let new = c.bring_last_first.new.self.versions.entries in
     let relists = subst (λ (q : Place). (r : Interval) → slice_get (listed index q.key) (length (listed index q.key) - 1) ≡ Some r → Relists q.key (r ∷ remove (listed index q.key) (length (listed index q.key) - 1)) index new) c.copy-place.ensures c.bring_last_first.ensures in
     rw moved (subst (λ (qs : List (Place × Stored)). IsIndexed (promoted (equal_places x.0) qs) new tables) (sym split) (last_brought front x index new tables indexed relists))
@@ -38,7 +38,7 @@ returns-in-Some-clause-entries c = λ e is.
     let split : ps ≡ front ++ x ∷ [] = last_split ps x (sym (rw c.in-Some.is at c.peek_lru.ensures)) in
     let indexed = subst (λ (qs : List (Place × Stored)). IsIndexed qs index tables) split c.requires in
     let moved : c.promote.new.self.entries ≡ promoted (equal_places x.0) ps =
-        ap (λ (m : LruCache Place Stored). m.entries) c.promote.ensures.entries ∙ ap (λ (q : Place). promoted (equal_places q) ps) c.copy-place.ensures in
+    ap (λ (m : LruCache Place Stored). m.entries) c.promote.ensures.entries ∙ ap (λ (q : Place). promoted (equal_places q) ps) c.copy-place.ensures in
     let es = entries_of ps in
     let whole : es ≡ entries_of front ++ entry_of x ∷ [] = ap entries_of split ∙ entries_last front x in
     let both : Some (entry_of x) ≡ Some e = sym (ap (λ (xs : List Entry). slice_get xs (length xs - 1)) whole ∙ last_there (entries_of front) (entry_of x)) ∙ is in

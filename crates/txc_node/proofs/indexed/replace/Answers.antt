@@ -1,11 +1,11 @@
-use Rattle.std.proofs.Common.{◌≡◌, ◌<◌, ◌∷◌, List, Some, None, false, length, ap, sym, subst, ◌∙◌}
+use Rattle.std.proofs.Common.{◌≡◌, ◌<◌, ◌∷◌, List, Some, false, length, ap, sym, subst, ◌∙◌}
 use Rattle.std.specs.Prelude.{slice_get, remove}
 use Rattle.std.specs.Map.{remove_entry}
 use Rattle.lru.specs.LruCache.{LruCache}
 use Rattle.txc_node.specs.declared.place.Place.{Place}
 use Rattle.txc_node.specs.declared.stored.Stored.{Stored}
 use Rattle.txc_node.specs.Places.{equal_places}
-use Rattle.txc_node.specs.Indexed.{entry_of, entries_of, listed, Relists, KeepsListed, IsIndexed}
+use Rattle.txc_node.specs.Indexed.{entry_of, entries_of, listed, Relists, KeepsListed}
 use Rattle.txc_node.proofs.Pairs.{put_is}
 use Rattle.txc_node.proofs.Puts.{there_put, same_first, never_none, within_listed, more_listed, replaced_indexed}
 use Rattle.txc_node.proofs.indexed.replace.Goals as goal
@@ -54,7 +54,7 @@ returns-in-Ok-Some-clause-indexed c =
     let relists = subst (λ (q : Place). Relists q.key (a.stored.reach ∷ remove (listed index q.key) a.at) index new) place (c.list_first.ensures.keys p first) in
     let places = subst (λ (q : Place). KeepsListed (λ t r. equal_places q r ≡ false) mid left) place c.list_first.ensures.places in
     rw stands (replaced_indexed ps a.place a.stored a.at index new a.index.now.tables.items mid left c.requires.placed c.requires.there c.requires.indexed relists c.in-Ok.ensures.listed c.list_still.ensures.kept places
-      (c.list_first.ensures.tags p first))
+    (c.list_first.ensures.tags p first))
 
 pub returns-in-Ok-Some-clause-entries : goal.returns-in-Ok-Some-clause-entries
 returns-in-Ok-Some-clause-entries c =

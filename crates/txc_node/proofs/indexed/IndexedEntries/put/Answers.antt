@@ -1,4 +1,4 @@
-use Rattle.std.proofs.Common.{List, ◌∷◌, ap, sym, ◌∙◌}
+use Rattle.std.proofs.Common.{List, ◌∷◌, ap, ◌∙◌}
 use Rattle.std.specs.Prelude.{slice_get}
 use Rattle.txc_node.specs.declared.entry.Entry.{Entry}
 use Rattle.txc_node.specs.Entries.{others}
@@ -18,6 +18,6 @@ returns-clause-evicted c =
           w.in-Ok.ensures.evicted
           ∙ ap (λ (xs : List Entry). slice_get xs i.cache.cap) (first_is a.entry f a.reach c.requires.lo c.split-place.ensures.entry (entries_of i.cache.entries))
           ∙ ap (λ (m : Held). slice_get (g ∷ others a.entry m.entries) m.capacity) c.self.view_is
-        )
+          )
       | in-Err w ↦ rw w.result-is tt
     ]

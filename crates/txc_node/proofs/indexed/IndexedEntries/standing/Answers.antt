@@ -1,4 +1,4 @@
-use Rattle.std.proofs.Common.{List, refl, ap, sym, subst, ◌∙◌, Option}
+use Rattle.std.proofs.Common.{List, ap, sym, subst, ◌∙◌, Option}
 use Rattle.std.specs.List.{find}
 use Rattle.txc_node.specs.declared.entry.Entry.{Entry}
 use Rattle.txc_node.specs.Entries.{same_place}

@@ -1,4 +1,4 @@
-use Rattle.std.proofs.Common.{◌≡◌, List, ◌∷◌, Option, Some, Ok, Err, true, false, take, refl, ap, sym, subst, ◌∙◌}
+use Rattle.std.proofs.Common.{◌≡◌, ◌∷◌, Ok, Err, false, take, refl, ap, sym, subst, ◌∙◌}
 use Rattle.std.specs.Prelude.{slice_get, OnErr}
 use Rattle.txc_stamp.specs.Interval.{Interval, shown}
 use Rattle.txc_node.specs.declared.entry.Entry.{Entry}
@@ -39,7 +39,7 @@ invariant_of-self-2 c =
     let n = the_view c.self.inside in
     let is = kept_by n e c.replay_for-reach.result c.standing-found.result c.ends_no_earlier.result c.ends_no_earlier.ensures c.standing-found.ensures c.replay_for-reach.ensures.value in
     let entries : c.put.new.self.entries ≡ take n.capacity (entries_with n e) =
-        c.in_ok-evicted.ensures.entries ∙ ap (λ (i : Interval). let f : Entry = record e { reach = i } in take n.capacity (f ∷ others e n.entries)) c.replay_for-reach.ensures.value in
+    c.in_ok-evicted.ensures.entries ∙ ap (λ (i : Interval). let f : Entry = record e { reach = i } in take n.capacity (f ∷ others e n.entries)) c.replay_for-reach.ensures.value in
     let state = stored_state n e c.put.new.self.entries (evicted_entry n e) (sym is ∙ c.if-ends_no_earlier.false) entries refl in
     rw c.in_ok-evicted.ensures.capacity (subst IsCache (sym state.0) (insert_keeps n e c.self.invariant))
 
@@ -49,7 +49,7 @@ returns-clause-after c =
     let n = the_view c.self.inside in
     let is = kept_by n e c.replay_for-reach.result c.standing-found.result c.ends_no_earlier.result c.ends_no_earlier.ensures c.standing-found.ensures c.replay_for-reach.ensures.value in
     let entries : c.put.new.self.entries ≡ take n.capacity (entries_with n e) =
-        c.in_ok-evicted.ensures.entries ∙ ap (λ (i : Interval). let f : Entry = record e { reach = i } in take n.capacity (f ∷ others e n.entries)) c.replay_for-reach.ensures.value in
+    c.in_ok-evicted.ensures.entries ∙ ap (λ (i : Interval). let f : Entry = record e { reach = i } in take n.capacity (f ∷ others e n.entries)) c.replay_for-reach.ensures.value in
     let state = stored_state n e c.put.new.self.entries (evicted_entry n e) (sym is ∙ c.if-ends_no_earlier.false) entries refl in
     rw c.in_ok-evicted.ensures.capacity (state.0 ∙ ap (λ (m : Cache). after_insert m e) c.self.view_is)
 
@@ -59,7 +59,7 @@ returns-clause-answer c =
     let n = the_view c.self.inside in
     let is = kept_by n e c.replay_for-reach.result c.standing-found.result c.ends_no_earlier.result c.ends_no_earlier.ensures c.standing-found.ensures c.replay_for-reach.ensures.value in
     let evicted : c.in_ok-evicted.evicted ≡ evicted_entry n e =
-        c.in_ok-evicted.ensures.evicted ∙ ap (λ (i : Interval). let f : Entry = record e { reach = i } in slice_get (f ∷ others e n.entries) n.capacity) c.replay_for-reach.ensures.value in
+    c.in_ok-evicted.ensures.evicted ∙ ap (λ (i : Interval). let f : Entry = record e { reach = i } in slice_get (f ∷ others e n.entries) n.capacity) c.replay_for-reach.ensures.value in
     let state = stored_state n e (take n.capacity (entries_with n e)) c.in_ok-evicted.evicted (sym is ∙ c.if-ends_no_earlier.false) refl evicted in
     let reach : c.shown-reach.result ≡ shown n.processed (replayed_reach n e) = c.shown-reach.ensures ∙ ap (shown n.processed) c.replay_for-reach.ensures.value in
     ap (λ (i : Interval). Stored i c.in_ok-evicted.evicted) reach ∙ state.1 ∙ ap (λ (m : Cache). outcome m e) c.self.view_is

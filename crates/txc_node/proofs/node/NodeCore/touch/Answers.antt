@@ -1,6 +1,6 @@
 use Rattle.std.proofs.Common.{◌≡◌, ◌∷◌, sym, subst}
 use Rattle.txc_node.specs.contracts.node.NodeCore.{the_view}
-use Rattle.txc_node.specs.Cache.{Cache, IsCache}
+use Rattle.txc_node.specs.Cache.{IsCache}
 use Rattle.txc_node.specs.Entries.{others}
 use Rattle.txc_node.proofs.LawLemmas.{lookup_keeps}
 use Rattle.txc_node.proofs.Moves.{after_found}

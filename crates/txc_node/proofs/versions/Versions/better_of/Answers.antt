@@ -1,4 +1,4 @@
-use Rattle.std.proofs.Common.{◌≡◌, ℕ, true, false, Some, None, sym, ◌∙◌}
+use Rattle.std.proofs.Common.{◌≡◌, true, false}
 use Rattle.txc_node.specs.Indexed.{meets, lasts_longer}
 use Rattle.txc_node.proofs.Best.{best_skips, best_keeps, best_begins, best_takes}
 use Rattle.txc_node.proofs.KeyReaches.{range_at, lasts_at}

@@ -1,4 +1,4 @@
-use Rattle.std.proofs.Common.{◌≡◌, Some, None, false, sym, ◌∙◌, ◌==◌}
+use Rattle.std.proofs.Common.{◌≡◌, Some, None, false, sym, ◌==◌}
 use Rattle.std.specs.List.{position}
 use Rattle.txc_stamp.specs.Interval.{Interval}
 use Rattle.txc_node.proofs.Positions.{position_later, position_never}
