@@ -96,11 +96,3 @@ after_elsewhere stamp tags e (x ∷ es) h = (after_both stamp tags x e ∙ h.0, 
 pub after_apart : (stamp : ℕ) (tags : List Tag) (es : List Entry) → AreApart es → AreApart (map (entry_after stamp tags) es)
 after_apart stamp tags [] h = tt
 after_apart stamp tags (e ∷ es) h = (after_elsewhere stamp tags e es h.0, after_apart stamp tags es h.1)
-
--- what `pull` leaves, in the words of places
-pub pulled : (es ys : List Entry) (i : ℕ) → i < length es → AreApart es → ((d : Entry) → ys ≡ get_or es i d ∷ remove es i) → (d : Entry) → ys ≡ get_or es i d ∷ others (get_or es i d) es
-pulled es ys i l h k d = k d ∙ ap (λ xs. get_or es i d ∷ xs) (remove_is_others es i d l h)
-
-pub pulled_apart : (es ys : List Entry) (i : ℕ) → i < length es → AreApart es → ((d : Entry) → ys ≡ get_or es i d ∷ remove es i) → AreApart ys
-pulled_apart [] ys i l h k = absurd (omega arith)
-pulled_apart (x ∷ xs) ys i l h k = rw (pulled (x ∷ xs) ys i l h k x) (first_apart (get_or (x ∷ xs) i x) (x ∷ xs) h)

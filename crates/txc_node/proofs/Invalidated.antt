@@ -1,6 +1,6 @@
 -- What an event leaves, when it has come to all places that its tags list.
-use Rattle.std.proofs.Common.{◌≡◌, ℕ, ◌-◌, Bool, true, false, ◌&&◌, ◌||◌, eqb, cond, List, [], ◌∷◌, map, Option, Some, None, refl, sym, ap, subst, ◌∙◌, arith, ◌⊎◌, inl, inr}
-use Rattle.std.specs.Prelude.{unwrap_or, slice_get, nat_lt}
+use Rattle.std.proofs.Common.{◌≡◌, ℕ, ◌-◌, Bool, true, false, ◌&&◌, ◌||◌, cond, List, [], ◌∷◌, map, Some, None, refl, sym, ap, subst, ◌∙◌, arith}
+use Rattle.std.specs.Prelude.{unwrap_or, nat_lt}
 use Rattle.std.specs.List.{count_by, AllByRecursion, list_any}
 use Rattle.std.specs.Map.{lookup, lookup_entry}
 use Rattle.std.specs.HashMap.{HashMap}
@@ -8,12 +8,10 @@ use Rattle.std.specs.HashSet.{HashSet}
 use Rattle.std.specs.Option.{option_map}
 use Rattle.std.proofs.lemmas.Bool.{false≢true}
 use Rattle.std.proofs.lemmas.List.Sums.{sum_by-cons}
-use borrow.Author.Tests.{eqb-true}
 use Rattle.txc_stamp.specs.Interval.{Interval, closed_at}
 use Rattle.txc_tags.specs.declared.tag.Rows.{Rows}
-use Rattle.txc_tags.specs.declared.tag.Rows.TheVariants.{All, Id, Group}
 use Rattle.txc_tags.specs.declared.tag.Tag.{Tag}
-use Rattle.txc_tags.specs.Tags.{are_all, rows_match, tags_match, sets_match}
+use Rattle.txc_tags.specs.Tags.{tags_match, sets_match}
 use Rattle.txc_tags.specs.Keys.{Call}
 use Rattle.txc_tags.proofs.Offered.{both_true}
 use Rattle.txc_node.specs.declared.entry.Entry.{Entry}
@@ -21,28 +19,11 @@ use Rattle.txc_node.specs.declared.place.Place.{Place}
 use Rattle.txc_node.specs.declared.stored.Stored.{Stored}
 use Rattle.txc_node.specs.Places.{place_of, equal_places}
 use Rattle.txc_node.specs.Cache.{is_invalidated, entry_after}
-use Rattle.txc_node.specs.Indexed.{entry_of, entries_of, entry_at, is_live, ArePlaced, lists_rows, lists, IndexesTags, KeepsListed, AreSparedBy, AreTied, Closes, IsSpared, IsIndexed}
+use Rattle.txc_node.specs.Indexed.{entry_of, entries_of, entry_at, is_live, ArePlaced, lists, IndexesTags, KeepsListed, AreSparedBy, AreTied, Closes, IsSpared, IsIndexed}
 use Rattle.txc_node.proofs.Pairs.{stands_each, pair_at, looked_up}
 use Rattle.txc_node.proofs.Fronts.{pair_of, of_pairs}
 
 -- ---- which rows match
-
-pub matching_rows : (a b : Rows) → are_all a ≡ false → rows_match a b ≡ true → (b ≡ All) ⊎ (a ≡ b)
-matching_rows All b h m = absurd (false≢true (sym h))
-matching_rows (Id n) All h m = inl refl
-matching_rows (Id n) (Id k) h m = inr (ap Id (eqb-true n k m))
-matching_rows (Id n) (Group k) h m = absurd (false≢true m)
-matching_rows (Group n) All h m = inl refl
-matching_rows (Group n) (Id k) h m = absurd (false≢true m)
-matching_rows (Group n) (Group k) h m = inr (ap Group (eqb-true n k m))
-
-pub matching_tables : (a b : Tag) → tags_match a b ≡ true → (a.table ≡ b.table) × (rows_match a.rows b.rows ≡ true)
-matching_tables a b m = let two = both_true (eqb a.table b.table) (rows_match a.rows b.rows) m in (eqb-true a.table b.table two.0, two.1)
-
-pub lists_in : {S : Type 0} (tables : List (HashMap Rows (HashSet Place S) S)) (b : HashMap Rows (HashSet Place S) S) (tag t : Tag) (q : Place) → slice_get tables tag.table ≡ Some b → tag.table ≡ t.table → lists tables t q ≡ true → lists_rows b.entries t.rows q ≡ true
-lists_in {S} tables b tag t q at same l =
-    let there : slice_get tables t.table ≡ Some b = subst (λ n. slice_get tables n ≡ Some b) same at in
-    sym (ap (λ (f : Option (HashMap Rows (HashSet Place S) S)). unwrap_or (option_map (λ x. lists_rows x.entries t.rows q) f) false) there) ∙ l
 
 -- ---- nothing is left to invalidate
 

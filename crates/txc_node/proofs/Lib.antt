@@ -19,5 +19,4 @@ pub mod Lasts
 pub mod Turns
 pub mod Puts
 pub mod Pairs
-pub mod Listing
 mod History
