@@ -1,5 +1,5 @@
 //! The entries of a node, with what finds them.
-ghost use Rattle.std.specs.Prelude.{List, remove, unwrap_or, nat_lt, ◌≡◌, ◌+◌, ◌-◌, ◌<◌, ◌≤◌, [], ◌∷◌, ◌++◌, length, map, take, not, true, false, Some, None, OnOk, OnErr, IfOk, IfErr, if◌then◌else◌, slice_get, option_copied};
+ghost use Rattle.std.specs.Prelude.{List, remove, unwrap_or, nat_lt, ◌≡◌, ◌+◌, ◌-◌, ◌<◌, ◌≤◌, [], ◌∷◌, length, map, take, not, true, false, Some, None, OnOk, OnErr, IfOk, IfErr, slice_get, option_copied};
 ghost use Rattle.std.specs.List.{find, filter, count_by, AllByRecursion};
 ghost use Rattle.std.specs.Option.{option_map};
 ghost use Rattle.std.specs.Map.{lookup};
@@ -9,13 +9,13 @@ ghost use Rattle.lru.specs.LruCache.{last_entry};
 ghost use Rattle.txc_tags.specs.declared.tag.Tag.{Tag};
 ghost use Rattle.txc_tags.specs.declared.tag.Rows.{Rows};
 ghost use Rattle.txc_node.specs.declared.place.Place.{Place};
-ghost use Rattle.txc_tags.specs.Tags.{rows_match, tags_match, has_tag};
-ghost use Rattle.txc_tags.specs.Keys.{Call, same_call};
+ghost use Rattle.txc_tags.specs.Tags.{rows_match, has_tag};
+ghost use Rattle.txc_tags.specs.Keys.{Call};
 ghost use Rattle.txc_node.specs.declared.entry.Entry.{Entry};
-ghost use Rattle.txc_node.specs.Places.{place_of, place_at, equal_places};
-ghost use Rattle.txc_node.specs.Entries.{is_best, others, same_place, AreApart};
+ghost use Rattle.txc_node.specs.Places.{place_of, equal_places};
+ghost use Rattle.txc_node.specs.Entries.{is_best, others, same_place};
 ghost use Rattle.txc_node.specs.Cache.{is_invalidated, entry_after, has_ended};
-ghost use Rattle.txc_node.specs.Indexed.{entry_of, entries_of, turned, entry_at, ArePlaced, entries_under, reaches_under, stored_of, AreOf, listed, Relists, IsIndexed, IndexesKeys, IsFound, is_stale, stored_after, closed_reach, after_at, AreTied, AreSparedAt, AreSparedBy, KeepsListed, IsListed, StandsUnder, with_first, is_live, Closes, IsSpared, lists, lists_rows};
+ghost use Rattle.txc_node.specs.Indexed.{entry_of, entries_of, turned, entries_under, reaches_under, stored_of, AreOf, listed, Relists, IsIndexed, IsFound, is_stale, stored_after, closed_reach, after_at, AreTied, AreSparedAt, AreSparedBy, KeepsListed, IsListed, StandsUnder, with_first, is_live, Closes, IsSpared, lists_rows};
 
 use crate::entry::Entry;
 use crate::key_index::KeyIndex;

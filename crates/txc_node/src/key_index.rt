@@ -1,5 +1,5 @@
 //! The index of the entries by their keys.
-ghost use Rattle.std.specs.Prelude.{List, Some, take, slice_get, ◌-◌, ◌≡◌, ◌<◌, ◌∷◌, [], ◌++◌, length, map, remove, if◌then◌else◌, is_ok, MatchOption};
+ghost use Rattle.std.specs.Prelude.{List, Some, take, slice_get, ◌-◌, ◌≡◌, ◌<◌, ◌∷◌, [], length, map, remove, if◌then◌else◌, is_ok, MatchOption};
 ghost use Rattle.txc_stamp.specs.Interval.{Interval};
 ghost use Rattle.txc_node.specs.Indexed.{listed, Relists, in_stead};
 

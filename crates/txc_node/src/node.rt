@@ -1,12 +1,11 @@
 //! The node: its entries, and the tags of the last events.
-ghost use Rattle.std.specs.Prelude.{List, Option, None, option_copied, slice_get, if◌then◌else◌, is_some, ◌≡◌, ◌+◌, ◌<◌, ◌≤◌, ◌↔◌, map, length, [], IsTrue, Ok, Err, IfOk, IfErr, OnOk, OnErr, IsOk, MatchResult, false, vec_len};
-ghost use Rattle.std.specs.List.{count_by};
+ghost use Rattle.std.specs.Prelude.{List, Option, None, option_copied, slice_get, if◌then◌else◌, is_some, ◌≡◌, ◌+◌, ◌<◌, ◌≤◌, ◌↔◌, length, [], IsTrue, Ok, Err, IfOk, IfErr, OnOk, OnErr, IsOk, MatchResult, false};
 ghost use Rattle.std.specs.Option.{option_map};
 ghost use Rattle.std.specs.Borrow.{sem};
 ghost use Rattle.std.specs.Io.BufRead.{Rests};
 ghost use Rattle.txc_node.specs.contracts.node.NodeCore.{the_row};
 ghost use Rattle.txc_node.specs.declared.entry.Entry.{Entry};
-ghost use Rattle.txc_node.specs.Cache.{ends_no_earlier, shown_of, empty_cache, found, answer, after_lookup, is_kept, after_insert, outcome, is_invalidated, entry_after, after_event, closed_count, after_sweep, swept_count};
+ghost use Rattle.txc_node.specs.Cache.{ends_no_earlier, shown_of, empty_cache, found, answer, after_lookup, is_kept, after_insert, outcome, after_event, closed_count, after_sweep, swept_count};
 ghost use Rattle.txc_node.specs.Hit.{seen};
 ghost use Rattle.txc_node.specs.Indexed.{IsFound, entries_under, shown_as};
 

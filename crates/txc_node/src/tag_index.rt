@@ -1,10 +1,10 @@
 //! The index of the still valid entries by their tags.
-ghost use Rattle.std.specs.Prelude.{vec_len, ◌≡◌, ◌≢◌, ◌⊎◌, ◌<◌, [], length, true, false, OnOk, IfOk, MatchOption, Some, slice_get};
+ghost use Rattle.std.specs.Prelude.{vec_len, ◌≡◌, ◌<◌, true, false, OnOk, Some, slice_get};
 ghost use Rattle.std.specs.List.{AllByRecursion};
 ghost use Rattle.txc_tags.specs.declared.tag.Tag.{Tag};
 ghost use Rattle.txc_tags.specs.declared.tag.Rows.{Rows};
 ghost use Rattle.txc_node.specs.declared.place.Place.{Place};
-ghost use Rattle.txc_tags.specs.Tags.{same_tag, has_tag, tags_match};
+ghost use Rattle.txc_tags.specs.Tags.{same_tag, has_tag};
 ghost use Rattle.txc_node.specs.Places.{equal_places};
 ghost use Rattle.txc_node.specs.Indexed.{equal_rows, has_place, lists_rows, lists, KeepsListed, is_live};
 

@@ -1,5 +1,5 @@
 //! The reaches of the entries of one key.
-ghost use Rattle.std.specs.Prelude.{List, take, ◌≡◌, ◌+◌, ◌-◌, ◌<◌, ◌≤◌, ◌==◌, ◌∷◌, [], ◌++◌, length, map, IsTrue, IsFalse, IfSome, Some, OnOk, OnErr, slice_get, remove};
+ghost use Rattle.std.specs.Prelude.{List, take, ◌≡◌, ◌+◌, ◌-◌, ◌<◌, ◌==◌, ◌∷◌, [], length, map, IsTrue, IsFalse, IfSome, Some, OnOk, OnErr, slice_get, remove};
 ghost use Rattle.std.specs.List.{position};
 ghost use Rattle.txc_stamp.specs.Interval.{Interval};
 ghost use Rattle.txc_tags.specs.Keys.{Call};
