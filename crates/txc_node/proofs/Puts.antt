@@ -22,14 +22,14 @@ use Rattle.txc_node.specs.declared.entry.Entry.{Entry}
 use Rattle.txc_node.specs.declared.place.Place.{Place}
 use Rattle.txc_node.specs.declared.stored.Stored.{Stored}
 use Rattle.txc_node.specs.declared.versions.Found.{Found}
-use Rattle.txc_node.specs.Places.{place_of, place_at, equal_places}
+use Rattle.txc_node.specs.Places.{place_of, place_at, equal_places, equal_places_is}
 use Rattle.txc_node.specs.Entries.{same_place, others, AreApart}
 use Rattle.txc_node.specs.Cache.{Cache, ends_no_earlier, is_kept, replayed_reach}
 use Rattle.txc_node.specs.Indexed.{entry_of, stored_of, entries_of, ArePlaced, entries_under, reaches_under, listed, IndexesKeys, Relists, StandsUnder, with_first, IsFound, lists, IsListed, IndexesTags, KeepsListed, IsIndexed}
 use Rattle.txc_node.proofs.Apart.{same_place_sym, first_apart, others_elsewhere, filter_keeps}
 use Rattle.txc_node.proofs.Inserts.{others_like, others_none, filter_same, place_moved}
 use Rattle.txc_node.proofs.Swept.{find_same}
-use Rattle.txc_node.proofs.Pairs.{pair_at, without_is_others, removed_keeps, removed_length}
+use Rattle.txc_node.proofs.Pairs.{found_each, pair_at, without_is_others, removed_keeps, removed_length}
 use Rattle.txc_node.proofs.KeyLists.{indexes_by, put_first, brought_first, relisted_there}
 use Rattle.txc_node.proofs.Fronts.{key_at}
 use Rattle.txc_node.proofs.Invalidated.{kept_tags}
@@ -135,6 +135,39 @@ module _ {S : Type 0} (ps : List (Place × Stored)) (index new : List (Call × L
         tags = kept_elsewhere mid left q es elsewhere fewer (all_kept tables mid es more h.tags);
       }
 
+value_at : (test : Place → Bool) (ps : List (Place × Stored)) → lookup test ps ≡ option_map (λ p. p.1) (lookup_entry test ps)
+value_at test [] = refl
+value_at test (x ∷ ps) = elim (test x.0) as (λ b. cond b (Some x.1) (lookup test ps) ≡ option_map (λ p. p.1) (cond b (Some x) (lookup_entry test ps))) [ true ↦ refl | false ↦ value_at test ps ]
+
+values_at : (ps xs : List (Place × Stored)) → AllByRecursion (λ y. lookup_entry (equal_places y.0) ps ≡ Some y) xs → AllByRecursion (λ y. lookup (equal_places y.0) ps ≡ Some y.1) xs
+values_at ps [] h = tt
+values_at ps (x ∷ xs) h = (value_at (equal_places x.0) ps ∙ ap (option_map (λ p. p.1)) h.0, values_at ps xs h.1)
+
+-- what was listed for it in excess is taken off again, and what stands at its place stays listed
+module _ {S : Type 0} (ps : List (Place × Stored)) (q : Place) (s : Stored) (mid left : List (HashMap Rows (HashSet Place S) S)) (at : lookup (equal_places q) ps ≡ Some s)
+    (places : KeepsListed (λ t p. equal_places q p ≡ false) mid left) (own : KeepsListed (λ t p. has_tag s.tags t ≡ true) mid left) where
+  all_restored : (xs : List (Place × Stored)) → ArePlaced xs → AllByRecursion (λ y. lookup (equal_places y.0) ps ≡ Some y.1) xs → IndexesTags mid (entries_of xs) → IndexesTags left (entries_of xs)
+  all_restored [] placed found h = tt
+  all_restored (y ∷ xs) placed found h =
+      let o = entry_of y in (
+        (elim (equal_places q y.0) as (λ b. equal_places q y.0 ≡ b → IsListed left (place_of o) (stored_of o)) [
+          | true ↦ λ t still.
+              let both : Some s ≡ Some y.1 = sym at ∙ ap (λ p. lookup (equal_places p) ps) (equal_places_is q y.0 t) ∙ found.0 in
+              let same : s ≡ y.1 = cc in
+              own_kept mid left (place_of o) s.tags o.tags (subst (λ (u : Stored). AllByRecursion (λ x. has_tag u.tags x ≡ true) y.1.tags) (sym same) (own_tags y.1.tags)) own (h.0 still)
+          | false ↦ λ t still. kept_tags mid left (place_of o) o.tags (λ x. places x (place_of o) (ap (equal_places q) (sym placed.0) ∙ t)) (h.0 still)
+        ]) refl,
+        all_restored xs placed.1 found.1 h.1,
+      )
+
+  pub restored : (index : List (Call × List Interval)) (tables : List (HashMap Rows (HashSet Place S) S)) → IsIndexed ps index tables → KeepsListed (λ t p. Unit {0}) tables mid → IsIndexed ps index left
+  restored index tables h more = record {
+    placed = h.placed;
+    apart = h.apart;
+    keys = h.keys;
+    tags = all_restored ps h.placed (values_at ps ps (found_each ps h.placed h.apart)) (all_kept tables mid (entries_of ps) more h.tags);
+  }
+
 -- ---- a new entry at a place where none stands
 
 module _ {S : Type 0} (ps : List (Place × Stored)) (q : Place) (s : Stored) (index new : List (Call × List Interval)) (tables mid : List (HashMap Rows (HashSet Place S) S)) where
@@ -187,13 +220,14 @@ pushed_out n ps p x index new tables left some within is h relists keeps =
 -- ---- a new entry in the stead of the one at its place
 
 pub there_put : (c : LruCache Place Stored) (q : Place) (s : Stored) (at : ℕ) → q ≡ place_of (entry_of (q, s)) → StandsUnder (entry_of (q, s)) (entries_of c.entries) at → ArePlaced c.entries
-    → (old : Stored) × (put_entries equal_places c q s ≡ (q, s) ∷ remove_entry (equal_places q) c.entries) × (displaced equal_places c q s ≡ Some (q, old))
+    → (old : Stored) × (put_entries equal_places c q s ≡ (q, s) ∷ remove_entry (equal_places q) c.entries) × (displaced equal_places c q s ≡ Some (q, old)) × (lookup (equal_places q) c.entries ≡ Some old)
 there_put c q s at is there placed =
     let x = pair_there c.entries q (entry_of (q, s)) there.0 is placed there.1 in
     let here : x.0.0 ≡ q = (pair_at c.entries q x.0 placed x.1).0 in (
       x.0.1,
       ap (λ f. option_map_or (λ p. (p.0, s) ∷ remove_entry (equal_places q) c.entries) f ((q, s) ∷ take (c.cap - 1) c.entries)) x.1 ∙ ap (λ k. (k, s) ∷ remove_entry (equal_places q) c.entries) here,
       ap (λ f. option_map_or (λ old. Some (q, old)) f (slice_get c.entries (c.cap - 1))) x.2,
+      x.2,
     )
 
 -- where it stands in the index of the keys

@@ -410,6 +410,18 @@ fn list_first(
     }
 }
 
+// Takes a place off those under each of these tags that what is stored there has not.
+fn unlist_added(cache: &LruCache<Place, Stored>, index: &mut TagIndex, place: &Place, tags: &TagSet)
+    ensures places { KeepsListed (λ t q. equal_places place.now q ≡ false)
+        index.old.tables.items index.new.tables.items }
+    ensures tags { (s : Stored) → lookup (equal_places place.now) cache.now.entries ≡ Some s
+        → KeepsListed (λ t q. has_tag s.tags t ≡ true) index.old.tables.items index.new.tables.items }
+{
+    if let Some(stored) = cache.peek(place) {
+        index.unlist_others(tags, &stored.tags, place);
+    }
+}
+
 // A new entry first, in the stead of the one at its place, that stands there among those of the key.
 fn replace(
     cache: &mut LruCache<Place, Stored>,
@@ -432,6 +444,7 @@ fn replace(
     ensures handed_back { IfErr result (λ e. e.value ≡ (place, stored)) }
 {
     let Ok(()) = list_still(index, &place, &stored) else {
+        unlist_added(cache, index, &place, &stored.tags);
         return Err(AllocFailed {
             value: (place, stored),
         });

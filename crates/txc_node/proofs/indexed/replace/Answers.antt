@@ -7,7 +7,7 @@ use Rattle.txc_node.specs.declared.stored.Stored.{Stored}
 use Rattle.txc_node.specs.Places.{equal_places}
 use Rattle.txc_node.specs.Indexed.{entry_of, entries_of, listed, Relists, KeepsListed}
 use Rattle.txc_node.proofs.Pairs.{put_is}
-use Rattle.txc_node.proofs.Puts.{there_put, same_first, never_none, within_listed, more_listed, replaced_indexed}
+use Rattle.txc_node.proofs.Puts.{there_put, same_first, never_none, within_listed, more_listed, restored, replaced_indexed}
 use Rattle.txc_node.proofs.indexed.replace.Goals as goal
 
 pub list_first-requires : goal.list_first-requires
@@ -60,3 +60,10 @@ pub returns-in-Ok-Some-clause-entries : goal.returns-in-Ok-Some-clause-entries
 returns-in-Ok-Some-clause-entries c =
     ap (λ (m : LruCache Place Stored). entries_of m.entries) c.in-Ok-Some.ensures.entries
     ∙ put_is c.args.cache.now c.args.place c.args.stored c.requires.placed c.requires.indexed.placed c.requires.indexed.apart c.requires.within c.requires.some
+
+pub returns-in_default-clause-indexed : goal.returns-in_default-clause-indexed
+returns-in_default-clause-indexed c =
+    let a = c.args in
+    let put = there_put a.cache.now a.place a.stored a.at c.requires.placed c.requires.there c.requires.indexed.placed in
+    restored a.cache.now.entries a.place put.0 c.list_still.new.index.tables.items c.unlist_added.new.index.tables.items put.3 c.unlist_added.ensures.places (c.unlist_added.ensures.tags put.0 put.3)
+    a.keys.now.versions.entries a.index.now.tables.items c.requires.indexed c.list_still.ensures.kept
