@@ -3,8 +3,8 @@
 
 usage: node_compare.py OLD NEW SCRIPTS LINES [CAPACITY]
 
-OLD and NEW are built from bench/node_bench: `PROGRAM CAPACITY RECENT`, a script on standard input. Without a capacity
-each script takes one of 1 to 64. LINES is the most that a script has.
+OLD and NEW are programs that bench/node_build.sh made. Without a capacity each script takes one of 1 to 64. LINES is
+the most that a script has.
 """
 import random
 import subprocess
@@ -24,7 +24,8 @@ def script(kind, capacity, lines, seed):
 
 
 def answer(program, capacity, recent, text):
-    run = subprocess.run([program, str(capacity), str(recent)], input=text, capture_output=True)
+    settings = f"capacity = {capacity}\nrecent = {recent}"
+    run = subprocess.run([program, "node", "--settings", settings], input=text, capture_output=True)
     return run.returncode, run.stdout, run.stderr
 
 
