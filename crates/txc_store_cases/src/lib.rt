@@ -14,6 +14,8 @@ mod db;
 #[cfg(test)]
 mod errors;
 #[cfg(test)]
+mod faults;
+#[cfg(test)]
 mod pins;
 #[cfg(test)]
 mod rows;
