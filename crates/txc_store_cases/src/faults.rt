@@ -24,48 +24,102 @@ const BLANKS: &str = "line 1: a blank at the start or the end, or two blanks in 
 
 /// Scripts, and what is said of the last line of each.
 static LINES: [(&str, &str); 15] = [
-    ("event 1 -\r\n", "line 1: byte 10, 0x0D, is not printable ASCII"),
+    (
+        "event 1 -\r\n",
+        "line 1: byte 10, 0x0D, is not printable ASCII",
+    ),
     ("\tevent  1", "line 1: byte 1, 0x09, is not printable ASCII"),
     ("# \x7f", "line 1: byte 3, 0x7F, is not printable ASCII"),
-    ("event \u{e9}\t-", "line 1: byte 7, 0xC3, is not printable ASCII"),
+    (
+        "event \u{e9}\t-",
+        "line 1: byte 7, 0xC3, is not printable ASCII",
+    ),
     (" event 1 -", BLANKS),
     ("event 1 - ", BLANKS),
     ("events  1", BLANKS),
     (" ", BLANKS),
-    ("# a comment\n\nadvance 1\nsweep", "line 3: unknown command `advance`"),
+    (
+        "# a comment\n\nadvance 1\nsweep",
+        "line 3: unknown command `advance`",
+    ),
     ("event 1 -\nEvent 2 -", "line 2: unknown command `Event`"),
     (
         "a123456789012345678901234567890123456789x",
         "line 1: unknown command `a123456789012345678901234567890123456789...`",
     ),
     ("sweep", "line 1: 1 word must follow the command, not 0"),
-    ("event x y z", "line 1: 2 words must follow the command, not 3"),
-    ("lookup f1() 0", "line 1: 3 words must follow the command, not 2"),
+    (
+        "event x y z",
+        "line 1: 2 words must follow the command, not 3",
+    ),
+    (
+        "lookup f1() 0",
+        "line 1: 3 words must follow the command, not 2",
+    ),
     ("insert 1", "line 1: 6 words must follow the command, not 1"),
 ];
 
 const KEY: &str = "a key such as `f1(2,3)`";
+
 const STAMP: &str = "a stamp from 0 to 1048576, without leading zeros";
+
 const REACH: &str = "`still` or `closed`";
+
 const TAGS: &str = "tags such as `t1:id=7,t2:?`, or `-`";
+
 const BYTES: &str = "bytes as pairs of lower-case hexadecimal digits, or `-`";
 
 /// Scripts, and which word of each is said to be bad, what was expected, and what was found.
 static WORDS: [(&str, &str, &str, &str); 16] = [
-    ("lookup f1(02) 0 x", "line 1: word 1", KEY, "`f1(02)`, wrong at byte 5"),
+    (
+        "lookup f1(02) 0 x",
+        "line 1: word 1",
+        KEY,
+        "`f1(02)`, wrong at byte 5",
+    ),
     (
         "lookup f1(1,2,3,4,5) 0 9",
         "line 1: word 1",
         KEY,
         "`f1(1,2,3,4,5)`, wrong at byte 11",
     ),
-    ("lookup g1() 0 9", "line 1: word 1", KEY, "`g1()`, wrong at byte 1"),
-    ("lookup f1(2 0 9", "line 1: word 1", KEY, "`f1(2`, which ends too early"),
-    ("lookup f1(2) 0 1048577", "line 1: word 3", STAMP, "`1048577`"),
+    (
+        "lookup g1() 0 9",
+        "line 1: word 1",
+        KEY,
+        "`g1()`, wrong at byte 1",
+    ),
+    (
+        "lookup f1(2 0 9",
+        "line 1: word 1",
+        KEY,
+        "`f1(2`, which ends too early",
+    ),
+    (
+        "lookup f1(2) 0 1048577",
+        "line 1: word 3",
+        STAMP,
+        "`1048577`",
+    ),
     ("event 01 x", "line 1: word 1", STAMP, "`01`"),
-    ("\ninsert f1(2) 0 x still t 0", "line 2: word 3", STAMP, "`x`"),
-    ("insert f1(2) 0 0 open - 0", "line 1: word 4", REACH, "`open`"),
-    ("event 1 t1:?x", "line 1: word 2", TAGS, "`t1:?x`, wrong at byte 5"),
+    (
+        "\ninsert f1(2) 0 x still t 0",
+        "line 2: word 3",
+        STAMP,
+        "`x`",
+    ),
+    (
+        "insert f1(2) 0 0 open - 0",
+        "line 1: word 4",
+        REACH,
+        "`open`",
+    ),
+    (
+        "event 1 t1:?x",
+        "line 1: word 2",
+        TAGS,
+        "`t1:?x`, wrong at byte 5",
+    ),
     (
         "insert f1(2) 0 0 closed t1:id= 0",
         "line 1: word 5",
@@ -78,9 +132,24 @@ static WORDS: [(&str, &str, &str, &str); 16] = [
         TAGS,
         "`t1:id=1,t1:id=2,t1:id=3,t1:id=4,t1:id=5,...`, wrong at byte 43",
     ),
-    ("insert f1(2) 0 0 still - 0A", "line 1: word 6", BYTES, "`0A`"),
-    ("insert f1(2) 0 0 closed t1:? 0a0", "line 1: word 6", BYTES, "`0a0`"),
-    ("insert f1(2) 9 0 still - --", "line 1: word 6", BYTES, "`--`"),
+    (
+        "insert f1(2) 0 0 still - 0A",
+        "line 1: word 6",
+        BYTES,
+        "`0A`",
+    ),
+    (
+        "insert f1(2) 0 0 closed t1:? 0a0",
+        "line 1: word 6",
+        BYTES,
+        "`0a0`",
+    ),
+    (
+        "insert f1(2) 9 0 still - --",
+        "line 1: word 6",
+        BYTES,
+        "`--`",
+    ),
     (
         "sweep 1234567890123456789012345678901234567890",
         "line 1: word 1",
@@ -142,7 +211,10 @@ fn a_malformed_line_says_what_is_wrong(rt: HostRuntime) {
 #[test]
 fn a_bad_word_says_what_was_expected(rt: HostRuntime) {
     for (script, word, expected, found) in &WORDS {
-        assert!(rt; says_word(rt.alloc(), script, word, expected, found), "{script}");
+        assert!(rt;
+            says_word(rt.alloc(), script, word, expected, found),
+            "{script}"
+        );
     }
 }
 
@@ -151,5 +223,8 @@ fn a_line_may_be_too_long(rt: HostRuntime) {
     let line = [b' '; 4097];
     let too_long = "line 1: longer than 4096 bytes";
     assert!(rt; says(rt.alloc(), Mode::Node, &line, too_long), "4097 bytes");
-    assert!(rt; says(rt.alloc(), Mode::Node, &line[1..], BLANKS), "4096 bytes");
+    assert!(rt;
+        says(rt.alloc(), Mode::Node, &line[1..], BLANKS),
+        "4096 bytes"
+    );
 }
