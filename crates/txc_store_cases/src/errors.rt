@@ -47,6 +47,6 @@ fn errors_say_what_was_refused(rt: HostRuntime) -> Result<(), Fail> {
         say(&mut text, &fault);
     }
     assert!(rt; text.as_str() == TEXTS, "{text}");
-    assert!(rt; exit_of(Err(RunFault::Memory)) == 5);
+    assert!(rt; exit_of(&Err(RunFault::Memory)) == 5);
     Ok(())
 }

@@ -119,9 +119,10 @@ fn whole_case<'a>(
 
 /// What the program says at its end, with its exit status.
 fn end_of(ended: Result<Status, RunFault>) -> &'static str {
-    match (ended, exit_of(ended)) {
+    let status = exit_of(&ended);
+    match (ended, status) {
         (Ok(Status::Done), 0) => "0",
-        (Ok(Status::Refused), 1) => "1",
+        (Ok(Status::Refused | Status::Malformed(_)), 1) => "1",
         (Err(RunFault::Read), 4) => "read fault",
         (Err(RunFault::Write), 4) => "write fault",
         (Err(RunFault::Memory), 5) => "memory",
