@@ -17,5 +17,5 @@ is_in {X} xs x h = at xs h.0 h.1 h.2
 
 pub contains_it : {X : Type 0} (xs : List X) (x : X) → IsIn x xs → Contains xs x
 contains_it [] x h = absurd h
-contains_it (y ∷ ys) x (inl same) = (0, omega arith, sym same)
+contains_it (y ∷ ys) x (inl same) = (zero, omega arith, sym same)
 contains_it (y ∷ ys) x (inr later) = let it = contains_it ys x later in (suc it.0, omega (arith, it.1), it.2)
