@@ -5,18 +5,32 @@ usage: times.py PROGRAM ROWS.. / EVENTS..
   ROWS     the sizes of the first table, the least first
   EVENTS   the lengths of the history, at the first size
 
-Each line: the operation, and the processor time of one run of it. A commit stands beside the store's own
-write of the same changes, both without what it takes to make them. Last come the ratios that are wanted.
+Each line: the operation, and the processor time of one run of it. Queries by id and by group name few different
+ids again and again, or all of the table in turn. A commit stands beside the store's own write of the same changes,
+and the same commit once more, which changes nothing, shows what it reads; all three without what it takes to make
+the changes. Last comes what the greatest size and the longest history take, as multiples of what the least take.
 """
 
 import subprocess
 import sys
 import time
 
-# so many runs of each operation at a time, and so many times: the least counts
-QUERIES = {"id": 2000, "group": 1000, "table": 20, "refused": 20}
+FEW = 200
+# of each kind of query its operation, how many runs at a time, and whether few ids are named
+QUERIES = {
+    "few ids": ("id", 20000, True),
+    "all ids": ("id", 20000, False),
+    "few groups": ("group", 5000, True),
+    "all groups": ("group", 5000, False),
+    "a table": ("table", 50, False),
+    "the large": ("refused", 50, False),
+}
+# so many times, of which the least counts
 ROUNDS = 5
-CHANGES = {1: 10, 256: 1}
+# of each size of a commit how many runs at a time
+CHANGES = {1: 40, 256: 1}
+# so many changes at a time of commits that change nothing
+AGAIN = 2560
 
 
 class Bench:
@@ -56,35 +70,39 @@ def shown(nanoseconds):
 
 
 def line(name, nanoseconds, more=""):
-    print(f"  {name:12} {shown(nanoseconds)}{more}", flush=True)
+    print(f"  {name:20} {shown(nanoseconds)}{more}", flush=True)
 
 
 def queries(bench, rows):
     """The time of each kind of query, by its name."""
     found = {"id": 1, "group": 10, "table": 1000, "refused": int(rows > 1024)}
-    spent = {name: bench.least(name, times, found[name]) for name, times in QUERIES.items()}
-    for name, nanoseconds in spent.items():
-        line("all rows" if name == "refused" and not found[name] else name, nanoseconds)
+    spent = {}
+    for name, (operation, times, few) in QUERIES.items():
+        bench.run(f"ids {FEW if few else rows}", FEW if few else rows)
+        spent[name] = bench.least(operation, times, found[operation])
+        line(name + (", refused" if name == "the large" and found[operation] else ""), spent[name])
     return spent
 
 
 def commits(bench, count):
-    """The times of one commit and of one write of so many changes, both without the making of them."""
-    spent = {"commit": [], "write": [], "changes": []}
+    """The times of one commit and of what it reads, beside one write, each without the making of the changes."""
+    spent = {"commit": [], "write": []}
+    made = bench.least(f"changes_{count}", AGAIN // count, count)
     for _ in range(ROUNDS):
         for name, each in spent.items():
             each.append(bench.run(f"{name}_{count} {CHANGES[count]}", CHANGES[count] * count) / CHANGES[count])
-    made = min(spent["changes"])
     pairs = [(c - made, w - made) for c, w in zip(spent["commit"], spent["write"])]
     ratio = sorted(c / w for c, w in pairs)[len(pairs) // 2]
     commit, write = (sum(side) / len(pairs) for side in zip(*pairs))
     line(f"commit {count}", commit, f"   write {shown(write)}   ratio {ratio:.2f}")
-    return commit, write, ratio
+    reading = bench.least(f"again_{count}", AGAIN // count, count) - made
+    line("  what it reads", reading)
+    return {f"commit {count}": commit, f"read by commit {count}": reading}
 
 
 def vacuums(bench):
     bench.run("vacuum 1", 1)
-    return bench.least("vacuum", 100_000, 1)
+    return bench.least("vacuum", 1_000_000, 1)
 
 
 def measured(bench, rows):
@@ -93,10 +111,7 @@ def measured(bench, rows):
     spent["vacuum"] = vacuums(bench)
     line("vacuum", spent["vacuum"])
     for count in CHANGES:
-        commit, write, ratio = commits(bench, count)
-        spent[f"commit {count}"] = commit
-        spent[f"ratio {count}"] = ratio
-        spent[f"reading {count}"] = (commit - write) / count
+        spent |= commits(bench, count)
     return spent
 
 
@@ -118,18 +133,18 @@ def main():
         print(f"events {events} over {sizes[0]} rows, {pins / events:.0f} ns a pin", flush=True)
         by_events[events] = measured(bench, sizes[0])
         bench.close()
-    compare("rows", by_rows, ("id", "group", "table", "reading 1", "reading 256"))
-    compare("events", by_events, ("id", "group", "table", "vacuum", "commit 1", "commit 256"))
+    compare("rows", by_rows, lambda name: name != "the large")
+    compare("events", by_events, lambda name: True)
 
 
-def compare(of, spent, names):
+def compare(of, spent, is_wanted):
     """What the greatest size takes, as a multiple of what the least does."""
     if len(spent) < 2:
         return
     least, most = min(spent), max(spent)
     print(f"{of} {most} against {least}")
-    for name in names:
-        print(f"  {name:12} {spent[most][name] / spent[least][name]:8.2f}")
+    for name in filter(is_wanted, spent[least]):
+        print(f"  {name:20} {spent[most][name] / spent[least][name]:8.2f}")
 
 
 if __name__ == "__main__":
