@@ -101,15 +101,24 @@ def commits(bench, count):
 
 
 def vacuums(bench):
+    """The times of a vacuum that stays, and of one that moves the horizon by one event and drops one version."""
     bench.run("vacuum 1", 1)
-    return bench.least("vacuum", 1_000_000, 1)
+    spent = {"vacuum, stays": bench.least("vacuum", 1_000_000, 1)}
+    moves = []
+    for _ in range(ROUNDS):
+        bench.run("commit_1 1", 1)
+        bench.run("write_1 1", 1)
+        moves.append(bench.run("vacuum 1", 1))
+    spent["vacuum, moves"] = min(moves)
+    for name, nanoseconds in spent.items():
+        line(name, nanoseconds)
+    return spent
 
 
 def measured(bench, rows):
     """All times at this size and this length of the history."""
     spent = queries(bench, rows)
-    spent["vacuum"] = vacuums(bench)
-    line("vacuum", spent["vacuum"])
+    spent |= vacuums(bench)
     for count in CHANGES:
         spent |= commits(bench, count)
     return spent
