@@ -28,7 +28,8 @@ ReadsModes parser =
 
 -- the mode, which has to be there
 abbrev pub mode_rule : Option ValueParser → Rule
-mode_rule modes = record (new_rule (codes "mode")) { required = true; action = Some Set; value_names = 1; parser = modes }
+mode_rule modes =
+    record (new_rule (codes "mode")) { required = true; action = Some Set; value_names = 1; parser = modes }
 
 -- `--settings` with a text
 abbrev pub settings_rule : Rule
@@ -50,11 +51,13 @@ HasSettings words settings =
     (modes : Option ValueParser) × ReadsModes modes
     × (first_of (codes "settings") (matches_of (program modes) words) ≡ settings)
 
--- a growth was refused, or the words are none of a command line, and the error is of a kind that they call for
+-- a growth was refused, or the words are none of a command line, and the error is of a kind that they call
+-- for
 abbrev pub IsRefusedAs : List Text → Error → Type 0
 IsRefusedAs words error =
     (kind_of error ≡ OutOfMemory)
-    ⊎ ((modes : Option ValueParser) × ReadsModes modes × IsAmong (kind_of error) (fault_of (program modes) words))
+    ⊎ ((modes : Option ValueParser) × ReadsModes modes
+    × IsAmong (kind_of error) (fault_of (program modes) words))
 
 -- ---- only private functions need this
 

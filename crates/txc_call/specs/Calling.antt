@@ -12,8 +12,8 @@ use Rattle.txc_call.specs.declared.need.Outcome.{Outcome}
 use Rattle.txc_call.specs.Needs.{InNeed, IsUnreached, NeedFits, NeedHolds}
 use Rattle.txc_call.specs.Turns.{Turn}
 
--- the call, how often all its activations asked, its open frames, innermost first, and what it needs while it is
--- open
+-- the call, how often all its activations asked, its open frames, innermost first, and what it needs while it
+-- is open
 pub record Calling : Type 0 where
   pub top : Call
   pub asked : ℕ

@@ -136,8 +136,8 @@ with_answer objects f x = with_activity objects f (running (answered (activation
 abbrev pub unreached : Frame → List ℕ → Outcome
 unreached frame bytes = record { key = frame.key; value = bytes; reach = None; tags = frame.tags }
 
--- what comes of the value of a call: it is the next answer of the innermost frame, or, where there is none, what the
--- whole call comes to
+-- what comes of the value of a call: it is the next answer of the innermost frame, or, where there is none,
+-- what the whole call comes to
 abbrev pub AfterValue : Next → List Frame → ℕ → Outcome → Objects → Turn → Type 0
 AfterValue next [] asked o objects turn = turn ≡ needing [] asked (needs.Value o) objects
 AfterValue next (frame ∷ outer) asked o objects turn =

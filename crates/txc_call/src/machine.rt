@@ -218,9 +218,9 @@ impl CallMachine {
         self.need.as_ref()
     }
 
-    /// Goes on with the reply to what the call needs. What the reply hands in must hold together with what the
-    /// open frames were given, at one stamp at least. Where the call is refused, every frame is closed and its
-    /// object released, the innermost first.
+    /// Goes on with the reply to what the call needs. What the reply hands in must hold together with what
+    /// the open frames were given, at one stamp at least. Where the call is refused, every frame is closed
+    /// and its object released, the innermost first.
     pub fn reply<A: App, C: Cacheable>(
         &mut self,
         registry: &mut Registry<A, C>,
@@ -262,8 +262,8 @@ impl CallMachine {
         }
     }
 
-    /// Takes what a call that is done came to. The machine is then without a call; where the call is not done,
-    /// nothing changes.
+    /// Takes what a call that is done came to. The machine is then without a call; where the call is not
+    /// done, nothing changes.
     pub fn finish(&mut self) -> Option<Outcome>
         ensures { MatchOption result
             (((outcome : Outcome) → self.old.need ≢ Some (Need.Value outcome)) × (self.new ≡ self.old))

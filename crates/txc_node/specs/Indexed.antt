@@ -102,7 +102,8 @@ IsFound es o (Some f) = (e : Entry) × (o ≡ Some e) × (slice_get es f.at ≡ 
 
 -- an entry has the place of e, and stands there among those of its key
 abbrev pub StandsUnder : Entry → List Entry → ℕ → Type 0
-StandsUnder e es at = (o : Entry) × (find (λ x. same_place x e) es ≡ Some o) × (slice_get (entries_under e.key es) at ≡ Some o)
+StandsUnder e es at = (o : Entry) × (find (λ x. same_place x e) es ≡ Some o)
+    × (slice_get (entries_under e.key es) at ≡ Some o)
 
 -- the entry, and after it all at other places
 abbrev pub with_first : Entry → List Entry → List Entry
@@ -128,7 +129,8 @@ lists_rows bs rows q = has_place (places_under bs rows) q
 
 -- the place is listed under the tag
 abbrev pub lists : {S : Type 0} → List (HashMap Rows (HashSet Place S) S) → Tag → Place → Bool
-lists tables tag q = unwrap_or (option_map (λ t. lists_rows t.entries tag.rows q) (slice_get tables tag.table)) false
+lists tables tag q =
+    unwrap_or (option_map (λ t. lists_rows t.entries tag.rows q) (slice_get tables tag.table)) false
 
 -- the place is listed under each tag of what is stored there, if that is still valid
 abbrev pub IsListed : {S : Type 0} → List (HashMap Rows (HashSet Place S) S) → Place → Stored → Type 0
@@ -139,7 +141,8 @@ abbrev pub IndexesTags : {S : Type 0} → List (HashMap Rows (HashSet Place S) S
 IndexesTags tables es = AllByRecursion (λ e. IsListed tables (place_of e) (stored_of e)) es
 
 -- what was listed still is, but for what P leaves open
-abbrev pub KeepsListed : {S : Type 0} → (Tag → Place → Type 0) → (old new : List (HashMap Rows (HashSet Place S) S)) → Type 0
+abbrev pub KeepsListed : {S : Type 0} → (Tag → Place → Type 0)
+    → (old new : List (HashMap Rows (HashSet Place S) S)) → Type 0
 KeepsListed P old new = (t : Tag) (q : Place) → P t q → lists old t q ≡ true → lists new t q ≡ true
 
 -- ---- what an event has closed so far
@@ -150,12 +153,14 @@ is_stale stamp tags s = s.reach.still && (nat_lt s.reach.known stamp && sets_mat
 
 -- what is stored after it
 abbrev pub stored_after : ℕ → List Tag → Stored → Stored
-stored_after stamp tags s = if is_stale stamp tags s then record s { reach = closed_at (stamp - 1) s.reach } else s
+stored_after stamp tags s =
+    if is_stale stamp tags s then record s { reach = closed_at (stamp - 1) s.reach } else s
 
 -- the new reach of what it closes
 abbrev pub closed_reach : ℕ → List Tag → Option Stored → Option Interval
 closed_reach stamp tags None = None
-closed_reach stamp tags (Some s) = if is_stale stamp tags s then Some (closed_at (stamp - 1) s.reach) else None
+closed_reach stamp tags (Some s) =
+    if is_stale stamp tags s then Some (closed_at (stamp - 1) s.reach) else None
 
 -- the pairs after the event has come to a place
 abbrev pub after_at : ℕ → List Tag → Place → List (Place × Stored) → List (Place × Stored)
@@ -171,17 +176,22 @@ abbrev pub StaySpared : ℕ → List Tag → List (Place × Stored) → List (Pl
 StaySpared stamp tags old new = (q : Place) → IsSpared stamp tags old q → IsSpared stamp tags new q
 
 -- it invalidates none at the places that a table lists under the rows at an index
-abbrev pub AreSparedAt : {S : Type 0} → ℕ → List Tag → List (Place × Stored) → List (Rows × HashSet Place S) → ℕ → Type 0
-AreSparedAt {S} stamp tags ps bs i = (x : Rows × HashSet Place S) → slice_get bs i ≡ Some x → AllByRecursion (IsSpared stamp tags ps) x.1.keys
+abbrev pub AreSparedAt : {S : Type 0} → ℕ → List Tag → List (Place × Stored) → List (Rows × HashSet Place S)
+    → ℕ → Type 0
+AreSparedAt {S} stamp tags ps bs i = (x : Rows × HashSet Place S) → slice_get bs i ≡ Some x
+    → AllByRecursion (IsSpared stamp tags ps) x.1.keys
 
 -- it invalidates none at the places that are listed under tags which match this one
-abbrev pub AreSparedBy : {S : Type 0} → ℕ → List Tag → List (Place × Stored) → List (HashMap Rows (HashSet Place S) S) → Tag → Type 0
-AreSparedBy stamp tags ps tables tag = (t : Tag) (q : Place) → tags_match tag t ≡ true → lists tables t q ≡ true → IsSpared stamp tags ps q
+abbrev pub AreSparedBy : {S : Type 0} → ℕ → List Tag → List (Place × Stored)
+    → List (HashMap Rows (HashSet Place S) S) → Tag → Type 0
+AreSparedBy stamp tags ps tables tag = (t : Tag) (q : Place) → tags_match tag t ≡ true
+    → lists tables t q ≡ true → IsSpared stamp tags ps q
 
 -- of the old pairs the event has closed n
 pub record Closes (stamp : ℕ) (tags : List Tag) (old new : List (Place × Stored)) (n : ℕ) : Type 0 where
   pub after : map (entry_after stamp tags) (entries_of new) ≡ map (entry_after stamp tags) (entries_of old)
-  pub count : n + count_by (is_invalidated stamp tags) (entries_of new) ≡ count_by (is_invalidated stamp tags) (entries_of old)
+  pub count : n + count_by (is_invalidated stamp tags) (entries_of new)
+      ≡ count_by (is_invalidated stamp tags) (entries_of old)
   pub spared : StaySpared stamp tags old new
 
 -- each entry at its place, at most one for a place, and each in the index of the keys

@@ -22,15 +22,18 @@ equal_places a b = same_call a.key b.key && a.lo == b.lo
 
 -- the test of two places says whether they are one
 pub equal_places_itself : (a : Place) → equal_places a a ≡ true
-equal_places_itself a = and_true (same_call a.key a.key) (a.lo == a.lo) (same_call_itself a.key) (eq-eqb a.lo a.lo refl)
+equal_places_itself a =
+    and_true (same_call a.key a.key) (a.lo == a.lo) (same_call_itself a.key) (eq-eqb a.lo a.lo refl)
 
 pub equal_places_is : (a b : Place) → equal_places a b ≡ true → a ≡ b
 equal_places_is a b e =
     let two = both_true (same_call a.key b.key) (a.lo == b.lo) e in
-    ap (λ k. place_at k a.lo) (same_call_is a.key b.key two.0) ∙ ap (λ n. place_at b.key n) (eqb-true a.lo b.lo two.1)
+    ap (λ k. place_at k a.lo) (same_call_is a.key b.key two.0) ∙ ap
+    (λ n. place_at b.key n) (eqb-true a.lo b.lo two.1)
 
 pub equal_places_decides : (a b : Place) → Decides (equal_places a b) (a ≡ b)
-equal_places_decides a b = (equal_places_is a b, λ e. subst (λ (c : Place). equal_places a c ≡ true) e (equal_places_itself a))
+equal_places_decides a b =
+    (equal_places_is a b, λ e. subst (λ (c : Place). equal_places a c ≡ true) e (equal_places_itself a))
 
 pub equal_places_alike : (feed : Place → HashWrites) (x y : Place) → equal_places x y ≡ true → feed x ≡ feed y
 equal_places_alike feed = (same_Alike feed equal_places_decides).fed

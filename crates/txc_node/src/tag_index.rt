@@ -21,8 +21,8 @@ pub(crate) type Buckets = IndexMap<Rows, IndexSet<Place>>;
 /// How many tables there are.
 const TABLES: usize = LAST_TABLE as usize + 1;
 
-/// The places of the still valid entries by their tags, for each table a map. A place may stay there after its
-/// entry was closed, until an event has the tag or the entry is dropped.
+/// The places of the still valid entries by their tags, for each table a map. A place may stay there after
+/// its entry was closed, until an event has the tag or the entry is dropped.
 #[derive(Debug, Drop)]
 pub(crate) struct TagIndex {
     alloc: Global,

@@ -20,7 +20,8 @@ use Rattle.txc_run.specs.declared.session.Flow.TheVariants.{GoesOn, Stopped}
 abbrev pub kept_of : List ℕ → List ℕ
 kept_of line = take MAX_KEPT line
 
--- the run goes on after a line that is not malformed, and stops at a malformed one, for its number and its fault
+-- the run goes on after a line that is not malformed, and stops at a malformed one, for its number and its
+-- fault
 abbrev pub IsFlowAfter : ℕ → List ℕ → Given → Flow → Type 0
 IsFlowAfter number line given GoesOn = is_malformed given ≡ false
 IsFlowAfter number line given (Stopped malformed) =
@@ -95,8 +96,8 @@ pub record HasEnded (start : Start) (read written : List ℕ) (flow : Flow) (s :
   pub refused : s.replies.is_refused ≡ list_any is_refused given
   pub end : IsEndOf lines given flow
 
--- first lines were answered, or all where the report could not be made, and none was malformed; what is written
--- after all lines is not at hand
+-- first lines were answered, or all where the report could not be made, and none was malformed; what is
+-- written after all lines is not at hand
 pub record IsUnclosed (start : Start) (read written : List ℕ) (s : Session) : Type 0 where
   pub lines : List (List ℕ)
   pub given : List Given
