@@ -49,7 +49,8 @@ pub record ClosesAtTheMatch : Type 0 where
   pub beyond_its_end : answer two_events (call_of 2) 2 9 ≡ None
   pub found_closed : answer two_events (call_of 2) 0 9 ≡ shows 10 (closed 0 1) (id_tag 1 2 ∷ [])
 
--- ---- an entry that comes late is closed before the first event that it missed and matches, or at its own known
+-- ---- an entry that comes late is closed before the first event that it missed and matches, or at its own
+-- known
 
 abbrev pub both_events : ℕ → Cache
 both_events depth = after_event (after_event (empty_cache 4 depth) 1 (id_tag 1 3 ∷ [])) 2 (id_tag 1 2 ∷ [])
@@ -58,7 +59,8 @@ pub record ReplaysWhatIsKept : Type 0 where
   pub both_kept : outcome (both_events 4) first ≡ Stored (closed 0 1) None
   pub one_kept : outcome (both_events 1) first ≡ Stored (closed 0 0) None
 
--- ---- an entry known beyond the processed stamp is closed by no event up to there; the wildcard matches each tag
+-- ---- an entry known beyond the processed stamp is closed by no event up to there; the wildcard matches each
+-- tag
 
 abbrev pub ahead : Entry
 ahead = entry_of 2 10 (still_valid 1 5) (wildcard 1 ∷ [])
@@ -67,7 +69,8 @@ abbrev pub quiet : Cache
 quiet = after_event (after_event (empty_cache 4 4) 1 []) 2 []
 
 abbrev pub five_events : Cache
-five_events = after_event (after_event (after_event (after_insert quiet ahead) 3 (group_tag 1 9 ∷ [])) 4 []) 5 []
+five_events =
+    after_event (after_event (after_event (after_insert quiet ahead) 3 (group_tag 1 9 ∷ [])) 4 []) 5 []
 
 pub record WaitsForItsEnd : Type 0 where
   pub stored : outcome quiet ahead ≡ Stored (still_valid 1 5) None

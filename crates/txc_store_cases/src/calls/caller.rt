@@ -1,5 +1,5 @@
-//! A machine that runs calls as commands say: `call`, the call, and the replies to what it needs, with what it
-//! needs after them.
+//! A machine that runs calls as commands say: `call`, the call, and the replies to what it needs, with what
+//! it needs after them.
 ghost use Rattle.std.specs.Prelude.{◌≡◌, ℕ, IsTrue, Some};
 ghost use Rattle.txc_registry.specs.Objects.{AllIdle};
 ghost use Rattle.txc_call.specs.declared.need.Need.{Need};
@@ -224,13 +224,7 @@ impl<A: App, C: Cacheable> Caller<A, C> {
         Ok(())
     }
 
-    fn call(
-        &mut self,
-        alloc: Global,
-        key: Key,
-        text: &str,
-        answer: &mut String,
-    ) {
+    fn call(&mut self, alloc: Global, key: Key, text: &str, answer: &mut String) {
         let ran = match text {
             "whole" => self.run_whole(alloc, key),
             "" => self.start(key),
