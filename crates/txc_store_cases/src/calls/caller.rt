@@ -3,12 +3,12 @@
 ghost use Rattle.std.specs.Prelude.{◌≡◌, ℕ, IsTrue, Some};
 ghost use Rattle.txc_registry.specs.Objects.{AllIdle};
 ghost use Rattle.txc_call.specs.declared.need.Need.{Need};
-ghost use Rattle.txc_call.specs.Calling.{InCall, IsCalling};
 ghost use Rattle.txc_call.specs.Needs.{reply_reach, ReplyFits};
 ghost use Rattle.txc_call.specs.Reaches.{InReach};
 
 use crate::common::{Obeys, Player, body, number, say_number, say_unknown};
 use std::alloc::{AllocError, Global};
+use std::marker::Model;
 use std::str::SplitWhitespace;
 use txc_call::{CallError, CallMachine, Need, Outcome, Reply};
 use txc_db::DbCore;
@@ -27,8 +27,16 @@ pub(super) struct Caller<A: App, C: Cacheable> {
     machine: CallMachine,
     registry: Registry<A, C>,
     pool: PermitPool,
-    ghost fits: { IsCalling A.next registry machine },
-    ghost common: { InCall 2 machine },
+}
+
+impl<A: App, C: Cacheable> Model for Caller<A, C> {
+    ghost use Rattle.txc_call.specs.Calling.{Calling, InCall, IsCalling};
+
+    ghost Value = { Calling };
+
+    ghost view = { λ c. c.machine };
+
+    ghost invariant = { λ c. IsCalling A.next c.registry c.machine × InCall 2 c.machine };
 }
 
 /// The reach that the words say: `LO KNOWN still`, or `closed`.
