@@ -11,7 +11,6 @@ use std::alloc::{AllocError, Global};
 use std::marker::Model;
 use std::str::SplitWhitespace;
 use txc_call::{CallError, CallMachine, Need, Outcome, Reply};
-use txc_db::DbCore;
 use txc_node::{Shown, Value};
 use txc_permits::PermitPool;
 use txc_registry::{Cacheable, Registry};
@@ -287,9 +286,9 @@ impl<A: App, C: Cacheable> Obeys for Caller<A, C> {
 }
 
 impl<A: App, C: Cacheable> Player for Caller<A, C> {
-    type Other = DbCore;
+    type Other = Caller<A, C>;
 
-    fn other(&self, _alloc: Global) -> Option<DbCore> {
+    fn other(&self, _alloc: Global) -> Option<Caller<A, C>> {
         None
     }
 }
