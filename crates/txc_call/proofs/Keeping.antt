@@ -1,11 +1,10 @@
 -- What comes of a reply keeps the frames and what holds of them.
-use Rattle.std.proofs.Common.{◌≡◌, ◌≢◌, ◌⊎◌, inl, inr, ⊎_elim, ℕ, ◌+◌, ◌<◌, ◌≤◌, nat_le, Bool, true, false, cond, List, [], ◌∷◌, ◌++◌, length, Option, Some, None, IsSome, Ok, Err, sym, refl, ap, subst, ◌∙◌, arith}
+use Rattle.std.proofs.Common.{◌≡◌, ◌⊎◌, inl, inr, ⊎_elim, ℕ, ◌+◌, ◌<◌, ◌≤◌, nat_le, Bool, true, false, cond, List, [], ◌∷◌, ◌++◌, length, Option, Some, None, IsSome, Ok, Err, sym, refl, ap, subst, ◌∙◌, arith}
 use Rattle.std.specs.Prelude.{is_some}
 use Rattle.std.proofs.lemmas.Bool.Decides.{nat_tests}
 use Rattle.txc_stamp.specs.Interval.{Interval}
 use Rattle.txc_tags.specs.declared.tag.Tag.{Tag}
 use Rattle.txc_tags.specs.Keys.{Call}
-use Rattle.txc_tags.specs.Tags.{with_tags}
 use Rattle.txc_rows.specs.declared.query.Query.{Query}
 use Rattle.txc_db.specs.History.{History}
 use Rattle.txc_node.specs.declared.value.TheConstants.{MAX_VALUE_LEN}
@@ -17,12 +16,11 @@ use Rattle.txc_shared.specs.declared.ask.Answer.TheVariants as answers
 use Rattle.txc_shared.specs.Eval.{Next}
 use Rattle.txc_shared.specs.Claims.{RowsHold, ValueHolds}
 use Rattle.txc_shared.specs.Laws.{RightAnswersGiveTheValue}
-use Rattle.txc_registry.specs.Activity.{Activity, begun, idle, running}
+use Rattle.txc_registry.specs.Activity.{Activity, idle}
 use Rattle.txc_registry.specs.Objects.{Objects, activity_of, with_activity}
 use Rattle.txc_call.specs.declared.error.CallError.{CallError}
 use Rattle.txc_call.specs.declared.error.CallError.TheVariants as errors
 use Rattle.txc_call.specs.declared.frame.Frame.{Frame}
-use Rattle.txc_call.specs.declared.frames.TheConstants.{MAX_CALL_ASKS}
 use Rattle.txc_call.specs.declared.need.Need.{Need}
 use Rattle.txc_call.specs.declared.need.Need.TheVariants as needs
 use Rattle.txc_call.specs.declared.need.Outcome.{Outcome}
@@ -34,8 +32,8 @@ use Rattle.txc_call.specs.Frames.{answers_in, begun_frame, given, AnswerHolds, A
 use Rattle.txc_call.specs.Needs.{reply_reach, InNeed, IsUnreached, IsWaiting, NeedFits, NeedHolds, ReplyHolds}
 use Rattle.txc_call.specs.Calling.{Calling, CallHolds, CallIsUnreached, InCall, IsCalling}
 use Rattle.txc_call.specs.Turns.{Standing, UnlessRefused, count_refusal, call_refusal, value_refusal, ask_refusal, entry_of, outcome_of, unreached, Onward, DoneLeads, AllowedLeads, AskLeads, AfterAsk, AfterMiss, AfterReply, AfterRows, AfterValue, next_ask, with_answer, with_begun}
-use Rattle.txc_call.specs.Laws.{at_start, CallsComeToTheirValues, InsertionsAreTrue, IsLed, IsLedFrom, IsRightEnd, IsStep}
-use Rattle.txc_call.proofs.Claims.{in_meet, meets_at}
+use Rattle.txc_call.specs.Laws.{at_start, CallsComeToTheirValues, InsertionsAreTrue, IsLed, IsLedFrom, IsStep}
+use Rattle.txc_call.proofs.Claims.{meets_at}
 use Rattle.txc_call.proofs.Answering.{rows_answer, value_answers}
 use Rattle.txc_call.proofs.Leading.{few_by}
 use Rattle.txc_call.proofs.OpenFrames.{closed, free_below, hold_closed, hold_opened, hold_resumed, in_given, opened, resumed, unreached_given}

@@ -98,7 +98,8 @@ entry_of frame bytes reach = record { key = frame.key; value = bytes; reach = re
 abbrev pub Onward : Type 1
 Onward = Objects → List ℕ → Type 0
 
--- what comes of a frame that is done, once its object is idle: a value with a reach is inserted, else it goes on
+-- what comes of a frame that is done, once its object is idle: a value with a reach is inserted, else it goes
+-- on
 abbrev pub DoneLeads : List Frame → ℕ → Frame → Option Interval → List ℕ → Objects → Onward → Turn → Type 0
 DoneLeads outer asked frame (Some reach) bytes objects goes_on turn =
     turn ≡ needing outer asked (needs.Insert (entry_of frame bytes reach)) objects
@@ -135,8 +136,8 @@ with_answer objects f x = with_activity objects f (running (answered (activation
 abbrev pub unreached : Frame → List ℕ → Outcome
 unreached frame bytes = record { key = frame.key; value = bytes; reach = None; tags = frame.tags }
 
--- what comes of the value of a call: it is the next answer of the innermost frame, or, where there is none, what
--- the whole call comes to
+-- what comes of the value of a call: it is the next answer of the innermost frame, or, where there is none, what the
+-- whole call comes to
 abbrev pub AfterValue : Next → List Frame → ℕ → Outcome → Objects → Turn → Type 0
 AfterValue next [] asked o objects turn = turn ≡ needing [] asked (needs.Value o) objects
 AfterValue next (frame ∷ outer) asked o objects turn =
@@ -144,7 +145,8 @@ AfterValue next (frame ∷ outer) asked o objects turn =
     (ask : Ask) × (next_ask next objects frame (answers.Value o.value) ≡ Some ask)
     × AskLeads outer asked (given frame o.reach o.tags) ask
     (with_answer objects frame.key.function (answers.Value o.value))
-    (λ after bytes. AfterValue next outer (asked + 1) (unreached (given frame o.reach o.tags) bytes) after turn)
+    (λ after bytes.
+    AfterValue next outer (asked + 1) (unreached (given frame o.reach o.tags) bytes) after turn)
     turn
     )
 
@@ -187,7 +189,8 @@ AfterMiss next frames asked k objects turn =
 
 -- the answer of what was found
 abbrev pub rows_held : Found → Held
-rows_held found = record { answer = answers.Rows found.rows.items; reach = Some found.reach; tags = found.tags }
+rows_held found =
+    record { answer = answers.Rows found.rows.items; reach = Some found.reach; tags = found.tags }
 
 -- what comes of what was found for the query that the innermost frame asked
 abbrev pub AfterRows : Next → List Frame → ℕ → Found → Objects → Turn → Type 0

@@ -3,8 +3,8 @@ ghost use Rattle.txc_call.specs.Laws.{CallsComeToTheirValues, InsertionsAreTrue}
 
 use txc_shared::laws::right_answers_give_the_value;
 
-/// A call that right replies led to its end has the value that it comes to without a cache, and what it asks to insert
-/// on the way is true.
+/// A call that right replies led to its end has the value that it comes to without a cache, and what it asks to
+/// insert on the way is true.
 pub fn calls_come_to_their_values()
     ensures values { CallsComeToTheirValues }
     ensures insertions { InsertionsAreTrue }
