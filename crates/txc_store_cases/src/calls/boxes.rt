@@ -1,5 +1,5 @@
 //! Calls of the program's functions, in boxes.
-ghost use Rattle.std.specs.Prelude.{◌≡◌, All};
+ghost use Rattle.std.specs.Prelude.{◌≡◌, ◌≤◌, All};
 ghost use Rattle.txc_registry.specs.Activity.{idle};
 
 use super::caller::Caller;
