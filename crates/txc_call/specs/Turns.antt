@@ -142,10 +142,11 @@ pub record Held : Type 0 where
   pub reach : Option Interval
   pub tags : List Tag
 
--- the answer of a call's value, and that of what was found
+-- the answer of a call's value
 abbrev pub value_held : Outcome → Held
 value_held o = record { answer = answers.Value o.value; reach = o.reach; tags = o.tags }
 
+-- the answer of what was found
 abbrev pub rows_held : Found → Held
 rows_held found =
     record { answer = answers.Rows found.rows.items; reach = Some found.reach; tags = found.tags }
