@@ -28,7 +28,8 @@ ReadsModes parser =
 
 -- the mode, which has to be there
 abbrev pub mode_rule : Option ValueParser → Rule
-mode_rule modes = record (new_rule (codes "mode")) { required = true; action = Some Set; value_names = 1; parser = modes }
+mode_rule modes =
+    record (new_rule (codes "mode")) { required = true; action = Some Set; value_names = 1; parser = modes }
 
 -- `--settings` with a text
 abbrev pub settings_rule : Rule

@@ -92,7 +92,7 @@ is_foreign b = nat_lt b 32 || nat_lt 126 b
 abbrev pub is_empty : List ℕ → Bool
 is_empty word = length word == 0
 
--- the line's bytes are as they may be, and no word is empty: no blank stands at an end, and no two side by side
+-- the line's bytes are as they may be, and no word is empty: no blank stands at an end, and no two together
 pub record HasWholeWords (line : List ℕ) : Type 0 where
   pub plain : IsPlain line
   pub none_empty : list_any is_empty (words_of line) ≡ false
@@ -104,8 +104,8 @@ pub record IsCommand (line : List ℕ) (words : List (List ℕ)) (kinds : List W
   pub are : words_of line ≡ name ∷ words
   pub known : kinds_after name ≡ Some kinds
 
--- What is wrong with a malformed line: there are too many bytes; else a foreign one; else an empty word; else the name
--- is no command's; else the number of words is another; else a word is not of its kind.
+-- What is wrong with a malformed line: there are too many bytes; else a foreign one; else an empty word; else
+-- the name is no command's; else the number of words is another; else a word is not of its kind.
 abbrev pub IsFaultOf : List ℕ → LineFault → Type 0
 IsFaultOf line TooLong = MAX_LINE_LEN < length line
 IsFaultOf line (Byte at byte) =

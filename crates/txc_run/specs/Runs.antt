@@ -28,13 +28,15 @@ start_of mode settings = record { mode = mode; cache = empty_cache settings.capa
 abbrev pub EndInFault : List (List ℕ) → MalformedLine → Type 0
 EndInFault lines malformed =
     (malformed.number ≡ length lines)
-    × ((before : List (List ℕ)) × (line : List ℕ) × (lines ≡ before ++ line ∷ []) × IsFaultOf line malformed.fault)
+    × ((before : List (List ℕ)) × (line : List ℕ) × (lines ≡ before ++ line ∷ [])
+    × IsFaultOf line malformed.fault)
 
 -- no line was refused; or one was, and none was malformed; or the last one was malformed, for this fault
 abbrev pub IsStatusOf : List (List ℕ) → List Given → Status → Type 0
 IsStatusOf lines given Done = list_any is_refused given ≡ false
 IsStatusOf lines given Refused = (list_any is_refused given ≡ true) × (list_any is_malformed given ≡ false)
-IsStatusOf lines given (Malformed malformed) = (list_any is_malformed given ≡ true) × EndInFault lines malformed
+IsStatusOf lines given (Malformed malformed) =
+    (list_any is_malformed given ≡ true) × EndInFault lines malformed
 
 -- lines of a script, counted from 1, and what they give
 pub record Answers (start : Start) (lines : List (List ℕ)) (given : List Given) : Type 0 where

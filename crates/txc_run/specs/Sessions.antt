@@ -20,7 +20,7 @@ use Rattle.txc_run.specs.declared.session.Flow.TheVariants.{GoesOn, Stopped}
 abbrev pub kept_of : List ℕ → List ℕ
 kept_of line = take MAX_KEPT line
 
--- the run goes on after a line that is not malformed, and stops at a malformed one, for its number and its fault
+-- the run goes on after a line that is not malformed, and stops at a malformed one, for its number and fault
 abbrev pub IsFlowAfter : ℕ → List ℕ → Given → Flow → Type 0
 IsFlowAfter number line given GoesOn = is_malformed given ≡ false
 IsFlowAfter number line given (Stopped malformed) =
@@ -64,7 +64,8 @@ pub record HasAnswered (start : Start) (read written : List ℕ) (s : Session) :
   pub well_formed : list_any is_malformed given ≡ false
 
 -- first lines were answered, and the last of them was malformed, for this fault
-pub record IsStopped (start : Start) (read written : List ℕ) (malformed_line : MalformedLine) (s : Session) : Type 0 where
+pub record IsStopped (start : Start) (read written : List ℕ) (malformed_line : MalformedLine)
+    (s : Session) : Type 0 where
   pub lines : List (List ℕ)
   pub given : List Given
   pub others : List ℕ

@@ -8,8 +8,8 @@ use std::marker::Model;
 /// How much of a text is kept.
 pub const MAX_SHOWN: usize = 40;
 
-/// How a text begins, up to [`MAX_SHOWN`] bytes, and how many it has. It is printed with `...` after it where the
-/// text goes on.
+/// How a text begins, up to [`MAX_SHOWN`] bytes, and how many it has. It is printed with `...` after it where
+/// the text goes on.
 #[derive(Debug, Drop)]
 pub struct Excerpt {
     len: usize,

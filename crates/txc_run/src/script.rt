@@ -15,10 +15,10 @@ use txc_settings::{Mode, Settings};
 /// How many bytes a read is asked for.
 const PIECE_LEN: usize = 16_384;
 
-/// Reads a script, and writes the replies to its lines or a report of them, as the mode says. The status says what is
-/// wrong with a malformed line. A reader is read at most [`crate::MAX_READS`] times, where a read that was
-/// interrupted counts and is made again: one that has not come to its end by then is a read fault. The writer is
-/// flushed at the end.
+/// Reads a script, and writes the replies to its lines or a report of them, as the mode says. The status says
+/// what is wrong with a malformed line. A reader is read at most [`crate::MAX_READS`] times, where a read that
+/// was interrupted counts and is made again: one that has not come to its end by then is a read fault. The
+/// writer is flushed at the end.
 pub fn run<R: Read, W: Write>(
     alloc: Global,
     mode: Mode,
