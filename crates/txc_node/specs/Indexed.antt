@@ -1,4 +1,5 @@
--- The entries of a node as they are held, and the indexes that find them. Proofs alone need it.
+-- The entries of a node as they are held, and the indexes that find them. Proofs alone need it, but for
+-- `entries_under`, of which a public contract speaks.
 use Rattle.std.specs.Prelude.{◌≡◌, ℕ, ◌+◌, ◌-◌, Bool, true, false, ◌&&◌, ◌||◌, ◌==◌, not, nat_lt, nat_le, if◌then◌else◌, Option, Some, None, unwrap_or, List, [], ◌∷◌, ◌++◌, map, length, take, drop, slice_get}
 use Rattle.std.specs.List.{AllByRecursion, filter, find, list_any, count_by}
 use Rattle.std.specs.Map.{lookup, lookup_entry, set_value}
