@@ -3,7 +3,6 @@ use Rattle.std.proofs.Common.{◌≡◌, ℕ, ◌+◌, ◌-◌, Bool, true, fals
 use Rattle.std.specs.List.{count_by, AllByRecursion}
 use Rattle.std.specs.Map.{lookup, lookup_entry, set_value}
 use Rattle.std.specs.Prelude.{unwrap_or, slice_get}
-use Rattle.std.specs.HashSet.{HashSet}
 use Rattle.txc_tags.specs.declared.tag.Rows.{Rows}
 use Rattle.std.specs.Option.{option_map, option_map_or}
 use Rattle.std.proofs.lemmas.List.Sums.{sum_by-cons}
@@ -324,17 +323,16 @@ pub all_stay : (stamp : ℕ) (tags : List Tag) (old new : List (Place × Stored)
 all_stay stamp tags old new [] stay h = tt
 all_stay stamp tags old new (q ∷ places) stay h = (stay q h.0, all_stay stamp tags old new places stay h.1)
 
-module _ {S : Type 0} where
-  -- where a table lists what it finds
-  lookup_index : (test : Rows → Bool) (bs : List (Rows × HashSet Place S)) (b : HashSet Place S) → lookup test bs ≡ Some b → (k : ℕ) × (k < length bs) × (r : Rows) × (slice_get bs k ≡ Some (r, b))
-  lookup_index test [] b h = let none : None ≡ Some b = h in cc
-  lookup_index test (x ∷ bs) b h = (elim (test x.0) as (λ v. cond v (Some x.1) (lookup test bs) ≡ Some b → (k : ℕ) × (k < length (x ∷ bs)) × (r : Rows) × (slice_get (x ∷ bs) k ≡ Some (r, b))) [
-    | true ↦ λ h. let is : Some x.1 ≡ Some b = h in let same : x.1 ≡ b = cc in (0, omega arith, x.0, ap (λ (y : HashSet Place S). Some (x.0, y)) same)
-    | false ↦ λ h. let k = lookup_index test bs b h in (suc k.0, omega (arith, k.1), k.2, k.3)
-  ]) h
+-- where a table lists what it finds
+lookup_index : (test : Rows → Bool) (bs : List (Rows × List Place)) (b : List Place) → lookup test bs ≡ Some b → (k : ℕ) × (k < length bs) × (r : Rows) × (slice_get bs k ≡ Some (r, b))
+lookup_index test [] b h = let none : None ≡ Some b = h in cc
+lookup_index test (x ∷ bs) b h = (elim (test x.0) as (λ v. cond v (Some x.1) (lookup test bs) ≡ Some b → (k : ℕ) × (k < length (x ∷ bs)) × (r : Rows) × (slice_get (x ∷ bs) k ≡ Some (r, b))) [
+  | true ↦ λ h. let is : Some x.1 ≡ Some b = h in let same : x.1 ≡ b = cc in (0, omega arith, x.0, ap (λ (y : List Place). Some (x.0, y)) same)
+  | false ↦ λ h. let k = lookup_index test bs b h in (suc k.0, omega (arith, k.1), k.2, k.3)
+]) h
 
-  pub table_spared : (stamp : ℕ) (tags : List Tag) (ps : List (Place × Stored)) (bs : List (Rows × HashSet Place S)) (r : Rows) (q : Place) → ((k : ℕ) → k < length bs → AreSparedAt stamp tags ps bs k) → lists_rows bs r q ≡ true → IsSpared stamp tags ps q
-  table_spared stamp tags ps bs r q h l = (elim (lookup (equal_rows r) bs) as (λ f. lookup (equal_rows r) bs ≡ f → has_place (unwrap_or (option_map (λ s. s.keys) f) []) q ≡ true → IsSpared stamp tags ps q) [
-    | None ↦ λ t l. absurd (false≢true l)
-    | Some b ↦ λ t l. let k = lookup_index (equal_rows r) bs b t in among (IsSpared stamp tags ps) b.keys q (h k.0 k.1 (k.2, b) k.3) l
-  ]) refl l
+pub table_spared : (stamp : ℕ) (tags : List Tag) (ps : List (Place × Stored)) (bs : List (Rows × List Place)) (r : Rows) (q : Place) → ((k : ℕ) → k < length bs → AreSparedAt stamp tags ps bs k) → lists_rows bs r q ≡ true → IsSpared stamp tags ps q
+table_spared stamp tags ps bs r q h l = (elim (lookup (equal_rows r) bs) as (λ f. lookup (equal_rows r) bs ≡ f → has_place (unwrap_or f []) q ≡ true → IsSpared stamp tags ps q) [
+  | None ↦ λ t l. absurd (false≢true l)
+  | Some b ↦ λ t l. let k = lookup_index (equal_rows r) bs b t in among (IsSpared stamp tags ps) b q (h k.0 k.1 (k.2, b) k.3) l
+]) refl l

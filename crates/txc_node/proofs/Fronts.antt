@@ -5,7 +5,6 @@ use Rattle.std.specs.List.{AllByRecursion, find}
 use Rattle.std.specs.Option.{option_map}
 use Rattle.std.specs.Map.{lookup_entry}
 use Rattle.std.specs.HashMap.{HashMap}
-use Rattle.std.specs.HashSet.{HashSet}
 use Rattle.lru.specs.LruCache.{promoted}
 use Rattle.txc_stamp.specs.Interval.{Interval}
 use Rattle.txc_tags.specs.declared.tag.Rows.{Rows}
@@ -95,7 +94,7 @@ brought_entries ps key at r e placed apart listed_there is =
     let reach : e.reach ≡ r = cc in
     ap (λ (q : Place). entries_of (promoted (equal_places q) ps)) (sym (place_is key (entries_of ps) at e r is reach)) ∙ brought ps key at e placed apart is
 
-pub brought_indexed : {S : Type 0} (ps : List (Place × Stored)) (index new : List (Call × List Interval)) (tables : List (HashMap Rows (HashSet Place S) S)) (key : Call) (at : ℕ) (r : Interval)
+pub brought_indexed : {S : Type 0} (ps : List (Place × Stored)) (index new : List (Call × List Interval)) (tables : List (HashMap Rows (List Place) S)) (key : Call) (at : ℕ) (r : Interval)
     → IsIndexed ps index tables → slice_get (reaches_under key (entries_of ps)) at ≡ Some r → Relists key (r ∷ remove (listed index key) at) index new
     → IsIndexed (promoted (equal_places (place_at key r.lo)) ps) new tables
 brought_indexed ps index new tables key at r h is relists =

@@ -4,7 +4,6 @@ use Rattle.std.specs.Prelude.{unwrap_or, nat_lt}
 use Rattle.std.specs.List.{count_by, AllByRecursion, list_any}
 use Rattle.std.specs.Map.{lookup, lookup_entry}
 use Rattle.std.specs.HashMap.{HashMap}
-use Rattle.std.specs.HashSet.{HashSet}
 use Rattle.std.specs.Option.{option_map}
 use Rattle.std.proofs.lemmas.Bool.{false≢true}
 use Rattle.std.proofs.lemmas.List.Sums.{sum_by-cons}
@@ -34,7 +33,7 @@ any_of P p (x ∷ xs) h is = (elim (p x) as (λ b. p x ≡ b → (b || list_any 
   | false ↦ λ t is. any_of P p xs h.1 is
 ]) refl is
 
-module _ {S : Type 0} (stamp : ℕ) (tags : List Tag) (tables : List (HashMap Rows (HashSet Place S) S)) where
+module _ {S : Type 0} (stamp : ℕ) (tags : List Tag) (tables : List (HashMap Rows (List Place) S)) where
   spared_there : (old new : List (Place × Stored)) (q : Place) (e : Entry) → ArePlaced old → IndexesTags tables (entries_of old) → AllByRecursion (AreSparedBy stamp tags new tables) tags
       → entry_at old q ≡ Some e → is_invalidated stamp tags e ≡ true → IsSpared stamp tags new q
   spared_there old new q e placed indexed spared at hit =
@@ -84,13 +83,13 @@ module _ (stamp : ℕ) (tags : List Tag) where
 
   -- ---- the index of the tags
 
-  tags_after : {S : Type 0} (tables : List (HashMap Rows (HashSet Place S) S)) (es : List Entry) → IndexesTags tables es → IndexesTags tables (map (entry_after stamp tags) es)
+  tags_after : {S : Type 0} (tables : List (HashMap Rows (List Place) S)) (es : List Entry) → IndexesTags tables es → IndexesTags tables (map (entry_after stamp tags) es)
   tags_after tables [] h = tt
   tags_after tables (e ∷ es) h =
       let T : Entry → Type 0 = λ o. o.reach.still ≡ true → AllByRecursion (λ t. lists tables t (place_of o) ≡ true) o.tags in
       (elim (is_invalidated stamp tags e) as (λ b. T (cond b (record e { reach = closed_at (stamp - 1) e.reach }) e)) [ true ↦ (λ still. absurd (false≢true still)) | false ↦ h.0 ], tags_after tables es h.1)
 
-pub kept_tags : {S : Type 0} (tables new : List (HashMap Rows (HashSet Place S) S)) (q : Place) (ts : List Tag) → ((t : Tag) → lists tables t q ≡ true → lists new t q ≡ true) → AllByRecursion (λ t. lists tables t q ≡ true) ts → AllByRecursion (λ t. lists new t q ≡ true) ts
+pub kept_tags : {S : Type 0} (tables new : List (HashMap Rows (List Place) S)) (q : Place) (ts : List Tag) → ((t : Tag) → lists tables t q ≡ true → lists new t q ≡ true) → AllByRecursion (λ t. lists tables t q ≡ true) ts → AllByRecursion (λ t. lists new t q ≡ true) ts
 kept_tags tables new q [] k h = tt
 kept_tags tables new q (t ∷ ts) k h = (k t h.0, kept_tags tables new q ts k h.1)
 
@@ -104,13 +103,13 @@ live_found test (x ∷ ps) e h still = (elim (test x.0) as (λ b. option_map ent
 live_at : (ps : List (Place × Stored)) (q : Place) (e : Entry) → entry_at ps q ≡ Some e → e.reach.still ≡ true → is_live ps q ≡ true
 live_at ps q e h still = live_found (equal_places q) ps e h still
 
-cleaned : {S : Type 0} (ps : List (Place × Stored)) (tables new : List (HashMap Rows (HashSet Place S) S)) (es : List Entry) → AllByRecursion (λ o. entry_at ps (place_of o) ≡ Some o) es → IndexesTags tables es
+cleaned : {S : Type 0} (ps : List (Place × Stored)) (tables new : List (HashMap Rows (List Place) S)) (es : List Entry) → AllByRecursion (λ o. entry_at ps (place_of o) ≡ Some o) es → IndexesTags tables es
     → KeepsListed (λ t q. is_live ps q ≡ true) tables new → IndexesTags new es
 cleaned ps tables new [] stands h keeps = tt
 cleaned ps tables new (e ∷ es) stands h keeps =
     (λ still. kept_tags tables new (place_of e) e.tags (λ t. keeps t (place_of e) (live_at ps (place_of e) e stands.0 still)) (h.0 still), cleaned ps tables new es stands.1 h.1 keeps)
 
-pub indexed_after : {S : Type 0} (stamp : ℕ) (tags : List Tag) (old new : List (Place × Stored)) (index new_index : List (Call × List Interval)) (tables new_tables : List (HashMap Rows (HashSet Place S) S))
+pub indexed_after : {S : Type 0} (stamp : ℕ) (tags : List Tag) (old new : List (Place × Stored)) (index new_index : List (Call × List Interval)) (tables new_tables : List (HashMap Rows (List Place) S))
     → IsIndexed old index tables → AreTied new new_index → entries_of new ≡ map (entry_after stamp tags) (entries_of old) → KeepsListed (λ t q. is_live new q ≡ true) tables new_tables → IsIndexed new new_index new_tables
 indexed_after {S} stamp tags old new index new_index tables new_tables indexed tied after keeps = record {
   placed = tied.placed;

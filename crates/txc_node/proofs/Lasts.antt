@@ -4,7 +4,6 @@ use Rattle.std.specs.Prelude.{slice_get, remove}
 use Rattle.std.specs.List.{AllByRecursion}
 use Rattle.std.proofs.lemmas.Option.{slice_get-get_or}
 use Rattle.std.specs.HashMap.{HashMap}
-use Rattle.std.specs.HashSet.{HashSet}
 use Rattle.txc_stamp.specs.Interval.{Interval}
 use Rattle.txc_tags.specs.declared.tag.Rows.{Rows}
 use Rattle.txc_tags.specs.Keys.{Call}
@@ -68,7 +67,7 @@ last_apart (y ∷ es) e h = (all_last (λ o. same_place o y ≡ false) es e h.0,
 
 -- ---- the last entry is dropped
 
-pub kept_elsewhere : {S : Type 0} (tables new : List (HashMap Rows (HashSet Place S) S)) (q : Place) (es : List Entry) → AllByRecursion (λ o. equal_places q (place_of o) ≡ false) es
+pub kept_elsewhere : {S : Type 0} (tables new : List (HashMap Rows (List Place) S)) (q : Place) (es : List Entry) → AllByRecursion (λ o. equal_places q (place_of o) ≡ false) es
     → KeepsListed (λ t p. equal_places q p ≡ false) tables new → IndexesTags tables es → IndexesTags new es
 kept_elsewhere tables new q [] other keeps h = tt
 kept_elsewhere tables new q (e ∷ es) other keeps h =
@@ -78,7 +77,7 @@ pub at_place : (q : Place) (e : Entry) (es : List Entry) → q ≡ place_of e �
 at_place q e [] at h = tt
 at_place q e (o ∷ es) at h = (ap (λ p. equal_places p (place_of o)) at ∙ h.0, at_place q e es at h.1)
 
-pub forgotten : {S : Type 0} (front : List (Place × Stored)) (x : Place × Stored) (index new : List (Call × List Interval)) (tables new_tables : List (HashMap Rows (HashSet Place S) S))
+pub forgotten : {S : Type 0} (front : List (Place × Stored)) (x : Place × Stored) (index new : List (Call × List Interval)) (tables new_tables : List (HashMap Rows (List Place) S))
     → IsIndexed (front ++ x ∷ []) index tables → Relists x.0.key (take (length (listed index x.0.key) - 1) (listed index x.0.key)) index new
     → KeepsListed (λ t q. equal_places x.0 q ≡ false) tables new_tables → IsIndexed front new new_tables
 forgotten {S} front x index new tables new_tables h relists keeps =
@@ -111,7 +110,7 @@ others_last : (es : List Entry) (e : Entry) → AllByRecursion (λ o. same_place
 others_last [] e h = ap (λ b. cond (not b) (e ∷ []) []) (same_place_self e)
 others_last (o ∷ es) e h = ap (λ b. cond (not b) (o ∷ others e (es ++ e ∷ [])) (others e (es ++ e ∷ []))) (same_place_sym o e ∙ h.0) ∙ ap (λ xs. o ∷ xs) (others_last es e h.1)
 
-module _ {S : Type 0} (front : List (Place × Stored)) (x : Place × Stored) (index new : List (Call × List Interval)) (tables : List (HashMap Rows (HashSet Place S) S)) where
+module _ {S : Type 0} (front : List (Place × Stored)) (x : Place × Stored) (index new : List (Call × List Interval)) (tables : List (HashMap Rows (List Place) S)) where
   place_last : IsIndexed (front ++ x ∷ []) index tables → x.0 ≡ place_at x.0.key x.1.reach.lo
   place_last h = all_last (λ p. p.0 ≡ place_of (entry_of p)) front x h.placed
 

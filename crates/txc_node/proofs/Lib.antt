@@ -17,6 +17,7 @@ pub mod Closings
 pub mod Invalidated
 pub mod Lasts
 pub mod Turns
+pub mod Buckets
 pub mod Puts
 pub mod Pairs
 mod History

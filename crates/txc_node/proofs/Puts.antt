@@ -5,7 +5,6 @@ use Rattle.std.specs.List.{AllByRecursion, find}
 use Rattle.std.specs.Option.{option_map, option_map_or}
 use Rattle.std.specs.Map.{lookup, lookup_entry, remove_entry}
 use Rattle.std.specs.HashMap.{HashMap}
-use Rattle.std.specs.HashSet.{HashSet}
 use Rattle.std.proofs.lemmas.Bool.{false≢true}
 use Rattle.std.proofs.lemmas.List.{length-map}
 use Rattle.std.proofs.lemmas.Option.{slice_get_within, slice_get_past}
@@ -77,7 +76,7 @@ pair_there (y ∷ ps) q e o at placed h =
 
 -- ---- the index of the tags
 
-module _ {S : Type 0} (tables new : List (HashMap Rows (HashSet Place S) S)) where
+module _ {S : Type 0} (tables new : List (HashMap Rows (List Place) S)) where
   -- what is listed in excess does no harm
   all_kept : (es : List Entry) → KeepsListed (λ t q. Unit {0}) tables new → IndexesTags tables es → IndexesTags new es
   all_kept [] keeps h = tt
@@ -119,7 +118,7 @@ relists_over key rs ss a b c h k n = (elim (same_call key n) as (λ v. same_call
 
 -- ---- a new entry that finds no memory
 
-module _ {S : Type 0} (ps : List (Place × Stored)) (index new : List (Call × List Interval)) (tables mid left : List (HashMap Rows (HashSet Place S) S)) where
+module _ {S : Type 0} (ps : List (Place × Stored)) (index new : List (Call × List Interval)) (tables mid left : List (HashMap Rows (List Place) S)) where
   pub more_listed : IsIndexed ps index tables → KeepsListed (λ t q. Unit {0}) tables mid → IsIndexed ps index mid
   more_listed h keeps = record { placed = h.placed; apart = h.apart; keys = h.keys; tags = all_kept tables mid (entries_of ps) keeps h.tags }
 
@@ -144,7 +143,7 @@ values_at ps [] h = tt
 values_at ps (x ∷ xs) h = (value_at (equal_places x.0) ps ∙ ap (option_map (λ p. p.1)) h.0, values_at ps xs h.1)
 
 -- what was listed for it in excess is taken off again, and what stands at its place stays listed
-module _ {S : Type 0} (ps : List (Place × Stored)) (q : Place) (s : Stored) (mid left : List (HashMap Rows (HashSet Place S) S)) (at : lookup (equal_places q) ps ≡ Some s)
+module _ {S : Type 0} (ps : List (Place × Stored)) (q : Place) (s : Stored) (mid left : List (HashMap Rows (List Place) S)) (at : lookup (equal_places q) ps ≡ Some s)
     (places : KeepsListed (λ t p. equal_places q p ≡ false) mid left) (own : KeepsListed (λ t p. has_tag s.tags t ≡ true) mid left) where
   all_restored : (xs : List (Place × Stored)) → ArePlaced xs → AllByRecursion (λ y. lookup (equal_places y.0) ps ≡ Some y.1) xs → IndexesTags mid (entries_of xs) → IndexesTags left (entries_of xs)
   all_restored [] placed found h = tt
@@ -160,7 +159,7 @@ module _ {S : Type 0} (ps : List (Place × Stored)) (q : Place) (s : Stored) (mi
         all_restored xs placed.1 found.1 h.1,
       )
 
-  pub restored : (index : List (Call × List Interval)) (tables : List (HashMap Rows (HashSet Place S) S)) → IsIndexed ps index tables → KeepsListed (λ t p. Unit {0}) tables mid → IsIndexed ps index left
+  pub restored : (index : List (Call × List Interval)) (tables : List (HashMap Rows (List Place) S)) → IsIndexed ps index tables → KeepsListed (λ t p. Unit {0}) tables mid → IsIndexed ps index left
   restored index tables h more = record {
     placed = h.placed;
     apart = h.apart;
@@ -170,7 +169,7 @@ module _ {S : Type 0} (ps : List (Place × Stored)) (q : Place) (s : Stored) (mi
 
 -- ---- a new entry at a place where none stands
 
-module _ {S : Type 0} (ps : List (Place × Stored)) (q : Place) (s : Stored) (index new : List (Call × List Interval)) (tables mid : List (HashMap Rows (HashSet Place S) S)) where
+module _ {S : Type 0} (ps : List (Place × Stored)) (q : Place) (s : Stored) (index new : List (Call × List Interval)) (tables mid : List (HashMap Rows (List Place) S)) where
   pub put_indexed : q ≡ place_of (entry_of (q, s)) → find (λ o. same_place o (entry_of (q, s))) (entries_of ps) ≡ None → IsIndexed ps index tables → Relists q.key (s.reach ∷ listed index q.key) index new
       → IsListed mid q s → KeepsListed (λ t q. Unit {0}) tables mid → IsIndexed ((q, s) ∷ ps) new mid
   put_indexed at absent h relists own more =
@@ -208,7 +207,7 @@ evicted_is (suc n) ps e o some absent is =
     ap (option_map entry_of) (is ∙ ap (λ k. slice_get ps k) (omega arith)) ∙ sym (get_entry ps n) ∙ ap (λ (xs : List Entry). slice_get xs n) (sym (absent_others e (entries_of ps) absent))
 
 -- the last pair makes room
-pub pushed_out : {S : Type 0} (n : ℕ) (ps : List (Place × Stored)) (p x : Place × Stored) (index new : List (Call × List Interval)) (tables left : List (HashMap Rows (HashSet Place S) S))
+pub pushed_out : {S : Type 0} (n : ℕ) (ps : List (Place × Stored)) (p x : Place × Stored) (index new : List (Call × List Interval)) (tables left : List (HashMap Rows (List Place) S))
     → 0 < n → length (entries_of ps) ≤ n → slice_get ps (n - 1) ≡ Some x → IsIndexed (p ∷ ps) index tables
     → Relists x.0.key (take (length (listed index x.0.key) - 1) (listed index x.0.key)) index new → KeepsListed (λ t q. equal_places x.0 q ≡ false) tables left → IsIndexed (p ∷ take (n - 1) ps) new left
 pushed_out n ps p x index new tables left some within is h relists keeps =
@@ -245,7 +244,7 @@ none_evicted n ps e at placed apart there within =
     let same : length (entries_of (remove_entry (equal_places (place_of e)) ps)) ≡ length (others e (entries_of ps)) = ap (λ (xs : List Entry). length xs) (without_is_others ps e placed apart) in
     sym (slice_get_past (with_first e (entries_of ps)) n (omega (arith, fewer, same, within)))
 
-module _ {S : Type 0} (ps : List (Place × Stored)) (q : Place) (s : Stored) (at : ℕ) (index new : List (Call × List Interval)) (tables mid left : List (HashMap Rows (HashSet Place S) S)) where
+module _ {S : Type 0} (ps : List (Place × Stored)) (q : Place) (s : Stored) (at : ℕ) (index new : List (Call × List Interval)) (tables mid left : List (HashMap Rows (List Place) S)) where
   pub replaced_indexed : q ≡ place_of (entry_of (q, s)) → StandsUnder (entry_of (q, s)) (entries_of ps) at → IsIndexed ps index tables → Relists q.key (s.reach ∷ remove (listed index q.key) at) index new
       → IsListed mid q s → KeepsListed (λ t q. Unit {0}) tables mid → KeepsListed (λ t p. equal_places q p ≡ false) mid left → KeepsListed (λ t p. has_tag s.tags t ≡ true) mid left
       → IsIndexed ((q, s) ∷ remove_entry (equal_places q) ps) new left

@@ -1,9 +1,9 @@
--- The entries of a node as they are held, and the indexes that find them. Proofs alone need it.
+-- The entries of a node as they are held, and the indexes that find them. Proofs alone need it, but for
+-- `entries_under`, of which a public contract speaks.
 use Rattle.std.specs.Prelude.{◌≡◌, ℕ, ◌+◌, ◌-◌, Bool, true, false, ◌&&◌, ◌||◌, ◌==◌, not, nat_lt, nat_le, if◌then◌else◌, Option, Some, None, unwrap_or, List, [], ◌∷◌, ◌++◌, map, length, take, drop, slice_get}
 use Rattle.std.specs.List.{AllByRecursion, filter, find, list_any, count_by}
 use Rattle.std.specs.Map.{lookup, lookup_entry, set_value}
 use Rattle.std.specs.HashMap.{HashMap}
-use Rattle.std.specs.HashSet.{HashSet}
 use Rattle.std.specs.Option.{option_map, option_map_or}
 use Rattle.txc_stamp.specs.Interval.{Interval, end_at, shown, closed_at}
 use Rattle.txc_tags.specs.declared.tag.Rows.{Rows}
@@ -116,33 +116,33 @@ abbrev pub equal_rows : Rows → Rows → Bool
 equal_rows = rows_eq.ghosts.eq
 
 -- the places that a table lists under rows
-abbrev pub places_under : {S : Type 0} → List (Rows × HashSet Place S) → Rows → List Place
-places_under bs rows = unwrap_or (option_map (λ s. s.keys) (lookup (equal_rows rows) bs)) []
+abbrev pub places_under : List (Rows × List Place) → Rows → List Place
+places_under bs rows = unwrap_or (lookup (equal_rows rows) bs) []
 
 -- the place is among these
 abbrev pub has_place : List Place → Place → Bool
 has_place places q = list_any (equal_places q) places
 
 -- the place is listed under rows of a table
-abbrev pub lists_rows : {S : Type 0} → List (Rows × HashSet Place S) → Rows → Place → Bool
+abbrev pub lists_rows : List (Rows × List Place) → Rows → Place → Bool
 lists_rows bs rows q = has_place (places_under bs rows) q
 
 -- the place is listed under the tag
-abbrev pub lists : {S : Type 0} → List (HashMap Rows (HashSet Place S) S) → Tag → Place → Bool
+abbrev pub lists : {S : Type 0} → List (HashMap Rows (List Place) S) → Tag → Place → Bool
 lists tables tag q =
     unwrap_or (option_map (λ t. lists_rows t.entries tag.rows q) (slice_get tables tag.table)) false
 
 -- the place is listed under each tag of what is stored there, if that is still valid
-abbrev pub IsListed : {S : Type 0} → List (HashMap Rows (HashSet Place S) S) → Place → Stored → Type 0
+abbrev pub IsListed : {S : Type 0} → List (HashMap Rows (List Place) S) → Place → Stored → Type 0
 IsListed tables q s = s.reach.still ≡ true → AllByRecursion (λ t. lists tables t q ≡ true) s.tags
 
 -- so is the place of each entry
-abbrev pub IndexesTags : {S : Type 0} → List (HashMap Rows (HashSet Place S) S) → List Entry → Type 0
+abbrev pub IndexesTags : {S : Type 0} → List (HashMap Rows (List Place) S) → List Entry → Type 0
 IndexesTags tables es = AllByRecursion (λ e. IsListed tables (place_of e) (stored_of e)) es
 
 -- what was listed still is, but for what P leaves open
 abbrev pub KeepsListed : {S : Type 0} → (Tag → Place → Type 0)
-    → (old new : List (HashMap Rows (HashSet Place S) S)) → Type 0
+    → (old new : List (HashMap Rows (List Place) S)) → Type 0
 KeepsListed P old new = (t : Tag) (q : Place) → P t q → lists old t q ≡ true → lists new t q ≡ true
 
 -- ---- what an event has closed so far
@@ -176,14 +176,13 @@ abbrev pub StaySpared : ℕ → List Tag → List (Place × Stored) → List (Pl
 StaySpared stamp tags old new = (q : Place) → IsSpared stamp tags old q → IsSpared stamp tags new q
 
 -- it invalidates none at the places that a table lists under the rows at an index
-abbrev pub AreSparedAt : {S : Type 0} → ℕ → List Tag → List (Place × Stored) → List (Rows × HashSet Place S)
-    → ℕ → Type 0
-AreSparedAt {S} stamp tags ps bs i = (x : Rows × HashSet Place S) → slice_get bs i ≡ Some x
-    → AllByRecursion (IsSpared stamp tags ps) x.1.keys
+abbrev pub AreSparedAt : ℕ → List Tag → List (Place × Stored) → List (Rows × List Place) → ℕ → Type 0
+AreSparedAt stamp tags ps bs i = (x : Rows × List Place) → slice_get bs i ≡ Some x
+    → AllByRecursion (IsSpared stamp tags ps) x.1
 
 -- it invalidates none at the places that are listed under tags which match this one
 abbrev pub AreSparedBy : {S : Type 0} → ℕ → List Tag → List (Place × Stored)
-    → List (HashMap Rows (HashSet Place S) S) → Tag → Type 0
+    → List (HashMap Rows (List Place) S) → Tag → Type 0
 AreSparedBy stamp tags ps tables tag = (t : Tag) (q : Place) → tags_match tag t ≡ true
     → lists tables t q ≡ true → IsSpared stamp tags ps q
 
@@ -203,7 +202,7 @@ pub record AreTied (ps : List (Place × Stored)) (index : List (Call × List Int
 -- ---- all of it
 
 -- each entry at its place, at most one for a place, and each in the indexes
-pub record IsIndexed {S : Type 0} (ps : List (Place × Stored)) (index : List (Call × List Interval)) (tables : List (HashMap Rows (HashSet Place S) S)) : Type 0 where
+pub record IsIndexed {S : Type 0} (ps : List (Place × Stored)) (index : List (Call × List Interval)) (tables : List (HashMap Rows (List Place) S)) : Type 0 where
   pub placed : ArePlaced ps
   pub apart : AreApart (entries_of ps)
   pub keys : IndexesKeys index (entries_of ps)

@@ -17,6 +17,7 @@ ghost use Rattle.txc_node.specs.Entries.{is_best, others, same_place};
 ghost use Rattle.txc_node.specs.Cache.{is_invalidated, entry_after, has_ended};
 ghost use Rattle.txc_node.specs.Indexed.{entry_of, entries_of, turned, entries_under, reaches_under, stored_of, AreOf, listed, Relists, IsIndexed, IsFound, is_stale, stored_after, closed_reach, after_at, AreTied, AreSparedAt, AreSparedBy, KeepsListed, IsListed, StandsUnder, with_first, is_live, Closes, IsSpared, lists_rows};
 
+use crate::bucket::Bucket;
 use crate::entry::Entry;
 use crate::key_index::KeyIndex;
 use crate::place::Place;
@@ -143,6 +144,26 @@ fn invalidate_each(
     count
 }
 
+// The same at the places that are listed together.
+fn invalidate_bucket(
+    cache: &mut LruCache<Place, Stored>,
+    keys: &mut KeyIndex,
+    bucket: &Bucket,
+    stamp: Stamp,
+    tags: &TagSet,
+) -> usize
+    requires tied { AreTied cache.old.entries keys.old.versions.entries }
+    ensures tied { AreTied cache.new.entries keys.new.versions.entries }
+    ensures cap { cache.new.cap ≡ cache.old.cap }
+    ensures closes { Closes stamp tags.now cache.old.entries cache.new.entries result }
+    ensures spared { AllByRecursion (IsSpared stamp tags.now cache.new.entries) bucket.now }
+{
+    let _len = cache.len();
+    let (first, others) = bucket.parts();
+    let count = invalidate_at(cache, keys, first, stamp, tags);
+    count + invalidate_each(cache, keys, others, stamp, tags)
+}
+
 // The same at the places under rows of a table.
 fn invalidate_rows(
     cache: &mut LruCache<Place, Stored>,
@@ -161,7 +182,7 @@ fn invalidate_rows(
 {
     match buckets.get(&rows) {
         None => 0,
-        Some(places) => invalidate_each(cache, keys, places.as_slice(), stamp, tags),
+        Some(bucket) => invalidate_bucket(cache, keys, bucket, stamp, tags),
     }
 }
 
@@ -182,7 +203,7 @@ fn invalidate_index(
 {
     match buckets.get_index(i) {
         None => 0,
-        Some((_, places)) => invalidate_each(cache, keys, places.as_slice(), stamp, tags),
+        Some((_, bucket)) => invalidate_bucket(cache, keys, bucket, stamp, tags),
     }
 }
 

@@ -10,6 +10,7 @@
 //! the replay of recent events at an insertion are this project's own.
 #![tactic(auto)]
 
+mod bucket;
 mod counts;
 mod entry;
 mod hit;

@@ -8,15 +8,16 @@ ghost use Rattle.txc_tags.specs.Tags.{same_tag, has_tag};
 ghost use Rattle.txc_node.specs.Places.{equal_places};
 ghost use Rattle.txc_node.specs.Indexed.{equal_rows, has_place, lists_rows, lists, KeepsListed, is_live};
 
+use crate::bucket::Bucket;
 use crate::place::Place;
 use crate::stored::Stored;
-use indexmap::{IndexMap, IndexSet};
+use indexmap::IndexMap;
 use lru::LruCache;
 use std::alloc::{AllocError, Global};
 use txc_tags::{LAST_TABLE, Rows, Tag, TagSet};
 
 /// The places of entries by the rows of one table that they depend on.
-pub(crate) type Buckets = IndexMap<Rows, IndexSet<Place>>;
+pub(crate) type Buckets = IndexMap<Rows, Bucket>;
 
 /// How many tables there are.
 const TABLES: usize = LAST_TABLE as usize + 1;
@@ -37,16 +38,12 @@ fn list(buckets: &mut Buckets, alloc: Global, rows: Rows, place: &Place) -> Resu
         → lists_rows buckets.new.entries r q ≡ true }
 {
     match buckets.get_mut(&rows) {
-        Some(bucket) => {
-            bucket.insert(place.copy())?;
-        }
+        Some(bucket) => bucket.add(place),
         None => {
-            let mut bucket = IndexSet::new(alloc);
-            bucket.insert(place.copy())?;
-            buckets.insert(rows, bucket)?;
+            buckets.insert(rows, Bucket::one(alloc, place.copy()))?;
+            Ok(())
         }
     }
-    Ok(())
 }
 
 // Takes a place off those under rows of a table.
@@ -56,57 +53,25 @@ fn unlist(buckets: &mut Buckets, rows: Rows, place: &Place)
     ensures rows { (r : Rows) (q : Place) → equal_rows rows r ≡ false
         → lists_rows buckets.old.entries r q ≡ true → lists_rows buckets.new.entries r q ≡ true }
 {
-    let emptied = match buckets.get_mut(&rows) {
-        None => false,
-        Some(bucket) => {
-            bucket.swap_remove(place);
-            bucket.is_empty()
-        }
+    let stays = match buckets.get_mut(&rows) {
+        None => true,
+        Some(bucket) => bucket.remove(place),
     };
-    if emptied {
+    if !stays {
         buckets.swap_remove(&rows);
     }
 }
 
-// Whether a still valid entry stands at a place.
-fn is_live(cache: &LruCache<Place, Stored>, place: &Place) -> bool
-    ensures { result ≡ is_live cache.now.entries place.now }
-{
-    match cache.peek(place) {
-        None => false,
-        Some(stored) => stored.reach.is_still(),
-    }
-}
-
-// Keeps of the places those at which still valid entries stand.
-fn clean_bucket(bucket: &mut IndexSet<Place>, cache: &LruCache<Place, Stored>)
-    ensures { (q : Place) → is_live cache.now.entries q ≡ true
-        → has_place bucket.old.keys q ≡ true → has_place bucket.new.keys q ≡ true }
-{
-    for i in (0..bucket.len()).rev() {
-        let stays = match bucket.get_index(i) {
-            None => true,
-            Some(place) => is_live(cache, place),
-        };
-        if !stays {
-            bucket.swap_remove_index(i);
-        }
-    }
-}
-
-// The same under rows of a table.
+// Keeps under rows of a table the places at which still valid entries stand.
 fn clean_rows(buckets: &mut Buckets, rows: Rows, cache: &LruCache<Place, Stored>)
     ensures kept { (r : Rows) (q : Place) → is_live cache.now.entries q ≡ true
         → lists_rows buckets.old.entries r q ≡ true → lists_rows buckets.new.entries r q ≡ true }
 {
-    let emptied = match buckets.get_mut(&rows) {
-        None => false,
-        Some(bucket) => {
-            clean_bucket(bucket, cache);
-            bucket.is_empty()
-        }
+    let stays = match buckets.get_mut(&rows) {
+        None => true,
+        Some(bucket) => bucket.clean(cache),
     };
-    if emptied {
+    if !stays {
         buckets.swap_remove(&rows);
     }
 }

@@ -16,7 +16,7 @@ loop-i-preserved c =
       cap = step.cap ∙ inv.cap;
       closes = closes_more a.stamp a.tags.now a.cache.now.entries old new c.loop-i.count c.invalidate_index-count.result inv.closes step.closes;
       spared = below_more (λ k. AreSparedAt a.stamp a.tags.now new a.buckets.now.entries k) c.loop-i.i
-          (λ k l x at. all_stay a.stamp a.tags.now old new x.1.keys step.closes.spared (inv.spared k l x at))
+          (λ k l x at. all_stay a.stamp a.tags.now old new x.1 step.closes.spared (inv.spared k l x at))
           step.spared;
     }
 
