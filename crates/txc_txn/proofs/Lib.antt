@@ -1,2 +1,3 @@
 pub mod Longer
 pub mod Meanings
+pub mod Cores

@@ -99,8 +99,21 @@ call_is_given_up next L bounds pins recorded objects objects' call call' h empty
 
 -- ---- a call goes on
 
+pub call_goes_on : (next : Next) (L : History) (bounds : Bounds) (pins : PinSetValue) (recorded : List Recorded) (objects objects' : Objects) (call call' : Calling)
+    → IsMeant next L bounds pins recorded objects call → CallHolds next L objects' call' → LieWithin pins call' → (pins.has_present ≡ true → CallIsUnreached call')
+    → IsMeant next L bounds pins recorded objects' call'
+call_goes_on next L bounds pins recorded objects objects' call call' h right within unreached = record {
+  set = h.set;
+  fresh = h.fresh;
+  consistent = h.consistent;
+  right = right;
+  within = within;
+  unreached = unreached;
+  everywhere = h.everywhere;
+}
+
 -- a member that is kept was there, and the reach holds it
-kept_all : KeepsExactlyTheHeld → (P Q : Pin → Type 0) (reach : Interval) (pins : PinSetValue) → ((p : Pin) → Holds reach p.stamp → P p → Q p)
+pub kept_all : KeepsExactlyTheHeld → (P Q : Pin → Type 0) (reach : Interval) (pins : PinSetValue) → ((p : Pin) → Holds reach p.stamp → P p → Q p)
     → All P pins.members → All Q (narrowed reach pins).members
 kept_all keeps P Q reach pins step h =
     All-weaker (λ (p : Pin). Holds reach p.stamp × P p) Q (λ p both. step p both.0 both.1) (kept reach pins.members)
@@ -137,7 +150,7 @@ query_leaves_a_member keeps pins newest older reach is held none =
 
 -- ---- members come and go
 
-in_unreached : (t : ℕ) (frames : List Frame) → AreUnreached frames → InAll t frames
+pub in_unreached : (t : ℕ) (frames : List Frame) → AreUnreached frames → InAll t frames
 in_unreached t [] h = tt
 in_unreached t (f ∷ frames) h = (subst (λ (r : Option Interval). InReach t r) (sym h.0) tt, in_unreached t frames h.1)
 

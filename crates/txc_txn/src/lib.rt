@@ -1,4 +1,13 @@
 //! Read-only transactions, as a core that asks for one port request at a time.
 #![tactic(auto)]
 
+mod answers;
 pub mod laws;
+mod pinning;
+mod receipt;
+mod steps;
+mod txn_core;
+
+pub use pinning::{PinStep, Pinning};
+pub use receipt::{Left, Receipt};
+pub use txn_core::TxnCore;

@@ -1,0 +1,212 @@
+-- What is true of a core, step by step.
+use Rattle.std.proofs.Common.{◌≡◌, ◌≢◌, ℕ, zero, suc, ◌<◌, ◌≤◌, true, false, length, List, [], ◌∷◌, ◌++◌, Option, Some, None, IsSome, refl, sym, ap, subst, ◌∙◌, arith, All, Contains}
+use Rattle.std.specs.List.{slice_index_or}
+use Rattle.std.proofs.lemmas.List.Elements.{All-nil, All-cons, All-weaker, Contains-append_left, Contains-push, Contains-get_or}
+use Rattle.txc_stamp.specs.Interval.{Interval, Holds}
+use Rattle.txc_tags.specs.Keys.{Call}
+use Rattle.txc_db.specs.History.{History}
+use Rattle.txc_cushion.specs.declared.pin.Pin.{Pin}
+use Rattle.txc_cushion.specs.Pinning.{Falls}
+use Rattle.txc_pinset.specs.Members.{PinSetValue, kept, narrowed, with_present}
+use Rattle.txc_pinset.specs.Laws.{KeepsExactlyTheHeld, NeverIsEmpty}
+use Rattle.txc_shared.specs.declared.ask.Ask.{Ask}
+use Rattle.txc_shared.specs.declared.ask.Ask.TheVariants as asks
+use Rattle.txc_shared.specs.Eval.{Next}
+use Rattle.txc_registry.specs.Objects.{Objects, AllIdle}
+use Rattle.txc_call.specs.declared.frame.Frame.{Frame}
+use Rattle.txc_call.specs.declared.need.Need.{Need}
+use Rattle.txc_call.specs.declared.need.Need.TheVariants as needs
+use Rattle.txc_call.specs.declared.need.Outcome.{Outcome}
+use Rattle.txc_call.specs.declared.reply.Reply.{Reply}
+use Rattle.txc_call.specs.Reaches.{InReach}
+use Rattle.txc_call.specs.Frames.{released, IsOpen, IsStack, AreUnreached, InAll}
+use Rattle.txc_call.specs.Needs.{reply_reach, ReplyHolds, NeedFits, NeedHolds, reach_of}
+use Rattle.txc_call.specs.Calling.{Calling, CallHolds, CallIsUnreached, InCall, IsCalling}
+use Rattle.txc_ports.specs.declared.bounds.Bounds.{Bounds}
+use Rattle.txc_ports.specs.declared.recorded.Recorded.{Recorded}
+use Rattle.txc_txn.specs.declared.pinning.Pinning.{Pinning}
+use Rattle.txc_txn.specs.declared.pinning.PinStep.TheVariants.{Adding}
+use Rattle.txc_ports.specs.Answers.{IsFresh}
+use Rattle.txc_txn.specs.Meaning.{IsMeant, LieWithin}
+use Rattle.txc_txn.specs.Core.{CoreValue, CoreHolds, IsCore, PinningFits, least_present}
+use Rattle.txc_txn.proofs.Meanings.{fewer_members_mean_the_same, in_unreached, kept_all, present_joins, value_is_recorded, call_is_given_up, call_begins, call_goes_on}
+
+-- ---- the pin of the present
+
+module _ (never : NeverIsEmpty) (next : Next) (objects : Objects) (c : CoreValue) (pin : Pin) (present : c.pins.has_present ≡ true) (newer : All (λ m. m.stamp < pin.stamp) c.pins.members) where
+  pub core_joined : c.pinning ≡ None → IsCore next objects c → IsCore next objects (record c { pins = with_present pin c.pins; taken = c.taken ++ pin.stamp ∷ [] })
+  core_joined none h =
+      let unreached = h.unreached present in
+      record {
+        set = never.joins c.pins pin h.set newer;
+        call = h.call;
+        within = All-cons (λ (p : Pin). InCall p.stamp c.call) pin c.pins.members
+            (subst (λ (r : Option Interval). InReach pin.stamp r) (sym unreached.0) tt, in_unreached pin.stamp c.call.frames unreached.1) h.within;
+        unreached = λ again. absurd (cc again);
+        pinning = rw none tt;
+        member = λ calling empty. absurd (cc empty);
+        answered = λ some empty. absurd (cc empty);
+        taken = All-cons (λ (p : Pin). Contains (c.taken ++ pin.stamp ∷ []) p.stamp) pin c.pins.members (Contains-push c.taken pin.stamp)
+            (All-weaker (λ (p : Pin). Contains c.taken p.stamp) (λ (p : Pin). Contains (c.taken ++ pin.stamp ∷ []) p.stamp) (λ p there. Contains-append_left c.taken (pin.stamp ∷ []) p.stamp there) c.pins.members h.taken);
+        nodes = h.nodes;
+      }
+
+  pub holds_joined : (L : History) → IsFresh L c.bounds pin → CoreHolds next L objects c → CoreHolds next L objects (record c { pins = with_present pin c.pins; taken = c.taken ++ pin.stamp ∷ [] })
+  holds_joined L fresh h = record {
+    meant = present_joins never next L c.bounds c.pins c.recorded objects c.call pin h.meant present fresh newer;
+    coming = h.coming;
+  }
+
+-- a pin that is late enough is newer than every member
+newer_all : (bounds : Bounds) (members : List Pin) (stamp : ℕ) → Falls members → least_present bounds members ≤ stamp → All (λ m. m.stamp < stamp) members
+newer_all bounds [] stamp falls late = All-nil (λ (m : Pin). m.stamp < stamp)
+newer_all bounds (m ∷ ms) stamp falls late = each
+  where
+    each : (k : ℕ) (d : Pin) → k < length (m ∷ ms) → (slice_index_or (m ∷ ms) k d).stamp < stamp
+    each zero d below = omega (arith, late)
+    each (suc k) d below = let older = falls 0 (suc k) d (omega arith) below in omega (arith, older, late)
+
+-- the pin of the present is there, and is to be added
+pub core_adding : (next : Next) (objects : Objects) (c : CoreValue) (p : Pinning) (pin : Pin) → c.pinning ≡ Some p → least_present c.bounds c.pins.members ≤ pin.stamp
+    → IsCore next objects c → IsCore next objects (record c { pinning = Some (record { step = Adding pin; first = p.first }) })
+core_adding next objects c p pin is late h =
+    let was = subst (λ (o : Option Pinning). PinningFits o c.pins c.call.need) is h.pinning in
+    record {
+      set = h.set;
+      call = h.call;
+      within = h.within;
+      unreached = h.unreached;
+      pinning = (was.0, was.1, newer_all c.bounds c.pins.members pin.stamp h.set.falls late);
+      member = h.member;
+      answered = h.answered;
+      taken = h.taken;
+      nodes = h.nodes;
+    }
+
+-- ---- a narrowed pin set
+
+pub all_held : KeepsExactlyTheHeld → (pins : PinSetValue) (reach : Interval) → All (λ m. InReach m.stamp (Some reach)) (narrowed reach pins).members
+all_held keeps pins reach = kept_all keeps (λ (p : Pin). Unit {0}) (λ (p : Pin). Holds reach p.stamp) reach pins (λ p held u. held) (λ i d below. tt)
+
+module _ (keeps : KeepsExactlyTheHeld) (never : NeverIsEmpty) (next : Next) (objects : Objects) (c : CoreValue) (reach : Interval) (some : kept reach c.pins.members ≢ []) where
+  pub core_narrowed : c.pinning ≡ None → IsCore next objects c → IsCore next objects (record c { pins = narrowed reach c.pins })
+  core_narrowed none h = record {
+    set = never.narrows c.pins reach h.set some;
+    call = h.call;
+    within = kept_all keeps (λ (p : Pin). InCall p.stamp c.call) (λ (p : Pin). InCall p.stamp c.call) reach c.pins (λ p held inside. inside) h.within;
+    unreached = λ present. absurd (cc present);
+    pinning = rw none tt;
+    member = λ calling. some;
+    answered = λ recorded. some;
+    taken = kept_all keeps (λ (p : Pin). Contains c.taken p.stamp) (λ (p : Pin). Contains c.taken p.stamp) reach c.pins (λ p held there. there) h.taken;
+    nodes = h.nodes;
+  }
+
+  pub holds_narrowed : (L : History) → CoreHolds next L objects c → CoreHolds next L objects (record c { pins = narrowed reach c.pins })
+  holds_narrowed L h = record {
+    meant = fewer_members_mean_the_same next L c.bounds c.pins (narrowed reach c.pins) c.recorded objects c.call h.meant record {
+      set = never.narrows c.pins reach h.meant.set some;
+      members = λ i d below. ((keeps c.pins reach _).0 (Contains-get_or (kept reach c.pins.members) i d below)).0;
+      present = λ present. absurd (cc present);
+    };
+    coming = h.coming;
+  }
+
+-- ---- the value of a call
+
+-- what a call is done with is all that is left of it
+value_fits : (next : Next) (objects : Objects) (top : Call) (need : Option Need) (frames : List Frame) (o : Outcome) → need ≡ Some (needs.Value o) → NeedFits next objects top need frames
+    → (frames ≡ []) × AllIdle objects × (o.key ≡ top)
+value_fits next objects top need frames o is h =
+    let done = subst (λ (n : Option Need). NeedFits next objects top n frames) is h in
+    let at_bottom : asks.Call o.key ≡ asks.Call top = subst (λ (fs : List Frame). IsStack next objects top (asks.Call o.key) fs) done.1 done.0.open_frames.stack in
+    (done.1, subst (λ (fs : List Frame). AllIdle (released fs objects)) done.1 done.0.open_frames.free, cc)
+
+module _ (next : Next) (objects : Objects) (c : CoreValue) (o : Outcome) (is : c.call.need ≡ Some (needs.Value o)) where
+  pub value_key : IsCore next objects c → o.key ≡ c.call.top
+  value_key h = (value_fits next objects c.call.top c.call.need c.call.frames o is h.call).2
+
+  -- the call is done, and its value recorded, or not
+  pub core_done : (recorded : List Recorded) → c.pinning ≡ None → IsCore next objects c → IsCore next objects (record c { recorded = recorded; call = record c.call { need = None } })
+  core_done recorded none h =
+      let at_rest = value_fits next objects c.call.top c.call.need c.call.frames o is h.call in
+      record {
+        set = h.set;
+        call = (at_rest.0, at_rest.1);
+        within = All-weaker (λ (p : Pin). InCall p.stamp c.call) (λ (p : Pin). InCall p.stamp (record c.call { need = None })) (λ p inside. (tt, inside.1)) c.pins.members h.within;
+        unreached = λ present. (refl, (h.unreached present).1);
+        pinning = rw none tt;
+        member = λ calling. absurd (calling refl);
+        answered = λ some. h.member (λ gone. absurd (let both = sym is ∙ gone in cc both));
+        taken = h.taken;
+        nodes = h.nodes;
+      }
+
+  pub holds_recorded : (L : History) → CoreHolds next L objects c → CoreHolds next L objects (record c { recorded = c.recorded ++ record { key = o.key; value = o.value } ∷ []; call = record c.call { need = None } })
+  holds_recorded L h = record {
+    meant = value_is_recorded next L c.bounds c.pins c.recorded objects c.call o h.meant is;
+    coming = h.coming;
+  }
+
+  pub holds_dropped : (L : History) → CoreHolds next L objects c → CoreHolds next L objects (record c { call = record c.call { need = None } })
+  holds_dropped L h =
+      let right = subst (λ (need : Option Need). NeedHolds next L objects need c.call.frames) is h.meant.right in
+      record {
+        meant = call_goes_on next L c.bounds c.pins c.recorded objects objects c.call (record c.call { need = None }) h.meant right.1
+            (All-weaker (λ (p : Pin). InCall p.stamp c.call) (λ (p : Pin). InCall p.stamp (record c.call { need = None })) (λ p inside. (tt, inside.1)) c.pins.members h.meant.within)
+            (λ present. (refl, (h.meant.unreached present).1));
+        coming = h.coming;
+      }
+
+-- ---- a call goes on
+
+-- a member's stamp lies in the reach of a reply, and in each reach of the call
+common_of : (call : Calling) (reach : Option Interval) (members : List Pin) → members ≢ [] → All (λ m. InReach m.stamp reach) members → All (λ m. InCall m.stamp call) members
+    → (t : ℕ) × InReach t reach × InCall t call
+common_of call reach [] some held within = absurd (some refl)
+common_of call reach (p ∷ ps) some held within = (p.stamp, held 0 p (omega arith), within 0 p (omega arith))
+
+calls_on : (need : Option Need) → IsSome need → need ≢ None
+calls_on None some = λ gone. absurd (cc some)
+calls_on (Some need) some = λ gone. absurd (cc gone)
+
+pub of_some : {X : Type 0} (o : Option X) (G : Type 0) → IsSome o → ((x : X) → o ≡ Some x → G) → G
+of_some None G some f = absurd (cc some)
+of_some (Some x) G some f = f x refl
+
+module _ (next : Next) (objects : Objects) (c : CoreValue) (reach : Option Interval) (held : All (λ m. InReach m.stamp reach) c.pins.members) where
+  pub common : IsSome c.call.need → IsCore next objects c → (t : ℕ) × InReach t reach × InCall t c.call
+  common some h = common_of c.call reach c.pins.members (h.member (calls_on c.call.need some)) held h.within
+
+  module _ (objects' : Objects) (call' : Calling) (within : (t : ℕ) → InReach t reach → InCall t c.call → InCall t call') (present : c.pins.has_present ≡ true → reach ≡ None)
+      (unreached : reach ≡ None → CallIsUnreached c.call → CallIsUnreached call') where
+    all_within : LieWithin c.pins c.call → LieWithin c.pins call'
+    all_within inside = λ i d below. within _ (held i d below) (inside i d below)
+
+    pub core_went_on : c.pinning ≡ None → IsSome c.call.need → IsCalling next objects' call' → IsCore next objects c → IsCore next objects' (record c { call = call' })
+    core_went_on none some calls h = record {
+      set = h.set;
+      call = calls;
+      within = all_within h.within;
+      unreached = λ there. unreached (present there) (h.unreached there);
+      pinning = rw none tt;
+      member = λ calling. h.member (calls_on c.call.need some);
+      answered = h.answered;
+      taken = h.taken;
+      nodes = h.nodes;
+    }
+
+    pub holds_went_on : (L : History) → CallHolds next L objects' call' → CoreHolds next L objects c → CoreHolds next L objects' (record c { call = call' })
+    holds_went_on L right h = record {
+      meant = call_goes_on next L c.bounds c.pins c.recorded objects objects' c.call call' h.meant right (all_within h.meant.within) (λ there. unreached (present there) (h.meant.unreached there));
+      coming = h.coming;
+    }
+
+-- ---- a call begins
+
+pub holds_begun : (next : Next) (L : History) (objects : Objects) (c : CoreValue) (k : Call) (call' : Calling) → call' ≡ record { top = k; asked = 0; frames = []; need = Some (needs.Lookup k) }
+    → CoreHolds next L objects c → CoreHolds next L objects (record c { call = call' })
+holds_begun next L objects c k call' is h = record {
+  meant = subst (λ (call : Calling). IsMeant next L c.bounds c.pins c.recorded objects call) (sym is) (call_begins next L c.bounds c.pins c.recorded objects objects c.call k h.meant);
+  coming = h.coming;
+}
