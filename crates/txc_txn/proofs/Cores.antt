@@ -1,10 +1,13 @@
 -- What is true of a core, step by step.
 use Rattle.std.proofs.Common.{◌≡◌, ◌≢◌, ℕ, zero, suc, ◌<◌, ◌≤◌, true, false, length, List, [], ◌∷◌, ◌++◌, Option, Some, None, IsSome, refl, sym, ap, subst, ◌∙◌, arith, All, Contains}
 use Rattle.std.specs.List.{slice_index_or}
-use Rattle.std.proofs.lemmas.List.Elements.{All-nil, All-cons, All-weaker, Contains-append_left, Contains-push, Contains-get_or}
+use Rattle.std.proofs.lemmas.List.Elements.{All-nil, All-cons, All-head, All-weaker, Contains-append_left, Contains-push, Contains-get_or}
 use Rattle.txc_stamp.specs.Interval.{Interval, Holds}
 use Rattle.txc_tags.specs.Keys.{Call}
-use Rattle.txc_db.specs.History.{History}
+use mathlib.Core.List.{IsPrefix}
+use Rattle.txc_db.specs.History.{History, state_at}
+use Rattle.txc_db.specs.Laws.{StatesStay}
+use Rattle.txc_db.specs.Seen.{FrontValue}
 use Rattle.txc_cushion.specs.declared.pin.Pin.{Pin}
 use Rattle.txc_cushion.specs.Pinning.{Falls}
 use Rattle.txc_pinset.specs.Members.{PinSetValue, kept, narrowed, with_present}
@@ -25,11 +28,13 @@ use Rattle.txc_call.specs.Calling.{Calling, CallHolds, CallIsUnreached, InCall, 
 use Rattle.txc_ports.specs.declared.bounds.Bounds.{Bounds}
 use Rattle.txc_ports.specs.declared.recorded.Recorded.{Recorded}
 use Rattle.txc_txn.specs.declared.pinning.Pinning.{Pinning}
-use Rattle.txc_txn.specs.declared.pinning.PinStep.TheVariants.{Adding}
-use Rattle.txc_ports.specs.Answers.{IsFresh}
+use Rattle.txc_txn.specs.declared.pinning.PinStep.TheVariants.{Asked, Adding, Dropping}
+use Rattle.txc_txn.specs.declared.pinning.PinStep.{PinStep}
+use Rattle.txc_ports.specs.Answers.{IsFresh, AreConsistent}
 use Rattle.txc_txn.specs.Meaning.{IsMeant, LieWithin}
-use Rattle.txc_txn.specs.Core.{CoreValue, CoreHolds, IsCore, PinningFits, least_present}
-use Rattle.txc_txn.proofs.Meanings.{fewer_members_mean_the_same, in_unreached, kept_all, present_joins, value_is_recorded, call_is_given_up, call_begins, call_goes_on}
+use Rattle.txc_txn.specs.Core.{CoreValue, CoreHolds, IsCore, IsFreshPinning, IsFreshStep, PinningFits, Explains, least_present, receipt_pin}
+use Rattle.txc_txn.proofs.Longer.{fresh_later}
+use Rattle.txc_txn.proofs.Meanings.{meaning_stays, fewer_members_mean_the_same, in_unreached, kept_all, present_joins, value_is_recorded, call_is_given_up, call_begins, call_goes_on}
 
 -- ---- the pin of the present
 
@@ -210,3 +215,51 @@ holds_begun next L objects c k call' is h = record {
   meant = subst (λ (call : Calling). IsMeant next L c.bounds c.pins c.recorded objects call) (sym is) (call_begins next L c.bounds c.pins c.recorded objects objects c.call k h.meant);
   coming = h.coming;
 }
+
+-- ---- what was seen of the history
+
+pub core_seen : (next : Next) (objects : Objects) (c : CoreValue) (seen : FrontValue) → IsCore next objects c → IsCore next objects (record c { seen = seen })
+core_seen next objects c seen h = record {
+  set = h.set;
+  call = h.call;
+  within = h.within;
+  unreached = h.unreached;
+  pinning = h.pinning;
+  member = h.member;
+  answered = h.answered;
+  taken = h.taken;
+  nodes = h.nodes;
+}
+
+module _ (stay : StatesStay) (next : Next) (L M : History) (begins : IsPrefix L M) where
+  pinning_later : (bounds : Bounds) (pinning : Option Pinning) → IsFreshPinning L bounds pinning → IsFreshPinning M bounds pinning
+  pinning_later bounds None h = tt
+  pinning_later bounds (Some p) h = step_later bounds p.step h
+    where
+      step_later : (bounds : Bounds) (step : PinStep) → IsFreshStep L bounds step → IsFreshStep M bounds step
+      step_later bounds Asked h = tt
+      step_later bounds (Adding pin) h = fresh_later stay L M begins bounds pin h
+      step_later bounds (Dropping stamp error) h = tt
+
+  -- in a longer history, of which more was seen
+  pub holds_seen : (objects : Objects) (c : CoreValue) (seen : FrontValue) → CoreHolds next L objects c → CoreHolds next M objects (record c { seen = seen })
+  holds_seen objects c seen h = record {
+    meant = meaning_stays stay next L M c.bounds c.pins c.recorded objects c.call begins h.meant;
+    coming = pinning_later c.bounds c.pinning h.coming;
+  }
+
+-- ---- the end
+
+pub core_explains : (next : Next) (L : History) (objects : Objects) (c : CoreValue) → (c.recorded ≢ [] → c.pins.members ≢ []) → CoreHolds next L objects c
+    → Explains next L c.bounds (receipt_pin c.recorded c.pins.members) c.recorded
+core_explains next L objects c some h = go c.recorded c.pins.members some h.meant.fresh h.meant.consistent
+  where
+    go : (recorded : List Recorded) (members : List Pin) → (recorded ≢ [] → members ≢ []) → All (IsFresh L c.bounds) members → All (λ p. AreConsistent next recorded (state_at L p.stamp)) members
+        → Explains next L c.bounds (receipt_pin recorded members) recorded
+    go [] members some fresh right = refl
+    go (r ∷ rs) [] some fresh right = absurd (some (λ none. absurd (cc none)) refl)
+    go (r ∷ rs) (newest ∷ older) some fresh right = (
+      λ none. absurd (cc none),
+      All-head (IsFresh L c.bounds) newest older fresh,
+      All-head (λ (p : Pin). AreConsistent next (r ∷ rs) (state_at L p.stamp)) newest older right,
+    )

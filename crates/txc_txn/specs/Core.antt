@@ -1,15 +1,16 @@
 -- A read-only transaction: what it waits for, and what is true of it.
-use Rattle.std.specs.Prelude.{◌≡◌, ◌≢◌, ℕ, ◌+◌, ◌<◌, ◌≤◌, true, List, [], ◌∷◌, ◌++◌, length, All, Contains, Option, Some, None, Ok, Err, max}
+use Rattle.std.specs.Prelude.{◌≡◌, ◌≢◌, ℕ, ◌+◌, ◌<◌, ◌≤◌, true, List, [], ◌∷◌, ◌++◌, length, All, Contains, Option, Some, None, Ok, Err, map, max}
 use Rattle.txc_stamp.specs.Interval.{Interval, Holds}
 use Rattle.txc_tags.specs.Keys.{Call, node_of}
 use Rattle.txc_rows.specs.declared.query.Query.{Query}
 use Rattle.txc_node.specs.declared.entry.Entry.{Entry}
-use Rattle.txc_db.specs.History.{History, moment_at}
+use Rattle.txc_db.specs.History.{History, moment_at, state_at}
 use Rattle.txc_db.specs.Seen.{FrontValue}
 use Rattle.txc_cushion.specs.declared.pin.Pin.{Pin}
+use Rattle.txc_cushion.specs.declared.pins.Pins.{Pins}
 use Rattle.txc_cushion.specs.Pinning.{pin_of}
 use Rattle.txc_pinset.specs.declared.choice.Choice.TheVariants.{Present, At}
-use Rattle.txc_pinset.specs.Members.{PinSetValue, IsPinSet, AreBounds, choice_of, kept, narrowed, with_present}
+use Rattle.txc_pinset.specs.Members.{PinSetValue, IsPinSet, AreBounds, begun, choice_of, kept, narrowed, with_present}
 use Rattle.txc_shared.specs.Eval.{Next}
 use Rattle.txc_registry.specs.Objects.{Objects}
 use Rattle.txc_call.specs.declared.need.Need.{Need}
@@ -26,7 +27,7 @@ use Rattle.txc_ports.specs.declared.reply.PortReply.{PortReply}
 use Rattle.txc_ports.specs.declared.reply.PortReply.TheVariants as ports
 use Rattle.txc_ports.specs.declared.turn.Turn.{Turn}
 use Rattle.txc_ports.specs.declared.turn.Turn.TheVariants.{Ask, Begun, Value, Rows, At as Committed, Refused}
-use Rattle.txc_ports.specs.Answers.{IsFresh}
+use Rattle.txc_ports.specs.Answers.{IsFresh, AreConsistent}
 use Rattle.txc_txn.specs.declared.pinning.Pinning.{Pinning}
 use Rattle.txc_txn.specs.declared.pinning.PinStep.{PinStep}
 use Rattle.txc_txn.specs.declared.pinning.PinStep.TheVariants.{Asked, Adding, Dropping}
@@ -58,6 +59,20 @@ value_of c = record {
   call = c.machine;
   pinning = c.pinning;
   seen = c.seen;
+}
+
+-- a core that was handed these pins, with its first call to come
+abbrev pub begun_core : ℕ → ℕ → Bounds → Pins → Calling → CoreValue
+begun_core nodes renew_after bounds pins call = record {
+  bounds = bounds;
+  renew_after = renew_after;
+  nodes = nodes;
+  pins = begun pins.pins.items;
+  taken = map (λ p. p.stamp) pins.pins.items;
+  recorded = [];
+  call = call;
+  pinning = None;
+  seen = pins.front;
 }
 
 -- no call is open
@@ -167,12 +182,12 @@ IsAnswered c (ports.Query (Err error)) = (query : Query) × IsNeeding c (needs.Q
 IsAnswered c ports.Insert = (entry : Entry) × IsNeeding c (needs.Insert entry)
 IsAnswered c reply = ⊥
 
--- the reply is right in the history
-abbrev pub IsRight : Next → History → CoreValue → PortReply → Type 0
-IsRight next L c (ports.Pin (Ok pinned)) = moment_at L pinned.stamp ≡ Some pinned.moment
-IsRight next L c (ports.Lookup (Some hit)) = (need : Need) → c.call.need ≡ Some need → ReplyHolds next L need (replies.Hit hit.answer)
-IsRight next L c (ports.Query (Ok found)) = (need : Need) → c.call.need ≡ Some need → ReplyHolds next L need (replies.Found found.answer)
-IsRight next L c reply = Unit {0}
+-- the reply to what the call needs is right in the history
+abbrev pub IsRight : Next → History → Option Need → PortReply → Type 0
+IsRight next L need (ports.Pin (Ok pinned)) = moment_at L pinned.stamp ≡ Some pinned.moment
+IsRight next L need (ports.Lookup (Some hit)) = (n : Need) → need ≡ Some n → ReplyHolds next L n (replies.Hit hit.answer)
+IsRight next L need (ports.Query (Ok found)) = (n : Need) → need ≡ Some n → ReplyHolds next L n (replies.Found found.answer)
+IsRight next L need reply = Unit {0}
 
 -- ---- what a reply leaves
 
@@ -231,3 +246,33 @@ abbrev pub IsEnd : Turn → Type 0
 IsEnd (Value value) = Unit {0}
 IsEnd (Refused error) = Unit {0}
 IsEnd turn = ⊥
+
+-- the bounds, after how long the newest pin is renewed, and the number of nodes stay
+pub record KeepsSettings (old new : CoreValue) : Type 0 where
+  pub bounds : new.bounds ≡ old.bounds
+  pub renew_after : new.renew_after ≡ old.renew_after
+  pub nodes : new.nodes ≡ old.nodes
+
+-- ---- the end
+
+-- the newest member, where a call was answered
+abbrev pub receipt_pin : List Recorded → List Pin → Option Pin
+receipt_pin [] members = None
+receipt_pin (r ∷ rs) [] = None
+receipt_pin (r ∷ rs) (newest ∷ older) = Some newest
+
+-- a receipt is explained: it has no pin and no answer; or its pin is one that the bounds allow, and there each answer is what
+-- its call comes to without a cache
+abbrev pub Explains : Next → History → Bounds → Option Pin → List Recorded → Type 0
+Explains next L bounds None answers = answers ≡ []
+Explains next L bounds (Some pin) answers = (answers ≢ []) × IsFresh L bounds pin × AreConsistent next answers (state_at L pin.stamp)
+
+-- the stamp that was pinned, and was not added
+abbrev pub left_stamp : PinStep → Option ℕ
+left_stamp Asked = None
+left_stamp (Adding pin) = Some pin.stamp
+left_stamp (Dropping stamp error) = Some stamp
+
+abbrev pub left_pin : Option Pinning → Option ℕ
+left_pin None = None
+left_pin (Some p) = left_stamp p.step

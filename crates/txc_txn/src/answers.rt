@@ -43,7 +43,7 @@ impl TxnCore {
         requires fits { IsCore A.next registry.old (value_of self.old) }
         requires reply { IsAnswered (value_of self.old) (PortReply.Pin pinned) }
         ensures fits { IsCore A.next registry.new (value_of self.new) }
-        ensures holds { (L : History) → IsRight A.next L (value_of self.old) (PortReply.Pin pinned)
+        ensures holds { (L : History) → IsRight A.next L self.old.machine.need (PortReply.Pin pinned)
             → CoreHolds A.next L registry.old (value_of self.old) → CoreHolds A.next L registry.new (value_of self.new) }
         ensures turn { IsTurn (value_of self.new) result }
         ensures recorded { self.old.recorded.items
@@ -140,7 +140,7 @@ impl TxnCore {
         requires fits { IsCore A.next registry.old (value_of self.old) }
         requires reply { IsAnswered (value_of self.old) (PortReply.Lookup hit) }
         ensures fits { IsCore A.next registry.new (value_of self.new) }
-        ensures holds { (L : History) → IsRight A.next L (value_of self.old) (PortReply.Lookup hit)
+        ensures holds { (L : History) → IsRight A.next L self.old.machine.need (PortReply.Lookup hit)
             → CoreHolds A.next L registry.old (value_of self.old) → CoreHolds A.next L registry.new (value_of self.new) }
         ensures turn { IsTurn (value_of self.new) result }
         ensures pins { PinsAfter (value_of self.old) (PortReply.Lookup hit) self.new.pins }
@@ -174,7 +174,7 @@ impl TxnCore {
         requires fits { IsCore A.next registry.old (value_of self.old) }
         requires reply { IsAnswered (value_of self.old) (PortReply.Query found) }
         ensures fits { IsCore A.next registry.new (value_of self.new) }
-        ensures holds { (L : History) → IsRight A.next L (value_of self.old) (PortReply.Query found)
+        ensures holds { (L : History) → IsRight A.next L self.old.machine.need (PortReply.Query found)
             → CoreHolds A.next L registry.old (value_of self.old) → CoreHolds A.next L registry.new (value_of self.new) }
         ensures turn { IsTurn (value_of self.new) result }
         ensures pins { PinsAfter (value_of self.old) (PortReply.Query found) self.new.pins }
@@ -197,5 +197,45 @@ impl TxnCore {
             unreachable!()
         };
         self.go_on(alloc, registry, Reply::Found(answer))
+    }
+
+    // Goes on with a reply.
+    pub(crate) fn answer<A: App, C: Cacheable>(
+        &mut self,
+        alloc: Global,
+        registry: &mut Registry<A, C>,
+        reply: PortReply,
+    ) -> Turn
+        requires fits { IsCore A.next registry.old (value_of self.old) }
+        requires reply { IsAnswered (value_of self.old) reply }
+        ensures fits { IsCore A.next registry.new (value_of self.new) }
+        ensures holds { (L : History) → IsRight A.next L self.old.machine.need reply
+            → CoreHolds A.next L registry.old (value_of self.old) → CoreHolds A.next L registry.new (value_of self.new) }
+        ensures turn { IsTurn (value_of self.new) result }
+        ensures pins { PinsAfter (value_of self.old) reply self.new.pins }
+        ensures taken { self.new.taken.items ≡ taken_after self.old.taken.items reply }
+        ensures recorded { self.new.recorded.items
+            ≡ recorded_after self.old.recorded.items result (open_call (value_of self.old)) }
+        ensures goes_on { IsAsk result → open_call (value_of self.new) ≡ open_call (value_of self.old) }
+        ensures same { value_of self.new ≡ record (value_of self.old) {
+          pins = self.new.pins;
+          taken = self.new.taken.items;
+          recorded = self.new.recorded.items;
+          call = self.new.machine;
+          pinning = self.new.pinning;
+        } }
+    {
+        match reply {
+            PortReply::Pin(pinned) => self.answer_pin(registry, pinned),
+            PortReply::AddPin(pinned, added) => self.answer_add(alloc, registry, &pinned, added),
+            PortReply::Unpin => self.answer_unpin(registry),
+            PortReply::Lookup(hit) => self.answer_lookup(alloc, registry, hit),
+            PortReply::Query(found) => self.answer_query(alloc, registry, found),
+            PortReply::Insert => self.go_on(alloc, registry, Reply::Inserted),
+            PortReply::Fresh(_)
+            | PortReply::GiveBack
+            | PortReply::Hold(_)
+            | PortReply::Commit(_) => unreachable!(),
+        }
     }
 }

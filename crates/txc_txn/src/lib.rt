@@ -6,6 +6,7 @@ pub mod laws;
 mod pinning;
 mod receipt;
 mod steps;
+mod turns;
 mod txn_core;
 
 pub use pinning::{PinStep, Pinning};

@@ -1,3 +1,5 @@
+ghost use Rattle.std.specs.Prelude.{◌≡◌};
+
 use txc_cushion::Pin;
 use txc_ports::TxnError;
 use txc_stamp::Stamp;
@@ -20,4 +22,19 @@ pub struct Pinning {
     pub step: PinStep,
     /// The call that begins after it; none where the open call goes on with a query.
     pub first: Option<Key>,
+}
+
+impl Pinning {
+    ghost use Rattle.txc_txn.specs.Core.{left_stamp};
+
+    // The stamp that was pinned and was not added, if there is one.
+    pub(crate) fn left(&self) -> Option<Stamp>
+        ensures { result ≡ left_stamp self.now.step }
+    {
+        match self.step {
+            PinStep::Asked => None,
+            PinStep::Adding(pin) => Some(pin.stamp),
+            PinStep::Dropping(stamp, _) => Some(stamp),
+        }
+    }
 }
