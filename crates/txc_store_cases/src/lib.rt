@@ -8,11 +8,15 @@
 #[cfg(test)]
 mod calling;
 #[cfg(test)]
+mod calls;
+#[cfg(test)]
 mod common;
 #[cfg(test)]
 mod db;
 #[cfg(test)]
 mod errors;
+#[cfg(test)]
+mod functions;
 #[cfg(test)]
 mod pins;
 #[cfg(test)]

@@ -1,0 +1,408 @@
+-- What comes of a reply keeps the frames and what holds of them.
+use Rattle.std.proofs.Common.{◌≡◌, ◌≢◌, ◌⊎◌, inl, inr, ⊎_elim, ℕ, ◌+◌, ◌<◌, ◌≤◌, nat_le, Bool, true, false, cond, List, [], ◌∷◌, ◌++◌, length, Option, Some, None, IsSome, Ok, Err, sym, refl, ap, subst, ◌∙◌, arith}
+use Rattle.std.specs.Prelude.{is_some}
+use Rattle.std.proofs.lemmas.Bool.Decides.{nat_tests}
+use Rattle.txc_stamp.specs.Interval.{Interval}
+use Rattle.txc_tags.specs.declared.tag.Tag.{Tag}
+use Rattle.txc_tags.specs.Keys.{Call}
+use Rattle.txc_tags.specs.Tags.{with_tags}
+use Rattle.txc_rows.specs.declared.query.Query.{Query}
+use Rattle.txc_db.specs.History.{History}
+use Rattle.txc_node.specs.declared.value.TheConstants.{MAX_VALUE_LEN}
+use Rattle.txc_shared.specs.declared.app.TheConstants.{MAX_ASKS}
+use Rattle.txc_shared.specs.declared.ask.Ask.{Ask}
+use Rattle.txc_shared.specs.declared.ask.Ask.TheVariants as asks
+use Rattle.txc_shared.specs.declared.ask.Answer.{Answer}
+use Rattle.txc_shared.specs.declared.ask.Answer.TheVariants as answers
+use Rattle.txc_shared.specs.Eval.{Next}
+use Rattle.txc_shared.specs.Claims.{RowsHold, ValueHolds}
+use Rattle.txc_shared.specs.Laws.{RightAnswersGiveTheValue}
+use Rattle.txc_registry.specs.Activity.{Activity, begun, idle, running}
+use Rattle.txc_registry.specs.Objects.{Objects, activity_of, with_activity}
+use Rattle.txc_call.specs.declared.error.CallError.{CallError}
+use Rattle.txc_call.specs.declared.error.CallError.TheVariants as errors
+use Rattle.txc_call.specs.declared.frame.Frame.{Frame}
+use Rattle.txc_call.specs.declared.frames.TheConstants.{MAX_CALL_ASKS}
+use Rattle.txc_call.specs.declared.need.Need.{Need}
+use Rattle.txc_call.specs.declared.need.Need.TheVariants as needs
+use Rattle.txc_call.specs.declared.need.Outcome.{Outcome}
+use Rattle.txc_validity.specs.declared.answer.Found.{Found}
+use Rattle.txc_call.specs.declared.reply.Reply.{Reply}
+use Rattle.txc_call.specs.declared.reply.Reply.TheVariants as replies
+use Rattle.txc_call.specs.Reaches.{InReach}
+use Rattle.txc_call.specs.Frames.{answers_in, begun_frame, given, AnswerHolds, AreFew, AreUnreached, FramesHold, InAll, IsOpen, IsRising}
+use Rattle.txc_call.specs.Needs.{reply_reach, InNeed, IsUnreached, IsWaiting, NeedFits, NeedHolds, ReplyHolds}
+use Rattle.txc_call.specs.Calling.{Calling, CallHolds, CallIsUnreached, InCall, IsCalling}
+use Rattle.txc_call.specs.Turns.{Standing, UnlessRefused, count_refusal, call_refusal, value_refusal, ask_refusal, entry_of, outcome_of, unreached, Onward, DoneLeads, AllowedLeads, AskLeads, AfterAsk, AfterMiss, AfterReply, AfterRows, AfterValue, next_ask, with_answer, with_begun}
+use Rattle.txc_call.proofs.Claims.{in_meet, meets_at}
+use Rattle.txc_call.proofs.Answering.{rows_answer, value_answers}
+use Rattle.txc_call.proofs.Leading.{few_by}
+use Rattle.txc_call.proofs.OpenFrames.{closed, free_below, hold_closed, hold_opened, hold_resumed, in_given, opened, resumed, unreached_given}
+
+-- ---- refusals that did not come
+
+allowed : (o : Option CallError) (s : Standing) (T : Type 0) → UnlessRefused o (Ok s) T → (o ≡ None) × T
+allowed (Some error) s T h = absurd (cc)
+allowed None s T h = (refl, h)
+
+there_by_test : (g : ℕ) (o : Option Activity) → cond (is_some o) None (Some (errors.NoFunction g)) ≡ None → IsSome o
+there_by_test g (Some a) h = refl
+there_by_test g None h = absurd (cc)
+
+call_by_test : (os : Objects) (f : ℕ) (k : Call) (b : Bool) → nat_le f k.function ≡ b → call_refusal os f k ≡ None → (k.function < f) × IsSome (activity_of os k.function)
+call_by_test os f k true is h = let no : Some (errors.CallOrder f k.function) ≡ None = rw is at h in absurd (cc)
+call_by_test os f k false is h = (grind (arith, nat_tests), there_by_test k.function (activity_of os k.function) (rw is at h))
+
+short_by_test : (bytes : List ℕ) (b : Bool) → nat_le (length bytes) MAX_VALUE_LEN ≡ b → value_refusal bytes ≡ None → length bytes ≤ MAX_VALUE_LEN
+short_by_test bytes true is h = grind (arith, nat_tests)
+short_by_test bytes false is h = let no : Some errors.ValueTooLong ≡ None = rw is at h in absurd (cc)
+
+-- ---- what is kept
+
+-- where H holds in a history, all answers are right there; a stamp of W lies in all reaches; and where U holds there is no reach
+pub record Keeps (next : Next) (top : Call) (H : History → Type 0) (W : ℕ → Type 0) (U : Type 0) (s : Standing) : Type 0 where
+  pub fits : NeedFits next s.objects top s.need s.frames
+  pub holds : (L : History) → H L → NeedHolds next L s.objects s.need s.frames
+  pub within : (t : ℕ) → W t → InNeed t s.need s.frames
+  pub no_reach : U → IsUnreached s.need s.frames
+
+module _ (next : Next) (top : Call) (law : RightAnswersGiveTheValue) (s : Standing) where
+  keeps_from : (H H' : History → Type 0) (W W' : ℕ → Type 0) (U U' : Type 0) → ((L : History) → H' L → H L) → ((t : ℕ) → W' t → W t) → (U' → U)
+      → Keeps next top H W U s → Keeps next top H' W' U' s
+  keeps_from H H' W W' U U' h w u k = record {
+    fits = k.fits;
+    holds = λ L x. k.holds L (h L x);
+    within = λ t x. k.within t (w t x);
+    no_reach = λ x. k.no_reach (u x);
+  }
+
+  -- what is kept where this is at hand, over a reach, beside these frames
+  abbrev KeepsBeside : (History → Type 0) → Option Interval → List Frame → Objects → Type 0
+  KeepsBeside H reach frames os =
+      Keeps next top (λ L. H L × FramesHold next L os frames) (λ t. InReach t reach × InAll t frames) ((reach ≡ None) × AreUnreached frames) s
+
+  abbrev KeepsValue : List Frame → Outcome → Objects → Type 0
+  KeepsValue frames o os = KeepsBeside (λ L. ValueHolds next L o.key o.value o.reach o.tags) o.reach frames os
+
+  abbrev KeepsFrames : List Frame → Objects → Type 0
+  KeepsFrames frames os = Keeps next top (λ L. FramesHold next L os frames) (λ t. InAll t frames) (AreUnreached frames) s
+
+  -- a frame that is done without a reach hands its value on to the frames around it
+  abbrev GoesOn : Onward → Frame → List Frame → Objects → Type 0
+  GoesOn goes_on frame outer os = (bytes : List ℕ) → goes_on (with_activity os frame.key.function idle) bytes → frame.reach ≡ None
+      → IsOpen next (with_activity os frame.key.function idle) top (asks.Call frame.key) outer
+      → KeepsValue outer (unreached frame bytes) (with_activity os frame.key.function idle)
+
+  module _ (outer : List Frame) (asked : ℕ) (frame : Frame) (os : Objects) (goes_on : Onward) (few : AreFew outer) (may : frame.answers < MAX_ASKS) where
+    done_keeps : (bytes : List ℕ) (r : Option Interval) → frame.reach ≡ r → length bytes ≤ MAX_VALUE_LEN → IsOpen next os top (asks.Done bytes) (frame ∷ outer) → GoesOn goes_on frame outer os
+        → DoneLeads outer asked frame r bytes (with_activity os frame.key.function idle) goes_on (Ok s) → KeepsFrames (frame ∷ outer) os
+    done_keeps bytes (Some r) is short h on leads =
+        let e : s ≡ record { frames = outer; asked = asked; need = Some (needs.Insert (entry_of frame bytes r)); objects = with_activity os frame.key.function idle } = cc in
+        subst (λ (st : Standing). Keeps next top (λ L. FramesHold next L os (frame ∷ outer)) (λ t. InAll t (frame ∷ outer)) (AreUnreached (frame ∷ outer)) st) (sym e) record {
+          fits = (record { open_frames = closed next os top (asks.Done bytes) frame outer h; few = few }, h.rising);
+          holds = λ L hold. let two = hold_closed next L os law top bytes frame outer h may short hold in
+              (subst (λ (o : Option Interval). ValueHolds next L frame.key bytes o frame.tags) is two.0, two.1);
+          within = λ t all. (subst (λ (o : Option Interval). InReach t o) is all.0, all.1);
+          no_reach = λ none. (let no : Some r ≡ None = sym is ∙ none.0 in absurd (cc), none.1);
+        }
+    done_keeps bytes None is short h on leads =
+        keeps_from
+        (λ L. ValueHolds next L frame.key bytes None frame.tags × FramesHold next L (with_activity os frame.key.function idle) outer) (λ L. FramesHold next L os (frame ∷ outer))
+        (λ t. InReach t None × InAll t outer) (λ t. InAll t (frame ∷ outer))
+        ((None ≡ None) × AreUnreached outer) (AreUnreached (frame ∷ outer))
+        (λ L hold. let two = hold_closed next L os law top bytes frame outer h may short hold in
+            (subst (λ (o : Option Interval). ValueHolds next L frame.key bytes o frame.tags) is two.0, two.1))
+        (λ t all. (tt, all.1))
+        (λ none. (refl, none.1))
+        (on bytes leads is (closed next os top (asks.Done bytes) frame outer h))
+
+    allowed_keeps : (ask : Ask) → ask_refusal os frame.key.function ask ≡ None → IsOpen next os top ask (frame ∷ outer) → GoesOn goes_on frame outer os
+        → AllowedLeads outer asked frame ask os goes_on (Ok s) → KeepsFrames (frame ∷ outer) os
+    allowed_keeps (asks.Query q) ok h on leads =
+        let e : s ≡ record { frames = frame ∷ outer; asked = asked; need = Some (needs.Query q); objects = os } = cc in
+        subst (λ (st : Standing). Keeps next top (λ L. FramesHold next L os (frame ∷ outer)) (λ t. InAll t (frame ∷ outer)) (AreUnreached (frame ∷ outer)) st) (sym e) record {
+          fits = (record { open_frames = h; few = (may, few) }, λ none. let no : frame ∷ outer ≡ [] = none in absurd (cc));
+          holds = λ L hold. hold;
+          within = λ t all. (tt, all);
+          no_reach = λ none. (refl, none);
+        }
+    allowed_keeps (asks.Call k) ok h on leads =
+        let e : s ≡ record { frames = frame ∷ outer; asked = asked; need = Some (needs.Lookup k); objects = os } = cc in
+        let two = call_by_test os frame.key.function k (nat_le frame.key.function k.function) refl ok in
+        subst (λ (st : Standing). Keeps next top (λ L. FramesHold next L os (frame ∷ outer)) (λ t. InAll t (frame ∷ outer)) (AreUnreached (frame ∷ outer)) st) (sym e) record {
+          fits = (record { open_frames = h; few = (may, few) }, (two.0, h.rising), two.1);
+          holds = λ L hold. hold;
+          within = λ t all. (tt, all);
+          no_reach = λ none. (refl, none);
+        }
+    allowed_keeps (asks.Done bytes) ok h on leads =
+        done_keeps bytes frame.reach refl (short_by_test bytes (nat_le (length bytes) MAX_VALUE_LEN) refl ok) h on leads
+
+  ask_keeps : (outer : List Frame) (asked : ℕ) (frame : Frame) (ask : Ask) (os : Objects) (goes_on : Onward) → AreFew outer
+      → IsOpen next os top ask (frame ∷ outer) → GoesOn goes_on frame outer os → AskLeads outer asked frame ask os goes_on (Ok s) → KeepsFrames (frame ∷ outer) os
+  ask_keeps outer asked frame ask os goes_on few h on leads =
+      let counted = allowed (count_refusal frame.answers asked) s (UnlessRefused (ask_refusal os frame.key.function ask) (Ok s) (AllowedLeads outer (asked + 1) frame ask os goes_on (Ok s))) leads in
+      let fine = allowed (ask_refusal os frame.key.function ask) s (AllowedLeads outer (asked + 1) frame ask os goes_on (Ok s)) counted.1 in
+      allowed_keeps outer (asked + 1) frame os goes_on few (few_by frame.answers asked (sym counted.0)) ask fine.0 h on fine.1
+
+  -- an answer comes to the innermost frame
+  given_keeps : (outer : List Frame) (asked : ℕ) (frame : Frame) (wanted ask : Ask) (x : Answer) (reach : Option Interval) (tags : List Tag) (os : Objects) (goes_on : Onward)
+      (H : History → Type 0) → ((L : History) → H L → AnswerHolds next L frame.key.function wanted x reach tags)
+      → IsWaiting next os top wanted (frame ∷ outer) → (t : ℕ) → InReach t reach → InAll t (frame ∷ outer)
+      → next_ask next os frame x ≡ Some ask
+      → GoesOn goes_on (given frame reach tags) outer (with_answer os frame.key.function x)
+      → AskLeads outer asked (given frame reach tags) ask (with_answer os frame.key.function x) goes_on (Ok s)
+      → KeepsBeside H reach (frame ∷ outer) os
+  given_keeps outer asked frame wanted ask x reach tags os goes_on H right waits t here all asked_next on leads =
+      let os' = with_answer os frame.key.function x in
+      let h' : IsOpen next os' top ask (given frame reach tags ∷ outer) = resumed next os top wanted ask x frame reach tags outer waits.open_frames
+          (subst (λ (args : List ℕ). next frame.key.function args (answers_in os frame.key.function ++ x ∷ []) ≡ Some ask) (sym waits.open_frames.stack.0.args) asked_next) in
+      keeps_from
+      (λ L. FramesHold next L os' (given frame reach tags ∷ outer)) (λ L. H L × FramesHold next L os (frame ∷ outer))
+      (λ t. InAll t (given frame reach tags ∷ outer)) (λ t. InReach t reach × InAll t (frame ∷ outer))
+      (AreUnreached (given frame reach tags ∷ outer)) ((reach ≡ None) × AreUnreached (frame ∷ outer))
+      (λ L two. hold_resumed next L os top wanted x frame reach tags outer waits.open_frames (meets_at t frame.reach reach all.0 here) two.1 (right L two.0))
+      (λ t two. in_given t frame reach tags outer two.1 two.0)
+      (λ two. subst (λ (r : Option Interval). AreUnreached (given frame r tags ∷ outer)) (sym two.0) (unreached_given frame tags outer two.1))
+      (ask_keeps outer asked (given frame reach tags) ask os' goes_on waits.few.1 h' on leads)
+
+  -- the value of a call comes to the frames
+  pub value_keeps : (frames : List Frame) (asked : ℕ) (o : Outcome) (os : Objects)
+      → IsWaiting next os top (asks.Call o.key) frames → IsRising o.key.function frames → (t : ℕ) → InReach t o.reach → InAll t frames
+      → AfterValue next frames asked o os (Ok s) → KeepsValue frames o os
+  value_keeps [] asked o os waits up t here all leads =
+      let e : s ≡ record { frames = []; asked = asked; need = Some (needs.Value o); objects = os } = cc in
+      subst (λ (st : Standing). Keeps next top (λ L. ValueHolds next L o.key o.value o.reach o.tags × FramesHold next L os []) (λ t. InReach t o.reach × InAll t []) ((o.reach ≡ None) × AreUnreached []) st) (sym e) record {
+        fits = (waits, refl);
+        holds = λ L two. two;
+        within = λ t two. two;
+        no_reach = λ two. two;
+      }
+  value_keeps (frame ∷ outer) asked o os waits up t here all leads =
+      let after : Frame = given frame o.reach o.tags in
+      let goes_on : Onward = λ idle_os bytes. AfterValue next outer (asked + 1) (unreached after bytes) idle_os (Ok s) in
+      let os' : Objects = with_answer os frame.key.function (answers.Value o.value) in
+      ⊎_elim
+      (λ no. let no' : Ok s ≡ Err no.0 = no.1 in absurd (cc))
+      (λ (three : (ask : Ask) × (next_ask next os frame (answers.Value o.value) ≡ Some ask) × AskLeads outer asked after ask os' goes_on (Ok s)).
+          given_keeps outer asked frame (asks.Call o.key) three.0 (answers.Value o.value) o.reach o.tags os goes_on
+          (λ L. ValueHolds next L o.key o.value o.reach o.tags) (λ L. value_answers next L frame.key.function o.key o.value o.reach o.tags up.0)
+          waits t here all three.1
+          (λ bytes leads' none h'. value_keeps outer (asked + 1) (unreached after bytes) (with_activity os' frame.key.function idle)
+              (record { open_frames = h'; few = waits.few.1 }) waits.open_frames.rising t tt all.1 leads')
+          three.2)
+      leads
+
+  -- what comes of what the innermost frame asks
+  after_ask_keeps : (outer : List Frame) (asked : ℕ) (frame : Frame) (ask : Ask) (os : Objects) → AreFew outer → IsOpen next os top ask (frame ∷ outer) → (t : ℕ) → InAll t outer
+      → AfterAsk next outer asked frame ask os (Ok s) → KeepsFrames (frame ∷ outer) os
+  after_ask_keeps outer asked frame ask os few h t all leads =
+      ask_keeps outer asked frame ask os (λ idle_os bytes. AfterValue next outer (asked + 1) (unreached frame bytes) idle_os (Ok s)) few h
+      (λ bytes leads' none h'. value_keeps outer (asked + 1) (unreached frame bytes) (with_activity os frame.key.function idle)
+          (record { open_frames = h'; few = few }) h.rising t tt all leads')
+      leads
+
+  rows_keep : (frames : List Frame) (asked : ℕ) (q : Query) (found : Found) (os : Objects)
+      → IsWaiting next os top (asks.Query q) frames → (t : ℕ) → InReach t (Some found.reach) → InAll t frames
+      → AfterRows next frames asked found os (Ok s)
+      → KeepsBeside (λ L. RowsHold L q found.rows.items (Some found.reach) found.tags) (Some found.reach) frames os
+  rows_keep [] asked q found os waits t here all leads = absurd leads
+  rows_keep (frame ∷ outer) asked q found os waits t here all leads =
+      let after : Frame = given frame (Some found.reach) found.tags in
+      let goes_on : Onward = λ idle_os bytes. AfterValue next outer (asked + 1) (unreached after bytes) idle_os (Ok s) in
+      let os' : Objects = with_answer os frame.key.function (answers.Rows found.rows.items) in
+      ⊎_elim
+      (λ no. let no' : Ok s ≡ Err no.0 = no.1 in absurd (cc))
+      (λ (three : (ask : Ask) × (next_ask next os frame (answers.Rows found.rows.items) ≡ Some ask) × AskLeads outer asked after ask os' goes_on (Ok s)).
+          given_keeps outer asked frame (asks.Query q) three.0 (answers.Rows found.rows.items) (Some found.reach) found.tags os goes_on
+          (λ L. RowsHold L q found.rows.items (Some found.reach) found.tags) (λ L. rows_answer next L frame.key.function q found.rows.items (Some found.reach) found.tags)
+          waits t here all three.1
+          (λ bytes leads' none h'. value_keeps outer (asked + 1) (unreached after bytes) (with_activity os' frame.key.function idle)
+              (record { open_frames = h'; few = waits.few.1 }) waits.open_frames.rising t tt all.1 leads')
+          three.2)
+      leads
+
+  miss_keeps : (frames : List Frame) (asked : ℕ) (k : Call) (os : Objects)
+      → IsWaiting next os top (asks.Call k) frames → IsRising k.function frames → IsSome (activity_of os k.function) → (t : ℕ) → InAll t frames
+      → AfterMiss next frames asked k os (Ok s) → KeepsFrames frames os
+  miss_keeps frames asked k os waits up there t all leads =
+      ⊎_elim
+      (λ no. let no' : Ok s ≡ Err no.0 = no.1 in absurd (cc))
+      (λ (three : (ask : Ask) × (next k.function k.args [] ≡ Some ask) × AfterAsk next frames asked (begun_frame k) ask (with_begun os k) (Ok s)).
+          let free = free_below k.function frames os up waits.open_frames.free there in
+          keeps_from
+          (λ L. FramesHold next L (with_begun os k) (begun_frame k ∷ frames)) (λ L. FramesHold next L os frames)
+          (λ t. InAll t (begun_frame k ∷ frames)) (λ t. InAll t frames)
+          (AreUnreached (begun_frame k ∷ frames)) (AreUnreached frames)
+          (λ L hold. hold_opened next L os k frames up free hold)
+          (λ t inside. (tt, inside))
+          (λ none. (refl, none))
+          (after_ask_keeps frames asked (begun_frame k) three.0 (with_begun os k) waits.few
+          (opened next os top k three.0 frames waits.open_frames up free three.1) t all three.2))
+      leads
+
+  -- what comes of a reply
+  abbrev KeepsReply : List Frame → Objects → Need → Reply → Type 0
+  KeepsReply frames os need reply = Keeps next top (λ L. ReplyHolds next L need reply × NeedHolds next L os (Some need) frames) (λ t. InReach t (reply_reach reply) × InNeed t (Some need) frames)
+      ((reply_reach reply ≡ None) × IsUnreached (Some need) frames) s
+
+  pub reply_keeps : (frames : List Frame) (asked : ℕ) (os : Objects) (need : Need) (reply : Reply)
+      → NeedFits next os top (Some need) frames → (t : ℕ) → InReach t (reply_reach reply) → InNeed t (Some need) frames
+      → AfterReply next frames asked os need reply (Ok s) → KeepsReply frames os need reply
+  reply_keeps frames asked os (needs.Lookup k) replies.Miss fits t here all leads =
+      keeps_from
+      (λ L. FramesHold next L os frames) (λ L. ReplyHolds next L (needs.Lookup k) replies.Miss × NeedHolds next L os (Some (needs.Lookup k)) frames)
+      (λ t. InAll t frames) (λ t. InReach t None × InNeed t (Some (needs.Lookup k)) frames)
+      (AreUnreached frames) ((None ≡ None) × IsUnreached (Some (needs.Lookup k)) frames)
+      (λ L two. two.1) (λ t two. two.1.1) (λ two. two.1.1)
+      (miss_keeps frames asked k os fits.0 fits.1 fits.2 t all.1 leads)
+  reply_keeps frames asked os (needs.Lookup k) (replies.Hit hit) fits t here all leads =
+      keeps_from
+      (λ L. ValueHolds next L k hit.value (Some hit.reach) hit.tags × FramesHold next L os frames) (λ L. ReplyHolds next L (needs.Lookup k) (replies.Hit hit) × NeedHolds next L os (Some (needs.Lookup k)) frames)
+      (λ t. InReach t (Some hit.reach) × InAll t frames) (λ t. InReach t (Some hit.reach) × InNeed t (Some (needs.Lookup k)) frames)
+      ((Some hit.reach ≡ None) × AreUnreached frames) ((Some hit.reach ≡ None) × IsUnreached (Some (needs.Lookup k)) frames)
+      (λ L two. two) (λ t two. (two.0, two.1.1)) (λ two. (two.0, two.1.1))
+      (value_keeps frames asked (outcome_of k hit.value hit.reach hit.tags) os fits.0 fits.1 t here all.1 leads)
+  reply_keeps frames asked os (needs.Lookup k) (replies.Found found) fits t here all leads = absurd leads
+  reply_keeps frames asked os (needs.Lookup k) replies.Inserted fits t here all leads = absurd leads
+  reply_keeps frames asked os (needs.Query q) (replies.Found found) fits t here all leads =
+      keeps_from
+      (λ L. RowsHold L q found.rows.items (Some found.reach) found.tags × FramesHold next L os frames) (λ L. ReplyHolds next L (needs.Query q) (replies.Found found) × NeedHolds next L os (Some (needs.Query q)) frames)
+      (λ t. InReach t (Some found.reach) × InAll t frames) (λ t. InReach t (Some found.reach) × InNeed t (Some (needs.Query q)) frames)
+      ((Some found.reach ≡ None) × AreUnreached frames) ((Some found.reach ≡ None) × IsUnreached (Some (needs.Query q)) frames)
+      (λ L two. two) (λ t two. (two.0, two.1.1)) (λ two. (two.0, two.1.1))
+      (rows_keep frames asked q found os fits.0 t here all.1 leads)
+  reply_keeps frames asked os (needs.Query q) replies.Miss fits t here all leads = absurd leads
+  reply_keeps frames asked os (needs.Query q) (replies.Hit hit) fits t here all leads = absurd leads
+  reply_keeps frames asked os (needs.Query q) replies.Inserted fits t here all leads = absurd leads
+  reply_keeps frames asked os (needs.Insert e) replies.Inserted fits t here all leads =
+      keeps_from
+      (λ L. ValueHolds next L e.key e.value (Some e.reach) e.tags × FramesHold next L os frames) (λ L. ReplyHolds next L (needs.Insert e) replies.Inserted × NeedHolds next L os (Some (needs.Insert e)) frames)
+      (λ t. InReach t (Some e.reach) × InAll t frames) (λ t. InReach t None × InNeed t (Some (needs.Insert e)) frames)
+      ((Some e.reach ≡ None) × AreUnreached frames) ((None ≡ None) × IsUnreached (Some (needs.Insert e)) frames)
+      (λ L two. two.1) (λ t two. two.1) (λ two. two.1)
+      (value_keeps frames asked (outcome_of e.key e.value e.reach e.tags) os fits.0 fits.1 t all.0 all.1 leads)
+  reply_keeps frames asked os (needs.Insert e) replies.Miss fits t here all leads = absurd leads
+  reply_keeps frames asked os (needs.Insert e) (replies.Hit hit) fits t here all leads = absurd leads
+  reply_keeps frames asked os (needs.Insert e) (replies.Found found) fits t here all leads = absurd leads
+  reply_keeps frames asked os (needs.Value o) replies.Miss fits t here all leads = absurd leads
+  reply_keeps frames asked os (needs.Value o) (replies.Hit hit) fits t here all leads = absurd leads
+  reply_keeps frames asked os (needs.Value o) (replies.Found found) fits t here all leads = absurd leads
+  reply_keeps frames asked os (needs.Value o) replies.Inserted fits t here all leads = absurd leads
+
+-- what a call keeps
+pub record KeepsCall (next : Next) (os : Objects) (c : Calling) (reply : Reply) (s : Standing) : Type 0 where
+  pub fits : NeedFits next s.objects c.top s.need s.frames
+  pub holds : (L : History) (need : Need) → c.need ≡ Some need → ReplyHolds next L need reply → CallHolds next L os c → NeedHolds next L s.objects s.need s.frames
+  pub within : (t : ℕ) → InReach t (reply_reach reply) → InCall t c → InNeed t s.need s.frames
+  pub no_reach : reply_reach reply ≡ None → CallIsUnreached c → IsUnreached s.need s.frames
+
+pub call_keeps : (next : Next) → RightAnswersGiveTheValue → (c : Calling) (os : Objects) (need : Need) (reply : Reply) (s : Standing) → c.need ≡ Some need → IsCalling next os c
+    → (t : ℕ) → InReach t (reply_reach reply) → InCall t c → AfterReply next c.frames c.asked os need reply (Ok s) → KeepsCall next os c reply s
+call_keeps next law c os need reply s is calling t here all leads =
+    let fits : NeedFits next os c.top (Some need) c.frames = subst (λ (n : Option Need). NeedFits next os c.top n c.frames) is calling in
+    let all' : InNeed t (Some need) c.frames = subst (λ (n : Option Need). InNeed t n c.frames) is all in
+    let kept = reply_keeps next c.top law s c.frames c.asked os need reply fits t here all' leads in
+    record {
+      fits = kept.fits;
+      holds = λ L n is_n right hold.
+          let two : Some n ≡ Some need = sym is_n ∙ is in
+          let same : n ≡ need = cc in
+          kept.holds L (subst (λ (m : Need). ReplyHolds next L m reply) same right, subst (λ (o : Option Need). NeedHolds next L os o c.frames) is hold);
+      within = λ t' here' all''. kept.within t' (here', subst (λ (n : Option Need). InNeed t' n c.frames) is all'');
+      no_reach = λ none none'. kept.no_reach (none, subst (λ (n : Option Need). IsUnreached n c.frames) is none');
+    }
+
+-- ---- how often the call asked
+
+module _ (next : Next) (s : Standing) where
+  -- the call is done, or it asked more often than so
+  abbrev Counts : ℕ → Type 0
+  Counts asked = ((o : Outcome) × (s.need ≡ Some (needs.Value o))) ⊎ (asked < s.asked)
+
+  counts_less : (asked : ℕ) → Counts (asked + 1) → Counts asked
+  counts_less asked = ⊎_elim (λ done. inl done) (λ more. inr (omega arith))
+
+  counts_one : (asked : ℕ) → s.asked ≡ asked + 1 → Counts asked
+  counts_one asked is = inr (omega arith)
+
+  done_counts : (outer : List Frame) (asked : ℕ) (frame : Frame) (r : Option Interval) (bytes : List ℕ) (os : Objects) (goes_on : Onward)
+      → ((idle_os : Objects) (bytes : List ℕ) → goes_on idle_os bytes → Counts (asked + 1)) → DoneLeads outer (asked + 1) frame r bytes os goes_on (Ok s) → Counts asked
+  done_counts outer asked frame (Some r) bytes os goes_on on leads =
+      let e : s ≡ record { frames = outer; asked = asked + 1; need = Some (needs.Insert (entry_of frame bytes r)); objects = os } = cc in
+      counts_one asked (ap (λ (st : Standing). st.asked) e)
+  done_counts outer asked frame None bytes os goes_on on leads = counts_less asked (on os bytes leads)
+
+  allowed_counts : (outer : List Frame) (asked : ℕ) (frame : Frame) (ask : Ask) (os : Objects) (goes_on : Onward)
+      → ((idle_os : Objects) (bytes : List ℕ) → goes_on idle_os bytes → Counts (asked + 1)) → AllowedLeads outer (asked + 1) frame ask os goes_on (Ok s) → Counts asked
+  allowed_counts outer asked frame (asks.Query q) os goes_on on leads =
+      let e : s ≡ record { frames = frame ∷ outer; asked = asked + 1; need = Some (needs.Query q); objects = os } = cc in
+      counts_one asked (ap (λ (st : Standing). st.asked) e)
+  allowed_counts outer asked frame (asks.Call k) os goes_on on leads =
+      let e : s ≡ record { frames = frame ∷ outer; asked = asked + 1; need = Some (needs.Lookup k); objects = os } = cc in
+      counts_one asked (ap (λ (st : Standing). st.asked) e)
+  allowed_counts outer asked frame (asks.Done bytes) os goes_on on leads =
+      done_counts outer asked frame frame.reach bytes (with_activity os frame.key.function idle) goes_on on leads
+
+  ask_counts : (outer : List Frame) (asked : ℕ) (frame : Frame) (ask : Ask) (os : Objects) (goes_on : Onward)
+      → ((idle_os : Objects) (bytes : List ℕ) → goes_on idle_os bytes → Counts (asked + 1)) → AskLeads outer asked frame ask os goes_on (Ok s) → Counts asked
+  ask_counts outer asked frame ask os goes_on on leads =
+      let counted = allowed (count_refusal frame.answers asked) s (UnlessRefused (ask_refusal os frame.key.function ask) (Ok s) (AllowedLeads outer (asked + 1) frame ask os goes_on (Ok s))) leads in
+      let fine = allowed (ask_refusal os frame.key.function ask) s (AllowedLeads outer (asked + 1) frame ask os goes_on (Ok s)) counted.1 in
+      allowed_counts outer asked frame ask os goes_on on fine.1
+
+  value_counts : (frames : List Frame) (asked : ℕ) (o : Outcome) (os : Objects) → AfterValue next frames asked o os (Ok s) → Counts asked
+  value_counts [] asked o os leads =
+      let e : s ≡ record { frames = []; asked = asked; need = Some (needs.Value o); objects = os } = cc in
+      inl (o, ap (λ (st : Standing). st.need) e)
+  value_counts (frame ∷ outer) asked o os leads =
+      let after : Frame = given frame o.reach o.tags in
+      let goes_on : Onward = λ idle_os bytes. AfterValue next outer (asked + 1) (unreached after bytes) idle_os (Ok s) in
+      let os' : Objects = with_answer os frame.key.function (answers.Value o.value) in
+      ⊎_elim
+      (λ no. let no' : Ok s ≡ Err no.0 = no.1 in absurd (cc))
+      (λ (three : (ask : Ask) × (next_ask next os frame (answers.Value o.value) ≡ Some ask) × AskLeads outer asked after ask os' goes_on (Ok s)).
+          ask_counts outer asked after three.0 os' goes_on (λ idle_os bytes leads'. value_counts outer (asked + 1) (unreached after bytes) idle_os leads') three.2)
+      leads
+
+  after_ask_counts : (outer : List Frame) (asked : ℕ) (frame : Frame) (ask : Ask) (os : Objects) → AfterAsk next outer asked frame ask os (Ok s) → Counts asked
+  after_ask_counts outer asked frame ask os leads =
+      ask_counts outer asked frame ask os (λ idle_os bytes. AfterValue next outer (asked + 1) (unreached frame bytes) idle_os (Ok s))
+      (λ idle_os bytes leads'. value_counts outer (asked + 1) (unreached frame bytes) idle_os leads') leads
+
+  rows_count : (frames : List Frame) (asked : ℕ) (found : Found) (os : Objects) → AfterRows next frames asked found os (Ok s) → Counts asked
+  rows_count [] asked found os leads = absurd leads
+  rows_count (frame ∷ outer) asked found os leads =
+      let after : Frame = given frame (Some found.reach) found.tags in
+      let os' : Objects = with_answer os frame.key.function (answers.Rows found.rows.items) in
+      ⊎_elim
+      (λ no. let no' : Ok s ≡ Err no.0 = no.1 in absurd (cc))
+      (λ (three : (ask : Ask) × (next_ask next os frame (answers.Rows found.rows.items) ≡ Some ask) × AfterAsk next outer asked after ask os' (Ok s)).
+          after_ask_counts outer asked after three.0 os' three.2)
+      leads
+
+  miss_counts : (frames : List Frame) (asked : ℕ) (k : Call) (os : Objects) → AfterMiss next frames asked k os (Ok s) → Counts asked
+  miss_counts frames asked k os leads =
+      ⊎_elim
+      (λ no. let no' : Ok s ≡ Err no.0 = no.1 in absurd (cc))
+      (λ (three : (ask : Ask) × (next k.function k.args [] ≡ Some ask) × AfterAsk next frames asked (begun_frame k) ask (with_begun os k) (Ok s)).
+          after_ask_counts frames asked (begun_frame k) three.0 (with_begun os k) three.2)
+      leads
+
+  pub reply_counts : (frames : List Frame) (asked : ℕ) (os : Objects) (need : Need) (reply : Reply) → AfterReply next frames asked os need reply (Ok s) → Counts asked
+  reply_counts frames asked os (needs.Lookup k) replies.Miss leads = miss_counts frames asked k os leads
+  reply_counts frames asked os (needs.Lookup k) (replies.Hit hit) leads = value_counts frames asked (outcome_of k hit.value hit.reach hit.tags) os leads
+  reply_counts frames asked os (needs.Lookup k) (replies.Found found) leads = absurd leads
+  reply_counts frames asked os (needs.Lookup k) replies.Inserted leads = absurd leads
+  reply_counts frames asked os (needs.Query q) (replies.Found found) leads = rows_count frames asked found os leads
+  reply_counts frames asked os (needs.Query q) replies.Miss leads = absurd leads
+  reply_counts frames asked os (needs.Query q) (replies.Hit hit) leads = absurd leads
+  reply_counts frames asked os (needs.Query q) replies.Inserted leads = absurd leads
+  reply_counts frames asked os (needs.Insert e) replies.Inserted leads = value_counts frames asked (outcome_of e.key e.value e.reach e.tags) os leads
+  reply_counts frames asked os (needs.Insert e) replies.Miss leads = absurd leads
+  reply_counts frames asked os (needs.Insert e) (replies.Hit hit) leads = absurd leads
+  reply_counts frames asked os (needs.Insert e) (replies.Found found) leads = absurd leads
+  reply_counts frames asked os (needs.Value o) replies.Miss leads = absurd leads
+  reply_counts frames asked os (needs.Value o) (replies.Hit hit) leads = absurd leads
+  reply_counts frames asked os (needs.Value o) (replies.Found found) leads = absurd leads
+  reply_counts frames asked os (needs.Value o) replies.Inserted leads = absurd leads

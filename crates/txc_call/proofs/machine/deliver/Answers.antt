@@ -1,0 +1,21 @@
+use Rattle.std.proofs.Common.{◌≡◌, ◌≢◌, ℕ, List, [], ◌∷◌, true≢false, sym, subst}
+use Rattle.txc_call.specs.declared.frame.Frame.{Frame}
+use Rattle.txc_call.specs.Turns.{turn_of, AfterAsk}
+use Rattle.txc_call.proofs.Leading.{given_place, value_onward}
+use Rattle.txc_call.proofs.machine.deliver.Goals as goal
+
+pub settle-requires-clause-some : goal.settle-requires-clause-some
+settle-requires-clause-some g c =
+    (given_place c.args.frames.now.stack c.resume.new.self.stack c.args.outcome.reach c.args.outcome.tags (λ none. absurd (true≢false (sym (c.if-is_empty.ensures.1 none)))) c.in_ok-ask.ensures.frame c.requires.waiting.few).1
+
+pub settle-requires-clause-few : goal.settle-requires-clause-few
+settle-requires-clause-few g c =
+    (given_place c.args.frames.now.stack c.resume.new.self.stack c.args.outcome.reach c.args.outcome.tags (λ none. absurd (true≢false (sym (c.if-is_empty.ensures.1 none)))) c.in_ok-ask.ensures.frame c.requires.waiting.few).2
+
+pub returns-clause-answer : goal.returns-clause-answer
+returns-clause-answer g c =
+    let next = g.A.App.next in
+    let turn = turn_of c.settle.result c.settle.new.frames.stack c.settle.new.frames.asked c.settle.new.registry in
+    value_onward next c.args.frames.now.asked c.args.frames.now.stack c.resume.new.self.stack c.args.outcome c.in_ok-ask.ask c.args.registry.now c.resume.new.registry turn
+    (λ none. absurd (true≢false (sym (c.if-is_empty.ensures.1 none)))) c.in_ok-ask.ensures.frame c.in_ok-ask.ensures.objects c.in_ok-ask.ensures.answer
+    (λ (frame : Frame) (outer : List Frame) e. subst (λ (n : ℕ). AfterAsk next outer n frame c.in_ok-ask.ask c.resume.new.registry turn) c.resume.ensures.same_count (c.settle.ensures.answer frame outer e))

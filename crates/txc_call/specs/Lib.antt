@@ -1,0 +1,5 @@
+pub mod Reaches
+pub mod Frames
+pub mod Needs
+pub mod Turns
+pub mod Calling

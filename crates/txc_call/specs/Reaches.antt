@@ -1,0 +1,26 @@
+-- Where what a frame was given holds together.
+use Rattle.std.specs.Prelude.{ℕ, Option, Some, None}
+use Rattle.txc_stamp.specs.Interval.{Interval, Holds, meet_of}
+
+-- the reach holds at the stamp; no reach is everywhere
+abbrev pub InReach : ℕ → Option Interval → Type 0
+InReach t None = Unit {0}
+InReach t (Some reach) = Holds reach t
+
+-- where both hold, if some stamp is held by both; no reach is everywhere
+abbrev pub meet : Option Interval → Option Interval → Option Interval
+meet None other = other
+meet (Some a) None = Some a
+meet (Some a) (Some b) = meet_of a b
+
+-- some stamp is held by both
+pub record HaveCommon (a b : Interval) : Type 0 where
+  pub at_stamp : ℕ
+  pub one : Holds a at_stamp
+  pub other : Holds b at_stamp
+
+-- some stamp lies in both
+abbrev pub Meets : Option Interval → Option Interval → Type 0
+Meets None other = Unit {0}
+Meets (Some a) None = Unit {0}
+Meets (Some a) (Some b) = HaveCommon a b

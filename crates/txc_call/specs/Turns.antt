@@ -1,0 +1,220 @@
+-- What comes of a reply: what the call needs next, or why it is refused.
+use Rattle.std.specs.Prelude.{◌≡◌, ◌⊎◌, ℕ, ◌+◌, nat_le, if◌then◌else◌, List, [], ◌∷◌, ◌++◌, length}
+use Rattle.std.specs.Prelude.{Option, Some, None, is_some, Result, Ok, Err}
+use Rattle.txc_stamp.specs.Interval.{Interval}
+use Rattle.txc_tags.specs.declared.tag.Tag.{Tag}
+use Rattle.txc_tags.specs.Keys.{Call}
+use Rattle.txc_node.specs.declared.entry.Entry.{Entry}
+use Rattle.txc_node.specs.declared.value.TheConstants.{MAX_VALUE_LEN}
+use Rattle.txc_validity.specs.declared.answer.Found.{Found}
+use Rattle.txc_shared.specs.declared.app.TheConstants.{MAX_ASKS}
+use Rattle.txc_shared.specs.declared.ask.Ask.{Ask}
+use Rattle.txc_shared.specs.declared.ask.Ask.TheVariants as asks
+use Rattle.txc_shared.specs.declared.ask.Answer.{Answer}
+use Rattle.txc_shared.specs.declared.ask.Answer.TheVariants as answers
+use Rattle.txc_shared.specs.Eval.{Next}
+use Rattle.txc_registry.specs.declared.cacheable.CallFault.{CallFault}
+use Rattle.txc_registry.specs.declared.cacheable.CallFault.TheVariants as faults
+use Rattle.txc_registry.specs.Activity.{answered, begun, idle, running}
+use Rattle.txc_registry.specs.Objects.{Objects, activation_of, activity_of, with_activity}
+use Rattle.txc_call.specs.declared.error.CallError.{CallError}
+use Rattle.txc_call.specs.declared.error.CallError.TheVariants as errors
+use Rattle.txc_call.specs.declared.frame.Frame.{Frame}
+use Rattle.txc_call.specs.declared.frames.TheConstants.{MAX_CALL_ASKS}
+use Rattle.txc_call.specs.declared.need.Need.{Need}
+use Rattle.txc_call.specs.declared.need.Need.TheVariants as needs
+use Rattle.txc_call.specs.declared.need.Outcome.{Outcome}
+use Rattle.txc_call.specs.declared.reply.Reply.{Reply}
+use Rattle.txc_call.specs.declared.reply.Reply.TheVariants as replies
+use Rattle.txc_call.specs.Frames.{answers_in, begun_frame, given}
+
+-- a call: its open frames, innermost first, how often all its activations asked, what it needs, and
+-- what its objects do
+pub record Standing : Type 0 where
+  pub frames : List Frame
+  pub asked : ℕ
+  pub need : Option Need
+  pub objects : Objects
+
+-- how the call stands then, or why it is refused
+abbrev pub Turn : Type 0
+Turn = Result Standing CallError
+
+-- it needs this
+abbrev pub needing : List Frame → ℕ → Need → Objects → Turn
+needing frames asked need objects =
+    Ok (record { frames = frames; asked = asked; need = Some need; objects = objects })
+
+-- ---- refusals
+
+-- why one ask more is refused, after so many of its activation and of the call
+abbrev pub count_refusal : ℕ → ℕ → Option CallError
+count_refusal own all =
+    if nat_le MAX_ASKS own then Some errors.AskLimit
+    else (if nat_le MAX_CALL_ASKS all then Some errors.Budget else None)
+
+-- why the function f may not make the call
+abbrev pub call_refusal : Objects → ℕ → Call → Option CallError
+call_refusal objects f k =
+    if nat_le f k.function then Some (errors.CallOrder f k.function)
+    else (if is_some (activity_of objects k.function) then None else Some (errors.NoFunction k.function))
+
+-- why it may not be done with these bytes
+abbrev pub value_refusal : List ℕ → Option CallError
+value_refusal bytes = if nat_le (length bytes) MAX_VALUE_LEN then None else Some errors.ValueTooLong
+
+-- why the function f may not ask this
+abbrev pub ask_refusal : Objects → ℕ → Ask → Option CallError
+ask_refusal objects f (asks.Query q) = None
+ask_refusal objects f (asks.Call k) = call_refusal objects f k
+ask_refusal objects f (asks.Done bytes) = value_refusal bytes
+
+-- refused for the reason, if there is one; else this holds
+abbrev pub UnlessRefused : Option CallError → Turn → Type 0 → Type 0
+UnlessRefused (Some error) turn allowed = turn ≡ Err error
+UnlessRefused None turn allowed = allowed
+
+-- what an object of this number was refused for
+abbrev pub error_of : ℕ → CallFault → CallError
+error_of f faults.Memory = errors.ObjectMemory
+error_of f faults.Busy = errors.Busy
+error_of f faults.Args = errors.BadArguments f
+
+-- the machine or an object was out of memory
+abbrev pub IsOutOfMemory : CallError → Type 0
+IsOutOfMemory error = (error ≡ errors.Memory) ⊎ (error ≡ errors.ObjectMemory)
+
+-- refused for want of memory, or else this holds
+abbrev pub UnlessMemory : Turn → Type 0 → Type 0
+UnlessMemory turn rest = ((error : CallError) × (turn ≡ Err error) × IsOutOfMemory error) ⊎ rest
+
+-- ---- asks
+
+-- the entry of a frame that is done
+abbrev pub entry_of : Frame → List ℕ → Interval → Entry
+entry_of frame bytes reach = record { key = frame.key; value = bytes; reach = reach; tags = frame.tags }
+
+-- where a value without a reach goes on to, by the objects and its bytes
+abbrev pub Onward : Type 1
+Onward = Objects → List ℕ → Type 0
+
+-- what comes of a frame that is done, once its object is idle: a value with a reach is inserted, else it goes on
+abbrev pub DoneLeads : List Frame → ℕ → Frame → Option Interval → List ℕ → Objects → Onward → Turn → Type 0
+DoneLeads outer asked frame (Some reach) bytes objects goes_on turn =
+    turn ≡ needing outer asked (needs.Insert (entry_of frame bytes reach)) objects
+DoneLeads outer asked frame None bytes objects goes_on turn = goes_on objects bytes
+
+-- what comes of an ask that is allowed
+abbrev pub AllowedLeads : List Frame → ℕ → Frame → Ask → Objects → Onward → Turn → Type 0
+AllowedLeads outer asked frame (asks.Query q) objects goes_on turn =
+    turn ≡ needing (frame ∷ outer) asked (needs.Query q) objects
+AllowedLeads outer asked frame (asks.Call k) objects goes_on turn =
+    turn ≡ needing (frame ∷ outer) asked (needs.Lookup k) objects
+AllowedLeads outer asked frame (asks.Done bytes) objects goes_on turn =
+    DoneLeads outer asked frame frame.reach bytes (with_activity objects frame.key.function idle) goes_on turn
+
+-- what comes of an ask of the innermost frame: it is counted, then looked at
+abbrev pub AskLeads : List Frame → ℕ → Frame → Ask → Objects → Onward → Turn → Type 0
+AskLeads outer asked frame ask objects goes_on turn =
+    UnlessRefused (count_refusal frame.answers asked) turn
+    (UnlessRefused (ask_refusal objects frame.key.function ask) turn
+    (AllowedLeads outer (asked + 1) frame ask objects goes_on turn))
+
+-- ---- answers
+
+-- what the frame asks after one answer more
+abbrev pub next_ask : Next → Objects → Frame → Answer → Option Ask
+next_ask next objects frame x =
+    next frame.key.function frame.key.args (answers_in objects frame.key.function ++ x ∷ [])
+
+-- the objects, where that of this number was given one answer more
+abbrev pub with_answer : Objects → ℕ → Answer → Objects
+with_answer objects f x = with_activity objects f (running (answered (activation_of objects f) x))
+
+-- the outcome of a frame that is done without a reach
+abbrev pub unreached : Frame → List ℕ → Outcome
+unreached frame bytes = record { key = frame.key; value = bytes; reach = None; tags = frame.tags }
+
+-- what comes of the value of a call: it is the next answer of the innermost frame, or, where there is none, what
+-- the whole call comes to
+abbrev pub AfterValue : Next → List Frame → ℕ → Outcome → Objects → Turn → Type 0
+AfterValue next [] asked o objects turn = turn ≡ needing [] asked (needs.Value o) objects
+AfterValue next (frame ∷ outer) asked o objects turn =
+    UnlessMemory turn (
+    (ask : Ask) × (next_ask next objects frame (answers.Value o.value) ≡ Some ask)
+    × AskLeads outer asked (given frame o.reach o.tags) ask
+    (with_answer objects frame.key.function (answers.Value o.value))
+    (λ after bytes. AfterValue next outer (asked + 1) (unreached (given frame o.reach o.tags) bytes) after turn)
+    turn
+    )
+
+-- what comes of what the innermost frame asks
+abbrev pub AfterAsk : Next → List Frame → ℕ → Frame → Ask → Objects → Turn → Type 0
+AfterAsk next outer asked frame ask objects turn =
+    AskLeads outer asked frame ask objects
+    (λ after bytes. AfterValue next outer (asked + 1) (unreached frame bytes) after turn) turn
+
+-- an answer, where it holds, and what it depends on
+pub record Held : Type 0 where
+  pub answer : Answer
+  pub reach : Option Interval
+  pub tags : List Tag
+
+-- what comes of an answer to the innermost frame
+abbrev pub AfterAnswer : Next → List Frame → ℕ → Frame → Held → Objects → Turn → Type 0
+AfterAnswer next outer asked frame x objects turn =
+    UnlessMemory turn (
+    (ask : Ask) × (next_ask next objects frame x.answer ≡ Some ask)
+    × AfterAsk next outer asked (given frame x.reach x.tags) ask
+    (with_answer objects frame.key.function x.answer) turn
+    )
+
+-- why a call that no node has does not begin, where its function asks this first
+abbrev pub IsBeginRefusal : ℕ → Option Ask → CallError → Type 0
+IsBeginRefusal f None error = error ≡ errors.BadArguments f
+IsBeginRefusal f (Some ask) error = (error ≡ errors.Busy) ⊎ IsOutOfMemory error
+
+-- the objects, where that of the call began it
+abbrev pub with_begun : Objects → Call → Objects
+with_begun objects k = with_activity objects k.function (running (begun k.args))
+
+-- what comes of a call that no node has
+abbrev pub AfterMiss : Next → List Frame → ℕ → Call → Objects → Turn → Type 0
+AfterMiss next frames asked k objects turn =
+    ((error : CallError) × (turn ≡ Err error) × IsBeginRefusal k.function (next k.function k.args []) error)
+    ⊎ ((ask : Ask) × (next k.function k.args [] ≡ Some ask)
+    × AfterAsk next frames asked (begun_frame k) ask (with_begun objects k) turn)
+
+-- the answer of what was found
+abbrev pub rows_held : Found → Held
+rows_held found = record { answer = answers.Rows found.rows.items; reach = Some found.reach; tags = found.tags }
+
+-- what comes of what was found for the query that the innermost frame asked
+abbrev pub AfterRows : Next → List Frame → ℕ → Found → Objects → Turn → Type 0
+AfterRows next [] asked found objects turn = ⊥
+AfterRows next (frame ∷ outer) asked found objects turn =
+    AfterAnswer next outer asked frame (rows_held found) objects turn
+
+-- ---- replies
+
+-- the outcome of a call that a node has, and of one that was inserted
+abbrev pub outcome_of : Call → List ℕ → Interval → List Tag → Outcome
+outcome_of k bytes reach tags = record { key = k; value = bytes; reach = Some reach; tags = tags }
+
+-- what comes of a reply to this need
+abbrev pub AfterReply : Next → List Frame → ℕ → Objects → Need → Reply → Turn → Type 0
+AfterReply next frames asked objects (needs.Lookup k) replies.Miss turn =
+    AfterMiss next frames asked k objects turn
+AfterReply next frames asked objects (needs.Lookup k) (replies.Hit hit) turn =
+    AfterValue next frames asked (outcome_of k hit.value hit.reach hit.tags) objects turn
+AfterReply next frames asked objects (needs.Query q) (replies.Found found) turn =
+    AfterRows next frames asked found objects turn
+AfterReply next frames asked objects (needs.Insert e) replies.Inserted turn =
+    AfterValue next frames asked (outcome_of e.key e.value e.reach e.tags) objects turn
+AfterReply next frames asked objects need reply turn = ⊥
+
+-- ---- what a step of the machine returns, as a turn
+
+abbrev pub turn_of : Result Need CallError → List Frame → ℕ → Objects → Turn
+turn_of (Ok need) frames asked objects = needing frames asked need objects
+turn_of (Err error) frames asked objects = Err error

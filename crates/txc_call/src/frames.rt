@@ -1,0 +1,172 @@
+ghost use Rattle.std.specs.Prelude.{◌≡◌, ◌≢◌, ◌+◌, ◌<◌, ◌≤◌, List, [], ◌∷◌};
+ghost use Rattle.std.specs.Prelude.{IfErr, IfOk, IsSome, OnErr, OnOk, Some};
+ghost use Rattle.std.specs.Result.{result_err};
+ghost use Rattle.txc_shared.specs.declared.app.TheConstants.{MAX_ASKS};
+ghost use Rattle.txc_shared.specs.declared.ask.Ask.{Ask};
+ghost use Rattle.txc_registry.specs.Activity.{idle, WantsAnswer};
+ghost use Rattle.txc_registry.specs.Objects.{activity_of, with_activity, AllIdle};
+ghost use Rattle.txc_call.specs.declared.frame.Frame.{Frame};
+ghost use Rattle.txc_call.specs.declared.frames.TheConstants.{MAX_CALL_ASKS};
+ghost use Rattle.txc_call.specs.Reaches.{Meets};
+ghost use Rattle.txc_call.specs.Frames.{begun_frame, given, released, IsOpen, IsRising};
+ghost use Rattle.txc_call.specs.Turns.{count_refusal, error_of, next_ask, with_answer, with_begun};
+ghost use Rattle.txc_call.specs.Turns.{IsBeginRefusal, IsOutOfMemory};
+
+use crate::error::CallError;
+use crate::frame::Frame;
+use crate::stack::Stack;
+use std::alloc::Global;
+use txc_registry::{Cacheable, CallFault, Registry};
+use txc_shared::{Answer, App, Ask, MAX_ASKS};
+use txc_stamp::Reach;
+use txc_tags::{Key, TagSet};
+
+/// The most asks of all activations of a call together. What a hit spares is not counted.
+pub const MAX_CALL_ASKS: usize = 4096;
+
+/// The open frames of the call `top`, and how often all its activations asked.
+#[derive(Drop)]
+pub(crate) struct Frames {
+    pub(crate) top: Key,
+    pub(crate) stack: Stack,
+    pub(crate) asked: usize,
+    ghost limit: { asked ≤ MAX_CALL_ASKS },
+}
+
+fn error_of(function: u8, fault: CallFault) -> CallError
+    ensures { result ≡ error_of function fault }
+{
+    match fault {
+        CallFault::Memory => CallError::ObjectMemory,
+        CallFault::Busy => CallError::Busy,
+        CallFault::Args => CallError::BadArguments(function),
+    }
+}
+
+impl Frames {
+    /// Counts an ask of the innermost frame.
+    pub(crate) fn count(&mut self) -> Result<(), CallError>
+        requires { self.old.stack ≢ [] }
+        ensures after { OnOk result (self.new.asked ≡ self.old.asked + 1) }
+        ensures refused { (frame : Frame) (rest : List Frame) → self.old.stack ≡ frame ∷ rest
+            → result_err result ≡ count_refusal frame.answers self.old.asked }
+        ensures same_top { self.new.top ≡ self.old.top }
+        ensures same_stack { self.new.stack ≡ self.old.stack }
+    {
+        let Some(frame) = self.stack.top() else {
+            unreachable!()
+        };
+        if frame.answers >= MAX_ASKS {
+            return Err(CallError::AskLimit);
+        }
+        if self.asked >= MAX_CALL_ASKS {
+            return Err(CallError::Budget);
+        }
+        self.asked += 1;
+        Ok(())
+    }
+
+    /// Begins the function of a call that no node has, and opens a frame for it.
+    pub(crate) fn begin<A: App, C: Cacheable>(
+        &mut self,
+        registry: &mut Registry<A, C>,
+        alloc: Global,
+        key: Key,
+    ) -> Result<Ask, CallError>
+        requires open { IsOpen A.next registry.old self.old.top (Ask.Call key) self.old.stack }
+        requires rising { IsRising key.function self.old.stack }
+        requires there { IsSome (activity_of registry.old key.function) }
+        ensures frame { OnOk result (self.new.stack ≡ begun_frame key ∷ self.old.stack) }
+        ensures objects { OnOk result (registry.new ≡ with_begun registry.old key) }
+        ensures answer { IfOk result (λ ask. A.next key.function key.args [] ≡ Some ask) }
+        ensures open { IfOk result (λ ask. IsOpen A.next registry.new self.new.top ask self.new.stack) }
+        ensures refused { IfErr result (IsBeginRefusal key.function (A.next key.function key.args [])) }
+        ensures unchanged { OnErr result (registry.new ≡ registry.old) }
+        ensures same_stack { OnErr result (self.new.stack ≡ self.old.stack) }
+        ensures same_top { self.new.top ≡ self.old.top }
+        ensures same_count { self.new.asked ≡ self.old.asked }
+    {
+        let function = key.function();
+        let ask = match registry.begin(function, key.args()) {
+            Ok(ask) => ask,
+            Err(fault) => return Err(error_of(function, fault)),
+        };
+        let frame = Frame {
+            key,
+            answers: 0,
+            reach: None,
+            tags: TagSet::new(alloc),
+        };
+        let Ok(()) = self.stack.push(frame) else {
+            registry.release(function);
+            return Err(CallError::Memory);
+        };
+        Ok(ask)
+    }
+
+    /// The innermost frame is given an answer, and its object goes on.
+    pub(crate) fn resume<A: App, C: Cacheable>(
+        &mut self,
+        registry: &mut Registry<A, C>,
+        answer: Answer,
+        reach: Option<Reach>,
+        tags: &TagSet,
+    ) -> Result<Ask, CallError>
+        requires open { (ask : Ask)
+            × IsOpen A.next registry.old self.old.top ask self.old.stack × WantsAnswer (Some ask) }
+        requires some { (frame : Frame) × (rest : List Frame)
+            × (self.old.stack ≡ frame ∷ rest) × (frame.answers < MAX_ASKS) × Meets frame.reach reach }
+        ensures frame { OnOk result ((frame : Frame) (rest : List Frame) → self.old.stack ≡ frame ∷ rest
+            → self.new.stack ≡ given frame reach tags.now ∷ rest) }
+        ensures objects { OnOk result ((frame : Frame) (rest : List Frame) → self.old.stack ≡ frame ∷ rest
+            → registry.new ≡ with_answer registry.old frame.key.function answer) }
+        ensures answer { IfOk result (λ ask. (frame : Frame) (rest : List Frame) → self.old.stack ≡ frame ∷ rest
+            → next_ask A.next registry.old frame answer ≡ Some ask) }
+        ensures open { IfOk result (λ ask. IsOpen A.next registry.new self.new.top ask self.new.stack) }
+        ensures refused { IfErr result IsOutOfMemory }
+        ensures released { OnErr result (AllIdle (released self.new.stack registry.new)) }
+        ensures same_top { self.new.top ≡ self.old.top }
+        ensures same_count { self.new.asked ≡ self.old.asked }
+    {
+        let Some(frame) = self.stack.top() else {
+            unreachable!()
+        };
+        let function = frame.key.function();
+        let Ok(()) = self.stack.give(reach, tags) else {
+            return Err(CallError::Memory);
+        };
+        match registry.resume(function, answer) {
+            Ok(ask) => Ok(ask),
+            Err(fault) => Err(error_of(function, fault)),
+        }
+    }
+
+    /// The innermost frame is done: its object is released.
+    pub(crate) fn close<A: App, C: Cacheable>(&mut self, registry: &mut Registry<A, C>) -> Frame
+        requires open { (ask : Ask) × IsOpen A.next registry.old self.old.top ask self.old.stack }
+        requires some { self.old.stack ≢ [] }
+        ensures answer { self.old.stack ≡ result ∷ self.new.stack }
+        ensures objects { registry.new ≡ with_activity registry.old result.key.function idle }
+        ensures open { IsOpen A.next registry.new self.new.top (Ask.Call result.key) self.new.stack }
+        ensures same_top { self.new.top ≡ self.old.top }
+        ensures same_count { self.new.asked ≡ self.old.asked }
+    {
+        let Some(frame) = self.stack.pop() else {
+            unreachable!()
+        };
+        registry.release(frame.key.function());
+        frame
+    }
+
+    /// Releases the object of every open frame, the innermost first.
+    pub(crate) fn cancel<A: App, C: Cacheable>(&mut self, registry: &mut Registry<A, C>)
+        requires { AllIdle (released self.old.stack registry.old) }
+        ensures idle { AllIdle registry.new }
+        ensures after { self.new.stack ≡ [] }
+        ensures same_top { self.new.top ≡ self.old.top }
+    {
+        while let Some(frame) = self.stack.pop() {
+            registry.release(frame.key.function());
+        }
+    }
+}

@@ -1,0 +1,18 @@
+//! Calls: frames of nested activations, and the machine that runs them over a registry.
+#![tactic(auto)]
+
+mod error;
+mod frame;
+mod frames;
+mod machine;
+mod need;
+mod reply;
+mod settling;
+mod stack;
+
+pub use error::CallError;
+pub use frame::Frame;
+pub use frames::MAX_CALL_ASKS;
+pub use machine::CallMachine;
+pub use need::{Need, Outcome};
+pub use reply::Reply;

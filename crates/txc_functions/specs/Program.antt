@@ -1,0 +1,75 @@
+-- The functions of the program: what each asks, and gives, by its arguments and the answers so far.
+use Rattle.std.specs.Prelude.{ℕ, ◌==◌, if◌then◌else◌, List, [], ◌∷◌, ◌++◌, length, Option, Some, None}
+use Rattle.std.specs.Fmt.{decimal}
+use Rattle.txc_rows.specs.Values.{RowValue}
+use Rattle.txc_rows.specs.declared.query.Query.TheVariants.{ById, ByGroup, All}
+use Rattle.txc_shared.specs.declared.ask.Ask.{Ask}
+use Rattle.txc_shared.specs.declared.ask.Ask.TheVariants.{Query, Call, Done}
+use Rattle.txc_shared.specs.declared.ask.Answer.{Answer}
+use Rattle.txc_shared.specs.declared.ask.Answer.TheVariants.{Rows, Value}
+use Rattle.txc_shared.specs.Eval.{Next}
+use Rattle.txc_shared.specs.Worked.{body_of, bodies_of, call_of}
+
+-- the table that they ask
+abbrev pub TABLE : ℕ
+TABLE = 1
+
+-- the rows of an answer
+abbrev pub rows_in : Answer → List RowValue
+rows_in (Rows rows) = rows
+rows_in (Value bytes) = []
+
+-- the bytes of an answer
+abbrev pub bytes_in : Answer → List ℕ
+bytes_in (Rows rows) = []
+bytes_in (Value bytes) = bytes
+
+-- 0: the body at an id, or no byte
+abbrev pub body_at : List ℕ → List Answer → Option Ask
+body_at (id ∷ []) [] = Some (Query (ById TABLE id))
+body_at (id ∷ []) (a ∷ more) = Some (Done (body_of (rows_in a)))
+body_at args given = None
+
+-- 1: the bodies of a group, with a comma between two of them
+abbrev pub bodies_in : List ℕ → List Answer → Option Ask
+bodies_in (group ∷ []) [] = Some (Query (ByGroup TABLE group))
+bodies_in (group ∷ []) (a ∷ more) = Some (Done (bodies_of (rows_in a)))
+bodies_in args given = None
+
+-- 2: the bodies of a group, a semicolon, and the body at an id
+abbrev pub bodies_and_body : List ℕ → List Answer → Option Ask
+bodies_and_body (group ∷ id ∷ []) [] = Some (Call (call_of 1 (group ∷ [])))
+bodies_and_body (group ∷ id ∷ []) (a ∷ []) = Some (Query (ById TABLE id))
+bodies_and_body (group ∷ id ∷ []) (a ∷ b ∷ more) = Some (Done (bytes_in a ++ 59 ∷ body_of (rows_in b)))
+bodies_and_body args given = None
+
+-- 3: the number of rows, in decimal
+abbrev pub row_count : List ℕ → List Answer → Option Ask
+row_count [] [] = Some (Query (All TABLE))
+row_count [] (a ∷ more) = Some (Done (decimal (length (rows_in a))))
+row_count (arg ∷ args) given = None
+
+-- 4: it calls itself
+abbrev pub itself : List ℕ → List Answer → Option Ask
+itself [] given = Some (Call (call_of 4 []))
+itself (arg ∷ args) given = None
+
+-- 5: it asks for one row again and again
+abbrev pub again : List ℕ → List Answer → Option Ask
+again (id ∷ []) given = Some (Query (ById TABLE id))
+again args given = None
+
+-- no function has this number
+abbrev pub refuses : List ℕ → List Answer → Option Ask
+refuses args given = None
+
+-- the functions, by their numbers
+abbrev pub program : Next
+program f =
+    if f == 0 then body_at
+    else (if f == 1 then bodies_in
+    else (if f == 2 then bodies_and_body
+    else (if f == 3 then row_count
+    else (if f == 4 then itself
+    else (if f == 5 then again
+    else refuses)))))

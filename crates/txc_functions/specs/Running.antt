@@ -1,0 +1,8 @@
+-- What an object does that holds this.
+use Rattle.std.specs.Prelude.{Option, Some, None}
+use Rattle.txc_registry.specs.Activity.{Activity, idle, running}
+use Rattle.txc_functions.specs.declared.held.Held.{Held}
+
+abbrev pub activity_with : Option Held → Activity
+activity_with None = idle
+activity_with (Some held) = running (record { args = held.args.items; answers = held.answers.items })

@@ -1,0 +1,38 @@
+ghost use Rattle.std.specs.Prelude.{◌≡◌, ◌≢◌, ◌↔◌, ℕ, false, [], ◌∷◌, ◌++◌, None, Some, IfOk};
+ghost use Rattle.txc_registry.specs.Activity.{Says, WantsAnswer};
+
+use std::alloc::{AllocError, Global};
+use txc_shared::{Answer, Ask};
+
+/// What a function asks and gives, by its arguments and the answers so far.
+pub trait Definition: Drop {
+    // The number of the function.
+    ghost number: { Self → ℕ };
+
+    // What it asks next, or gives. None: it refuses the arguments.
+    ghost says: { Self → Says };
+
+    /// The number of the function.
+    fn number(&self) -> u8
+        ensures { result ≡ number self.now };
+
+    /// Whether it takes these arguments.
+    fn accepts(&self, args: &[u32]) -> bool
+        ensures { (result ≡ false) ↔ (says self.now args.now [] ≡ None) };
+
+    /// What it asks first.
+    fn first(&self, alloc: Global, args: &[u32]) -> Result<Ask, AllocError>
+        requires { says self.now args.now [] ≢ None }
+        ensures { IfOk result (λ ask. says self.now args.now [] ≡ Some ask) };
+
+    /// What it asks after these answers and one more.
+    fn next(
+        &self,
+        alloc: Global,
+        args: &[u32],
+        answers: &[Answer],
+        answer: &Answer,
+    ) -> Result<Ask, AllocError>
+        requires { WantsAnswer (says self.now args.now answers.now) }
+        ensures { IfOk result (λ ask. says self.now args.now (answers.now ++ answer.now ∷ []) ≡ Some ask) };
+}

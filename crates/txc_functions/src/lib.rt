@@ -1,0 +1,25 @@
+//! The functions of the program, as objects that hold a permit while they run.
+//!
+//! What a function asks and gives is its [`Definition`], which has no state. A [`Function`] is the object of
+//! one: it takes a permit of its pool as an activation begins, keeps the arguments and the answers, and gives
+//! all back as the activation ends.
+#![tactic(auto)]
+
+mod bodies_and_body;
+mod bodies_in;
+mod body_at;
+mod definition;
+mod endless;
+mod function;
+mod held;
+mod program;
+mod row_count;
+
+pub use bodies_and_body::BodiesAndBody;
+pub use bodies_in::BodiesIn;
+pub use body_at::BodyAt;
+pub use definition::Definition;
+pub use endless::{Again, Itself};
+pub use function::Function;
+pub use program::Program;
+pub use row_count::RowCount;

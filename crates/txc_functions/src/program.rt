@@ -1,0 +1,10 @@
+use txc_shared::App;
+
+/// The program's application: functions 0 to 5 over table 1.
+pub struct Program;
+
+impl App for Program {
+    ghost use Rattle.txc_functions.specs.Program.{program};
+
+    ghost next = { program };
+}

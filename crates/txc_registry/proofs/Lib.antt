@@ -1,0 +1,4 @@
+pub mod Activities
+pub mod Places
+pub mod Repeats
+pub mod Offered

@@ -1,0 +1,56 @@
+-- What an object does, and what it asks.
+use Rattle.std.specs.Prelude.{◌≡◌, ℕ, List, [], ◌∷◌, ◌++◌, Option, Some, None, unwrap_or}
+use Rattle.txc_shared.specs.declared.ask.Ask.{Ask}
+use Rattle.txc_shared.specs.declared.ask.Ask.TheVariants.{Query, Call, Done}
+use Rattle.txc_shared.specs.declared.ask.Answer.{Answer}
+
+-- what a function asks next, or gives, by its arguments and the answers so far; none where it refuses the
+-- arguments
+abbrev pub Says : Type 0
+Says = List ℕ → List Answer → Option Ask
+
+-- an activation of a function: its arguments, and the answers so far
+pub record Activation : Type 0 where
+  pub args : List ℕ
+  pub answers : List Answer
+
+-- what an object does: the activation that it runs, if it runs one, and the number of permits that it holds
+pub record Activity : Type 0 where
+  pub activation : Option Activation
+  pub permits : ℕ
+
+-- no activation, and no permit
+abbrev pub idle : Activity
+idle = record { activation = None; permits = 0 }
+
+-- one activation, with one permit
+abbrev pub running : Activation → Activity
+running a = record { activation = Some a; permits = 1 }
+
+-- an activation with no answer yet
+abbrev pub begun : List ℕ → Activation
+begun args = record { args = args; answers = [] }
+
+-- an activation with one answer more
+abbrev pub answered : Activation → Answer → Activation
+answered a x = record { args = a.args; answers = a.answers ++ x ∷ [] }
+
+-- the activation that runs; where none does, one with no arguments
+abbrev pub activation_in : Activity → Activation
+activation_in activity = unwrap_or activity.activation (begun [])
+
+-- what an activation asks next, or gives
+abbrev pub next_of : Says → Activation → Option Ask
+next_of says a = says a.args a.answers
+
+-- it asks for an answer
+abbrev pub WantsAnswer : Option Ask → Type 0
+WantsAnswer (Some (Query q)) = Unit {0}
+WantsAnswer (Some (Call k)) = Unit {0}
+WantsAnswer (Some (Done bytes)) = ⊥
+WantsAnswer None = ⊥
+
+-- an activation runs, and is not done
+abbrev pub IsAsking : Says → Activity → Type 0
+IsAsking says activity =
+    (activity ≡ running (activation_in activity)) × WantsAnswer (next_of says (activation_in activity))

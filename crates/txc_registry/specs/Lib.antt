@@ -1,0 +1,2 @@
+pub mod Activity
+pub mod Objects

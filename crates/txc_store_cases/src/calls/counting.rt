@@ -1,0 +1,131 @@
+//! Functions that do nothing but ask so often.
+ghost use Rattle.std.specs.Prelude.{◌≡◌, ◌≤◌, length};
+ghost use Rattle.txc_shared.specs.declared.ask.Ask.TheVariants as asks;
+ghost use Rattle.txc_store_cases.specs.Counting.{ask_at, called};
+
+use super::boxes::play;
+use crate::common::room;
+use std::alloc::{AllocError, Global};
+use std::test::Fail;
+use txc_functions::{Definition, Function};
+use txc_permits::PermitPool;
+use txc_registry::enlist;
+use txc_rows::Query;
+use txc_shared::{Answer, App, Ask, Bytes};
+use txc_tags::{Key, Table};
+
+/// The function of a number, which asks the same again and again, and is then done with no byte.
+#[derive(Drop)]
+struct Counting {
+    function: u8,
+}
+
+/// The application of these functions.
+struct Counted;
+
+impl App for Counted {
+    ghost use Rattle.txc_store_cases.specs.Counting.{counting};
+
+    ghost next = { counting };
+}
+
+fn call(function: u8, args: &[u32]) -> Ask
+    requires function { function ≤ 31 }
+    requires args { length args.now ≤ 4 }
+    ensures { result ≡ asks.Call (called function args.now) }
+{
+    let Ok(key) = Key::new(function, args) else {
+        unreachable!()
+    };
+    Ask::Call(key)
+}
+
+/// What the function asks after so many answers.
+fn ask_at(alloc: Global, function: u8, given: usize) -> Ask
+    ensures { result ≡ ask_at function given }
+{
+    if function == 1 && given < 63 {
+        let Some(table) = Table::new(1) else {
+            unreachable!()
+        };
+        return Ask::Query(Query::ById(table, 0));
+    }
+    if function == 2 && given < 63 {
+        return call(1, &[given as u32]);
+    }
+    if function == 3 && given < 1 {
+        return call(2, &[]);
+    }
+    if function == 4 && given < 2 {
+        return call(0, &[]);
+    }
+    Ask::Done(Bytes::new(Vec::new(alloc)))
+}
+
+impl Definition for Counting {
+    ghost use Rattle.txc_store_cases.specs.Counting.{counting};
+
+    ghost number = { λ c. c.function };
+
+    ghost says = { λ c. counting c.function };
+
+    fn number(&self) -> u8 {
+        self.function
+    }
+
+    fn accepts(&self, _args: &[u32]) -> bool {
+        true
+    }
+
+    fn first(&self, alloc: Global, _args: &[u32]) -> Result<Ask, AllocError> {
+        Ok(ask_at(alloc, self.function, 0))
+    }
+
+    fn next(
+        &self,
+        alloc: Global,
+        _args: &[u32],
+        answers: &[Answer],
+        _answer: &Answer,
+    ) -> Result<Ask, AllocError> {
+        Ok(ask_at(alloc, self.function, answers.len() + 1))
+    }
+}
+
+fn play_counting(alloc: Global, script: &str, answer: &mut String) -> Result<bool, AllocError> {
+    let mut pool = PermitPool::new(alloc, 3)?;
+    let mut objects = Vec::new(alloc);
+    for function in 0..5 {
+        let object = Function::new(alloc, pool.share()?, Counting { function });
+        enlist::<Counted, Function<Counting>>(&mut objects, object)?;
+    }
+    Ok(play::<Counted, Function<Counting>>(alloc, objects, pool, script, answer))
+}
+
+/// Calls of so many asks. A value without a reach goes on at once.
+const COUNTED: &str = "call f1(7): whole => value f1(7) [0,5) still - -
+call f2(): whole => value f2() [0,5) still - -
+free => 3
+call f3(): whole => the call asked too often
+free => 3
+call f0(): miss => value f0() everywhere - -
+free => 3
+call f4(): miss => lookup f0()
+free => 2
+call f4(): miss, miss => lookup f0()
+call f4(): miss, miss, miss => value f4() everywhere - -
+finish => f4() everywhere - -
+call f4(): miss, miss, hit 1 3 closed t1:id=9 ab => insert f4() [1,4) closed t1:id=9 -
+free => 3
+";
+
+#[test]
+fn asks_are_counted(rt: HostRuntime) -> Result<(), Fail> {
+    let mut answer = room(rt.alloc())?;
+    let played = match play_counting(rt.alloc(), COUNTED, &mut answer) {
+        Ok(played) => played,
+        Err(_) => play_counting(rt.alloc(), COUNTED, &mut answer)?,
+    };
+    assert!(&rt; played, "{answer}");
+    Ok(())
+}
