@@ -1,7 +1,7 @@
 -- What is true of a core, step by step.
-use Rattle.std.proofs.Common.{◌≡◌, ◌≢◌, ℕ, zero, suc, ◌<◌, ◌≤◌, true, false, length, List, [], ◌∷◌, ◌++◌, Option, Some, None, IsSome, refl, sym, ap, subst, ◌∙◌, arith, All, Contains}
+use Rattle.std.proofs.Common.{◌≡◌, ◌≢◌, ℕ, zero, suc, ◌<◌, ◌≤◌, true, false, length, List, [], ◌∷◌, ◌++◌, Option, Some, None, Ok, map, refl, sym, ap, subst, ◌∙◌, arith, All, Contains}
 use Rattle.std.specs.List.{slice_index_or}
-use Rattle.std.proofs.lemmas.List.Elements.{All-nil, All-cons, All-head, All-weaker, Contains-append_left, Contains-push, Contains-get_or}
+use Rattle.std.proofs.lemmas.List.Elements.{All-nil, All-cons, All-head, All-weaker, Contains-append_left, Contains-append_right, Contains-push, Contains-get_or}
 use Rattle.txc_stamp.specs.Interval.{Interval, Holds}
 use Rattle.txc_tags.specs.Keys.{Call}
 use mathlib.Core.List.{IsPrefix}
@@ -25,6 +25,9 @@ use Rattle.txc_call.specs.Reaches.{InReach}
 use Rattle.txc_call.specs.Frames.{released, IsOpen, IsStack, AreUnreached, InAll}
 use Rattle.txc_call.specs.Needs.{reply_reach, ReplyHolds, NeedFits, NeedHolds, reach_of}
 use Rattle.txc_call.specs.Calling.{Calling, CallHolds, CallIsUnreached, InCall, IsCalling}
+use Rattle.txc_cushion.specs.declared.pins.Pins.{Pins}
+use Rattle.txc_ports.specs.declared.turn.Turn.{Turn}
+use Rattle.txc_ports.specs.declared.turn.Turn.TheVariants as turns
 use Rattle.txc_ports.specs.declared.bounds.Bounds.{Bounds}
 use Rattle.txc_ports.specs.declared.recorded.Recorded.{Recorded}
 use Rattle.txc_txn.specs.declared.pinning.Pinning.{Pinning}
@@ -32,7 +35,8 @@ use Rattle.txc_txn.specs.declared.pinning.PinStep.TheVariants.{Asked, Adding, Dr
 use Rattle.txc_txn.specs.declared.pinning.PinStep.{PinStep}
 use Rattle.txc_ports.specs.Answers.{IsFresh, AreConsistent}
 use Rattle.txc_txn.specs.Meaning.{IsMeant, LieWithin}
-use Rattle.txc_txn.specs.Core.{CoreValue, CoreHolds, IsCore, IsFreshPinning, IsFreshStep, PinningFits, Explains, least_present, receipt_pin}
+use Rattle.txc_txn.specs.Core.{CoreValue, CoreHolds, IsCore, IsFreshPinning, IsFreshStep, PinningFits, Explains, begun_core, least_present, receipt_pin}
+use Rattle.txc_txn.specs.Leading.{NeedLeads, StandingLeads}
 use Rattle.txc_txn.proofs.Longer.{fresh_later}
 use Rattle.txc_txn.proofs.Meanings.{meaning_stays, fewer_members_mean_the_same, in_unreached, kept_all, present_joins, value_is_recorded, call_is_given_up, call_begins, call_goes_on}
 
@@ -171,31 +175,26 @@ common_of : (call : Calling) (reach : Option Interval) (members : List Pin) → 
 common_of call reach [] some held within = absurd (some refl)
 common_of call reach (p ∷ ps) some held within = (p.stamp, held 0 p (omega arith), within 0 p (omega arith))
 
-calls_on : (need : Option Need) → IsSome need → need ≢ None
-calls_on None some = λ gone. absurd (cc some)
-calls_on (Some need) some = λ gone. absurd (cc gone)
-
-pub of_some : {X : Type 0} (o : Option X) (G : Type 0) → IsSome o → ((x : X) → o ≡ Some x → G) → G
-of_some None G some f = absurd (cc some)
-of_some (Some x) G some f = f x refl
+needs_one : (need : Option Need) (n : Need) → need ≡ Some n → need ≢ None
+needs_one need n is none = absurd (let both = sym is ∙ none in cc both)
 
 module _ (next : Next) (objects : Objects) (c : CoreValue) (reach : Option Interval) (held : All (λ m. InReach m.stamp reach) c.pins.members) where
-  pub common : IsSome c.call.need → IsCore next objects c → (t : ℕ) × InReach t reach × InCall t c.call
-  common some h = common_of c.call reach c.pins.members (h.member (calls_on c.call.need some)) held h.within
+  pub common : (n : Need) → c.call.need ≡ Some n → IsCore next objects c → (t : ℕ) × InReach t reach × InCall t c.call
+  common n is h = common_of c.call reach c.pins.members (h.member (needs_one c.call.need n is)) held h.within
 
   module _ (objects' : Objects) (call' : Calling) (within : (t : ℕ) → InReach t reach → InCall t c.call → InCall t call') (present : c.pins.has_present ≡ true → reach ≡ None)
       (unreached : reach ≡ None → CallIsUnreached c.call → CallIsUnreached call') where
     all_within : LieWithin c.pins c.call → LieWithin c.pins call'
     all_within inside = λ i d below. within _ (held i d below) (inside i d below)
 
-    pub core_went_on : c.pinning ≡ None → IsSome c.call.need → IsCalling next objects' call' → IsCore next objects c → IsCore next objects' (record c { call = call' })
-    core_went_on none some calls h = record {
+    pub core_went_on : c.pinning ≡ None → (n : Need) → c.call.need ≡ Some n → IsCalling next objects' call' → IsCore next objects c → IsCore next objects' (record c { call = call' })
+    core_went_on none n is calls h = record {
       set = h.set;
       call = calls;
       within = all_within h.within;
       unreached = λ there. unreached (present there) (h.unreached there);
       pinning = rw none tt;
-      member = λ calling. h.member (calls_on c.call.need some);
+      member = λ calling. h.member (needs_one c.call.need n is);
       answered = h.answered;
       taken = h.taken;
       nodes = h.nodes;
@@ -263,3 +262,38 @@ core_explains next L objects c some h = go c.recorded c.pins.members some h.mean
       All-head (IsFresh L c.bounds) newest older fresh,
       All-head (λ (p : Pin). AreConsistent next (r ∷ rs) (state_at L p.stamp)) newest older right,
     )
+
+-- ---- the beginning
+
+stamps_there : (pins : List Pin) → All (λ m. Contains (map (λ (p : Pin). p.stamp) pins) m.stamp) pins
+stamps_there [] = All-nil (λ (m : Pin). Contains [] m.stamp)
+stamps_there (p ∷ pins) =
+    All-cons (λ (m : Pin). Contains (map (λ (q : Pin). q.stamp) (p ∷ pins)) m.stamp) p pins (0, omega arith, refl)
+    (All-weaker (λ (m : Pin). Contains (map (λ (q : Pin). q.stamp) pins) m.stamp) (λ (m : Pin). Contains (map (λ (q : Pin). q.stamp) (p ∷ pins)) m.stamp)
+    (λ m there. Contains-append_right (p.stamp ∷ []) (map (λ (q : Pin). q.stamp) pins) m.stamp there) pins (stamps_there pins))
+
+pub core_begun : (next : Next) (objects : Objects) (nodes renew_after : ℕ) (bounds : Bounds) (pins : Pins) (call : Calling) → AllIdle objects → call.frames ≡ [] → call.need ≡ None → 1 ≤ nodes
+    → IsCore next objects (begun_core nodes renew_after bounds pins call)
+core_begun next objects nodes renew_after bounds pins call idle empty none some = record {
+  set = record { falls = pins.falls; some = λ _. refl };
+  call = rw none (empty, idle);
+  within = λ i d below. no_frames_within next [] objects call empty (ap reach_of none) _;
+  unreached = λ present. no_frames_unreached next [] objects call empty (ap reach_of none);
+  pinning = tt;
+  member = λ calling. absurd (calling none);
+  answered = λ recorded. absurd (recorded refl);
+  taken = stamps_there pins.pins.items;
+  nodes = some;
+}
+
+-- ---- how the call stands
+
+-- what the core does with how its call stands
+pub need_stands : (old new : CoreValue) (objects objects' : Objects) (turn : Turn) → NeedLeads old objects new objects' turn
+    → StandingLeads (Ok (record { frames = old.call.frames; asked = old.call.asked; need = old.call.need; objects = objects })) new objects' turn
+need_stands old new objects objects' (turns.Ask request) h = (ap (λ (call : Calling). call.frames) h.0, ap (λ (call : Calling). call.asked) h.0, ap (λ (call : Calling). call.need) h.0, h.1)
+need_stands old new objects objects' turns.Begun h = absurd h
+need_stands old new objects objects' (turns.Value value) h = h
+need_stands old new objects objects' (turns.Rows rows) h = absurd h
+need_stands old new objects objects' (turns.At stamp) h = absurd h
+need_stands old new objects objects' (turns.Refused error) h = h

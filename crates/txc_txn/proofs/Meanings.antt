@@ -55,10 +55,10 @@ meaning_stays stay next L M bounds pins recorded objects call begins h = record 
 
 -- a call without frames, which needs nothing or is looked up
 module _ (next : Next) (L : History) (objects : Objects) (call : Calling) (empty : call.frames ≡ []) (none : reach_of call.need ≡ None) where
-  no_frames_within : (t : ℕ) → InCall t call
+  pub no_frames_within : (t : ℕ) → InCall t call
   no_frames_within t = (subst (λ (r : Option Interval). InReach t r) (sym none) tt, subst (InAll t) (sym empty) tt)
 
-  no_frames_unreached : CallIsUnreached call
+  pub no_frames_unreached : CallIsUnreached call
   no_frames_unreached = (none, subst AreUnreached (sym empty) tt)
 
 at_rest_holds : (next : Next) (L : History) (objects : Objects) (call : Calling) → call.frames ≡ [] → call.need ≡ None → CallHolds next L objects call

@@ -20,6 +20,7 @@ use txc_validity::Found;
 
 impl TxnCore {
     ghost use Rattle.txc_txn.specs.Core.{open_call, recorded_after, taken_after, value_of, CoreHolds, IsAnswered, IsAsk, IsCore, IsRight, IsTurn, PinsAfter};
+    ghost use Rattle.txc_txn.specs.Leading.{ReplyLeads};
 
     // Sees what the reply shows of the history.
     pub(crate) fn see(&mut self, reply: &PortReply)
@@ -49,6 +50,7 @@ impl TxnCore {
         ensures recorded { self.old.recorded.items
             ≡ recorded_after self.old.recorded.items result (open_call (value_of self.old)) }
         ensures goes_on { IsAsk result → open_call (value_of self.new) ≡ open_call (value_of self.old) }
+        ensures leads { ReplyLeads A.next (value_of self.old) registry.old (PortReply.Pin pinned) (value_of self.new) registry.new result }
         ensures same { value_of self.new
             ≡ record (value_of self.old) { call = self.new.machine; pinning = self.new.pinning } }
     {
@@ -85,6 +87,7 @@ impl TxnCore {
         ensures recorded { self.new.recorded.items
             ≡ recorded_after self.old.recorded.items result (open_call (value_of self.old)) }
         ensures goes_on { IsAsk result → open_call (value_of self.new) ≡ open_call (value_of self.old) }
+        ensures leads { ReplyLeads A.next (value_of self.old) registry.old (PortReply.AddPin pinned.now added) (value_of self.new) registry.new result }
         ensures same { value_of self.new ≡ record (value_of self.old) {
           pins = self.new.pins;
           taken = self.new.taken.items;
@@ -121,6 +124,7 @@ impl TxnCore {
         ensures recorded { self.old.recorded.items
             ≡ recorded_after self.old.recorded.items result (open_call (value_of self.old)) }
         ensures ended { ¬ (IsAsk result) }
+        ensures leads { ReplyLeads A.next (value_of self.old) registry.old PortReply.Unpin (value_of self.new) registry.new result }
         ensures same { value_of self.new ≡ record (value_of self.old) { call = self.new.machine; pinning = None } }
     {
         let Some(Pinning { step: PinStep::Dropping(_, error), first: _ }) = &self.pinning else {
@@ -147,6 +151,7 @@ impl TxnCore {
         ensures recorded { self.new.recorded.items
             ≡ recorded_after self.old.recorded.items result (open_call (value_of self.old)) }
         ensures goes_on { IsAsk result → open_call (value_of self.new) ≡ open_call (value_of self.old) }
+        ensures leads { ReplyLeads A.next (value_of self.old) registry.old (PortReply.Lookup hit) (value_of self.new) registry.new result }
         ensures same { value_of self.new ≡ record (value_of self.old) {
           pins = self.new.pins;
           recorded = self.new.recorded.items;
@@ -181,6 +186,7 @@ impl TxnCore {
         ensures recorded { self.new.recorded.items
             ≡ recorded_after self.old.recorded.items result (open_call (value_of self.old)) }
         ensures goes_on { IsAsk result → open_call (value_of self.new) ≡ open_call (value_of self.old) }
+        ensures leads { ReplyLeads A.next (value_of self.old) registry.old (PortReply.Query found) (value_of self.new) registry.new result }
         ensures same { value_of self.new ≡ record (value_of self.old) {
           pins = self.new.pins;
           recorded = self.new.recorded.items;
@@ -217,6 +223,7 @@ impl TxnCore {
         ensures recorded { self.new.recorded.items
             ≡ recorded_after self.old.recorded.items result (open_call (value_of self.old)) }
         ensures goes_on { IsAsk result → open_call (value_of self.new) ≡ open_call (value_of self.old) }
+        ensures leads { ReplyLeads A.next (value_of self.old) registry.old reply (value_of self.new) registry.new result }
         ensures same { value_of self.new ≡ record (value_of self.old) {
           pins = self.new.pins;
           taken = self.new.taken.items;

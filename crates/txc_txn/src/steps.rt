@@ -1,8 +1,8 @@
 //! The steps of a core between two requests.
 ghost use Rattle.std.specs.Prelude.{◌≡◌, ◌≢◌, ◌<◌, ◌++◌, ◌∷◌, [], ◌↔◌, All, IsErr, IsSome, OnOk, MatchOption, None, Some, true, false, vec_len, vec_capacity};
-ghost use Rattle.std.specs.Option.{ForSome};
 ghost use Rattle.txc_stamp.specs.declared.stamp.TheConstants.{LAST_STAMP};
 ghost use Rattle.txc_tags.specs.Keys.{Call};
+ghost use Rattle.txc_rows.specs.declared.query.Query.{Query};
 ghost use Rattle.txc_db.specs.History.{History};
 ghost use Rattle.txc_cushion.specs.Pinning.{pin_of};
 ghost use Rattle.txc_pinset.specs.Members.{choice_of, kept, with_present};
@@ -30,6 +30,7 @@ use txc_tags::Key;
 
 impl TxnCore {
     ghost use Rattle.txc_txn.specs.Core.{least_present, open_call, recorded_after, value_of, CoreHolds, IsAsk, IsCore, IsEnd, IsIdle, IsNarrowed, IsNoValue, IsTurn, WaitsForPin};
+    ghost use Rattle.txc_txn.specs.Leading.{BeginLeads, CallLeads, IsBeyond, NeedLeads};
 
     // The least stamp that a pin of the present may have; none beyond the last stamp.
     fn least_present(&self) -> Option<Stamp>
@@ -81,6 +82,9 @@ impl TxnCore {
         ensures no_value { IsNoValue result }
         ensures begins { (k : Call) → first ≡ Some k → IsAsk result → open_call (value_of self.new) ≡ Some k }
         ensures goes_on { first ≡ None → IsAsk result → open_call (value_of self.new) ≡ Some self.old.machine.top }
+        ensures same_call { IsAsk result → self.new.machine ≡ self.old.machine }
+        ensures same_objects { IsAsk result → registry.new ≡ registry.old }
+        ensures refused { ¬ (IsAsk result) → IsBeyond (value_of self.new) × (result ≡ Turn.Refused (TxnError.Database DbError.Full)) }
         ensures same { value_of self.new
             ≡ record (value_of self.old) { call = self.new.machine; pinning = self.new.pinning } }
     {
@@ -106,6 +110,7 @@ impl TxnCore {
             → CoreHolds next L objects (value_of self.new) }
         ensures need { self.new.machine.need ≡ None }
         ensures ended { IsEnd result }
+        ensures leads { (objects objects' : Objects) → NeedLeads (value_of self.old) objects (value_of self.new) objects' result }
         ensures recorded { (next : Next) (objects : Objects) → IsCore next objects (value_of self.old)
             → self.new.recorded.items ≡ recorded_after self.old.recorded.items result (Some self.old.machine.top) }
         ensures same { value_of self.new ≡ record (value_of self.old) {
@@ -148,6 +153,9 @@ impl TxnCore {
             ≡ recorded_after self.old.recorded.items result (Some self.old.machine.top) }
         ensures goes_on { IsAsk result → open_call (value_of self.new) ≡ Some self.old.machine.top }
         ensures no_value { (k : Call) → self.old.machine.need ≡ Some (Need.Lookup k) → IsNoValue result }
+        ensures leads { NeedLeads (value_of self.old) registry.old (value_of self.new) registry.new result }
+        ensures lookup { (k : Call) → self.old.machine.need ≡ Some (Need.Lookup k) → IsAsk result }
+        ensures query { (query : Query) → self.old.machine.need ≡ Some (Need.Query query) → self.old.pins.has_present ≡ false → IsAsk result }
         ensures same { value_of self.new ≡ record (value_of self.old) {
           recorded = self.new.recorded.items;
           call = self.new.machine;
@@ -202,6 +210,7 @@ impl TxnCore {
         ensures turn { IsTurn (value_of self.new) result }
         ensures no_value { IsNoValue result }
         ensures begins { IsAsk result → open_call (value_of self.new) ≡ Some key }
+        ensures leads { BeginLeads registry.old key result }
         ensures same { value_of self.new
             ≡ record (value_of self.old) { call = self.new.machine; pinning = self.new.pinning } }
     {
@@ -220,8 +229,7 @@ impl TxnCore {
     ) -> Turn
         requires fits { IsCore A.next registry.old (value_of self.old) }
         requires none { self.old.pinning ≡ None }
-        requires calling { IsSome self.old.machine.need }
-        requires reply { ForSome self.old.machine.need (λ need. ReplyFits need reply) }
+        requires reply { (need : Need) × (self.old.machine.need ≡ Some need) × ReplyFits need reply }
         requires within { All (λ m. InReach m.stamp (reply_reach reply)) self.old.pins.members }
         requires present { self.old.pins.has_present ≡ true → reply_reach reply ≡ None }
         ensures fits { IsCore A.next registry.new (value_of self.new) }
@@ -231,6 +239,8 @@ impl TxnCore {
         ensures recorded { self.new.recorded.items
             ≡ recorded_after self.old.recorded.items result (Some self.old.machine.top) }
         ensures goes_on { IsAsk result → open_call (value_of self.new) ≡ Some self.old.machine.top }
+        ensures leads { (need : Need) → self.old.machine.need ≡ Some need
+            → CallLeads A.next (value_of self.old) registry.old need reply (value_of self.new) registry.new result }
         ensures same { value_of self.new ≡ record (value_of self.old) {
           recorded = self.new.recorded.items;
           call = self.new.machine;

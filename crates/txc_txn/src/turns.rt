@@ -7,6 +7,7 @@ ghost use Rattle.txc_shared.specs.Eval.{Next};
 ghost use Rattle.txc_registry.specs.Objects.{AllIdle, Objects};
 ghost use Rattle.txc_ports.specs.Answers.{IsFresh};
 ghost use Rattle.txc_ports.specs.Fronts.{front_of};
+ghost use Rattle.txc_txn.specs.Core.{receipt_pin};
 
 use crate::receipt::{Left, Receipt};
 use crate::txn_core::TxnCore;
@@ -31,8 +32,19 @@ fn stamps_of(alloc: Global, pins: &[Pin]) -> Result<Vec<Stamp>, AllocError>
     Ok(stamps)
 }
 
+// The newest member, where a call was answered.
+fn receipt_pin(recorded: &[Recorded], members: &[Pin]) -> Option<Pin>
+    ensures { result ≡ receipt_pin recorded.now members.now }
+{
+    if recorded.is_empty() {
+        return None;
+    }
+    members.first().copied()
+}
+
 impl TxnCore {
-    ghost use Rattle.txc_txn.specs.Core.{begun_core, left_pin, open_call, receipt_pin, recorded_after, taken_after, value_of, CoreHolds, Explains, IsAnswered, IsAsk, IsCore, IsIdle, IsNoValue, IsRight, IsTurn, KeepsSettings, PinsAfter};
+    ghost use Rattle.txc_txn.specs.Core.{begun_core, left_pin, open_call, recorded_after, taken_after, value_of, CoreHolds, Explains, IsAnswered, IsAsk, IsCore, IsIdle, IsNoValue, IsRight, IsTurn, KeepsSettings, PinsAfter};
+    ghost use Rattle.txc_txn.specs.Leading.{ReplyLeads, StartLeads};
 
     /// Begins with the pins that it was handed for its bounds. Its calls are kept by one of so many nodes, and its newest pin is
     /// renewed where its moment is more than `renew_after` milliseconds before the bounds' `now`.
@@ -85,6 +97,7 @@ impl TxnCore {
         ensures turn { IsTurn (value_of self.new) result }
         ensures begins { IsAsk result → open_call (value_of self.new) ≡ Some key }
         ensures no_value { IsNoValue result }
+        ensures leads { StartLeads (value_of self.old) registry.old key result }
         ensures same { value_of self.new ≡ record (value_of self.old) {
           call = (value_of self.new).call;
           pinning = (value_of self.new).pinning;
@@ -115,6 +128,7 @@ impl TxnCore {
         ensures recorded { (value_of self.new).recorded
             ≡ recorded_after (value_of self.old).recorded result (open_call (value_of self.old)) }
         ensures goes_on { IsAsk result → open_call (value_of self.new) ≡ open_call (value_of self.old) }
+        ensures leads { ReplyLeads A.next (value_of self.old) registry.old reply (value_of self.new) registry.new result }
         ensures settings { KeepsSettings (value_of self.old) (value_of self.new) }
         ensures events { (value_of self.new).seen.events ≡ (value_of self.old).seen.events }
         ensures longer { IsPrefix (value_of self.old).seen.history (value_of self.new).seen.history }
@@ -137,11 +151,7 @@ impl TxnCore {
         ensures seen { result.0.seen ≡ (value_of self).seen }
         ensures give_back { result.1.items ≡ (value_of self).taken }
     {
-        let pin = if self.recorded.is_empty() {
-            None
-        } else {
-            self.pins.members().first().copied()
-        };
+        let pin = receipt_pin(&self.recorded, self.pins.members());
         let receipt = Receipt {
             pin,
             answers: self.recorded,
