@@ -1,5 +1,5 @@
 -- What is true of a core, step by step.
-use Rattle.std.proofs.Common.{◌≡◌, ◌≢◌, ℕ, zero, suc, ◌<◌, ◌≤◌, true, false, length, List, [], ◌∷◌, ◌++◌, Option, Some, None, Ok, map, refl, sym, ap, subst, ◌∙◌, arith, All, Contains}
+use Rattle.std.proofs.Common.{◌≡◌, ◌≢◌, ℕ, zero, suc, ◌<◌, ◌≤◌, true, false, length, List, [], ◌∷◌, ◌++◌, Option, Some, None, Ok, Err, map, refl, sym, ap, subst, ◌∙◌, arith, All, Contains}
 use Rattle.std.specs.List.{slice_index_or}
 use Rattle.std.proofs.lemmas.List.Elements.{All-nil, All-cons, All-head, All-weaker, Contains-append_left, Contains-append_right, Contains-push, Contains-get_or}
 use Rattle.txc_stamp.specs.Interval.{Interval, Holds}
@@ -26,6 +26,8 @@ use Rattle.txc_call.specs.Frames.{released, IsOpen, IsStack, AreUnreached, InAll
 use Rattle.txc_call.specs.Needs.{reply_reach, ReplyHolds, NeedFits, NeedHolds, reach_of}
 use Rattle.txc_call.specs.Calling.{Calling, CallHolds, CallIsUnreached, InCall, IsCalling}
 use Rattle.txc_cushion.specs.declared.pins.Pins.{Pins}
+use Rattle.txc_ports.specs.declared.reply.PortReply.{PortReply}
+use Rattle.txc_ports.specs.declared.reply.PortReply.TheVariants as ports
 use Rattle.txc_ports.specs.declared.turn.Turn.{Turn}
 use Rattle.txc_ports.specs.declared.turn.Turn.TheVariants as turns
 use Rattle.txc_ports.specs.declared.bounds.Bounds.{Bounds}
@@ -36,9 +38,9 @@ use Rattle.txc_txn.specs.declared.pinning.PinStep.{PinStep}
 use Rattle.txc_ports.specs.Answers.{IsFresh, AreConsistent}
 use Rattle.txc_txn.specs.Meaning.{IsMeant, LieWithin}
 use Rattle.txc_txn.specs.Core.{CoreValue, CoreHolds, IsCore, IsFreshPinning, IsFreshStep, PinningFits, Explains, begun_core, least_present, receipt_pin}
-use Rattle.txc_txn.specs.Leading.{NeedLeads, StandingLeads}
+use Rattle.txc_txn.specs.Leading.{NeedLeads, ReplyLeads, StandingLeads}
 use Rattle.txc_txn.proofs.Longer.{fresh_later}
-use Rattle.txc_txn.proofs.Meanings.{meaning_stays, fewer_members_mean_the_same, in_unreached, kept_all, present_joins, value_is_recorded, call_is_given_up, call_begins, call_goes_on}
+use Rattle.txc_txn.proofs.Meanings.{meaning_stays, fewer_members_mean_the_same, in_unreached, kept_all, no_frames_unreached, no_frames_within, present_joins, value_is_recorded, call_is_given_up, call_begins, call_goes_on}
 
 -- ---- the pin of the present
 
@@ -297,3 +299,21 @@ need_stands old new objects objects' (turns.Value value) h = h
 need_stands old new objects objects' (turns.Rows rows) h = absurd h
 need_stands old new objects objects' (turns.At stamp) h = absurd h
 need_stands old new objects objects' (turns.Refused error) h = h
+
+-- what comes of a reply does not depend on what was seen of the history
+pub leads_seen : (next : Next) (c : CoreValue) (seen : FrontValue) (objects : Objects) (reply : PortReply) (new : CoreValue) (objects' : Objects) (turn : Turn)
+    → ReplyLeads next (record c { seen = seen }) objects reply new objects' turn → ReplyLeads next c objects reply new objects' turn
+leads_seen next c seen objects (ports.Fresh pins) new objects' turn h = h
+leads_seen next c seen objects (ports.Pin (Ok pinned)) new objects' turn h = h
+leads_seen next c seen objects (ports.Pin (Err error)) new objects' turn h = h
+leads_seen next c seen objects (ports.AddPin pinned (Ok added)) new objects' turn h = h
+leads_seen next c seen objects (ports.AddPin pinned (Err error)) new objects' turn h = h
+leads_seen next c seen objects ports.Unpin new objects' turn h = h
+leads_seen next c seen objects (ports.Lookup None) new objects' turn h = h
+leads_seen next c seen objects (ports.Lookup (Some hit)) new objects' turn h = λ k is. record { held = (h k is).held; none = (h k is).none }
+leads_seen next c seen objects (ports.Query (Ok found)) new objects' turn h = h
+leads_seen next c seen objects (ports.Query (Err error)) new objects' turn h = h
+leads_seen next c seen objects ports.Insert new objects' turn h = h
+leads_seen next c seen objects ports.GiveBack new objects' turn h = h
+leads_seen next c seen objects (ports.Hold held) new objects' turn h = h
+leads_seen next c seen objects (ports.Commit committed) new objects' turn h = h

@@ -1,5 +1,6 @@
 //! What the meaning of a pin set comes to. Each is a lemma: it has no code.
 ghost use Rattle.txc_txn.specs.Laws.{MeaningStays, MeaningBegins, FindingNarrows, QueryLeavesAMember, PresentJoins, PresentIsFresh, FewerMembersMeanTheSame, CallBegins, CallIsGivenUp, ValueIsRecorded, OpenAnswersAreRight, NewestExplains};
+ghost use Rattle.txc_txn.specs.Worked.{WorkedMeanings};
 
 use txc_db::states_stay;
 use txc_pinset::laws::{a_pin_set_is_never_empty, narrowing_keeps_exactly_the_held};
@@ -40,4 +41,9 @@ pub fn answers_are_explained()
     ensures recorded { ValueIsRecorded }
     ensures frames { OpenAnswersAreRight }
     ensures newest { NewestExplains }
+{}
+
+/// Which pin sets mean what they say, in a history that was worked by hand.
+pub fn worked_meanings()
+    ensures { WorkedMeanings }
 {}

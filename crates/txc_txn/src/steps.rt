@@ -34,8 +34,9 @@ impl TxnCore {
 
     // The least stamp that a pin of the present may have; none beyond the last stamp.
     fn least_present(&self) -> Option<Stamp>
-        ensures { MatchOption result (LAST_STAMP < least_present self.now.bounds self.now.pins.members)
+        ensures answer { MatchOption result (LAST_STAMP < least_present self.now.bounds self.now.pins.members)
             (λ stamp. stamp ≡ least_present self.now.bounds self.now.pins.members) }
+        ensures first { self.now.pins.members ≡ [] → IsSome result }
     {
         match self.pins.members().first() {
             None => Some(self.bounds.at_least),
@@ -84,6 +85,7 @@ impl TxnCore {
         ensures goes_on { first ≡ None → IsAsk result → open_call (value_of self.new) ≡ Some self.old.machine.top }
         ensures same_call { IsAsk result → self.new.machine ≡ self.old.machine }
         ensures same_objects { IsAsk result → registry.new ≡ registry.old }
+        ensures asks { self.old.pins.members ≡ [] → IsAsk result }
         ensures refused { ¬ (IsAsk result) → IsBeyond (value_of self.new) × (result ≡ Turn.Refused (TxnError.Database DbError.Full)) }
         ensures same { value_of self.new
             ≡ record (value_of self.old) { call = self.new.machine; pinning = self.new.pinning } }
