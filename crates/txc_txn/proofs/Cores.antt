@@ -37,9 +37,11 @@ use Rattle.txc_txn.specs.declared.pinning.PinStep.TheVariants.{Asked, Adding, Dr
 use Rattle.txc_txn.specs.declared.pinning.PinStep.{PinStep}
 use Rattle.txc_ports.specs.Answers.{IsFresh, AreConsistent}
 use Rattle.txc_txn.specs.Meaning.{IsMeant, LieWithin}
-use Rattle.txc_txn.specs.Core.{CoreValue, CoreHolds, IsCore, IsFreshPinning, IsFreshStep, PinningFits, Explains, begun_core, least_present, receipt_pin}
+use Rattle.txc_txn.specs.Core.{CoreValue, CoreHolds, IsCore, IsFreshPinning, IsFreshStep, IsRight, PinningFits, Explains, begun_core, least_present, receipt_pin}
 use Rattle.txc_txn.specs.Leading.{NeedLeads, ReplyLeads, StandingLeads}
-use Rattle.txc_txn.proofs.Longer.{fresh_later}
+use Rattle.std.specs.Option.{ForSome}
+use Rattle.txc_ports.specs.Fronts.{front_of}
+use Rattle.txc_txn.proofs.Longer.{fresh_later, right_later}
 use Rattle.txc_txn.proofs.Meanings.{meaning_stays, fewer_members_mean_the_same, in_unreached, kept_all, no_frames_unreached, no_frames_within, present_joins, value_is_recorded, call_is_given_up, call_begins, call_goes_on}
 
 -- ---- the pin of the present
@@ -317,3 +319,30 @@ leads_seen next c seen objects ports.Insert new objects' turn h = h
 leads_seen next c seen objects ports.GiveBack new objects' turn h = h
 leads_seen next c seen objects (ports.Hold held) new objects' turn h = h
 leads_seen next c seen objects (ports.Commit committed) new objects' turn h = h
+
+-- ---- with a registry
+
+-- a reply that shows nothing of the history says nothing of it
+no_front : (next : Next) (need : Option Need) (reply : PortReply) (M : History) → front_of reply ≡ None → IsRight next M need reply
+no_front next need (ports.Fresh pins) M none = tt
+no_front next need (ports.Pin (Ok pinned)) M none = absurd (cc none)
+no_front next need (ports.Pin (Err error)) M none = tt
+no_front next need (ports.AddPin pinned added) M none = tt
+no_front next need ports.Unpin M none = tt
+no_front next need (ports.Lookup None) M none = tt
+no_front next need (ports.Lookup (Some hit)) M none = absurd (cc none)
+no_front next need (ports.Query (Ok found)) M none = absurd (cc none)
+no_front next need (ports.Query (Err error)) M none = tt
+no_front next need ports.Insert M none = tt
+no_front next need ports.GiveBack M none = tt
+no_front next need (ports.Hold held) M none = tt
+no_front next need (ports.Commit committed) M none = tt
+
+-- a reply that is right in the history that it shows is right in what is seen after it
+pub right_seen : StatesStay → (next : Next) (need : Option Need) (reply : PortReply) (M : History) → ForSome (front_of reply) (λ front. IsPrefix front.history M)
+    → ForSome (front_of reply) (λ front. IsRight next front.history need reply) → IsRight next M need reply
+right_seen stay next need reply M shown right = go (front_of reply) refl
+  where
+    go : (o : Option FrontValue) → front_of reply ≡ o → IsRight next M need reply
+    go None none = no_front next need reply M none
+    go (Some front) some = right_later stay front.history M (shown front some) next need reply (right front some)

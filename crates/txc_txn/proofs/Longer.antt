@@ -1,12 +1,12 @@
 -- What holds in a history holds in a longer one.
-use Rattle.std.proofs.Common.{◌≡◌, ℕ, zero, suc, ◌<◌, ◌≤◌, List, [], ◌∷◌, ◌++◌, length, length-append, Option, Some, None, slice_get, refl, sym, ap, subst, ◌∙◌, arith}
+use Rattle.std.proofs.Common.{◌≡◌, ℕ, zero, suc, ◌<◌, ◌≤◌, List, [], ◌∷◌, ◌++◌, length, length-append, Option, Some, None, Ok, Err, slice_get, refl, sym, ap, subst, ◌∙◌, arith}
 use Rattle.std.proofs.lemmas.Option.{slice_get_within}
 use mathlib.Core.List.{IsPrefix}
 use Rattle.txc_stamp.specs.Interval.{Interval}
 use Rattle.txc_tags.specs.declared.tag.Tag.{Tag}
 use Rattle.txc_tags.specs.Keys.{Call}
 use Rattle.txc_rows.specs.declared.query.Query.{Query}
-use Rattle.txc_rows.specs.States.{State}
+use Rattle.txc_rows.specs.States.{State, answer}
 use Rattle.txc_db.specs.Facts.{EventValue}
 use Rattle.txc_db.specs.History.{History, state_at, moment_at, pinned_moment, IsAllowed}
 use Rattle.txc_db.specs.Laws.{StatesStay}
@@ -18,7 +18,12 @@ use Rattle.txc_call.specs.declared.frame.Frame.{Frame}
 use Rattle.txc_call.specs.declared.need.Need.{Need}
 use Rattle.txc_call.specs.declared.need.Need.TheVariants as needs
 use Rattle.txc_call.specs.Frames.{answers_in, AnswersHold, FramesHold}
-use Rattle.txc_call.specs.Needs.{NeedHolds}
+use Rattle.txc_call.specs.Needs.{NeedHolds, ReplyHolds}
+use Rattle.txc_call.specs.declared.reply.Reply.{Reply}
+use Rattle.txc_call.specs.declared.reply.Reply.TheVariants as replies
+use Rattle.txc_ports.specs.declared.reply.PortReply.{PortReply}
+use Rattle.txc_ports.specs.declared.reply.PortReply.TheVariants as ports
+use Rattle.txc_txn.specs.Core.{IsRight}
 use Rattle.txc_shared.specs.Answering.{AreRight, queries_for}
 use Rattle.txc_ports.specs.declared.bounds.Bounds.{Bounds}
 use Rattle.txc_ports.specs.Answers.{IsFresh}
@@ -84,7 +89,7 @@ module _ (stay : StatesStay) (L M : History) (begins : IsPrefix L M) where
       frames_later frames h.1,
     )
 
-    value_later : (k : Call) (bytes : List ℕ) (reach : Option Interval) (tags : List Tag) → ValueHolds next L k bytes reach tags → ValueHolds next M k bytes reach tags
+    pub value_later : (k : Call) (bytes : List ℕ) (reach : Option Interval) (tags : List Tag) → ValueHolds next L k bytes reach tags → ValueHolds next M k bytes reach tags
     value_later k bytes reach tags h = claim_later (λ (s : State). eval next k s ≡ Some bytes) (met next k) reach tags h
 
     pub need_later : (need : Option Need) (frames : List Frame) → NeedHolds next L objects need frames → NeedHolds next M objects need frames
@@ -93,3 +98,31 @@ module _ (stay : StatesStay) (L M : History) (begins : IsPrefix L M) where
     need_later (Some (needs.Query q)) frames h = frames_later frames h
     need_later (Some (needs.Insert e)) frames h = (value_later e.key e.value (Some e.reach) e.tags h.0, frames_later frames h.1)
     need_later (Some (needs.Value o)) frames h = (value_later o.key o.value o.reach o.tags h.0, frames_later frames h.1)
+
+  -- what a reply says
+  reply_later : (next : Next) (n : Need) (reply : Reply) → ReplyHolds next L n reply → ReplyHolds next M n reply
+  reply_later next (needs.Lookup k) replies.Miss h = tt
+  reply_later next (needs.Lookup k) (replies.Hit hit) h = value_later next [] k hit.value (Some hit.reach) hit.tags h
+  reply_later next (needs.Lookup k) (replies.Found found) h = tt
+  reply_later next (needs.Lookup k) replies.Inserted h = tt
+  reply_later next (needs.Query q) replies.Miss h = tt
+  reply_later next (needs.Query q) (replies.Hit hit) h = tt
+  reply_later next (needs.Query q) (replies.Found found) h = claim_later (λ (s : State). found.rows.items ≡ answer q s) (λ s. q ∷ []) (Some found.reach) found.tags h
+  reply_later next (needs.Query q) replies.Inserted h = tt
+  reply_later next (needs.Insert e) reply h = tt
+  reply_later next (needs.Value o) reply h = tt
+
+  pub right_later : (next : Next) (need : Option Need) (reply : PortReply) → IsRight next L need reply → IsRight next M need reply
+  right_later next need (ports.Fresh pins) h = tt
+  right_later next need (ports.Pin (Ok pinned)) h = same_moment pinned.stamp pinned.moment h
+  right_later next need (ports.Pin (Err error)) h = tt
+  right_later next need (ports.AddPin pinned added) h = tt
+  right_later next need ports.Unpin h = tt
+  right_later next need (ports.Lookup None) h = tt
+  right_later next need (ports.Lookup (Some hit)) h = λ n is. reply_later next n (replies.Hit hit.answer) (h n is)
+  right_later next need (ports.Query (Ok found)) h = λ n is. reply_later next n (replies.Found found.answer) (h n is)
+  right_later next need (ports.Query (Err error)) h = tt
+  right_later next need ports.Insert h = tt
+  right_later next need ports.GiveBack h = tt
+  right_later next need (ports.Hold held) h = tt
+  right_later next need (ports.Commit committed) h = tt

@@ -5,10 +5,12 @@ mod answers;
 pub mod laws;
 mod pinning;
 mod receipt;
+mod running_txn;
 mod steps;
 mod turns;
 mod txn_core;
 
 pub use pinning::{PinStep, Pinning};
 pub use receipt::{Left, Receipt};
+pub use running_txn::RunningTxn;
 pub use txn_core::TxnCore;
