@@ -1,5 +1,5 @@
 -- What is true of a core, step by step.
-use Rattle.std.proofs.Common.{◌≡◌, ◌≢◌, ℕ, zero, suc, ◌<◌, ◌≤◌, true, false, length, List, [], ◌∷◌, ◌++◌, Option, Some, None, Ok, Err, map, refl, sym, ap, subst, ◌∙◌, arith, All, Contains}
+use Rattle.std.proofs.Common.{◌≡◌, ◌≢◌, ℕ, zero, suc, ◌<◌, ◌≤◌, true, length, List, [], ◌∷◌, ◌++◌, Option, Some, None, Ok, Err, map, refl, sym, ap, subst, ◌∙◌, arith, All, Contains}
 use Rattle.std.specs.List.{slice_index_or}
 use Rattle.std.proofs.lemmas.List.Elements.{All-nil, All-cons, All-head, All-weaker, Contains-append_left, Contains-append_right, Contains-push, Contains-get_or}
 use Rattle.txc_stamp.specs.Interval.{Interval, Holds}
@@ -12,7 +12,6 @@ use Rattle.txc_cushion.specs.declared.pin.Pin.{Pin}
 use Rattle.txc_cushion.specs.Pinning.{Falls}
 use Rattle.txc_pinset.specs.Members.{PinSetValue, kept, narrowed, with_present}
 use Rattle.txc_pinset.specs.Laws.{KeepsExactlyTheHeld, NeverIsEmpty}
-use Rattle.txc_shared.specs.declared.ask.Ask.{Ask}
 use Rattle.txc_shared.specs.declared.ask.Ask.TheVariants as asks
 use Rattle.txc_shared.specs.Eval.{Next}
 use Rattle.txc_registry.specs.Objects.{Objects, AllIdle}
@@ -20,10 +19,9 @@ use Rattle.txc_call.specs.declared.frame.Frame.{Frame}
 use Rattle.txc_call.specs.declared.need.Need.{Need}
 use Rattle.txc_call.specs.declared.need.Need.TheVariants as needs
 use Rattle.txc_call.specs.declared.need.Outcome.{Outcome}
-use Rattle.txc_call.specs.declared.reply.Reply.{Reply}
 use Rattle.txc_call.specs.Reaches.{InReach}
-use Rattle.txc_call.specs.Frames.{released, IsOpen, IsStack, AreUnreached, InAll}
-use Rattle.txc_call.specs.Needs.{reply_reach, ReplyHolds, NeedFits, NeedHolds, reach_of}
+use Rattle.txc_call.specs.Frames.{released, IsStack}
+use Rattle.txc_call.specs.Needs.{NeedFits, NeedHolds, reach_of}
 use Rattle.txc_call.specs.Calling.{Calling, CallHolds, CallIsUnreached, InCall, IsCalling}
 use Rattle.txc_cushion.specs.declared.pins.Pins.{Pins}
 use Rattle.txc_ports.specs.declared.reply.PortReply.{PortReply}
@@ -42,7 +40,7 @@ use Rattle.txc_txn.specs.Leading.{NeedLeads, ReplyLeads, StandingLeads}
 use Rattle.std.specs.Option.{ForSome}
 use Rattle.txc_ports.specs.Fronts.{front_of}
 use Rattle.txc_txn.proofs.Longer.{fresh_later, right_later}
-use Rattle.txc_txn.proofs.Meanings.{meaning_stays, fewer_members_mean_the_same, in_unreached, kept_all, no_frames_unreached, no_frames_within, present_joins, value_is_recorded, call_is_given_up, call_begins, call_goes_on}
+use Rattle.txc_txn.proofs.Meanings.{meaning_stays, fewer_members_mean_the_same, in_unreached, kept_all, no_frames_unreached, no_frames_within, present_joins, value_is_recorded, call_begins, call_goes_on}
 
 -- ---- the pin of the present
 

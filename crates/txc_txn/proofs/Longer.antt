@@ -1,5 +1,5 @@
 -- What holds in a history holds in a longer one.
-use Rattle.std.proofs.Common.{◌≡◌, ℕ, zero, suc, ◌<◌, ◌≤◌, List, [], ◌∷◌, ◌++◌, length, length-append, Option, Some, None, Ok, Err, slice_get, refl, sym, ap, subst, ◌∙◌, arith}
+use Rattle.std.proofs.Common.{◌≡◌, ℕ, zero, suc, ◌≤◌, List, [], ◌∷◌, ◌++◌, length, length-append, Option, Some, None, Ok, Err, slice_get, refl, sym, ap, subst, ◌∙◌, arith}
 use Rattle.std.proofs.lemmas.Option.{slice_get_within}
 use mathlib.Core.List.{IsPrefix}
 use Rattle.txc_stamp.specs.Interval.{Interval}
@@ -8,16 +8,16 @@ use Rattle.txc_tags.specs.Keys.{Call}
 use Rattle.txc_rows.specs.declared.query.Query.{Query}
 use Rattle.txc_rows.specs.States.{State, answer}
 use Rattle.txc_db.specs.Facts.{EventValue}
-use Rattle.txc_db.specs.History.{History, state_at, moment_at, pinned_moment, IsAllowed}
+use Rattle.txc_db.specs.History.{History, state_at, moment_at, pinned_moment}
 use Rattle.txc_db.specs.Laws.{StatesStay}
 use Rattle.txc_cushion.specs.declared.pin.Pin.{Pin}
 use Rattle.txc_shared.specs.Eval.{Next, eval, met}
-use Rattle.txc_shared.specs.Claims.{covers_all, HoldsIn, HoldsOver, ValueHolds}
+use Rattle.txc_shared.specs.Claims.{covers_all, HoldsOver, ValueHolds}
 use Rattle.txc_registry.specs.Objects.{Objects}
 use Rattle.txc_call.specs.declared.frame.Frame.{Frame}
 use Rattle.txc_call.specs.declared.need.Need.{Need}
 use Rattle.txc_call.specs.declared.need.Need.TheVariants as needs
-use Rattle.txc_call.specs.Frames.{answers_in, AnswersHold, FramesHold}
+use Rattle.txc_call.specs.Frames.{answers_in, FramesHold}
 use Rattle.txc_call.specs.Needs.{NeedHolds, ReplyHolds}
 use Rattle.txc_call.specs.declared.reply.Reply.{Reply}
 use Rattle.txc_call.specs.declared.reply.Reply.TheVariants as replies

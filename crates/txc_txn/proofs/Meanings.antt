@@ -1,18 +1,14 @@
 -- The steps of the meaning of a pin set.
-use Rattle.std.proofs.Common.{◌≡◌, ◌≢◌, ℕ, ◌<◌, ◌≤◌, true, false, List, [], ◌∷◌, ◌++◌, Option, Some, None, refl, sym, ap, subst, ◌∙◌, arith, All, Contains}
-use Rattle.std.specs.Prelude.{filter}
-use Rattle.std.proofs.lemmas.List.Elements.{All-filter, All-cons, All-push, All-weaker, All-contains, All-nil, All-head, All-get_or, Contains-get_or, filter_passes}
-use mathlib.Core.List.{IsPrefix}
+use Rattle.std.proofs.Common.{◌≡◌, ℕ, true, List, [], ◌∷◌, ◌++◌, Option, Some, None, refl, sym, ap, subst, ◌∙◌, arith, All, Contains}
+use Rattle.std.proofs.lemmas.List.Elements.{All-cons, All-push, All-weaker, All-contains, All-nil, All-head, Contains-get_or}
 use Rattle.txc_stamp.specs.Interval.{Interval, Holds}
-use Rattle.txc_tags.specs.declared.tag.Tag.{Tag}
-use Rattle.txc_tags.specs.Keys.{Call}
 use Rattle.txc_rows.specs.States.{State}
 use Rattle.txc_db.specs.History.{History, state_at}
 use Rattle.txc_db.specs.Laws.{StatesStay}
 use Rattle.txc_cushion.specs.declared.pin.Pin.{Pin}
-use Rattle.txc_pinset.specs.Members.{PinSetValue, IsPinSet, begun, kept, is_held_by, narrowed, with_present}
+use Rattle.txc_pinset.specs.Members.{PinSetValue, kept, narrowed}
 use Rattle.txc_pinset.specs.Laws.{KeepsExactlyTheHeld, NeverIsEmpty}
-use Rattle.txc_shared.specs.Eval.{Next, eval, met}
+use Rattle.txc_shared.specs.Eval.{Next, eval}
 use Rattle.txc_shared.specs.Claims.{HoldsOver, ValueHolds}
 use Rattle.txc_shared.specs.Answering.{AreRight, queries_for}
 use Rattle.txc_registry.specs.Objects.{Objects}
@@ -22,13 +18,13 @@ use Rattle.txc_call.specs.declared.need.Need.TheVariants as needs
 use Rattle.txc_call.specs.declared.need.Outcome.{Outcome}
 use Rattle.txc_call.specs.Reaches.{InReach}
 use Rattle.txc_call.specs.Frames.{answers_in, FramesHold, InAll, AreUnreached}
-use Rattle.txc_call.specs.Needs.{NeedHolds, InNeed, IsUnreached, reach_of}
-use Rattle.txc_call.specs.Calling.{Calling, started, InCall, CallHolds, CallIsUnreached}
+use Rattle.txc_call.specs.Needs.{NeedHolds, reach_of}
+use Rattle.txc_call.specs.Calling.{Calling, InCall, CallHolds, CallIsUnreached}
 use Rattle.txc_ports.specs.declared.bounds.Bounds.{Bounds}
 use Rattle.txc_ports.specs.declared.recorded.Recorded.{Recorded}
 use Rattle.txc_ports.specs.Answers.{IsFresh, AreConsistent}
-use Rattle.txc_txn.specs.Meaning.{IsMeant, HasOnlyLost, LieWithin}
-use Rattle.txc_txn.specs.Laws.{MeaningStays, MeaningBegins, GoesOnOver, FindingNarrows, QueryLeavesAMember, PresentJoins, PresentIsFresh, FewerMembersMeanTheSame, CallBegins, CallIsGivenUp, ValueIsRecorded, FramesAreRight, OpenAnswersAreRight, NewestExplains, pins_over}
+use Rattle.txc_txn.specs.Meaning.{IsMeant, LieWithin}
+use Rattle.txc_txn.specs.Laws.{MeaningStays, MeaningBegins, FindingNarrows, QueryLeavesAMember, PresentJoins, PresentIsFresh, FewerMembersMeanTheSame, CallBegins, CallIsGivenUp, ValueIsRecorded, FramesAreRight, OpenAnswersAreRight, NewestExplains}
 use Rattle.txc_txn.proofs.Longer.{pin_within, same_state, fresh_later, need_later}
 
 -- ---- lists

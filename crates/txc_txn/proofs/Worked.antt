@@ -1,5 +1,5 @@
 -- Pin sets worked by hand.
-use Rattle.std.proofs.Common.{◌≡◌, ℕ, zero, suc, ◌+◌, slice_get, take, ◌<◌, ◌≤◌, List, [], ◌∷◌, Option, Some, None, refl, sym, ◌∙◌, ap, subst, arith, All}
+use Rattle.std.proofs.Common.{◌≡◌, ℕ, zero, suc, ◌+◌, ◌<◌, ◌≤◌, List, [], ◌∷◌, Some, refl, subst, arith, All}
 use Rattle.std.proofs.lemmas.List.Elements.{All-nil, All-cons, All-head, All-tail}
 use Rattle.std.proofs.lemmas.List.Kept.{AllPairs-cons}
 use Rattle.txc_rows.specs.States.{State}
@@ -10,14 +10,12 @@ use Rattle.txc_cushion.specs.Pinning.{Falls}
 use Rattle.txc_shared.specs.declared.ask.Answer.{Answer}
 use Rattle.txc_shared.specs.declared.ask.Answer.TheVariants as answers
 use Rattle.txc_shared.specs.Eval.{activation, call_below, eval}
-use Rattle.txc_shared.specs.Answering.{AreRight, IsRight, IsValueOf}
+use Rattle.txc_shared.specs.Answering.{AreRight, IsRight}
 use Rattle.txc_shared.specs.Worked.{functions}
-use Rattle.txc_stamp.specs.Interval.{Interval, Holds}
 use Rattle.txc_call.specs.Calling.{InCall}
 use Rattle.txc_ports.specs.declared.recorded.Recorded.{Recorded}
 use Rattle.txc_ports.specs.Answers.{IsFresh, AreConsistent}
-use Rattle.txc_txn.specs.Worked.{WorkedMeanings, an_a, at_rest, bodies, both_pins, newer_pin, older_pin, within_ms, bodies_and_9, open_over, runs_it, while_a}
-use Rattle.txc_txn.specs.Meaning.{IsMeant}
+use Rattle.txc_txn.specs.Worked.{WorkedMeanings, an_a, at_rest, bodies, newer_pin, older_pin, within_ms, bodies_and_9, open_over, while_a}
 
 older_fresh : IsFresh worked (within_ms 1500) older_pin
 older_fresh = record { shown = refl; allowed = record { moment = 1000; pinned = refl; fresh = omega arith; late = omega arith } }

@@ -1,5 +1,6 @@
 -- A read-only transaction: what it waits for, and what is true of it.
-use Rattle.std.specs.Prelude.{◌≡◌, ◌≢◌, ℕ, ◌+◌, ◌<◌, ◌≤◌, true, List, [], ◌∷◌, ◌++◌, length, All, Contains, Option, Some, None, Ok, Err, map, max}
+use Rattle.std.specs.Prelude.{◌≡◌, ◌≢◌, ℕ, ◌+◌, ◌<◌, ◌≤◌, true, List, [], ◌∷◌, ◌++◌, All, Contains}
+use Rattle.std.specs.Prelude.{Option, Some, None, Ok, Err, map, max}
 use Rattle.txc_stamp.specs.Interval.{Interval, Holds}
 use Rattle.txc_tags.specs.Keys.{Call, node_of}
 use Rattle.txc_rows.specs.declared.query.Query.{Query}
@@ -10,7 +11,8 @@ use Rattle.txc_cushion.specs.declared.pin.Pin.{Pin}
 use Rattle.txc_cushion.specs.declared.pins.Pins.{Pins}
 use Rattle.txc_cushion.specs.Pinning.{pin_of}
 use Rattle.txc_pinset.specs.declared.choice.Choice.TheVariants.{Present, At}
-use Rattle.txc_pinset.specs.Members.{PinSetValue, IsPinSet, AreBounds, begun, choice_of, kept, narrowed, with_present}
+use Rattle.txc_pinset.specs.Members.{PinSetValue, IsPinSet, AreBounds, begun, choice_of, kept, narrowed}
+use Rattle.txc_pinset.specs.Members.{with_present}
 use Rattle.txc_shared.specs.Eval.{Next}
 use Rattle.txc_registry.specs.Objects.{Objects}
 use Rattle.txc_call.specs.declared.need.Need.{Need}
@@ -26,7 +28,7 @@ use Rattle.txc_ports.specs.declared.request.PortRequest.TheVariants as requests
 use Rattle.txc_ports.specs.declared.reply.PortReply.{PortReply}
 use Rattle.txc_ports.specs.declared.reply.PortReply.TheVariants as ports
 use Rattle.txc_ports.specs.declared.turn.Turn.{Turn}
-use Rattle.txc_ports.specs.declared.turn.Turn.TheVariants.{Ask, Begun, Value, Rows, At as Committed, Refused}
+use Rattle.txc_ports.specs.declared.turn.Turn.TheVariants.{Ask, Value, Refused}
 use Rattle.txc_ports.specs.Answers.{IsFresh, AreConsistent}
 use Rattle.txc_txn.specs.declared.pinning.Pinning.{Pinning}
 use Rattle.txc_txn.specs.declared.pinning.PinStep.{PinStep}
@@ -34,9 +36,9 @@ use Rattle.txc_txn.specs.declared.pinning.PinStep.TheVariants.{Asked, Adding, Dr
 use Rattle.txc_txn.specs.declared.txn_core.TxnCore.{TxnCore}
 use Rattle.txc_txn.specs.Meaning.{IsMeant, LieWithin}
 
--- What callers see of a core: its bounds, after how long it renews its newest pin, and the number of nodes; its pin set, and the
--- stamps that it was handed or added; the answers that it recorded; its call; the pin of the present that is under way, if one
--- is; and what it has seen of the history.
+-- What callers see of a core: its bounds, after how long it renews its newest pin, and the number of nodes;
+-- its pin set, and the stamps that it was handed or added; the answers that it recorded; its call; the pin of
+-- the present that is under way, if one is; and what it has seen of the history.
 pub record CoreValue : Type 0 where
   pub bounds : Bounds
   pub renew_after : ℕ
@@ -100,7 +102,8 @@ IsNewer (Dropping stamp error) members = Unit {0}
 -- the present is pinned while it is there
 abbrev pub PinningFits : Option Pinning → PinSetValue → Option Need → Type 0
 PinningFits None pins need = Unit {0}
-PinningFits (Some p) pins need = (pins.has_present ≡ true) × WaitsForPin p.first need pins.members × IsNewer p.step pins.members
+PinningFits (Some p) pins need = (pins.has_present ≡ true) × WaitsForPin p.first need pins.members
+    × IsNewer p.step pins.members
 
 -- the pin that is to be added is one that the bounds allow
 abbrev pub IsFreshStep : History → Bounds → PinStep → Type 0
@@ -114,9 +117,9 @@ IsFreshPinning L bounds (Some p) = IsFreshStep L bounds p.step
 
 -- ---- what is true of a core
 
--- in any history: its pin set is one, its call waits for what it needs, all its members lie in each reach of the call, which has
--- none while the present is there, and were handed or added to it, and it has a member while its call goes on, and once a call
--- was answered
+-- in any history: its pin set is one, its call waits for what it needs, all its members lie in each reach of
+-- the call, which has none while the present is there, and were handed or added to it, and it has a member
+-- while its call goes on, and once a call was answered
 pub record IsCore (next : Next) (objects : Objects) (c : CoreValue) : Type 0 where
   pub set : IsPinSet c.pins
   pub call : IsCalling next objects c.call
@@ -143,16 +146,21 @@ IsAt c step = (first : Option Call) × (c.pinning ≡ Some (record { step = step
 abbrev pub IsNeeding : CoreValue → Need → Type 0
 IsNeeding c need = (c.pinning ≡ None) × (c.call.need ≡ Some need)
 
--- The core asks this: a pin where it is due, and later than every member; to add it, or to take its hold away; what the call's node
--- has of it at the stamps from the least to the greatest member; a query at the newest member; or to keep an entry at its call's node.
+-- The core asks this: a pin where it is due, and later than every member; to add it, or to take its hold
+-- away; what the call's node has of it at the stamps from the least to the greatest member; a query at the
+-- newest member; or to keep an entry at its call's node.
 abbrev pub IsAsking : CoreValue → PortRequest → Type 0
-IsAsking c (requests.Pin now at_least) = IsAt c Asked × (choice_of c.bounds.now c.renew_after c.pins ≡ Present)
+IsAsking c (requests.Pin now at_least) = IsAt c Asked
+    × (choice_of c.bounds.now c.renew_after c.pins ≡ Present)
     × (now ≡ c.bounds.now) × (at_least ≡ least_present c.bounds c.pins.members)
 IsAsking c (requests.AddPin pinned) = IsAt c (Adding (pin_of pinned))
 IsAsking c (requests.Unpin stamp) = (error : TxnError) × IsAt c (Dropping stamp error)
-IsAsking c (requests.Lookup node key lo hi) = IsNeeding c (needs.Lookup key) × (node ≡ node_of c.nodes key) × AreBounds c.pins.members (lo, hi)
-IsAsking c (requests.Query query stamp) = IsNeeding c (needs.Query query) × (choice_of c.bounds.now c.renew_after c.pins ≡ At stamp)
-IsAsking c (requests.Insert node entry) = IsNeeding c (needs.Insert entry) × (node ≡ node_of c.nodes entry.key)
+IsAsking c (requests.Lookup node key lo hi) = IsNeeding c (needs.Lookup key) × (node ≡ node_of c.nodes key)
+    × AreBounds c.pins.members (lo, hi)
+IsAsking c (requests.Query query stamp) = IsNeeding c (needs.Query query)
+    × (choice_of c.bounds.now c.renew_after c.pins ≡ At stamp)
+IsAsking c (requests.Insert node entry) = IsNeeding c (needs.Insert entry)
+    × (node ≡ node_of c.nodes entry.key)
 IsAsking c request = ⊥
 
 -- the core asks, or its call has ended
@@ -169,15 +177,17 @@ abbrev pub HoldsNewest : Interval → List Pin → Type 0
 HoldsNewest reach [] = ⊥
 HoldsNewest reach (newest ∷ older) = Holds reach newest.stamp
 
--- the reply is one to what the core asks: a pin of its moment that is late enough, the pin that was to be added, or what was
--- found at the newest member
+-- the reply is one to what the core asks: a pin of its moment that is late enough, the pin that was to be
+-- added, or what was found at the newest member
 abbrev pub IsAnswered : CoreValue → PortReply → Type 0
-IsAnswered c (ports.Pin (Ok pinned)) = IsAt c Asked × (pinned.moment ≡ c.bounds.now) × (least_present c.bounds c.pins.members ≤ pinned.stamp)
+IsAnswered c (ports.Pin (Ok pinned)) = IsAt c Asked × (pinned.moment ≡ c.bounds.now)
+    × (least_present c.bounds c.pins.members ≤ pinned.stamp)
 IsAnswered c (ports.Pin (Err error)) = IsAt c Asked
 IsAnswered c (ports.AddPin pinned added) = IsAt c (Adding (pin_of pinned))
 IsAnswered c ports.Unpin = (stamp : ℕ) × (error : TxnError) × IsAt c (Dropping stamp error)
 IsAnswered c (ports.Lookup hit) = (k : Call) × IsNeeding c (needs.Lookup k)
-IsAnswered c (ports.Query (Ok found)) = (query : Query) × IsNeeding c (needs.Query query) × HoldsNewest found.answer.reach c.pins.members
+IsAnswered c (ports.Query (Ok found)) = (query : Query) × IsNeeding c (needs.Query query)
+    × HoldsNewest found.answer.reach c.pins.members
 IsAnswered c (ports.Query (Err error)) = (query : Query) × IsNeeding c (needs.Query query)
 IsAnswered c ports.Insert = (entry : Entry) × IsNeeding c (needs.Insert entry)
 IsAnswered c reply = ⊥
@@ -185,8 +195,10 @@ IsAnswered c reply = ⊥
 -- the reply to what the call needs is right in the history
 abbrev pub IsRight : Next → History → Option Need → PortReply → Type 0
 IsRight next L need (ports.Pin (Ok pinned)) = moment_at L pinned.stamp ≡ Some pinned.moment
-IsRight next L need (ports.Lookup (Some hit)) = (n : Need) → need ≡ Some n → ReplyHolds next L n (replies.Hit hit.answer)
-IsRight next L need (ports.Query (Ok found)) = (n : Need) → need ≡ Some n → ReplyHolds next L n (replies.Found found.answer)
+IsRight next L need (ports.Lookup (Some hit)) = (n : Need) → need ≡ Some n
+    → ReplyHolds next L n (replies.Hit hit.answer)
+IsRight next L need (ports.Query (Ok found)) = (n : Need) → need ≡ Some n
+    → ReplyHolds next L n (replies.Found found.answer)
 IsRight next L need reply = Unit {0}
 
 -- ---- what a reply leaves
@@ -261,11 +273,12 @@ receipt_pin [] members = None
 receipt_pin (r ∷ rs) [] = None
 receipt_pin (r ∷ rs) (newest ∷ older) = Some newest
 
--- a receipt is explained: it has no pin and no answer; or its pin is one that the bounds allow, and there each answer is what
--- its call comes to without a cache
+-- a receipt is explained: it has no pin and no answer; or its pin is one that the bounds allow, and there
+-- each answer is what its call comes to without a cache
 abbrev pub Explains : Next → History → Bounds → Option Pin → List Recorded → Type 0
 Explains next L bounds None answers = answers ≡ []
-Explains next L bounds (Some pin) answers = (answers ≢ []) × IsFresh L bounds pin × AreConsistent next answers (state_at L pin.stamp)
+Explains next L bounds (Some pin) answers = (answers ≢ []) × IsFresh L bounds pin
+    × AreConsistent next answers (state_at L pin.stamp)
 
 -- the stamp that was pinned, and was not added
 abbrev pub left_stamp : PinStep → Option ℕ

@@ -1,6 +1,6 @@
--- Pin sets worked by hand, over a history that was: stamp 2 was pinned at 1000, when the group 2 had an a, and stamp 4 at 2000, when it
--- had an a and a b.
-use Rattle.std.specs.Prelude.{◌≡◌, ℕ, true, false, List, [], ◌∷◌, Some, None}
+-- Pin sets worked by hand, over a history that was: stamp 2 was pinned at 1000, when the group 2 had an a,
+-- and stamp 4 at 2000, when it had an a and a b.
+use Rattle.std.specs.Prelude.{ℕ, false, [], ◌∷◌, Some, None}
 use Rattle.txc_stamp.specs.Interval.{Interval}
 use Rattle.txc_tags.specs.Tags.{group_tag}
 use Rattle.txc_tags.specs.Keys.{Call}
@@ -61,16 +61,34 @@ frame_over reach = record { key = bodies_and_9; answers = 1; reach = Some reach;
 
 -- it asks for the body at 9 next
 abbrev pub open_over : Interval → Calling
-open_over reach = record { top = bodies_and_9; asked = 2; frames = frame_over reach ∷ []; need = Some (needs.Query (ById 1 9)) }
+open_over reach =
+    record {
+      top = bodies_and_9;
+      asked = 2;
+      frames = frame_over reach
+          ∷ [];
+      need = Some (needs.Query (ById 1 9));
+    }
 
--- which pin sets mean what they say: beside the pins that are fresh enough; beside a recorded answer, those at which it is right; and
--- beside an open frame, those in its reach, where its answers are right on all of it
+-- which pin sets mean what they say: beside the pins that are fresh enough; beside a recorded answer, those
+-- at which it is right; and beside an open frame, those in its reach, where its answers are right on all of
+-- it
 pub record WorkedMeanings : Type 0 where
   pub fresh : IsMeant functions worked (within_ms 1500) both_pins [] [] at_rest
   pub too_old : ¬ (IsMeant functions worked (within_ms 1499) both_pins [] [] at_rest)
   pub recorded : IsMeant functions worked (within_ms 1500) (narrowed while_a both_pins) (an_a ∷ []) [] at_rest
-  pub too_new : ¬ (IsMeant functions worked (within_ms 1500) (record { members = newer_pin ∷ []; has_present = false }) (an_a ∷ []) [] at_rest)
-  pub open_frame : IsMeant functions worked (within_ms 1500) (narrowed while_a both_pins) [] runs_it (open_over while_a)
-  pub outside : ¬ (IsMeant functions worked (within_ms 1500) (record { members = newer_pin ∷ older_pin ∷ []; has_present = false }) [] runs_it (open_over while_a))
-  pub too_wide : ¬ (IsMeant functions worked (within_ms 1500) (narrowed while_a both_pins) [] runs_it (open_over (record { lo = 1; known = 3; still = false })))
+  pub too_new : ¬ (IsMeant functions worked (within_ms 1500) (record {
+    members = newer_pin
+        ∷ [];
+    has_present = false;
+  }) (an_a ∷ []) [] at_rest)
+  pub open_frame : IsMeant functions worked (within_ms 1500) (narrowed while_a both_pins) [] runs_it
+      (open_over while_a)
+  pub outside : ¬ (IsMeant functions worked (within_ms 1500) (record {
+    members = newer_pin ∷ older_pin
+        ∷ [];
+    has_present = false;
+  }) [] runs_it (open_over while_a))
+  pub too_wide : ¬ (IsMeant functions worked (within_ms 1500) (narrowed while_a both_pins) [] runs_it
+      (open_over (record { lo = 1; known = 3; still = false })))
   pub with_present : ¬ (IsMeant functions worked (within_ms 1500) both_pins [] runs_it (open_over while_a))

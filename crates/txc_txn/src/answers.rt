@@ -19,7 +19,8 @@ use txc_shared::App;
 use txc_validity::Found;
 
 impl TxnCore {
-    ghost use Rattle.txc_txn.specs.Core.{open_call, recorded_after, taken_after, value_of, CoreHolds, IsAnswered, IsAsk, IsCore, IsRight, IsTurn, PinsAfter};
+    ghost use Rattle.txc_txn.specs.Core.{open_call, recorded_after, taken_after, value_of, CoreHolds};
+    ghost use Rattle.txc_txn.specs.Core.{IsAnswered, IsAsk, IsCore, IsRight, IsTurn, PinsAfter};
     ghost use Rattle.txc_txn.specs.Leading.{ReplyLeads};
 
     // Sees what the reply shows of the history.
@@ -45,12 +46,14 @@ impl TxnCore {
         requires reply { IsAnswered (value_of self.old) (PortReply.Pin pinned) }
         ensures fits { IsCore A.next registry.new (value_of self.new) }
         ensures holds { (L : History) → IsRight A.next L self.old.machine.need (PortReply.Pin pinned)
-            → CoreHolds A.next L registry.old (value_of self.old) → CoreHolds A.next L registry.new (value_of self.new) }
+            → CoreHolds A.next L registry.old (value_of self.old)
+            → CoreHolds A.next L registry.new (value_of self.new) }
         ensures turn { IsTurn (value_of self.new) result }
         ensures recorded { self.old.recorded.items
             ≡ recorded_after self.old.recorded.items result (open_call (value_of self.old)) }
         ensures goes_on { IsAsk result → open_call (value_of self.new) ≡ open_call (value_of self.old) }
-        ensures leads { ReplyLeads A.next (value_of self.old) registry.old (PortReply.Pin pinned) (value_of self.new) registry.new result }
+        ensures leads { ReplyLeads A.next (value_of self.old) registry.old (PortReply.Pin pinned)
+            (value_of self.new) registry.new result }
         ensures same { value_of self.new
             ≡ record (value_of self.old) { call = self.new.machine; pinning = self.new.pinning } }
     {
@@ -83,11 +86,13 @@ impl TxnCore {
             → CoreHolds A.next L registry.new (value_of self.new) }
         ensures turn { IsTurn (value_of self.new) result }
         ensures pins { PinsAfter (value_of self.old) (PortReply.AddPin pinned.now added) self.new.pins }
-        ensures taken { self.new.taken.items ≡ taken_after self.old.taken.items (PortReply.AddPin pinned.now added) }
+        ensures taken { self.new.taken.items
+            ≡ taken_after self.old.taken.items (PortReply.AddPin pinned.now added) }
         ensures recorded { self.new.recorded.items
             ≡ recorded_after self.old.recorded.items result (open_call (value_of self.old)) }
         ensures goes_on { IsAsk result → open_call (value_of self.new) ≡ open_call (value_of self.old) }
-        ensures leads { ReplyLeads A.next (value_of self.old) registry.old (PortReply.AddPin pinned.now added) (value_of self.new) registry.new result }
+        ensures leads { ReplyLeads A.next (value_of self.old) registry.old (PortReply.AddPin pinned.now added)
+            (value_of self.new) registry.new result }
         ensures same { value_of self.new ≡ record (value_of self.old) {
           pins = self.new.pins;
           taken = self.new.taken.items;
@@ -114,7 +119,10 @@ impl TxnCore {
     }
 
     // The hold of a pin that was not added is gone: the call is refused for the reason.
-    pub(crate) fn answer_unpin<A: App, C: Cacheable>(&mut self, registry: &mut Registry<A, C>) -> Turn
+    pub(crate) fn answer_unpin<A: App, C: Cacheable>(
+        &mut self,
+        registry: &mut Registry<A, C>,
+    ) -> Turn
         requires fits { IsCore A.next registry.old (value_of self.old) }
         requires reply { IsAnswered (value_of self.old) PortReply.Unpin }
         ensures fits { IsCore A.next registry.new (value_of self.new) }
@@ -124,10 +132,18 @@ impl TxnCore {
         ensures recorded { self.old.recorded.items
             ≡ recorded_after self.old.recorded.items result (open_call (value_of self.old)) }
         ensures ended { ¬ (IsAsk result) }
-        ensures leads { ReplyLeads A.next (value_of self.old) registry.old PortReply.Unpin (value_of self.new) registry.new result }
-        ensures same { value_of self.new ≡ record (value_of self.old) { call = self.new.machine; pinning = None } }
+        ensures leads { ReplyLeads A.next (value_of self.old) registry.old PortReply.Unpin
+            (value_of self.new) registry.new result }
+        ensures same { value_of self.new
+            ≡ record (value_of self.old) { call = self.new.machine; pinning = None } }
     {
-        let Some(Pinning { step: PinStep::Dropping(_, error), first: _ }) = &self.pinning else {
+        let Some(
+            Pinning {
+                step: PinStep::Dropping(_, error),
+                first: _,
+            },
+        ) = &self.pinning
+        else {
             unreachable!()
         };
         let error = *error;
@@ -145,13 +161,15 @@ impl TxnCore {
         requires reply { IsAnswered (value_of self.old) (PortReply.Lookup hit) }
         ensures fits { IsCore A.next registry.new (value_of self.new) }
         ensures holds { (L : History) → IsRight A.next L self.old.machine.need (PortReply.Lookup hit)
-            → CoreHolds A.next L registry.old (value_of self.old) → CoreHolds A.next L registry.new (value_of self.new) }
+            → CoreHolds A.next L registry.old (value_of self.old)
+            → CoreHolds A.next L registry.new (value_of self.new) }
         ensures turn { IsTurn (value_of self.new) result }
         ensures pins { PinsAfter (value_of self.old) (PortReply.Lookup hit) self.new.pins }
         ensures recorded { self.new.recorded.items
             ≡ recorded_after self.old.recorded.items result (open_call (value_of self.old)) }
         ensures goes_on { IsAsk result → open_call (value_of self.new) ≡ open_call (value_of self.old) }
-        ensures leads { ReplyLeads A.next (value_of self.old) registry.old (PortReply.Lookup hit) (value_of self.new) registry.new result }
+        ensures leads { ReplyLeads A.next (value_of self.old) registry.old (PortReply.Lookup hit)
+            (value_of self.new) registry.new result }
         ensures same { value_of self.new ≡ record (value_of self.old) {
           pins = self.new.pins;
           recorded = self.new.recorded.items;
@@ -180,13 +198,15 @@ impl TxnCore {
         requires reply { IsAnswered (value_of self.old) (PortReply.Query found) }
         ensures fits { IsCore A.next registry.new (value_of self.new) }
         ensures holds { (L : History) → IsRight A.next L self.old.machine.need (PortReply.Query found)
-            → CoreHolds A.next L registry.old (value_of self.old) → CoreHolds A.next L registry.new (value_of self.new) }
+            → CoreHolds A.next L registry.old (value_of self.old)
+            → CoreHolds A.next L registry.new (value_of self.new) }
         ensures turn { IsTurn (value_of self.new) result }
         ensures pins { PinsAfter (value_of self.old) (PortReply.Query found) self.new.pins }
         ensures recorded { self.new.recorded.items
             ≡ recorded_after self.old.recorded.items result (open_call (value_of self.old)) }
         ensures goes_on { IsAsk result → open_call (value_of self.new) ≡ open_call (value_of self.old) }
-        ensures leads { ReplyLeads A.next (value_of self.old) registry.old (PortReply.Query found) (value_of self.new) registry.new result }
+        ensures leads { ReplyLeads A.next (value_of self.old) registry.old (PortReply.Query found)
+            (value_of self.new) registry.new result }
         ensures same { value_of self.new ≡ record (value_of self.old) {
           pins = self.new.pins;
           recorded = self.new.recorded.items;
@@ -216,14 +236,16 @@ impl TxnCore {
         requires reply { IsAnswered (value_of self.old) reply }
         ensures fits { IsCore A.next registry.new (value_of self.new) }
         ensures holds { (L : History) → IsRight A.next L self.old.machine.need reply
-            → CoreHolds A.next L registry.old (value_of self.old) → CoreHolds A.next L registry.new (value_of self.new) }
+            → CoreHolds A.next L registry.old (value_of self.old)
+            → CoreHolds A.next L registry.new (value_of self.new) }
         ensures turn { IsTurn (value_of self.new) result }
         ensures pins { PinsAfter (value_of self.old) reply self.new.pins }
         ensures taken { self.new.taken.items ≡ taken_after self.old.taken.items reply }
         ensures recorded { self.new.recorded.items
             ≡ recorded_after self.old.recorded.items result (open_call (value_of self.old)) }
         ensures goes_on { IsAsk result → open_call (value_of self.new) ≡ open_call (value_of self.old) }
-        ensures leads { ReplyLeads A.next (value_of self.old) registry.old reply (value_of self.new) registry.new result }
+        ensures leads { ReplyLeads A.next (value_of self.old) registry.old reply
+            (value_of self.new) registry.new result }
         ensures same { value_of self.new ≡ record (value_of self.old) {
           pins = self.new.pins;
           taken = self.new.taken.items;
@@ -239,10 +261,8 @@ impl TxnCore {
             PortReply::Lookup(hit) => self.answer_lookup(alloc, registry, hit),
             PortReply::Query(found) => self.answer_query(alloc, registry, found),
             PortReply::Insert => self.go_on(alloc, registry, Reply::Inserted),
-            PortReply::Fresh(_)
-            | PortReply::GiveBack
-            | PortReply::Hold(_)
-            | PortReply::Commit(_) => unreachable!(),
+            PortReply::Fresh(_) | PortReply::GiveBack | PortReply::Hold(_) | PortReply::Commit(_) =>
+                unreachable!(),
         }
     }
 }

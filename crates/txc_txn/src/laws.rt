@@ -1,5 +1,7 @@
 //! What the meaning of a pin set comes to. Each is a lemma: it has no code.
-ghost use Rattle.txc_txn.specs.Laws.{MeaningStays, MeaningBegins, FindingNarrows, QueryLeavesAMember, PresentJoins, PresentIsFresh, FewerMembersMeanTheSame, CallBegins, CallIsGivenUp, ValueIsRecorded, OpenAnswersAreRight, NewestExplains};
+ghost use Rattle.txc_txn.specs.Laws.{MeaningStays, MeaningBegins, FindingNarrows, QueryLeavesAMember};
+ghost use Rattle.txc_txn.specs.Laws.{PresentJoins, PresentIsFresh, FewerMembersMeanTheSame, CallBegins};
+ghost use Rattle.txc_txn.specs.Laws.{CallIsGivenUp, ValueIsRecorded, OpenAnswersAreRight, NewestExplains};
 ghost use Rattle.txc_txn.specs.Worked.{WorkedMeanings};
 
 use txc_db::states_stay;

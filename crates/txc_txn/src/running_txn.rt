@@ -15,8 +15,8 @@ use txc_shared::App;
 use txc_stamp::Stamp;
 use txc_tags::Key;
 
-/// A read-only transaction with the registry of its functions. In the history that it has seen, its pin set means what it
-/// says.
+/// A read-only transaction with the registry of its functions. In the history that it has seen, its pin set
+/// means what it says.
 #[derive(Drop)]
 pub struct RunningTxn<A: App, C: Cacheable> {
     core: TxnCore,
@@ -35,7 +35,8 @@ impl<A: App, C: Cacheable> Model for RunningTxn<A, C> {
 }
 
 impl<A: App, C: Cacheable> RunningTxn<A, C> {
-    ghost use Rattle.txc_txn.specs.Core.{left_pin, open_call, receipt_pin, value_of, Explains, IsAnswered, IsAsk, IsIdle, IsNoValue, IsTurn};
+    ghost use Rattle.txc_txn.specs.Core.{left_pin, open_call, receipt_pin, value_of, Explains, IsAnswered};
+    ghost use Rattle.txc_txn.specs.Core.{IsAsk, IsIdle, IsNoValue, IsTurn};
     ghost use Rattle.txc_txn.specs.Kept.{HasGoneOn, IsKept, IsShownRight};
     ghost use Rattle.txc_txn.specs.Leading.{StartLeads};
 
@@ -68,7 +69,8 @@ impl<A: App, C: Cacheable> RunningTxn<A, C> {
         ensures begins { IsAsk result → open_call self.new.core ≡ Some key }
         ensures no_value { IsNoValue result }
         ensures leads { StartLeads self.old.core self.old.objects key result }
-        ensures same { self.new.core ≡ record self.old.core { call = self.new.core.call; pinning = self.new.core.pinning } }
+        ensures same { self.new.core
+            ≡ record self.old.core { call = self.new.core.call; pinning = self.new.core.pinning } }
     {
         self.core.start(alloc, &mut self.registry, key)
     }
@@ -84,13 +86,14 @@ impl<A: App, C: Cacheable> RunningTxn<A, C> {
         self.core.next(alloc, &mut self.registry, reply)
     }
 
-    /// Ends the transaction, and returns what explains its answers, the pins to be given back, by their stamps, and the
-    /// registry. It takes no memory.
+    /// Ends the transaction, and returns what explains its answers, the pins to be given back, by their
+    /// stamps, and the registry. It takes no memory.
     pub fn finish(self) -> (Receipt, Vec<Stamp>, Registry<A, C>)
         requires { IsIdle self.core }
         ensures answers { result.0.answers.items ≡ self.core.recorded }
         ensures pin { result.0.pin ≡ receipt_pin self.core.recorded self.core.pins.members }
-        ensures explained { Explains A.next result.0.seen.history self.core.bounds result.0.pin result.0.answers.items }
+        ensures explained { Explains A.next result.0.seen.history self.core.bounds result.0.pin
+            result.0.answers.items }
         ensures seen { result.0.seen ≡ self.core.seen }
         ensures give_back { result.1.items ≡ self.core.taken }
         ensures idle { AllIdle result.2 }
@@ -99,8 +102,8 @@ impl<A: App, C: Cacheable> RunningTxn<A, C> {
         (receipt, give_back, self.registry)
     }
 
-    /// Gives the transaction up, in the middle of a call too, and returns what is left to be done, and the registry. It takes
-    /// no memory.
+    /// Gives the transaction up, in the middle of a call too, and returns what is left to be done, and the
+    /// registry. It takes no memory.
     pub fn cancel(self) -> (Left, Registry<A, C>)
         ensures give_back { result.0.give_back.items ≡ self.core.taken }
         ensures unpin { result.0.unpin ≡ left_pin self.core.pinning }

@@ -1,5 +1,6 @@
 //! The steps of a core between two requests.
-ghost use Rattle.std.specs.Prelude.{◌≡◌, ◌≢◌, ◌<◌, ◌++◌, ◌∷◌, [], ◌↔◌, All, IsErr, IsSome, OnOk, MatchOption, None, Some, true, false, vec_len, vec_capacity};
+ghost use Rattle.std.specs.Prelude.{◌≡◌, ◌≢◌, ◌<◌, ◌++◌, ◌∷◌, [], ◌↔◌, All, IsErr, IsSome, OnOk, MatchOption};
+ghost use Rattle.std.specs.Prelude.{None, Some, true, false, vec_len, vec_capacity};
 ghost use Rattle.txc_stamp.specs.declared.stamp.TheConstants.{LAST_STAMP};
 ghost use Rattle.txc_tags.specs.Keys.{Call};
 ghost use Rattle.txc_rows.specs.declared.query.Query.{Query};
@@ -29,7 +30,9 @@ use txc_stamp::{Reach, Stamp};
 use txc_tags::Key;
 
 impl TxnCore {
-    ghost use Rattle.txc_txn.specs.Core.{least_present, open_call, recorded_after, value_of, CoreHolds, IsAsk, IsCore, IsEnd, IsIdle, IsNarrowed, IsNoValue, IsTurn, WaitsForPin};
+    ghost use Rattle.txc_txn.specs.Core.{least_present, open_call, recorded_after, value_of, CoreHolds};
+    ghost use Rattle.txc_txn.specs.Core.{IsAsk, IsCore, IsEnd, IsIdle, IsNarrowed, IsNoValue, IsTurn};
+    ghost use Rattle.txc_txn.specs.Core.{WaitsForPin};
     ghost use Rattle.txc_txn.specs.Leading.{BeginLeads, CallLeads, IsBeyond, NeedLeads};
 
     // The least stamp that a pin of the present may have; none beyond the last stamp.
@@ -59,7 +62,8 @@ impl TxnCore {
             → CoreHolds A.next L registry.new (value_of self.new) }
         ensures idle { IsIdle (value_of self.new) }
         ensures answer { result ≡ Turn.Refused error }
-        ensures same { value_of self.new ≡ record (value_of self.old) { call = self.new.machine; pinning = None } }
+        ensures same { value_of self.new
+            ≡ record (value_of self.old) { call = self.new.machine; pinning = None } }
     {
         self.machine.cancel(registry);
         self.pinning = None;
@@ -82,11 +86,13 @@ impl TxnCore {
         ensures turn { IsTurn (value_of self.new) result }
         ensures no_value { IsNoValue result }
         ensures begins { (k : Call) → first ≡ Some k → IsAsk result → open_call (value_of self.new) ≡ Some k }
-        ensures goes_on { first ≡ None → IsAsk result → open_call (value_of self.new) ≡ Some self.old.machine.top }
+        ensures goes_on { first ≡ None → IsAsk result
+            → open_call (value_of self.new) ≡ Some self.old.machine.top }
         ensures same_call { IsAsk result → self.new.machine ≡ self.old.machine }
         ensures same_objects { IsAsk result → registry.new ≡ registry.old }
         ensures asks { self.old.pins.members ≡ [] → IsAsk result }
-        ensures refused { ¬ (IsAsk result) → IsBeyond (value_of self.new) × (result ≡ Turn.Refused (TxnError.Database DbError.Full)) }
+        ensures refused { ¬ (IsAsk result) → IsBeyond (value_of self.new)
+            × (result ≡ Turn.Refused (TxnError.Database DbError.Full)) }
         ensures same { value_of self.new
             ≡ record (value_of self.old) { call = self.new.machine; pinning = self.new.pinning } }
     {
@@ -106,15 +112,19 @@ impl TxnCore {
     // Records the value of the call, which has one, and returns a copy of it.
     fn record(&mut self, alloc: Global) -> Turn
         requires { (o : Outcome) × (self.old.machine.need ≡ Some (Need.Value o)) }
-        ensures fits { (next : Next) (objects : Objects) → self.old.pinning ≡ None → IsCore next objects (value_of self.old)
+        ensures fits { (next : Next) (objects : Objects) → self.old.pinning ≡ None
+            → IsCore next objects (value_of self.old)
             → IsCore next objects (value_of self.new) }
-        ensures holds { (next : Next) (objects : Objects) (L : History) → CoreHolds next L objects (value_of self.old)
+        ensures holds { (next : Next) (objects : Objects) (L : History)
+            → CoreHolds next L objects (value_of self.old)
             → CoreHolds next L objects (value_of self.new) }
         ensures need { self.new.machine.need ≡ None }
         ensures ended { IsEnd result }
-        ensures leads { (objects objects' : Objects) → NeedLeads (value_of self.old) objects (value_of self.new) objects' result }
+        ensures leads { (objects objects' : Objects)
+            → NeedLeads (value_of self.old) objects (value_of self.new) objects' result }
         ensures recorded { (next : Next) (objects : Objects) → IsCore next objects (value_of self.old)
-            → self.new.recorded.items ≡ recorded_after self.old.recorded.items result (Some self.old.machine.top) }
+            → self.new.recorded.items
+            ≡ recorded_after self.old.recorded.items result (Some self.old.machine.top) }
         ensures same { value_of self.new ≡ record (value_of self.old) {
           recorded = self.new.recorded.items;
           call = record self.old.machine { need = None };
@@ -157,7 +167,8 @@ impl TxnCore {
         ensures no_value { (k : Call) → self.old.machine.need ≡ Some (Need.Lookup k) → IsNoValue result }
         ensures leads { NeedLeads (value_of self.old) registry.old (value_of self.new) registry.new result }
         ensures lookup { (k : Call) → self.old.machine.need ≡ Some (Need.Lookup k) → IsAsk result }
-        ensures query { (query : Query) → self.old.machine.need ≡ Some (Need.Query query) → self.old.pins.has_present ≡ false → IsAsk result }
+        ensures query { (query : Query) → self.old.machine.need ≡ Some (Need.Query query)
+            → self.old.pins.has_present ≡ false → IsAsk result }
         ensures same { value_of self.new ≡ record (value_of self.old) {
           recorded = self.new.recorded.items;
           call = self.new.machine;
@@ -235,14 +246,17 @@ impl TxnCore {
         requires within { All (λ m. InReach m.stamp (reply_reach reply)) self.old.pins.members }
         requires present { self.old.pins.has_present ≡ true → reply_reach reply ≡ None }
         ensures fits { IsCore A.next registry.new (value_of self.new) }
-        ensures holds { (L : History) → ((need : Need) → self.old.machine.need ≡ Some need → ReplyHolds A.next L need reply)
-            → CoreHolds A.next L registry.old (value_of self.old) → CoreHolds A.next L registry.new (value_of self.new) }
+        ensures holds { (L : History) → ((need : Need) → self.old.machine.need ≡ Some need
+            → ReplyHolds A.next L need reply)
+            → CoreHolds A.next L registry.old (value_of self.old)
+            → CoreHolds A.next L registry.new (value_of self.new) }
         ensures turn { IsTurn (value_of self.new) result }
         ensures recorded { self.new.recorded.items
             ≡ recorded_after self.old.recorded.items result (Some self.old.machine.top) }
         ensures goes_on { IsAsk result → open_call (value_of self.new) ≡ Some self.old.machine.top }
         ensures leads { (need : Need) → self.old.machine.need ≡ Some need
-            → CallLeads A.next (value_of self.old) registry.old need reply (value_of self.new) registry.new result }
+            → CallLeads A.next (value_of self.old) registry.old need reply
+            (value_of self.new) registry.new result }
         ensures same { value_of self.new ≡ record (value_of self.old) {
           recorded = self.new.recorded.items;
           call = self.new.machine;
@@ -260,7 +274,8 @@ impl TxnCore {
         requires { self.old.pinning ≡ None }
         ensures fits { (next : Next) (objects : Objects) → IsCore next objects (value_of self.old)
             → IsCore next objects (value_of self.new) }
-        ensures holds { (next : Next) (objects : Objects) (L : History) → CoreHolds next L objects (value_of self.old)
+        ensures holds { (next : Next) (objects : Objects) (L : History)
+            → CoreHolds next L objects (value_of self.old)
             → CoreHolds next L objects (value_of self.new) }
         ensures pins { IsNarrowed reach self.old.pins self.new.pins }
         ensures refused { IsErr result ↔ (kept reach self.old.pins.members ≡ []) }
@@ -278,9 +293,11 @@ impl TxnCore {
     pub(crate) fn join_pin(&mut self, pinned: &Pinned)
         requires present { self.old.pins.has_present ≡ true }
         requires newer { All (λ m. m.stamp < pinned.now.stamp) self.old.pins.members }
-        ensures fits { (next : Next) (objects : Objects) → self.old.pinning ≡ None → IsCore next objects (value_of self.old)
+        ensures fits { (next : Next) (objects : Objects) → self.old.pinning ≡ None
+            → IsCore next objects (value_of self.old)
             → IsCore next objects (value_of self.new) }
-        ensures holds { (next : Next) (objects : Objects) (L : History) → IsFresh L self.old.bounds (pin_of pinned.now)
+        ensures holds { (next : Next) (objects : Objects) (L : History)
+            → IsFresh L self.old.bounds (pin_of pinned.now)
             → CoreHolds next L objects (value_of self.old) → CoreHolds next L objects (value_of self.new) }
         ensures same { value_of self.new ≡ record (value_of self.old) {
           pins = with_present (pin_of pinned.now) self.old.pins;

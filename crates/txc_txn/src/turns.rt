@@ -43,11 +43,14 @@ fn receipt_pin(recorded: &[Recorded], members: &[Pin]) -> Option<Pin>
 }
 
 impl TxnCore {
-    ghost use Rattle.txc_txn.specs.Core.{begun_core, left_pin, open_call, recorded_after, taken_after, value_of, CoreHolds, Explains, IsAnswered, IsAsk, IsCore, IsIdle, IsNoValue, IsRight, IsTurn, KeepsSettings, PinsAfter};
+    ghost use Rattle.txc_txn.specs.Core.{begun_core, left_pin, open_call, recorded_after, taken_after};
+    ghost use Rattle.txc_txn.specs.Core.{value_of, CoreHolds, Explains, IsAnswered, IsAsk, IsCore, IsIdle};
+    ghost use Rattle.txc_txn.specs.Core.{IsNoValue, IsRight, IsTurn, KeepsSettings, PinsAfter};
     ghost use Rattle.txc_txn.specs.Leading.{ReplyLeads, StartLeads};
 
-    /// Begins with the pins that it was handed for its bounds. Its calls are kept by one of so many nodes, and its newest pin is
-    /// renewed where its moment is more than `renew_after` milliseconds before the bounds' `now`.
+    /// Begins with the pins that it was handed for its bounds. Its calls are kept by one of so many nodes,
+    /// and its newest pin is renewed where its moment is more than `renew_after` milliseconds before the
+    /// bounds' `now`.
     pub fn begin(
         alloc: Global,
         nodes: usize,
@@ -56,19 +59,17 @@ impl TxnCore {
         pins: Pins,
     ) -> Result<TxnCore, AllocError>
         requires { 1 ≤ nodes }
-        ensures fits { IfOk result (λ core. (next : Next) (objects : Objects) → AllIdle objects → IsCore next objects (value_of core)) }
+        ensures fits { IfOk result (λ core. (next : Next) (objects : Objects) → AllIdle objects
+            → IsCore next objects (value_of core)) }
         ensures holds { IfOk result (λ core. (next : Next) (L : History) (objects : Objects)
             → All (IsFresh L bounds) pins.pins.items → CoreHolds next L objects (value_of core)) }
         ensures idle { IfOk result (λ core. IsIdle (value_of core)) }
-        ensures answer { IfOk result (λ core. value_of core ≡ begun_core nodes renew_after bounds pins (value_of core).call) }
+        ensures answer { IfOk result (λ core. value_of core
+            ≡ begun_core nodes renew_after bounds pins (value_of core).call) }
     {
         let set = PinSet::begin(alloc, &pins)?;
         let taken = stamps_of(alloc, &pins.pins)?;
-        let Pins {
-            pins: _,
-            front,
-            ..
-        } = pins;
+        let Pins { pins: _, front, .. } = pins;
         Ok(TxnCore {
             bounds,
             renew_after,
@@ -121,32 +122,36 @@ impl TxnCore {
         requires row { ForSome (front_of reply) (λ front. front.events ≡ (value_of self.old).seen.events) }
         ensures fits { IsCore A.next registry.new (value_of self.new) }
         ensures holds { (L M : History) → IsPrefix L M → CoreHolds A.next L registry.old (value_of self.old)
-            → IsRight A.next M (value_of self.old).call.need reply → CoreHolds A.next M registry.new (value_of self.new) }
+            → IsRight A.next M (value_of self.old).call.need reply
+            → CoreHolds A.next M registry.new (value_of self.new) }
         ensures turn { IsTurn (value_of self.new) result }
         ensures pins { PinsAfter (value_of self.old) reply (value_of self.new).pins }
         ensures taken { (value_of self.new).taken ≡ taken_after (value_of self.old).taken reply }
         ensures recorded { (value_of self.new).recorded
             ≡ recorded_after (value_of self.old).recorded result (open_call (value_of self.old)) }
         ensures goes_on { IsAsk result → open_call (value_of self.new) ≡ open_call (value_of self.old) }
-        ensures leads { ReplyLeads A.next (value_of self.old) registry.old reply (value_of self.new) registry.new result }
+        ensures leads { ReplyLeads A.next (value_of self.old) registry.old reply
+            (value_of self.new) registry.new result }
         ensures settings { KeepsSettings (value_of self.old) (value_of self.new) }
         ensures events { (value_of self.new).seen.events ≡ (value_of self.old).seen.events }
         ensures longer { IsPrefix (value_of self.old).seen.history (value_of self.new).seen.history }
-        ensures shown { ForSome (front_of reply) (λ front. IsPrefix front.history (value_of self.new).seen.history) }
+        ensures shown { ForSome (front_of reply)
+            (λ front. IsPrefix front.history (value_of self.new).seen.history) }
     {
         states_stay();
         self.see(&reply);
         self.answer(alloc, registry, reply)
     }
 
-    /// Ends the transaction, and returns what explains its answers, and the pins to be given back, by their stamps. It takes no
-    /// memory.
+    /// Ends the transaction, and returns what explains its answers, and the pins to be given back, by their
+    /// stamps. It takes no memory.
     pub fn finish(self) -> (Receipt, Vec<Stamp>)
         requires idle { IsIdle (value_of self) }
         requires answered { (value_of self).recorded ≢ [] → (value_of self).pins.members ≢ [] }
         ensures answers { result.0.answers.items ≡ (value_of self).recorded }
         ensures pin { result.0.pin ≡ receipt_pin (value_of self).recorded (value_of self).pins.members }
-        ensures explained { (next : Next) (L : History) (objects : Objects) → CoreHolds next L objects (value_of self)
+        ensures explained { (next : Next) (L : History) (objects : Objects)
+            → CoreHolds next L objects (value_of self)
             → Explains next L (value_of self).bounds result.0.pin result.0.answers.items }
         ensures seen { result.0.seen ≡ (value_of self).seen }
         ensures give_back { result.1.items ≡ (value_of self).taken }
@@ -160,8 +165,8 @@ impl TxnCore {
         (receipt, self.taken)
     }
 
-    /// Gives the transaction up, in the middle of a call too, and returns what is left to be done. Every object is idle then. It
-    /// takes no memory.
+    /// Gives the transaction up, in the middle of a call too, and returns what is left to be done. Every
+    /// object is idle then. It takes no memory.
     pub fn cancel<A: App, C: Cacheable>(self, registry: &mut Registry<A, C>) -> Left
         requires { IsCore A.next registry.old (value_of self) }
         ensures idle { AllIdle registry.new }

@@ -9,7 +9,8 @@ use txc_stamp::Stamp;
 
 /// A read-only transaction that asks for one port request at a time, and goes on with the reply.
 ///
-/// It has no lock, no thread and no clock. The registry of its functions is lent to each call, always the same one.
+/// It has no lock, no thread and no clock. The registry of its functions is lent to each call, always the
+/// same one.
 #[derive(Drop)]
 pub struct TxnCore {
     pub(crate) bounds: Bounds,
@@ -24,4 +25,3 @@ pub struct TxnCore {
     pub(crate) seen: HistoryFront,
     ghost room: { pins.has_present ≡ true → vec_len taken < vec_capacity taken },
 }
-

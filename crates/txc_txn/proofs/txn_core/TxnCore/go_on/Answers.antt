@@ -1,6 +1,5 @@
 use Rattle.std.proofs.Common.{Ok, Err, ap}
 use Rattle.txc_call.specs.Needs.{reply_reach}
-use Rattle.txc_call.specs.Calling.{CallHolds}
 use Rattle.txc_ports.specs.declared.turn.Turn.TheVariants.{Refused}
 use Rattle.txc_txn.specs.Core.{value_of}
 use Rattle.txc_txn.proofs.Cores.{common, core_went_on, holds_went_on, need_stands}
