@@ -1,7 +1,8 @@
 -- The steps of the meaning of a pin set.
-use Rattle.std.proofs.Common.{◌≡◌, ℕ, true, List, [], ◌∷◌, ◌++◌, Option, Some, None, refl, sym, ap, subst, ◌∙◌, arith, All, Contains}
+use Rattle.std.proofs.Common.{◌≡◌, ℕ, zero, suc, true, slice_get, take, append-nil, append_assoc, List, [], ◌∷◌, ◌++◌, Option, Some, None, refl, sym, ap, subst, ◌∙◌, arith, All, Contains}
 use Rattle.std.proofs.lemmas.List.Elements.{All-cons, All-push, All-weaker, All-contains, All-nil, All-head, Contains-get_or}
 use Rattle.txc_stamp.specs.Interval.{Interval, Holds}
+use Rattle.txc_tags.specs.Keys.{Call}
 use Rattle.txc_rows.specs.States.{State}
 use Rattle.txc_db.specs.History.{History, state_at}
 use Rattle.txc_db.specs.Laws.{StatesStay}
@@ -10,7 +11,12 @@ use Rattle.txc_pinset.specs.Members.{PinSetValue, kept, narrowed}
 use Rattle.txc_pinset.specs.Laws.{KeepsExactlyTheHeld, NeverIsEmpty}
 use Rattle.txc_shared.specs.Eval.{Next, eval}
 use Rattle.txc_shared.specs.Claims.{HoldsOver, ValueHolds}
-use Rattle.txc_shared.specs.Answering.{AreRight, queries_for}
+use Rattle.std.specs.List.{AllByRecursion}
+use Rattle.txc_shared.specs.declared.ask.Ask.{Ask}
+use Rattle.txc_shared.specs.declared.ask.Ask.TheVariants as asks
+use Rattle.txc_shared.specs.declared.ask.Answer.{Answer}
+use Rattle.txc_shared.specs.declared.ask.Answer.TheVariants as answers
+use Rattle.txc_shared.specs.Answering.{AreRight, IsRight, queries_after, queries_for, queries_of}
 use Rattle.txc_registry.specs.Objects.{Objects}
 use Rattle.txc_call.specs.declared.frame.Frame.{Frame}
 use Rattle.txc_call.specs.declared.need.Need.{Need}
@@ -24,7 +30,7 @@ use Rattle.txc_ports.specs.declared.bounds.Bounds.{Bounds}
 use Rattle.txc_ports.specs.declared.recorded.Recorded.{Recorded}
 use Rattle.txc_ports.specs.Answers.{IsFresh, AreConsistent}
 use Rattle.txc_txn.specs.Meaning.{IsMeant, LieWithin}
-use Rattle.txc_txn.specs.Laws.{MeaningStays, MeaningBegins, FindingNarrows, QueryLeavesAMember, PresentJoins, PresentIsFresh, FewerMembersMeanTheSame, CallBegins, CallIsGivenUp, ValueIsRecorded, FramesAreRight, OpenAnswersAreRight, NewestExplains}
+use Rattle.txc_txn.specs.Laws.{MeaningStays, MeaningBegins, FindingNarrows, QueryLeavesAMember, PresentJoins, PresentIsFresh, FewerMembersMeanTheSame, CallBegins, CallIsGivenUp, ValueIsRecorded, FramesAreRight, OpenAnswersAreRight, NewestExplains, UnreachedAnswersAreValues, IsValueAnswer}
 use Rattle.txc_txn.proofs.Longer.{pin_within, same_state, fresh_later, need_later}
 
 -- ---- lists
@@ -232,6 +238,36 @@ pub open_answers_are_right : OpenAnswersAreRight
 open_answers_are_right next L bounds pins recorded objects call h =
     All-weaker (λ (p : Pin). InCall p.stamp call) (λ (p : Pin). FramesAreRight next objects (state_at L p.stamp) call.frames)
     (λ p inside. frames_at next L objects p.stamp call.frames (frames_hold next L objects call.need call.frames h.right) inside.1) pins.members h.within
+
+-- ---- answers without a reach
+
+nothing_before : {X : Type 0} (xs ys : List X) → xs ++ ys ≡ [] → (xs ≡ []) × (ys ≡ [])
+nothing_before [] ys none = (refl, none)
+nothing_before (x ∷ xs) ys none = absurd (cc none)
+
+-- rows answer a query alone
+no_rows : (next : Next) (f : ℕ) (s : State) (ask : Option Ask) (x : Answer) → IsRight next f s ask x → queries_of next s ask ≡ [] → IsValueAnswer x
+no_rows next f s ask (answers.Value bytes) right none = tt
+no_rows next f s None (answers.Rows rows) right none = right
+no_rows next f s (Some (asks.Query q)) (answers.Rows rows) right none = absurd (cc none)
+no_rows next f s (Some (asks.Call k)) (answers.Rows rows) right none = let is = right.is in absurd (cc is)
+no_rows next f s (Some (asks.Done bytes)) (answers.Rows rows) right none = right
+
+values_after : (next : Next) (k : Call) (s : State) (before given : List Answer)
+    → ((i : ℕ) (x : Answer) → slice_get given i ≡ Some x → IsRight next k.function s (next k.function k.args (before ++ take i given)) x)
+    → queries_after next k s before given ≡ [] → AllByRecursion IsValueAnswer given
+values_after next k s before [] right none = tt
+values_after next k s before (a ∷ given) right none =
+    let both = nothing_before (queries_of next s (next k.function k.args before)) (queries_after next k s (before ++ a ∷ []) given) none in
+    let first : IsRight next k.function s (next k.function k.args before) a = subst (λ (xs : List Answer). IsRight next k.function s (next k.function k.args xs) a) (append-nil before) (right 0 a refl) in (
+      no_rows next k.function s (next k.function k.args before) a first both.0,
+      values_after next k s (before ++ a ∷ []) given
+      (λ i x is. subst (λ (xs : List Answer). IsRight next k.function s (next k.function k.args xs) x) (sym (append_assoc before (a ∷ []) (take i given))) (right (suc i) x is))
+      both.1,
+    )
+
+pub unreached_answers_are_values : UnreachedAnswersAreValues
+unreached_answers_are_values next L k given tags h = values_after next k [] [] given (h []).0 (h []).1
 
 pub newest_explains : NewestExplains
 newest_explains next L bounds pins recorded objects call newest older h is = (

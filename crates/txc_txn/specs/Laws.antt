@@ -1,21 +1,25 @@
 -- What the meaning of a pin set comes to, step by step.
 use Rattle.std.specs.Prelude.{◌≡◌, ◌≢◌, ℕ, ◌<◌, ◌≤◌, true, List, [], ◌∷◌, ◌++◌, All, Option, Some, None}
+use Rattle.std.specs.List.{AllByRecursion}
 use mathlib.Core.List.{IsPrefix}
 use Rattle.txc_stamp.specs.Interval.{Interval, Holds}
 use Rattle.txc_tags.specs.Keys.{Call}
+use Rattle.txc_tags.specs.declared.tag.Tag.{Tag}
 use Rattle.txc_rows.specs.States.{State}
 use Rattle.txc_db.specs.History.{History, state_at, moment_at}
 use Rattle.txc_cushion.specs.declared.pin.Pin.{Pin}
 use Rattle.txc_cushion.specs.Pinning.{Falls}
 use Rattle.txc_pinset.specs.Members.{PinSetValue, IsPinSet, begun, kept, narrowed, with_present}
 use Rattle.txc_shared.specs.Eval.{Next}
+use Rattle.txc_shared.specs.declared.ask.Answer.{Answer}
+use Rattle.txc_shared.specs.declared.ask.Answer.TheVariants as answers
 use Rattle.txc_shared.specs.Answering.{AreRight}
 use Rattle.txc_registry.specs.Objects.{Objects}
 use Rattle.txc_call.specs.declared.frame.Frame.{Frame}
 use Rattle.txc_call.specs.declared.need.Need.TheVariants as needs
 use Rattle.txc_call.specs.declared.need.Outcome.{Outcome}
 use Rattle.txc_call.specs.Reaches.{InReach}
-use Rattle.txc_call.specs.Frames.{answers_in}
+use Rattle.txc_call.specs.Frames.{answers_in, AnswersHold}
 use Rattle.txc_call.specs.Calling.{Calling, started, CallHolds, InCall, CallIsUnreached}
 use Rattle.txc_ports.specs.declared.bounds.Bounds.{Bounds}
 use Rattle.txc_ports.specs.declared.recorded.Recorded.{Recorded}
@@ -135,6 +139,16 @@ OpenAnswersAreRight =
     (objects : Objects) (call : Calling)
     → IsMeant next L bounds pins recorded objects call
     → All (λ p. FramesAreRight next objects (state_at L p.stamp) call.frames) pins.members
+
+-- the answer is the value of a call
+abbrev pub IsValueAnswer : Answer → Type 0
+IsValueAnswer (answers.Value bytes) = Unit {0}
+IsValueAnswer (answers.Rows rows) = ⊥
+
+-- what a frame without a reach was given are values of calls, and no rows
+abbrev pub UnreachedAnswersAreValues : Type 0
+UnreachedAnswersAreValues = (next : Next) (L : History) (k : Call) (given : List Answer) (tags : List Tag)
+    → AnswersHold next L k given None tags → AllByRecursion IsValueAnswer given
 
 -- the newest member explains what was recorded: the bounds allow it, and each recorded answer is right there
 abbrev pub NewestExplains : Type 0

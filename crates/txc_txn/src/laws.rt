@@ -1,7 +1,8 @@
 //! What the meaning of a pin set comes to. Each is a lemma: it has no code.
 ghost use Rattle.txc_txn.specs.Laws.{MeaningStays, MeaningBegins, FindingNarrows, QueryLeavesAMember};
 ghost use Rattle.txc_txn.specs.Laws.{PresentJoins, PresentIsFresh, FewerMembersMeanTheSame, CallBegins};
-ghost use Rattle.txc_txn.specs.Laws.{CallIsGivenUp, ValueIsRecorded, OpenAnswersAreRight, NewestExplains};
+ghost use Rattle.txc_txn.specs.Laws.{CallIsGivenUp, ValueIsRecorded, OpenAnswersAreRight};
+ghost use Rattle.txc_txn.specs.Laws.{UnreachedAnswersAreValues, NewestExplains};
 ghost use Rattle.txc_txn.specs.Worked.{WorkedMeanings};
 
 use txc_db::states_stay;
@@ -42,6 +43,7 @@ pub fn members_come_and_go()
 pub fn answers_are_explained()
     ensures recorded { ValueIsRecorded }
     ensures frames { OpenAnswersAreRight }
+    ensures values { UnreachedAnswersAreValues }
     ensures newest { NewestExplains }
 {}
 

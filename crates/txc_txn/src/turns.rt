@@ -1,5 +1,5 @@
 //! What a core does: it begins, answers calls, and ends.
-ghost use Rattle.std.specs.Prelude.{◌≡◌, ◌≢◌, ◌≤◌, [], All, IfOk, Some, map, vec_len, vec_capacity, ◌<◌};
+ghost use Rattle.std.specs.Prelude.{◌≡◌, ◌≢◌, ◌≤◌, [], All, IfErr, IfOk, Some, map, vec_len, vec_capacity, ◌<◌};
 ghost use Rattle.std.specs.Option.{ForSome};
 ghost use mathlib.Core.List.{IsPrefix};
 ghost use Rattle.txc_db.specs.History.{History};
@@ -50,14 +50,15 @@ impl TxnCore {
 
     /// Begins with the pins that it was handed for its bounds. Its calls are kept by one of so many nodes,
     /// and its newest pin is renewed where its moment is more than `renew_after` milliseconds before the
-    /// bounds' `now`.
+    /// bounds' `now`. Out of memory, it hands the pins back, each of which is still to be given back to the
+    /// pincushion.
     pub fn begin(
         alloc: Global,
         nodes: usize,
         renew_after: u64,
         bounds: Bounds,
         pins: Pins,
-    ) -> Result<TxnCore, AllocError>
+    ) -> Result<TxnCore, Pins>
         requires { 1 ≤ nodes }
         ensures fits { IfOk result (λ core. (next : Next) (objects : Objects) → AllIdle objects
             → IsCore next objects (value_of core)) }
@@ -66,9 +67,14 @@ impl TxnCore {
         ensures idle { IfOk result (λ core. IsIdle (value_of core)) }
         ensures answer { IfOk result (λ core. value_of core
             ≡ begun_core nodes renew_after bounds pins (value_of core).call) }
+        ensures handed_back { IfErr result (λ given. given ≡ pins) }
     {
-        let set = PinSet::begin(alloc, &pins)?;
-        let taken = stamps_of(alloc, &pins.pins)?;
+        let Ok(set) = PinSet::begin(alloc, &pins) else {
+            return Err(pins);
+        };
+        let Ok(taken) = stamps_of(alloc, &pins.pins) else {
+            return Err(pins);
+        };
         let Pins { pins: _, front, .. } = pins;
         Ok(TxnCore {
             bounds,
