@@ -1,0 +1,83 @@
+use std::alloc::AllocError;
+use thiserror::Error;
+use txc_call::CallError;
+use txc_cushion::AddError;
+use txc_db::DbError;
+use txc_stamp::Stamp;
+
+/// Why a call or a query of a transaction was refused. The transaction is open after it, and its answers are unchanged.
+#[derive(Clone, Copy, Debug, PartialEq, Eq, Error)]
+pub enum TxnError {
+    /// The call itself was refused.
+    #[error("{0}")]
+    Call(CallError),
+    /// The database refused a query or a pin.
+    #[error("{0}")]
+    Database(DbError),
+    /// The database keeps the snapshot no longer; its horizon is given.
+    #[error("the snapshot is gone: the horizon is {0}")]
+    SnapshotLost(Stamp),
+    /// The pincushion did not take the pin of the present. The pin's event stands, and its hold was given back.
+    #[error("the pincushion takes no pin")]
+    PinsFull,
+    /// There are as many changes as a transaction keeps.
+    #[error("too many changes")]
+    BufferFull,
+    /// A growth was refused.
+    #[error("out of memory")]
+    Memory,
+}
+
+impl From<CallError> for TxnError {
+    ghost use Rattle.std.specs.Prelude.{◌≡◌};
+    ghost use Rattle.txc_ports.specs.Refusals.{refused_call};
+
+    ghost from_gives = { λ cause it. it ≡ refused_call cause };
+
+    fn from(cause: CallError) -> TxnError {
+        match cause {
+            CallError::Memory => TxnError::Memory,
+            cause => TxnError::Call(cause),
+        }
+    }
+}
+
+impl From<DbError> for TxnError {
+    ghost use Rattle.std.specs.Prelude.{◌≡◌};
+    ghost use Rattle.txc_ports.specs.Refusals.{refused_request};
+
+    ghost from_gives = { λ cause it. it ≡ refused_request cause };
+
+    fn from(cause: DbError) -> TxnError {
+        match cause {
+            DbError::SnapshotGone(horizon) => TxnError::SnapshotLost(horizon),
+            DbError::Memory => TxnError::Memory,
+            cause => TxnError::Database(cause),
+        }
+    }
+}
+
+impl From<AddError> for TxnError {
+    ghost use Rattle.std.specs.Prelude.{◌≡◌};
+    ghost use Rattle.txc_ports.specs.Refusals.{refused_pin};
+
+    ghost from_gives = { λ cause it. it ≡ refused_pin cause };
+
+    fn from(cause: AddError) -> TxnError {
+        match cause {
+            AddError::Full | AddError::Known(_) => TxnError::PinsFull,
+            AddError::Memory => TxnError::Memory,
+        }
+    }
+}
+
+impl From<AllocError> for TxnError {
+    ghost use Rattle.std.specs.Prelude.{◌≡◌};
+    ghost use Rattle.txc_ports.specs.declared.error.TxnError.TheVariants.{Memory};
+
+    ghost from_gives = { λ _ it. it ≡ Memory };
+
+    fn from(_: AllocError) -> TxnError {
+        TxnError::Memory
+    }
+}

@@ -1,0 +1,9 @@
+use txc_node::Value;
+use txc_tags::Key;
+
+/// A call that was answered, and its value.
+#[derive(Debug, Drop)]
+pub struct Recorded {
+    pub key: Key,
+    pub value: Value,
+}
