@@ -27,7 +27,7 @@ use Rattle.txc_call.specs.Calling.{Calling, CallHolds, InCall, IsCalling}
 use Rattle.txc_rw.specs.declared.given.Given.{Given}
 use Rattle.txc_rw.specs.declared.given.Given.TheVariants as given
 use Rattle.txc_rw.specs.Answers.{AgreeOn, AreRightIn, IsRightIn, committed, state_of}
-use Rattle.txc_rw.specs.Core.{RwValue, RwHolds, IsBegun, IsRw, only_one}
+use Rattle.txc_rw.specs.Core.{RwValue, RwHolds, IsBegun, IsOneMore, IsRw, only_one}
 use Rattle.txc_rw.proofs.Reached.{changes_of, reached}
 
 -- ---- agreement
@@ -84,6 +84,28 @@ module _ (next : Next) (L : History) (objects : Objects) (c : RwValue) (h : RwHo
 
   pub right_at_base : AreRightIn next (state_at L c.base) c.answers
   right_at_base = right_where c.base (λ q there. refl)
+
+-- its call is given up
+at_rest_holds : (next : Next) (M : History) (objects : Objects) (call : Calling) → call.frames ≡ [] → call.need ≡ None → CallHolds next M objects call
+at_rest_holds next M objects call empty none = rw (none, empty) tt
+
+pub given_up : (next : Next) (L : History) (objects : Objects) (c : RwValue) → RwHolds next L objects c
+    → (objects' : Objects) (call : Calling) (reading : Option Query) → call.frames ≡ [] → call.need ≡ None
+    → RwHolds next L objects' (record c { call = call; reading = reading })
+given_up next L objects c h objects' call reading empty none =
+    holds_moved next L objects c h objects' call reading (λ M hold. at_rest_holds next M objects' call empty none)
+
+-- rows that are right at the base are one answer more, or were dropped
+pub rows_given : (next : Next) (L : History) (objects : Objects) (c c' : RwValue) (q : Query) (rows : List RowValue) → Contains c.queried q → rows ≡ answer q (state_at L c.base)
+    → IsOneMore (given.Rows q rows) c.answers c'.answers → c' ≡ record c { answers = c'.answers } → RwHolds next L objects c → RwHolds next L objects c'
+rows_given next L objects c c' q rows there is more same h =
+    subst (λ (w : RwValue). RwHolds next L objects w) (sym same)
+    (⊎_elim
+    (λ (one : c'.answers ≡ c.answers ++ given.Rows q rows ∷ []).
+        subst (λ (xs : List Given). RwHolds next L objects (record c { answers = xs })) (sym one)
+        (holds_more next L objects c h objects c.call (given.Rows q rows) (λ changes agree. is ∙ sym (agree q there)) (λ M hold. hold)))
+    (λ (none : c'.answers ≡ c.answers). subst (λ (xs : List Given). RwHolds next L objects (record c { answers = xs })) (sym none) h)
+    more)
 
 -- ---- rows
 

@@ -1,5 +1,6 @@
 -- A read-write transaction: what it waits for, and what is true of it.
-use Rattle.std.specs.Prelude.{◌≡◌, ◌⊎◌, ℕ, ◌<◌, ◌≤◌, List, [], ◌∷◌, ◌++◌, length, map, Option, Some, None, Result, Ok, Err, false}
+use Rattle.std.specs.Prelude.{◌≡◌, ◌⊎◌, ℕ, ◌<◌, ◌≤◌, List, [], ◌∷◌, ◌++◌, length, map, Vec, vec_len, vec_capacity, Option, Some, None, Result, Ok, Err, false}
+use Rattle.std.specs.declared.alloc.Global.{Global}
 use Rattle.txc_stamp.specs.Interval.{Interval}
 use Rattle.txc_tags.specs.declared.tag.Tag.{Tag}
 use Rattle.txc_tags.specs.Keys.{Call}
@@ -58,10 +59,10 @@ IsReady None tags count room = Unit {0}
 IsReady (Some r) tags count room = (r.tags ≡ with_tag (query_tag r.query) tags) × (count < room)
 
 -- the tags are those of the queries that were answered, no more changes are kept than may be, and the next query is ready
-pub record IsKept (tags : List Tag) (queried : List Query) (room : ℕ) (changes : List Change) (reading : Option Reading) : Type 0 where
-  pub exact : tags ≡ tags_of queried
+pub record IsKept (tags : List Tag) (queried : Vec Query Global) (changes : List Change) (reading : Option Reading) : Type 0 where
+  pub exact : tags ≡ tags_of queried.items
   pub few : length changes ≤ MAX_CHANGES
-  pub ready : IsReady reading tags (length queried) room
+  pub ready : IsReady reading tags (vec_len queried) (vec_capacity queried)
 
 -- ---- what is true of a core
 

@@ -33,7 +33,6 @@ pub struct RwCore {
 }
 
 impl Model for RwCore {
-    ghost use Rattle.std.specs.Prelude.{vec_capacity};
     ghost use Rattle.txc_rw.specs.Core.{asked_query, RwValue, IsKept};
 
     ghost Value = { RwValue };
@@ -47,7 +46,7 @@ impl Model for RwCore {
       reading = asked_query c.reading;
     } };
 
-    ghost invariant = { λ c. IsKept c.tags c.queried.items (vec_capacity c.queried) c.changes.items c.reading };
+    ghost invariant = { λ c. IsKept c.tags c.queried c.changes.items c.reading };
 }
 
 impl RwCore {

@@ -15,7 +15,7 @@ loop-reply-preserved g c = record {
   at_one = c.in_ok-reply.ensures.within 1 (subst (λ (r : Option Interval). InReach 1 r) (sym c.in-Some.ensures.3) tt) c.loop-reply.invariant.at_one;
   holds = λ L h.
       c.in_ok-reply.ensures.holds L c.in-Some.ensures.0 c.in-Some.ensures.1
-      (nothing_handed_in g.A.App.next L c.in-Some.ensures.0 c.in-Some.reply c.in-Some.ensures.2.0 c.in-Some.ensures.3)
+      (nothing_handed_in g.A.App.next L c.in-Some.ensures.0 c.in-Some.reply c.in-Some.ensures.2 c.in-Some.ensures.3)
       (c.loop-reply.invariant.holds L h);
   same_top = c.reply.ensures.same_top ∙ c.loop-reply.invariant.same_top;
 }

@@ -1,4 +1,4 @@
-use Rattle.std.proofs.Common.{◌≡◌, List, sym, ap, subst, ◌∙◌}
+use Rattle.std.proofs.Common.{◌≡◌, List, sym, ap, subst, arith, ◌∙◌}
 use Rattle.txc_tags.specs.declared.tag.Tag.{Tag}
 use Rattle.txc_tags.specs.Tags.{with_tag}
 use Rattle.txc_rows.specs.declared.query.Query.{Query}
@@ -12,6 +12,6 @@ invariant_of-self-2 c = record {
   few = c.self.invariant.few;
   ready = (
     c.in_ok-add.ensures.after ∙ ap (λ (t : Tag). with_tag t c.in_ok-tags.tags) c.tag.ensures ∙ ap (λ (set : List Tag). with_tag (query_tag c.args.query.now) set) c.in_ok-tags.ensures,
-    let room = c.in_ok-reserve.ensures.ok in let long = c.reserve.new.self.len-is in omega (arith, room),
+    let room = c.in_ok-reserve.ensures.ok in omega (arith, room),
   );
 }
