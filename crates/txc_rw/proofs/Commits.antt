@@ -1,9 +1,8 @@
 -- What a commit did.
-use Rattle.std.proofs.Common.{◌≡◌, ◌⊎◌, inl, inr, ⊎_elim, ℕ, zero, suc, ◌+◌, ◌-◌, ◌<◌, ◌≤◌, false, List, refl, sym, ap, subst, ◌∙◌, arith, Contains}
-use Rattle.txc_tags.specs.Tags.{sets_match}
+use Rattle.std.proofs.Common.{◌≡◌, ◌⊎◌, inl, inr, ⊎_elim, ℕ, zero, suc, ◌+◌, ◌-◌, ◌≤◌, List, sym, ap, ◌∙◌, arith, Contains}
 use Rattle.txc_rows.specs.declared.query.Query.{Query}
 use Rattle.txc_rows.specs.States.{answer}
-use Rattle.txc_db.specs.History.{History, state_at, tags_at}
+use Rattle.txc_db.specs.History.{History, state_at}
 use Rattle.txc_db.specs.Refusals.{NoneMatches}
 use Rattle.txc_db.specs.Laws.{EventTagsAreSound}
 use Rattle.txc_db.specs.Shared.{IsQuietIn, IsEventIn}
@@ -11,7 +10,7 @@ use Rattle.txc_shared.specs.Eval.{Next}
 use Rattle.txc_registry.specs.Objects.{Objects}
 use Rattle.txc_rw.specs.Answers.{AgreeOn}
 use Rattle.txc_rw.specs.Core.{RwValue, RwHolds, tags_of, tags_read}
-use Rattle.txc_rw.specs.Outcomes.{IsCommitted, HasChanged, HasChangedNothing}
+use Rattle.txc_rw.specs.Outcomes.{IsCommitted}
 use Rattle.txc_rw.proofs.Holding.{right_where}
 use Rattle.txc_rw.proofs.Lists.{tags_cover}
 

@@ -1,5 +1,5 @@
 -- How often a call that uses no node may still ask.
-use Rattle.std.proofs.Common.{◌≡◌, ◌⊎◌, ⊎_elim, ℕ, suc, ◌-◌, ◌<◌, ◌≤◌, Option, Some, None, refl, sym, subst, arith}
+use Rattle.std.proofs.Common.{◌≡◌, ⊎_elim, ℕ, suc, ◌-◌, ◌<◌, ◌≤◌, Option, Some, None, refl, sym, subst, arith}
 use Rattle.txc_call.specs.declared.frames.TheConstants.{MAX_CALL_ASKS}
 use Rattle.txc_call.specs.declared.need.Need.{Need}
 use Rattle.txc_call.specs.declared.need.Need.TheVariants as needs
@@ -41,7 +41,7 @@ less old need reply asked c is fits on most =
     let was : left old asked ≡ suc (MAX_CALL_ASKS - asked) = subst (λ (o : Option Need). left o asked ≡ suc (MAX_CALL_ASKS - asked)) (sym is) (left_some need reply asked fits) in
     ⊎_elim
     (λ (done : (o : Outcome) × (c.need ≡ Some (needs.Value o))).
-        let none : left c.need c.asked ≡ 0 = subst (λ (n : Option Need). left n c.asked ≡ 0) (sym done.1) refl in
-        omega (arith, was, none))
+    let none : left c.need c.asked ≡ 0 = subst (λ (n : Option Need). left n c.asked ≡ 0) (sym done.1) refl in
+    omega (arith, was, none))
     (λ (more : asked < c.asked). let at_most = left_most c.need c.asked in omega (arith, was, more, most, at_most))
     on

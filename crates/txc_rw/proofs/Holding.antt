@@ -1,10 +1,16 @@
 -- What is true of a transaction, step by step.
-use Rattle.std.proofs.Common.{◌≡◌, ◌≢◌, ◌⊎◌, inl, inr, ⊎_elim, ℕ, suc, ◌+◌, ◌<◌, ◌≤◌, true, false, List, [], ◌∷◌, ◌++◌, length, length-append, take, Option, Some, None, IsSome, refl, sym, ap, subst, ◌∙◌, arith, All, Contains}
-use Rattle.std.proofs.lemmas.List.Elements.{All-nil, All-push, All-weaker, Contains-append_left, Contains-push, Contains-push_cases}
+use Rattle.std.proofs.Common.{◌≡◌, ◌≢◌, ⊎_elim, ℕ, ◌≤◌, true, List, [], ◌∷◌, ◌++◌, length, length-append, take, Option, Some, None, refl, sym, ap, subst, ◌∙◌, arith, Contains}
+use Rattle.std.specs.Prelude.{is_some, MatchOption, Vec, vec_len, vec_capacity, Result, Ok}
+use Rattle.std.specs.declared.alloc.Global.{Global}
+use Rattle.std.proofs.lemmas.List.Elements.{All-nil, All-push, Contains-append_left, Contains-push}
 use mathlib.Core.List.{IsPrefix}
-use Rattle.txc_stamp.specs.Interval.{Interval, Holds}
+use Rattle.txc_stamp.specs.Interval.{Interval}
 use Rattle.txc_tags.specs.declared.tag.Tag.{Tag}
 use Rattle.txc_tags.specs.Keys.{Call}
+use Rattle.txc_tags.specs.Tags.{with_tag}
+use Rattle.txc_rows.specs.RowTags.{query_tag}
+use Rattle.txc_validity.specs.declared.answer.Found.{Found}
+use Rattle.txc_db.specs.declared.error.DbError.{DbError}
 use Rattle.txc_rows.specs.declared.query.Query.{Query}
 use Rattle.txc_rows.specs.declared.query.Change.{Change}
 use Rattle.txc_rows.specs.States.{RowValue, State, answer}
@@ -19,15 +25,17 @@ use Rattle.txc_call.specs.declared.need.Need.{Need}
 use Rattle.txc_call.specs.declared.need.Need.TheVariants as needs
 use Rattle.txc_call.specs.declared.need.Outcome.{Outcome}
 use Rattle.txc_call.specs.Reaches.{InReach}
-use Rattle.txc_call.specs.Frames.{released, IsStack, FramesHold}
+use Rattle.txc_call.specs.Frames.{released, IsStack}
 use Rattle.txc_call.specs.declared.reply.Reply.{Reply}
 use Rattle.txc_call.specs.declared.reply.Reply.TheVariants as replies
-use Rattle.txc_call.specs.Needs.{reach_of, reply_reach, InNeed, NeedFits, NeedHolds, ReplyFits, ReplyHolds}
+use Rattle.txc_call.specs.Needs.{reach_of, reply_reach, NeedFits, NeedHolds, ReplyFits, ReplyHolds}
 use Rattle.txc_call.specs.Calling.{Calling, CallHolds, InCall, IsCalling}
 use Rattle.txc_rw.specs.declared.given.Given.{Given}
 use Rattle.txc_rw.specs.declared.given.Given.TheVariants as given
 use Rattle.txc_rw.specs.Answers.{AgreeOn, AreRightIn, IsRightIn, committed, state_of}
-use Rattle.txc_rw.specs.Core.{RwValue, RwHolds, IsBegun, IsOneMore, IsRw, only_one}
+use Rattle.txc_rw.specs.Core.{RwValue, RwHolds, IsBegun, IsFoundAt, IsKept, IsOneMore, IsReady, IsRightReply, IsRw, ReadingFits, only_one, tags_of}
+use Rattle.txc_rw.specs.declared.reading.Reading.{Reading}
+use Rattle.txc_rw.proofs.Lists.{tags_push}
 use Rattle.txc_rw.proofs.Reached.{changes_of, reached}
 
 -- ---- agreement
@@ -63,17 +71,22 @@ module _ (next : Next) (L : History) (objects : Objects) (c : RwValue) (h : RwHo
   }
 
   -- one query more was answered
-  pub holds_queried : (q : Query) (objects' : Objects) (call : Calling)
+  pub holds_queried : (q : Query) (objects' : Objects) (call : Calling) (queried : List Query) (reading : Option Query)
+      → queried ≡ c.queried ++ q ∷ [] → reading ≡ None
       → ((changes : List Change) → answer q (state_of changes) ≡ answer q (state_at L c.base)
-          → CallHolds next (committed changes) objects c.call → CallHolds next (committed changes) objects' call)
-      → RwHolds next L objects' (record c { queried = c.queried ++ q ∷ []; call = call; reading = None })
-  holds_queried q objects' call on = record {
-    within = h.within;
-    answers = λ changes agree. h.answers changes (agree_fewer c.queried q (state_at L c.base) (state_of changes) agree);
-    call = λ changes agree.
-        on changes (agree_last c.queried q (state_at L c.base) (state_of changes) agree)
-        (h.call changes (agree_fewer c.queried q (state_at L c.base) (state_of changes) agree));
-  }
+      → CallHolds next (committed changes) objects c.call → CallHolds next (committed changes) objects' call)
+      → RwHolds next L objects' (record c { queried = queried; call = call; reading = reading })
+  holds_queried q objects' call queried reading one_more none on =
+      let fewer : (s t : State) → AgreeOn queried s t → AgreeOn (c.queried ++ q ∷ []) s t = λ s t agree. subst (λ (qs : List Query). AgreeOn qs s t) one_more agree in
+      record {
+        within = h.within;
+        answers = λ changes agree.
+            h.answers changes (agree_fewer c.queried q (state_at L c.base) (state_of changes) (fewer (state_at L c.base) (state_of changes) agree));
+        call = λ changes agree.
+            let both = fewer (state_at L c.base) (state_of changes) agree in
+            on changes (agree_last c.queried q (state_at L c.base) (state_of changes) both)
+            (h.call changes (agree_fewer c.queried q (state_at L c.base) (state_of changes) both));
+      }
 
   -- each answer is right at the base, and where the queries give what they give there
   pub right_where : (t : ℕ) → AgreeOn c.queried (state_at L c.base) (state_at L t) → AreRightIn next (state_at L t) c.answers
@@ -86,7 +99,7 @@ module _ (next : Next) (L : History) (objects : Objects) (c : RwValue) (h : RwHo
   right_at_base = right_where c.base (λ q there. refl)
 
 -- its call is given up
-at_rest_holds : (next : Next) (M : History) (objects : Objects) (call : Calling) → call.frames ≡ [] → call.need ≡ None → CallHolds next M objects call
+pub at_rest_holds : (next : Next) (M : History) (objects : Objects) (call : Calling) → call.frames ≡ [] → call.need ≡ None → CallHolds next M objects call
 at_rest_holds next M objects call empty none = rw (none, empty) tt
 
 pub given_up : (next : Next) (L : History) (objects : Objects) (c : RwValue) → RwHolds next L objects c
@@ -102,8 +115,8 @@ rows_given next L objects c c' q rows there is more same h =
     subst (λ (w : RwValue). RwHolds next L objects w) (sym same)
     (⊎_elim
     (λ (one : c'.answers ≡ c.answers ++ given.Rows q rows ∷ []).
-        subst (λ (xs : List Given). RwHolds next L objects (record c { answers = xs })) (sym one)
-        (holds_more next L objects c h objects c.call (given.Rows q rows) (λ changes agree. is ∙ sym (agree q there)) (λ M hold. hold)))
+    subst (λ (xs : List Given). RwHolds next L objects (record c { answers = xs })) (sym one)
+    (holds_more next L objects c h objects c.call (given.Rows q rows) (λ changes agree. is ∙ sym (agree q there)) (λ M hold. hold)))
     (λ (none : c'.answers ≡ c.answers). subst (λ (xs : List Given). RwHolds next L objects (record c { answers = xs })) (sym none) h)
     more)
 
@@ -121,6 +134,42 @@ rows_at_one changes q rows tags is = record {
       subst (λ (n : ℕ). rows ≡ answer q (state_at (committed changes) n)) (sym one) is;
   covered = λ still t inside. absurd (cc still);
 }
+
+-- what was found for the query that was asked
+pub reply_found : (L : History) (c : RwValue) (reply : Result Found DbError) (found : Found) (q : Query) → reply ≡ Ok found → c.reading ≡ Some q → IsRightReply L c reply
+    → IsFoundAt L c.base q found
+reply_found L c reply found q is asked right = subst (λ (r : Result Found DbError). IsRightReply L c r) is right q asked
+
+-- and, as the call is told it, it holds at the stamp 1
+pub found_at_one : (L : History) (base : ℕ) (changes : List Change) (q : Query) (found told : Found) → told.rows ≡ found.rows → told.reach ≡ only_one → IsFoundAt L base q found
+    → answer q (state_of changes) ≡ answer q (state_at L base) → RowsHold (committed changes) q told.rows.items (Some told.reach) told.tags
+found_at_one L base changes q found told rows reach right agree =
+    subst (λ (i : Interval). RowsHold (committed changes) q told.rows.items (Some i) told.tags) (sym reach)
+    (rows_at_one changes q told.rows.items told.tags (ap (λ (v : Vec RowValue Global). v.items) rows ∙ right.rows ∙ sym agree))
+
+-- the query of an open call is what that needs
+pub need_of_call : (reading : Option Query) (need : Option Need) (q : Query) → ReadingFits reading need → reading ≡ Some q → need ≢ None → need ≡ Some (needs.Query q)
+need_of_call None need q fits is some = absurd (cc is)
+need_of_call (Some p) None q fits is some = absurd (some refl)
+need_of_call (Some p) (Some need) q fits is some =
+    let same : p ≡ q = cc is in
+    ap (λ (n : Need). Some n) (fits ∙ ap (λ (x : Query). needs.Query x) same)
+
+-- the query that was answered is kept
+pub kept_more : (tags : List Tag) (old new : Vec Query Global) (changes : List Change) (reading after : Option Reading) (x : Reading) → IsKept tags old changes reading
+    → reading ≡ Some x → after ≡ None → new.items ≡ old.items ++ x.query ∷ [] → IsKept x.tags new changes after
+kept_more tags old new changes reading after x h is none items =
+    let ready = subst (λ (r : Option Reading). IsReady r tags (vec_len old) (vec_capacity old)) is h.ready in
+    record {
+      exact = ready.0 ∙ ap (λ (set : List Tag). with_tag (query_tag x.query) set) h.exact ∙ sym (tags_push old.items x.query) ∙ ap (λ (qs : List Query). tags_of qs) (sym items);
+      few = h.few;
+      ready = rw none tt;
+    }
+
+-- there is one, by a test
+pub some_by_test : {X : Type 0} (r : Option X) (N : Type 0) (P : X → Type 0) → MatchOption r N P → is_some r ≡ true → (x : X) × P x
+some_by_test None N P h is = absurd (cc is)
+some_by_test (Some x) N P h is = (x, h)
 
 -- ---- values
 
@@ -153,7 +202,6 @@ module _ (next : Next) (objects : Objects) (call : Calling) (o : Outcome) (is : 
       value_at_one next changes o.key o.value o.reach o.tags
       (subst (λ (n : Option Need). InReach 1 (reach_of n)) is inside.0)
       (subst (λ (n : Option Need). NeedHolds next (committed changes) objects n call.frames) is h).0
-
 
 -- a transaction whose call is done
 module _ (next : Next) (objects : Objects) (c : RwValue) (o : Outcome) (is : c.call.need ≡ Some (needs.Value o)) (calling : IsCalling next objects c.call) (inside : InCall 1 c.call) where

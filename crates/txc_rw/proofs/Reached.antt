@@ -2,7 +2,7 @@
 use Rattle.std.proofs.Common.{◌≡◌, ℕ, List, [], ◌∷◌, ◌++◌, take, fold, refl, sym, ap, ◌∙◌}
 use Rattle.txc_rows.specs.declared.query.Change.{Change}
 use Rattle.txc_rows.specs.States.{State, after_change, after_changes}
-use Rattle.txc_db.specs.Facts.{Fact, commit, pin, EventValue, net_of}
+use Rattle.txc_db.specs.Facts.{Fact, commit, pin, net_of}
 use Rattle.txc_db.specs.History.{History, after_event, after_fact, state_at}
 use Rattle.txc_rw.specs.Answers.{state_of}
 

@@ -112,7 +112,10 @@ impl RwCore {
         if self.machine.need().is_none() {
             return self.keep_rows(alloc, query, found.rows);
         }
-        match self.machine.reply(registry, alloc, Reply::Found(at_one(found))) {
+        match self
+            .machine
+            .reply(registry, alloc, Reply::Found(at_one(found)))
+        {
             Ok(()) => self.go_on(alloc, registry),
             Err(error) => Turn::Refused(error.into()),
         }

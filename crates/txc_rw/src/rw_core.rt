@@ -1,6 +1,5 @@
 ghost use Rattle.std.specs.Prelude.{◌≡◌, ◌<◌, ◌≤◌, ◌++◌, ◌∷◌, [], length, IfErr, IsOk, None, OnErr, OnOk};
 
-
 use crate::given::Given;
 use crate::reading::Reading;
 use std::alloc::Global;

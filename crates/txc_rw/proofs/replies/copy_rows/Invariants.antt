@@ -1,4 +1,4 @@
-use Rattle.std.proofs.Common.{◌≡◌, ℕ, take}
+use Rattle.std.proofs.Common.{◌≡◌, take}
 use Rattle.txc_rw.proofs.replies.copy_rows.Given as goal
 
 abbrev pub invariant-loop-row : goal.invariant-loop-row

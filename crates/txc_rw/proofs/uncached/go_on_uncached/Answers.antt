@@ -1,4 +1,4 @@
-use Rattle.std.proofs.Common.{◌≡◌, Option, Some, None, sym, subst, ◌∙◌}
+use Rattle.std.proofs.Common.{Option, sym, subst, ◌∙◌}
 use Rattle.txc_stamp.specs.Interval.{Interval}
 use Rattle.txc_call.specs.Reaches.{InReach}
 use Rattle.txc_rw.proofs.Holding.{nothing_handed_in}

@@ -1,4 +1,4 @@
-use Rattle.std.proofs.Common.{◌≡◌, ℕ, IsSome}
+use Rattle.std.proofs.Common.{◌≡◌, IsSome}
 use Rattle.txc_db.specs.History.{History}
 use Rattle.txc_call.specs.Calling.{CallHolds, InCall, IsCalling}
 use Rattle.txc_rw.proofs.Counting.{left}

@@ -1,4 +1,4 @@
-use Rattle.std.proofs.Common.{◌≡◌, Some, sym, subst, ap}
+use Rattle.std.proofs.Common.{Some, sym, subst, ap}
 use Rattle.txc_ports.specs.declared.request.PortRequest.TheVariants as requests
 use Rattle.txc_rw.specs.Core.{RwHolds, RwValue}
 use Rattle.txc_rw.proofs.Holding.{holds_moved}

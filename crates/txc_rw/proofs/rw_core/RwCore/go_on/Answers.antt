@@ -1,4 +1,4 @@
-use Rattle.std.proofs.Common.{◌≡◌, sym, subst}
+use Rattle.std.proofs.Common.{sym, subst}
 use Rattle.txc_rw.specs.Core.{asked_query, RwHolds, RwValue}
 use Rattle.txc_rw.proofs.Holding.{given_up, holds_moved}
 use Rattle.txc_rw.proofs.rw_core.RwCore.go_on.Goals as goal

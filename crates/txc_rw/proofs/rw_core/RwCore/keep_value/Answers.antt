@@ -1,5 +1,4 @@
-use Rattle.std.proofs.Common.{◌≡◌, Option, None, sym, subst, ap, ◌∙◌}
-use Rattle.txc_db.specs.History.{History}
+use Rattle.std.proofs.Common.{◌≡◌, sym, subst, ap, ◌∙◌}
 use Rattle.txc_call.specs.Calling.{InCall, IsCalling}
 use Rattle.txc_rw.specs.Core.{asked_query, RwHolds, RwValue}
 use Rattle.txc_rw.proofs.Holding.{dropped, ended, recorded}

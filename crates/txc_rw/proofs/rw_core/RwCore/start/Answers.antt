@@ -1,4 +1,4 @@
-use Rattle.std.proofs.Common.{◌≡◌, sym, subst}
+use Rattle.std.proofs.Common.{sym, subst}
 use Rattle.txc_call.specs.Calling.{Calling, CallHolds}
 use Rattle.txc_rw.specs.Core.{asked_query, RwHolds, RwValue}
 use Rattle.txc_rw.proofs.Holding.{holds_moved}
