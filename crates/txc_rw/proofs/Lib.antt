@@ -1,0 +1,5 @@
+mod Commits
+mod Counting
+mod Holding
+mod Lists
+mod Reached

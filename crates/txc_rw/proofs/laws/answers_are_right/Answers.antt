@@ -1,0 +1,9 @@
+use Rattle.txc_rw.proofs.Commits.{commits_are_right}
+use Rattle.txc_rw.proofs.Holding.{right_at_base}
+use Rattle.txc_rw.proofs.laws.answers_are_right.Goals as goal
+
+pub returns-clause-base : goal.returns-clause-base
+returns-clause-base c = right_at_base
+
+pub returns-clause-committed : goal.returns-clause-committed
+returns-clause-committed c = commits_are_right c.tags_are_sound.ensures

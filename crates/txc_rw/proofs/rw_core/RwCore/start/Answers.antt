@@ -1,0 +1,13 @@
+use Rattle.std.proofs.Common.{sym, subst}
+use Rattle.txc_call.specs.Calling.{Calling, CallHolds}
+use Rattle.txc_rw.specs.Core.{asked_query, RwHolds, RwValue}
+use Rattle.txc_rw.proofs.Holding.{holds_moved}
+use Rattle.txc_rw.proofs.rw_core.RwCore.start.Goals as goal
+
+pub returns-in-Ok-clause-holds : goal.returns-in-Ok-clause-holds
+returns-in-Ok-clause-holds g c = λ L h.
+    let was : RwValue = record { base = c.self.inside.base; queried = c.self.inside.queried.items; answers = c.self.inside.answers.items; changes = c.self.inside.changes.items; call = c.self.inside.machine; reading = asked_query c.self.inside.reading } in
+    c.go_on.ensures.holds L
+    (holds_moved g.A.App.next L c.args.registry.now was (subst (λ (w : RwValue). RwHolds g.A.App.next L c.args.registry.now w) (sym c.self.view_is) h)
+    c.args.registry.now c.start.new.self was.reading
+    (λ M hold. subst (λ (w : Calling). CallHolds g.A.App.next M c.args.registry.now w) (sym c.in-Ok.ensures.after) tt))

@@ -1,0 +1,21 @@
+use Rattle.std.proofs.Common.{Option, sym, subst, ◌∙◌}
+use Rattle.txc_stamp.specs.Interval.{Interval}
+use Rattle.txc_call.specs.Reaches.{InReach}
+use Rattle.txc_rw.proofs.Holding.{nothing_handed_in}
+use Rattle.txc_rw.proofs.uncached.go_on_uncached.Goals as goal
+
+pub reply-requires-clause-common : goal.reply-requires-clause-common
+reply-requires-clause-common g c =
+    (1, subst (λ (r : Option Interval). InReach 1 r) (sym c.in-Some.ensures.3) tt, c.loop-reply.invariant.at_one)
+
+pub loop-reply-preserved : goal.loop-reply-preserved
+loop-reply-preserved g c = record {
+  fits = c.reply.ensures.fits;
+  some = c.in_ok-reply.ensures.open;
+  at_one = c.in_ok-reply.ensures.within 1 (subst (λ (r : Option Interval). InReach 1 r) (sym c.in-Some.ensures.3) tt) c.loop-reply.invariant.at_one;
+  holds = λ L h.
+      c.in_ok-reply.ensures.holds L c.in-Some.ensures.0 c.in-Some.ensures.1
+      (nothing_handed_in g.A.App.next L c.in-Some.ensures.0 c.in-Some.reply c.in-Some.ensures.2 c.in-Some.ensures.3)
+      (c.loop-reply.invariant.holds L h);
+  same_top = c.reply.ensures.same_top ∙ c.loop-reply.invariant.same_top;
+}

@@ -1,0 +1,17 @@
+use Rattle.std.proofs.Common.{◌≡◌, IsSome}
+use Rattle.txc_db.specs.History.{History}
+use Rattle.txc_call.specs.Calling.{CallHolds, InCall, IsCalling}
+use Rattle.txc_rw.proofs.Counting.{left}
+use Rattle.txc_rw.proofs.uncached.go_on_uncached.Given as goal
+
+abbrev pub invariant-loop-reply : goal.invariant-loop-reply
+invariant-loop-reply g l = record {
+  fits : IsCalling g.A.App.next l.registry l.machine;
+  some : IsSome l.machine.need;
+  at_one : InCall 1 l.machine;
+  holds : (L : History) → CallHolds g.A.App.next L l.initial.registry l.initial.machine → CallHolds g.A.App.next L l.registry l.machine;
+  same_top : l.machine.top ≡ l.initial.machine.top;
+}
+
+abbrev pub decreases-loop-reply : goal.decreases-loop-reply
+decreases-loop-reply g l = left l.machine.need l.machine.asked

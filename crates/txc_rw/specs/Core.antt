@@ -1,0 +1,198 @@
+-- A read-write transaction: what it waits for, and what is true of it.
+use Rattle.std.specs.Prelude.{◌≡◌, ◌⊎◌, ℕ, ◌<◌, ◌≤◌, List, [], ◌∷◌, ◌++◌, length, map, Vec, vec_len, vec_capacity, Option, Some, None, Result, Ok, Err, false}
+use Rattle.std.specs.declared.alloc.Global.{Global}
+use Rattle.txc_stamp.specs.Interval.{Interval}
+use Rattle.txc_tags.specs.declared.tag.Tag.{Tag}
+use Rattle.txc_tags.specs.Keys.{Call}
+use Rattle.txc_tags.specs.Tags.{set_of, with_tag}
+use Rattle.txc_rows.specs.declared.query.Query.{Query}
+use Rattle.txc_rows.specs.declared.query.Change.{Change}
+use Rattle.txc_rows.specs.RowTags.{query_tag}
+use Rattle.txc_rows.specs.States.{RowValue, answer}
+use Rattle.txc_validity.specs.declared.answer.Found.{Found}
+use Rattle.txc_db.specs.declared.error.DbError.{DbError}
+use Rattle.txc_db.specs.History.{History, state_at}
+use Rattle.txc_shared.specs.Eval.{Next}
+use Rattle.txc_registry.specs.Objects.{Objects}
+use Rattle.txc_call.specs.declared.need.Need.{Need}
+use Rattle.txc_call.specs.declared.need.Need.TheVariants as needs
+use Rattle.txc_call.specs.Calling.{Calling, CallHolds, InCall, IsCalling}
+use Rattle.txc_ports.specs.declared.error.TxnError.{TxnError}
+use Rattle.txc_ports.specs.declared.error.TxnError.TheVariants.{BufferFull, Memory}
+use Rattle.txc_ports.specs.declared.request.PortRequest.TheVariants as requests
+use Rattle.txc_ports.specs.declared.turn.Turn.{Turn}
+use Rattle.txc_ports.specs.declared.turn.Turn.TheVariants.{Ask, Value, Rows, Refused}
+use Rattle.txc_rw.specs.declared.given.Given.{Given}
+use Rattle.txc_rw.specs.declared.given.Given.TheVariants as given
+use Rattle.txc_rw.specs.declared.reading.Reading.{Reading}
+use Rattle.txc_rw.specs.declared.rw_core.TheConstants.{MAX_CHANGES}
+use Rattle.txc_rw.specs.Answers.{AgreeOn, AreRightIn, committed, state_of}
+
+-- What callers see of a core: its base; every query that the database answered it; what it was answered; its changes; its call;
+-- and the query that the database is asked, if one is.
+pub record RwValue : Type 0 where
+  pub base : ℕ
+  pub queried : List Query
+  pub answers : List Given
+  pub changes : List Change
+  pub call : Calling
+  pub reading : Option Query
+
+-- the set of the queries' tags
+abbrev pub tags_of : List Query → List Tag
+tags_of queries = set_of (map query_tag queries)
+
+-- the tags of all that was read
+abbrev pub tags_read : RwValue → List Tag
+tags_read c = tags_of c.queried
+
+-- ---- what is kept
+
+abbrev pub asked_query : Option Reading → Option Query
+asked_query None = None
+asked_query (Some r) = Some r.query
+
+-- the query's tag is among those that will have been read, and there is room for the query
+abbrev pub IsReady : Option Reading → List Tag → ℕ → ℕ → Type 0
+IsReady None tags count room = Unit {0}
+IsReady (Some r) tags count room = (r.tags ≡ with_tag (query_tag r.query) tags) × (count < room)
+
+-- the tags are those of the queries that were answered, no more changes are kept than may be, and the next query is ready
+pub record IsKept (tags : List Tag) (queried : Vec Query Global) (changes : List Change) (reading : Option Reading) : Type 0 where
+  pub exact : tags ≡ tags_of queried.items
+  pub few : length changes ≤ MAX_CHANGES
+  pub ready : IsReady reading tags (vec_len queried) (vec_capacity queried)
+
+-- ---- what is true of a core
+
+-- nothing was asked, answered or changed
+pub record IsBegun (base : ℕ) (c : RwValue) : Type 0 where
+  pub at_base : c.base ≡ base
+  pub queried : c.queried ≡ []
+  pub answers : c.answers ≡ []
+  pub changes : c.changes ≡ []
+  pub frames : c.call.frames ≡ []
+  pub need : c.call.need ≡ None
+  pub reading : c.reading ≡ None
+
+-- no call is open, and no query
+abbrev pub IsIdle : RwValue → Type 0
+IsIdle c = (c.call.need ≡ None) × (c.reading ≡ None)
+
+-- the query is what the call needs, or, where no call is open, the transaction's own; without one no call is open
+abbrev pub ReadingFits : Option Query → Option Need → Type 0
+ReadingFits None need = need ≡ None
+ReadingFits (Some q) None = Unit {0}
+ReadingFits (Some q) (Some need) = need ≡ needs.Query q
+
+-- the stamp 1 alone
+abbrev pub only_one : Interval
+only_one = record { lo = 1; known = 1; still = false }
+
+-- in any history: its call waits for what it needs; what that was given holds at the stamp 1, by which the call knows the one
+-- state that the transaction reads; and the database is asked what is needed
+pub record IsRw (next : Next) (objects : Objects) (c : RwValue) : Type 0 where
+  pub call : IsCalling next objects c.call
+  pub at_one : InCall 1 c.call
+  pub reading : ReadingFits c.reading c.call.need
+
+-- In a history, which has the base: in the state of the base, and in every other in which the queries that were answered give what
+-- they give there, each answer is right, and so is what the open call was given.
+pub record RwHolds (next : Next) (L : History) (objects : Objects) (c : RwValue) : Type 0 where
+  pub within : c.base ≤ length L
+  pub answers : (changes : List Change) → AgreeOn c.queried (state_at L c.base) (state_of changes)
+      → AreRightIn next (state_of changes) c.answers
+  pub call : (changes : List Change) → AgreeOn c.queried (state_at L c.base) (state_of changes)
+      → CallHolds next (committed changes) objects c.call
+
+-- ---- needs
+
+-- the call is done, or needs a query
+abbrev pub needs_no_node : Option Need → Type 0
+needs_no_node None = Unit {0}
+needs_no_node (Some (needs.Lookup key)) = ⊥
+needs_no_node (Some (needs.Query query)) = Unit {0}
+needs_no_node (Some (needs.Insert entry)) = ⊥
+needs_no_node (Some (needs.Value outcome)) = Unit {0}
+
+-- ---- turns
+
+-- the core asks a query at its base, or what it did has ended
+abbrev pub IsTurn : RwValue → Turn → Type 0
+IsTurn c (Ask request) = (q : Query) × (c.reading ≡ Some q) × (request ≡ requests.Query q c.base)
+IsTurn c (Value value) = IsIdle c
+IsTurn c (Rows rows) = IsIdle c
+IsTurn c (Refused error) = IsIdle c
+IsTurn c turn = ⊥
+
+-- a call asks, has its value, or is refused; a query finds its rows, or is refused
+abbrev pub IsOfCall : Turn → Type 0
+IsOfCall (Ask request) = Unit {0}
+IsOfCall (Value value) = Unit {0}
+IsOfCall (Refused error) = Unit {0}
+IsOfCall turn = ⊥
+
+abbrev pub IsOfQuery : Turn → Type 0
+IsOfQuery (Rows rows) = Unit {0}
+IsOfQuery (Refused error) = Unit {0}
+IsOfQuery turn = ⊥
+
+abbrev pub IsOfNeed : Option Need → Turn → Type 0
+IsOfNeed None turn = IsOfQuery turn
+IsOfNeed (Some need) turn = IsOfCall turn
+
+-- the turn asks
+abbrev pub IsAsk : Turn → Type 0
+IsAsk (Ask request) = Unit {0}
+IsAsk turn = ⊥
+
+-- it asks this query at the stamp, or is out of memory
+abbrev pub IsAsked : Query → ℕ → Turn → Type 0
+IsAsked q stamp (Ask request) = request ≡ requests.Query q stamp
+IsAsked q stamp (Refused error) = error ≡ Memory
+IsAsked q stamp turn = ⊥
+
+-- the turn is a refusal
+abbrev pub IsRefused : Turn → Type 0
+IsRefused (Refused error) = Unit {0}
+IsRefused turn = ⊥
+
+-- it is one answer more, or was dropped
+abbrev pub IsOneMore : Given → List Given → List Given → Type 0
+IsOneMore x old new = (new ≡ old ++ x ∷ []) ⊎ (new ≡ old)
+
+-- the rows that were found for the query, if one was asked
+abbrev pub found_rows : Option Query → List RowValue → List Given
+found_rows None rows = []
+found_rows (Some q) rows = given.Rows q rows ∷ []
+
+-- a value of the call, and the rows of the query, are one answer more
+abbrev pub answers_after : List Given → Call → Option Query → Turn → List Given
+answers_after answers k reading (Value value) = answers ++ given.Value k value ∷ []
+answers_after answers k reading (Rows rows) = answers ++ found_rows reading rows.items
+answers_after answers k reading turn = answers
+
+-- ---- replies
+
+-- what was found for the query is its rows at the base, with its tag
+pub record IsFoundAt (L : History) (base : ℕ) (q : Query) (found : Found) : Type 0 where
+  pub rows : found.rows.items ≡ answer q (state_at L base)
+  pub tag : found.tags ≡ query_tag q ∷ []
+
+-- the reply to the query is right in the history
+abbrev pub IsRightReply : History → RwValue → Result Found DbError → Type 0
+IsRightReply L c (Ok found) = (q : Query) → c.reading ≡ Some q → IsFoundAt L c.base q found
+IsRightReply L c (Err error) = Unit {0}
+
+-- a query that was answered is one more
+abbrev pub queried_after : List Query → Option Query → Result Found DbError → List Query
+queried_after queried (Some q) (Ok found) = queried ++ q ∷ []
+queried_after queried reading reply = queried
+
+-- ---- refusals
+
+-- of a change: there are as many as may be; else out of memory
+abbrev pub IsWriteRefused : ℕ → TxnError → Type 0
+IsWriteRefused count BufferFull = MAX_CHANGES ≤ count
+IsWriteRefused count Memory = count < MAX_CHANGES
+IsWriteRefused count error = ⊥

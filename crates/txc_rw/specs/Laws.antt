@@ -1,0 +1,33 @@
+-- What is said of read-write transactions alone.
+use Rattle.std.specs.Prelude.{◌⊎◌, ℕ, ◌≤◌, length}
+use mathlib.Core.List.{IsPrefix}
+use Rattle.txc_db.specs.History.{History, state_at}
+use Rattle.txc_db.specs.Shared.{IsQuietIn, IsEventIn}
+use Rattle.txc_shared.specs.Eval.{Next}
+use Rattle.txc_registry.specs.Objects.{Objects}
+use Rattle.txc_rw.specs.Answers.{AreRightIn}
+use Rattle.txc_rw.specs.Core.{RwValue, RwHolds, IsBegun, tags_read}
+use Rattle.txc_rw.specs.Outcomes.{IsCommitted}
+
+-- a transaction that has just begun, in a history that has its base
+abbrev pub HoldsAtFirst : Type 0
+HoldsAtFirst = (next : Next) (L : History) (objects : Objects) (base : ℕ) (c : RwValue)
+    → IsBegun base c → base ≤ length L → RwHolds next L objects c
+
+-- what holds in a history holds in a longer one
+abbrev pub HoldsInLonger : Type 0
+HoldsInLonger = (next : Next) (L M : History) (objects : Objects) (c : RwValue)
+    → IsPrefix L M → RwHolds next L objects c → RwHolds next M objects c
+
+-- each answer is right at the base
+abbrev pub AnswersAreRight : Type 0
+AnswersAreRight = (next : Next) (L : History) (objects : Objects) (c : RwValue)
+    → RwHolds next L objects c → AreRightIn next (state_at L c.base) c.answers
+
+-- where the database committed the changes of a transaction with the tags of what it read, each answer is right where the changes
+-- were made
+abbrev pub CommitsAreRight : Type 0
+CommitsAreRight = (next : Next) (L : History) (objects : Objects) (c : RwValue) (stamp : ℕ)
+    → RwHolds next L objects c
+    → IsQuietIn L c.base (tags_read c) c.changes stamp ⊎ IsEventIn L c.base (tags_read c) c.changes stamp
+    → IsCommitted next L c stamp

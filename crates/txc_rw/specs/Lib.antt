@@ -1,0 +1,4 @@
+pub mod Answers
+pub mod Core
+pub mod Outcomes
+pub mod Laws

@@ -1,0 +1,21 @@
+//! What the definitions come to. Each is a lemma: it has no code.
+ghost use Rattle.txc_rw.specs.Laws.{AnswersAreRight, CommitsAreRight, HoldsAtFirst, HoldsInLonger};
+
+use txc_db::{states_stay, tags_are_sound};
+
+/// What is true of a transaction that has just begun, and stays true while the history grows.
+pub fn transactions_stay_right()
+    ensures first { HoldsAtFirst }
+    ensures longer { HoldsInLonger }
+{
+    states_stay();
+}
+
+/// Every answer is right at the base, and, once the transaction is committed, at the stamp before its event, or, where
+/// it has none, at the newest stamp.
+pub fn answers_are_right()
+    ensures base { AnswersAreRight }
+    ensures committed { CommitsAreRight }
+{
+    tags_are_sound();
+}

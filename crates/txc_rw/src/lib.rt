@@ -1,0 +1,17 @@
+//! Read-write transactions, which use no cache.
+//!
+//! A transaction reads at its base, the newest stamp when it began, and keeps its changes until it commits. It is
+//! committed where no event after the base has changed what it read.
+#![tactic(auto)]
+
+mod asking;
+mod given;
+pub mod laws;
+mod reading;
+mod replies;
+mod rw_core;
+mod uncached;
+
+pub use given::Given;
+pub use reading::Reading;
+pub use rw_core::{MAX_CHANGES, RwCore};

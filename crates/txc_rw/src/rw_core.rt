@@ -1,0 +1,150 @@
+ghost use Rattle.std.specs.Prelude.{◌≡◌, ◌<◌, ◌≤◌, ◌++◌, ◌∷◌, [], length, IfErr, IsOk, None, OnErr, OnOk};
+
+use crate::given::Given;
+use crate::reading::Reading;
+use std::alloc::Global;
+use std::marker::Model;
+use txc_call::CallMachine;
+use txc_ports::{PortRequest, TxnError};
+use txc_registry::{Cacheable, Registry};
+use txc_rows::{Change, Query};
+use txc_shared::App;
+use txc_stamp::Stamp;
+use txc_tags::TagSet;
+
+/// The most changes of a transaction.
+pub const MAX_CHANGES: usize = 256;
+
+/// A read-write transaction that asks for one query at a time, and goes on with what was found.
+///
+/// It has no lock and no thread, and it uses no node. It begins with the stamp that the database answers to
+/// `PortRequest::Hold`. For a commit it lends its base, its tags and its changes, so that a refused commit leaves it
+/// as it was. The registry of its functions is lent to each call, always the same one.
+#[derive(Drop)]
+pub struct RwCore {
+    pub(crate) base: Stamp,
+    pub(crate) tags: TagSet,
+    pub(crate) queried: Vec<Query>,
+    pub(crate) answers: Vec<Given>,
+    pub(crate) changes: Vec<Change>,
+    pub(crate) machine: CallMachine,
+    pub(crate) reading: Option<Reading>,
+}
+
+impl Model for RwCore {
+    ghost use Rattle.txc_rw.specs.Core.{asked_query, RwValue, IsKept};
+
+    ghost Value = { RwValue };
+
+    ghost view = { λ c. record {
+      base = c.base;
+      queried = c.queried.items;
+      answers = c.answers.items;
+      changes = c.changes.items;
+      call = c.machine;
+      reading = asked_query c.reading;
+    } };
+
+    ghost invariant = { λ c. IsKept c.tags c.queried c.changes.items c.reading };
+}
+
+impl RwCore {
+    ghost use Rattle.txc_registry.specs.Objects.{AllIdle};
+    ghost use Rattle.txc_rw.specs.Core.{tags_read, IsBegun, IsRw, IsWriteRefused};
+
+    /// A transaction whose base is the stamp that is held for it.
+    pub fn begin(alloc: Global, base: Stamp) -> RwCore
+        ensures { IsBegun base result }
+    {
+        RwCore {
+            base,
+            tags: TagSet::new(alloc),
+            queried: Vec::new(alloc),
+            answers: Vec::new(alloc),
+            changes: Vec::new(alloc),
+            machine: CallMachine::new(alloc),
+            reading: None,
+        }
+    }
+
+    /// The stamp at which it reads.
+    pub fn base(&self) -> Stamp
+        ensures { result ≡ self.now.base }
+    {
+        self.base
+    }
+
+    /// The tags of every query that was answered.
+    pub fn tags(&self) -> &TagSet
+        ensures { result.now ≡ tags_read self.now }
+    {
+        &self.tags
+    }
+
+    /// Its changes, in order.
+    pub fn changes(&self) -> &[Change]
+        ensures answer { result.now ≡ self.now.changes }
+        ensures few { length self.now.changes ≤ MAX_CHANGES }
+    {
+        &self.changes
+    }
+
+    /// What it was answered, in order.
+    pub fn answers(&self) -> &[Given]
+        ensures { result.now ≡ self.now.answers }
+    {
+        &self.answers
+    }
+
+    /// One change more. It is refused where there are [`MAX_CHANGES`] already, and dropped then.
+    pub fn write(&mut self, change: Change) -> Result<(), TxnError>
+        ensures after { OnOk result (self.new ≡ record self.old { changes = self.old.changes ++ change ∷ [] }) }
+        ensures only_if { IsOk result → length self.old.changes < MAX_CHANGES }
+        ensures refused { IfErr result (λ error. IsWriteRefused (length self.old.changes) error) }
+        ensures unchanged { OnErr result (self.new ≡ self.old) }
+    {
+        if self.changes.len() >= MAX_CHANGES {
+            return Err(TxnError::BufferFull);
+        }
+        let Ok(()) = self.changes.push(change) else {
+            return Err(TxnError::Memory);
+        };
+        Ok(())
+    }
+
+    /// What is left of it once it was committed: its answers, and that its base is to be unpinned.
+    pub fn finish(self) -> (Vec<Given>, PortRequest)
+        ensures answers { result.0.items ≡ self.answers }
+        ensures unpins { result.1 ≡ PortRequest.Unpin self.base }
+    {
+        let RwCore {
+            base,
+            tags: _,
+            queried: _,
+            answers,
+            changes: _,
+            machine: _,
+            reading: _,
+        } = self;
+        (answers, PortRequest::Unpin(base))
+    }
+
+    /// Gives it up: every object is idle then, and its base is to be unpinned.
+    pub fn cancel<A: App, C: Cacheable>(self, registry: &mut Registry<A, C>) -> PortRequest
+        requires { IsRw A.next registry.old self }
+        ensures idle { AllIdle registry.new }
+        ensures unpins { result ≡ PortRequest.Unpin self.base }
+    {
+        let RwCore {
+            base,
+            tags: _,
+            queried: _,
+            answers: _,
+            changes: _,
+            mut machine,
+            reading: _,
+        } = self;
+        machine.cancel(registry);
+        PortRequest::Unpin(base)
+    }
+}

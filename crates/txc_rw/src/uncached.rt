@@ -1,0 +1,50 @@
+//! Calls that use no node.
+ghost use Rattle.std.specs.Prelude.{◌≡◌, IsSome, MatchOption, None, OnErr, OnOk, Some};
+ghost use Rattle.txc_db.specs.History.{History};
+ghost use Rattle.txc_call.specs.declared.need.Need.{Need};
+ghost use Rattle.txc_call.specs.Calling.{CallHolds, InCall, IsAtRest, IsCalling};
+ghost use Rattle.txc_call.specs.Needs.{reply_reach, ReplyFits};
+ghost use Rattle.txc_rw.specs.Core.{needs_no_node};
+
+use std::alloc::Global;
+use txc_call::{CallError, CallMachine, Need, Reply};
+use txc_registry::{Cacheable, Registry};
+use txc_shared::App;
+
+// The reply of a cache that has nothing and keeps nothing: none where the call needs no node.
+fn reply_of_no_cache(machine: &CallMachine) -> Option<Reply>
+    requires { IsSome machine.now.need }
+    ensures { MatchOption result (needs_no_node machine.now.need)
+        (λ reply. (need : Need) × (machine.now.need ≡ Some need) × ReplyFits need reply × (reply_reach reply ≡ None)) }
+{
+    match machine.need() {
+        Some(Need::Lookup(_)) => Some(Reply::Miss),
+        Some(Need::Insert(_)) => Some(Reply::Inserted),
+        _ => None,
+    }
+}
+
+// Answers every lookup by a miss and passes over every insertion, until the call needs a query or is done.
+pub(crate) fn go_on_uncached<A: App, C: Cacheable>(
+    machine: &mut CallMachine,
+    registry: &mut Registry<A, C>,
+    alloc: Global,
+) -> Result<(), CallError>
+    requires fits { IsCalling A.next registry.old machine.old }
+    requires some { IsSome machine.old.need }
+    requires at_one { InCall 1 machine.old }
+    ensures fits { IsCalling A.next registry.new machine.new }
+    ensures some { OnOk result (IsSome machine.new.need) }
+    ensures no_node { OnOk result (needs_no_node machine.new.need) }
+    ensures rest { OnErr result ((machine.new.need ≡ None) × IsAtRest registry.new machine.new) }
+    ensures at_one { OnOk result (InCall 1 machine.new) }
+    ensures holds { OnOk result ((L : History) → CallHolds A.next L registry.old machine.old
+        → CallHolds A.next L registry.new machine.new) }
+    ensures same_top { machine.new.top ≡ machine.old.top }
+{
+    while let Some(reply) = reply_of_no_cache(machine) {
+        machine.reply(registry, alloc, reply)?;
+        machine.is_within_budget();
+    }
+    Ok(())
+}
