@@ -160,8 +160,8 @@ AnswerLeads next outer asked frame x objects goes_on turn =
     (with_answer objects frame.key.function x.answer) goes_on turn
     )
 
--- what comes of the value of a call: it is the next answer of the innermost frame, or, where there is none, what
--- the whole call comes to
+-- what comes of the value of a call: it is the next answer of the innermost frame, or, where there is none,
+-- what the whole call comes to
 abbrev pub AfterValue : Next → List Frame → ℕ → Outcome → Objects → Turn → Type 0
 AfterValue next [] asked o objects turn = turn ≡ needing [] asked (needs.Value o) objects
 AfterValue next (frame ∷ outer) asked o objects turn =

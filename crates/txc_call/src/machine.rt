@@ -187,8 +187,8 @@ impl CallMachine {
         let _frames = &self.frames;
     }
 
-    /// Starts a call, which needs a lookup first. It is refused where there is no such function. What the last
-    /// call came to is dropped, if it was not taken.
+    /// Starts a call, which needs a lookup first. It is refused where there is no such function. What the
+    /// last call came to is dropped, if it was not taken.
     pub fn start<A: App, C: Cacheable>(
         &mut self,
         registry: &Registry<A, C>,

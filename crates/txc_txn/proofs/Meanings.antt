@@ -262,8 +262,8 @@ values_after next k s before (a ∷ given) right none =
     let first : IsRight next k.function s (next k.function k.args before) a = subst (λ (xs : List Answer). IsRight next k.function s (next k.function k.args xs) a) (append-nil before) (right 0 a refl) in (
       no_rows next k.function s (next k.function k.args before) a first both.0,
       values_after next k s (before ++ a ∷ []) given
-      (λ i x is. subst (λ (xs : List Answer). IsRight next k.function s (next k.function k.args xs) x) (sym (append_assoc before (a ∷ []) (take i given))) (right (suc i) x is))
-      both.1,
+          (λ i x is. subst (λ (xs : List Answer). IsRight next k.function s (next k.function k.args xs) x) (sym (append_assoc before (a ∷ []) (take i given))) (right (suc i) x is))
+          both.1,
     )
 
 pub unreached_answers_are_values : UnreachedAnswersAreValues
