@@ -11,7 +11,7 @@ use Rattle.txc_shared.specs.declared.ask.Answer.{Answer}
 use Rattle.txc_shared.specs.declared.ask.Answer.TheVariants as answers
 use Rattle.txc_shared.specs.Eval.{activation, call_below, eval}
 use Rattle.txc_shared.specs.Answering.{AreRight, IsRight}
-use Rattle.txc_shared.specs.Worked.{functions}
+use Rattle.txc_functions.specs.Program.{program}
 use Rattle.txc_call.specs.Calling.{InCall}
 use Rattle.txc_ports.specs.declared.recorded.Recorded.{Recorded}
 use Rattle.txc_ports.specs.Answers.{IsFresh, AreConsistent}
@@ -26,33 +26,33 @@ newer_fresh = record { shown = refl; allowed = record { moment = 2000; pinned = 
 one_falls : (p : Pin) → Falls (p ∷ [])
 one_falls p = AllPairs-cons (λ (newer older : Pin). older.stamp < newer.stamp) p [] (All-nil (λ (m : Pin). m.stamp < p.stamp)) (λ i j d before below. absurd (omega (arith, below)))
 
-none_recorded : (s : State) → AreConsistent functions [] s
-none_recorded s = All-nil (λ (r : Recorded). eval functions r.key s ≡ Some r.value)
+none_recorded : (s : State) → AreConsistent program [] s
+none_recorded s = All-nil (λ (r : Recorded). eval program r.key s ≡ Some r.value)
 
-an_a_at_2 : AreConsistent functions (an_a ∷ []) (state_at worked 2)
+an_a_at_2 : AreConsistent program (an_a ∷ []) (state_at worked 2)
 unfolding activation call_below
-an_a_at_2 = All-cons (λ (r : Recorded). eval functions r.key (state_at worked 2) ≡ Some r.value) an_a [] refl (All-nil (λ (r : Recorded). eval functions r.key (state_at worked 2) ≡ Some r.value))
+an_a_at_2 = All-cons (λ (r : Recorded). eval program r.key (state_at worked 2) ≡ Some r.value) an_a [] refl (All-nil (λ (r : Recorded). eval program r.key (state_at worked 2) ≡ Some r.value))
 
-b_too_at_4 : AreConsistent functions (an_a ∷ []) (state_at worked 4) → ⊥
+b_too_at_4 : AreConsistent program (an_a ∷ []) (state_at worked 4) → ⊥
 unfolding activation call_below
-b_too_at_4 h = let it = All-head (λ (r : Recorded). eval functions r.key (state_at worked 4) ≡ Some r.value) an_a [] h in cc it
+b_too_at_4 h = let it = All-head (λ (r : Recorded). eval program r.key (state_at worked 4) ≡ Some r.value) an_a [] h in cc it
 
 -- ---- one right answer
 
-one_right : (s : State) → eval functions bodies s ≡ Some (97 ∷ []) → AreRight functions bodies_and_9 s (answers.Value (97 ∷ []) ∷ [])
+one_right : (s : State) → eval program bodies s ≡ Some (97 ∷ []) → AreRight program bodies_and_9 s (answers.Value (97 ∷ []) ∷ [])
 one_right s is zero x there =
     let same : answers.Value (97 ∷ []) ≡ x = cc there in
-    subst (λ (a : Answer). IsRight functions 2 s (functions 2 (2 ∷ 9 ∷ []) []) a) same (record { bytes = 97 ∷ []; is = refl; below = omega arith; value = is })
+    subst (λ (a : Answer). IsRight program 2 s (program 2 (2 ∷ 9 ∷ []) []) a) same (record { bytes = 97 ∷ []; is = refl; below = omega arith; value = is })
 one_right s is (suc i) x there = absurd (cc there)
 
-an_a_from_1_to_2 : (t : ℕ) → 1 ≤ t → t ≤ 2 → eval functions bodies (state_at worked t) ≡ Some (97 ∷ [])
+an_a_from_1_to_2 : (t : ℕ) → 1 ≤ t → t ≤ 2 → eval program bodies (state_at worked t) ≡ Some (97 ∷ [])
 unfolding activation call_below
 an_a_from_1_to_2 zero low high = absurd (omega (arith, low))
 an_a_from_1_to_2 (suc zero) low high = refl
 an_a_from_1_to_2 (suc (suc zero)) low high = refl
 an_a_from_1_to_2 (suc (suc (suc t))) low high = absurd (omega (arith, high))
 
-more_at_3 : (bytes : List ℕ) → answers.Value (97 ∷ []) ≡ answers.Value bytes → eval functions bodies (state_at worked 3) ≡ Some bytes → ⊥
+more_at_3 : (bytes : List ℕ) → answers.Value (97 ∷ []) ≡ answers.Value bytes → eval program bodies (state_at worked 3) ≡ Some bytes → ⊥
 unfolding activation call_below
 more_at_3 bytes same is = cc (same, is)
 
@@ -72,7 +72,7 @@ worked_meanings = record {
   fresh = record {
     set = record { falls = AllPairs-cons (λ (newer older : Pin). older.stamp < newer.stamp) newer_pin (older_pin ∷ []) (one_member (λ m. m.stamp < 4) (omega arith)) (one_falls older_pin); some = λ none. refl };
     fresh = two_members (IsFresh worked (within_ms 1500)) newer_fresh older_fresh;
-    consistent = two_members (λ (p : Pin). AreConsistent functions [] (state_at worked p.stamp)) (none_recorded (state_at worked 4)) (none_recorded (state_at worked 2));
+    consistent = two_members (λ (p : Pin). AreConsistent program [] (state_at worked p.stamp)) (none_recorded (state_at worked 4)) (none_recorded (state_at worked 2));
     right = tt;
     within = two_members (λ (p : Pin). InCall p.stamp at_rest) (tt, tt) (tt, tt);
     unreached = λ present. (refl, tt);
@@ -84,17 +84,17 @@ worked_meanings = record {
   recorded = record {
     set = record { falls = one_falls older_pin; some = λ none. absurd (cc none) };
     fresh = one_member (IsFresh worked (within_ms 1500)) older_fresh;
-    consistent = one_member (λ (p : Pin). AreConsistent functions (an_a ∷ []) (state_at worked p.stamp)) an_a_at_2;
+    consistent = one_member (λ (p : Pin). AreConsistent program (an_a ∷ []) (state_at worked p.stamp)) an_a_at_2;
     right = tt;
     within = one_member (λ (p : Pin). InCall p.stamp at_rest) (tt, tt);
     unreached = λ present. absurd (cc present);
     everywhere = λ present. absurd (cc present);
   };
-  too_new = λ h. b_too_at_4 (All-head (λ (p : Pin). AreConsistent functions (an_a ∷ []) (state_at worked p.stamp)) newer_pin [] h.consistent);
+  too_new = λ h. b_too_at_4 (All-head (λ (p : Pin). AreConsistent program (an_a ∷ []) (state_at worked p.stamp)) newer_pin [] h.consistent);
   open_frame = record {
     set = record { falls = one_falls older_pin; some = λ none. absurd (cc none) };
     fresh = one_member (IsFresh worked (within_ms 1500)) older_fresh;
-    consistent = one_member (λ (p : Pin). AreConsistent functions [] (state_at worked p.stamp)) (none_recorded (state_at worked 2));
+    consistent = one_member (λ (p : Pin). AreConsistent program [] (state_at worked p.stamp)) (none_recorded (state_at worked 2));
     right = (
       record {
         within = omega arith;

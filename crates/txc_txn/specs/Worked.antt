@@ -9,7 +9,7 @@ use Rattle.txc_db.specs.Worked.{worked}
 use Rattle.txc_cushion.specs.declared.pin.Pin.{Pin}
 use Rattle.txc_pinset.specs.Members.{PinSetValue, begun, narrowed}
 use Rattle.txc_shared.specs.declared.ask.Answer.TheVariants as answers
-use Rattle.txc_shared.specs.Worked.{functions, call_of}
+use Rattle.txc_functions.specs.Program.{program, call_of}
 use Rattle.txc_registry.specs.Activity.{running}
 use Rattle.txc_registry.specs.Objects.{Objects}
 use Rattle.txc_call.specs.declared.frame.Frame.{Frame}
@@ -74,21 +74,21 @@ open_over reach =
 -- at which it is right; and beside an open frame, those in its reach, where its answers are right on all of
 -- it
 pub record WorkedMeanings : Type 0 where
-  pub fresh : IsMeant functions worked (within_ms 1500) both_pins [] [] at_rest
-  pub too_old : ¬ (IsMeant functions worked (within_ms 1499) both_pins [] [] at_rest)
-  pub recorded : IsMeant functions worked (within_ms 1500) (narrowed while_a both_pins) (an_a ∷ []) [] at_rest
-  pub too_new : ¬ (IsMeant functions worked (within_ms 1500) (record {
+  pub fresh : IsMeant program worked (within_ms 1500) both_pins [] [] at_rest
+  pub too_old : ¬ (IsMeant program worked (within_ms 1499) both_pins [] [] at_rest)
+  pub recorded : IsMeant program worked (within_ms 1500) (narrowed while_a both_pins) (an_a ∷ []) [] at_rest
+  pub too_new : ¬ (IsMeant program worked (within_ms 1500) (record {
     members = newer_pin
         ∷ [];
     has_present = false;
   }) (an_a ∷ []) [] at_rest)
-  pub open_frame : IsMeant functions worked (within_ms 1500) (narrowed while_a both_pins) [] runs_it
+  pub open_frame : IsMeant program worked (within_ms 1500) (narrowed while_a both_pins) [] runs_it
       (open_over while_a)
-  pub outside : ¬ (IsMeant functions worked (within_ms 1500) (record {
+  pub outside : ¬ (IsMeant program worked (within_ms 1500) (record {
     members = newer_pin ∷ older_pin
         ∷ [];
     has_present = false;
   }) [] runs_it (open_over while_a))
-  pub too_wide : ¬ (IsMeant functions worked (within_ms 1500) (narrowed while_a both_pins) [] runs_it
+  pub too_wide : ¬ (IsMeant program worked (within_ms 1500) (narrowed while_a both_pins) [] runs_it
       (open_over (record { lo = 1; known = 3; still = false })))
-  pub with_present : ¬ (IsMeant functions worked (within_ms 1500) both_pins [] runs_it (open_over while_a))
+  pub with_present : ¬ (IsMeant program worked (within_ms 1500) both_pins [] runs_it (open_over while_a))
