@@ -115,6 +115,18 @@ needs_no_node (Some (needs.Query query)) = Unit {0}
 needs_no_node (Some (needs.Insert entry)) = ⊥
 needs_no_node (Some (needs.Value outcome)) = Unit {0}
 
+-- the call has its value
+abbrev pub IsDone : Option Need → Type 0
+IsDone None = ⊥
+IsDone (Some (needs.Lookup key)) = ⊥
+IsDone (Some (needs.Query query)) = ⊥
+IsDone (Some (needs.Insert entry)) = ⊥
+IsDone (Some (needs.Value outcome)) = Unit {0}
+
+-- the call has its value now; or it had none before, and asked as often or more
+abbrev pub HasCounted : Calling → Calling → Type 0
+HasCounted old new = IsDone new.need ⊎ ((¬ (IsDone old.need)) × (old.asked ≤ new.asked))
+
 -- ---- turns
 
 -- the core asks a query at its base, or what it did has ended

@@ -5,6 +5,7 @@
 #![tactic(auto)]
 
 mod asking;
+mod finding;
 mod given;
 pub mod laws;
 mod reading;
