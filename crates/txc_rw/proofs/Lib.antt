@@ -3,3 +3,4 @@ mod Counting
 mod Holding
 mod Lists
 mod Reached
+mod Turns

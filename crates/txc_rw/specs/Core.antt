@@ -153,6 +153,12 @@ abbrev pub IsOfNeed : Option Need → Turn → Type 0
 IsOfNeed None turn = IsOfQuery turn
 IsOfNeed (Some need) turn = IsOfCall turn
 
+-- a call has its value, or is refused
+abbrev pub IsCallEnd : Turn → Type 0
+IsCallEnd (Value value) = Unit {0}
+IsCallEnd (Refused error) = Unit {0}
+IsCallEnd turn = ⊥
+
 -- the turn asks
 abbrev pub IsAsk : Turn → Type 0
 IsAsk (Ask request) = Unit {0}
@@ -163,6 +169,11 @@ abbrev pub IsAsked : Query → ℕ → Turn → Type 0
 IsAsked q stamp (Ask request) = request ≡ requests.Query q stamp
 IsAsked q stamp (Refused error) = error ≡ Memory
 IsAsked q stamp turn = ⊥
+
+-- the query that the turn asks, and the stamp, if it asks one
+abbrev pub asked_of : Turn → Option (Query × ℕ)
+asked_of (Ask (requests.Query q stamp)) = Some (q, stamp)
+asked_of turn = None
 
 -- the turn is a refusal
 abbrev pub IsRefused : Turn → Type 0

@@ -88,6 +88,7 @@ impl RwCore {
         ensures turn { IsTurn self.new result }
         ensures kind { IsOfCall result }
         ensures answers { self.new.answers ≡ answers_after self.old.answers self.old.call.top None result }
+        ensures open { IsAsk result → IsSome self.new.call.need }
         ensures goes_on { IsAsk result → self.new.call.top ≡ self.old.call.top }
         ensures counted { IsAsk result
             → (¬ (IsDone self.old.call.need)) × (self.old.call.asked ≤ self.new.call.asked) }
@@ -154,6 +155,7 @@ impl RwCore {
         ensures turn { IsTurn self.new result }
         ensures kind { IsOfCall result }
         ensures answers { self.new.answers ≡ answers_after self.old.answers key None result }
+        ensures open { IsAsk result → IsSome self.new.call.need }
         ensures begins { IsAsk result → self.new.call.top ≡ key }
         ensures missing { IsNone (activity_of registry.old key.function)
             → result ≡ Turn.Refused (TxnError.Call (NoFunction key.function)) }

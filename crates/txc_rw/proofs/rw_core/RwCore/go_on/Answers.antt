@@ -30,3 +30,7 @@ returns-in-Some-Query-clause-counted g c = λ asks.
     let is : c.go_on_uncached.new.machine.need ≡ Some (needs.Query c.in-Some-Query.query) = search rules in
     let both = counted_query c.self.inside.machine c.go_on_uncached.new.machine c.in-Some-Query.query is c.in_default.ensures.counted in
     rw (c.ask_of_call.ensures.after asks) (subst (λ (w : RwValue). (¬ (IsDone w.call.need)) × (w.call.asked ≤ c.go_on_uncached.new.machine.asked)) c.self.view_is both)
+
+pub returns-in-Some-Query-clause-open : goal.returns-in-Some-Query-clause-open
+returns-in-Some-Query-clause-open g c = λ asks.
+    rw (c.ask_of_call.ensures.after asks) c.in_default.ensures.some
