@@ -4,3 +4,4 @@ mod Holding
 mod Lists
 mod Reached
 mod Turns
+mod Resting

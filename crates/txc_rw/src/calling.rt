@@ -1,5 +1,5 @@
 //! Calls and queries of a transaction, led to their end at the locked database.
-ghost use Rattle.std.specs.Prelude.{◌≡◌, ◌≤◌, length, IsNone, None, Some};
+ghost use Rattle.std.specs.Prelude.{◌≡◌, ◌≤◌, length, IfErr, IfOk, IsNone, None, Some};
 ghost use mathlib.Core.List.{IsPrefix};
 ghost use Rattle.txc_registry.specs.Objects.{activity_of};
 ghost use Rattle.txc_call.specs.declared.error.CallError.TheVariants.{NoFunction};
@@ -10,9 +10,10 @@ use crate::rw_core::RwCore;
 use std::alloc::Global;
 use std::sync::Wait;
 use txc_db::{Database, HistoryFront, Naming};
+use txc_node::Value;
 use txc_ports::{PortRequest, Turn, TxnError};
 use txc_registry::{Cacheable, Registry};
-use txc_rows::Query;
+use txc_rows::{Query, Row};
 use txc_shared::App;
 use txc_stamp::Stamp;
 use txc_tags::Key;
@@ -24,6 +25,32 @@ fn asked(turn: &Turn) -> Option<(Query, Stamp)>
     match turn {
         Turn::Ask(PortRequest::Query { query, stamp }) => Some((*query, *stamp)),
         _ => None,
+    }
+}
+
+// The value of a call that has ended.
+pub(crate) fn value_of(turn: Turn) -> Result<Value, TxnError>
+    requires { IsCallEnd turn }
+    ensures answer { IfOk result (λ value. turn ≡ Turn.Value value) }
+    ensures refused { IfErr result (λ error. turn ≡ Turn.Refused error) }
+{
+    match turn {
+        Turn::Value(value) => Ok(value),
+        Turn::Refused(error) => Err(error),
+        _ => unreachable!(),
+    }
+}
+
+// The rows of a query that has ended.
+pub(crate) fn rows_of(turn: Turn) -> Result<Vec<Row>, TxnError>
+    requires { IsOfQuery turn }
+    ensures answer { IfOk result (λ rows. turn ≡ Turn.Rows rows) }
+    ensures refused { IfErr result (λ error. turn ≡ Turn.Refused error) }
+{
+    match turn {
+        Turn::Rows(rows) => Ok(rows),
+        Turn::Refused(error) => Err(error),
+        _ => unreachable!(),
     }
 }
 
