@@ -70,3 +70,14 @@ knows_base L base stamp read changes =
     ⊎_elim
     (λ (quiet : IsQuietIn L base read changes stamp). let known = quiet.known in let newest = quiet.newest in omega (arith, known, newest))
     (λ (one : IsEventIn L base read changes stamp). let known = one.known in let newest = one.newest in let more = one.next in omega (arith, known, newest, more))
+
+-- the database's answer to a commit
+abbrev pub Answer : History → ℕ → List Tag → List Change → ℕ → Type 0
+Answer L base read changes stamp = IsQuietIn L base read changes stamp ⊎ IsEventIn L base read changes stamp
+
+-- the answer to what was lent
+pub answer_lent : (L : History) (stamp base base' : ℕ) (read read' : List Tag) (changes changes' : List Change) → base ≡ base' → read ≡ read' → changes ≡ changes'
+    → Answer L base read changes stamp → Answer L base' read' changes' stamp
+answer_lent L stamp base base' read read' changes changes' one two three h =
+    subst (λ (cs : List Change). Answer L base' read' cs stamp) three
+    (subst (λ (r : List Tag). Answer L base' r changes stamp) two (subst (λ (b : ℕ). Answer L b read changes stamp) one h))
