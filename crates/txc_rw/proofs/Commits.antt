@@ -56,12 +56,12 @@ holds_seen stay next L F objects c agree within h =
     ⊎_elim
     (λ (longer : IsPrefix L F). holds_in_longer stay next L F objects c longer h)
     (λ (shorter : IsPrefix F L).
-        let same : state_at L c.base ≡ state_at F c.base = subst (λ (l : History). state_at l c.base ≡ state_at F c.base) shorter.1 (stay F shorter.0 c.base within) in
-        record {
-          within = within;
-          answers = λ changes on. h.answers changes (subst (λ (s : State). AgreeOn c.queried s (state_of changes)) (sym same) on);
-          call = λ changes on. h.call changes (subst (λ (s : State). AgreeOn c.queried s (state_of changes)) (sym same) on);
-        })
+    let same : state_at L c.base ≡ state_at F c.base = subst (λ (l : History). state_at l c.base ≡ state_at F c.base) shorter.1 (stay F shorter.0 c.base within) in
+    record {
+      within = within;
+      answers = λ changes on. h.answers changes (subst (λ (s : State). AgreeOn c.queried s (state_of changes)) (sym same) on);
+      call = λ changes on. h.call changes (subst (λ (s : State). AgreeOn c.queried s (state_of changes)) (sym same) on);
+    })
     agree
 
 -- a commit knows its base

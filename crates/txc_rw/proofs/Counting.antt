@@ -76,10 +76,10 @@ counted_next first old new need reply is fits on h =
     ⊎_elim
     (λ (done : (o : Outcome) × (new.need ≡ Some (needs.Value o))). inl (subst (λ (n : Option Need). IsDone n) (sym done.1) tt))
     (λ (more : old.asked < new.asked).
-        ⊎_elim
-        (λ (done : IsDone old.need). absurd (open_call done))
-        (λ (so_far : (¬ (IsDone first.need)) × (first.asked ≤ old.asked)). let less = so_far.1 in inr (so_far.0, omega (arith, more, less)))
-        h)
+    ⊎_elim
+    (λ (done : IsDone old.need). absurd (open_call done))
+    (λ (so_far : (¬ (IsDone first.need)) × (first.asked ≤ old.asked)). let less = so_far.1 in inr (so_far.0, omega (arith, more, less)))
+    h)
     on
 
 -- a reply that leads to another ask is counted

@@ -123,11 +123,13 @@ impl<'a, J: Naming, A: App, C: Cacheable> RwTxn<'a, J, A, C> {
             self.new.core.answers ≡ self.old.core.answers ++ Given.Value key value ∷ []) }
         ensures unchanged { OnErr result (self.new.core.answers ≡ self.old.core.answers) }
         ensures queried { IsPrefix self.old.core.queried self.new.core.queried }
-        ensures same { self.new ≡ record self.old { core = record self.old.core {
-          queried = self.new.core.queried;
-          answers = self.new.core.answers;
-          call = self.new.core.call;
-        } } }
+        ensures same { self.new ≡ record self.old {
+          core = record self.old.core {
+            queried = self.new.core.queried;
+            answers = self.new.core.answers;
+            call = self.new.core.call;
+          };
+        } }
     {
         answers_are_right();
         let turn = call_at(
@@ -143,18 +145,25 @@ impl<'a, J: Naming, A: App, C: Cacheable> RwTxn<'a, J, A, C> {
     }
 
     /// The rows of the query at its base. A refusal leaves the answers and the changes as they were.
-    pub fn query(&mut self, rt: &impl Wait, alloc: Global, query: Query) -> Result<Vec<Row>, TxnError>
+    pub fn query(
+        &mut self,
+        rt: &impl Wait,
+        alloc: Global,
+        query: Query,
+    ) -> Result<Vec<Row>, TxnError>
         ensures answer { IfOk result (λ rows.
             rows.items ≡ answer query (state_at self.old.history self.old.core.base)) }
         ensures after { IfOk result (λ rows.
             self.new.core.answers ≡ self.old.core.answers ++ Given.Rows query rows.items ∷ []) }
         ensures unchanged { OnErr result (self.new.core.answers ≡ self.old.core.answers) }
         ensures queried { IsPrefix self.old.core.queried self.new.core.queried }
-        ensures same { self.new ≡ record self.old { core = record self.old.core {
-          queried = self.new.core.queried;
-          answers = self.new.core.answers;
-          call = self.new.core.call;
-        } } }
+        ensures same { self.new ≡ record self.old {
+          core = record self.old.core {
+            queried = self.new.core.queried;
+            answers = self.new.core.answers;
+            call = self.new.core.call;
+          };
+        } }
     {
         answers_are_right();
         let turn = query_at(
@@ -171,9 +180,11 @@ impl<'a, J: Naming, A: App, C: Cacheable> RwTxn<'a, J, A, C> {
 
     /// The row is to stand at its table and id once the transaction is committed. It does not see it itself.
     pub fn put(&mut self, row: Row) -> Result<(), TxnError>
-        ensures after { OnOk result (self.new ≡ record self.old { core = record self.old.core {
-          changes = self.old.core.changes ++ Change.Put row ∷ [];
-        } }) }
+        ensures after { OnOk result (self.new ≡ record self.old {
+          core = record self.old.core {
+            changes = self.old.core.changes ++ Change.Put row ∷ [];
+          };
+        }) }
         ensures only_if { IsOk result → length self.old.core.changes < MAX_CHANGES }
         ensures refused { IfErr result (IsWriteRefused (length self.old.core.changes)) }
         ensures unchanged { OnErr result (self.new ≡ self.old) }
@@ -183,9 +194,11 @@ impl<'a, J: Naming, A: App, C: Cacheable> RwTxn<'a, J, A, C> {
 
     /// No row is to stand at the table and id once the transaction is committed.
     pub fn remove(&mut self, table: Table, id: u32) -> Result<(), TxnError>
-        ensures after { OnOk result (self.new ≡ record self.old { core = record self.old.core {
-          changes = self.old.core.changes ++ Change.Remove table id ∷ [];
-        } }) }
+        ensures after { OnOk result (self.new ≡ record self.old {
+          core = record self.old.core {
+            changes = self.old.core.changes ++ Change.Remove table id ∷ [];
+          };
+        }) }
         ensures only_if { IsOk result → length self.old.core.changes < MAX_CHANGES }
         ensures refused { IfErr result (IsWriteRefused (length self.old.core.changes)) }
         ensures unchanged { OnErr result (self.new ≡ self.old) }

@@ -20,7 +20,7 @@ call_at-turn-requires-clause-shown g c = (c.self.invariant.2.holds []).within
 pub invariant_of-self : goal.invariant_of-self
 invariant_of-self g c =
     let two = rested g.A.App.next c.self.inside.seen.history c.call_at-turn.new.registry c.call_at-turn.new.core c.call_at-turn.ensures.fits c.call_at-turn.ensures.idle
-        (c.call_at-turn.ensures.holds (c.self.invariant.2.holds c.self.inside.registry)) in
+    (c.call_at-turn.ensures.holds (c.self.invariant.2.holds c.self.inside.registry)) in
     (c.self.invariant.0, two.0, two.1)
 
 pub returns-clause-answer : goal.returns-clause-answer
@@ -32,7 +32,7 @@ returns-clause-answer g c =
     subst (λ (t : TxnValue). IfOk c.value_of.result (λ v. eval g.A.App.next c.args.key (state_at t.history t.core.base) ≡ Some v)) c.self.view_is
     (if_ok (λ (v : List ℕ). c.call_at-turn.result ≡ turns.Value v) (λ (v : List ℕ). eval g.A.App.next c.args.key (state_at L c.self.inside.core.base) ≡ Some v) c.value_of.result
     (λ v is.
-        subst (λ (n : ℕ). eval g.A.App.next c.args.key (state_at L n) ≡ Some v) base
-        (last_right g.A.App.next (state_at L core'.base) c.self.inside.core.answers core'.answers (given.Value c.args.key v)
-        (c.call_at-turn.ensures.answers ∙ ap (λ (t : Turn). answers_after c.self.inside.core.answers c.args.key None t) is) right))
+    subst (λ (n : ℕ). eval g.A.App.next c.args.key (state_at L n) ≡ Some v) base
+    (last_right g.A.App.next (state_at L core'.base) c.self.inside.core.answers core'.answers (given.Value c.args.key v)
+    (c.call_at-turn.ensures.answers ∙ ap (λ (t : Turn). answers_after c.self.inside.core.answers c.args.key None t) is) right))
     c.value_of.ensures.answer)

@@ -20,7 +20,7 @@ query_at-turn-requires-clause-shown g c = (c.self.invariant.2.holds []).within
 pub invariant_of-self : goal.invariant_of-self
 invariant_of-self g c =
     let two = rested g.A.App.next c.self.inside.seen.history c.query_at-turn.new.registry c.query_at-turn.new.core c.query_at-turn.ensures.fits c.query_at-turn.ensures.idle
-        (c.query_at-turn.ensures.holds (c.self.invariant.2.holds c.self.inside.registry)) in
+    (c.query_at-turn.ensures.holds (c.self.invariant.2.holds c.self.inside.registry)) in
     (c.self.invariant.0, two.0, two.1)
 
 pub returns-clause-answer : goal.returns-clause-answer
@@ -32,7 +32,7 @@ returns-clause-answer g c =
     subst (λ (t : TxnValue). IfOk c.rows_of.result (λ v. v.items ≡ answer c.args.query (state_at t.history t.core.base))) c.self.view_is
     (if_ok (λ (v : Vec RowValue Global). c.query_at-turn.result ≡ turns.Rows v) (λ (v : Vec RowValue Global). v.items ≡ answer c.args.query (state_at L c.self.inside.core.base)) c.rows_of.result
     (λ v is.
-        subst (λ (n : ℕ). v.items ≡ answer c.args.query (state_at L n)) base
-        (last_right g.A.App.next (state_at L core'.base) c.self.inside.core.answers core'.answers (given.Rows c.args.query v.items)
-        (c.query_at-turn.ensures.answers ∙ ap (λ (t : Turn). answers_after c.self.inside.core.answers c.self.inside.core.call.top (Some c.args.query) t) is) right))
+    subst (λ (n : ℕ). v.items ≡ answer c.args.query (state_at L n)) base
+    (last_right g.A.App.next (state_at L core'.base) c.self.inside.core.answers core'.answers (given.Rows c.args.query v.items)
+    (c.query_at-turn.ensures.answers ∙ ap (λ (t : Turn). answers_after c.self.inside.core.answers c.self.inside.core.call.top (Some c.args.query) t) is) right))
     c.rows_of.ensures.answer)

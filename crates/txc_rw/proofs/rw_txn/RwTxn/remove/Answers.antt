@@ -8,5 +8,5 @@ invariant_of-self g c = (
   c.self.invariant.0,
   c.self.invariant.1,
   written_or_not c.write.result g.A.App.next c.self.inside.seen.history c.self.inside.core c.write.new.self (c.self.inside.core.changes ++ Remove c.args.table c.args.id ∷ [])
-  c.write.ensures.after c.write.ensures.unchanged c.self.invariant.2,
+      c.write.ensures.after c.write.ensures.unchanged c.self.invariant.2,
 )
