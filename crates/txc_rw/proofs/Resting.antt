@@ -1,19 +1,15 @@
 -- A transaction between two calls.
-use Rattle.std.proofs.Common.{◌≡◌, List, [], ◌∷◌, ◌++◌, Option, Some, None, Ok, Err, refl, sym, ap, subst, ◌∙◌, All, Contains}
+use Rattle.std.proofs.Common.{◌≡◌, List, [], ◌∷◌, ◌++◌, Option, None, Ok, Err, sym, subst, Contains}
 use Rattle.std.specs.Prelude.{Result, IfOk, OnErr, OnOk}
 use Rattle.std.proofs.lemmas.List.Elements.{All-contains, Contains-push}
-use Rattle.txc_tags.specs.Keys.{Call}
-use Rattle.txc_rows.specs.declared.query.Query.{Query}
 use Rattle.txc_rows.specs.declared.query.Change.{Change}
-use Rattle.txc_rows.specs.States.{RowValue, State, answer}
-use Rattle.txc_db.specs.History.{History, state_at}
-use Rattle.txc_shared.specs.Eval.{Next, eval}
+use Rattle.txc_rows.specs.States.{State}
+use Rattle.txc_db.specs.History.{History}
+use Rattle.txc_shared.specs.Eval.{Next}
 use Rattle.txc_registry.specs.Objects.{Objects, AllIdle}
-use Rattle.txc_call.specs.declared.frame.Frame.{Frame}
 use Rattle.txc_call.specs.declared.need.Need.{Need}
 use Rattle.txc_call.specs.Needs.{NeedFits}
 use Rattle.txc_rw.specs.declared.given.Given.{Given}
-use Rattle.txc_rw.specs.declared.given.Given.TheVariants as given
 use Rattle.txc_rw.specs.Answers.{AreRightIn, IsRightIn}
 use Rattle.txc_rw.specs.Core.{RwValue, RwHolds, IsIdle, IsRw}
 use Rattle.txc_rw.specs.Txn.{IsResting}

@@ -1,5 +1,5 @@
 -- What a turn asks.
-use Rattle.std.proofs.Common.{◌≡◌, ◌≢◌, ℕ, suc, ◌-◌, ◌<◌, ◌≤◌, List, [], ◌∷◌, ◌++◌, Option, Some, None, Ok, Err, IsNone, refl, sym, ap, subst, ◌∙◌, arith, append-nil, append_assoc}
+use Rattle.std.proofs.Common.{◌≡◌, ◌≢◌, ℕ, suc, ◌-◌, ◌<◌, ◌≤◌, List, [], ◌∷◌, ◌++◌, Option, Some, None, Ok, Err, refl, sym, ap, subst, ◌∙◌, arith, append-nil, append_assoc}
 use Rattle.std.specs.Prelude.{Result, IfOk, IsSome}
 use mathlib.Core.List.{IsPrefix}
 use Rattle.txc_rows.specs.declared.query.Query.{Query}
@@ -7,8 +7,6 @@ use Rattle.txc_validity.specs.declared.answer.Found.{Found}
 use Rattle.txc_db.specs.declared.error.DbError.{DbError}
 use Rattle.txc_call.specs.declared.frames.TheConstants.{MAX_CALL_ASKS}
 use Rattle.txc_ports.specs.declared.error.TxnError.{TxnError}
-use Rattle.txc_ports.specs.declared.request.PortRequest.{PortRequest}
-use Rattle.txc_ports.specs.declared.request.PortRequest.TheVariants as requests
 use Rattle.txc_ports.specs.declared.turn.Turn.{Turn}
 use Rattle.txc_ports.specs.declared.turn.Turn.TheVariants.{Ask, Begun, Value, Rows, At, Refused}
 use Rattle.txc_tags.specs.Keys.{Call}

@@ -1,6 +1,5 @@
 -- A read-write transaction between two calls.
-use Rattle.std.specs.Prelude.{◌≡◌, List, [], ◌∷◌, ◌++◌, None}
-use Rattle.txc_tags.specs.Keys.{Call}
+use Rattle.std.specs.Prelude.{◌≡◌, [], None}
 use Rattle.txc_db.specs.History.{History}
 use Rattle.txc_shared.specs.Eval.{Next}
 use Rattle.txc_registry.specs.Objects.{Objects}

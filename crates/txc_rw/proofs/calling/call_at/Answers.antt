@@ -1,7 +1,7 @@
-use Rattle.std.proofs.Common.{◌≡◌, List, sym, ap, subst, ◌∙◌}
+use Rattle.std.proofs.Common.{List, sym, ap, subst, ◌∙◌}
 use mathlib.Core.List.{IsPrefix}
 use Rattle.txc_rows.specs.declared.query.Query.{Query}
-use Rattle.txc_rw.specs.Core.{queried_after, RwValue}
+use Rattle.txc_rw.specs.Core.{RwValue}
 use Rattle.txc_rw.proofs.Turns.{answers_on, kind_of_call, no_refusal, prefix_then, queried_longer, right_reply, turn_asks}
 use Rattle.txc_rw.proofs.calling.call_at.Goals as goal
 

@@ -1,4 +1,4 @@
-use Rattle.std.proofs.Common.{◌≡◌, sym, ◌∙◌}
+use Rattle.std.proofs.Common.{sym, ◌∙◌}
 use Rattle.txc_rw.proofs.Turns.{right_reply, turn_asks}
 use Rattle.txc_rw.proofs.calling.query_at.Goals as goal
 

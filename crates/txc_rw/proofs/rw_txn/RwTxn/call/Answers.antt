@@ -1,14 +1,11 @@
 use Rattle.std.proofs.Common.{◌≡◌, ℕ, List, [], None, Some, ap, subst, ◌∙◌}
-use Rattle.std.specs.Prelude.{IfOk, Vec}
-use Rattle.std.specs.declared.alloc.Global.{Global}
-use Rattle.txc_rows.specs.States.{RowValue}
+use Rattle.std.specs.Prelude.{IfOk}
 use Rattle.txc_db.specs.History.{History}
 use Rattle.txc_ports.specs.declared.turn.Turn.{Turn}
 use Rattle.txc_ports.specs.declared.turn.Turn.TheVariants as turns
 use Rattle.txc_rw.specs.declared.given.Given.TheVariants as given
 use Rattle.txc_rw.specs.Core.{answers_after, RwValue}
 use Rattle.txc_rw.specs.Txn.{TxnValue}
-use Rattle.txc_rows.specs.States.{answer}
 use Rattle.txc_db.specs.History.{state_at}
 use Rattle.txc_shared.specs.Eval.{eval}
 use Rattle.txc_rw.proofs.Resting.{if_ok, last_right, rested}

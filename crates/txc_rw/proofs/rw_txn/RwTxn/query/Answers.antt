@@ -1,4 +1,4 @@
-use Rattle.std.proofs.Common.{◌≡◌, ℕ, List, [], None, Some, ap, subst, ◌∙◌}
+use Rattle.std.proofs.Common.{◌≡◌, ℕ, [], Some, ap, subst, ◌∙◌}
 use Rattle.std.specs.Prelude.{IfOk, Vec}
 use Rattle.std.specs.declared.alloc.Global.{Global}
 use Rattle.txc_rows.specs.States.{RowValue}
@@ -10,7 +10,6 @@ use Rattle.txc_rw.specs.Core.{answers_after, RwValue}
 use Rattle.txc_rw.specs.Txn.{TxnValue}
 use Rattle.txc_rows.specs.States.{answer}
 use Rattle.txc_db.specs.History.{state_at}
-use Rattle.txc_shared.specs.Eval.{eval}
 use Rattle.txc_rw.proofs.Resting.{if_ok, last_right, rested}
 use Rattle.txc_rw.proofs.rw_txn.RwTxn.query.Goals as goal
 
