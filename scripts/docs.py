@@ -64,8 +64,9 @@ def public_clauses(crate):
         for line in file.read_text().split("\n"):
             if re.match(r" *(pub )?(const |unsafe )*(fn|struct|enum|trait|impl)\b", line):
                 is_public = re.match(r" *pub ", line) is not None or line.startswith(("impl", "trait"))
-                # the functions of an impl of a trait are as public as the trait
-                in_trait = (line.startswith("impl") and " for " in line) or (line.startswith("    ") and text and in_trait)
+                # the functions of a public trait are public, and those of an impl of a trait as public as the trait
+                starts = line.startswith("pub trait") or (line.startswith("impl") and " for " in line)
+                in_trait = starts or (line.startswith("    ") and text and in_trait)
                 is_public = is_public or in_trait
             elif re.match(r" *pub\(", line):
                 is_public = False

@@ -2,12 +2,12 @@
 ghost use Rattle.std.specs.Prelude.{◌≡◌, IfOk, IfErr, IfSome, IfNone, map, option_map, string_bytes, Option};
 ghost use Rattle.clap.specs.Words.{app_of, kind_of};
 ghost use Rattle.clap.specs.declared.builder.value_parser.ValueParser.{ValueParser};
-ghost use Rattle.txc_arguments.specs.Program.{HasMode, HasSettings, IsRefusedAs, ReadsModes, mode_text, program};
+ghost use Rattle.txc_arguments.specs.Program.{AsksForMode, HasMode, HasSettings, IsModeArg, IsRefusedAs, IsSettingsArg, ReadsModes, mode_text, program};
 ghost use Rattle.txc_settings.specs.declared.mode.Mode.{Mode};
 
 use clap::error::ErrorKind;
-use clap::{Arg, Command, Error};
-use std::alloc::{AllocError, Global};
+use clap::{Arg, ArgAction, Command, Error};
+use std::alloc::Global;
 use txc_settings::Mode;
 
 /// What a command line names.
@@ -20,27 +20,41 @@ pub struct Arguments<'a> {
 
 static MODES: [&str; 2] = ["node", "report"];
 
+/// The argument of the mode.
+fn mode_argument<'a>(alloc: Global) -> Arg<'a>
+    ensures { IsModeArg result }
+{
+    Arg::new(alloc, "mode")
+        .required(true)
+        .action(ArgAction::Set)
+        .value_name("MODE")
+        .help("What is written: the reply to each line (node), or counts of the replies (report)")
+        .value_parser(MODES.as_slice())
+}
+
+/// The argument of the settings.
+fn settings_argument<'a>(alloc: Global) -> Arg<'a>
+    ensures { IsSettingsArg result }
+{
+    Arg::new(alloc, "settings")
+        .long("settings")
+        .value_name("TEXT")
+        .help("The settings, a TOML document such as 'capacity = 4'")
+}
+
 /// The command line of the program.
 fn program<'a>(alloc: Global) -> Result<Command<'a>, Error>
     ensures shape { IfOk result (λ c. (parser : Option ValueParser) × ReadsModes parser
         × (app_of c ≡ program parser)) }
+    ensures asks { IfOk result AsksForMode }
     ensures refused { IfErr result (λ e. kind_of e ≡ ErrorKind.OutOfMemory) }
 {
-    let mode = Arg::new(alloc, "mode")
-        .required(true)
-        .value_name("MODE")
-        .help("What is written: the reply to each line (node), or counts of the replies (report)")
-        .value_parser(MODES.as_slice());
-    let settings = Arg::new(alloc, "settings")
-        .long("settings")
-        .value_name("TEXT")
-        .help("The settings, a TOML document such as 'capacity = 4'");
     Ok(
         Command::new(alloc, "txcache")
             .bin_name("txcache")?
             .about("Runs the script on standard input over a cache node")
-            .arg(mode)?
-            .arg(settings)?,
+            .arg(mode_argument(alloc))?
+            .arg(settings_argument(alloc))?,
     )
 }
 
@@ -56,8 +70,8 @@ fn mode_named(name: &str) -> Option<Mode>
     }
 }
 
-/// Reads the words of a command line, the first of which is the program's name: `node` or `report`, and at most
-/// once `--settings` with a text. A request for help is an error too, of its own kind and with status 0.
+/// Reads the words of a command line, the first of which is the program's name: `node` or `report`, and at
+/// most once `--settings` with a text. A request for help is an error too, of its own kind and with status 0.
 pub fn read_arguments<'a>(alloc: Global, words: &'a [String]) -> Result<Arguments<'a>, Error>
     ensures mode { IfOk result (λ a. HasMode (map string_bytes words.entry.now) a.mode) }
     ensures settings { IfOk result (λ a. HasSettings (map string_bytes words.entry.now)
@@ -68,12 +82,11 @@ pub fn read_arguments<'a>(alloc: Global, words: &'a [String]) -> Result<Argument
     let matches = command.try_get_matches_from(words)?;
     let mode = matches.get_str("mode");
     let settings = matches.get_str("settings");
-    // The parse has tested that the mode is there, and is one of the names.
     let Some(name) = mode else {
-        return Err(Error::from(AllocError));
+        unreachable!();
     };
     match mode_named(name) {
         Some(mode) => Ok(Arguments { mode, settings }),
-        None => Err(Error::from(AllocError)),
+        None => unreachable!(),
     }
 }

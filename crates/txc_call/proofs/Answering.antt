@@ -17,7 +17,7 @@ use Rattle.txc_shared.specs.Eval.{Next, eval, met}
 use Rattle.txc_shared.specs.Answering.{IsRight, AreRight, queries_of, queries_after, queries_for}
 use Rattle.txc_shared.specs.Claims.{RowsHold, ValueHolds}
 use Rattle.txc_shared.specs.Laws.{RightAnswersGiveTheValue}
-use Rattle.txc_shared.proofs.Each.{each_push}
+use Rattle.txc_shared.proofs.Offered.{each_push}
 use Rattle.txc_call.specs.Reaches.{Meets, meet}
 use Rattle.txc_call.specs.Frames.{AnswerHolds, AnswersHold}
 use Rattle.txc_call.proofs.Claims.{both_hold, weaker}

@@ -1,11 +1,10 @@
 -- What comes of a reply keeps the frames and what holds of them.
-use Rattle.std.proofs.Common.{◌≡◌, ◌≢◌, ◌⊎◌, inl, inr, ⊎_elim, ℕ, ◌+◌, ◌<◌, ◌≤◌, nat_le, Bool, true, false, cond, List, [], ◌∷◌, ◌++◌, length, Option, Some, None, IsSome, Ok, Err, sym, refl, ap, subst, ◌∙◌, arith}
+use Rattle.std.proofs.Common.{◌≡◌, ◌⊎◌, inl, inr, ⊎_elim, ℕ, ◌+◌, ◌<◌, ◌≤◌, nat_le, Bool, true, false, cond, List, [], ◌∷◌, ◌++◌, length, Option, Some, None, IsSome, Ok, Err, sym, refl, ap, subst, ◌∙◌, arith}
 use Rattle.std.specs.Prelude.{is_some}
 use Rattle.std.proofs.lemmas.Bool.Decides.{nat_tests}
 use Rattle.txc_stamp.specs.Interval.{Interval}
 use Rattle.txc_tags.specs.declared.tag.Tag.{Tag}
 use Rattle.txc_tags.specs.Keys.{Call}
-use Rattle.txc_tags.specs.Tags.{with_tags}
 use Rattle.txc_rows.specs.declared.query.Query.{Query}
 use Rattle.txc_db.specs.History.{History}
 use Rattle.txc_node.specs.declared.value.TheConstants.{MAX_VALUE_LEN}
@@ -17,12 +16,11 @@ use Rattle.txc_shared.specs.declared.ask.Answer.TheVariants as answers
 use Rattle.txc_shared.specs.Eval.{Next}
 use Rattle.txc_shared.specs.Claims.{RowsHold, ValueHolds}
 use Rattle.txc_shared.specs.Laws.{RightAnswersGiveTheValue}
-use Rattle.txc_registry.specs.Activity.{Activity, begun, idle, running}
+use Rattle.txc_registry.specs.Activity.{Activity, idle}
 use Rattle.txc_registry.specs.Objects.{Objects, activity_of, with_activity}
 use Rattle.txc_call.specs.declared.error.CallError.{CallError}
 use Rattle.txc_call.specs.declared.error.CallError.TheVariants as errors
 use Rattle.txc_call.specs.declared.frame.Frame.{Frame}
-use Rattle.txc_call.specs.declared.frames.TheConstants.{MAX_CALL_ASKS}
 use Rattle.txc_call.specs.declared.need.Need.{Need}
 use Rattle.txc_call.specs.declared.need.Need.TheVariants as needs
 use Rattle.txc_call.specs.declared.need.Outcome.{Outcome}
@@ -34,7 +32,8 @@ use Rattle.txc_call.specs.Frames.{answers_in, begun_frame, given, AnswerHolds, A
 use Rattle.txc_call.specs.Needs.{reply_reach, InNeed, IsUnreached, IsWaiting, NeedFits, NeedHolds, ReplyHolds}
 use Rattle.txc_call.specs.Calling.{Calling, CallHolds, CallIsUnreached, InCall, IsCalling}
 use Rattle.txc_call.specs.Turns.{Standing, UnlessRefused, count_refusal, call_refusal, value_refusal, ask_refusal, entry_of, outcome_of, unreached, Onward, DoneLeads, AllowedLeads, AskLeads, AfterAsk, AfterMiss, AfterReply, AfterRows, AfterValue, next_ask, with_answer, with_begun}
-use Rattle.txc_call.proofs.Claims.{in_meet, meets_at}
+use Rattle.txc_call.specs.Laws.{at_start, CallsComeToTheirValues, InsertionsAreTrue, IsLed, IsLedFrom, IsStep}
+use Rattle.txc_call.proofs.Claims.{meets_at}
 use Rattle.txc_call.proofs.Answering.{rows_answer, value_answers}
 use Rattle.txc_call.proofs.Leading.{few_by}
 use Rattle.txc_call.proofs.OpenFrames.{closed, free_below, hold_closed, hold_opened, hold_resumed, in_given, opened, resumed, unreached_given}
@@ -111,7 +110,7 @@ module _ (next : Next) (top : Call) (law : RightAnswersGiveTheValue) (s : Standi
         (λ t. InReach t None × InAll t outer) (λ t. InAll t (frame ∷ outer))
         ((None ≡ None) × AreUnreached outer) (AreUnreached (frame ∷ outer))
         (λ L hold. let two = hold_closed next L os law top bytes frame outer h may short hold in
-            (subst (λ (o : Option Interval). ValueHolds next L frame.key bytes o frame.tags) is two.0, two.1))
+        (subst (λ (o : Option Interval). ValueHolds next L frame.key bytes o frame.tags) is two.0, two.1))
         (λ t all. (tt, all.1))
         (λ none. (refl, none.1))
         (on bytes leads is (closed next os top (asks.Done bytes) frame outer h))
@@ -156,7 +155,7 @@ module _ (next : Next) (top : Call) (law : RightAnswersGiveTheValue) (s : Standi
   given_keeps outer asked frame wanted ask x reach tags os goes_on H right waits t here all asked_next on leads =
       let os' = with_answer os frame.key.function x in
       let h' : IsOpen next os' top ask (given frame reach tags ∷ outer) = resumed next os top wanted ask x frame reach tags outer waits.open_frames
-          (subst (λ (args : List ℕ). next frame.key.function args (answers_in os frame.key.function ++ x ∷ []) ≡ Some ask) (sym waits.open_frames.stack.0.args) asked_next) in
+      (subst (λ (args : List ℕ). next frame.key.function args (answers_in os frame.key.function ++ x ∷ []) ≡ Some ask) (sym waits.open_frames.stack.0.args) asked_next) in
       keeps_from
       (λ L. FramesHold next L os' (given frame reach tags ∷ outer)) (λ L. H L × FramesHold next L os (frame ∷ outer))
       (λ t. InAll t (given frame reach tags ∷ outer)) (λ t. InReach t reach × InAll t (frame ∷ outer))
@@ -185,12 +184,12 @@ module _ (next : Next) (top : Call) (law : RightAnswersGiveTheValue) (s : Standi
       ⊎_elim
       (λ no. let no' : Ok s ≡ Err no.0 = no.1 in absurd (cc))
       (λ (three : (ask : Ask) × (next_ask next os frame (answers.Value o.value) ≡ Some ask) × AskLeads outer asked after ask os' goes_on (Ok s)).
-          given_keeps outer asked frame (asks.Call o.key) three.0 (answers.Value o.value) o.reach o.tags os goes_on
-          (λ L. ValueHolds next L o.key o.value o.reach o.tags) (λ L. value_answers next L frame.key.function o.key o.value o.reach o.tags up.0)
-          waits t here all three.1
-          (λ bytes leads' none h'. value_keeps outer (asked + 1) (unreached after bytes) (with_activity os' frame.key.function idle)
-              (record { open_frames = h'; few = waits.few.1 }) waits.open_frames.rising t tt all.1 leads')
-          three.2)
+      given_keeps outer asked frame (asks.Call o.key) three.0 (answers.Value o.value) o.reach o.tags os goes_on
+      (λ L. ValueHolds next L o.key o.value o.reach o.tags) (λ L. value_answers next L frame.key.function o.key o.value o.reach o.tags up.0)
+      waits t here all three.1
+      (λ bytes leads' none h'. value_keeps outer (asked + 1) (unreached after bytes) (with_activity os' frame.key.function idle)
+      (record { open_frames = h'; few = waits.few.1 }) waits.open_frames.rising t tt all.1 leads')
+      three.2)
       leads
 
   -- what comes of what the innermost frame asks
@@ -199,7 +198,7 @@ module _ (next : Next) (top : Call) (law : RightAnswersGiveTheValue) (s : Standi
   after_ask_keeps outer asked frame ask os few h t all leads =
       ask_keeps outer asked frame ask os (λ idle_os bytes. AfterValue next outer (asked + 1) (unreached frame bytes) idle_os (Ok s)) few h
       (λ bytes leads' none h'. value_keeps outer (asked + 1) (unreached frame bytes) (with_activity os frame.key.function idle)
-          (record { open_frames = h'; few = few }) h.rising t tt all leads')
+      (record { open_frames = h'; few = few }) h.rising t tt all leads')
       leads
 
   rows_keep : (frames : List Frame) (asked : ℕ) (q : Query) (found : Found) (os : Objects)
@@ -214,12 +213,12 @@ module _ (next : Next) (top : Call) (law : RightAnswersGiveTheValue) (s : Standi
       ⊎_elim
       (λ no. let no' : Ok s ≡ Err no.0 = no.1 in absurd (cc))
       (λ (three : (ask : Ask) × (next_ask next os frame (answers.Rows found.rows.items) ≡ Some ask) × AskLeads outer asked after ask os' goes_on (Ok s)).
-          given_keeps outer asked frame (asks.Query q) three.0 (answers.Rows found.rows.items) (Some found.reach) found.tags os goes_on
-          (λ L. RowsHold L q found.rows.items (Some found.reach) found.tags) (λ L. rows_answer next L frame.key.function q found.rows.items (Some found.reach) found.tags)
-          waits t here all three.1
-          (λ bytes leads' none h'. value_keeps outer (asked + 1) (unreached after bytes) (with_activity os' frame.key.function idle)
-              (record { open_frames = h'; few = waits.few.1 }) waits.open_frames.rising t tt all.1 leads')
-          three.2)
+      given_keeps outer asked frame (asks.Query q) three.0 (answers.Rows found.rows.items) (Some found.reach) found.tags os goes_on
+      (λ L. RowsHold L q found.rows.items (Some found.reach) found.tags) (λ L. rows_answer next L frame.key.function q found.rows.items (Some found.reach) found.tags)
+      waits t here all three.1
+      (λ bytes leads' none h'. value_keeps outer (asked + 1) (unreached after bytes) (with_activity os' frame.key.function idle)
+      (record { open_frames = h'; few = waits.few.1 }) waits.open_frames.rising t tt all.1 leads')
+      three.2)
       leads
 
   miss_keeps : (frames : List Frame) (asked : ℕ) (k : Call) (os : Objects)
@@ -229,16 +228,16 @@ module _ (next : Next) (top : Call) (law : RightAnswersGiveTheValue) (s : Standi
       ⊎_elim
       (λ no. let no' : Ok s ≡ Err no.0 = no.1 in absurd (cc))
       (λ (three : (ask : Ask) × (next k.function k.args [] ≡ Some ask) × AfterAsk next frames asked (begun_frame k) ask (with_begun os k) (Ok s)).
-          let free = free_below k.function frames os up waits.open_frames.free there in
-          keeps_from
-          (λ L. FramesHold next L (with_begun os k) (begun_frame k ∷ frames)) (λ L. FramesHold next L os frames)
-          (λ t. InAll t (begun_frame k ∷ frames)) (λ t. InAll t frames)
-          (AreUnreached (begun_frame k ∷ frames)) (AreUnreached frames)
-          (λ L hold. hold_opened next L os k frames up free hold)
-          (λ t inside. (tt, inside))
-          (λ none. (refl, none))
-          (after_ask_keeps frames asked (begun_frame k) three.0 (with_begun os k) waits.few
-          (opened next os top k three.0 frames waits.open_frames up free three.1) t all three.2))
+      let free = free_below k.function frames os up waits.open_frames.free there in
+      keeps_from
+      (λ L. FramesHold next L (with_begun os k) (begun_frame k ∷ frames)) (λ L. FramesHold next L os frames)
+      (λ t. InAll t (begun_frame k ∷ frames)) (λ t. InAll t frames)
+      (AreUnreached (begun_frame k ∷ frames)) (AreUnreached frames)
+      (λ L hold. hold_opened next L os k frames up free hold)
+      (λ t inside. (tt, inside))
+      (λ none. (refl, none))
+      (after_ask_keeps frames asked (begun_frame k) three.0 (with_begun os k) waits.few
+      (opened next os top k three.0 frames waits.open_frames up free three.1) t all three.2))
       leads
 
   -- what comes of a reply
@@ -313,6 +312,56 @@ call_keeps next law c os need reply s is calling t here all leads =
       no_reach = λ none none'. kept.no_reach (none, subst (λ (n : Option Need). IsUnreached n c.frames) is none');
     }
 
+-- the same, where the call is seen as another value
+pub machine_keeps : (next : Next) → RightAnswersGiveTheValue → (seen c : Calling) (os : Objects) (need : Need) (reply : Reply) (s : Standing) → seen ≡ c → seen.need ≡ Some need → IsCalling next os c
+    → ((t : ℕ) × InReach t (reply_reach reply) × InCall t c) → AfterReply next seen.frames seen.asked os need reply (Ok s) → KeepsCall next os c reply s
+machine_keeps next law seen c os need reply s same is calling common leads =
+    call_keeps next law c os need reply s (subst (λ (v : Calling). v.need ≡ Some need) same is) calling common.0 common.1 common.2
+    (subst (λ (v : Calling). AfterReply next v.frames v.asked os need reply (Ok s)) same leads)
+
+-- ---- over all replies
+
+module _ (next : Next) (law : RightAnswersGiveTheValue) (L : History) (k : Call) where
+  step_keeps : (s after : Standing) (reply : Reply) → NeedFits next s.objects k s.need s.frames → NeedHolds next L s.objects s.need s.frames → IsStep next L s reply after
+      → NeedFits next after.objects k after.need after.frames × NeedHolds next L after.objects after.need after.frames
+  step_keeps s after reply fits holds step =
+      let kept = call_keeps next law (record { top = k; asked = s.asked; frames = s.frames; need = s.need }) s.objects step.need reply after step.needed fits step.common.0 step.common.1 step.common.2 step.leads in
+      (kept.fits, kept.holds L step.need step.needed step.right holds)
+
+  led_keeps : (replies : List Reply) (s end : Standing) → NeedFits next s.objects k s.need s.frames → NeedHolds next L s.objects s.need s.frames → IsLed next L s replies end
+      → NeedFits next end.objects k end.need end.frames × NeedHolds next L end.objects end.need end.frames
+  led_keeps [] s end fits holds led =
+      (subst (λ (st : Standing). NeedFits next st.objects k st.need st.frames) (sym led) fits, subst (λ (st : Standing). NeedHolds next L st.objects st.need st.frames) (sym led) holds)
+  led_keeps (reply ∷ replies) s end fits holds led =
+      let one = step_keeps s led.0 reply fits holds led.1 in
+      led_keeps replies led.0 end one.0 one.1 led.2
+
+  led_from : (objects : Objects) (replies : List Reply) (s : Standing) → IsLedFrom next L k objects replies s
+      → NeedFits next s.objects k s.need s.frames × NeedHolds next L s.objects s.need s.frames
+  led_from objects replies s from =
+      led_keeps replies (at_start k objects) s
+      (record { open_frames = record { stack = refl; rising = tt; free = from.all_idle }; few = tt }, tt, from.there) tt from.led
+
+pub calls_come_to_their_values : RightAnswersGiveTheValue → CallsComeToTheirValues
+calls_come_to_their_values law next L k objects replies s o from is =
+    let two = led_from next law L k objects replies s from in
+    let fits : NeedFits next s.objects k (Some (needs.Value o)) s.frames = subst (λ (n : Option Need). NeedFits next s.objects k n s.frames) is two.0 in
+    let open_none : IsOpen next s.objects k (asks.Call o.key) [] = subst (λ (fs : List Frame). IsOpen next s.objects k (asks.Call o.key) fs) fits.1 fits.0.open_frames in
+    let calls : asks.Call o.key ≡ asks.Call k = open_none.stack in
+    let same : o.key ≡ k = cc in
+    let holds : NeedHolds next L s.objects (Some (needs.Value o)) s.frames = subst (λ (n : Option Need). NeedHolds next L s.objects n s.frames) is two.1 in
+    record {
+      of_call = same;
+      holds = subst (λ (j : Call). ValueHolds next L j o.value o.reach o.tags) same holds.0;
+      all_idle = open_none.free;
+    }
+
+pub insertions_are_true : RightAnswersGiveTheValue → InsertionsAreTrue
+insertions_are_true law next L k objects replies s e from is =
+    let two = led_from next law L k objects replies s from in
+    let holds : NeedHolds next L s.objects (Some (needs.Insert e)) s.frames = subst (λ (n : Option Need). NeedHolds next L s.objects n s.frames) is two.1 in
+    holds.0
+
 -- ---- how often the call asked
 
 module _ (next : Next) (s : Standing) where
@@ -362,7 +411,7 @@ module _ (next : Next) (s : Standing) where
       ⊎_elim
       (λ no. let no' : Ok s ≡ Err no.0 = no.1 in absurd (cc))
       (λ (three : (ask : Ask) × (next_ask next os frame (answers.Value o.value) ≡ Some ask) × AskLeads outer asked after ask os' goes_on (Ok s)).
-          ask_counts outer asked after three.0 os' goes_on (λ idle_os bytes leads'. value_counts outer (asked + 1) (unreached after bytes) idle_os leads') three.2)
+      ask_counts outer asked after three.0 os' goes_on (λ idle_os bytes leads'. value_counts outer (asked + 1) (unreached after bytes) idle_os leads') three.2)
       leads
 
   after_ask_counts : (outer : List Frame) (asked : ℕ) (frame : Frame) (ask : Ask) (os : Objects) → AfterAsk next outer asked frame ask os (Ok s) → Counts asked
@@ -378,7 +427,7 @@ module _ (next : Next) (s : Standing) where
       ⊎_elim
       (λ no. let no' : Ok s ≡ Err no.0 = no.1 in absurd (cc))
       (λ (three : (ask : Ask) × (next_ask next os frame (answers.Rows found.rows.items) ≡ Some ask) × AfterAsk next outer asked after ask os' (Ok s)).
-          after_ask_counts outer asked after three.0 os' three.2)
+      after_ask_counts outer asked after three.0 os' three.2)
       leads
 
   miss_counts : (frames : List Frame) (asked : ℕ) (k : Call) (os : Objects) → AfterMiss next frames asked k os (Ok s) → Counts asked
@@ -386,7 +435,7 @@ module _ (next : Next) (s : Standing) where
       ⊎_elim
       (λ no. let no' : Ok s ≡ Err no.0 = no.1 in absurd (cc))
       (λ (three : (ask : Ask) × (next k.function k.args [] ≡ Some ask) × AfterAsk next frames asked (begun_frame k) ask (with_begun os k) (Ok s)).
-          after_ask_counts frames asked (begun_frame k) three.0 (with_begun os k) three.2)
+      after_ask_counts frames asked (begun_frame k) three.0 (with_begun os k) three.2)
       leads
 
   pub reply_counts : (frames : List Frame) (asked : ℕ) (os : Objects) (need : Need) (reply : Reply) → AfterReply next frames asked os need reply (Ok s) → Counts asked

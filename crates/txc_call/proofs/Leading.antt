@@ -119,8 +119,8 @@ module _ (next : Next) (asked : ℕ) where
     ask,
     subst (λ (rs : List RowValue). next_ask next objects frame (answers.Rows rs) ≡ Some ask) is (asks frame outer refl),
     subst (λ (os : Objects). AfterAsk next outer asked (given frame (Some found.reach) found.tags) ask os turn)
-    (becomes frame outer refl ∙ ap (λ (rs : List RowValue). with_answer objects frame.key.function (answers.Rows rs)) is)
-    (leads (given frame (Some found.reach) found.tags) outer (stack frame outer refl)),
+        (becomes frame outer refl ∙ ap (λ (rs : List RowValue). with_answer objects frame.key.function (answers.Rows rs)) is)
+        (leads (given frame (Some found.reach) found.tags) outer (stack frame outer refl)),
   )
 
   -- a value that finds no memory

@@ -4,3 +4,4 @@ pub mod OpenFrames
 pub mod Stacks
 pub mod Leading
 pub mod Keeping
+pub mod Offered

@@ -16,7 +16,7 @@ use Rattle.txc_shared.specs.Eval.{Next}
 use Rattle.txc_shared.specs.Answering.{IsRight}
 use Rattle.txc_shared.specs.Claims.{ValueHolds}
 use Rattle.txc_shared.specs.Laws.{RightAnswersGiveTheValue}
-use Rattle.txc_shared.proofs.Each.{each_none}
+use Rattle.txc_shared.proofs.Offered.{each_none}
 use Rattle.txc_registry.specs.Activity.{Activation, Activity, activation_in, answered, begun, idle, next_of, running, WantsAnswer}
 use Rattle.txc_registry.specs.Objects.{Objects, activation_of, activity_of, with_activity, AllIdle, IsAskingAt}
 use Rattle.txc_registry.proofs.Offered.{here_after, again, restored, elsewhere, idle_there}

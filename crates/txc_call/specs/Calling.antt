@@ -12,7 +12,8 @@ use Rattle.txc_call.specs.declared.need.Outcome.{Outcome}
 use Rattle.txc_call.specs.Needs.{InNeed, IsUnreached, NeedFits, NeedHolds}
 use Rattle.txc_call.specs.Turns.{Turn}
 
--- the call, how often all its activations asked, its open frames, innermost first, and what it needs while it is open
+-- the call, how often all its activations asked, its open frames, innermost first, and what it needs while it
+-- is open
 pub record Calling : Type 0 where
   pub top : Call
   pub asked : ℕ
@@ -45,7 +46,8 @@ CallIsUnreached c = IsUnreached c.need c.frames
 
 -- how a call stands after a step, or why it was refused
 abbrev pub turn_after : {T : Type 0} → Result T CallError → Calling → Objects → Turn
-turn_after (Ok done) c objects = Ok (record { frames = c.frames; asked = c.asked; need = c.need; objects = objects })
+turn_after (Ok done) c objects =
+    Ok (record { frames = c.frames; asked = c.asked; need = c.need; objects = objects })
 turn_after (Err error) c objects = Err error
 
 -- the call is done, or it asked more often than so

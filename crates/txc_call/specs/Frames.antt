@@ -26,7 +26,8 @@ answers_in objects f = (activation_of objects f).answers
 
 -- the frame's object runs the activation of its key, and asks this
 pub record IsAsking (next : Next) (objects : Objects) (ask : Ask) (frame : Frame) : Type 0 where
-  pub runs : activity_of objects frame.key.function ≡ Some (running (activation_of objects frame.key.function))
+  pub runs :
+      activity_of objects frame.key.function ≡ Some (running (activation_of objects frame.key.function))
   pub args : (activation_of objects frame.key.function).args ≡ frame.key.args
   pub asks : next frame.key.function frame.key.args (answers_in objects frame.key.function) ≡ Some ask
   pub counted : length (answers_in objects frame.key.function) ≡ frame.answers
@@ -52,7 +53,8 @@ released [] objects = objects
 released (frame ∷ frames) objects = released frames (with_activity objects frame.key.function idle)
 
 -- the frames are those of a call, and beside their objects all are idle
-pub record IsOpen (next : Next) (objects : Objects) (top : Call) (ask : Ask) (frames : List Frame) : Type 0 where
+pub record IsOpen (next : Next) (objects : Objects) (top : Call) (ask : Ask) (frames : List Frame) :
+    Type 0 where
   pub stack : IsStack next objects top ask frames
   pub rising : AreRising frames
   pub free : AllIdle (released frames objects)

@@ -3,3 +3,4 @@ pub mod Frames
 pub mod Needs
 pub mod Turns
 pub mod Calling
+pub mod Laws

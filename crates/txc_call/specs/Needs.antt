@@ -19,7 +19,8 @@ use Rattle.txc_call.specs.Frames.{AreFew, AreUnreached, FramesHold, InAll, IsOpe
 -- ---- needs
 
 -- the frames wait for what the innermost asked, and each of them asked no more than it may
-pub record IsWaiting (next : Next) (objects : Objects) (top : Call) (ask : Ask) (frames : List Frame) : Type 0 where
+pub record IsWaiting (next : Next) (objects : Objects) (top : Call) (ask : Ask) (frames : List Frame) :
+    Type 0 where
   pub open_frames : IsOpen next objects top ask frames
   pub few : AreFew frames
 

@@ -98,7 +98,8 @@ entry_of frame bytes reach = record { key = frame.key; value = bytes; reach = re
 abbrev pub Onward : Type 1
 Onward = Objects → List ℕ → Type 0
 
--- what comes of a frame that is done, once its object is idle: a value with a reach is inserted, else it goes on
+-- what comes of a frame that is done, once its object is idle: a value with a reach is inserted, else it goes
+-- on
 abbrev pub DoneLeads : List Frame → ℕ → Frame → Option Interval → List ℕ → Objects → Onward → Turn → Type 0
 DoneLeads outer asked frame (Some reach) bytes objects goes_on turn =
     turn ≡ needing outer asked (needs.Insert (entry_of frame bytes reach)) objects
@@ -135,39 +136,49 @@ with_answer objects f x = with_activity objects f (running (answered (activation
 abbrev pub unreached : Frame → List ℕ → Outcome
 unreached frame bytes = record { key = frame.key; value = bytes; reach = None; tags = frame.tags }
 
--- what comes of the value of a call: it is the next answer of the innermost frame, or, where there is none, what
--- the whole call comes to
-abbrev pub AfterValue : Next → List Frame → ℕ → Outcome → Objects → Turn → Type 0
-AfterValue next [] asked o objects turn = turn ≡ needing [] asked (needs.Value o) objects
-AfterValue next (frame ∷ outer) asked o objects turn =
-    UnlessMemory turn (
-    (ask : Ask) × (next_ask next objects frame (answers.Value o.value) ≡ Some ask)
-    × AskLeads outer asked (given frame o.reach o.tags) ask
-    (with_answer objects frame.key.function (answers.Value o.value))
-    (λ after bytes. AfterValue next outer (asked + 1) (unreached (given frame o.reach o.tags) bytes) after turn)
-    turn
-    )
-
--- what comes of what the innermost frame asks
-abbrev pub AfterAsk : Next → List Frame → ℕ → Frame → Ask → Objects → Turn → Type 0
-AfterAsk next outer asked frame ask objects turn =
-    AskLeads outer asked frame ask objects
-    (λ after bytes. AfterValue next outer (asked + 1) (unreached frame bytes) after turn) turn
-
 -- an answer, where it holds, and what it depends on
 pub record Held : Type 0 where
   pub answer : Answer
   pub reach : Option Interval
   pub tags : List Tag
 
--- what comes of an answer to the innermost frame
-abbrev pub AfterAnswer : Next → List Frame → ℕ → Frame → Held → Objects → Turn → Type 0
-AfterAnswer next outer asked frame x objects turn =
+-- the answer of a call's value
+abbrev pub value_held : Outcome → Held
+value_held o = record { answer = answers.Value o.value; reach = o.reach; tags = o.tags }
+
+-- the answer of what was found
+abbrev pub rows_held : Found → Held
+rows_held found =
+    record { answer = answers.Rows found.rows.items; reach = Some found.reach; tags = found.tags }
+
+-- what comes of an answer to the innermost frame: it goes on with it, if memory is there
+abbrev pub AnswerLeads : Next → List Frame → ℕ → Frame → Held → Objects → Onward → Turn → Type 0
+AnswerLeads next outer asked frame x objects goes_on turn =
     UnlessMemory turn (
     (ask : Ask) × (next_ask next objects frame x.answer ≡ Some ask)
-    × AfterAsk next outer asked (given frame x.reach x.tags) ask
-    (with_answer objects frame.key.function x.answer) turn
+    × AskLeads outer asked (given frame x.reach x.tags) ask
+    (with_answer objects frame.key.function x.answer) goes_on turn
     )
+
+-- what comes of the value of a call: it is the next answer of the innermost frame, or, where there is none,
+-- what the whole call comes to
+abbrev pub AfterValue : Next → List Frame → ℕ → Outcome → Objects → Turn → Type 0
+AfterValue next [] asked o objects turn = turn ≡ needing [] asked (needs.Value o) objects
+AfterValue next (frame ∷ outer) asked o objects turn =
+    AnswerLeads next outer asked frame (value_held o) objects
+    (λ after bytes.
+    AfterValue next outer (asked + 1) (unreached (given frame o.reach o.tags) bytes) after turn)
+    turn
+
+-- where the value of this frame goes, if it is done without a reach: to the frames around it
+abbrev pub outwards : Next → List Frame → ℕ → Frame → Turn → Onward
+outwards next outer asked frame turn after bytes =
+    AfterValue next outer (asked + 1) (unreached frame bytes) after turn
+
+-- what comes of what the innermost frame asks
+abbrev pub AfterAsk : Next → List Frame → ℕ → Frame → Ask → Objects → Turn → Type 0
+AfterAsk next outer asked frame ask objects turn =
+    AskLeads outer asked frame ask objects (outwards next outer asked frame turn) turn
 
 -- why a call that no node has does not begin, where its function asks this first
 abbrev pub IsBeginRefusal : ℕ → Option Ask → CallError → Type 0
@@ -185,15 +196,12 @@ AfterMiss next frames asked k objects turn =
     ⊎ ((ask : Ask) × (next k.function k.args [] ≡ Some ask)
     × AfterAsk next frames asked (begun_frame k) ask (with_begun objects k) turn)
 
--- the answer of what was found
-abbrev pub rows_held : Found → Held
-rows_held found = record { answer = answers.Rows found.rows.items; reach = Some found.reach; tags = found.tags }
-
 -- what comes of what was found for the query that the innermost frame asked
 abbrev pub AfterRows : Next → List Frame → ℕ → Found → Objects → Turn → Type 0
 AfterRows next [] asked found objects turn = ⊥
 AfterRows next (frame ∷ outer) asked found objects turn =
-    AfterAnswer next outer asked frame (rows_held found) objects turn
+    AnswerLeads next outer asked frame (rows_held found) objects
+    (outwards next outer asked (given frame (Some found.reach) found.tags) turn) turn
 
 -- ---- replies
 

@@ -120,7 +120,8 @@ impl Frames {
             → self.new.stack ≡ given frame reach tags.now ∷ rest) }
         ensures objects { OnOk result ((frame : Frame) (rest : List Frame) → self.old.stack ≡ frame ∷ rest
             → registry.new ≡ with_answer registry.old frame.key.function answer) }
-        ensures answer { IfOk result (λ ask. (frame : Frame) (rest : List Frame) → self.old.stack ≡ frame ∷ rest
+        ensures answer { IfOk result (λ ask. (frame : Frame) (rest : List Frame)
+            → self.old.stack ≡ frame ∷ rest
             → next_ask A.next registry.old frame answer ≡ Some ask) }
         ensures open { IfOk result (λ ask. IsOpen A.next registry.new self.new.top ask self.new.stack) }
         ensures refused { IfErr result IsOutOfMemory }

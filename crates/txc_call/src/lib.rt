@@ -4,6 +4,7 @@
 mod error;
 mod frame;
 mod frames;
+pub mod laws;
 mod machine;
 mod need;
 mod reply;

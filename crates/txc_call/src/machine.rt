@@ -1,4 +1,5 @@
-ghost use Rattle.std.specs.Prelude.{◌≡◌, ◌≢◌, ◌≤◌, ℕ, [], IfErr, IsNone, IsSome, MatchOption, None, OnErr, OnOk, Some};
+ghost use Rattle.std.specs.Prelude.{◌≡◌, ◌≢◌, ◌≤◌, ℕ, [], MatchOption, IfErr, OnErr, OnOk};
+ghost use Rattle.std.specs.Prelude.{IsNone, IsSome, None, Some};
 ghost use Rattle.txc_rows.specs.declared.query.Query.{Query};
 ghost use Rattle.txc_call.specs.declared.need.Need.{Need};
 ghost use Rattle.txc_db.specs.History.{History};
@@ -8,7 +9,8 @@ ghost use Rattle.txc_call.specs.declared.frames.TheConstants.{MAX_CALL_ASKS};
 ghost use Rattle.txc_call.specs.Reaches.{InReach};
 ghost use Rattle.txc_call.specs.Frames.{released, InAll, IsRising};
 ghost use Rattle.txc_call.specs.Needs.{reply_reach, InNeed, IsWaiting, NeedFits, ReplyFits, ReplyHolds};
-ghost use Rattle.txc_call.specs.Calling.{started, turn_after, CallHolds, CallIsUnreached, GoesOn, InCall, IsAtRest, IsCalling};
+ghost use Rattle.txc_call.specs.Calling.{started, turn_after, CallHolds, CallIsUnreached};
+ghost use Rattle.txc_call.specs.Calling.{GoesOn, InCall, IsAtRest, IsCalling};
 ghost use Rattle.txc_call.specs.declared.need.Outcome.{Outcome};
 ghost use Rattle.txc_call.specs.Turns.{turn_of, AfterMiss, AfterReply, AfterRows, AfterValue};
 
@@ -28,8 +30,8 @@ use txc_shared::{Answer, App, Rows};
 use txc_tags::Key;
 use txc_validity::Found;
 
-/// Runs calls, one after another, over a registry that is lent to each step. Whoever runs it answers what the call
-/// needs.
+/// Runs calls, one after another, over a registry that is lent to each step. Whoever runs it answers what the
+/// call needs.
 #[derive(Drop)]
 pub struct CallMachine {
     frames: Frames,
@@ -185,7 +187,8 @@ impl CallMachine {
         let _frames = &self.frames;
     }
 
-    /// Starts a call, which needs a lookup first. It is refused where there is no such function.
+    /// Starts a call, which needs a lookup first. It is refused where there is no such function. What the
+    /// last call came to is dropped, if it was not taken.
     pub fn start<A: App, C: Cacheable>(
         &mut self,
         registry: &Registry<A, C>,
@@ -216,9 +219,9 @@ impl CallMachine {
         self.need.as_ref()
     }
 
-    /// Goes on with the reply to what the call needs. What the reply hands in must hold together with what the open
-    /// frames were given, at one stamp at least. Where the call is refused, every frame is closed and its object
-    /// released, the innermost first.
+    /// Goes on with the reply to what the call needs. What the reply hands in must hold together with what
+    /// the open frames were given, at one stamp at least. Where the call is refused, every frame is closed
+    /// and its object released, the innermost first.
     pub fn reply<A: App, C: Cacheable>(
         &mut self,
         registry: &mut Registry<A, C>,
@@ -230,7 +233,7 @@ impl CallMachine {
         requires common { (t : ℕ) × InReach t (reply_reach reply) × InCall t self.old }
         ensures answer { (need : Need) → self.old.need ≡ Some need
             → AfterReply A.next self.old.frames self.old.asked registry.old need reply
-                (turn_after result self.new registry.new) }
+            (turn_after result self.new registry.new) }
         ensures fits { IsCalling A.next registry.new self.new }
         ensures open { OnOk result (IsSome self.new.need) }
         ensures rest { OnErr result ((self.new.need ≡ None) × IsAtRest registry.new self.new) }
@@ -260,13 +263,13 @@ impl CallMachine {
         }
     }
 
-    /// Takes what a call that is done came to. The machine is then without a call; where the call is not done, nothing
-    /// changes.
+    /// Takes what a call that is done came to. The machine is then without a call; where the call is not
+    /// done, nothing changes.
     pub fn finish(&mut self) -> Option<Outcome>
         ensures { MatchOption result
             (((outcome : Outcome) → self.old.need ≢ Some (Need.Value outcome)) × (self.new ≡ self.old))
             (λ outcome. (self.old.need ≡ Some (Need.Value outcome))
-                × (self.new ≡ record self.old { need = None })) }
+            × (self.new ≡ record self.old { need = None })) }
     {
         match mem::replace(&mut self.need, None) {
             Some(Need::Value(outcome)) => Some(outcome),

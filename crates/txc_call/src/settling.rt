@@ -39,8 +39,8 @@ fn check_call<A: App, C: Cacheable>(
     Ok(())
 }
 
-/// What is needed after the innermost frame asked this. A frame that is done is closed: where it has a reach its
-/// value is inserted first, else the frame around it is given the value at once.
+/// What is needed after the innermost frame asked this. A frame that is done is closed: where it has a reach,
+/// its value is inserted first, else the frame around it is given the value at once.
 pub(crate) fn settle<A: App, C: Cacheable>(
     frames: &mut Frames,
     registry: &mut Registry<A, C>,

@@ -88,6 +88,18 @@ fn lookup(node: &mut NodeCore, call: &str, out: &mut String) -> Result<(), Alloc
     }
 }
 
+fn show_counted(out: &mut String, reply: Reply<Hit<'_>>, looked: u64) -> Result<(), AllocError> {
+    write!(out, "{reply}, looked at {looked}")
+}
+
+fn lookup_counted(node: &mut NodeCore, call: &str, out: &mut String) -> Result<(), AllocError> {
+    match node.lookup_counted(&key(call), stamp(call, 2), stamp(call, 3)) {
+        Ok((Some(hit), looked)) => show_counted(out, Reply::Hit(hit), looked),
+        Ok((None, looked)) => show_counted(out, Reply::Miss, looked),
+        Err(error) => show_refused(out, Refusal::EmptyRange, &error),
+    }
+}
+
 fn event(
     node: &mut NodeCore,
     alloc: Global,
@@ -174,6 +186,8 @@ impl Player for NodeCore {
         match word(call, 0) {
             "insert" => insert(self, alloc, call, out),
             "lookup" => lookup(self, call, out),
+            "counted" => lookup_counted(self, call, out),
+            "looked" => show(out, &self.looked()),
             "event" => event(self, alloc, call, out),
             "sweep" => show_reply(out, Reply::Swept(self.sweep(stamp(call, 1)))),
             "find" => find(self, alloc, call, out),
@@ -258,6 +272,60 @@ lookup f1(1) 0 9 = hit [0,1) still 0a
 insert f1(3) 0 0 still t1:id=3 1 12 = stored [0,1) still evicted f1(2)@0
 lookup f1(2) 0 9 = miss
 len = 2 up to 0, false
+
+A lookup looks at the entries of its key alone
+node 4 4 = 0 up to 0, true
+looked = 0
+insert f1(1) 0 0 still - 1 10 = stored [0,1) still
+insert f1(2) 0 0 still - 1 11 = stored [0,1) still
+insert f1(3) 0 0 still - 1 12 = stored [0,1) still
+lookup f1(1) 0 9 = hit [0,1) still 0a
+looked = 1
+lookup f1(4) 0 9 = miss
+looked = 0
+insert f1(2) 1 1 closed - 1 13 = stored [1,2) closed
+counted f1(2) 0 9 = hit [1,2) closed 0d, looked at 2
+counted f1(4) 0 9 = miss, looked at 0
+lookup f1(2) 2 9 = miss
+looked = 2
+counted f1(2) 5 4 = refused N1: the range of stamps is empty
+looked = 0
+
+A new entry is closed by the tags of the one that it drops
+node 1 4 = 0 up to 0, true
+insert f1(1) 0 0 still t1:id=1 1 10 = stored [0,1) still
+insert f1(2) 0 0 still t1:id=1 1 11 = stored [0,1) still evicted f1(1)@0
+event 1 t1:id=1 = closed 1
+lookup f1(2) 0 9 = hit [0,1) closed 0b
+
+An entry in the place of another is closed by its own tags alone
+node 4 4 = 0 up to 0, true
+insert f1(1) 0 0 still t1:id=1,t1:id=2 1 10 = stored [0,1) still
+insert f1(1) 0 1 still t1:id=2,t1:id=3 1 11 = stored [0,2) still
+event 1 - = closed 0
+event 2 t1:id=1 = closed 0
+event 3 t1:id=3 = closed 1
+lookup f1(1) 0 9 = hit [0,3) closed 0b
+
+What an event leaves under its tag the next one closes
+node 4 4 = 0 up to 0, true
+insert f1(1) 0 0 still t1:id=1 1 10 = stored [0,1) still
+insert f1(2) 0 1 still t1:id=1 1 11 = stored [0,2) still
+event 1 t1:id=1 = closed 1
+event 2 t1:id=1 = closed 1
+lookup f1(1) 0 9 = hit [0,1) closed 0a
+lookup f1(2) 0 9 = hit [0,2) closed 0b
+
+A wildcard on either side is found
+node 4 4 = 0 up to 0, true
+insert f1(1) 0 0 still t1:? 1 10 = stored [0,1) still
+insert f1(2) 0 0 still t1:id=2 1 11 = stored [0,1) still
+insert f1(3) 0 0 still t2:id=2 1 12 = stored [0,1) still
+event 1 t1:grp=7 = closed 1
+event 2 t1:? = closed 1
+event 3 t2:? = closed 1
+lookup f1(1) 0 9 = hit [0,1) closed 0a
+lookup f1(3) 0 9 = hit [0,3) closed 0c
 
 A sweep drops what has ended
 node 4 4 = 0 up to 0, true

@@ -9,15 +9,15 @@ use Rattle.txc_cushion.specs.declared.limits.TheConstants.{MAX_HANDED_OUT, MAX_P
 use Rattle.txc_cushion.specs.Pinning.{pin_of}
 use Rattle.txc_cushion.specs.Entries.{pins_of, stamps_of, EntriesFall, may_be_handed_out, with_user, without_users, with_entry, is_retirable}
 
--- the names of the cells for the events of its database; what its front shows of the history; and the pins, the newest
--- first, each with its users
+-- the names of the cells for the events of its database; what its front shows of the history; and the pins,
+-- the newest first, each with its users
 pub record CushionValue : Type 0 where
   pub events : List ℕ
   pub history : History
   pub entries : List PinEntry
 
--- what is true of every pincushion: its newest pin stands first, its history shows each, and there are no more than there
--- may be
+-- what is true of every pincushion: its newest pin stands first, its history shows each, and there are no
+-- more than there may be
 pub record IsCushion (c : CushionValue) : Type 0 where
   pub falls : EntriesFall c.entries
   pub shown : All (λ e. moment_at c.history e.pin.stamp ≡ Some e.pin.moment) c.entries
@@ -40,7 +40,8 @@ handed_out c now staleness at_least =
 
 -- each of these has one user more
 abbrev pub after_fresh : CushionValue → ℕ → ℕ → ℕ → CushionValue
-after_fresh c now staleness at_least = record c { entries = map (with_user (handed_out c now staleness at_least)) c.entries }
+after_fresh c now staleness at_least =
+    record c { entries = map (with_user (handed_out c now staleness at_least)) c.entries }
 
 -- ---- other calls
 

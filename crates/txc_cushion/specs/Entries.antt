@@ -33,8 +33,8 @@ times stamp stamps = count_by (λ s. s == stamp) stamps
 
 -- ---- handed out
 
--- it is fresh: its moment is no more than `staleness` before `now`; its stamp isn't below the one asked for; and one more
--- may use it
+-- it is fresh: its moment is no more than `staleness` before `now`; its stamp isn't below the one asked for;
+-- and one more may use it
 abbrev pub may_be_handed_out : ℕ → ℕ → ℕ → PinEntry → Bool
 may_be_handed_out now staleness at_least e =
     not (is_older staleness now e.pin) && (nat_le at_least e.pin.stamp && nat_lt e.users MAX_USERS)
@@ -56,7 +56,8 @@ without_users stamps e = record e { users = e.users - times e.pin.stamp stamps }
 -- the entry between those with greater stamps and those with lesser ones
 abbrev pub with_entry : PinEntry → List PinEntry → List PinEntry
 with_entry new entries =
-    filter (λ e. nat_lt new.pin.stamp e.pin.stamp) entries ++ new ∷ filter (λ e. nat_lt e.pin.stamp new.pin.stamp) entries
+    filter (λ e. nat_lt new.pin.stamp e.pin.stamp) entries
+    ++ new ∷ filter (λ e. nat_lt e.pin.stamp new.pin.stamp) entries
 
 -- none may use it, and its moment is more than `age` before `now`
 abbrev pub is_retirable : ℕ → ℕ → PinEntry → Bool

@@ -10,7 +10,8 @@ use Rattle.txc_cushion.specs.Refusals.{IsAddable, HaveUsers}
 -- no stamp is pinned twice, and one that is not pinned has no users
 abbrev pub PinsEachStampOnce : Type 0
 PinsEachStampOnce = (c : CushionValue) (stamp : ℕ) → IsCushion c
-    → (times stamp (stamps_of c.entries) ≤ 1) × (times stamp (stamps_of c.entries) ≡ 0 → users_of stamp c.entries ≡ 0)
+    → (times stamp (stamps_of c.entries) ≤ 1)
+    × (times stamp (stamps_of c.entries) ≡ 0 → users_of stamp c.entries ≡ 0)
 
 -- ---- fresh pins
 
@@ -21,23 +22,30 @@ pub record CountsFreshUsers (c : CushionValue) (now staleness at_least stamp : �
   pub stamps : stamps_of (after_fresh c now staleness at_least).entries ≡ stamps_of c.entries
 
 abbrev pub FreshCountsUsers : Type 0
-FreshCountsUsers = (c : CushionValue) (now staleness at_least stamp : ℕ) → IsCushion c → CountsFreshUsers c now staleness at_least stamp
+FreshCountsUsers = (c : CushionValue) (now staleness at_least stamp : ℕ) → IsCushion c
+    → CountsFreshUsers c now staleness at_least stamp
 
--- a pin that may be handed out and is not is older than all that are, and there are as many of these as may be
+-- a pin that may be handed out and is not is older than all that are, and there are as many of these as may
+-- be
 abbrev pub HandsOutTheNewest : Type 0
 HandsOutTheNewest = (c : CushionValue) (now staleness at_least : ℕ) (e : PinEntry) → IsCushion c
-    → Contains c.entries e → may_be_handed_out now staleness at_least e ≡ true → is_among e.pin.stamp (handed_out c now staleness at_least) ≡ false
-    → (length (handed_out c now staleness at_least) ≡ MAX_HANDED_OUT) × All (λ p. e.pin.stamp < p.stamp) (handed_out c now staleness at_least)
+    → Contains c.entries e → may_be_handed_out now staleness at_least e ≡ true
+    → is_among e.pin.stamp (handed_out c now staleness at_least) ≡ false
+    → (length (handed_out c now staleness at_least) ≡ MAX_HANDED_OUT)
+    × All (λ p. e.pin.stamp < p.stamp) (handed_out c now staleness at_least)
 
 -- ---- pins added, given back and retired
 
 -- the stamp of the pin has one pin and one user more
 pub record CountsAddedPin (c : CushionValue) (pinned : Pinned) (stamp : ℕ) : Type 0 where
-  pub users : users_of stamp (after_add c pinned).entries ≡ users_of stamp c.entries + (if pinned.stamp == stamp then 1 else 0)
-  pub stamps : times stamp (stamps_of (after_add c pinned).entries) ≡ times stamp (stamps_of c.entries) + (if pinned.stamp == stamp then 1 else 0)
+  pub users : users_of stamp (after_add c pinned).entries
+      ≡ users_of stamp c.entries + (if pinned.stamp == stamp then 1 else 0)
+  pub stamps : times stamp (stamps_of (after_add c pinned).entries)
+      ≡ times stamp (stamps_of c.entries) + (if pinned.stamp == stamp then 1 else 0)
 
 abbrev pub AddCountsOnePin : Type 0
-AddCountsOnePin = (c : CushionValue) (pinned : Pinned) (stamp : ℕ) → IsCushion c → IsAddable c pinned.stamp → CountsAddedPin c pinned stamp
+AddCountsOnePin = (c : CushionValue) (pinned : Pinned) (stamp : ℕ) → IsCushion c → IsAddable c pinned.stamp
+    → CountsAddedPin c pinned stamp
 
 -- each stamp has a user fewer for each time that it is named, and no pin comes or goes
 pub record CountsGivenBack (c : CushionValue) (given : List ℕ) (stamp : ℕ) : Type 0 where
@@ -45,11 +53,13 @@ pub record CountsGivenBack (c : CushionValue) (given : List ℕ) (stamp : ℕ) :
   pub stamps : stamps_of (after_give_back c given).entries ≡ stamps_of c.entries
 
 abbrev pub GiveBackCountsUsers : Type 0
-GiveBackCountsUsers = (c : CushionValue) (given : List ℕ) (stamp : ℕ) → HaveUsers c.entries given → CountsGivenBack c given stamp
+GiveBackCountsUsers = (c : CushionValue) (given : List ℕ) (stamp : ℕ) → HaveUsers c.entries given
+    → CountsGivenBack c given stamp
 
 -- the stamps that are answered are those whose pins are gone; they had no users, and no stamp loses one
 pub record CountsRetired (c : CushionValue) (now age stamp : ℕ) : Type 0 where
-  pub stamps : times stamp (stamps_of (after_retire c now age).entries) + times stamp (retired c now age) ≡ times stamp (stamps_of c.entries)
+  pub stamps : times stamp (stamps_of (after_retire c now age).entries) + times stamp (retired c now age)
+      ≡ times stamp (stamps_of c.entries)
   pub users : users_of stamp (after_retire c now age).entries ≡ users_of stamp c.entries
   pub unused : 0 < times stamp (retired c now age) → users_of stamp c.entries ≡ 0
 

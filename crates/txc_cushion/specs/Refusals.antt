@@ -15,7 +15,8 @@ pub record IsAddable (c : CushionValue) (stamp : ℕ) : Type 0 where
 -- of a pin: full, or the stamp is there already; and then out of memory
 abbrev pub IsAddRefused : CushionValue → ℕ → AddError → Type 0
 IsAddRefused c stamp Full = length c.entries ≡ MAX_PINS
-IsAddRefused c stamp (Known named) = (length c.entries < MAX_PINS) × (is_pinned stamp c.entries ≡ true) × (named ≡ stamp)
+IsAddRefused c stamp (Known named) = (length c.entries < MAX_PINS) × (is_pinned stamp c.entries ≡ true)
+    × (named ≡ stamp)
 IsAddRefused c stamp Memory = IsAddable c stamp
 
 -- each stamp has as many users as it is named

@@ -19,9 +19,9 @@ use txc_stamp::Stamp;
 
 /// The pinned stamps of a history that transactions may use, for one thread.
 ///
-/// It is a map from stamps to the moments of their pins and to how many transactions may use each. Its front shows each
-/// of its pins, so that what it hands out proves itself. Contracts see the pins, the newest first, and what the front
-/// shows.
+/// It is a map from stamps to the moments of their pins and to how many transactions may use each. Its front
+/// shows each of its pins, so that what it hands out proves itself. Contracts see the pins, the newest first,
+/// and what the front shows.
 #[derive(Drop)]
 pub struct CushionCore {
     front: HistoryFront,
@@ -52,17 +52,18 @@ impl CushionCore {
         }
     }
 
-    /// What holds of every pincushion: its newest pin stands first, and its history shows each. It does nothing when it
-    /// runs.
+    /// What holds of every pincushion: its newest pin stands first, and its history shows each. It does
+    /// nothing when it runs.
     pub fn is_cushion(&self)
         ensures { IsCushion self.now }
     {
         let _entries = &self.entries;
     }
 
-    /// Hands out the newest of the fresh pins, at most [`crate::MAX_HANDED_OUT`], and counts one user more for each. A
-    /// pin is fresh where its moment is no more than `staleness` before `now`, all in milliseconds, and its stamp is not
-    /// below `at_least`. One with [`crate::MAX_USERS`] users is passed over.
+    /// Hands out the newest of the fresh pins, at most [`crate::MAX_HANDED_OUT`], and counts one user more
+    /// for each. A pin is fresh where its moment is no more than `staleness` before `now`, all in
+    /// milliseconds, and its stamp is not below `at_least`. One with [`crate::MAX_USERS`] users is passed
+    /// over.
     pub fn fresh(
         &mut self,
         alloc: Global,
@@ -84,7 +85,8 @@ impl CushionCore {
         Ok(Pins { pins, front })
     }
 
-    /// Adds a pin of the front's row, with one user. From then on the front shows what the front of the pin shows.
+    /// Adds a pin of the front's row, with one user. From then on the front shows what the front of the pin
+    /// shows.
     pub fn add(&mut self, pinned: &Pinned) -> Result<(), AddError>
         requires { pinned.now.front.events ≡ self.old.events }
         ensures after { OnOk result (self.new ≡ after_add self.old pinned.now) }
@@ -116,8 +118,8 @@ impl CushionCore {
         Ok(())
     }
 
-    /// Takes out the pins that no transaction may use and whose moment is more than `age` before `now`, all in
-    /// milliseconds. It answers their stamps, the least first.
+    /// Takes out the pins that no transaction may use and whose moment is more than `age` before `now`, all
+    /// in milliseconds. It answers their stamps, the least first.
     pub fn retire(&mut self, alloc: Global, now: u64, age: u64) -> Result<Vec<Stamp>, AllocError>
         ensures after { OnOk result (self.new ≡ after_retire self.old now age) }
         ensures answer { IfOk result (λ stamps. stamps.items ≡ retired self.old now age) }

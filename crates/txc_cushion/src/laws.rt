@@ -11,7 +11,8 @@ pub fn fresh_counts_users()
     ensures { FreshCountsUsers }
 {}
 
-/// A pin that may be handed out and is not is older than all that are, and there are as many of these as may be.
+/// A pin that may be handed out and is not is older than all that are, and there are as many of these as may
+/// be.
 pub fn fresh_hands_out_the_newest()
     ensures { HandsOutTheNewest }
 {}

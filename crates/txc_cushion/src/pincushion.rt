@@ -16,8 +16,8 @@ use txc_stamp::Stamp;
 
 /// A pincushion that threads share.
 ///
-/// Each call waits for the lock, does the call of [`CushionCore`] of its name, and refuses as that does, for some
-/// pincushion of the named row. What it hands out, the front beside it shows.
+/// Each call waits for the lock, does the call of [`CushionCore`] of its name, and refuses as that does, for
+/// some pincushion of the named row. What it hands out, the front beside it shows.
 #[derive(Drop)]
 pub struct Pincushion<J: Naming> {
     lock: Mutex<Locked<J>>,
@@ -32,9 +32,9 @@ impl<J: Naming> Pincushion<J> {
         })
     }
 
-    /// Hands out the newest of the fresh pins, at most [`crate::MAX_HANDED_OUT`], and counts one user more for each. Each
-    /// is a pin of the front's history whose moment is no more than `staleness` before `now`, all in milliseconds, and
-    /// whose stamp is not below `at_least`.
+    /// Hands out the newest of the fresh pins, at most [`crate::MAX_HANDED_OUT`], and counts one user more
+    /// for each. Each is a pin of the front's history whose moment is no more than `staleness` before `now`,
+    /// all in milliseconds, and whose stamp is not below `at_least`.
     pub fn fresh(
         &self,
         rt: &impl Wait,
@@ -69,8 +69,8 @@ impl<J: Naming> Pincushion<J> {
         self.lock.lock(rt).give_back(stamps)
     }
 
-    /// Takes out the pins that no transaction may use and whose moment is more than `age` before `now`, all in
-    /// milliseconds. It answers their stamps, the least first.
+    /// Takes out the pins that no transaction may use and whose moment is more than `age` before `now`, all
+    /// in milliseconds. It answers their stamps, the least first.
     pub fn retire(
         &self,
         rt: &impl Wait,

@@ -5,12 +5,11 @@ use Rattle.txc_tags.specs.declared.tag.Tag.{Tag}
 use Rattle.txc_tags.specs.Tags.{with_tags, set_of}
 use Rattle.txc_rows.specs.declared.query.Change.{Change}
 use Rattle.txc_rows.specs.declared.query.Query.TheVariants.{ById}
-use Rattle.txc_rows.specs.Members.{IsIn}
 use Rattle.txc_rows.specs.States.{RowValue, State, IsState, row_before, is_at, answer, after_changes}
 use Rattle.txc_rows.specs.RowTags.{tags_of_row, tags_between}
 use Rattle.txc_rows.specs.Net.{change_table, change_id, same_key, key_before, changes_state, placed, settled, net_changes, KeysRise, puts_of, rows_at}
 use Rattle.txc_rows.specs.Laws.{NetTags, NetLeads}
-use Rattle.txc_rows.proofs.Offered.{any_there, any_found, both_true, in_filter, from_filter, in_left, in_right}
+use Rattle.txc_rows.proofs.Offered.{IsIn, is_in, any_there, any_found, both_true, in_filter, from_filter, in_left, in_right}
 use Rattle.txc_rows.proofs.Offered.{same_rows, filter_state}
 use Rattle.txc_db.specs.DatabaseValue.{DatabaseValue}
 use Rattle.txc_db.specs.Calls.{matching_of, row_query, AreFewNamed}
@@ -191,7 +190,7 @@ settled_has c (d ∷ cs) (inr later) =
 -- what is so of each key that settles is so of each that a change names
 pub few_named : (d : DatabaseValue) (changes : List Change) → ((x : Change) → IsIn x (settled changes) → matching_of d (row_query x) ≤ MAX_MATCHING) → AreFewNamed d changes
 few_named d changes few c one =
-    let it = settled_has c changes one in
+    let it = settled_has c changes (is_in changes c one) in
     subst (λ (i : ℕ). matching_of d (ById (change_table c) i) ≤ MAX_MATCHING) it.id (subst (λ (t : ℕ). matching_of d (ById t (change_id it.change)) ≤ MAX_MATCHING) it.table (few it.change it.one))
 
 -- what is among one more was among them, or is the one

@@ -5,7 +5,7 @@ use Rattle.std.specs.Result.{IsErrAnd}
 use Rattle.txc_tags.specs.declared.tag.Tag.{Tag}
 use Rattle.txc_rows.specs.declared.query.Change.{Change}
 use Rattle.txc_rows.specs.declared.store_error.StoreError.TheVariants as store
-use Rattle.txc_rows.specs.Members.{IsIn}
+use Rattle.txc_rows.proofs.Offered.{IsIn, contains_it}
 use Rattle.txc_db.specs.declared.error.DbError.{DbError}
 use Rattle.txc_db.specs.declared.error.DbError.TheVariants.{Store, Broken, FutureStamp}
 use Rattle.txc_db.specs.DatabaseValue.{DatabaseValue, newest_net}
@@ -34,7 +34,7 @@ some_in c (x ∷ xs) is none = let f = none in absurd cc
 
 -- a refusal at one of the changes is one of all of them
 pub read_refused : (d : DatabaseValue) (changes : List Change) (c : Change) → IsIn c changes → (e : DbError) → IsReadRefused d (row_query c) e → IsNetRefused d changes e
-read_refused d changes c one (Store store.TooManyRows) h = (c, one, h)
+read_refused d changes c one (Store store.TooManyRows) h = (c, contains_it changes c one, h)
 read_refused d changes c one (Store (store.Store cause)) h = some_in c changes one
 read_refused d changes c one (Store store.StoreMemory) h = some_in c changes one
 read_refused d changes c one (Store store.Memory) h = h

@@ -1,5 +1,6 @@
 -- When the calls of a database are refused, and what a refusal leaves.
 use Rattle.std.specs.Prelude.{◌≡◌, ◌≢◌, ◌⊎◌, ⊤, ℕ, ◌+◌, ◌<◌, ◌≤◌, true, false, List, [], length, filter}
+use Rattle.std.specs.List.{Contains}
 use Rattle.txc_tags.specs.declared.tag.Tag.{Tag}
 use Rattle.txc_rows.specs.declared.query.Query.{Query}
 use Rattle.txc_rows.specs.declared.query.Query.TheVariants.{ById}
@@ -7,7 +8,6 @@ use Rattle.txc_rows.specs.declared.query.Change.{Change}
 use Rattle.txc_rows.specs.declared.store_error.StoreError.{StoreError}
 use Rattle.txc_rows.specs.declared.store_error.StoreError.TheVariants as store
 use Rattle.txc_rows.specs.declared.store_error.TheConstants.{MAX_MATCHING}
-use Rattle.txc_rows.specs.Members.{IsIn}
 use Rattle.txc_rows.specs.Net.{change_table, change_id}
 use Rattle.txc_rows.specs.Versions.{suits}
 use Rattle.txc_db.specs.declared.error.DbError.{DbError}
@@ -118,7 +118,7 @@ row_query c = ById (change_table c) (change_id c)
 
 -- of no row that the changes name are too many versions kept
 abbrev pub AreFewNamed : DatabaseValue → List Change → Type 0
-AreFewNamed d changes = (c : Change) → IsIn c changes → matching_of d (row_query c) ≤ MAX_MATCHING
+AreFewNamed d changes = (c : Change) → Contains changes c → matching_of d (row_query c) ≤ MAX_MATCHING
 
 -- the database is whole and knows the base
 pub record IsBase (d : DatabaseValue) (base : ℕ) : Type 0 where
@@ -158,7 +158,7 @@ pub record IsEventBarred (d : DatabaseValue) (base : ℕ) (read : List Tag) (cha
 -- it refused by itself
 abbrev pub IsStoreRefusedIn : DatabaseValue → List Change → StoreError → Type 0
 IsStoreRefusedIn d changes store.TooManyRows =
-    (c : Change) × IsIn c changes × (MAX_MATCHING < matching_of d (row_query c))
+    (c : Change) × Contains changes c × (MAX_MATCHING < matching_of d (row_query c))
 IsStoreRefusedIn d changes (store.Store cause) = changes ≢ []
 IsStoreRefusedIn d changes store.StoreMemory = changes ≢ []
 IsStoreRefusedIn d changes store.Memory = ⊥

@@ -46,7 +46,8 @@ fn is_key_before(one: &Change, other: &Change) -> bool
 /// Where the change belongs among those that settle later ones, or none where one of them has its table and
 /// id.
 fn place_of(change: &Change, settled: &[Change]) -> Option<usize>
-    ensures { MatchOption result (placed change.now settled.now ≡ settled.now) (λ at. (at ≤ length settled.now)
+    ensures { MatchOption result (placed change.now settled.now ≡ settled.now)
+        (λ at. (at ≤ length settled.now)
         × (insert settled.now at change.now ≡ placed change.now settled.now)) }
 {
     for (at, other) in settled.iter().enumerate() {

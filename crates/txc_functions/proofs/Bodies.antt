@@ -1,7 +1,7 @@
 -- Bodies with commas between them.
 use Rattle.std.proofs.Common.{◌≡◌, ℕ, List, [], ◌∷◌, ◌++◌, append-nil, ap, sym}
 use Rattle.txc_rows.specs.Values.{RowValue}
-use Rattle.txc_shared.specs.Worked.{bodies_of}
+use Rattle.txc_functions.specs.Program.{bodies_of}
 
 -- a comma before each body
 abbrev pub after_commas : List RowValue → List ℕ

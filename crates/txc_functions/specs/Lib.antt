@@ -1,2 +1,4 @@
 pub mod Program
 pub mod Running
+pub mod Worked
+pub mod WorkedNodes

@@ -1,6 +1,7 @@
 -- The functions of the program: what each asks, and gives, by its arguments and the answers so far.
 use Rattle.std.specs.Prelude.{ℕ, ◌==◌, if◌then◌else◌, List, [], ◌∷◌, ◌++◌, length, Option, Some, None}
 use Rattle.std.specs.Fmt.{decimal}
+use Rattle.txc_tags.specs.Keys.{Call as CallValue}
 use Rattle.txc_rows.specs.Values.{RowValue}
 use Rattle.txc_rows.specs.declared.query.Query.TheVariants.{ById, ByGroup, All}
 use Rattle.txc_shared.specs.declared.ask.Ask.{Ask}
@@ -8,11 +9,25 @@ use Rattle.txc_shared.specs.declared.ask.Ask.TheVariants.{Query, Call, Done}
 use Rattle.txc_shared.specs.declared.ask.Answer.{Answer}
 use Rattle.txc_shared.specs.declared.ask.Answer.TheVariants.{Rows, Value}
 use Rattle.txc_shared.specs.Eval.{Next}
-use Rattle.txc_shared.specs.Worked.{body_of, bodies_of, call_of}
 
 -- the table that they ask
 abbrev pub TABLE : ℕ
 TABLE = 1
+
+-- a call of a function with these arguments
+abbrev pub call_of : ℕ → List ℕ → CallValue
+call_of function args = record { function = function; args = args }
+
+-- the first row's body, or no byte
+abbrev pub body_of : List RowValue → List ℕ
+body_of [] = []
+body_of (r ∷ rows) = r.body
+
+-- the bodies, with a comma between two of them
+abbrev pub bodies_of : List RowValue → List ℕ
+bodies_of [] = []
+bodies_of (r ∷ []) = r.body
+bodies_of (r ∷ s ∷ rows) = r.body ++ 44 ∷ bodies_of (s ∷ rows)
 
 -- the rows of an answer
 abbrev pub rows_in : Answer → List RowValue

@@ -1,6 +1,5 @@
 ghost use Rattle.std.specs.Prelude.{◌≡◌, ◌++◌, ◌∷◌, IfOk};
-ghost use Rattle.txc_shared.specs.Worked.{body_of};
-ghost use Rattle.txc_functions.specs.Program.{bytes_in, rows_in};
+ghost use Rattle.txc_functions.specs.Program.{body_of, bytes_in, rows_in};
 
 use crate::body_at::{append_body, table};
 use crate::definition::Definition;

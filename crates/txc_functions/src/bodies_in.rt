@@ -1,6 +1,5 @@
 ghost use Rattle.std.specs.Prelude.{◌≡◌, IfOk};
-ghost use Rattle.txc_shared.specs.Worked.{bodies_of};
-ghost use Rattle.txc_functions.specs.Program.{rows_in};
+ghost use Rattle.txc_functions.specs.Program.{bodies_of, rows_in};
 
 use crate::body_at::table;
 use crate::definition::Definition;

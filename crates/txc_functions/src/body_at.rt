@@ -1,6 +1,5 @@
 ghost use Rattle.std.specs.Prelude.{◌≡◌, ◌++◌, IfOk, OnOk, OnErr};
-ghost use Rattle.txc_shared.specs.Worked.{body_of};
-ghost use Rattle.txc_functions.specs.Program.{rows_in, TABLE};
+ghost use Rattle.txc_functions.specs.Program.{body_of, rows_in, TABLE};
 
 use crate::definition::Definition;
 use std::alloc::{AllocError, Global};

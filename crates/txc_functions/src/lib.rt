@@ -12,6 +12,7 @@ mod definition;
 mod endless;
 mod function;
 mod held;
+pub mod laws;
 mod program;
 mod row_count;
 

@@ -10,7 +10,7 @@ use Rattle.txc_node.specs.declared.entry.Entry.{Entry}
 use Rattle.txc_node.specs.Entries.{same_place, others, AreApart}
 use Rattle.txc_node.specs.Cache.{is_invalidated, entry_after}
 
-eqb_sym : (m n : ℕ) → eqb m n ≡ eqb n m
+pub eqb_sym : (m n : ℕ) → eqb m n ≡ eqb n m
 eqb_sym m n = same_from_decides (eqb m n) (eqb n m) (Decides-eqb m n) (Decides-like (eqb n m) (λ (e : n ≡ m). sym e) (λ (e : m ≡ n). sym e) (Decides-eqb n m))
 
 same_call_sym : (a b : Call) → same_call a b ≡ same_call b a
@@ -49,7 +49,7 @@ remove_is_others (e ∷ es) (suc i) d l h =
 
 -- ---- what stays apart
 
-filter_keeps : (P : Entry → Type 0) (test : Entry → Bool) (es : List Entry) → AllByRecursion P es → AllByRecursion P (filter test es)
+pub filter_keeps : (P : Entry → Type 0) (test : Entry → Bool) (es : List Entry) → AllByRecursion P es → AllByRecursion P (filter test es)
 filter_keeps P test [] h = tt
 filter_keeps P test (e ∷ es) h =
     let go : (b : Bool) → AllByRecursion P (cond b (e ∷ filter test es) (filter test es)) = λ b. elim b as (λ v. AllByRecursion P (cond v (e ∷ filter test es) (filter test es))) [ true ↦ (h.0, filter_keeps P test es h.1) | false ↦ filter_keeps P test es h.1 ] in
@@ -61,7 +61,7 @@ filter_apart test (e ∷ es) h =
     let go : (b : Bool) → AreApart (cond b (e ∷ filter test es) (filter test es)) = λ b. elim b as (λ v. AreApart (cond v (e ∷ filter test es) (filter test es))) [ true ↦ (filter_keeps (λ o. same_place o e ≡ false) test es h.0, filter_apart test es h.1) | false ↦ filter_apart test es h.1 ] in
     go (test e)
 
-others_elsewhere : (e : Entry) (es : List Entry) → AllByRecursion (λ o. same_place o e ≡ false) (others e es)
+pub others_elsewhere : (e : Entry) (es : List Entry) → AllByRecursion (λ o. same_place o e ≡ false) (others e es)
 others_elsewhere e [] = tt
 others_elsewhere e (x ∷ es) =
     let P : Entry → Type 0 = λ o. same_place o e ≡ false in
@@ -96,11 +96,3 @@ after_elsewhere stamp tags e (x ∷ es) h = (after_both stamp tags x e ∙ h.0, 
 pub after_apart : (stamp : ℕ) (tags : List Tag) (es : List Entry) → AreApart es → AreApart (map (entry_after stamp tags) es)
 after_apart stamp tags [] h = tt
 after_apart stamp tags (e ∷ es) h = (after_elsewhere stamp tags e es h.0, after_apart stamp tags es h.1)
-
--- what `pull` leaves, in the words of places
-pub pulled : (es ys : List Entry) (i : ℕ) → i < length es → AreApart es → ((d : Entry) → ys ≡ get_or es i d ∷ remove es i) → (d : Entry) → ys ≡ get_or es i d ∷ others (get_or es i d) es
-pulled es ys i l h k d = k d ∙ ap (λ xs. get_or es i d ∷ xs) (remove_is_others es i d l h)
-
-pub pulled_apart : (es ys : List Entry) (i : ℕ) → i < length es → AreApart es → ((d : Entry) → ys ≡ get_or es i d ∷ remove es i) → AreApart ys
-pulled_apart [] ys i l h k = absurd (omega arith)
-pulled_apart (x ∷ xs) ys i l h k = rw (pulled (x ∷ xs) ys i l h k x) (first_apart (get_or (x ∷ xs) i x) (x ∷ xs) h)

@@ -1,21 +1,20 @@
 -- What an insertion leaves, from what its parts leave.
-use Rattle.std.proofs.Common.{◌≡◌, ℕ, ◌+◌, ◌-◌, ◌<◌, ◌≤◌, Bool, true, false, not, ◌&&◌, eqb, ltb, suc, cond, List, [], ◌∷◌, length, get_or, take, drop, leb, Option, Some, None, refl, subst, sym, ap, ◌∙◌, arith}
+use Rattle.std.proofs.Common.{◌≡◌, ℕ, ◌+◌, ◌-◌, ◌≤◌, Bool, true, false, not, ◌&&◌, eqb, ltb, suc, cond, List, [], ◌∷◌, length, get_or, take, drop, Option, Some, None, refl, subst, sym, ap, ◌∙◌, arith}
 use Rattle.std.specs.Prelude.{slice_get}
 use Rattle.std.specs.List.{AllByRecursion, filter, find, position, prefix_len, remove}
 use Rattle.std.proofs.lemmas.Bool.Decides.{nat_tests, Decides-eqb}
-use Rattle.std.proofs.lemmas.List.{take_all, get_or_read}
 use Rattle.std.proofs.lemmas.List.Edits.{length-remove}
 use Rattle.std.proofs.lemmas.List.Quantifiers.{position-Some}
 use Rattle.std.proofs.lemmas.List.Recursion.{found_at}
 use Rattle.std.proofs.lemmas.Option.{slice_get_past}
 use Rattle.txc_node.specs.declared.entry.Entry.{Entry}
-use Rattle.txc_stamp.specs.Interval.{Interval, shown, end_at, closed_at}
+use Rattle.txc_stamp.specs.Interval.{Interval, shown, closed_at}
 use Rattle.txc_tags.specs.Keys.{Call, same_call}
 use Rattle.txc_tags.proofs.Offered.{same_call_is, both_true}
 use Rattle.txc_tags.specs.Tags.{sets_match}
 use Rattle.txc_tags.specs.declared.tag.Tag.{Tag}
 use Rattle.txc_node.specs.declared.node.Inserted.TheVariants.{Stored, Kept}
-use Rattle.txc_node.specs.Cache.{Cache, outcome, evicted_entry, reach_after_replay, replayed_reach, replayed_entry, closed_before, ends_no_earlier, is_kept, entries_with, after_insert}
+use Rattle.txc_node.specs.Cache.{Cache, outcome, evicted_entry, reach_after_replay, replayed_reach, closed_before, is_kept, entries_with, after_insert}
 use Rattle.txc_node.specs.Entries.{same_place, others, AreApart}
 use Rattle.txc_node.proofs.Apart.{remove_is_others, first_apart, take_apart}
 
@@ -27,7 +26,7 @@ same_place_like x e o h =
     let l : x.reach.lo ≡ e.reach.lo = (Decides-eqb x.reach.lo e.reach.lo).0 p.1 in
     ap (λ (c : Call). same_call o.key c && eqb o.reach.lo x.reach.lo) k ∙ ap (λ (n : ℕ). same_call o.key e.key && eqb o.reach.lo n) l
 
-filter_same : (p q : Entry → Bool) → ((o : Entry) → p o ≡ q o) → (es : List Entry) → filter p es ≡ filter q es
+pub filter_same : (p q : Entry → Bool) → ((o : Entry) → p o ≡ q o) → (es : List Entry) → filter p es ≡ filter q es
 filter_same p q h [] = refl
 filter_same p q h (e ∷ es) = rw (h e, filter_same p q h es)
 
@@ -59,7 +58,7 @@ find_at p es i d h =
     let k = position-Some p es i d h in
     found_at (find p) p (λ x. Some x) None refl (λ _ _. refl) es i d k.0 k.2 k.1
 
-others_none : (e : Entry) (es : List Entry) → AllByRecursion (λ o. same_place o e ≡ false) es → others e es ≡ es
+pub others_none : (e : Entry) (es : List Entry) → AllByRecursion (λ o. same_place o e ≡ false) es → others e es ≡ es
 others_none e [] h = refl
 others_none e (x ∷ es) h = rw (h.0, others_none e es h.1)
 
@@ -71,11 +70,6 @@ replaced e es i d h p =
     remove_is_others es i d k.0 h ∙ others_like (get_or es i d) e es k.1
 
 -- ---- the new list, as it is cut to the capacity
-
-pub there : (capacity : ℕ) (f e : Entry) (es new : List Entry) (i : ℕ) → AreApart es → position (λ o. same_place o e) es ≡ Some i → length es ≤ capacity → new ≡ f ∷ remove es i → new ≡ take capacity (f ∷ others e es)
-there capacity f e es new i h p w k =
-    let l = position-Some (λ o. same_place o e) es i e p in
-    k ∙ sym (take_all capacity (f ∷ remove es i) (omega (arith, length-remove es i l.0))) ∙ ap (λ xs. take capacity (f ∷ xs)) (replaced e es i e h p)
 
 pub there_none : (capacity : ℕ) (f e : Entry) (es : List Entry) (i : ℕ) → AreApart es → position (λ o. same_place o e) es ≡ Some i → length es ≤ capacity → None ≡ slice_get (f ∷ others e es) capacity
 there_none capacity f e es i h p w =
@@ -97,7 +91,7 @@ replay_lo i tags p recent =
     top i.still
 
 -- the place of an entry is that of the entry after the replay
-place_moved : (e : Entry) (i : Interval) (o : Entry) → i.lo ≡ e.reach.lo → (let f : Entry = record e { reach = i } in same_place o f ≡ same_place o e)
+pub place_moved : (e : Entry) (i : Interval) (o : Entry) → i.lo ≡ e.reach.lo → (let f : Entry = record e { reach = i } in same_place o f ≡ same_place o e)
 place_moved e i o h = ap (λ l. same_call o.key e.key && eqb o.reach.lo l) h
 
 pub cut_apart : (capacity : ℕ) (e : Entry) (i : Interval) (es : List Entry) → i.lo ≡ e.reach.lo → AreApart es → (let f : Entry = record e { reach = i } in AreApart (take capacity (f ∷ others e es)))
@@ -105,12 +99,6 @@ cut_apart capacity e i es l h =
     let f : Entry = record e { reach = i } in
     let same : others f es ≡ others e es = filter_same (λ o. not (same_place o f)) (λ o. not (same_place o e)) (λ o. ap not (place_moved e i o l)) es in
     take_apart capacity (f ∷ others e es) (subst (λ xs. AreApart (f ∷ xs)) same (first_apart f es h))
-
-pub kept_is : (c : Cache) (e : Entry) (i : ℕ) → position (λ o. same_place o e) c.entries ≡ Some i → is_kept c e ≡ leb (end_at c.processed (replayed_reach c e)) (end_at c.processed (get_or c.entries i e).reach)
-kept_is c e i h = ap (ends_no_earlier c.processed (replayed_entry c e)) (find_at (λ o. same_place o e) c.entries i e h)
-
-pub not_kept : (c : Cache) (e : Entry) → position (λ o. same_place o e) c.entries ≡ None → is_kept c e ≡ false
-not_kept c e h = ap (ends_no_earlier c.processed (replayed_entry c e)) (find_none (λ o. same_place o e) c.entries (position_none (λ o. same_place o e) c.entries h))
 
 pub kept_state : (c : Cache) (e : Entry) → is_kept c e ≡ true → (c ≡ after_insert c e) × (Kept e ≡ outcome c e)
 kept_state c e h = (sym (ap (λ b. cond b c (record c { entries = take c.capacity (entries_with c e) })) h), sym (ap (λ b. cond b (Kept e) (Stored (shown c.processed (replayed_reach c e)) (evicted_entry c e))) h))
@@ -120,18 +108,3 @@ stored_state c e es out h k o = (
   ap (λ (xs : List Entry). let d : Cache = record c { entries = xs } in d) k ∙ sym (ap (λ b. cond b c (record c { entries = take c.capacity (entries_with c e) })) h),
   ap (Stored (shown c.processed (replayed_reach c e))) o ∙ sym (ap (λ b. cond b (Kept e) (Stored (shown c.processed (replayed_reach c e)) (evicted_entry c e))) h),
 )
-
-old_end : (p : ℕ) (es : List Entry) (i : ℕ) (x e : Entry) → i < length es → x ≡ get_or es i x → end_at p x.reach ≡ end_at p (get_or es i e).reach
-old_end p es i x e l h = ap (λ (y : Entry). end_at p y.reach) (get_or_read es i x l h e)
-
-pub kept_true : (c : Cache) (e : Entry) (i : ℕ) (x : Entry) (r : Interval) (m n : ℕ) → position (λ o. same_place o e) c.entries ≡ Some i → x ≡ get_or c.entries i x → r ≡ replayed_reach c e → m ≡ end_at c.processed r → n ≡ end_at c.processed x.reach → m ≤ n → is_kept c e ≡ true
-kept_true c e i x r m n h k q em en l =
-    let o = old_end c.processed c.entries i x e (position-Some (λ o. same_place o e) c.entries i e h).0 k in
-    let t : leb m n ≡ true = grind (arith, nat_tests) in
-    kept_is c e i h ∙ ap (λ y. leb (end_at c.processed y) (end_at c.processed (get_or c.entries i e).reach)) (sym q) ∙ ap (λ y. leb (end_at c.processed r) y) (sym o) ∙ ap (λ y. leb (end_at c.processed r) y) (sym en) ∙ ap (λ y. leb y n) (sym em) ∙ t
-
-pub kept_false : (c : Cache) (e : Entry) (i : ℕ) (x : Entry) (r : Interval) (m n : ℕ) → position (λ o. same_place o e) c.entries ≡ Some i → x ≡ get_or c.entries i x → r ≡ replayed_reach c e → m ≡ end_at c.processed r → n ≡ end_at c.processed x.reach → n < m → is_kept c e ≡ false
-kept_false c e i x r m n h k q em en l =
-    let o = old_end c.processed c.entries i x e (position-Some (λ o. same_place o e) c.entries i e h).0 k in
-    let t : leb m n ≡ false = grind (arith, nat_tests) in
-    kept_is c e i h ∙ ap (λ y. leb (end_at c.processed y) (end_at c.processed (get_or c.entries i e).reach)) (sym q) ∙ ap (λ y. leb (end_at c.processed r) y) (sym o) ∙ ap (λ y. leb (end_at c.processed r) y) (sym en) ∙ ap (λ y. leb y n) (sym em) ∙ t

@@ -182,10 +182,10 @@ use_keeps c (Some e) at h = record {
   any = h.any;
 }
 
-lookup_keeps : (c : Cache) (key : Call) (lo hi : ℕ) → IsCache c → IsCache (after_lookup c key lo hi)
+pub lookup_keeps : (c : Cache) (key : Call) (lo hi : ℕ) → IsCache c → IsCache (after_lookup c key lo hi)
 lookup_keeps c key lo hi h = use_keeps c (found c key lo hi) (λ e k. (finds_the_longest c key lo hi e k).stands) h
 
-insert_keeps : (c : Cache) (e : Entry) → IsCache c → IsCache (after_insert c e)
+pub insert_keeps : (c : Cache) (e : Entry) → IsCache c → IsCache (after_insert c e)
 insert_keeps c e h =
     let new : Cache = record c { entries = take c.capacity (entries_with c e) } in
     let stored : IsCache new = record {
@@ -198,7 +198,7 @@ insert_keeps c e h =
     let go : (b : Bool) → IsCache (cond b c new) = λ b. elim b as (λ v. IsCache (cond v c new)) [ true ↦ h | false ↦ stored ] in
     go (is_kept c e)
 
-event_keeps : (c : Cache) (tags : List Tag) → IsCache c → IsCache (after_event c (c.processed + 1) tags)
+pub event_keeps : (c : Cache) (tags : List Tag) → IsCache c → IsCache (after_event c (c.processed + 1) tags)
 event_keeps c tags h =
     let all = c.recent ++ tags ∷ [] in
     record {

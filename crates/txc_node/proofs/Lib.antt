@@ -6,7 +6,18 @@ pub mod Inserts
 pub mod LawLemmas
 pub mod ReplayLemmas
 mod Dropped
-mod Swept
+pub mod Swept
 mod Counting
 pub mod Offered
+pub mod Positions
+pub mod KeyReaches
+pub mod KeyLists
+pub mod Fronts
+pub mod Closings
+pub mod Invalidated
+pub mod Lasts
+pub mod Turns
+pub mod Buckets
+pub mod Puts
+pub mod Pairs
 mod History

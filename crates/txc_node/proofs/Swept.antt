@@ -65,7 +65,7 @@ sweep_keeps c horizon h = record {
 -- ---- lookups after it
 
 -- what fails of all that are dropped is found alike among those that stay
-find_filter : (s q : Entry → Bool) → ((o : Entry) → s o ≡ false → q o ≡ false) → (es : List Entry) → find q (filter s es) ≡ find q es
+pub find_filter : (s q : Entry → Bool) → ((o : Entry) → s o ≡ false → q o ≡ false) → (es : List Entry) → find q (filter s es) ≡ find q es
 find_filter s q h [] = refl
 find_filter s q h (x ∷ xs) =
     let rest = find_filter s q h xs in
@@ -75,7 +75,7 @@ find_filter s q h (x ∷ xs) =
     ] in
     go (s x) refl
 
-all_filter : (s t : Entry → Bool) → ((o : Entry) → s o ≡ false → t o ≡ true) → (es : List Entry) → list_all t (filter s es) ≡ list_all t es
+pub all_filter : (s t : Entry → Bool) → ((o : Entry) → s o ≡ false → t o ≡ true) → (es : List Entry) → list_all t (filter s es) ≡ list_all t es
 all_filter s t h [] = refl
 all_filter s t h (x ∷ xs) =
     let rest = all_filter s t h xs in
@@ -85,7 +85,7 @@ all_filter s t h (x ∷ xs) =
     ] in
     go (s x) refl
 
-find_same : (p q : Entry → Bool) → ((o : Entry) → p o ≡ q o) → (es : List Entry) → find p es ≡ find q es
+pub find_same : (p q : Entry → Bool) → ((o : Entry) → p o ≡ q o) → (es : List Entry) → find p es ≡ find q es
 find_same p q h [] = refl
 find_same p q h (x ∷ xs) = rw (h x, find_same p q h xs)
 

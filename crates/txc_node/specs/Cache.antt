@@ -37,11 +37,6 @@ pub record IsCache (c : Cache) : Type 0 where
   pub some : 0 < c.capacity
   pub any : 0 < c.depth
 
--- a cache, in a node whose list of tags has room for `space`
-pub record IsHeld (c : Cache) (space : ℕ) : Type 0 where
-  pub cache : IsCache c
-  pub room : c.depth ≤ space
-
 -- ---- a lookup: of the entries that meet the range, the one that none outlasts moves to the front
 
 -- the entry that a lookup finds: the one that meets the range and that none outlasts

@@ -20,8 +20,8 @@ abbrev pub closed : ℕ → ℕ → Interval
 closed lo known = record { lo = lo; known = known; still = false }
 
 -- a result of one byte of the call of function 1 with argument n
-abbrev pub entry_of : ℕ → ℕ → Interval → List Tag → Entry
-entry_of n byte reach tags = record { key = call_of n; value = byte ∷ []; reach = reach; tags = tags }
+abbrev pub byte_entry : ℕ → ℕ → Interval → List Tag → Entry
+byte_entry n byte reach tags = record { key = call_of n; value = byte ∷ []; reach = reach; tags = tags }
 
 abbrev pub shows : ℕ → Interval → List Tag → Option Shown
 shows byte reach tags = Some (record { reach = reach; value = byte ∷ []; tags = tags })
@@ -29,7 +29,7 @@ shows byte reach tags = Some (record { reach = reach; value = byte ∷ []; tags 
 -- ---- a still valid entry is found as far as events were taken, and an event that matches closes it
 
 abbrev pub first : Entry
-first = entry_of 2 10 (still_valid 0 0) (id_tag 1 2 ∷ [])
+first = byte_entry 2 10 (still_valid 0 0) (id_tag 1 2 ∷ [])
 
 abbrev pub one_entry : Cache
 one_entry = after_insert (empty_cache 4 4) first
@@ -49,7 +49,8 @@ pub record ClosesAtTheMatch : Type 0 where
   pub beyond_its_end : answer two_events (call_of 2) 2 9 ≡ None
   pub found_closed : answer two_events (call_of 2) 0 9 ≡ shows 10 (closed 0 1) (id_tag 1 2 ∷ [])
 
--- ---- an entry that comes late is closed before the first event that it missed and matches, or at its own known
+-- ---- an entry that comes late is closed before the first event that it missed and matches, or at its own
+-- known
 
 abbrev pub both_events : ℕ → Cache
 both_events depth = after_event (after_event (empty_cache 4 depth) 1 (id_tag 1 3 ∷ [])) 2 (id_tag 1 2 ∷ [])
@@ -58,16 +59,18 @@ pub record ReplaysWhatIsKept : Type 0 where
   pub both_kept : outcome (both_events 4) first ≡ Stored (closed 0 1) None
   pub one_kept : outcome (both_events 1) first ≡ Stored (closed 0 0) None
 
--- ---- an entry known beyond the processed stamp is closed by no event up to there; the wildcard matches each tag
+-- ---- an entry known beyond the processed stamp is closed by no event up to there; the wildcard matches each
+-- tag
 
 abbrev pub ahead : Entry
-ahead = entry_of 2 10 (still_valid 1 5) (wildcard 1 ∷ [])
+ahead = byte_entry 2 10 (still_valid 1 5) (wildcard 1 ∷ [])
 
 abbrev pub quiet : Cache
 quiet = after_event (after_event (empty_cache 4 4) 1 []) 2 []
 
 abbrev pub five_events : Cache
-five_events = after_event (after_event (after_event (after_insert quiet ahead) 3 (group_tag 1 9 ∷ [])) 4 []) 5 []
+five_events =
+    after_event (after_event (after_event (after_insert quiet ahead) 3 (group_tag 1 9 ∷ [])) 4 []) 5 []
 
 pub record WaitsForItsEnd : Type 0 where
   pub stored : outcome quiet ahead ≡ Stored (still_valid 1 5) None
@@ -79,7 +82,7 @@ pub record WaitsForItsEnd : Type 0 where
 -- ---- a full cache drops the entry that was used longest ago
 
 abbrev pub number : ℕ → ℕ → Entry
-number n byte = entry_of n byte (still_valid 0 0) (id_tag 1 n ∷ [])
+number n byte = byte_entry n byte (still_valid 0 0) (id_tag 1 n ∷ [])
 
 abbrev pub full : Cache
 full = after_insert (after_insert (empty_cache 2 4) (number 1 10)) (number 2 11)
@@ -97,10 +100,10 @@ pub record DropsTheLeastRecentlyUsed : Type 0 where
 
 abbrev pub two_begins : Cache
 two_begins =
-    after_insert (after_insert (after_event (empty_cache 4 4) 1 []) (entry_of 2 10 (still_valid 0 0) []))
-    (entry_of 2 11 (still_valid 1 1) [])
+    after_insert (after_insert (after_event (empty_cache 4 4) 1 []) (byte_entry 2 10 (still_valid 0 0) []))
+    (byte_entry 2 11 (still_valid 1 1) [])
 
 pub record PrefersTheLaterBegin : Type 0 where
   pub later_begin : answer two_begins (call_of 2) 0 9 ≡ shows 11 (still_valid 1 1) []
   pub only_one : answer two_begins (call_of 2) 0 0 ≡ shows 10 (still_valid 0 1) []
-  pub longer : outcome two_begins (entry_of 2 12 (closed 0 3) []) ≡ Stored (closed 0 3) None
+  pub longer : outcome two_begins (byte_entry 2 12 (closed 0 3) []) ≡ Stored (closed 0 3) None

@@ -1,4 +1,6 @@
 pub mod Entries
+pub mod Places
+pub mod Indexed
 pub mod Cache
 pub mod Best
 pub mod Hit

@@ -10,21 +10,24 @@
 //! the replay of recent events at an insertion are this project's own.
 #![tactic(auto)]
 
+mod bucket;
 mod counts;
 mod entry;
 mod hit;
-mod invalidation;
+mod indexed;
+mod key_index;
 pub mod laws;
 mod node;
 mod op;
+mod place;
 mod record;
 mod refusal;
 mod replay;
 mod reply;
-mod room;
-mod search;
-mod sweeping;
+mod stored;
+mod tag_index;
 mod value;
+mod versions;
 
 pub use counts::{Counts, FunctionCounts};
 pub use entry::{Entry, EntryError};

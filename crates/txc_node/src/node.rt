@@ -1,23 +1,25 @@
 //! The node: its entries, and the tags of the last events.
-ghost use Rattle.std.specs.Prelude.{◌≡◌, ◌+◌, ◌<◌, ◌≤◌, ◌↔◌, map, length, [], IsTrue, Ok, Err, IfOk, IfErr, OnOk, OnErr, IsOk, MatchResult, false, vec_len};
-ghost use Rattle.std.specs.List.{count_by};
+ghost use Rattle.std.specs.Prelude.{List, Option, None, option_copied, slice_get, if◌then◌else◌, is_some, ◌≡◌, ◌+◌, ◌<◌, ◌≤◌, ◌↔◌, length, [], IsTrue, Ok, Err, IfOk, IfErr, OnOk, OnErr, IsOk, MatchResult, false};
 ghost use Rattle.std.specs.Option.{option_map};
 ghost use Rattle.std.specs.Borrow.{sem};
 ghost use Rattle.std.specs.Io.BufRead.{Rests};
 ghost use Rattle.txc_node.specs.contracts.node.NodeCore.{the_row};
-ghost use Rattle.txc_node.specs.Cache.{empty_cache, found, answer, after_lookup, is_kept, after_insert, outcome, is_invalidated, entry_after, after_event, closed_count, after_sweep, swept_count};
-ghost use Rattle.txc_node.specs.Best.{StandsAt};
+ghost use Rattle.txc_node.specs.declared.entry.Entry.{Entry};
+ghost use Rattle.txc_node.specs.Cache.{ends_no_earlier, shown_of, empty_cache, found, answer, after_lookup, is_kept, after_insert, outcome, after_event, closed_count, after_sweep, swept_count};
 ghost use Rattle.txc_node.specs.Hit.{seen};
+ghost use Rattle.txc_node.specs.Indexed.{IsFound, entries_under, shown_as};
 
 use crate::entry::Entry;
 use crate::hit::Hit;
-use crate::invalidation::invalidate;
+use crate::indexed::IndexedEntries;
+use crate::place::Place;
 use crate::replay::replay_for;
-use crate::room::{keep_last, make_room, move_to_front, put};
-use crate::search::{best_at, hit_at, place_of};
-use crate::sweeping::drop_ended;
+use crate::stored::Stored;
+use crate::versions::Found;
+use circular_buffer::HeapCircularBuffer;
 use std::alloc::{AllocError, AllocFailed, Global};
 use std::marker::Model;
+use std::num::NonZeroUsize;
 use thiserror::Error;
 use txc_stamp::{Reach, Stamp};
 use txc_tags::{Key, TagSet};
@@ -59,43 +61,69 @@ pub enum Inserted {
 /// The versioned cache of one node.
 #[derive(Debug, Drop)]
 pub struct NodeCore {
-    entries: Vec<Entry>,
+    entries: IndexedEntries,
     processed: Stamp,
-    recent: Vec<TagSet>,
-    capacity: usize,
-    depth: usize,
+    recent: HeapCircularBuffer<TagSet>,
+    looked: u64,
 }
 
 impl Model for NodeCore {
-    ghost use Rattle.std.specs.Prelude.{vec_capacity};
-    ghost use Rattle.txc_node.specs.Cache.{Cache, IsHeld};
+    ghost use Rattle.txc_node.specs.Cache.{Cache, IsCache};
 
     ghost Value = { Cache };
 
     ghost view = { λ n. record {
-      entries = n.entries.items;
+      entries = n.entries.entries;
       processed = n.processed;
       recent = n.recent.items;
-      capacity = n.capacity;
-      depth = n.depth;
+      capacity = n.entries.capacity;
+      depth = n.recent.capacity;
     } };
 
-    ghost invariant = { λ n. IsHeld (record {
-      entries = n.entries.items;
+    ghost invariant = { λ n. IsCache (record {
+      entries = n.entries.entries;
       processed = n.processed;
       recent = n.recent.items;
-      capacity = n.capacity;
-      depth = n.depth;
-    }) (vec_capacity n.recent) };
+      capacity = n.entries.capacity;
+      depth = n.recent.capacity;
+    }) };
 }
 
-// Closes the entries that an event invalidates just below it, and counts them.
-fn invalidate_all(entries: &mut Vec<Entry>, stamp: Stamp, tags: &TagSet) -> usize
-    ensures entries { entries.new.items ≡ map (entry_after stamp tags.now) entries.old.items }
-    ensures len { vec_len entries.new ≡ vec_len entries.old }
-    ensures count { result ≡ count_by (is_invalidated stamp tags.now) entries.old.items }
+// What is lent of an entry.
+fn hit_of(stored: Option<&Stored>, processed: Stamp) -> Option<Hit<'_>>
+    ensures { option_map seen result ≡ option_map (shown_as processed) (option_copied stored.entry) }
 {
-    invalidate(entries, stamp, tags)
+    let stored = stored?;
+    let _known = stored.reach.known();
+    let last = stored.reach.end(processed) - 1;
+    Some(Hit {
+        stored: &stored.reach,
+        last,
+        value: &stored.value,
+        tags: &stored.tags,
+    })
+}
+
+// The hit of the entry that was used last, or none.
+fn hit_first(entries: &IndexedEntries, processed: Stamp, is_hit: bool) -> Option<Hit<'_>>
+    ensures { option_map seen result
+        ≡ (if is_hit then option_map (shown_of processed) (slice_get entries.now.entries 0) else None) }
+{
+    if !is_hit {
+        return None;
+    }
+    hit_of(entries.first(), processed)
+}
+
+// Whether there is a reach that ends no earlier than a new one.
+fn ends_no_earlier(found: &Option<Found>, reach: Reach, processed: Stamp) -> bool
+    ensures { (e : Entry) (es : List Entry) (o : Option Entry) → IsFound es o found.now
+        → result ≡ ends_no_earlier processed (record e { reach = reach }) o }
+{
+    match found {
+        None => false,
+        Some(old) => reach.end(processed) <= old.reach.end(processed),
+    }
 }
 
 // Whether stamps begin before they end.
@@ -117,13 +145,14 @@ impl NodeCore {
         requires recent { (1 ≤ recent) × (recent ≤ MAX_RECENT) }
         ensures { IfOk result (λ n. n ≡ empty_cache capacity recent) }
     {
-        let tags = Vec::with_capacity(alloc, recent)?;
+        let room = NonZeroUsize::new(capacity).unwrap();
+        let entries = IndexedEntries::new(alloc, room)?;
+        let recent = HeapCircularBuffer::with_capacity(alloc, recent)?;
         Ok(NodeCore {
-            entries: Vec::new(alloc),
+            entries,
             processed: Stamp::ZERO,
-            recent: tags,
-            capacity,
-            depth: recent,
+            recent,
+            looked: 0,
         })
     }
 
@@ -145,7 +174,13 @@ impl NodeCore {
     pub fn is_empty(&self) -> bool
         ensures { IsTrue result ↔ (self.now.entries ≡ []) }
     {
-        self.entries.is_empty()
+        self.len() == 0
+    }
+
+    /// How many entries the last lookup looked at to take a key or a span: what
+    /// [`NodeCore::lookup_counted`] returns, and 0 where its stamps were refused, or before any lookup.
+    pub fn looked(&self) -> u64 {
+        self.looked
     }
 
     /// Answers and refuses as [`NodeCore::lookup`] does, and changes nothing. It takes no memory.
@@ -155,24 +190,34 @@ impl NodeCore {
         ensures answer { IfOk result (λ r. option_map seen r ≡ answer self.now key.now lo hi) }
     {
         check_range(lo, hi)?;
-        let at = best_at(&self.entries, self.processed, key, lo, hi);
-        Ok(hit_at(&self.entries, self.processed, at))
+        let (found, _) = self.entries.best(self.processed, key, lo, hi);
+        let Some(found) = found else {
+            return Ok(None);
+        };
+        let place = Place::new(key, found.reach.lo());
+        Ok(hit_of(self.entries.get(&place), self.processed))
     }
 
-    // Looks an entry up and moves it to the front, and says where it then stands.
-    fn touch(&mut self, key: &Key, lo: Stamp, hi: Stamp) -> Result<Option<usize>, EmptyRange>
+    // Looks an entry up and moves it to the front, and says whether there is one, and how many entries were
+    // looked at.
+    fn touch(&mut self, key: &Key, lo: Stamp, hi: Stamp) -> Result<(bool, u64), EmptyRange>
         ensures only_if { OnOk result (lo ≤ hi) }
         ensures refused { OnErr result (hi < lo) }
         ensures unchanged { OnErr result (self.new ≡ self.old) }
         ensures after { OnOk result (self.new ≡ after_lookup self.old key.now lo hi) }
-        ensures place { IfOk result (StandsAt (found self.old key.now lo hi) self.new.entries) }
+        ensures is_hit { IfOk result (λ r. r.0 ≡ is_some (found self.old key.now lo hi)) }
+        ensures looked { IfOk result (λ r. r.1 ≡ length (entries_under key.now self.old.entries)) }
     {
+        self.looked = 0;
         check_range(lo, hi)?;
-        match best_at(&self.entries, self.processed, key, lo, hi) {
-            None => Ok(None),
-            Some(at) => {
-                move_to_front(&mut self.entries, at);
-                Ok(Some(0))
+        let (found, looked) = self.entries.best(self.processed, key, lo, hi);
+        let looked = looked as u64;
+        self.looked = looked;
+        match found {
+            None => Ok((false, looked)),
+            Some(found) => {
+                self.entries.bring_first(key, found);
+                Ok((true, looked))
             }
         }
     }
@@ -190,9 +235,31 @@ impl NodeCore {
             (λ _. new ≡ after_lookup self.old key.now lo hi)
             (λ _. new ≡ self.old))) }
     {
-        let at = self.touch(key, lo, hi)?;
+        let (is_hit, _) = self.touch(key, lo, hi)?;
         let processed = self.processed;
-        Ok(hit_at(&self.entries, processed, at))
+        Ok(hit_first(&self.entries, processed, is_hit))
+    }
+
+    /// Does what [`NodeCore::lookup`] does, and returns beside its answer how many entries it looked at to
+    /// take a key or a span: those of the key, however many others there are.
+    pub fn lookup_counted(
+        &mut self,
+        key: &Key,
+        lo: Stamp,
+        hi: Stamp,
+    ) -> Result<(Option<Hit<'_>>, u64), EmptyRange>
+        ensures only_if { OnOk result (lo ≤ hi) }
+        ensures refused { OnErr result (hi < lo) }
+        ensures answer { IfOk result (λ r. option_map seen r.0 ≡ answer self.old key.now lo hi) }
+        ensures looked { IfOk result (λ r. r.1 ≡ length (entries_under key.now self.old.entries)) }
+        // after an Ok the node is that after the lookup, and after an Err as it was
+        ensures* after { sem 𝓛 (Rests the_row self.entry (λ new. MatchResult result
+            (λ _. new ≡ after_lookup self.old key.now lo hi)
+            (λ _. new ≡ self.old))) }
+    {
+        let (is_hit, looked) = self.touch(key, lo, hi)?;
+        let processed = self.processed;
+        Ok((hit_first(&self.entries, processed, is_hit), looked))
     }
 
     /// Takes the next event: closes, just below it, the still valid entries that were known below it and
@@ -209,9 +276,9 @@ impl NodeCore {
                 processed: self.processed,
             });
         }
-        let count = invalidate_all(&mut self.entries, stamp, &tags);
+        let count = self.entries.invalidate(stamp, &tags);
         self.processed = stamp;
-        keep_last(&mut self.recent, self.depth, tags);
+        self.recent.push_back(tags);
         Ok(count)
     }
 
@@ -227,25 +294,13 @@ impl NodeCore {
         ensures handed_back { IfErr result (λ e. e.value ≡ entry) }
     {
         let reach = replay_for(&entry, self.processed, &self.recent);
-        match place_of(&self.entries, &entry) {
-            Some(at) => {
-                let old = self.entries[at].reach;
-                if reach.end(self.processed) <= old.end(self.processed) {
-                    return Ok(Inserted::Kept(entry));
-                }
-                let evicted = put(&mut self.entries, self.capacity, Some(at), entry, reach);
-                let reach = reach.shown(self.processed);
-                Ok(Inserted::Stored { reach, evicted })
-            }
-            None => {
-                if !make_room(&mut self.entries, self.capacity) {
-                    return Err(AllocFailed { value: entry });
-                }
-                let evicted = put(&mut self.entries, self.capacity, None, entry, reach);
-                let reach = reach.shown(self.processed);
-                Ok(Inserted::Stored { reach, evicted })
-            }
+        let found = self.entries.standing(&entry);
+        if ends_no_earlier(&found, reach, self.processed) {
+            return Ok(Inserted::Kept(entry));
         }
+        let evicted = self.entries.put(&found, entry, reach)?;
+        let reach = reach.shown(self.processed);
+        Ok(Inserted::Stored { reach, evicted })
     }
 
     /// Drops exactly the entries whose span ends at the horizon or before it, and counts them. The others
@@ -254,6 +309,6 @@ impl NodeCore {
         ensures after { self.new ≡ after_sweep self.old horizon }
         ensures answer { result ≡ swept_count self.old horizon }
     {
-        drop_ended(&mut self.entries, self.processed, horizon)
+        self.entries.drop_ended(self.processed, horizon)
     }
 }

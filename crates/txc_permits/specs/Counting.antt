@@ -15,11 +15,13 @@ permits_out (view ∷ views) = permits_at view + permits_out views
 
 -- the word is the number of permits that are out, and at most n
 abbrev pub IsCounted : ℕ → State (Unit {0}) Bool → Type 0
-IsCounted n s = (length s.words ≡ 1) × (slice_index s.words 0 ≡ permits_out s.views) × (permits_out s.views ≤ n)
+IsCounted n s = (length s.words ≡ 1) × (slice_index s.words 0 ≡ permits_out s.views)
+    × (permits_out s.views ≤ n)
 
 -- where the number found is the one that was expected, the seat has a permit; else nothing changes
 abbrev pub takes_one : Step (Unit {0}) → Me (Unit {0}) Bool → ℕ → Me (Unit {0}) Bool → Type 0
-takes_one step before found after = (found ≡ step.first → after.0 ≡ true) × (found ≢ step.first → after.0 ≡ before.0)
+takes_one step before found after = (found ≡ step.first → after.0 ≡ true)
+    × (found ≢ step.first → after.0 ≡ before.0)
 
 -- there was a permit, and the seat has it no more
 abbrev pub gives_one : Step (Unit {0}) → Me (Unit {0}) Bool → ℕ → Me (Unit {0}) Bool → Type 0

@@ -11,7 +11,8 @@ pub(crate) struct Place {
 impl Place {
     /// Another place at the same word.
     pub(crate) fn split(&mut self, word: &Word) -> Place
-        requires table { (self.old.seat.table_id ≡ word.now.shared.table_id) × (word.now.shared.table_id.words ≡ 1) }
+        requires table { (self.old.seat.table_id ≡ word.now.shared.table_id)
+            × (word.now.shared.table_id.words ≡ 1) }
         requires free { self.old.seat.me.0 ≡ false }
         ensures unchanged { (self.new.seat.table_id ≡ self.old.seat.table_id) × (self.new.seat.me.0 ≡ false) }
         ensures answer { (result.seat.table_id ≡ self.old.seat.table_id) × (result.seat.me.0 ≡ false) }

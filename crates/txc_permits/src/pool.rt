@@ -46,7 +46,8 @@ impl Model for Permit {
 
     ghost view = { λ p. p.place.seat.table_id };
 
-    ghost invariant = { λ p. ((arc_value p.word).shared.table_id.words ≡ 1) × (p.place.seat.table_id ≡ (arc_value p.word).shared.table_id) × (p.place.seat.me.0 ≡ true) };
+    ghost invariant = { λ p. ((arc_value p.word).shared.table_id.words ≡ 1)
+        × (p.place.seat.table_id ≡ (arc_value p.word).shared.table_id) × (p.place.seat.me.0 ≡ true) };
 }
 
 impl PermitPool {
@@ -62,8 +63,8 @@ impl PermitPool {
         Ok(PermitPool { most, word, place })
     }
 
-    /// Another handle of the same pool. It takes no memory, and is refused only where the pool has as many handles and
-    /// permits as can be counted.
+    /// Another handle of the same pool. It takes no memory, and is refused only where the pool has as many
+    /// handles and permits as can be counted.
     pub fn share(&mut self) -> Result<PermitPool, AllocError>
         ensures same { IfOk result (λ other. other ≡ self.old) }
         ensures unchanged { self.new ≡ self.old }

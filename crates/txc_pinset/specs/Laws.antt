@@ -19,14 +19,19 @@ OnlyThePresentJoins = (p : PinSetValue) (new pin : Pin)
 -- each call leaves a pin set, which has a member or the present
 pub record NeverIsEmpty : Type 0 where
   pub begins : (pins : List Pin) → Falls pins → IsPinSet (begun pins)
-  pub narrows : (p : PinSetValue) (reach : Interval) → IsPinSet p → kept reach p.members ≢ [] → IsPinSet (narrowed reach p)
-  pub joins : (p : PinSetValue) (pin : Pin) → IsPinSet p → All (λ m. m.stamp < pin.stamp) p.members → IsPinSet (with_present pin p)
+  pub narrows : (p : PinSetValue) (reach : Interval) → IsPinSet p → kept reach p.members ≢ []
+      → IsPinSet (narrowed reach p)
+  pub joins : (p : PinSetValue) (pin : Pin) → IsPinSet p → All (λ m. m.stamp < pin.stamp) p.members
+      → IsPinSet (with_present pin p)
 
 -- the newest member's moment is more than `renew_after` before `now`
 abbrev pub IsTooOld : ℕ → ℕ → List Pin → Type 0
-IsTooOld now renew_after members = (newest : Pin) × (older : List Pin) × (members ≡ newest ∷ older) × (newest.moment + renew_after < now)
+IsTooOld now renew_after members = (newest : Pin) × (older : List Pin) × (members ≡ newest ∷ older)
+    × (newest.moment + renew_after < now)
 
--- the present is chosen where there is no member, or where it is there and the newest member is too old, and nowhere else
+-- the present is chosen where there is no member, or where it is there and the newest member is too old, and
+-- nowhere else
 abbrev pub TakesThePresentWhenDue : Type 0
 TakesThePresentWhenDue = (p : PinSetValue) (now renew_after : ℕ)
-    → (choice_of now renew_after p ≡ Present) ↔ ((p.members ≡ []) ⊎ ((p.has_present ≡ true) × IsTooOld now renew_after p.members))
+    → (choice_of now renew_after p ≡ Present)
+    ↔ ((p.members ≡ []) ⊎ ((p.has_present ≡ true) × IsTooOld now renew_after p.members))

@@ -17,7 +17,8 @@ pub record IsPinSet (p : PinSetValue) : Type 0 where
   pub falls : Falls p.members
   pub some : p.members ≡ [] → p.has_present ≡ true
 
--- a pin set in a list that has room for `space` members: while the present is there, there is room for its pin
+-- a pin set in a list that has room for `space` members: while the present is there, there is room for its
+-- pin
 pub record IsHeld (p : PinSetValue) (space : ℕ) : Type 0 where
   pub set : IsPinSet p
   pub room : p.has_present ≡ true → length p.members < space
@@ -42,8 +43,8 @@ narrowed reach p = record { members = kept reach p.members; has_present = false 
 abbrev pub with_present : Pin → PinSetValue → PinSetValue
 with_present pin p = record { members = pin ∷ p.members; has_present = false }
 
--- of these members and the present: the present where there is no member, or where it is there and the moment of the
--- newest member is more than `renew_after` before `now`; else the newest member
+-- of these members and the present: the present where there is no member, or where it is there and the moment
+-- of the newest member is more than `renew_after` before `now`; else the newest member
 abbrev pub choice_among : ℕ → ℕ → Bool → List Pin → Choice
 choice_among now renew_after has_present [] = Present
 choice_among now renew_after has_present (newest ∷ older) =

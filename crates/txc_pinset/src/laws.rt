@@ -11,13 +11,14 @@ pub fn only_the_present_joins()
     ensures { OnlyThePresentJoins }
 {}
 
-/// From its beginning on, and after each call, a pin set has a member or the present, and its newest member stands
-/// first.
+/// From its beginning on, and after each call, a pin set has a member or the present, and its newest member
+/// stands first.
 pub fn a_pin_set_is_never_empty()
     ensures { NeverIsEmpty }
 {}
 
-/// The present is chosen exactly where there is no member, or where it is there and the newest member is too old.
+/// The present is chosen exactly where there is no member, or where it is there and the newest member is too
+/// old.
 pub fn the_present_is_chosen_when_due()
     ensures { TakesThePresentWhenDue }
 {}

@@ -16,11 +16,11 @@ use txc_stamp::{Reach, Stamp};
 #[error("no stamp would remain")]
 pub struct WouldEmpty;
 
-/// The stamps at which a transaction may still be serialised. While it has seen nothing, the present is one of them,
-/// although it has no stamp yet.
+/// The stamps at which a transaction may still be serialised. While it has seen nothing, the present is one
+/// of them, although it has no stamp yet.
 ///
-/// Contracts see the members, the newest first, and whether the present is there. A pin set is never empty: it has a
-/// member, or the present. Only [`PinSet::begin`] takes memory.
+/// Contracts see the members, the newest first, and whether the present is there. A pin set is never empty:
+/// it has a member, or the present. Only [`PinSet::begin`] takes memory.
 #[derive(Drop)]
 pub struct PinSet {
     members: Vec<Pin>,
@@ -74,8 +74,8 @@ impl PinSet {
         })
     }
 
-    /// What holds of every pin set: the newest member stands first, and there is a member or the present. It does
-    /// nothing when it runs.
+    /// What holds of every pin set: the newest member stands first, and there is a member or the present. It
+    /// does nothing when it runs.
     pub fn is_pin_set(&self)
         ensures { IsPinSet self.now }
     {
@@ -105,8 +105,8 @@ impl PinSet {
         Some((oldest.stamp, newest.stamp))
     }
 
-    /// Keeps the members that the reach holds, and drops the others and the present. Where no member would remain, it
-    /// changes nothing.
+    /// Keeps the members that the reach holds, and drops the others and the present. Where no member would
+    /// remain, it changes nothing.
     pub fn narrow(&mut self, reach: Reach) -> Result<(), WouldEmpty>
         ensures after { OnOk result (self.new ≡ narrowed reach self.old) }
         ensures unchanged { OnErr result (self.new ≡ self.old) }
@@ -121,8 +121,8 @@ impl PinSet {
         }
     }
 
-    /// Where the next query runs: at the newest member, unless there is none or the present is there and the newest
-    /// member's moment is more than `renew_after` before `now`. All are in milliseconds.
+    /// Where the next query runs: at the newest member, unless there is none or the present is there and the
+    /// newest member's moment is more than `renew_after` before `now`. All are in milliseconds.
     pub fn choose(&self, now: u64, renew_after: u64) -> Choice
         ensures { result ≡ choice_of now renew_after self.now }
     {

@@ -2,7 +2,8 @@
 use Rattle.std.specs.Prelude.{Option, Some, None, Ok}
 use Rattle.txc_db.specs.Seen.{FrontValue}
 use Rattle.txc_ports.specs.declared.reply.PortReply.{PortReply}
-use Rattle.txc_ports.specs.declared.reply.PortReply.TheVariants.{Fresh, Pin, AddPin, Lookup, Query, Hold, Commit}
+use Rattle.txc_ports.specs.declared.reply.PortReply.TheVariants.{Fresh, Pin, AddPin, Lookup, Query, Hold}
+use Rattle.txc_ports.specs.declared.reply.PortReply.TheVariants.{Commit}
 
 -- the front beside what a port answered; none where it answered nothing that a history shows
 abbrev pub front_of : PortReply → Option FrontValue

@@ -6,7 +6,8 @@ use Rattle.txc_cushion.specs.declared.error.AddError.TheVariants as adds
 use Rattle.txc_db.specs.declared.error.DbError.{DbError}
 use Rattle.txc_db.specs.declared.error.DbError.TheVariants as database
 use Rattle.txc_ports.specs.declared.error.TxnError.{TxnError}
-use Rattle.txc_ports.specs.declared.error.TxnError.TheVariants.{Call, Database, SnapshotLost, PinsFull, Memory}
+use Rattle.txc_ports.specs.declared.error.TxnError.TheVariants.{Call, Database, SnapshotLost, PinsFull}
+use Rattle.txc_ports.specs.declared.error.TxnError.TheVariants.{Memory}
 
 -- of a call: itself, but that a growth of its own which was refused is one of the transaction
 abbrev pub refused_call : CallError → TxnError

@@ -5,7 +5,8 @@ use txc_cushion::AddError;
 use txc_db::DbError;
 use txc_stamp::Stamp;
 
-/// Why a call or a query of a transaction was refused. The transaction is open after it, and its answers are unchanged.
+/// Why a call or a query of a transaction was refused. The transaction is open after it, and its answers are
+/// unchanged.
 #[derive(Clone, Copy, Debug, PartialEq, Eq, Error)]
 pub enum TxnError {
     /// The call itself was refused.
@@ -17,7 +18,8 @@ pub enum TxnError {
     /// The database keeps the snapshot no longer; its horizon is given.
     #[error("the snapshot is gone: the horizon is {0}")]
     SnapshotLost(Stamp),
-    /// The pincushion did not take the pin of the present. The pin's event stands, and its hold was given back.
+    /// The pincushion did not take the pin of the present. The pin's event stands, and its hold was given
+    /// back.
     #[error("the pincushion takes no pin")]
     PinsFull,
     /// There are as many changes as a transaction keeps.

@@ -1,5 +1,5 @@
-//! What a transaction asks of the database, the pincushion and the nodes, one request at a time, and what it is
-//! answered. A refusal is an answer.
+//! What a transaction asks of the database, the pincushion and the nodes, one request at a time, and what it
+//! is answered. A refusal is an answer.
 //!
 //! A transaction itself calls none of them. Whoever runs it makes each request and hands it the reply.
 #![tactic(auto)]

@@ -39,7 +39,8 @@ impl PortReply {
 
     /// What it shows of the history, if it shows any.
     pub fn front(&self) -> Option<&HistoryFront>
-        ensures { MatchOption result (front_of self.now ≡ None) (λ front. front_of self.now ≡ Some front.now) }
+        ensures { MatchOption result (front_of self.now ≡ None)
+            (λ front. front_of self.now ≡ Some front.now) }
     {
         match self {
             PortReply::Fresh(Ok(pins)) => Some(&pins.front),

@@ -11,7 +11,10 @@ pub enum PortRequest {
     /// Of the pincushion: the pins that are fresh enough.
     Fresh(Bounds),
     /// Of the database: a pin of the moment `now` whose stamp is not below `at_least`.
-    Pin { now: u64, at_least: Stamp },
+    Pin {
+        now: u64,
+        at_least: Stamp,
+    },
     /// Of the pincushion: to add the pin, with one user.
     AddPin(Pinned),
     /// Of the database: to take one hold of the stamp away.
@@ -24,9 +27,15 @@ pub enum PortRequest {
         hi: Stamp,
     },
     /// Of the database: the answer of the query at the stamp.
-    Query { query: Query, stamp: Stamp },
+    Query {
+        query: Query,
+        stamp: Stamp,
+    },
     /// Of a node: to keep the entry, which is true in the history that the transaction has seen.
-    Insert { node: usize, entry: Entry },
+    Insert {
+        node: usize,
+        entry: Entry,
+    },
     /// Of the pincushion: to take one user of each stamp away.
     GiveBack(Vec<Stamp>),
     /// Of the database: a hold of its newest stamp.

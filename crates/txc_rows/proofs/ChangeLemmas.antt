@@ -4,10 +4,9 @@ use Rattle.std.proofs.lemmas.Bool.Decides.{nat_tests}
 use borrow.Author.Tests.{eq-eqb}
 use Rattle.txc_rows.specs.declared.query.Change.{Change}
 use Rattle.txc_rows.specs.declared.query.Change.TheVariants.{Put, Remove}
-use Rattle.txc_rows.specs.Members.{IsIn}
 use Rattle.txc_rows.specs.States.{RowValue, State, row_before, is_at, after_change}
 use Rattle.txc_rows.specs.Net.{change_table, change_id}
-use Rattle.txc_rows.proofs.Members.{and_true, not_true_is, in_filter, from_filter, in_left, in_right}
+use Rattle.txc_rows.proofs.Members.{IsIn, and_true, not_true_is, in_filter, from_filter, in_left, in_right}
 
 -- the change is of the row's key
 abbrev pub is_of : Change → RowValue → Bool

@@ -1,20 +1,17 @@
 -- The versions of a store go on saying the kept states, and what is found of them shows the answers.
-use Rattle.std.proofs.Common.{◌≡◌, ◌⊎◌, inl, inr, ℕ, zero, suc, ◌+◌, ◌-◌, ◌≤◌, nat_le, true, false, not, List, [], ◌∷◌, refl, sym, subst, ◌∙◌, add-zero, arith}
+use Rattle.std.proofs.Common.{◌≡◌, ◌⊎◌, inl, inr, ℕ, zero, suc, ◌+◌, ◌-◌, ◌≤◌, nat_le, true, false, not, List, [], filter, refl, sym, subst, ◌∙◌, add-zero, arith}
 use Rattle.std.proofs.lemmas.Bool.Decides.{nat_tests}
-use Rattle.std.specs.List.Sorted.{IsPermutation}
-use Rattle.std.proofs.lemmas.List.Sorted.{IsPermutation-sym}
-use Rattle.sqlite_trees.proofs.ListLemmas.{along_permutation}
+use Rattle.std.proofs.lemmas.List.Sorted.{IsPermutation-sym, Contains-permutation}
 use Rattle.txc_rows.specs.declared.version.Versioned.{Versioned}
 use Rattle.txc_rows.specs.declared.query.Query.{Query}
 use Rattle.txc_rows.specs.declared.query.Change.{Change}
-use Rattle.txc_rows.specs.Members.{IsIn}
 use Rattle.txc_rows.specs.States.{State, IsState}
 use Rattle.txc_rows.specs.Net.{IsNet}
 use Rattle.txc_rows.specs.Versions.{suits, after_net, purged, has_died_by}
 use Rattle.txc_rows.specs.Found.{Finds}
 use Rattle.txc_rows.specs.Holdable.{AreHeld}
 use Rattle.txc_rows.specs.Keeping.{KeepsStates, KeepsWritten, KeepsPurged, AnswersStates}
-use Rattle.txc_rows.proofs.Members.{bool_cases, in_filter, from_filter}
+use Rattle.txc_rows.proofs.Members.{is_in, contains_it, bool_cases, in_filter, from_filter}
 use Rattle.txc_rows.proofs.Rising.{changes_state}
 use Rattle.txc_rows.proofs.SaysLemmas.{says_answer, says_nothing, says_written, says_quiet, says_purged}
 use Rattle.txc_rows.proofs.Writable.{net_is_writable}
@@ -107,25 +104,17 @@ keeps_purged next vs states horizon newest keeps later known = record {
 
 -- ---- what is found
 
-in_permutation : {X : Type 0} (x : X) (xs ys : List X) → IsPermutation xs ys → IsIn x xs → IsIn x ys
-in_permutation {X} x = along_permutation (λ ps qs. IsIn x ps → IsIn x qs) (λ ps h. h) skip turn (λ ps qs rs p q h. q (p h))
-  where
-    skip : (y : X) (ps qs : List X) → (IsIn x ps → IsIn x qs) → IsIn x (y ∷ ps) → IsIn x (y ∷ qs)
-    skip y ps qs on (inl e) = inl e
-    skip y ps qs on (inr h) = inr (on h)
-
-    turn : (y z : X) (ps : List X) → IsIn x (y ∷ z ∷ ps) → IsIn x (z ∷ y ∷ ps)
-    turn y z ps (inl e) = inr (inl e)
-    turn y z ps (inr (inl e)) = inl e
-    turn y z ps (inr (inr h)) = inr (inr h)
-
 pub found_answers : (q : Query) (vs found : List Versioned) → Finds q vs found → AnswersStates q vs found
 found_answers q vs found finds states horizon newest keeps =
     let versions = finds_versions q vs found keeps.versions finds in
     record {
       answers = λ t low high. says_answer q t vs found (states t) (keeps.each t low high) (keeps.says.kept t low high)
-          (λ v there. (from_filter (suits q) v vs (in_permutation v found _ (IsPermutation-sym _ _ finds.same) there)).0)
-          (λ v there fits. in_permutation v _ found finds.same (in_filter (suits q) v vs there fits))
+          (λ v there.
+          let passed = Contains-permutation found (filter (suits q) vs) v (IsPermutation-sym _ _ finds.same) there in
+          contains_it vs v (from_filter (suits q) v vs (is_in (filter (suits q) vs) v passed)).0)
+          (λ v there fits.
+          let passed = in_filter (suits q) v vs (is_in vs v there) fits in
+          Contains-permutation (filter (suits q) vs) found v finds.same (contains_it (filter (suits q) vs) v passed))
           (shown_rises t q found versions.apart finds.sorted);
       versions = versions;
     }

@@ -5,11 +5,10 @@ use borrow.Author.Tests.{eqb-true}
 use Rattle.std.specs.List.{AllByRecursion}
 use Rattle.txc_rows.specs.declared.query.Change.{Change}
 use Rattle.txc_rows.specs.declared.query.Change.TheVariants.{Put, Remove}
-use Rattle.txc_rows.specs.Members.{IsIn}
 use Rattle.txc_rows.specs.States.{RowValue, State, row_before, IsState, is_at, row_at, after_change}
 use Rattle.txc_rows.specs.Net.{change_table, change_id}
 use Rattle.txc_rows.specs.Laws.{is_change_of, made_by, ChangeUpdates}
-use Rattle.txc_rows.proofs.Members.{both_true, not_true_is, from_filter}
+use Rattle.txc_rows.proofs.Members.{IsIn, both_true, not_true_is, from_filter}
 use Rattle.txc_rows.proofs.ChangeLemmas.{is_of, made_there, other_there, from_change, made_of}
 use Rattle.txc_rows.proofs.Rising.{change_state}
 

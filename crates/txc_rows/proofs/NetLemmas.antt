@@ -5,13 +5,12 @@ use borrow.Author.Tests.{eqb-true, eq-eqb}
 use Rattle.std.specs.List.{AllByRecursion, list_any, list_all}
 use Rattle.txc_rows.specs.declared.query.Change.{Change}
 use Rattle.txc_rows.specs.declared.query.Change.TheVariants.{Put, Remove}
-use Rattle.txc_rows.specs.Members.{IsIn}
 use Rattle.txc_rows.specs.States.{RowValue, State, IsState, is_at, row_at, after_change, after_changes}
 use Rattle.txc_rows.specs.Values.{same_row}
 use Rattle.txc_rows.specs.RowTags.{has_row}
 use Rattle.txc_rows.specs.Net.{change_table, change_id, same_key, key_before, changes_state, placed, settled, net_changes, KeysRise, IsNet}
 use Rattle.txc_rows.specs.Laws.{NetLeads, NetIsDifference, is_change_of}
-use Rattle.txc_rows.proofs.Members.{bool_cases, both_true, and_true, not_true_is, any_there, any_found}
+use Rattle.txc_rows.proofs.Members.{IsIn, bool_cases, both_true, and_true, not_true_is, any_there, any_found}
 use Rattle.txc_rows.proofs.ChangeLemmas.{is_of, Makes, made_there, other_there, from_change, made_of}
 use Rattle.txc_rows.proofs.Rising.{changes_state as changed_state, same_rows}
 use Rattle.txc_rows.proofs.RowTests.{same_row_is, has_there}

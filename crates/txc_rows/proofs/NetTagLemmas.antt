@@ -4,12 +4,11 @@ use Rattle.std.specs.List.{AllByRecursion, list_any, flat_map}
 use Rattle.txc_tags.specs.Tags.{set_of}
 use Rattle.txc_rows.specs.declared.query.Change.{Change}
 use Rattle.txc_rows.specs.declared.query.Change.TheVariants.{Put, Remove}
-use Rattle.txc_rows.specs.Members.{IsIn}
 use Rattle.txc_rows.specs.States.{RowValue, State, row_before, IsState}
 use Rattle.txc_rows.specs.RowTags.{has_row, lost, tags_of_row}
 use Rattle.txc_rows.specs.Net.{changes_state, KeysRise, puts_of, rows_at}
 use Rattle.txc_rows.specs.Laws.{NetTags}
-use Rattle.txc_rows.proofs.Members.{bool_cases, not_true_is, in_filter, from_filter}
+use Rattle.txc_rows.proofs.Members.{IsIn, bool_cases, not_true_is, in_filter, from_filter}
 use Rattle.txc_rows.proofs.RowTests.{has_row_in, has_there}
 use Rattle.txc_rows.proofs.ChangeLemmas.{is_of, Makes, made_of}
 use Rattle.txc_rows.proofs.Rising.{changes_state as changed_state, same_rows, filter_state}

@@ -6,8 +6,7 @@ use Rattle.txc_rows.specs.declared.query.Change.{Change}
 use Rattle.txc_rows.specs.declared.query.Change.TheVariants.{Put, Remove}
 use Rattle.txc_rows.specs.States.{RowValue, State, row_before, IsState, is_at, after_change, after_changes}
 use Rattle.txc_rows.specs.Laws.{StatesAreRows}
-use Rattle.txc_rows.specs.Members.{IsIn}
-use Rattle.txc_rows.proofs.Members.{from_filter}
+use Rattle.txc_rows.proofs.Members.{IsIn, is_in, contains_it, from_filter}
 use Rattle.txc_rows.proofs.ChangeLemmas.{cut}
 
 lt_trans : (a b c d e f : ℕ) → nat_lt a c || ((a == c) && nat_lt b d) ≡ true → nat_lt c e || ((c == e) && nat_lt d f) ≡ true → nat_lt a e || ((a == e) && nat_lt b f) ≡ true
@@ -91,4 +90,6 @@ same_rows (x ∷ xs) (y ∷ ys) hx hy to back =
     off z e h (inr later) = later
 
 pub states_are_rows : StatesAreRows
-states_are_rows s u hs hu same = same_rows s u hs hu (λ r. (same r).0) (λ r. (same r).1)
+states_are_rows s u hs hu same = same_rows s u hs hu
+    (λ r h. is_in u r ((same r).0 (contains_it s r h)))
+    (λ r h. is_in s r ((same r).1 (contains_it u r h)))

@@ -6,12 +6,11 @@ use Rattle.txc_tags.specs.Tags.{id_tag, group_tag, tags_match, sets_match}
 use Rattle.txc_tags.proofs.Offered.{all_covered, covered_match}
 use Rattle.txc_rows.specs.declared.query.Query.{Query}
 use Rattle.txc_rows.specs.declared.query.Query.TheVariants.{ById, ByGroup, All}
-use Rattle.txc_rows.specs.Members.{IsIn}
 use Rattle.txc_rows.specs.Values.{same_row}
 use Rattle.txc_rows.specs.States.{RowValue, State, matches, answer}
 use Rattle.txc_rows.specs.RowTags.{query_tag, covers_query, has_row, lost, tags_of_row, tags_between}
 use Rattle.txc_rows.specs.Laws.{TagsAreSound, NoTagsBetween}
-use Rattle.txc_rows.proofs.Members.{bool_cases, and_true, any_there, in_filter, from_filter, in_left, in_right}
+use Rattle.txc_rows.proofs.Members.{IsIn, bool_cases, and_true, any_there, in_filter, from_filter, in_left, in_right}
 use Rattle.txc_rows.proofs.RowTests.{has_row_in, row_itself}
 use Rattle.txc_rows.proofs.Rising.{filter_state, same_rows}
 

@@ -4,11 +4,10 @@ use borrow.Author.Tests.{eqb-true, eq-eqb}
 use Rattle.std.proofs.lemmas.Slice.Eq.{bytes_eq-Decides}
 use Rattle.std.specs.Bool.{Decides}
 use Rattle.std.specs.Str.{bytes_eq}
-use Rattle.txc_rows.specs.Members.{IsIn}
 use Rattle.txc_rows.specs.Values.{same_row}
 use Rattle.txc_rows.specs.States.{RowValue, State}
 use Rattle.txc_rows.specs.RowTags.{has_row}
-use Rattle.txc_rows.proofs.Members.{both_true, and_true, any_there, any_found}
+use Rattle.txc_rows.proofs.Members.{IsIn, both_true, and_true, any_there, any_found}
 
 pub same_row_is : (r s : RowValue) → same_row r s ≡ true → r ≡ s
 same_row_is r s e =

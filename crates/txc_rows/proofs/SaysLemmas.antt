@@ -2,7 +2,7 @@
 use Rattle.std.proofs.Common.{◌≡◌, ◌⊎◌, inl, inr, ℕ, suc, ◌<◌, ◌≤◌, List, [], ◌∷◌, ◌++◌, map, filter, cond, not, Option, Some, None, is_none, Bool, true, false, true≢false, nat_le, nat_lt, ◌&&◌, ◌||◌, ◌==◌, refl, sym, ap, subst, ◌∙◌, arith}
 use Rattle.std.proofs.lemmas.Bool.Decides.{nat_tests}
 use borrow.Author.Tests.{eqb-true}
-use Rattle.std.specs.List.{AllByRecursion}
+use Rattle.std.specs.List.{AllByRecursion, Contains}
 use Rattle.txc_rows.specs.declared.query.Query.{Query}
 use Rattle.txc_rows.specs.declared.query.Query.TheVariants.{ById, ByGroup, All}
 use Rattle.txc_rows.specs.declared.query.Change.{Change}
@@ -13,9 +13,22 @@ use Rattle.txc_rows.specs.declared.version.Versioned.{Versioned}
 use Rattle.txc_rows.specs.Versions.{lives_at, is_visible, row_of, visible_rows, shown_at, closed, removed, put, after_write, after_net, died_by, purged}
 use Rattle.txc_rows.specs.Says.{Says, AreUpTo, IdsRise}
 use Rattle.txc_rows.specs.Laws.{SaysNothing, SaysAgree, SaysWritten, SaysQuiet, SaysPurged, SaysAnswer}
-use Rattle.txc_rows.specs.Members.{IsIn}
 use Rattle.txc_rows.proofs.ChangeLemmas.{made_there, other_there, from_change}
-use Rattle.txc_rows.proofs.Members.{bool_cases, both_true, and_true, not_true_is, in_filter, from_filter, in_left, in_right}
+use Rattle.txc_rows.proofs.Members.{IsIn, bool_cases, both_true, and_true, not_true_is, is_in, contains_it, in_filter, from_filter, in_left, in_right}
+
+-- ---- what versions say, by `IsIn`
+
+said_each : (t : ℕ) (vs : List Versioned) (s : State) (r : RowValue) → Says t vs s → IsIn r s → IsIn r (visible_rows t vs)
+said_each t vs s r says h = is_in (visible_rows t vs) r (says.each r (contains_it s r h))
+
+pub said_only : (t : ℕ) (vs : List Versioned) (s : State) (r : RowValue) → Says t vs s → IsIn r (visible_rows t vs) → IsIn r s
+said_only t vs s r says h = is_in s r (says.only r (contains_it (visible_rows t vs) r h))
+
+says_of : (t : ℕ) (vs : List Versioned) (s : State) → ((r : RowValue) → IsIn r s → IsIn r (visible_rows t vs)) → ((r : RowValue) → IsIn r (visible_rows t vs) → IsIn r s) → Says t vs s
+says_of t vs s each only = record {
+  each = λ r h. contains_it (visible_rows t vs) r (each r (is_in s r h));
+  only = λ r h. contains_it s r (only r (is_in (visible_rows t vs) r h));
+}
 
 -- ---- a version behind a visible row
 
@@ -143,19 +156,19 @@ seen_removed s i n vs st r dead says b =
     elim (bool_cases (is_at i n v.row)) [
       | inl at ↦ absurd (true≢false (sym seen ∙ gone s i n v (dead_in s v vs dead it.1) at))
       | inr off ↦ record {
-        stands = says.only r (in_front (is_visible s) vs r (record { version = v; stands = it.1; passes = ap (is_visible s) (sym (left s i n v off)) ∙ seen; is = is }));
+        stands = said_only s vs st r says (in_front (is_visible s) vs r (record { version = v; stands = it.1; passes = ap (is_visible s) (sym (left s i n v off)) ∙ seen; is = is }));
         apart = ap (is_at i n) is ∙ off;
       }
     ]
 
 removed_seen : (s i n : ℕ) (vs : List Versioned) (st : State) (r : RowValue) → Says s vs st → IsOther i n st r → Behind (is_visible s) (removed i n s vs) r
 removed_seen s i n vs st r says o =
-    let b = behind (is_visible s) vs r (says.each r o.stands) in
+    let b = behind (is_visible s) vs r (said_each s vs st r says o.stands) in
     let same : closed i n s b.version ≡ b.version = left s i n b.version (ap (is_at i n) (sym b.is) ∙ o.apart) in
     record { version = b.version; stands = subst (λ (x : Versioned). IsIn x (removed i n s vs)) same (in_removed i n s b.version vs b.stands); passes = b.passes; is = b.is }
 
 one_change : (s : ℕ) (c : Change) (vs : List Versioned) (st : State) → DeadBy s vs → Says s vs st → Says s (after_write s c vs) (after_change c st)
-one_change s (Put row) vs st dead says = record { each = each; only = only }
+one_change s (Put row) vs st dead says = says_of s (put row s vs) (after_change (Put row) st) each only
   where
     each : (r : RowValue) → IsIn r (after_change (Put row) st) → IsIn r (visible_rows s (put row s vs))
     each r h = in_front (is_visible s) (put row s vs) r (elim (from_change (Put row) r st h) [
@@ -170,10 +183,9 @@ one_change s (Put row) vs st dead says = record { each = each; only = only }
           | inl old ↦ let o = seen_removed s row.table row.id vs st r dead says (record { version = b.version; stands = old; passes = b.passes; is = b.is }) in other_there (Put row) r st o.stands o.apart
           | inr same ↦ made_there (Put row) r st (b.is ∙ ap row_of same)
         ]
-one_change s (Remove i n) vs st dead says = record {
-  each = λ r h. let it = from_filter (λ (x : RowValue). not (is_at i n x)) r st h in in_front (is_visible s) (removed i n s vs) r (removed_seen s i n vs st r says (record { stands = it.0; apart = not_true_is _ it.1 }));
-  only = λ r h. let o = seen_removed s i n vs st r dead says (behind (is_visible s) (removed i n s vs) r h) in in_filter (λ (x : RowValue). not (is_at i n x)) r st o.stands (ap not o.apart);
-}
+one_change s (Remove i n) vs st dead says = says_of s (removed i n s vs) (after_change (Remove i n) st)
+    (λ r h. let it = from_filter (λ (x : RowValue). not (is_at i n x)) r st h in in_front (is_visible s) (removed i n s vs) r (removed_seen s i n vs st r says (record { stands = it.0; apart = not_true_is _ it.1 })))
+    (λ r h. let o = seen_removed s i n vs st r dead says (behind (is_visible s) (removed i n s vs) r h) in in_filter (λ (x : RowValue). not (is_at i n x)) r st o.stands (ap not o.apart))
 
 all_changes : (s : ℕ) (net : List Change) (vs : List Versioned) (st : State) → DeadBy s vs → Says s vs st → Says s (after_net s net vs) (after_changes net st)
 all_changes s [] vs st dead says = says
@@ -207,7 +219,10 @@ upto_after s (Put row ∷ cs) vs h = upto_after s cs (put row s vs) (upto_end s 
 upto_after s (Remove i n ∷ cs) vs h = upto_after s cs (removed i n s vs) (upto_removed s i n vs h)
 
 says_at : (t u : ℕ) (vs ws : List Versioned) (s : State) → visible_rows u ws ≡ visible_rows t vs → Says t vs s → Says u ws s
-says_at t u vs ws s same h = record { each = λ r k. subst (IsIn r) (sym same) (h.each r k); only = λ r k. h.only r (subst (IsIn r) same k) }
+says_at t u vs ws s same h = record {
+  each = λ r k. subst (λ (rs : List RowValue). Contains rs r) (sym same) (h.each r k);
+  only = λ r k. h.only r (subst (λ (rs : List RowValue). Contains rs r) same k);
+}
 
 later_sight : (t : ℕ) (v : Versioned) → (v.born ≤ t) × ((d : ℕ) → v.died ≡ Some d → d ≤ t) → is_visible (suc t) v ≡ is_visible t v
 later_sight t v h = go v.died refl
@@ -316,20 +331,20 @@ says_answer q t vs found s st says from_found to_found rise =
     to : (r : RowValue) → IsIn r (shown_at q t found) → IsIn r (answer q s)
     to r k =
         let b = behind (λ v. is_visible t v && matches q v.row) found r k in
-        in_filter (matches q) r s (says.only r (in_front (is_visible t) vs r (record { version = b.version; stands = from_found b.version b.stands; passes = (both_true (is_visible t b.version) (matches q b.version.row) b.passes).0; is = b.is }))) (fits r k)
+        in_filter (matches q) r s (said_only t vs s r says (in_front (is_visible t) vs r (record { version = b.version; stands = is_in vs b.version (from_found b.version (contains_it found b.version b.stands)); passes = (both_true (is_visible t b.version) (matches q b.version.row) b.passes).0; is = b.is }))) (fits r k)
 
     back : (r : RowValue) → IsIn r (answer q s) → IsIn r (shown_at q t found)
     back r k =
         let it = from_filter (matches q) r s k in
-        let b = behind (is_visible t) vs r (says.each r it.0) in
+        let b = behind (is_visible t) vs r (said_each t vs s r says it.0) in
         let fit : matches q b.version.row ≡ true = ap (matches q) (sym b.is) ∙ it.1 in
-        in_front (λ v. is_visible t v && matches q v.row) found r (record { version = b.version; stands = to_found b.version b.stands fit; passes = and_true (is_visible t b.version) (matches q b.version.row) b.passes fit; is = b.is })
+        in_front (λ v. is_visible t v && matches q v.row) found r (record { version = b.version; stands = is_in found b.version (to_found b.version (contains_it vs b.version b.stands) fit); passes = and_true (is_visible t b.version) (matches q b.version.row) b.passes fit; is = b.is })
 
 -- ---- each kept state
 
 pub says_nothing : SaysNothing
 says_nothing states empty = record {
-  kept = λ t low high. let now : t ≡ 0 = omega arith in rw (now, empty) (record { each = λ r h. absurd h; only = λ r h. absurd h });
+  kept = λ t low high. let now : t ≡ 0 = omega arith in rw (now, empty) (says_of 0 [] [] (λ r h. absurd h) (λ r h. absurd h));
   upto = tt;
 }
 

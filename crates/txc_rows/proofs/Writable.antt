@@ -6,16 +6,15 @@ use Rattle.std.specs.List.{AllByRecursion, list_all}
 use Rattle.txc_rows.specs.declared.version.Versioned.{Versioned}
 use Rattle.txc_rows.specs.declared.query.Change.{Change}
 use Rattle.txc_rows.specs.declared.query.Change.TheVariants.{Put, Remove}
-use Rattle.txc_rows.specs.Members.{IsIn}
 use Rattle.txc_rows.specs.States.{RowValue, State, is_at}
 use Rattle.txc_rows.specs.RowTags.{has_row}
 use Rattle.txc_rows.specs.Net.{change_table, change_id, key_before, changes_state, KeysRise}
 use Rattle.txc_rows.specs.Versions.{is_visible, closed, removed, IsPutOver, IsChange, AreChanges, after_write}
 use Rattle.txc_rows.specs.Says.{Says, AreUpTo}
 use Rattle.txc_rows.specs.Laws.{NetIsWritable}
-use Rattle.txc_rows.proofs.Members.{bool_cases, both_true, not_true_is}
+use Rattle.txc_rows.proofs.Members.{IsIn, bool_cases, both_true, not_true_is}
 use Rattle.txc_rows.proofs.RowTests.{has_there}
-use Rattle.txc_rows.proofs.SaysLemmas.{in_front, left}
+use Rattle.txc_rows.proofs.SaysLemmas.{said_only, in_front, left}
 
 -- ---- a change leaves what may be written at other keys
 
@@ -69,7 +68,7 @@ each_then s (c ∷ cs) vs rise h = (h.0, each_then s cs (after_write s c vs) ris
 
 -- a current version that nothing has happened after is visible
 current_row : (n : ℕ) (v : Versioned) (vs : List Versioned) (s : State) → Says n vs s → IsIn v vs → v.born ≤ n → v.died ≡ None → IsIn v.row s
-current_row n v vs s says stands low alive = says.only v.row (in_front (is_visible n) vs v.row (record { version = v; stands = stands; passes = seen; is = refl }))
+current_row n v vs s says stands low alive = said_only n vs s v.row says (in_front (is_visible n) vs v.row (record { version = v; stands = stands; passes = seen; is = refl }))
   where
     le_is : (a b : ℕ) → a ≤ b → nat_le a b ≡ true
     le_is a b h = grind (arith, nat_tests)

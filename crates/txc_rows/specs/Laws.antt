@@ -1,13 +1,12 @@
 -- What the definitions of states, answers, net changes and versions come to.
 use Rattle.std.specs.Prelude.{ℕ, suc, ◌≡◌, ◌≢◌, ◌≤◌, ◌↔◌, ◌&&◌, ◌==◌, true, Bool, List, [], ◌++◌, false, Option, Some, None, if◌then◌else◌}
-use Rattle.std.specs.List.{list_any, flat_map}
+use Rattle.std.specs.List.{list_any, flat_map, Contains}
 use Rattle.txc_tags.specs.declared.tag.Tag.{Tag}
 use Rattle.txc_tags.specs.Tags.{sets_match, set_of}
 use Rattle.txc_rows.specs.declared.query.Query.{Query}
 use Rattle.txc_rows.specs.declared.query.Change.{Change}
 use Rattle.txc_rows.specs.declared.query.Change.TheVariants.{Put, Remove}
 use Rattle.txc_rows.specs.declared.version.Versioned.{Versioned}
-use Rattle.txc_rows.specs.Members.{IsIn}
 use Rattle.txc_rows.specs.States.{RowValue, State, IsState, row_at, matches, answer, after_change, after_changes}
 use Rattle.txc_rows.specs.Net.{change_table, change_id, net_changes, IsNet, puts_of, rows_at}
 use Rattle.txc_rows.specs.RowTags.{tags_of_row, tags_between, covers_query}
@@ -18,7 +17,7 @@ use Rattle.txc_rows.specs.Says.{Says, SaysStates, IdsRise}
 
 -- two states with the same rows are equal
 abbrev pub StatesAreRows : Type 0
-StatesAreRows = (s u : State) → IsState s → IsState u → ((r : RowValue) → IsIn r s ↔ IsIn r u) → s ≡ u
+StatesAreRows = (s u : State) → IsState s → IsState u → ((r : RowValue) → Contains s r ↔ Contains u r) → s ≡ u
 
 -- changes of a state leave a state
 abbrev pub ChangedIsState : Type 0
@@ -101,8 +100,8 @@ SaysPurged = (states : ℕ → State) (horizon newest next : ℕ) (vs : List Ver
 -- the versions that match a query show its answer
 abbrev pub SaysAnswer : Type 0
 SaysAnswer = (q : Query) (t : ℕ) (vs found : List Versioned) (s : State) → IsState s → Says t vs s
-    → ((v : Versioned) → IsIn v found → IsIn v vs)
-    → ((v : Versioned) → IsIn v vs → matches q v.row ≡ true → IsIn v found)
+    → ((v : Versioned) → Contains found v → Contains vs v)
+    → ((v : Versioned) → Contains vs v → matches q v.row ≡ true → Contains found v)
     → IdsRise (shown_at q t found) → shown_at q t found ≡ answer q s
 
 -- net changes of the newest state that versions say may be written over them at the next stamp

@@ -1,4 +1,3 @@
-pub mod Members
 pub mod Values
 pub mod States
 pub mod RowTags

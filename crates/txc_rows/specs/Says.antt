@@ -1,15 +1,14 @@
 -- How versions say states.
 use Rattle.std.specs.Prelude.{ℕ, ◌≡◌, ◌≤◌, ◌<◌, List, [], ◌∷◌, Some}
-use Rattle.std.specs.List.{AllByRecursion}
-use Rattle.txc_rows.specs.Members.{IsIn}
+use Rattle.std.specs.List.{AllByRecursion, Contains}
 use Rattle.txc_rows.specs.States.{RowValue, State}
 use Rattle.txc_rows.specs.declared.version.Versioned.{Versioned}
 use Rattle.txc_rows.specs.Versions.{visible_rows}
 
 -- the versions that are visible at the stamp have the rows of the state, and no others
 pub record Says (t : ℕ) (vs : List Versioned) (s : State) : Type 0 where
-  pub each : (r : RowValue) → IsIn r s → IsIn r (visible_rows t vs)
-  pub only : (r : RowValue) → IsIn r (visible_rows t vs) → IsIn r s
+  pub each : (r : RowValue) → Contains s r → Contains (visible_rows t vs) r
+  pub only : (r : RowValue) → Contains (visible_rows t vs) r → Contains s r
 
 -- nothing has happened after the stamp
 abbrev pub AreUpTo : ℕ → List Versioned → Type 0

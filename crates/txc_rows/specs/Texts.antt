@@ -25,8 +25,8 @@ column_of name kind needed = record {
 abbrev pub no_schema : Schema
 no_schema = record { tables = []; indexes = []; views = [] }
 
--- one row for each version, with the keys (table, id, birth) and (table, group, id, birth); a version that has
--- not died has no death
+-- one row for each version, with the keys (table, id, birth) and (table, group, id, birth); a version that
+-- has not died has no death
 abbrev pub version_table : Table
 version_table = record {
   name = codes "version";

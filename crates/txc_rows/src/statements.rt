@@ -18,8 +18,8 @@ use std::alloc::Global;
 use txc_stamp::Stamp;
 use txc_tags::Table;
 
-/// A row for each version, with a key for each way to read it. The second finds the versions of a group; it could
-/// not be broken where the first is not.
+/// A row for each version, with a key for each way to read it. The second finds the versions of a group; it
+/// could not be broken where the first is not.
 const CREATE_TABLE: &str =
     "CREATE TABLE version (table_number INTEGER NOT NULL, id INTEGER NOT NULL, born INTEGER NOT NULL, \
      group_number INTEGER NOT NULL, body BLOB NOT NULL, died INTEGER, \
@@ -37,8 +37,8 @@ const END_VERSION: &str =
 /// The versions that died by a stamp.
 const DELETE_DEAD: &str = "DELETE FROM version WHERE died <= ?1";
 
-/// What the statements that read share: versions of a table, by id and birth, at most so many of them. Each has
-/// a test of its own, which the store answers by a key of the table.
+/// What the statements that read share: versions of a table, by id and birth, at most so many of them. Each
+/// has a test of its own, which the store answers by a key of the table.
 macro_rules! read_where {
     ($test:literal) => {
         concat!(

@@ -1,5 +1,5 @@
 -- Lines that are answered one after another.
-use Rattle.std.proofs.Common.{◌≡◌, ◌≢◌, ℕ, ◌+◌, Bool, true, false, ◌||◌, zero, suc, List, [], ◌∷◌, ◌++◌, length, take, refl, sym, ap, subst, ◌∙◌, arith, append_assoc}
+use Rattle.std.proofs.Common.{◌≡◌, ◌≢◌, ℕ, ◌+◌, ◌≤◌, Bool, true, false, ◌||◌, zero, suc, List, [], ◌∷◌, ◌++◌, length, take, refl, sym, ap, subst, ◌∙◌, arith, append_assoc}
 use Rattle.std.specs.Prelude.{if◌then◌else◌}
 use Rattle.std.specs.List.{list_any, flat_map}
 use Rattle.std.proofs.lemmas.List.{append-nil, take_all, length-take}
@@ -15,6 +15,10 @@ use Rattle.txc_run.specs.Reports.{report_text}
 use Rattle.txc_settings.specs.declared.mode.Mode.{Mode}
 use Rattle.txc_settings.specs.declared.mode.Mode.TheVariants.{Node, Report}
 use Rattle.txc_run.specs.Sessions.{kept_of}
+use Rattle.txc_run.specs.LineFaults.{IsFaultOf}
+use Rattle.txc_run.specs.declared.line.TheConstants.{MAX_LINE_LEN}
+use Rattle.txc_run.specs.declared.line_fault.LineFault.{LineFault}
+use Rattle.txc_run.specs.declared.line_fault.LineFault.TheVariants.{TooLong, Byte, Blanks, Command, Count, Word}
 use Rattle.txc_run.specs.declared.piece.TheConstants.{MAX_KEPT}
 
 goes_on : (g : Given) (lines : List (List ℕ)) → is_malformed g ≡ false → GoesOn g lines
@@ -89,6 +93,17 @@ gives_whole c n line (Malformed k) next h = (
   h.1,
   h.2,
 )
+
+short_kept : (line : List ℕ) → length (kept_of line) ≤ MAX_LINE_LEN → kept_of line ≡ line
+short_kept line h = take_all MAX_KEPT line (omega (arith, length-take MAX_KEPT line, h))
+
+pub fault_whole : (line : List ℕ) (fault : LineFault) → IsFaultOf (kept_of line) fault → IsFaultOf line fault
+fault_whole line TooLong h = omega (arith, length-take MAX_KEPT line, h)
+fault_whole line (Byte at byte) h = subst (λ (l : List ℕ). IsFaultOf l (Byte at byte)) (short_kept line h.0) h
+fault_whole line Blanks h = subst (λ (l : List ℕ). IsFaultOf l Blanks) (plain_kept line h.0) h
+fault_whole line (Command text) h = subst (λ (l : List ℕ). IsFaultOf l (Command text)) (plain_kept line h.0.plain) h
+fault_whole line (Count wanted given) h = subst (λ (l : List ℕ). IsFaultOf l (Count wanted given)) (plain_kept line h.2.whole.plain) h
+fault_whole line (Word fault) h = subst (λ (l : List ℕ). IsFaultOf l (Word fault)) (plain_kept line h.2.whole.plain) h
 
 -- ---- the text, and tests of what lines give
 

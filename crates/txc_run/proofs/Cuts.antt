@@ -27,7 +27,7 @@ cut_at c xs i h =
           is_not _ _ (ap (λ b. eqb b c) (get_or-take i xs j d m) ∙ (position-Some (λ b. eqb b c) xs i d h).2 j m);
     }
 
-at_end : (a b : ℕ) → cond (ltb a b) (Some a) None ≡ None → b ≤ a
+pub at_end : (a b : ℕ) → cond (ltb a b) (Some a) None ≡ None → b ≤ a
 at_end a b h = grind (arith, nat_tests)
 
 nowhere : (c : ℕ) (es : List ℕ) → length es ≤ prefix_len (λ b. not (eqb b c)) es → All (λ b. b ≢ c) es

@@ -2,6 +2,8 @@ pub mod Cuts
 pub mod Streams
 pub mod Blanks
 pub mod HexDigits
+pub mod WordFaults
+pub mod AllSpell
 pub mod Named
 pub mod Answered
 pub mod LineRead

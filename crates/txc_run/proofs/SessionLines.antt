@@ -1,5 +1,5 @@
 -- A run answers its lines.
-use Rattle.std.proofs.Common.{◌≡◌, ◌≢◌, ℕ, ◌+◌, Bool, true, false, ◌||◌, suc, ◌≤◌, List, [], ◌∷◌, ◌++◌, length, take, Ok, Err, Result, IfOk, OnOk, OnErr, refl, sym, ap, subst, ◌∙◌, arith, append_assoc, eqb, inl, inr}
+use Rattle.std.proofs.Common.{◌≡◌, ◌≢◌, ℕ, ◌+◌, Bool, true, false, ◌||◌, suc, ◌≤◌, List, [], ◌∷◌, ◌++◌, length, take, Ok, Err, Result, IfOk, OnErr, refl, sym, ap, subst, ◌∙◌, arith, append_assoc, eqb, inl, inr}
 use Rattle.std.specs.Prelude.{string_bytes}
 use Rattle.std.specs.List.{list_any}
 use Rattle.std.specs.declared.alloc.AllocError.{AllocError}
@@ -13,12 +13,14 @@ use Rattle.txc_settings.specs.declared.mode.Mode.{Mode}
 use Rattle.txc_settings.specs.declared.mode.Mode.TheVariants.{Report}
 use Rattle.txc_run.specs.Runs.{Start}
 use Rattle.txc_run.specs.Replies.{mode_of, HasCounted, counted_by}
-use Rattle.txc_run.specs.Sessions.{kept_of, flow_of, AnswersLine, HasAnswered, IsStopped, IsHalted, HasLast, HasEnded, IsUnclosed, AnswersAs, AnswersLast, EndsAs}
+use Rattle.txc_run.specs.Sessions.{kept_of, AnswersLine, HasAnswered, IsStopped, IsHalted, HasLast, HasEnded, IsUnclosed, AnswersAs, AnswersLast}
+use Rattle.txc_run.specs.LineFaults.{IsFaultOf}
+use Rattle.txc_run.specs.declared.line_fault.MalformedLine.{MalformedLine}
 use Rattle.txc_run.specs.declared.piece.TheConstants.{MAX_KEPT}
 use Rattle.txc_run.specs.declared.session.Session.{Session}
 use Rattle.txc_run.specs.declared.session.Flow.{Flow}
 use Rattle.txc_run.specs.declared.session.Flow.TheVariants.{GoesOn, Stopped}
-use Rattle.txc_run.proofs.Answered.{given_more, begins_more, begins_longer, kept_append, gives_whole, any_more, text_more, all_written}
+use Rattle.txc_run.proofs.Answered.{given_more, begins_more, begins_longer, kept_append, gives_whole, any_more, text_more, all_written, fault_whole}
 
 -- what holds where the line that began with `rest` was answered, as a line that is `line` whole
 record LineAdded (start : Start) (written : List ℕ) (s : Session) (lines : List (List ℕ)) (given : List Given) : Type 0 where
@@ -51,40 +53,42 @@ no_end = λ k d l. absurd (omega arith)
 -- the line that ends after `before` was answered
 pub answered_line : (start : Start) (read written before x : List ℕ) (s next : Session) (flow : Flow) (k : counted_by s.replies ≤ s.lines) (h : HasAnswered start read written s) → HasNoEnd before
     → x ≡ take MAX_KEPT (s.line ++ before) → AnswersLine (record s { line = x; counted = k }) next flow → AnswersAs start (read ++ (before ++ 10 ∷ [])) written next (Ok flow)
-answered_line start read written before x s next flow k h bare is a =
+answered_line start read written before x s next GoesOn k h bare is a =
     let line = h.rest ++ before in
     let whole : x ≡ kept_of line = is ∙ ap (λ (l : List ℕ). take MAX_KEPT (l ++ before)) h.kept ∙ kept_append MAX_KEPT h.rest before in
-    let added = added_line start read written before x s next flow k h whole a in
-    let begins = begins_more read h.lines h.rest before h.begins h.not_ended bare in
+    let added = added_line start read written before x s next GoesOn k h whole a in
     let malformed : list_any is_malformed (h.given ++ a.given ∷ []) ≡ is_malformed a.given = any_more is_malformed h.given a.given ∙ ap (λ (b : Bool). b || is_malformed a.given) h.well_formed in
-    let go : (b : Bool) → is_malformed a.given ≡ b → AnswersAs start (read ++ (before ++ 10 ∷ [])) written next (Ok (flow_of b)) = λ b. elim b as (λ v. is_malformed a.given ≡ v → AnswersAs start (read ++ (before ++ 10 ∷ [])) written next (Ok (flow_of v))) [
-      | true ↦ (λ e. record {
-        lines = h.lines ++ line ∷ [];
-        given = h.given ++ a.given ∷ [];
-        others = [];
-        answers = record { end = next.node; are_given = added.are_given };
-        begins = begins;
-        text = all_written start.mode _ (h.given ++ a.given ∷ []) (malformed ∙ e) added.text;
-        refused = added.refused;
-        malformed = malformed ∙ e;
-      })
-      | false ↦ (λ e. record {
-        lines = h.lines ++ line ∷ [];
-        given = h.given ++ a.given ∷ [];
-        rest = [];
-        are_given = added.are_given;
-        begins = begins;
-        not_ended = no_end;
-        kept = a.emptied;
-        mode = added.mode;
-        text = added.text;
-        counted = added.counted;
-        count = added.count;
-        refused = added.refused;
-        well_formed = malformed ∙ e;
-      })
-    ] in
-    subst (λ (f : Flow). AnswersAs start (read ++ (before ++ 10 ∷ [])) written next (Ok f)) (sym a.flow_is) (go (is_malformed a.given) refl)
+    record {
+      lines = h.lines ++ line ∷ [];
+      given = h.given ++ a.given ∷ [];
+      rest = [];
+      are_given = added.are_given;
+      begins = begins_more read h.lines h.rest before h.begins h.not_ended bare;
+      not_ended = no_end;
+      kept = a.emptied;
+      mode = added.mode;
+      text = added.text;
+      counted = added.counted;
+      count = added.count;
+      refused = added.refused;
+      well_formed = malformed ∙ a.flow_is;
+    }
+answered_line start read written before x s next (Stopped bad) k h bare is a =
+    let line = h.rest ++ before in
+    let whole : x ≡ kept_of line = is ∙ ap (λ (l : List ℕ). take MAX_KEPT (l ++ before)) h.kept ∙ kept_append MAX_KEPT h.rest before in
+    let added = added_line start read written before x s next (Stopped bad) k h whole a in
+    let malformed : list_any is_malformed (h.given ++ a.given ∷ []) ≡ is_malformed a.given = any_more is_malformed h.given a.given ∙ ap (λ (b : Bool). b || is_malformed a.given) h.well_formed in
+    record {
+      lines = h.lines ++ line ∷ [];
+      given = h.given ++ a.given ∷ [];
+      others = [];
+      answers = record { end = next.node; are_given = added.are_given };
+      begins = begins_more read h.lines h.rest before h.begins h.not_ended bare;
+      text = all_written start.mode _ (h.given ++ a.given ∷ []) (malformed ∙ a.flow_is.0) added.text;
+      refused = added.refused;
+      malformed = malformed ∙ a.flow_is.0;
+      wrong = (a.flow_is.1 ∙ added.count, (h.lines, line, refl, fault_whole line bad.fault (subst (λ (l : List ℕ). IsFaultOf l bad.fault) whole a.flow_is.2)));
+    }
 
 -- a line goes on
 pub extended_line : (start : Start) (read written before x : List ℕ) (s : Session) (k : counted_by s.replies ≤ s.lines) → HasAnswered start read written s → HasNoEnd before → x ≡ take MAX_KEPT (s.line ++ before)
@@ -125,8 +129,8 @@ answered_end start read written before x s next k (Ok flow) bare is a e h = answ
 answered_end start read written before x s next k (Err error) bare is a e h = halted start read written (before ++ 10 ∷ []) s next h e
 
 -- what is read after a malformed line, and once memory ran out, is not looked at
-pub stopped_longer : (start : Start) (read written more all : List ℕ) (s : Session) → read ++ more ≡ all → IsStopped start read written s → IsStopped start all written s
-stopped_longer start read written more all s e h = record {
+pub stopped_longer : (start : Start) (read written more all : List ℕ) (bad : MalformedLine) (s : Session) → read ++ more ≡ all → IsStopped start read written bad s → IsStopped start all written bad s
+stopped_longer start read written more all bad s e h = record {
   lines = h.lines;
   given = h.given;
   others = h.others ++ more;
@@ -135,6 +139,7 @@ stopped_longer start read written more all s e h = record {
   text = h.text;
   refused = h.refused;
   malformed = h.malformed;
+  wrong = h.wrong;
 }
 
 pub halted_longer : (start : Start) (read written more all : List ℕ) (s : Session) → read ++ more ≡ all → IsHalted start read written s → IsHalted start all written s
@@ -196,39 +201,46 @@ last_of_one : (rest : List ℕ) → (rest ≡ [] → ⊥) → last_line rest ≡
 last_of_one [] h = absurd (h refl)
 last_of_one (b ∷ rest) h = refl
 
--- the last line, whose line feed is missing, was answered
+-- the last line, whose line feed is missing
+all_read : (start : Start) (read written : List ℕ) (s : Session) (h : HasAnswered start read written s) → (s.line ≡ [] → ⊥) → AreLinesOf read (h.lines ++ (h.rest ++ []) ∷ [])
+all_read start read written s h some =
+    let same : h.rest ++ [] ≡ h.rest = append-nil h.rest in
+    let not_empty : h.rest ≡ [] → ⊥ = λ e. some (h.kept ∙ ap kept_of e) in
+    (h.lines, h.rest, h.begins, h.not_ended, ap (λ (l : List ℕ). h.lines ++ l ∷ []) same ∙ ap (λ (ls : List (List ℕ)). h.lines ++ ls) (sym (last_of_one h.rest not_empty)))
+
+-- it was answered
 ended_line : (start : Start) (read written : List ℕ) (s next : Session) (flow : Flow) → HasAnswered start read written s → (s.line ≡ [] → ⊥)
     → AnswersLine s next flow → AnswersLast start read written next (Ok flow)
-ended_line start read written s next flow h some a =
+ended_line start read written s next GoesOn h some a =
     let line = h.rest ++ [] in
-    let same : line ≡ h.rest = append-nil h.rest in
-    let added = added_line start read written [] s.line s next flow s.counted h (h.kept ∙ ap kept_of (sym same)) a in
-    let not_empty : h.rest ≡ [] → ⊥ = λ e. some (h.kept ∙ ap kept_of e) in
-    let all : AreLinesOf read (h.lines ++ line ∷ []) =
-    (h.lines, h.rest, h.begins, h.not_ended, ap (λ (l : List ℕ). h.lines ++ l ∷ []) same ∙ ap (λ (ls : List (List ℕ)). h.lines ++ ls) (sym (last_of_one h.rest not_empty))) in
+    let whole : s.line ≡ kept_of line = h.kept ∙ ap kept_of (sym (append-nil h.rest)) in
+    let added = added_line start read written [] s.line s next GoesOn s.counted h whole a in
     let malformed : list_any is_malformed (h.given ++ a.given ∷ []) ≡ is_malformed a.given = any_more is_malformed h.given a.given ∙ ap (λ (b : Bool). b || is_malformed a.given) h.well_formed in
-    let go : (b : Bool) → is_malformed a.given ≡ b → AnswersLast start read written next (Ok (flow_of b)) = λ b. elim b as (λ v. is_malformed a.given ≡ v → AnswersLast start read written next (Ok (flow_of v))) [
-      | true ↦ (λ e. record {
-        lines = h.lines ++ line ∷ [];
-        given = h.given ++ a.given ∷ [];
-        answers = record { end = next.node; are_given = added.are_given };
-        all = all;
-        text = all_written start.mode _ (h.given ++ a.given ∷ []) (malformed ∙ e) added.text;
-        refused = added.refused;
-      })
-      | false ↦ (λ e. record {
-        lines = h.lines ++ line ∷ [];
-        given = h.given ++ a.given ∷ [];
-        answers = record { end = next.node; are_given = added.are_given };
-        all = all;
-        mode = added.mode;
-        text = added.text;
-        counted = added.counted;
-        refused = added.refused;
-        well_formed = malformed ∙ e;
-      })
-    ] in
-    subst (λ (f : Flow). AnswersLast start read written next (Ok f)) (sym a.flow_is) (go (is_malformed a.given) refl)
+    record {
+      lines = h.lines ++ line ∷ [];
+      given = h.given ++ a.given ∷ [];
+      answers = record { end = next.node; are_given = added.are_given };
+      all = all_read start read written s h some;
+      mode = added.mode;
+      text = added.text;
+      counted = added.counted;
+      refused = added.refused;
+      well_formed = malformed ∙ a.flow_is;
+    }
+ended_line start read written s next (Stopped bad) h some a =
+    let line = h.rest ++ [] in
+    let whole : s.line ≡ kept_of line = h.kept ∙ ap kept_of (sym (append-nil h.rest)) in
+    let added = added_line start read written [] s.line s next (Stopped bad) s.counted h whole a in
+    let malformed : list_any is_malformed (h.given ++ a.given ∷ []) ≡ is_malformed a.given = any_more is_malformed h.given a.given ∙ ap (λ (b : Bool). b || is_malformed a.given) h.well_formed in
+    record {
+      lines = h.lines ++ line ∷ [];
+      given = h.given ++ a.given ∷ [];
+      answers = record { end = next.node; are_given = added.are_given };
+      all = all_read start read written s h some;
+      text = all_written start.mode _ (h.given ++ a.given ∷ []) (malformed ∙ a.flow_is.0) added.text;
+      refused = added.refused;
+      end = (malformed ∙ a.flow_is.0, (a.flow_is.1 ∙ added.count, (h.lines, line, refl, fault_whole line bad.fault (subst (λ (l : List ℕ). IsFaultOf l bad.fault) whole a.flow_is.2))));
+    }
 
 pub answered_last : (start : Start) (read written : List ℕ) (s next : Session) (r : Result Flow AllocError) → HasAnswered start read written s → (s.line ≡ [] → ⊥)
     → IfOk r (AnswersLine s next) → OnErr r (string_bytes next.replies.text ≡ string_bytes s.replies.text) → AnswersLast start read written next r
@@ -250,9 +262,9 @@ none_left start read written s h none = record {
 }
 
 -- the report was put after the lines
-closed : (start : Start) (read written : List ℕ) (s next : Session) → HasLast start read written s → next.replies.is_refused ≡ s.replies.is_refused
+pub closed : (start : Start) (read written : List ℕ) (s next : Session) → HasLast start read written s → next.replies.is_refused ≡ s.replies.is_refused
     → ((given : List Given) → HasCounted given s.replies → list_any is_malformed given ≡ false
-    → string_bytes next.replies.text ≡ string_bytes s.replies.text ++ closing_text (mode_of s.replies) given) → HasEnded start read written next
+    → string_bytes next.replies.text ≡ string_bytes s.replies.text ++ closing_text (mode_of s.replies) given) → HasEnded start read written GoesOn next
 closed start read written s next h refused closes =
     let text = closes h.given h.counted h.well_formed in
     record {
@@ -263,10 +275,11 @@ closed start read written s next h refused closes =
       text = ap (λ (xs : List ℕ). written ++ xs) text ∙ sym (append_assoc written (string_bytes s.replies.text) _) ∙ ap (λ (xs : List ℕ). xs ++ closing_text (mode_of s.replies) h.given) h.text
           ∙ ap (λ (m : Mode). lines_text start.mode h.given ++ closing_text m h.given) h.mode;
       refused = refused ∙ h.refused;
+      end = h.well_formed;
     }
 
 -- memory ran out at the end
-unclosed_last : (start : Start) (read written : List ℕ) (s next : Session) → HasLast start read written s → string_bytes next.replies.text ≡ string_bytes s.replies.text
+pub unclosed_last : (start : Start) (read written : List ℕ) (s next : Session) → HasLast start read written s → string_bytes next.replies.text ≡ string_bytes s.replies.text
     → mode_of s.replies ≡ Report → IsUnclosed start read written next
 unclosed_last start read written s next h e reports = record {
   lines = h.lines;
@@ -277,19 +290,11 @@ unclosed_last start read written s next h e reports = record {
   well_formed = h.well_formed;
 }
 
--- the end of the script was taken
-pub finished : (start : Start) (read written : List ℕ) (s next : Session) (r : Result (Unit {0}) AllocError) → next.replies.is_refused ≡ s.replies.is_refused
-    → OnOk r ((given : List Given) → HasCounted given s.replies → list_any is_malformed given ≡ false
-    → string_bytes next.replies.text ≡ string_bytes s.replies.text ++ closing_text (mode_of s.replies) given)
-    → OnErr r (string_bytes next.replies.text ≡ string_bytes s.replies.text) → OnErr r (mode_of s.replies ≡ Report) → HasLast start read written s → EndsAs start read written next r
-finished start read written s next (Ok x) refused closes same reports h = closed start read written s next h refused closes
-finished start read written s next (Err e) refused closes same reports h = unclosed_last start read written s next h same reports
-
 pub has_last : (start : Start) (read written : List ℕ) (s : Session) (flow : Flow) → flow ≡ GoesOn → AnswersLast start read written s (Ok flow) → HasLast start read written s
 has_last start read written s flow e h = subst (λ (f : Flow). AnswersLast start read written s (Ok f)) e h
 
-pub has_ended : (start : Start) (read written : List ℕ) (s : Session) (flow : Flow) → flow ≡ Stopped → AnswersLast start read written s (Ok flow) → HasEnded start read written s
-has_ended start read written s flow e h = subst (λ (f : Flow). AnswersLast start read written s (Ok f)) e h
+pub has_ended : (start : Start) (read written : List ℕ) (s : Session) (flow : Flow) (bad : MalformedLine) → flow ≡ Stopped bad → AnswersLast start read written s (Ok flow) → HasEnded start read written (Stopped bad) s
+has_ended start read written s flow bad e h = subst (λ (f : Flow). AnswersLast start read written s (Ok f)) e h
 
 pub unclosed : (start : Start) (read written : List ℕ) (s : Session) → IsHalted start read written s → IsUnclosed start read written s
 unclosed start read written s h = record { lines = h.lines; given = h.given; answers = h.answers; first = inl (h.others, h.begins); text = h.text; well_formed = h.well_formed }
@@ -298,8 +303,8 @@ unclosed start read written s h = record { lines = h.lines; given = h.given; ans
 pub answers_same : (start : Start) (a b written : List ℕ) (s : Session) (r : Result Flow AllocError) → a ≡ b → AnswersAs start a written s r → AnswersAs start b written s r
 answers_same start a b written s r e h = subst (λ (xs : List ℕ). AnswersAs start xs written s r) e h
 
-pub stopped_of : (start : Start) (read written : List ℕ) (s : Session) (flow : Flow) → flow ≡ Stopped → AnswersAs start read written s (Ok flow) → IsStopped start read written s
-stopped_of start read written s flow e h = subst (λ (f : Flow). AnswersAs start read written s (Ok f)) e h
+pub stopped_of : (start : Start) (read written : List ℕ) (s : Session) (flow : Flow) (bad : MalformedLine) → flow ≡ Stopped bad → AnswersAs start read written s (Ok flow) → IsStopped start read written bad s
+stopped_of start read written s flow bad e h = subst (λ (f : Flow). AnswersAs start read written s (Ok f)) e h
 
 pub answered_of : (start : Start) (read written : List ℕ) (s : Session) (flow : Flow) → flow ≡ GoesOn → AnswersAs start read written s (Ok flow) → HasAnswered start read written s
 answered_of start read written s flow e h = subst (λ (f : Flow). AnswersAs start read written s (Ok f)) e h

@@ -1,5 +1,5 @@
 -- Reads of a run, one after another.
-use Rattle.std.proofs.Common.{◌≡◌, ℕ, ◌+◌, Bool, List, [], ◌++◌, Option, Result, Ok, Err, arith, length, take, refl, sym, ap, subst, ◌∙◌, inl, inr}
+use Rattle.std.proofs.Common.{◌≡◌, ℕ, ◌+◌, Bool, true, false, List, [], ◌++◌, Option, Result, Ok, Err, arith, length, take, refl, sym, ap, subst, ◌∙◌, inl, inr}
 use Rattle.std.specs.Prelude.{string_bytes, IsErr, IsErrAnd}
 use Rattle.std.specs.Io.KnownBytes.{Appends, Consumes, IsAtEnd}
 use Rattle.std.specs.declared.alloc.AllocError.{AllocError}
@@ -9,15 +9,18 @@ use Rattle.std.proofs.lemmas.List.{append-nil, take_all}
 use Rattle.std.proofs.lemmas.List.Elements.{All-nil}
 use Rattle.txc_node.specs.Cache.{Cache}
 use Rattle.txc_settings.specs.declared.mode.Mode.{Mode}
+use Rattle.std.specs.List.{list_any}
 use Rattle.txc_run.specs.Script.{HasNoEnd}
 use Rattle.txc_run.specs.Written.{AppendsPrefix}
-use Rattle.txc_run.specs.Given.{Given, AreGiven}
+use Rattle.txc_run.specs.Given.{Given, AreGiven, is_refused}
 use Rattle.txc_run.specs.Output.{lines_text, output_of}
 use Rattle.txc_run.specs.Replies.{mode_by, HasReport}
-use Rattle.txc_run.specs.Runs.{Start, HasRun, HasWritten, IsWhole, AreFirstLines, AreLinesBefore}
-use Rattle.txc_run.specs.Sessions.{HasAnswered, IsStopped, IsHalted, HasEnded, IsUnclosed, AnswersAs, EndsAs, IsKeptBeside}
-use Rattle.txc_run.specs.Turns.{EndsWith, EndsFlushed, TurnsTo, status_by}
+use Rattle.txc_run.specs.Runs.{Start, HasRun, HasWritten, IsWhole, AreFirstLines, AreLinesBefore, IsStatusOf}
+use Rattle.txc_run.specs.Sessions.{HasAnswered, IsStopped, IsHalted, HasEnded, IsUnclosed, AnswersAs, EndsAs, IsKeptBeside, IsEndOf, status_after}
+use Rattle.txc_run.specs.Turns.{EndsWith, EndsFlushed, TurnsTo}
 use Rattle.txc_run.specs.declared.fault.Status.{Status}
+use Rattle.txc_run.specs.declared.fault.Status.TheVariants.{Malformed}
+use Rattle.txc_run.specs.declared.line_fault.MalformedLine.{MalformedLine}
 use Rattle.txc_run.specs.declared.fault.RunFault.{RunFault}
 use Rattle.txc_run.specs.declared.fault.RunFault.TheVariants.{Read, Write, Memory}
 use Rattle.txc_run.specs.declared.session.Session.{Session}
@@ -33,7 +36,7 @@ pub turn_faults : (start : Start) (read written : List ℕ) (s : Session) (r : R
 turn_faults start read written s (Ok GoesOn) old new prefix k =
     let out = string_bytes s.replies.text in
     (take prefix.0 out, prefix.2, (k.lines, k.given, length written + prefix.0, record { end = s.node; are_given = k.are_given }, inl (inl (k.rest, k.begins), prefix_of written out _ prefix.0 k.text)))
-turn_faults start read written s (Ok Stopped) old new prefix k =
+turn_faults start read written s (Ok (Stopped bad)) old new prefix k =
     let out = string_bytes s.replies.text in
     (take prefix.0 out, prefix.2, (k.lines, k.given, length written + prefix.0, k.answers, inr (inr (k.others, k.begins, k.malformed), prefix_of written out _ prefix.0 k.text)))
 turn_faults start read written s (Err e) old new prefix k =
@@ -46,10 +49,10 @@ pub turn_out_of_memory : (start : Start) (read written : List ℕ) (s : Session)
 turn_out_of_memory start read written s old new all k = (string_bytes s.replies.text, all, (k.lines, k.given, k.answers, inl (k.others, k.begins), k.text, k.well_formed))
 
 -- a malformed line was read
-pub turn_stops : (start : Start) (read written : List ℕ) (s : Session) (refused : Bool) (old new : Option (List ℕ)) → Appends old new (string_bytes s.replies.text) → refused ≡ s.replies.is_refused
-    → IsStopped start read written s → EndsWith start read ⊥ written old new (Ok (status_by refused))
-turn_stops start read written s refused old new all same k =
-    (string_bytes s.replies.text, all, (k.lines, k.given, k.answers, inr (k.others, k.begins, k.malformed), k.text, ap status_by (same ∙ k.refused)))
+pub turn_stops : (start : Start) (read written : List ℕ) (s : Session) (bad : MalformedLine) (old new : Option (List ℕ)) → Appends old new (string_bytes s.replies.text)
+    → IsStopped start read written bad s → EndsWith start read ⊥ written old new (Ok (Malformed bad))
+turn_stops start read written s bad old new all k =
+    (string_bytes s.replies.text, all, (k.lines, k.given, k.answers, inr (k.others, k.begins, k.malformed), k.text, (k.malformed, k.wrong)))
 
 -- the run goes on
 pub turn_goes_on : (start : Start) (read written : List ℕ) (s next : Session) → IsKeptBeside s next → string_bytes next.replies.text ≡ [] → HasAnswered start read written s
@@ -77,10 +80,15 @@ err_is (Err x) e h = ap Err h.1
 
 -- ---- the end of the script
 
-pub finish_done : (start : Start) (read written : List ℕ) (s : Session) (refused : Bool) (old new : Option (List ℕ)) → Appends old new (string_bytes s.replies.text) → refused ≡ s.replies.is_refused
-    → HasEnded start read written s → EndsWith start read (Unit {0}) written old new (Ok (status_by refused))
-finish_done start read written s refused old new all same k =
-    (string_bytes s.replies.text, all, (k.lines, k.given, k.answers, inl (k.all, tt), k.text, ap status_by (same ∙ k.refused)))
+status_is : (lines : List (List ℕ)) (given : List Given) (refused : Bool) (flow : Flow) → refused ≡ list_any is_refused given → IsEndOf lines given flow → IsStatusOf lines given (status_after refused flow)
+status_is lines given refused (Stopped bad) same end = end
+status_is lines given true GoesOn same end = (sym same, end)
+status_is lines given false GoesOn same end = sym same
+
+pub finish_done : (start : Start) (read written : List ℕ) (s : Session) (refused : Bool) (flow : Flow) (old new : Option (List ℕ)) → Appends old new (string_bytes s.replies.text) → refused ≡ s.replies.is_refused
+    → HasEnded start read written flow s → EndsWith start read (Unit {0}) written old new (Ok (status_after refused flow))
+finish_done start read written s refused flow old new all same k =
+    (string_bytes s.replies.text, all, (k.lines, k.given, k.answers, inl (k.all, tt), k.text, status_is k.lines k.given refused flow (same ∙ k.refused) k.end))
 
 pub finish_out_of_memory : (start : Start) (read written : List ℕ) (s : Session) (old new : Option (List ℕ)) → Appends old new (string_bytes s.replies.text)
     → IsUnclosed start read written s → EndsWith start read (Unit {0}) written old new (Err Memory)
@@ -91,7 +99,7 @@ first_lines : (mode : Mode) (read : List ℕ) (lines : List (List ℕ)) → AreL
 first_lines mode read lines (inl h) = inl h
 first_lines mode read lines (inr h) = inr h.1
 
-pub finish_faults : (start : Start) (read written : List ℕ) (s : Session) {T : Type 0} (r : Result T AllocError) (old new : Option (List ℕ)) → AppendsPrefix old new (string_bytes s.replies.text)
+pub finish_faults : (start : Start) (read written : List ℕ) (s : Session) (r : Result Flow AllocError) (old new : Option (List ℕ)) → AppendsPrefix old new (string_bytes s.replies.text)
     → EndsAs start read written s r → EndsWith start read (Unit {0}) written old new (Err Write)
 finish_faults start read written s (Ok x) old new prefix k =
     let out = string_bytes s.replies.text in
@@ -126,11 +134,11 @@ run_out_of_memory start a w = ([], [], Consumes-nil a, Appends-nil w, ([], [], r
 pub turn_answered : (start : Start) (read written : List ℕ) (s next : Session) (flow : Flow) (old new : Option (List ℕ)) → Appends old new (string_bytes s.replies.text) → IsKeptBeside s next
     → string_bytes next.replies.text ≡ [] → AnswersAs start read written s (Ok flow) → TurnsTo start read written next old new (Ok flow)
 turn_answered start read written s next GoesOn old new all same none h = (string_bytes s.replies.text, all, turn_goes_on start read written s next same none h, none)
-turn_answered start read written s next Stopped old new all same none h = turn_stops start read written s next.replies.is_refused old new all same.refused h
+turn_answered start read written s next (Stopped bad) old new all same none h = turn_stops start read written s bad old new all h
 
-pub stopped_ends : (start : Start) (read written : List ℕ) (s : Session) (flow : Flow) (old new : Option (List ℕ)) → flow ≡ Stopped → TurnsTo start read written s old new (Ok flow)
-    → EndsWith start read ⊥ written old new (Ok (status_by s.replies.is_refused))
-stopped_ends start read written s flow old new e h = subst (λ (f : Flow). TurnsTo start read written s old new (Ok f)) e h
+pub stopped_ends : (start : Start) (read written : List ℕ) (s : Session) (flow : Flow) (bad : MalformedLine) (old new : Option (List ℕ)) → flow ≡ Stopped bad → TurnsTo start read written s old new (Ok flow)
+    → EndsWith start read ⊥ written old new (Ok (Malformed bad))
+stopped_ends start read written s flow bad old new e h = subst (λ (f : Flow). TurnsTo start read written s old new (Ok f)) e h
 
 pub goes_on_at : (start : Start) (read written : List ℕ) (s : Session) (flow : Flow) (old new : Option (List ℕ)) → flow ≡ GoesOn → TurnsTo start read written s old new (Ok flow)
     → TurnsTo start read written s old new (Ok GoesOn)

@@ -4,6 +4,8 @@ pub mod Words
 pub mod Written
 pub mod Reads
 pub mod Lines
+pub mod Excerpts
+pub mod LineFaults
 pub mod Given
 pub mod Reports
 pub mod Output

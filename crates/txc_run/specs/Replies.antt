@@ -50,4 +50,5 @@ IsFor function op reply = is_refusal reply ≡ false → function ≡ function_o
 
 -- the step has a reply, which was taken, and leaves that cache
 abbrev pub TakesStep : Cache → Op → Cache → Replies → Replies → Type 0
-TakesStep c op next old new = (reply : Reply Shown) × MayReply c op reply next × Takes old new (Replied op reply)
+TakesStep c op next old new = (reply : Reply Shown) × MayReply c op reply next
+    × Takes old new (Replied op reply)

@@ -50,7 +50,9 @@ functions_named (step ∷ steps) = before_others (function_of step.op) (function
 
 -- the line of a function: its lookups, and its insertions
 abbrev pub lookups_text : ℕ → FunctionCounts → List ℕ
-lookups_text f c = codes "f" ++ (decimal f ++ (codes " lookups " ++ (decimal c.lookups ++ (codes " hits " ++ decimal c.hits))))
+lookups_text f c =
+    codes "f" ++ (decimal f ++ (codes " lookups "
+    ++ (decimal c.lookups ++ (codes " hits " ++ decimal c.hits))))
 
 abbrev pub insertions_text : FunctionCounts → List ℕ
 insertions_text c =

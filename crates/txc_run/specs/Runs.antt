@@ -1,5 +1,5 @@
 -- What a run does with the lines of its script.
-use Rattle.std.specs.Prelude.{◌≡◌, ℕ, true, false, List, Option, Result, Ok, Err, take, ◌⊎◌, if◌then◌else◌}
+use Rattle.std.specs.Prelude.{◌≡◌, ℕ, true, false, List, [], ◌∷◌, ◌++◌, Option, Result, Ok, Err, length, take, ◌⊎◌}
 use Rattle.std.specs.List.{list_any}
 use Rattle.std.specs.Io.KnownBytes.{Appends, Consumes, IsAtEnd}
 use Rattle.txc_settings.specs.declared.mode.Mode.{Mode}
@@ -9,8 +9,10 @@ use Rattle.txc_node.specs.Cache.{Cache, empty_cache}
 use Rattle.txc_run.specs.Script.{BeginsWithLines, HasNoEnd, AreLinesOf}
 use Rattle.txc_run.specs.Given.{Given, AreGiven, is_refused, is_malformed}
 use Rattle.txc_run.specs.Output.{lines_text, output_of}
+use Rattle.txc_run.specs.LineFaults.{IsFaultOf}
 use Rattle.txc_run.specs.declared.fault.Status.{Status}
-use Rattle.txc_run.specs.declared.fault.Status.TheVariants.{Done, Refused}
+use Rattle.txc_run.specs.declared.fault.Status.TheVariants.{Done, Refused, Malformed}
+use Rattle.txc_run.specs.declared.line_fault.MalformedLine.{MalformedLine}
 use Rattle.txc_run.specs.declared.fault.RunFault.{RunFault}
 use Rattle.txc_run.specs.declared.fault.RunFault.TheVariants.{Read, Write, Memory}
 
@@ -22,9 +24,19 @@ pub record Start : Type 0 where
 abbrev pub start_of : Mode → Settings → Start
 start_of mode settings = record { mode = mode; cache = empty_cache settings.capacity settings.recent }
 
--- refused where a line was refused or malformed
-abbrev pub status_of : List Given → Status
-status_of given = if list_any is_refused given then Refused else Done
+-- the last of the lines, which are counted from 1, has this number, and this is wrong with it
+abbrev pub EndInFault : List (List ℕ) → MalformedLine → Type 0
+EndInFault lines malformed =
+    (malformed.number ≡ length lines)
+    × ((before : List (List ℕ)) × (line : List ℕ) × (lines ≡ before ++ line ∷ [])
+    × IsFaultOf line malformed.fault)
+
+-- no line was refused; or one was, and none was malformed; or the last one was malformed, for this fault
+abbrev pub IsStatusOf : List (List ℕ) → List Given → Status → Type 0
+IsStatusOf lines given Done = list_any is_refused given ≡ false
+IsStatusOf lines given Refused = (list_any is_refused given ≡ true) × (list_any is_malformed given ≡ false)
+IsStatusOf lines given (Malformed malformed) = (list_any is_malformed given ≡ true)
+    × EndInFault lines malformed
 
 -- lines of a script, counted from 1, and what they give
 pub record Answers (start : Start) (lines : List (List ℕ)) (given : List Given) : Type 0 where
@@ -48,15 +60,15 @@ abbrev pub AreLinesBefore : Mode → List ℕ → List (List ℕ) → Type 0
 AreLinesBefore mode read lines =
     ((others : List ℕ) × BeginsWithLines read lines others) ⊎ ((mode ≡ Report) × AreLinesOf read lines)
 
--- What a run that read these bytes wrote, by how it ended: all that is written of what the lines give. After a
--- fault of the reader that is what is written at once of all lines that had ended; out of memory, of those
+-- What a run that read these bytes wrote, by how it ended: all that is written of what the lines give. After
+-- a fault of the reader that is what is written at once of all lines that had ended; out of memory, of those
 -- before; after a fault of the writer, a prefix of either. After a fault of the reader, and out of memory, no
 -- line was malformed.
 abbrev pub HasWritten : Start → List ℕ → Type 0 → List ℕ → Result Status RunFault → Type 0
 HasWritten start read at_end written (Ok status) =
     (lines : List (List ℕ)) × (given : List Given)
     × Answers start lines given × IsWhole read at_end lines given
-    × (written ≡ output_of start.mode given) × (status ≡ status_of given)
+    × (written ≡ output_of start.mode given) × IsStatusOf lines given status
 HasWritten start read at_end written (Err Read) =
     (lines : List (List ℕ)) × (given : List Given) × (rest : List ℕ)
     × Answers start lines given × BeginsWithLines read lines rest × HasNoEnd rest

@@ -6,7 +6,11 @@ use Rattle.txc_run.specs.Script.{BeginsWithLines, HasNoEnd, AreLinesOf}
 use Rattle.txc_run.specs.Given.{Given, Gives, AreGiven, is_refused, is_malformed}
 use Rattle.txc_run.specs.Output.{lines_text, output_of}
 use Rattle.txc_run.specs.Replies.{mode_of, HasCounted, Takes}
-use Rattle.txc_run.specs.Runs.{Start, Answers, AreLinesBefore}
+use Rattle.txc_run.specs.Runs.{Start, Answers, AreLinesBefore, EndInFault}
+use Rattle.txc_run.specs.LineFaults.{IsFaultOf}
+use Rattle.txc_run.specs.declared.fault.Status.{Status}
+use Rattle.txc_run.specs.declared.fault.Status.TheVariants.{Done, Refused, Malformed}
+use Rattle.txc_run.specs.declared.line_fault.MalformedLine.{MalformedLine}
 use Rattle.txc_run.specs.declared.piece.TheConstants.{MAX_KEPT}
 use Rattle.txc_run.specs.declared.session.Session.{Session}
 use Rattle.txc_run.specs.declared.session.Flow.{Flow}
@@ -16,17 +20,30 @@ use Rattle.txc_run.specs.declared.session.Flow.TheVariants.{GoesOn, Stopped}
 abbrev pub kept_of : List ℕ → List ℕ
 kept_of line = take MAX_KEPT line
 
--- whether the run goes on after a line that gives this
-abbrev pub flow_of : Bool → Flow
-flow_of false = GoesOn
-flow_of true = Stopped
+-- the run goes on after a line that is not malformed, and stops at a malformed one, for its number and its
+-- fault
+abbrev pub IsFlowAfter : ℕ → List ℕ → Given → Flow → Type 0
+IsFlowAfter number line given GoesOn = is_malformed given ≡ false
+IsFlowAfter number line given (Stopped malformed) =
+    (is_malformed given ≡ true) × (malformed.number ≡ number) × IsFaultOf line malformed.fault
+
+-- the end of a run: no line was malformed, or the last one is, for this fault
+abbrev pub IsEndOf : List (List ℕ) → List Given → Flow → Type 0
+IsEndOf lines given GoesOn = list_any is_malformed given ≡ false
+IsEndOf lines given (Stopped malformed) = (list_any is_malformed given ≡ true) × EndInFault lines malformed
+
+-- the status of a run that ends so, in which a line was refused or none was
+abbrev pub status_after : Bool → Flow → Status
+status_after refused (Stopped malformed) = Malformed malformed
+status_after true GoesOn = Refused
+status_after false GoesOn = Done
 
 -- the line that ended was answered
 pub record AnswersLine (old new : Session) (flow : Flow) : Type 0 where
   pub given : Given
   pub gives : Gives old.node (old.lines + 1) old.line given new.node
   pub takes : Takes old.replies new.replies given
-  pub flow_is : flow ≡ flow_of (is_malformed given)
+  pub flow_is : IsFlowAfter new.lines old.line given flow
   pub emptied : new.line ≡ []
   pub count : new.lines ≡ old.lines + 1
 
@@ -47,8 +64,8 @@ pub record HasAnswered (start : Start) (read written : List ℕ) (s : Session) :
   pub refused : s.replies.is_refused ≡ list_any is_refused given
   pub well_formed : list_any is_malformed given ≡ false
 
--- first lines were answered, and the last of them was malformed
-pub record IsStopped (start : Start) (read written : List ℕ) (s : Session) : Type 0 where
+-- first lines were answered, and the last of them was malformed, for this fault
+pub record IsStopped (start : Start) (read written : List ℕ) (malformed_line : MalformedLine) (s : Session) : Type 0 where
   pub lines : List (List ℕ)
   pub given : List Given
   pub others : List ℕ
@@ -57,6 +74,7 @@ pub record IsStopped (start : Start) (read written : List ℕ) (s : Session) : T
   pub text : written ++ string_bytes s.replies.text ≡ output_of start.mode given
   pub refused : s.replies.is_refused ≡ list_any is_refused given
   pub malformed : list_any is_malformed given ≡ true
+  pub wrong : EndInFault lines malformed_line
 
 -- first lines were answered, none of them malformed, as far as there was memory
 pub record IsHalted (start : Start) (read written : List ℕ) (s : Session) : Type 0 where
@@ -69,16 +87,17 @@ pub record IsHalted (start : Start) (read written : List ℕ) (s : Session) : Ty
   pub well_formed : list_any is_malformed given ≡ false
 
 -- all lines of the script were answered, and all that is written of them is at hand
-pub record HasEnded (start : Start) (read written : List ℕ) (s : Session) : Type 0 where
+pub record HasEnded (start : Start) (read written : List ℕ) (flow : Flow) (s : Session) : Type 0 where
   pub lines : List (List ℕ)
   pub given : List Given
   pub answers : Answers start lines given
   pub all : AreLinesOf read lines
   pub text : written ++ string_bytes s.replies.text ≡ output_of start.mode given
   pub refused : s.replies.is_refused ≡ list_any is_refused given
+  pub end : IsEndOf lines given flow
 
--- first lines were answered, or all where the report could not be made, and none was malformed; what is written
--- after all lines is not at hand
+-- first lines were answered, or all where the report could not be made, and none was malformed; what is
+-- written after all lines is not at hand
 pub record IsUnclosed (start : Start) (read written : List ℕ) (s : Session) : Type 0 where
   pub lines : List (List ℕ)
   pub given : List Given
@@ -91,7 +110,7 @@ pub record IsUnclosed (start : Start) (read written : List ℕ) (s : Session) : 
 -- is out of memory
 abbrev pub AnswersAs : Start → List ℕ → List ℕ → Session → Result Flow AllocError → Type 0
 AnswersAs start read written s (Ok GoesOn) = HasAnswered start read written s
-AnswersAs start read written s (Ok Stopped) = IsStopped start read written s
+AnswersAs start read written s (Ok (Stopped malformed)) = IsStopped start read written malformed s
 AnswersAs start read written s (Err e) = IsHalted start read written s
 
 -- all lines of the script were answered, and none was malformed; what is written after them is not at hand
@@ -109,12 +128,12 @@ pub record HasLast (start : Start) (read written : List ℕ) (s : Session) : Typ
 -- the last line was answered, or was malformed, or the session is out of memory
 abbrev pub AnswersLast : Start → List ℕ → List ℕ → Session → Result Flow AllocError → Type 0
 AnswersLast start read written s (Ok GoesOn) = HasLast start read written s
-AnswersLast start read written s (Ok Stopped) = HasEnded start read written s
+AnswersLast start read written s (Ok (Stopped malformed)) = HasEnded start read written (Stopped malformed) s
 AnswersLast start read written s (Err e) = IsHalted start read written s
 
 -- all lines were answered, and what is written after them is at hand; or the session is out of memory
-abbrev pub EndsAs : {T : Type 0} → Start → List ℕ → List ℕ → Session → Result T AllocError → Type 0
-EndsAs start read written s (Ok x) = HasEnded start read written s
+abbrev pub EndsAs : Start → List ℕ → List ℕ → Session → Result Flow AllocError → Type 0
+EndsAs start read written s (Ok flow) = HasEnded start read written flow s
 EndsAs start read written s (Err e) = IsUnclosed start read written s
 
 -- all but the replies at hand stay as they were

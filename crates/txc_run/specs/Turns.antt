@@ -1,10 +1,10 @@
 -- Only private functions need this file: one read of a run.
-use Rattle.std.specs.Prelude.{◌≡◌, ℕ, Bool, List, [], ◌++◌, Option, Result, Ok, Err, string_bytes, ◌⊎◌, if◌then◌else◌}
+use Rattle.std.specs.Prelude.{◌≡◌, ℕ, List, [], ◌++◌, Option, Result, Ok, Err, string_bytes, ◌⊎◌}
 use Rattle.std.specs.Io.KnownBytes.{Appends, Keeps}
 use Rattle.txc_run.specs.Runs.{Start, HasWritten}
 use Rattle.txc_run.specs.Sessions.{HasAnswered}
 use Rattle.txc_run.specs.declared.fault.Status.{Status}
-use Rattle.txc_run.specs.declared.fault.Status.TheVariants.{Done, Refused}
+use Rattle.txc_run.specs.declared.fault.Status.TheVariants.{Malformed}
 use Rattle.txc_run.specs.declared.fault.RunFault.{RunFault}
 use Rattle.txc_run.specs.declared.fault.RunFault.TheVariants.{Write}
 use Rattle.txc_run.specs.declared.session.Session.{Session}
@@ -18,10 +18,6 @@ EndsWith start read at_end written contents_old contents_new result =
     (more : List ℕ) × Appends contents_old contents_new more
     × HasWritten start read at_end (written ++ more) result
 
--- the status of a run in which a line was refused, or none was
-abbrev pub status_by : Bool → Status
-status_by refused = if refused then Refused else Done
-
 -- the lines that end in the bytes of a read were answered, and the replies written: the run goes on, or it
 -- ends so
 abbrev pub TurnsTo : Start → List ℕ → List ℕ → Session → Option (List ℕ) → Option (List ℕ)
@@ -29,8 +25,8 @@ abbrev pub TurnsTo : Start → List ℕ → List ℕ → Session → Option (Lis
 TurnsTo start read written s contents_old contents_new (Ok GoesOn) =
     (more : List ℕ) × Appends contents_old contents_new more
     × HasAnswered start read (written ++ more) s × (string_bytes s.replies.text ≡ [])
-TurnsTo start read written s contents_old contents_new (Ok Stopped) =
-    EndsWith start read ⊥ written contents_old contents_new (Ok (status_by s.replies.is_refused))
+TurnsTo start read written s contents_old contents_new (Ok (Stopped malformed)) =
+    EndsWith start read ⊥ written contents_old contents_new (Ok (Malformed malformed))
 TurnsTo start read written s contents_old contents_new (Err fault) =
     EndsWith start read ⊥ written contents_old contents_new (Err fault)
 

@@ -4,10 +4,12 @@ ghost use Rattle.std.specs.Io.KnownBytes.{Appends};
 ghost use Rattle.txc_run.specs.Script.{HasNoEnd};
 ghost use Rattle.txc_run.specs.Runs.{Start, start_of};
 ghost use Rattle.txc_run.specs.Written.{AppendsPrefix};
-ghost use Rattle.txc_run.specs.Sessions.{AnswersLine, HasAnswered, AnswersAs, AnswersLast, EndsAs, IsKeptBeside};
+ghost use Rattle.txc_run.specs.Sessions.{AnswersLine, HasAnswered, AnswersAs, AnswersLast, EndsAs, IsKeptBeside, status_after};
 
 use crate::fault::{RunFault, Status};
+use crate::finding::find_fault;
 use crate::line::{Line, read_line};
+use crate::line_fault::MalformedLine;
 use crate::piece::{LineStart, cut_line};
 use crate::replies::Replies;
 use crate::session::{Flow, Session};
@@ -36,10 +38,13 @@ impl Session {
         })
     }
 
-    /// The status of the run so far.
-    pub fn status(&self) -> Status
-        ensures { result ≡ (if self.now.replies.is_refused then Status.Refused else Status.Done) }
+    /// The status of a run that ends so.
+    pub fn status(&self, end: Flow) -> Status
+        ensures { result ≡ status_after self.now.replies.is_refused end }
     {
+        if let Flow::Stopped(line) = end {
+            return Status::Malformed(line);
+        }
         if self.replies.is_refused() {
             Status::Refused
         } else {
@@ -57,21 +62,28 @@ impl Session {
     {
         self.lines += 1;
         let line = read_line(alloc, self.line.bytes())?;
-        self.line.clear();
         match line {
-            Line::Quiet => Ok(Flow::GoesOn),
+            Line::Quiet => {
+                self.line.clear();
+                Ok(Flow::GoesOn)
+            }
             Line::Step(op) => {
+                self.line.clear();
                 make_step(alloc, &mut self.node, op, &mut self.replies)?;
                 Ok(Flow::GoesOn)
             }
             Line::Unmade(error) => {
+                self.line.clear();
                 let refusal = Refusal::of_entry(error);
                 self.replies.take(alloc, None, &Reply::Refused(refusal))?;
                 Ok(Flow::GoesOn)
             }
             Line::Malformed => {
-                self.replies.take_malformed(alloc, self.lines)?;
-                Ok(Flow::Stopped)
+                let number = self.lines;
+                let fault = find_fault(alloc, self.line.bytes());
+                self.line.clear();
+                self.replies.take_malformed(alloc, number)?;
+                Ok(Flow::Stopped(MalformedLine { number, fault }))
             }
         }
     }
@@ -115,7 +127,7 @@ impl Session {
             match cut_line(rest) {
                 Some((before, after)) => match self.end_line(alloc, before) {
                     Ok(Flow::GoesOn) => rest = after,
-                    Ok(Flow::Stopped) => return Ok(Flow::Stopped),
+                    Ok(Flow::Stopped(line)) => return Ok(Flow::Stopped(line)),
                     Err(e) => return Err(e),
                 },
                 None => return self.extend_line(rest),
@@ -136,14 +148,17 @@ impl Session {
     }
 
     /// Answers the last line, if its line feed is missing, and takes the end of the script.
-    pub fn finish(&mut self, alloc: Global) -> Result<(), AllocError>
+    pub fn finish(&mut self, alloc: Global) -> Result<Flow, AllocError>
         requires { self.old.lines + 1 < 2 ^ 64 }
         ensures { (start : Start) (read written : List ℕ) → HasAnswered start read written self.old
             → EndsAs start read written self.new result }
     {
         match self.answer_last(alloc) {
-            Ok(Flow::GoesOn) => self.replies.close(alloc),
-            Ok(Flow::Stopped) => Ok(()),
+            Ok(Flow::GoesOn) => match self.replies.close(alloc) {
+                Ok(()) => Ok(Flow::GoesOn),
+                Err(e) => Err(e),
+            },
+            Ok(Flow::Stopped(line)) => Ok(Flow::Stopped(line)),
             Err(e) => Err(e),
         }
     }

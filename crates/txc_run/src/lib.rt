@@ -2,10 +2,13 @@
 #![tactic(auto)]
 
 mod answer;
+mod excerpt;
 mod fault;
+mod finding;
 mod hex;
 mod laws;
 mod line;
+mod line_fault;
 mod piece;
 mod reading;
 mod reads;
@@ -18,7 +21,9 @@ mod unread;
 mod words;
 mod writer;
 
+pub use excerpt::{Excerpt, MAX_SHOWN};
 pub use fault::{RunFault, Status, exit_of};
 pub use laws::{a_line_is_one_thing, lines_are_answered_one_way};
+pub use line_fault::{LineFault, MalformedLine, WordFault, WordKind};
 pub use reads::MAX_READS;
 pub use script::run;

@@ -13,7 +13,7 @@ use txc_stamp::{LAST_STAMP, Stamp};
 use txc_tags::{Key, TagSet, read_number};
 
 /// A stamp's number.
-fn read_stamp(text: &[u8]) -> Result<Stamp, Malformed>
+pub fn read_stamp(text: &[u8]) -> Result<Stamp, Malformed>
     ensures answer { IfOk result (IsStampWord text.now) }
     ensures refused { IfErr result (λ _. (n : ℕ) → IsStampWord text.now n → ⊥) }
 {
@@ -24,7 +24,7 @@ fn read_stamp(text: &[u8]) -> Result<Stamp, Malformed>
 }
 
 /// `still`, or `closed`.
-fn read_still(text: &[u8]) -> Result<bool, Malformed>
+pub fn read_still(text: &[u8]) -> Result<bool, Malformed>
     ensures answer { IfOk result (λ still. text.now ≡ still_text still) }
     ensures refused { IfErr result (λ _. (still : Bool) → text.now ≡ still_text still → ⊥) }
 {

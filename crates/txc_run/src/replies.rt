@@ -112,7 +112,8 @@ impl Replies {
     pub fn close(&mut self, alloc: Global) -> Result<(), AllocError>
         ensures after { OnOk result ((given : List Given) → HasCounted given self.old
             → list_any is_malformed given ≡ false
-            → string_bytes self.new.text ≡ string_bytes self.old.text ++ closing_text (mode_of self.old) given) }
+            → string_bytes self.new.text ≡ string_bytes self.old.text
+            ++ closing_text (mode_of self.old) given) }
         ensures unchanged { OnErr result (string_bytes self.new.text ≡ string_bytes self.old.text) }
         ensures only_report { OnErr result (mode_of self.old ≡ Mode.Report) }
         ensures refused { self.new.is_refused ≡ self.old.is_refused }

@@ -15,9 +15,10 @@ use txc_settings::{Mode, Settings};
 /// How many bytes a read is asked for.
 const PIECE_LEN: usize = 16_384;
 
-/// Reads a script, and writes the replies to its lines or a report of them, as the mode says. A reader is read at most [`crate::MAX_READS`] times,
-/// where a read that was interrupted counts and is made again: one that has not come to its end by then is a
-/// read fault. The writer is flushed at the end.
+/// Reads a script, and writes the replies to its lines or a report of them, as the mode says. The status says
+/// what is wrong with a malformed line. A reader is read at most [`crate::MAX_READS`] times, where a read
+/// that was interrupted counts and is made again: one that has not come to its end by then is a read fault.
+/// The writer is flushed at the end.
 pub fn run<R: Read, W: Write>(
     alloc: Global,
     mode: Mode,
@@ -84,7 +85,7 @@ fn finish<W: Write>(
     let answered = session.finish(alloc);
     match session.write_out(writer) {
         Ok(()) => match answered {
-            Ok(()) => Ok(session.status()),
+            Ok(end) => Ok(session.status(end)),
             Err(_) => Err(RunFault::Memory),
         },
         Err(_) => Err(RunFault::Write),
@@ -117,7 +118,7 @@ fn run_session<R: Read, W: Write>(
         }
         match turn(alloc, &mut session, &piece[..n], writer)? {
             Flow::GoesOn => {}
-            Flow::Stopped => return Ok(session.status()),
+            Flow::Stopped(line) => return Ok(Status::Malformed(line)),
         }
     }
 }

@@ -2,17 +2,18 @@
 ghost use Rattle.std.specs.Prelude.{◌≤◌};
 ghost use Rattle.txc_run.specs.Replies.{counted_by};
 
+use crate::line_fault::MalformedLine;
 use crate::piece::LineStart;
 use crate::replies::Replies;
 use txc_node::NodeCore;
 
 /// Whether a run goes on after a line.
-#[derive(Clone, Copy, Debug, PartialEq, Eq)]
+#[derive(Debug, Drop)]
 pub enum Flow {
     /// The next line is read.
     GoesOn,
     /// A malformed line was read.
-    Stopped,
+    Stopped(MalformedLine),
 }
 
 /// A run in progress.

@@ -35,6 +35,24 @@ pub struct WordsLeft<'a> {
     count: usize,
 }
 
+/// How many words a text has.
+pub fn count_words(text: &[u8]) -> usize
+    ensures count { result ≡ length (words_of text.now) }
+    ensures some { 0 < result }
+{
+    count_blanks(text) + 1
+}
+
+/// The words of a text.
+pub fn all_words(text: &[u8]) -> WordsLeft<'_>
+    ensures { words_left result ≡ words_of text.now }
+{
+    WordsLeft {
+        rest: text,
+        count: count_words(text),
+    }
+}
+
 /// The words of a text that has exactly so many.
 pub fn words(text: &[u8], count: usize) -> Result<WordsLeft<'_>, Malformed>
     ensures answer { IfOk result (λ words. words_left words ≡ words_of text.now) }

@@ -28,8 +28,8 @@ use Rattle.txc_rw.specs.declared.reading.Reading.{Reading}
 use Rattle.txc_rw.specs.declared.rw_core.TheConstants.{MAX_CHANGES}
 use Rattle.txc_rw.specs.Answers.{AgreeOn, AreRightIn, committed, state_of}
 
--- What callers see of a core: its base; every query that the database answered it; what it was answered; its changes; its call;
--- and the query that the database is asked, if one is.
+-- What callers see of a core: its base; every query that the database answered it; what it was answered; its
+-- changes; its call; and the query that the database is asked, if one is.
 pub record RwValue : Type 0 where
   pub base : ℕ
   pub queried : List Query
@@ -57,7 +57,8 @@ abbrev pub IsReady : Option Reading → List Tag → ℕ → ℕ → Type 0
 IsReady None tags count room = Unit {0}
 IsReady (Some r) tags count room = (r.tags ≡ with_tag (query_tag r.query) tags) × (count < room)
 
--- the tags are those of the queries that were answered, no more changes are kept than may be, and the next query is ready
+-- the tags are those of the queries that were answered, no more changes are kept than may be, and the next
+-- query is ready
 pub record IsKept (tags : List Tag) (queried : Vec Query Global) (changes : List Change) (reading : Option Reading) : Type 0 where
   pub exact : tags ≡ tags_of queried.items
   pub few : length changes ≤ MAX_CHANGES
@@ -79,7 +80,8 @@ pub record IsBegun (base : ℕ) (c : RwValue) : Type 0 where
 abbrev pub IsIdle : RwValue → Type 0
 IsIdle c = (c.call.need ≡ None) × (c.reading ≡ None)
 
--- the query is what the call needs, or, where no call is open, the transaction's own; without one no call is open
+-- the query is what the call needs, or, where no call is open, the transaction's own; without one no call is
+-- open
 abbrev pub ReadingFits : Option Query → Option Need → Type 0
 ReadingFits None need = need ≡ None
 ReadingFits (Some q) None = Unit {0}
@@ -89,15 +91,15 @@ ReadingFits (Some q) (Some need) = need ≡ needs.Query q
 abbrev pub only_one : Interval
 only_one = record { lo = 1; known = 1; still = false }
 
--- in any history: its call waits for what it needs; what that was given holds at the stamp 1, by which the call knows the one
--- state that the transaction reads; and the database is asked what is needed
+-- in any history: its call waits for what it needs; what that was given holds at the stamp 1, by which the
+-- call knows the one state that the transaction reads; and the database is asked what is needed
 pub record IsRw (next : Next) (objects : Objects) (c : RwValue) : Type 0 where
   pub call : IsCalling next objects c.call
   pub at_one : InCall 1 c.call
   pub reading : ReadingFits c.reading c.call.need
 
--- In a history, which has the base: in the state of the base, and in every other in which the queries that were answered give what
--- they give there, each answer is right, and so is what the open call was given.
+-- In a history, which has the base: in the state of the base, and in every other in which the queries that
+-- were answered give what they give there, each answer is right, and so is what the open call was given.
 pub record RwHolds (next : Next) (L : History) (objects : Objects) (c : RwValue) : Type 0 where
   pub within : c.base ≤ length L
   pub answers : (changes : List Change) → AgreeOn c.queried (state_at L c.base) (state_of changes)

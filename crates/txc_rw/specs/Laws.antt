@@ -24,8 +24,8 @@ abbrev pub AnswersAreRight : Type 0
 AnswersAreRight = (next : Next) (L : History) (objects : Objects) (c : RwValue)
     → RwHolds next L objects c → AreRightIn next (state_at L c.base) c.answers
 
--- where the database committed the changes of a transaction with the tags of what it read, each answer is right where the changes
--- were made
+-- where the database committed the changes of a transaction with the tags of what it read, each answer is
+-- right where the changes were made
 abbrev pub CommitsAreRight : Type 0
 CommitsAreRight = (next : Next) (L : History) (objects : Objects) (c : RwValue) (stamp : ℕ)
     → RwHolds next L objects c

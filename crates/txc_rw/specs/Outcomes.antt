@@ -12,7 +12,8 @@ pub record HasChangedNothing (next : Next) (L : History) (c : RwValue) (stamp : 
   pub none : net_changes (state_at L stamp) c.changes ≡ []
   pub right : AreRightIn next (state_at L stamp) c.answers
 
--- the newest event is the commit of the net changes over the state before it, and each answer is right in that state
+-- the newest event is the commit of the net changes over the state before it, and each answer is right in
+-- that state
 pub record HasChanged (next : Next) (L : History) (c : RwValue) (stamp : ℕ) : Type 0 where
   pub before : ℕ
   pub one_more : stamp ≡ before + 1

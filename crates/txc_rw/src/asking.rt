@@ -43,7 +43,8 @@ impl RwCore {
     fn keep_value(&mut self, alloc: Global) -> Turn
         requires done { (o : Outcome) × (self.old.call.need ≡ Some (Need.Value o)) }
         requires none { self.old.reading ≡ None }
-        ensures fits { (next : Next) (objects : Objects) → IsCalling next objects self.old.call → InCall 1 self.old.call
+        ensures fits { (next : Next) (objects : Objects) → IsCalling next objects self.old.call
+            → InCall 1 self.old.call
             → IsRw next objects self.new }
         ensures holds { (next : Next) (objects : Objects) (L : History) → IsCalling next objects self.old.call
             → InCall 1 self.old.call → RwHolds next L objects self.old → RwHolds next L objects self.new }
@@ -84,7 +85,8 @@ impl RwCore {
         requires at_one { InCall 1 self.old.call }
         requires none { self.old.reading ≡ None }
         ensures fits { IsRw A.next registry.new self.new }
-        ensures holds { (L : History) → RwHolds A.next L registry.old self.old → RwHolds A.next L registry.new self.new }
+        ensures holds { (L : History) → RwHolds A.next L registry.old self.old
+            → RwHolds A.next L registry.new self.new }
         ensures turn { IsTurn self.new result }
         ensures kind { IsOfCall result }
         ensures answers { self.new.answers ≡ answers_after self.old.answers self.old.call.top None result }
@@ -123,7 +125,8 @@ impl RwCore {
         requires at_one { InCall 1 self.old.call }
         requires none { self.old.reading ≡ None }
         ensures fits { IsRw A.next registry.new self.new }
-        ensures holds { (L : History) → RwHolds A.next L registry.old self.old → RwHolds A.next L registry.new self.new }
+        ensures holds { (L : History) → RwHolds A.next L registry.old self.old
+            → RwHolds A.next L registry.new self.new }
         ensures turn { IsTurn self.new result }
         ensures kind { IsOfCall result }
         ensures no_value { self.old.answers ≡ answers_after self.old.answers self.old.call.top None result }
@@ -140,8 +143,8 @@ impl RwCore {
         })
     }
 
-    /// Starts a call. It asks its first query, or has its value, or is refused: before all else where there is no such
-    /// function.
+    /// Starts a call. It asks its first query, or has its value, or is refused: before all else where there
+    /// is no such function.
     pub fn start<A: App, C: Cacheable>(
         &mut self,
         alloc: Global,
@@ -151,7 +154,8 @@ impl RwCore {
         requires fits { IsRw A.next registry.old self.old }
         requires idle { self.old.reading ≡ None }
         ensures fits { IsRw A.next registry.new self.new }
-        ensures holds { (L : History) → RwHolds A.next L registry.old self.old → RwHolds A.next L registry.new self.new }
+        ensures holds { (L : History) → RwHolds A.next L registry.old self.old
+            → RwHolds A.next L registry.new self.new }
         ensures turn { IsTurn self.new result }
         ensures kind { IsOfCall result }
         ensures answers { self.new.answers ≡ answers_after self.old.answers key None result }
@@ -181,7 +185,8 @@ impl RwCore {
         requires fits { IsRw A.next registry.now self.old }
         requires idle { self.old.reading ≡ None }
         ensures fits { IsRw A.next registry.now self.new }
-        ensures holds { (L : History) → RwHolds A.next L registry.now self.old → RwHolds A.next L registry.now self.new }
+        ensures holds { (L : History) → RwHolds A.next L registry.now self.old
+            → RwHolds A.next L registry.now self.new }
         ensures turn { IsTurn self.new result }
         ensures answer { IsAsked query self.new.base result }
         ensures after { IsAsk result → self.new ≡ record self.old { reading = Some query } }

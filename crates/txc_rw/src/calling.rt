@@ -112,7 +112,8 @@ pub(crate) fn query_at<J: Naming, A: App, C: Cacheable>(
     ensures idle { IsIdle core.new }
     ensures holds { RwHolds A.next seen.now.history registry.old core.old
         → RwHolds A.next seen.now.history registry.new core.new }
-    ensures answers { core.new.answers ≡ answers_after core.old.answers core.old.call.top (Some query) result }
+    ensures answers { core.new.answers
+        ≡ answers_after core.old.answers core.old.call.top (Some query) result }
     ensures queried { IsPrefix core.old.queried core.new.queried }
     ensures same { core.new ≡ record core.old {
       queried = core.new.queried;

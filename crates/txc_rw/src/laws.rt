@@ -11,8 +11,8 @@ pub fn transactions_stay_right()
     states_stay();
 }
 
-/// Every answer is right at the base, and, once the transaction is committed, at the stamp before its event, or, where
-/// it has none, at the newest stamp.
+/// Every answer is right at the base, and, once the transaction is committed, at the stamp before its event,
+/// or, where it has none, at the newest stamp.
 pub fn answers_are_right()
     ensures base { AnswersAreRight }
     ensures committed { CommitsAreRight }

@@ -55,7 +55,8 @@ impl RwCore {
         requires idle { self.old.call.need ≡ None }
         ensures turn { IsTurn self.new result }
         ensures kind { IsOfQuery result }
-        ensures answers { self.new.answers ≡ answers_after self.old.answers self.old.call.top (Some query) result }
+        ensures answers { self.new.answers
+            ≡ answers_after self.old.answers self.old.call.top (Some query) result }
         ensures kept { IsOneMore (Given.Rows query rows.items) self.old.answers self.new.answers }
         ensures same { self.new ≡ record self.old { answers = self.new.answers } }
     {
@@ -69,8 +70,8 @@ impl RwCore {
         Turn::Rows(copy)
     }
 
-    /// Goes on with the database's answer to the query that was asked. A refusal of the database ends the call or the
-    /// query; whatever ends it, what was answered counts as read.
+    /// Goes on with the database's answer to the query that was asked. A refusal of the database ends the
+    /// call or the query; whatever ends it, what was answered counts as read.
     pub fn reply<A: App, C: Cacheable>(
         &mut self,
         alloc: Global,
@@ -90,7 +91,8 @@ impl RwCore {
         ensures open { IsAsk result → IsSome self.new.call.need }
         ensures goes_on { IsAsk result → self.new.call.top ≡ self.old.call.top }
         ensures counted { IsAsk result → self.old.call.asked < self.new.call.asked }
-        ensures refused { (error : DbError) → reply ≡ Err error → result ≡ Turn.Refused (refused_request error) }
+        ensures refused { (error : DbError) → reply ≡ Err error
+            → result ≡ Turn.Refused (refused_request error) }
         ensures same { self.new ≡ record self.old {
           queried = self.new.queried;
           answers = self.new.answers;

@@ -19,8 +19,8 @@ pub const MAX_CHANGES: usize = 256;
 /// A read-write transaction that asks for one query at a time, and goes on with what was found.
 ///
 /// It has no lock and no thread, and it uses no node. It begins with the stamp that the database answers to
-/// `PortRequest::Hold`. For a commit it lends its base, its tags and its changes, so that a refused commit leaves it
-/// as it was. The registry of its functions is lent to each call, always the same one.
+/// `PortRequest::Hold`. For a commit it lends its base, its tags and its changes, so that a refused commit
+/// leaves it as it was. The registry of its functions is lent to each call, always the same one.
 #[derive(Drop)]
 pub struct RwCore {
     pub(crate) base: Stamp,
@@ -106,7 +106,8 @@ impl RwCore {
 
     /// One change more. It is refused where there are [`MAX_CHANGES`] already, and dropped then.
     pub fn write(&mut self, change: Change) -> Result<(), TxnError>
-        ensures after { OnOk result (self.new ≡ record self.old { changes = self.old.changes ++ change ∷ [] }) }
+        ensures after { OnOk result (self.new
+            ≡ record self.old { changes = self.old.changes ++ change ∷ [] }) }
         ensures only_if { IsOk result → length self.old.changes < MAX_CHANGES }
         ensures refused { IfErr result (λ error. IsWriteRefused (length self.old.changes) error) }
         ensures unchanged { OnErr result (self.new ≡ self.old) }

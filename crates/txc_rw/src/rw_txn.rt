@@ -40,11 +40,11 @@ pub struct Committed {
     pub front: HistoryFront,
 }
 
-/// A read-write transaction. It reads at its base, the newest stamp when it began, and keeps its changes until it
-/// commits. No node is used.
+/// A read-write transaction. It reads at its base, the newest stamp when it began, and keeps its changes
+/// until it commits. No node is used.
 ///
-/// It holds its base until it is spent, by [`RwTxn::commit`] or [`RwTxn::abort`], which return the registry of its
-/// functions.
+/// It holds its base until it is spent, by [`RwTxn::commit`] or [`RwTxn::abort`], which return the registry
+/// of its functions.
 pub struct RwTxn<'a, J: Naming, A: App, C: Cacheable> {
     database: &'a Database<J>,
     registry: Registry<A, C>,
@@ -91,8 +91,8 @@ impl<'a, J: Naming, A: App, C: Cacheable> RwTxn<'a, J, A, C> {
         })
     }
 
-    /// What holds of every transaction: each answer is what its call or its query gives at its base. It does nothing
-    /// when it runs.
+    /// What holds of every transaction: each answer is what its call or its query gives at its base. It does
+    /// nothing when it runs.
     pub fn is_right(&self)
         ensures base { self.now.core.base ≤ length self.now.history }
         ensures answers { AreRightIn A.next (state_at self.now.history self.now.core.base) self.now.core.answers }
@@ -206,8 +206,9 @@ impl<'a, J: Naming, A: App, C: Cacheable> RwTxn<'a, J, A, C> {
         self.core.write(Change::Remove(table, id))
     }
 
-    /// Commits the changes, where no event after the base matches what was read, and gives up the hold of the base. A
-    /// refusal is that of the database, in its order, and returns the transaction, open and still holding its base.
+    /// Commits the changes, where no event after the base matches what was read, and gives up the hold of the
+    /// base. A refusal is that of the database, in its order, and returns the transaction, open and still
+    /// holding its base.
     pub fn commit(
         self,
         rt: &impl Wait,

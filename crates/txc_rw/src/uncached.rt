@@ -15,7 +15,8 @@ use txc_shared::App;
 fn reply_of_no_cache(machine: &CallMachine) -> Option<Reply>
     requires { IsSome machine.now.need }
     ensures { MatchOption result (needs_no_node machine.now.need)
-        (λ reply. (need : Need) × (machine.now.need ≡ Some need) × ReplyFits need reply × (reply_reach reply ≡ None)) }
+        (λ reply. (need : Need) × (machine.now.need ≡ Some need) × ReplyFits need reply
+        × (reply_reach reply ≡ None)) }
 {
     match machine.need() {
         Some(Need::Lookup(_)) => Some(Reply::Miss),

@@ -8,8 +8,8 @@ use crate::settings::Settings;
 use std::alloc::Global;
 
 impl Settings {
-    /// The settings of a TOML document: `capacity`, `nodes`, `permits`, `recent`, `renew_after`, `row_cap` and
-    /// `workers`, each an integer in its range; one that the document leaves out has its default.
+    /// The settings of a TOML document: `capacity`, `nodes`, `permits`, `recent`, `renew_after`, `row_cap`
+    /// and `workers`, each an integer in its range; one that the document leaves out has its default.
     pub fn read(alloc: Global, text: &str) -> Result<Settings, SettingsError>
         ensures answer { IfOk result (AreSettingsIn text.now) }
         ensures refused { IfErr result (IsSettingsRefusal text.now) }

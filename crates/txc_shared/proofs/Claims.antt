@@ -22,7 +22,7 @@ use Rattle.txc_shared.specs.Answering.{IsRight, AreRight, queries_of}
 use Rattle.txc_shared.specs.Claims.{covers_all, HoldsIn, HoldsOver}
 use Rattle.txc_shared.specs.Laws.{EventLeaves, TrueInLonger, IsDoneAfter, FoundRowsHold, DoneAfterIsTrue}
 use Rattle.txc_shared.proofs.Evals.{equal_answers_decide}
-use Rattle.txc_shared.proofs.Each.{each_none, each_push}
+use Rattle.txc_shared.proofs.Offered.{each_none, each_push}
 use Rattle.txc_shared.proofs.Answers.{right_answers_give_the_value}
 
 -- ---- one event

@@ -1,11 +1,10 @@
 pub mod Evals
-pub mod Each
+pub mod Offered
 pub mod Answers
 pub mod Claims
 pub mod Entries
 pub mod Histories
 pub mod Runs
-pub mod WorkedNodes
 pub mod Turns
 pub mod Nodes
 pub mod Passes

@@ -22,7 +22,7 @@ use Rattle.txc_shared.specs.Claims.{IsTrueIn, IsShownTrue, shown_entry}
 use Rattle.txc_shared.specs.Histories.{IsNext, next_record}
 use Rattle.txc_shared.specs.Runs.{AreTagsAfter, KeepsTags, IsTrueCache, IsRun}
 use Rattle.txc_shared.specs.Laws.{TrueInLonger, TrueAfterEvent, TrueAfterReplay, NodeBegins, MayStep, NodeGoesOn, NodeBreaks, NodeSeesMore, AnswersAreTrue}
-use Rattle.txc_shared.proofs.Each.{each_none, each_push}
+use Rattle.txc_shared.proofs.Offered.{each_none, each_push}
 use Rattle.txc_shared.proofs.Entries.{drop_tags, drop_length}
 use Rattle.txc_shared.proofs.Histories.{cache_push, legal_in_longer, next_stamp}
 

@@ -26,7 +26,8 @@ IsRight next f s None a = ⊥
 
 -- each answer is right for what the call asked after those before it
 abbrev pub AreRight : Next → Call → State → List Answer → Type 0
-AreRight next k s given = EachAfter (λ before a. IsRight next k.function s (next k.function k.args before) a) given
+AreRight next k s given =
+    EachAfter (λ before a. IsRight next k.function s (next k.function k.args before) a) given
 
 -- the queries that an ask meets
 abbrev pub queries_of : Next → State → Option Ask → List Query

@@ -15,9 +15,10 @@ use Rattle.txc_shared.specs.Eval.{Next, eval, met}
 abbrev pub covers_all : List Tag → List Query → Bool
 covers_all set queries = list_all (covers_query set) queries
 
--- `right` holds of the state of each stamp of the reach, and, where the reach is still valid, the tags cover there each query
--- that it rests on
-pub record HoldsIn (L : History) (right : State → Type 0) (rests : State → List Query) (reach : Interval) (tags : List Tag) : Type 0 where
+-- `right` holds of the state of each stamp of the reach, and, where the reach is still valid, the tags
+-- cover there each query that it rests on
+pub record HoldsIn (L : History) (right : State → Type 0) (rests : State → List Query)
+    (reach : Interval) (tags : List Tag) : Type 0 where
   pub within : reach.known ≤ length L
   pub holds : (t : ℕ) → Holds reach t → right (state_at L t)
   pub covered : reach.still ≡ true → (t : ℕ) → Holds reach t → covers_all tags (rests (state_at L t)) ≡ true
@@ -39,7 +40,8 @@ ValueHolds next L k bytes reach tags = HoldsOver L (λ s. eval next k s ≡ Some
 abbrev pub IsTrueIn : Next → History → Entry → Type 0
 IsTrueIn next L e = ValueHolds next L e.key e.value (Some e.reach) e.tags
 
--- the entry as a hit shows it where the first `processed` events were taken: known up to the last stamp of its span
+-- the entry as a hit shows it where the first `processed` events were taken: known up to the last stamp of
+-- its span
 abbrev pub shown_entry : ℕ → Entry → Entry
 shown_entry processed e = record e { reach = shown processed e.reach }
 

@@ -10,7 +10,8 @@ use Rattle.txc_shared.specs.declared.ask.Ask.TheVariants as asks
 use Rattle.txc_shared.specs.declared.ask.Answer.{Answer}
 use Rattle.txc_shared.specs.declared.ask.Answer.TheVariants as answers
 
--- what a function asks next, or gives, by its number, its arguments and the answers so far; none where it refuses the arguments
+-- what a function asks next, or gives, by its number, its arguments and the answers so far; none where it
+-- refuses the arguments
 abbrev pub Next : Type 0
 Next = ℕ → List ℕ → List Answer → Option Ask
 
@@ -33,7 +34,8 @@ no_value = record { value = None; met = [] }
 
 -- done, with these bytes; too many bytes are no value
 abbrev pub done_with : List ℕ → Evaluation
-done_with bytes = record { value = if nat_le (length bytes) MAX_VALUE_LEN then Some bytes else None; met = [] }
+done_with bytes =
+    record { value = if nat_le (length bytes) MAX_VALUE_LEN then Some bytes else None; met = [] }
 
 -- these queries were met first
 abbrev pub after_meeting : List Query → Evaluation → Evaluation
@@ -49,7 +51,8 @@ abbrev pub after_ask : Rows → Calls → Option Ask → (Answer → Evaluation)
 after_ask rows calls None rest = no_value
 after_ask rows calls (Some (asks.Done bytes)) rest = done_with bytes
 after_ask rows calls (Some (asks.Query q)) rest = after_meeting (q ∷ []) (rest (answers.Rows (rows q)))
-after_ask rows calls (Some (asks.Call k)) rest = after_meeting (calls k).met (after_value (calls k).value rest)
+after_ask rows calls (Some (asks.Call k)) rest =
+    after_meeting (calls k).met (after_value (calls k).value rest)
 
 -- an activation that may make so many asks more, after these answers; being done is an ask too
 unfoldable pub activation : (List Answer → Option Ask) → Rows → Calls → ℕ → List Answer → Evaluation

@@ -25,8 +25,8 @@ IsOfHistory L (Sweep horizon) = Unit {0}
 abbrev pub records_of : ℕ → List Record → ℕ
 records_of pass rs = count_by (λ (r : Record). r.pass == pass) rs
 
--- The record may follow those before it: the cache that they leave does not refuse its step, and replies so; its event is the
--- history's; and its turn is the number of records that its pass made before.
+-- The record may follow those before it: the cache that they leave does not refuse its step, and replies
+-- so; its event is the history's; and its turn is the number of records that its pass made before.
 pub record IsNext (L : History) (start : Cache) (before : List Record) (r : Record) : Type 0 where
   pub possible : refusal_of (cache_after start before) r.op ≡ None
   pub reply : r.reply ≡ step_reply (cache_after start before) r.op

@@ -22,7 +22,7 @@ use Rattle.txc_shared.specs.declared.app.TheConstants.{MAX_ASKS}
 use Rattle.txc_shared.specs.declared.ask.Ask.TheVariants as asks
 use Rattle.txc_shared.specs.declared.ask.Answer.{Answer}
 use Rattle.txc_shared.specs.declared.ask.Answer.TheVariants as answers
-use Rattle.txc_shared.specs.Eval.{Next, no_value, called_with, evaluation, eval, met}
+use Rattle.txc_shared.specs.Eval.{Calls, Next, no_value, called_with, evaluation, eval, met}
 use Rattle.txc_shared.specs.Answering.{AreRight, queries_for}
 use Rattle.txc_shared.specs.Claims.{covers_all, RowsHold, IsTrueIn, IsShownTrue}
 use Rattle.txc_shared.specs.Histories.{cache_after, IsOfHistory, IsLegal, events_of, next_record}
@@ -30,17 +30,19 @@ use Rattle.txc_shared.specs.Runs.{KeepsTags, IsTrueCache, IsNode, IsTrueStep}
 
 -- ---- calls
 
--- a call comes to what its own activation does, in which a call of a function below its own comes to what it comes to by
--- itself, and any other has no value
+-- a call comes to what its own activation does, in which a call of a function below its own comes to what
+-- it comes to by itself, and any other has no value
 abbrev pub CallsAreOfFunctionsBelow : Type 0
 CallsAreOfFunctionsBelow = (next : Next) (k : Call) (s : State)
     → evaluation next k s
-    ≡ called_with next (λ q. rows_of q s) (λ g. if nat_lt g.function k.function then evaluation next g s else no_value) k
+    ≡ (let within : Calls = λ g. if nat_lt g.function k.function then evaluation next g s else no_value
+    in called_with next (λ q. rows_of q s) within k)
 
 -- where the queries that a call meets have equal answers in two states, it comes to the same in both
 abbrev pub EqualAnswersDecide : Type 0
 EqualAnswersDecide = (next : Next) (k : Call) (s t : State)
-    → AllByRecursion (λ q. rows_of q s ≡ rows_of q t) (met next k s) → evaluation next k s ≡ evaluation next k t
+    → AllByRecursion (λ q. rows_of q s ≡ rows_of q t) (met next k s)
+    → evaluation next k s ≡ evaluation next k t
 
 -- an event whose tags do not match tags that cover the queries met leaves what the call comes to
 abbrev pub EventLeaves : Type 0
@@ -48,8 +50,8 @@ EventLeaves = (next : Next) (k : Call) (L : History) (t : ℕ) (tags : List Tag)
     → covers_all tags (met next k (state_at L t)) ≡ true → sets_match (tags_at L (suc t)) tags ≡ false
     → evaluation next k (state_at L t) ≡ evaluation next k (state_at L (suc t))
 
--- an activation that was given right answers, fewer than it may ask, and is then done with a value that is not too long: the
--- call has this value, and meets the queries met for these answers
+-- an activation that was given right answers, fewer than it may ask, and is then done with a value that is
+-- not too long: the call has this value, and meets the queries met for these answers
 abbrev pub RightAnswersGiveTheValue : Type 0
 RightAnswersGiveTheValue = (next : Next) (k : Call) (s : State) (given : List Answer) (bytes : List ℕ)
     → AreRight next k s given → length given < MAX_ASKS
@@ -60,7 +62,8 @@ RightAnswersGiveTheValue = (next : Next) (k : Call) (s : State) (given : List An
 
 -- a true entry stays true in a longer history
 abbrev pub TrueInLonger : Type 0
-TrueInLonger = (next : Next) (L M : History) (e : Entry) → IsPrefix L M → IsTrueIn next L e → IsTrueIn next M e
+TrueInLonger = (next : Next) (L M : History) (e : Entry)
+    → IsPrefix L M → IsTrueIn next L e → IsTrueIn next M e
 
 -- what the database finds for a query holds over its reach
 abbrev pub FoundRowsHold : Type 0
@@ -69,7 +72,8 @@ FoundRowsHold = (L : History) (q : Query) (t horizon : ℕ) (found : Found)
     → RowsHold L q found.rows.items (Some found.reach) found.tags
 
 -- the call asks this query, and is done with these bytes once it has these rows
-pub record IsDoneAfter (next : Next) (k : Call) (q : Query) (rows : List RowValue) (bytes : List ℕ) : Type 0 where
+pub record IsDoneAfter (next : Next) (k : Call) (q : Query) (rows : List RowValue) (bytes : List ℕ)
+    : Type 0 where
   pub query : next k.function k.args [] ≡ Some (asks.Query q)
   pub done : next k.function k.args (answers.Rows rows ∷ []) ≡ Some (asks.Done bytes)
   pub short : length bytes ≤ MAX_VALUE_LEN
@@ -95,9 +99,11 @@ TrueAfterReplay = (next : Next) (L : History) (c : Cache) (e : Entry)
 
 -- a node without records and entries
 abbrev pub NodeBegins : Type 0
-NodeBegins = (next : Next) (L : History) (capacity depth : ℕ) → IsNode next L (empty_cache capacity depth) [] (empty_cache capacity depth) false
+NodeBegins = (next : Next) (L : History) (capacity depth : ℕ)
+    → IsNode next L (empty_cache capacity depth) [] (empty_cache capacity depth) false
 
--- the step may be made: the cache does not refuse it, its event is the history's, and what it hands in is true
+-- the step may be made: the cache does not refuse it, its event is the history's, and what it hands in is
+-- true
 pub record MayStep (next : Next) (L : History) (c : Cache) (op : Op) : Type 0 where
   pub possible : refusal_of c op ≡ None
   pub event : IsOfHistory L op
@@ -111,7 +117,8 @@ NodeGoesOn = (next : Next) (L : History) (start : Cache) (rs : List Record) (c :
 
 -- a node that makes such a step without its record is broken
 abbrev pub NodeBreaks : Type 0
-NodeBreaks = (next : Next) (L : History) (start : Cache) (rs : List Record) (c : Cache) (broken : Bool) (op : Op)
+NodeBreaks = (next : Next) (L : History) (start : Cache) (rs : List Record) (c : Cache) (broken : Bool)
+    (op : Op)
     → IsNode next L start rs c broken → MayStep next L c op → IsNode next L start rs (after_step c op) true
 
 -- a node that sees a longer history of the database
@@ -121,7 +128,8 @@ NodeSeesMore = (next : Next) (L M : History) (start : Cache) (rs : List Record) 
 
 -- a legal history is legal in a longer history of the database
 abbrev pub LegalInLonger : Type 0
-LegalInLonger = (L M : History) (start : Cache) (rs : List Record) → IsPrefix L M → IsLegal L start rs → IsLegal M start rs
+LegalInLonger = (L M : History) (start : Cache) (rs : List Record)
+    → IsPrefix L M → IsLegal L start rs → IsLegal M start rs
 
 -- no record is a legal history
 abbrev pub NoRecordIsLegal : Type 0
@@ -129,7 +137,8 @@ NoRecordIsLegal = (L : History) (start : Cache) → IsLegal L start []
 
 -- the first records of a legal history are legal
 abbrev pub BeginningIsLegal : Type 0
-BeginningIsLegal = (L : History) (start : Cache) (rs all : List Record) → IsPrefix rs all → IsLegal L start all → IsLegal L start rs
+BeginningIsLegal = (L : History) (start : Cache) (rs all : List Record)
+    → IsPrefix rs all → IsLegal L start all → IsLegal L start rs
 
 -- what a lookup finds in a true cache is true as it is shown
 abbrev pub AnswersAreTrue : Type 0

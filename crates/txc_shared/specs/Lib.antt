@@ -9,5 +9,3 @@ pub mod Nodes
 pub mod Passes
 pub mod Refusals
 pub mod Locked
-pub mod Worked
-pub mod WorkedNodes

@@ -5,8 +5,8 @@ use Rattle.txc_shared.specs.Histories.{records_of}
 use Rattle.txc_shared.specs.Nodes.{NodeValue}
 use Rattle.txc_shared.specs.Passes.{PassValue}
 
--- what lies under a node's lock: the node's row and the database's are the named ones, and, unless it is broken, as many events
--- were taken from the feed as it took
+-- what lies under a node's lock: the node's row and the database's are the named ones, and, unless it is
+-- broken, as many events were taken from the feed as it took
 pub record IsNamed (rows : ℕ → List ℕ) (row : List ℕ) (taken : ℕ) (n : NodeValue) : Type 0 where
   pub cells : n.cells ≡ rows n.settings.number
   pub events : n.seen.events ≡ row

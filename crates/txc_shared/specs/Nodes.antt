@@ -36,8 +36,8 @@ pub record LogValue : Type 0 where
   pub records : List Record
   pub passes : ℕ
 
--- a node: its settings; the names of all cells for its records, its records, and how many passes there are; its cache; what it has
--- seen of the database's history; and whether another record was found in its row
+-- a node: its settings; the names of all cells for its records, its records, and how many passes there are;
+-- its cache; what it has seen of the database's history; and whether another record was found in its row
 pub record NodeValue : Type 0 where
   pub settings : NodeSettings
   pub cells : List ℕ

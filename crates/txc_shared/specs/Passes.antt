@@ -20,7 +20,8 @@ use Rattle.txc_shared.specs.declared.settings.NodeSettings.{NodeSettings}
 use Rattle.txc_shared.specs.Histories.{records_of, next_record, events_of}
 use Rattle.txc_shared.specs.Nodes.{NodeValue, insertion_of}
 
--- a pass: the settings of its node, its number, the records that it has seen, and what it has seen of the database's history
+-- a pass: the settings of its node, its number, the records that it has seen, and what it has seen of the
+-- database's history
 pub record PassValue : Type 0 where
   pub settings : NodeSettings
   pub pass : ℕ
@@ -40,7 +41,8 @@ pub record HasSeen (old : PassValue) (all : List Record) (other : History) (new 
   pub either : (new.history ≡ old.history) ⊎ (new.history ≡ other)
   pub history : IsPrefix other new.history
 
--- the node agrees with what the pass says of it: its settings, its number, its turn, and how many records it has seen
+-- the node agrees with what the pass says of it: its settings, its number, its turn, and how many records
+-- it has seen
 pub record DoAgree (n : NodeValue) (p : PassValue) : Type 0 where
   pub settings : p.settings ≡ n.settings
   pub own : p.pass < n.passes
@@ -82,10 +84,14 @@ pub record HasInserted (old new : PassValue) (e : Entry) (insertion : Insertion)
 
 -- it took the event of the stamp, which closed so many entries; or as many events were taken as it has seen
 abbrev pub HasTaken : PassValue → PassValue → Advanced → Type 0
-HasTaken old new (Taken stamp closed) = (tags : List Tag) × HasMade old new (Event stamp tags) (replies.Closed closed)
-HasTaken old new Idle = GrowsByOthers old.pass old.records new.records × (events_of new.records ≡ length new.history)
+HasTaken old new (Taken stamp closed) =
+    (tags : List Tag) × HasMade old new (Event stamp tags) (replies.Closed closed)
+HasTaken old new Idle =
+    GrowsByOthers old.pass old.records new.records × (events_of new.records ≡ length new.history)
 
--- what a refusal leaves: a full history is seen up to the last of the row's cells; any other leaves the pass as it was
+-- what a refusal leaves: a full history is seen up to the last of the row's cells; any other leaves the
+-- pass as it was
 abbrev pub IsPassLeft : List ℕ → PassValue → PassValue → NodeError → Type 0
-IsPassLeft cells old new HistoryFull = GrowsByOthers old.pass old.records new.records × (length new.records ≡ length cells)
+IsPassLeft cells old new HistoryFull =
+    GrowsByOthers old.pass old.records new.records × (length new.records ≡ length cells)
 IsPassLeft cells old new e = new ≡ old

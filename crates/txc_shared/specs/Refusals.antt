@@ -34,15 +34,16 @@ IsPassRefused n PassesFull = (n.broken ≡ false) × (MAX_PASSES ≤ n.passes)
 IsPassRefused n Memory = (n.broken ≡ false) × (n.passes < MAX_PASSES)
 IsPassRefused n e = ⊥
 
--- the call found another record in the row after the node's: nothing that callers were shown has changed, and each later call
--- is refused; the cache may have made the step
+-- the call found another record in the row after the node's: nothing that callers were shown has changed,
+-- and each later call is refused; the cache may have made the step
 pub record IsBroken (old new : NodeValue) : Type 0 where
   pub was : old.broken ≡ false
   pub is : new ≡ record old { cache = new.cache; seen = new.seen; broken = true }
   pub events : new.seen.events ≡ old.seen.events
   pub seen : IsPrefix old.seen.history new.seen.history
 
--- what a refusal leaves: the node as it was; and refused as broken, it was broken before, or is so from now on
+-- what a refusal leaves: the node as it was; and refused as broken, it was broken before, or is so from now
+-- on
 abbrev pub IsLeft : NodeValue → NodeValue → NodeError → Type 0
 IsLeft old new Broken = ((new ≡ old) × (old.broken ≡ true)) ⊎ IsBroken old new
 IsLeft old new e = new ≡ old

@@ -33,9 +33,10 @@ pub record IsRun (L : History) (start : Cache) (rs : List Record) (c : Cache) : 
   pub is : c ≡ cache_after start rs
   pub legal : IsLegal L start rs
 
--- what is true of a node: its cache is true in what it has seen of the database's history, and, unless it is broken, what its
--- records leave
-pub record IsNode (next : Next) (L : History) (start : Cache) (rs : List Record) (c : Cache) (broken : Bool) : Type 0 where
+-- what is true of a node: its cache is true in what it has seen of the database's history, and, unless it
+-- is broken, what its records leave
+pub record IsNode (next : Next) (L : History) (start : Cache) (rs : List Record) (c : Cache) (broken : Bool)
+    : Type 0 where
   pub is_true : IsTrueCache next L c
   pub run : broken ≡ false → IsRun L start rs c
 

@@ -5,7 +5,7 @@ pub const MAX_ASKS: usize = 64;
 
 /// An application, by what its functions mean.
 pub trait App {
-    // What the function of a number asks next, or gives, by its arguments and the answers so far. None: it refuses the
-    // arguments.
+    // What the function of a number asks next, or gives, by its arguments and the answers so far. None: it
+    // refuses the arguments.
     ghost next: { Next };
 }

@@ -68,14 +68,16 @@ impl<A: App, J: Naming> Held<A, J> {
         self.node.turn(pass.pass) == pass.turn && seen <= self.node.front().len()
     }
 
-    // Lets a pass make a step, where the node is whole and agrees with it. A pass that it does not agree with breaks it.
+    // Lets a pass make a step, where the node is whole and agrees with it. A pass that it does not agree
+    // with breaks it.
     fn admit(&mut self, pass: &NodePass<J>) -> Result<(), NodeError>
         ensures named { self.old.cells ≡ J.node_rows self.old.settings.number }
         ensures ok { OnOk result (IsAdmitted self.old pass.now) }
         ensures agrees { OnOk result (DoAgree self.old pass.now) }
         ensures unchanged { OnOk result (self.new ≡ self.old) }
         ensures left { IfErr result (IsLeft self.old self.new) }
-        ensures refused { OnErr result ((result ≡ Err NodeError.Broken) × ((self.old.broken ≡ true) ⊎ ¬ (DoAgree self.old pass.now))) }
+        ensures refused { OnErr result ((result ≡ Err NodeError.Broken)
+            × ((self.old.broken ≡ true) ⊎ ¬ (DoAgree self.old pass.now))) }
     {
         longer_of_two::<Record>();
         prefix_of_itself::<Event>();
@@ -102,7 +104,8 @@ impl<A: App, J: Naming> Held<A, J> {
 
     // Shows a full history to the pass whose call it refuses.
     fn refuse(&self, pass: &mut NodePass<J>, refusal: NodeError) -> NodeError
-        requires { refusal ≡ NodeError.HistoryFull → IsAdmitted self.now pass.old × (length self.now.records ≡ length self.now.cells) }
+        requires { refusal ≡ NodeError.HistoryFull
+            → IsAdmitted self.now pass.old × (length self.now.records ≡ length self.now.cells) }
         ensures same { result ≡ refusal }
         ensures longer { HasGrown pass.old pass.new }
         ensures left { IsPassLeft (J.node_rows pass.old.settings.number) pass.old pass.new refusal }
@@ -160,7 +163,8 @@ impl<A: App, J: Naming> Held<A, J> {
         ensures unchanged { IfErr result (IsLeft self.old self.new) }
         ensures refused { IfErr result (IsRefusedThrough (λ n. IsLookupRefused n lo hi) self.old pass.old) }
         ensures longer { HasGrown pass.old pass.new }
-        ensures found { IfOk result (λ found. HasFound pass.old pass.new (Lookup key.now lo hi) (option_map (λ f. f.entry) found)) }
+        ensures found { IfOk result (λ found.
+            HasFound pass.old pass.new (Lookup key.now lo hi) (option_map (λ f. f.entry) found)) }
         ensures key { IfOk result (λ found. IfSome found (λ f. f.entry.key ≡ key.now)) }
         ensures front { IfOk result (λ found. IfSome found (λ f. f.front.events ≡ J.database_row)) }
         ensures shown { IfOk result (λ found. IfSome found (λ f. IsPrefix f.front.history pass.new.history)) }
@@ -185,7 +189,8 @@ impl<A: App, J: Naming> Held<A, J> {
     ) -> Result<Insertion, NodeError>
         requires { finding.front.events ≡ J.database_row }
         ensures named { self.old.cells ≡ J.node_rows self.old.settings.number }
-        ensures after { OnOk result (self.new ≡ after_call (seeing self.old self.new.seen) pass.old.pass (Insert finding.entry)) }
+        ensures after { OnOk result
+            (self.new ≡ after_call (seeing self.old self.new.seen) pass.old.pass (Insert finding.entry)) }
         ensures seen { OnOk result (IsPrefix finding.front.history self.new.seen.history) }
         ensures unchanged { IfErr result (IsLeft self.old self.new) }
         ensures refused { IfErr result (IsRefusedThrough IsStepRefused self.old pass.old) }

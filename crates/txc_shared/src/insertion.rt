@@ -7,8 +7,8 @@ use txc_stamp::Reach;
 /// What an insertion did.
 #[derive(Clone, Copy, Debug, PartialEq, Eq)]
 pub enum Insertion {
-    /// The entry is stored, with its reach after the replay of the events that it missed, known up to the last stamp of its
-    /// span.
+    /// The entry is stored, with its reach after the replay of the events that it missed, known up to the
+    /// last stamp of its span.
     Stored(Reach),
     /// An entry of the same call and first stamp is there that ends no earlier, and stays.
     Kept,

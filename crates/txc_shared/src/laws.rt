@@ -1,12 +1,11 @@
 //! Laws over the definitions alone. None has anything to run: each one's contract is the law.
 ghost use Rattle.txc_shared.specs.Laws.{CallsAreOfFunctionsBelow, EqualAnswersDecide, EventLeaves, RightAnswersGiveTheValue, TrueInLonger, FoundRowsHold, DoneAfterIsTrue, TrueAfterEvent, TrueAfterReplay, NodeBegins, NodeGoesOn, NodeBreaks, NodeSeesMore, LegalInLonger, NoRecordIsLegal, BeginningIsLegal, AnswersAreTrue, EventsAreTaken};
-ghost use Rattle.txc_shared.specs.Worked.{WorkedCalls, WorkedRefusals};
-ghost use Rattle.txc_shared.specs.WorkedNodes.{WorkedEntries, WorkedHistories};
 
 use txc_db::{states_stay, tags_are_sound};
 use txc_node::laws::{insertion_replays_what_was_missed, lookup_finds_the_longest};
 
-/// A call answers the calls inside it by what these come to, where they are of functions below its own, and by no value else.
+/// A call answers the calls inside it by what these come to, where they are of functions below its own, and
+/// by no value else.
 pub fn calls_are_of_functions_below()
     ensures { CallsAreOfFunctionsBelow }
 {}
@@ -28,14 +27,15 @@ pub fn right_answers_give_the_value()
     ensures { RightAnswersGiveTheValue }
 {}
 
-/// What the database finds for a query holds over its reach, and so does what a call is done with after this one query.
+/// What the database finds for a query holds over its reach, and so does what a call is done with after
+/// this one query.
 pub fn found_rows_give_true_entries()
     ensures rows { FoundRowsHold }
     ensures entry { DoneAfterIsTrue }
 {}
 
-/// A true entry stays true in a longer history. What a node shows of it stays true through each event, and through the replay
-/// of those that it missed.
+/// A true entry stays true in a longer history. What a node shows of it stays true through each event, and
+/// through the replay of those that it missed.
 pub fn entries_stay_true()
     ensures longer { TrueInLonger }
     ensures event { TrueAfterEvent }
@@ -46,7 +46,8 @@ pub fn entries_stay_true()
     insertion_replays_what_was_missed();
 }
 
-/// The steps of a node, one after another, keep what it holds true, and so does what it sees of the database's history.
+/// The steps of a node, one after another, keep what it holds true, and so does what it sees of the
+/// database's history.
 pub fn nodes_go_on()
     ensures begins { NodeBegins }
     ensures step { NodeGoesOn }
@@ -64,8 +65,8 @@ pub fn answers_are_true()
     lookup_finds_the_longest();
 }
 
-/// A legal history is legal in a longer history of the database, so is each beginning of it, down to no record, and it names
-/// each event that was taken.
+/// A legal history is legal in a longer history of the database, so is each beginning of it, down to no
+/// record, and it names each event that was taken.
 pub fn legal_histories()
     ensures longer { LegalInLonger }
     ensures none { NoRecordIsLegal }
@@ -74,15 +75,3 @@ pub fn legal_histories()
 {
     states_stay();
 }
-
-/// What calls of some functions come to in the states of a history that was worked by hand.
-pub fn worked_calls()
-    ensures calls { WorkedCalls }
-    ensures refusals { WorkedRefusals }
-{}
-
-/// Which entries of those functions are true in that history, and which histories of a node are legal beside it.
-pub fn worked_nodes()
-    ensures entries { WorkedEntries }
-    ensures histories { WorkedHistories }
-{}

@@ -26,7 +26,11 @@ impl Model for Log {
 
     ghost Value = { LogValue };
 
-    ghost view = { λ l. record { cells = l.front.cells; records = l.front.records; passes = length l.turns.items } };
+    ghost view = { λ l. record {
+      cells = l.front.cells;
+      records = l.front.records;
+      passes = length l.turns.items;
+    } };
 
     ghost invariant = { λ l. (p : ℕ) → get_or l.turns.items p 0 ≡ records_of p l.front.records };
 }
@@ -90,11 +94,13 @@ impl Log {
         }
     }
 
-    /// Appends a record of one of its passes. `false` where another one stands in its cell; then nothing has changed.
+    /// Appends a record of one of its passes. `false` where another one stands in its cell; then nothing
+    /// has changed.
     pub(crate) fn append(&mut self, next: Box<Record>) -> bool
         requires room { length self.old.records < length self.old.cells }
         requires own { next.value.pass < self.old.passes }
-        ensures after { result ≡ true → self.new ≡ record self.old { records = self.old.records ++ next.value ∷ [] } }
+        ensures after { result ≡ true
+            → self.new ≡ record self.old { records = self.old.records ++ next.value ∷ [] } }
         ensures unchanged { result ≡ false → self.new ≡ self.old }
     {
         let pass = next.pass;

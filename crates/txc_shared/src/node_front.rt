@@ -12,8 +12,8 @@ use txc_stream::{EventRow, Front};
 
 /// A prefix of the history of a node, as somebody has seen it.
 ///
-/// Contracts see the names of the row's cells and the records seen. It has a handle of the row, so that whoever has one can
-/// read it and compare it with others of its row.
+/// Contracts see the names of the row's cells and the records seen. It has a handle of the row, so that
+/// whoever has one can read it and compare it with others of its row.
 #[derive(Drop)]
 pub struct NodeFront {
     row: Arc<EventRow<Record>>,
@@ -89,7 +89,8 @@ impl NodeFront {
         self.row.get(&self.front, at)
     }
 
-    /// Takes over what the other shows beyond this one, so that this one shows the longer history. It takes no memory.
+    /// Takes over what the other shows beyond this one, so that this one shows the longer history. It takes
+    /// no memory.
     pub fn longer(&mut self, other: &NodeFront)
         requires { other.now.cells ≡ self.old.cells }
         ensures cells { self.new.cells ≡ self.old.cells }
@@ -100,7 +101,8 @@ impl NodeFront {
         self.front.longer(&other.front);
     }
 
-    /// Of two fronts of one row, the records of one are a prefix of the other's. It does nothing when it runs.
+    /// Of two fronts of one row, the records of one are a prefix of the other's. It does nothing when it
+    /// runs.
     pub fn agree(&self, other: &NodeFront)
         requires { self.now.cells ≡ other.now.cells }
         ensures { IsPrefix self.now.records other.now.records ⊎ IsPrefix other.now.records self.now.records }
@@ -111,7 +113,8 @@ impl NodeFront {
     /// Appends a record. `false` where another one stands in its cell; then nothing has changed.
     pub(crate) fn append(&mut self, next: Box<Record>) -> bool
         requires { length self.old.records < length self.old.cells }
-        ensures after { result ≡ true → self.new ≡ record self.old { records = self.old.records ++ next.value ∷ [] } }
+        ensures after { result ≡ true
+            → self.new ≡ record self.old { records = self.old.records ++ next.value ∷ [] } }
         ensures unchanged { result ≡ false → self.new ≡ self.old }
     {
         match self.row.append(&mut self.front, next) {

@@ -13,9 +13,11 @@ use std::marker::{Model, PhantomData};
 use txc_db::{HistoryFront, Naming};
 use txc_node::Counts;
 
-/// What a caller has seen of a node: a legal history of its records, and what they name of the database's history.
+/// What a caller has seen of a node: a legal history of its records, and what they name of the database's
+/// history.
 ///
-/// A caller makes its steps through a pass of its own, and finds the records of them in each history that the pass meets.
+/// A caller makes its steps through a pass of its own, and finds the records of them in each history that
+/// the pass meets.
 #[derive(Drop)]
 pub struct NodePass<J: Naming> {
     pub(crate) settings: NodeSettings,
@@ -35,9 +37,18 @@ impl<J: Naming> Model for NodePass<J> {
 
     ghost Value = { PassValue };
 
-    ghost view = { λ p. record { settings = p.settings; pass = p.pass; records = p.records.records; history = p.events.history } };
+    ghost view = { λ p. record {
+      settings = p.settings;
+      pass = p.pass;
+      records = p.records.records;
+      history = p.events.history;
+    } };
 
-    ghost invariant = { λ p. (p.records.cells ≡ J.node_rows p.settings.number) × (p.events.events ≡ J.database_row) × (p.turn ≡ records_of p.pass p.records.records) × IsLegal p.events.history (start_of p.settings) p.records.records };
+    ghost invariant = { λ p.
+        (p.records.cells ≡ J.node_rows p.settings.number)
+        × (p.events.events ≡ J.database_row)
+        × (p.turn ≡ records_of p.pass p.records.records)
+        × IsLegal p.events.history (start_of p.settings) p.records.records };
 }
 
 impl<J: Naming> NodePass<J> {
@@ -51,7 +62,8 @@ impl<J: Naming> NodePass<J> {
         requires cells { records.cells ≡ J.node_rows settings.number }
         requires none { records.records ≡ [] }
         requires events { events.events ≡ J.database_row }
-        ensures { result ≡ record { settings = settings; pass = pass; records = []; history = events.history } }
+        ensures { result
+            ≡ record { settings = settings; pass = pass; records = []; history = events.history } }
     {
         legal_histories();
         NodePass {
@@ -101,8 +113,8 @@ impl<J: Naming> NodePass<J> {
         &self.events
     }
 
-    /// Sees the records that a front shows, which go on from its own and have that many of its own, and what the other
-    /// front shows of the database's history beyond what it has seen itself.
+    /// Sees the records that a front shows, which go on from its own and have that many of its own, and
+    /// what the other front shows of the database's history beyond what it has seen itself.
     pub(crate) fn see(&mut self, records: &NodeFront, events: &HistoryFront, turn: usize)
         requires cells { records.now.cells ≡ J.node_rows self.old.settings.number }
         requires row { events.now.events ≡ J.database_row }

@@ -30,9 +30,9 @@ use txc_tags::Key;
 
 /// A node that threads share. Contracts see how it was made.
 ///
-/// A caller draws a pass, and makes its steps through it: each does the step of [`StoredNode`] of its name, for some
-/// history of the named row, and leaves the pass with what it has seen of that history. A node that a call
-/// finds `Broken` refuses each call so from then on.
+/// A caller draws a pass, and makes its steps through it: each does the step of [`StoredNode`] of its name,
+/// for some history of the named row, and leaves the pass with what it has seen of that history. A node
+/// that a call finds `Broken` refuses each call so from then on.
 #[derive(Drop)]
 pub struct SharedNode<A: App, J: Naming> {
     settings: NodeSettings,
@@ -53,8 +53,8 @@ impl<A: App, J: Naming> Model for SharedNode<A, J> {
 }
 
 impl<A: App, J: Naming> SharedNode<A, J> {
-    /// An empty node, which will take the events of the database. Its row is the one named at its number. Where memory is
-    /// refused, the row is dropped.
+    /// An empty node, which will take the events of the database. Its row is the one named at its number.
+    /// Where memory is refused, the row is dropped.
     pub fn new(
         alloc: Global,
         settings: NodeSettings,
@@ -85,7 +85,8 @@ impl<A: App, J: Naming> SharedNode<A, J> {
         self.lock.lock(rt).pass(alloc, self.settings)
     }
 
-    /// The row of its records, which anybody reads without the lock. Whoever appends to it breaks the node; tests do.
+    /// The row of its records, which anybody reads without the lock. Whoever appends to it breaks the node;
+    /// tests do.
     pub fn row(&self) -> &EventRow<Record>
         ensures { result.now ≡ J.node_rows self.now.number }
     {
@@ -95,8 +96,8 @@ impl<A: App, J: Naming> SharedNode<A, J> {
 }
 
 impl<J: Naming> NodePass<J> {
-    /// Looks up the call of `key` at the stamps from `lo` to `hi`, both included. What it finds is true in the history of the
-    /// front beside it.
+    /// Looks up the call of `key` at the stamps from `lo` to `hi`, both included. What it finds is true in
+    /// the history of the front beside it.
     pub fn lookup<A: App>(
         &mut self,
         rt: &impl Wait,
@@ -108,12 +109,14 @@ impl<J: Naming> NodePass<J> {
     ) -> Result<Option<Finding<A>>, NodeError>
         ensures longer { HasGrown self.old self.new }
         ensures legal { IsLegal self.new.history (start_of self.new.settings) self.new.records }
-        ensures found { IfOk result (λ found. HasFound self.old self.new (Lookup key.now lo hi) (option_map (λ f. f.entry) found)) }
+        ensures found { IfOk result (λ found.
+            HasFound self.old self.new (Lookup key.now lo hi) (option_map (λ f. f.entry) found)) }
         ensures key { IfOk result (λ found. IfSome found (λ f. f.entry.key ≡ key.now)) }
         ensures front { IfOk result (λ found. IfSome found (λ f. f.front.events ≡ J.database_row)) }
         ensures shown { IfOk result (λ found. IfSome found (λ f. IsPrefix f.front.history self.new.history)) }
         ensures left { IfErr result (IsPassLeft (J.node_rows self.old.settings.number) self.old self.new) }
-        ensures refused { IfErr result (MayRefuse J.node_rows (λ n. IsRefusedThrough (λ m. IsLookupRefused m lo hi) n self.old)) }
+        ensures refused { IfErr result
+            (MayRefuse J.node_rows (λ n. IsRefusedThrough (λ m. IsLookupRefused m lo hi) n self.old)) }
     {
         let found = node.lock.lock(rt).lookup(alloc, self, key, lo, hi);
         self.is_legal();
@@ -134,14 +137,16 @@ impl<J: Naming> NodePass<J> {
         ensures made { IfOk result (HasInserted self.old self.new finding.entry) }
         ensures shown { OnOk result (IsPrefix finding.front.history self.new.history) }
         ensures left { IfErr result (IsPassLeft (J.node_rows self.old.settings.number) self.old self.new) }
-        ensures refused { IfErr result (MayRefuse J.node_rows (λ n. IsRefusedThrough IsStepRefused n self.old)) }
+        ensures refused { IfErr result
+            (MayRefuse J.node_rows (λ n. IsRefusedThrough IsStepRefused n self.old)) }
     {
         let insertion = node.lock.lock(rt).insert(alloc, self, finding);
         self.is_legal();
         insertion
     }
 
-    /// Takes the next event of the database's history. Where it is idle, the pass has seen as many events as were taken.
+    /// Takes the next event of the database's history. Where it is idle, the pass has seen as many events
+    /// as were taken.
     pub fn advance<A: App>(
         &mut self,
         rt: &impl Wait,
@@ -152,7 +157,8 @@ impl<J: Naming> NodePass<J> {
         ensures legal { IsLegal self.new.history (start_of self.new.settings) self.new.records }
         ensures taken { IfOk result (HasTaken self.old self.new) }
         ensures left { IfErr result (IsPassLeft (J.node_rows self.old.settings.number) self.old self.new) }
-        ensures refused { IfErr result (MayRefuse J.node_rows (λ n. IsRefusedThrough IsStepRefused n self.old)) }
+        ensures refused { IfErr result
+            (MayRefuse J.node_rows (λ n. IsRefusedThrough IsStepRefused n self.old)) }
     {
         let advanced = node.lock.lock(rt).advance(alloc, self);
         self.is_legal();
@@ -171,7 +177,8 @@ impl<J: Naming> NodePass<J> {
         ensures legal { IsLegal self.new.history (start_of self.new.settings) self.new.records }
         ensures made { IfOk result (λ count. HasMade self.old self.new (Sweep horizon) (Swept count)) }
         ensures left { IfErr result (IsPassLeft (J.node_rows self.old.settings.number) self.old self.new) }
-        ensures refused { IfErr result (MayRefuse J.node_rows (λ n. IsRefusedThrough IsStepRefused n self.old)) }
+        ensures refused { IfErr result
+            (MayRefuse J.node_rows (λ n. IsRefusedThrough IsStepRefused n self.old)) }
     {
         let count = node.lock.lock(rt).sweep(alloc, self, horizon);
         self.is_legal();

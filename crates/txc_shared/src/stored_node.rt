@@ -29,8 +29,8 @@ use txc_tags::{Key, TagSet};
 
 /// A node of the cache, with the stored history of its steps and what it has seen of the database's history.
 ///
-/// It is the state after its history, unless it is broken, and each result that it holds is true in what it has seen. A step
-/// is one of a pass, by the pass's number: its record has the pass's next turn.
+/// It is the state after its history, unless it is broken, and each result that it holds is true in what it
+/// has seen. A step is one of a pass, by the pass's number: its record has the pass's next turn.
 #[derive(Drop)]
 pub struct StoredNode<A: App> {
     settings: NodeSettings,
@@ -47,13 +47,23 @@ impl<A: App> Model for StoredNode<A> {
 
     ghost Value = { NodeValue };
 
-    ghost view = { λ n. record { settings = n.settings; cells = n.log.cells; records = n.log.records; passes = n.log.passes; cache = n.core; seen = n.seen; broken = n.broken } };
+    ghost view = { λ n. record {
+      settings = n.settings;
+      cells = n.log.cells;
+      records = n.log.records;
+      passes = n.log.passes;
+      cache = n.core;
+      seen = n.seen;
+      broken = n.broken;
+    } };
 
-    ghost invariant = { λ n. IsNode A.next n.seen.history (start_of n.settings) n.log.records n.core n.broken };
+    ghost invariant = { λ n.
+        IsNode A.next n.seen.history (start_of n.settings) n.log.records n.core n.broken };
 }
 
 impl<A: App> StoredNode<A> {
-    /// An empty node, whose records the row will have. The front shows what it has seen of the database's history.
+    /// An empty node, whose records the row will have. The front shows what it has seen of the database's
+    /// history.
     pub fn new(
         alloc: Global,
         settings: NodeSettings,
@@ -84,10 +94,12 @@ impl<A: App> StoredNode<A> {
         })
     }
 
-    /// What holds of every node: the results that it shows are true in what it has seen of the database's history, and,
-    /// unless it is broken, it is the state after a legal history. It does nothing when it runs.
+    /// What holds of every node: the results that it shows are true in what it has seen of the database's
+    /// history, and, unless it is broken, it is the state after a legal history. It does nothing when it
+    /// runs.
     pub fn is_sound(&self)
-        ensures { IsNode A.next self.now.seen.history (start_of self.now.settings) self.now.records self.now.cache self.now.broken }
+        ensures { IsNode A.next self.now.seen.history (start_of self.now.settings)
+            self.now.records self.now.cache self.now.broken }
     {
         let _whole = self.broken;
     }
@@ -135,7 +147,8 @@ impl<A: App> StoredNode<A> {
         self.broken
     }
 
-    /// Takes over what a front shows beyond what the node has seen of the database's history. It takes no memory.
+    /// Takes over what a front shows beyond what the node has seen of the database's history. It takes no
+    /// memory.
     pub fn see(&mut self, front: &HistoryFront)
         requires { front.now.events ≡ self.old.seen.events }
         ensures seen { IsLonger self.old.seen front.now self.new.seen }
@@ -166,7 +179,8 @@ impl<A: App> StoredNode<A> {
     // Refused as full.
     fn check_room(&self) -> Result<(), NodeError>
         ensures only_if { OnOk result (length self.now.records < length self.now.cells) }
-        ensures refused { OnErr result ((result ≡ Err NodeError.HistoryFull) × (length self.now.records ≡ length self.now.cells)) }
+        ensures refused { OnErr result
+            ((result ≡ Err NodeError.HistoryFull) × (length self.now.records ≡ length self.now.cells)) }
     {
         if self.log.front().is_full() {
             return Err(NodeError::HistoryFull);
@@ -207,7 +221,9 @@ impl<A: App> StoredNode<A> {
         hi: Stamp,
     ) -> Result<(Option<Finding<A>>, Reply<Shown>), AllocError>
         requires { lo ≤ hi }
-        ensures found { IfOk result (λ both. option_map (λ f. f.entry) both.0 ≡ option_map (entry_shown key.now) (answer self.now.cache key.now lo hi)) }
+        ensures found { IfOk result (λ both.
+            option_map (λ f. f.entry) both.0
+            ≡ option_map (entry_shown key.now) (answer self.now.cache key.now lo hi)) }
         ensures front { IfOk result (λ both. IfSome both.0 (λ f. f.front ≡ self.now.seen)) }
         ensures reply { IfOk result (λ both. both.1 ≡ found_reply (answer self.now.cache key.now lo hi)) }
     {
@@ -229,8 +245,8 @@ impl<A: App> StoredNode<A> {
         Ok((Some(Finding::new(entry, front)), Reply::Hit(shown)))
     }
 
-    /// Looks up the call of `key` at the stamps from `lo` to `hi`, both included. The finding is true in the front beside it,
-    /// which is what the node has seen.
+    /// Looks up the call of `key` at the stamps from `lo` to `hi`, both included. The finding is true in
+    /// the front beside it, which is what the node has seen.
     pub fn lookup(
         &mut self,
         alloc: Global,
@@ -241,7 +257,9 @@ impl<A: App> StoredNode<A> {
     ) -> Result<Option<Finding<A>>, NodeError>
         requires { pass < self.old.passes }
         ensures after { OnOk result (self.new ≡ after_call self.old pass (Lookup key.now lo hi)) }
-        ensures found { IfOk result (λ found. option_map (λ f. f.entry) found ≡ option_map (entry_shown key.now) (answer self.old.cache key.now lo hi)) }
+        ensures found { IfOk result (λ found.
+            option_map (λ f. f.entry) found
+            ≡ option_map (entry_shown key.now) (answer self.old.cache key.now lo hi)) }
         ensures front { IfOk result (λ found. IfSome found (λ f. f.front ≡ self.old.seen)) }
         ensures only_if { OnOk result (IsOpen self.old × (lo ≤ hi)) }
         ensures left { IfErr result (IsLeft self.old self.new) }
@@ -270,8 +288,8 @@ impl<A: App> StoredNode<A> {
         Ok(finding)
     }
 
-    /// Inserts the entry of a finding, which is true in the front beside it. The node keeps the longer of that front and its
-    /// own. Where it is refused, the finding is dropped.
+    /// Inserts the entry of a finding, which is true in the front beside it. The node keeps the longer of
+    /// that front and its own. Where it is refused, the finding is dropped.
     pub fn insert(
         &mut self,
         alloc: Global,
@@ -281,8 +299,10 @@ impl<A: App> StoredNode<A> {
         requires own { pass < self.old.passes }
         requires front { finding.front.events ≡ self.old.seen.events }
         ensures seen { OnOk result (IsLonger self.old.seen finding.front self.new.seen) }
-        ensures after { OnOk result (self.new ≡ after_call (seeing self.old self.new.seen) pass (Insert finding.entry)) }
-        ensures answer { IfOk result (λ insertion. insertion ≡ insertion_of (outcome self.old.cache finding.entry)) }
+        ensures after { OnOk result
+            (self.new ≡ after_call (seeing self.old self.new.seen) pass (Insert finding.entry)) }
+        ensures answer { IfOk result (λ insertion.
+            insertion ≡ insertion_of (outcome self.old.cache finding.entry)) }
         ensures only_if { OnOk result (IsOpen self.old) }
         ensures left { IfErr result (IsLeft self.old self.new) }
         ensures refused { IfErr result (IsStepRefused self.old) }
@@ -316,7 +336,8 @@ impl<A: App> StoredNode<A> {
     ) -> Result<TagSet, AllocError>
         requires first { 1 ≤ number }
         requires seen { (number ≤ length self.now.seen.history) ⊎ (number ≤ length front.now.history) }
-        ensures { IfOk result (λ tags. HasTags self.now.seen.history number tags ⊎ HasTags front.now.history number tags) }
+        ensures { IfOk result (λ tags.
+            HasTags self.now.seen.history number tags ⊎ HasTags front.now.history number tags) }
     {
         if number <= self.seen.len() {
             return self.seen.event_at(number).tags.copy(alloc);
@@ -324,8 +345,8 @@ impl<A: App> StoredNode<A> {
         front.event_at(number).tags.copy(alloc)
     }
 
-    /// Takes the next event of the database's history that the node or the front has seen, and says how many entries it
-    /// closed. The node keeps the longer of that front and its own.
+    /// Takes the next event of the database's history that the node or the front has seen, and says how
+    /// many entries it closed. The node keeps the longer of that front and its own.
     pub fn advance(
         &mut self,
         alloc: Global,

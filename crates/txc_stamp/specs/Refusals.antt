@@ -9,8 +9,8 @@ abbrev pub IsStampRefusal : ℕ → StampError → Type 0
 IsStampRefusal number (TooLarge named) = (named ≡ number) × (LAST_STAMP < number)
 IsStampRefusal number Empty = ⊥
 
--- Of two numbers, of which the first is at most `LAST_STAMP` and the second at most `limit`, the first that is
--- too large is named.
+-- Of two numbers, of which the first is at most `LAST_STAMP` and the second at most `limit`, the first that
+-- is too large is named.
 abbrev pub IsFirstTooLarge : ℕ → ℕ → ℕ → ℕ → Type 0
 IsFirstTooLarge first second limit named =
     ((named ≡ first) × (LAST_STAMP < first)) ⊎ ((named ≡ second) × (first ≤ LAST_STAMP) × (limit < second))

@@ -10,4 +10,5 @@ span_text span = codes "[" ++ (decimal span.lo ++ (codes "," ++ (decimal span.en
 -- the stamps at which the result is known to hold, a blank, and `still` or `closed`
 abbrev pub reach_text : Interval → List ℕ
 reach_text reach =
-    span_text (record { lo = reach.lo; end = reach.known + 1 }) ++ (if reach.still then codes " still" else codes " closed")
+    span_text (record { lo = reach.lo; end = reach.known + 1 })
+    ++ (if reach.still then codes " still" else codes " closed")

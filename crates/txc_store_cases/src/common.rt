@@ -101,8 +101,8 @@ fn push_changes(alloc: Global, changes: &mut Vec<Change>, text: &str) -> Result<
     Ok(())
 }
 
-/// The changes: each `put TABLE ID GROUP BODY` or `remove TABLE ID`, with a comma between them. `FIRST-LAST` for the id
-/// stands for so many changes.
+/// The changes: each `put TABLE ID GROUP BODY` or `remove TABLE ID`, with a comma between them. `FIRST-LAST`
+/// for the id stands for so many changes.
 pub(crate) fn changes(alloc: Global, text: &str) -> Result<Vec<Change>, AllocError> {
     let mut changes = Vec::new(alloc);
     for change in text.split(", ") {
@@ -194,8 +194,8 @@ fn obey_again(
     }
 }
 
-/// Plays a script after the commands before it: each line is a command and what it answers. Where an answer is not
-/// wanted, it stays, with its line.
+/// Plays a script after the commands before it: each line is a command and what it answers. Where an answer
+/// is not wanted, it stays, with its line.
 pub(crate) fn is_played(
     player: &mut impl Player,
     alloc: Global,

@@ -5,6 +5,7 @@ use std::fmt::Display;
 use std::test::Fail;
 use txc_cushion::AddError;
 use txc_db::DbError;
+use txc_registry::CallFault;
 use txc_rows::StoreError;
 use txc_run::{RunFault, exit_of};
 use txc_stamp::Stamp;
@@ -15,6 +16,7 @@ out of memory
 the store refused: out of memory
 out of memory
 the stamp lies outside the kept stamps
+out of memory
 out of memory
 out of memory
 read fault
@@ -40,10 +42,11 @@ fn errors_say_what_was_refused(rt: HostRuntime) -> Result<(), Fail> {
     );
     say(&mut text, &ValidityError::Memory);
     say(&mut text, &AddError::Memory);
+    say(&mut text, &CallFault::Memory);
     for fault in [RunFault::Read, RunFault::Write, RunFault::Memory] {
         say(&mut text, &fault);
     }
     assert!(rt; text.as_str() == TEXTS, "{text}");
-    assert!(rt; exit_of(Err(RunFault::Memory)) == 5);
+    assert!(rt; exit_of(&Err(RunFault::Memory)) == 5);
     Ok(())
 }

@@ -1,17 +1,17 @@
 //! The program's functions, asked step by step: `call`, the function's number, its arguments and the answers
 //! that it is given, with what it asks last.
-ghost use Rattle.std.specs.Prelude.{◌≡◌, All};
+ghost use Rattle.std.specs.Prelude.{◌≡◌, All, Some};
 ghost use Rattle.txc_registry.specs.Activity.{idle};
+ghost use Rattle.txc_registry.specs.Objects.{activity_of};
 
 use crate::common::{Obeys, Player, body, is_played, number, room, say_unknown};
 use std::alloc::{AllocError, Global};
-use std::process::Abort;
 use std::str::SplitWhitespace;
 use std::test::Fail;
 use txc_functions::{Again, BodiesAndBody, BodiesIn, BodyAt, Function, Itself, Program, RowCount};
 use txc_node::Value;
 use txc_permits::PermitPool;
-use txc_registry::{CallFault, Cacheable, Registry, Twice, enlist};
+use txc_registry::{Cacheable, CallFault, Registry, enlist};
 use txc_rows::{Query, Row};
 use txc_shared::{Answer, App, Ask, Rows};
 use txc_tags::Table;
@@ -75,10 +75,7 @@ fn answers(alloc: Global, text: &str) -> Result<Vec<Answer>, AllocError> {
     Ok(answers)
 }
 
-fn arguments(
-    alloc: Global,
-    words: &mut SplitWhitespace<'_>,
-) -> Result<Vec<u32>, AllocError> {
+fn arguments(alloc: Global, words: &mut SplitWhitespace<'_>) -> Result<Vec<u32>, AllocError> {
     let mut args = Vec::new(alloc);
     for word in words {
         args.push(word.parse().unwrap_or(0))?;
@@ -116,6 +113,16 @@ fn say_ask(out: &mut String, ask: &Ask) {
     };
 }
 
+/// What an activation asks next, or why it did not go on.
+fn say_step(out: &mut String, step: Result<Ask, CallFault>) {
+    match step {
+        Ok(ask) => say_ask(out, &ask),
+        Err(fault) => {
+            let _ = write!(out, "{fault}");
+        }
+    }
+}
+
 fn call<C: Cacheable>(
     function: &mut C,
     alloc: Global,
@@ -127,12 +134,7 @@ fn call<C: Cacheable>(
         let _ = write!(out, "out of memory");
         return;
     };
-    match drive(function, &args, answers) {
-        Ok(ask) => say_ask(out, &ask),
-        Err(fault) => {
-            let _ = write!(out, "{fault}");
-        }
-    }
+    say_step(out, drive(function, &args, answers));
 }
 
 impl Functions {
@@ -240,82 +242,101 @@ fn functions_ask_as_worked(rt: HostRuntime) -> Result<(), Fail> {
     Ok(())
 }
 
-/// Begins function 0 and ends it, by its release or with the registry. Its permit is out in between.
+/// What function 0 of the registry asks first, and what once it has the row of a body.
+fn say_steps<A: App, C: Cacheable>(registry: &mut Registry<A, C>, alloc: Global, out: &mut String)
+    requires { activity_of registry.old 0 ≡ Some idle }
+{
+    let ask = match registry.begin(0, &[9]) {
+        Ok(ask) => ask,
+        Err(fault) => return say_step(out, Err(fault)),
+    };
+    say_ask(out, &ask);
+    if let Ask::Query(_) = &ask
+        && let Ok(answer) = answer(alloc, "rows ab")
+    {
+        let _ = out.push_str(", ");
+        say_step(out, registry.resume(0, answer));
+    }
+}
+
+/// Runs function 0 in a registry of these objects, and ends it by its release or with the registry. Says what
+/// it asks, and whether a permit is left before its end and after it.
 #[tactic(auto, using(txc_registry::proofs::Offered::idle_there))]
-fn begins_and_ends<A: App, C: Cacheable>(
-    rt: &impl Abort,
+fn say_run<A: App, C: Cacheable>(
     objects: Vec<C>,
+    alloc: Global,
     pool: &mut PermitPool,
-    released: bool,
+    is_released: bool,
+    out: &mut String,
 )
     requires idle { All (λ c. C.activity c ≡ idle) objects.items }
     requires means { All (λ c. C.says c ≡ A.next (C.number c)) objects.items }
 {
-    let Ok(mut registry) = Registry::<A, C>::new(objects) else {
-        return;
+    let mut registry = match Registry::<A, C>::new(objects) {
+        Ok(registry) => registry,
+        Err(twice) => {
+            let _ = write!(out, "{twice}");
+            return;
+        }
     };
-    assert!(rt; registry.has(0) && !registry.has(9));
-    let began = registry.begin(0, &[9]).is_ok() || registry.begin(0, &[9]).is_ok();
-    assert!(rt; began && pool.take().is_none());
-    if released {
+    if registry.has(0) && !registry.has(9) {
+        say_steps(&mut registry, alloc, out);
+    }
+    let left = pool.take().is_some();
+    if is_released {
         registry.release(0);
     } else {
         drop(registry);
     }
-    assert!(rt; pool.take().is_some());
+    let left_after = pool.take().is_some();
+    let _ = write!(out, "; a permit is left: {left}, {left_after}");
 }
 
-/// The number that two of the objects have.
-fn twice<A: App, C: Cacheable>(objects: Vec<C>) -> Option<u8>
-    requires idle { All (λ c. C.activity c ≡ idle) objects.items }
-    requires means { All (λ c. C.says c ≡ A.next (C.number c)) objects.items }
-{
-    match Registry::<A, C>::new(objects) {
-        Ok(_) => None,
-        Err(Twice(number)) => Some(number),
-    }
+/// What is made: function 0 and another one, of which function 0 is ended so; or two boxes of one function.
+#[derive(Clone, Copy)]
+enum Boxes {
+    Released,
+    Dropped,
+    OfOneNumber,
 }
 
-fn run_boxes(rt: &impl Abort, alloc: Global, released: bool) -> Result<(), AllocError> {
+fn say_boxes(alloc: Global, boxes: Boxes, out: &mut String) -> Result<(), AllocError> {
     let mut pool = PermitPool::new(alloc, 1)?;
-    let body_at = Function::new(alloc, pool.share()?, BodyAt);
-    let row_count = Function::new(alloc, pool.share()?, RowCount);
     let mut objects: Vec<Box<dyn Cacheable + Send>> = Vec::new(alloc);
-    enlist::<Program, Box<dyn Cacheable + Send>>(&mut objects, Box::new(alloc, body_at)?)?;
+    let row_count = Function::new(alloc, pool.share()?, RowCount);
     enlist::<Program, Box<dyn Cacheable + Send>>(&mut objects, Box::new(alloc, row_count)?)?;
-    begins_and_ends::<Program, Box<dyn Cacheable + Send>>(rt, objects, &mut pool, released);
+    if let Boxes::OfOneNumber = boxes {
+        let row_count = Function::new(alloc, pool.share()?, RowCount);
+        enlist::<Program, Box<dyn Cacheable + Send>>(&mut objects, Box::new(alloc, row_count)?)?;
+    } else {
+        let body_at = Function::new(alloc, pool.share()?, BodyAt);
+        enlist::<Program, Box<dyn Cacheable + Send>>(&mut objects, Box::new(alloc, body_at)?)?;
+    }
+    let is_released = matches!(boxes, Boxes::Released);
+    say_run::<Program, Box<dyn Cacheable + Send>>(objects, alloc, &mut pool, is_released, out);
     Ok(())
 }
 
-fn number_of_two_boxes(alloc: Global) -> Result<Option<u8>, AllocError> {
-    let mut pool = PermitPool::new(alloc, 1)?;
-    let one = Function::new(alloc, pool.share()?, RowCount);
-    let other = Function::new(alloc, pool.share()?, RowCount);
-    let mut objects: Vec<Box<dyn Cacheable + Send>> = Vec::new(alloc);
-    enlist::<Program, Box<dyn Cacheable + Send>>(&mut objects, Box::new(alloc, one)?)?;
-    enlist::<Program, Box<dyn Cacheable + Send>>(&mut objects, Box::new(alloc, other)?)?;
-    Ok(twice::<Program, Box<dyn Cacheable + Send>>(objects))
-}
+const RUN: &str = "id 9, done<ab>; a permit is left: false, true";
 
-fn run_boxes_again(rt: &(impl Abort + AllocGlobal), released: bool) -> Result<(), AllocError> {
-    match run_boxes(rt, rt.alloc(), released) {
-        Ok(()) => Ok(()),
-        Err(_) => run_boxes(rt, rt.alloc(), released),
+const BOXES: [(Boxes, &str); 3] = [
+    (Boxes::Released, RUN),
+    (Boxes::Dropped, RUN),
+    (Boxes::OfOneNumber, "two objects are of the function 3"),
+];
+
+#[test]
+fn boxes_run_in_a_registry(rt: HostRuntime) -> Result<(), Fail> {
+    let mut out = room(rt.alloc())?;
+    for (boxes, wanted) in BOXES {
+        // once more where memory was refused
+        for _ in 0..2u32 {
+            if out.as_str() != wanted {
+                out.clear();
+                let _ = say_boxes(rt.alloc(), boxes, &mut out);
+            }
+        }
+        assert!(&rt; out.as_str() == wanted, "{out}");
     }
-}
-
-#[test]
-fn boxes_give_their_permit_back(rt: HostRuntime) -> Result<(), AllocError> {
-    run_boxes_again(&rt, true)?;
-    run_boxes_again(&rt, false)
-}
-
-#[test]
-fn two_boxes_of_one_number_are_refused(rt: HostRuntime) -> Result<(), AllocError> {
-    let number = match number_of_two_boxes(rt.alloc()) {
-        Ok(number) => number,
-        Err(_) => number_of_two_boxes(rt.alloc())?,
-    };
-    assert!(&rt; number == Some(3));
     Ok(())
 }

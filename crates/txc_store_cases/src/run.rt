@@ -1,5 +1,5 @@
-//! Whole runs of scripts, over readers and writers that are whole, slow or fail. Where a run is refused memory, what it
-//! wrote is compared with what it may have written, and it is run once more.
+//! Whole runs of scripts, over readers and writers that are whole, slow or fail. Where a run is refused
+//! memory, what it wrote is compared with what it may have written, and it is run once more.
 mod examples;
 mod rows;
 
@@ -18,8 +18,8 @@ const NO_MEMORY: &[u8] = b"refused memory\n";
 /// More than a run of a case writes.
 const ROOM: usize = 1 << 14;
 
-/// Gives the bytes and then those after them, at most so many a read, and fails at one read. One that gives a byte a
-/// read, and does not fail, is interrupted at each second read.
+/// Gives the bytes and then those after them, at most so many a read, and fails at one read. One that gives a
+/// byte a read, and does not fail, is interrupted at each second read.
 #[derive(Clone, Copy)]
 struct Feeder<'a> {
     left: &'a [u8],
@@ -53,7 +53,8 @@ impl Read for Feeder<'_> {
     }
 }
 
-/// Takes at most so many bytes a write, and fails at one write or flush and from then on. Its room is made before the run.
+/// Takes at most so many bytes a write, and fails at one write or flush and from then on. Its room is made
+/// before the run.
 #[derive(Drop)]
 struct Taker {
     taken: Vec<u8>,
@@ -119,9 +120,10 @@ fn whole_case<'a>(
 
 /// What the program says at its end, with its exit status.
 fn end_of(ended: Result<Status, RunFault>) -> &'static str {
-    match (ended, exit_of(ended)) {
+    let status = exit_of(&ended);
+    match (ended, status) {
         (Ok(Status::Done), 0) => "0",
-        (Ok(Status::Refused), 1) => "1",
+        (Ok(Status::Refused | Status::Malformed(_)), 1) => "1",
         (Err(RunFault::Read), 4) => "read fault",
         (Err(RunFault::Write), 4) => "write fault",
         (Err(RunFault::Memory), 5) => "memory",
@@ -177,8 +179,8 @@ fn without_line(script: &[u8], reply: usize) -> (&[u8], &[u8]) {
     (script, b"")
 }
 
-/// Whether a run that was refused memory wrote whole replies, or that one insertion was refused, and else what the
-/// script without that line gives; a report does not say which one was refused.
+/// Whether a run that was refused memory wrote whole replies, or that one insertion was refused, and else
+/// what the script without that line gives; a report does not say which one was refused.
 fn is_left(alloc: Global, case: Case, written: &[u8], end: &str) -> bool {
     if case.read_fails != 0 || case.write_fails != usize::MAX {
         return true;
@@ -295,7 +297,8 @@ fn play_long(alloc: Global) -> Result<(), &'static str> {
     Ok(())
 }
 
-/// The front of the stored script up to a length gives the replies up to another; a line that is cut is malformed.
+/// The front of the stored script up to a length gives the replies up to another; a line that is cut is
+/// malformed.
 fn play_front(
     alloc: Global,
     len: usize,

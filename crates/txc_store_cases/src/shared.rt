@@ -1,5 +1,5 @@
 //! Calls of a node that threads share, with what they answer.
-mod app;
 mod calls;
+mod findings;
 mod locked;
 mod threads;

@@ -178,7 +178,8 @@ impl<T> EventRow<T> {
         Some(record)
     }
 
-    /// Of two fronts of this row, one is a prefix of the other. This is a lemma: it does nothing when it runs.
+    /// Of two fronts of this row, one is a prefix of the other. This is a lemma: it does nothing when it
+    /// runs.
     pub fn agree(&self, one: &Front<T>, other: &Front<T>)
         requires one { one.now.row ≡ self.now }
         requires other { other.now.row ≡ self.now }

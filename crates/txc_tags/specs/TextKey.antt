@@ -9,7 +9,8 @@ use Rattle.txc_tags.specs.declared.text.number.TheConstants.{LAST_NUMBER}
 -- the text of a key
 abbrev pub key_text : Call → List ℕ
 key_text key =
-    codes "f" ++ (decimal key.function ++ (codes "(" ++ (join_with_byte 44 (map decimal key.args) ++ codes ")")))
+    codes "f" ++ (decimal key.function ++ (codes "("
+    ++ (join_with_byte 44 (map decimal key.args) ++ codes ")")))
 
 -- the function is one of the functions, and there are few arguments, which are numbers of the grammar
 pub record IsKeyInRange (key : Call) : Type 0 where

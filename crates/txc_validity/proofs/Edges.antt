@@ -4,10 +4,9 @@ use Rattle.std.proofs.lemmas.Bool.Decides.{nat_tests}
 use Rattle.std.specs.List.{AllByRecursion}
 use Rattle.txc_rows.specs.declared.version.Versioned.{Versioned}
 use Rattle.txc_rows.specs.declared.query.Query.{Query}
-use Rattle.txc_rows.specs.Members.{IsIn}
 use Rattle.txc_rows.specs.Values.{RowValue}
 use Rattle.txc_rows.specs.Versions.{row_of, suits, is_visible, lives_at, shown_at, Follows, Pairwise, IsVersion, AreVersions}
-use Rattle.txc_rows.proofs.Offered.{both_true, and_true, in_filter, from_filter}
+use Rattle.txc_rows.proofs.Offered.{IsIn, both_true, and_true, in_filter, from_filter}
 use Rattle.txc_validity.specs.Turning.{Turns}
 
 -- a version that matches begins or ends at the stamp

@@ -5,8 +5,8 @@ use borrow.Author.Tests.{ltb-false}
 use Rattle.std.specs.List.{AllByRecursion}
 use Rattle.txc_rows.specs.declared.version.Versioned.{Versioned}
 use Rattle.txc_rows.specs.declared.query.Query.{Query}
-use Rattle.txc_rows.specs.Members.{IsIn}
 use Rattle.txc_rows.specs.Versions.{row_of, suits, is_visible, shown_at, AreVersions}
+use Rattle.txc_rows.proofs.Offered.{IsIn}
 use Rattle.txc_validity.specs.Turning.{Turns, IsSteady}
 use Rattle.txc_validity.specs.Validity.{HoldsOn, IsValidity}
 use Rattle.txc_validity.proofs.Edges.{IsEdge, edge}

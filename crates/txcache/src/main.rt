@@ -6,7 +6,7 @@ use clap::error::ErrorKind;
 use std::process::ExitCode;
 use std::{env, io};
 use txc_arguments::read_arguments;
-use txc_run::{exit_of, run};
+use txc_run::{Status, exit_of, run};
 use txc_settings::{Settings, SettingsError};
 
 fn main(rt: HostRuntime) -> ExitCode {
@@ -37,10 +37,16 @@ fn main(rt: HostRuntime) -> ExitCode {
     let mut reader = rt.reader();
     let mut writer = io::writer(&rt);
     let ended = run(alloc, arguments.mode, settings, &mut reader, &mut writer);
-    if let Err(fault) = ended {
-        let _ = rt.eprintln(fault);
+    match &ended {
+        Ok(Status::Malformed(line)) => {
+            let _ = rt.eprintln(line);
+        }
+        Ok(_) => {}
+        Err(fault) => {
+            let _ = rt.eprintln(fault);
+        }
     }
-    ExitCode::from(exit_of(ended))
+    ExitCode::from(exit_of(&ended))
 }
 
 /// Prints on standard error why the program ends with this status.

@@ -1,5 +1,5 @@
 //! Calls of the program's functions, in boxes.
-ghost use Rattle.std.specs.Prelude.{◌≡◌, All};
+ghost use Rattle.std.specs.Prelude.{◌≡◌, ◌≤◌, All};
 ghost use Rattle.txc_registry.specs.Activity.{idle};
 
 use super::caller::Caller;
@@ -128,8 +128,17 @@ free => 1
 #[test]
 fn calls_need_what_was_worked(rt: HostRuntime) -> Result<(), Fail> {
     let mut answer = room(rt.alloc())?;
-    assert!(&rt; is_program_played(rt.alloc(), 3, NESTED, &mut answer)?, "{answer}");
-    assert!(&rt; is_program_played(rt.alloc(), 3, REFUSED, &mut answer)?, "{answer}");
-    assert!(&rt; is_program_played(rt.alloc(), 1, BUSY, &mut answer)?, "{answer}");
+    assert!(&rt;
+        is_program_played(rt.alloc(), 3, NESTED, &mut answer)?,
+        "{answer}"
+    );
+    assert!(&rt;
+        is_program_played(rt.alloc(), 3, REFUSED, &mut answer)?,
+        "{answer}"
+    );
+    assert!(&rt;
+        is_program_played(rt.alloc(), 1, BUSY, &mut answer)?,
+        "{answer}"
+    );
     Ok(())
 }

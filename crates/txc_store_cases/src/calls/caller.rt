@@ -1,17 +1,16 @@
-//! A machine that runs calls as commands say: `call`, the call, and the replies to what it needs, with what it
-//! needs after them.
+//! A machine that runs calls as commands say: `call`, the call, and the replies to what it needs, with what
+//! it needs after them.
 ghost use Rattle.std.specs.Prelude.{◌≡◌, ℕ, IsTrue, Some};
 ghost use Rattle.txc_registry.specs.Objects.{AllIdle};
 ghost use Rattle.txc_call.specs.declared.need.Need.{Need};
-ghost use Rattle.txc_call.specs.Calling.{InCall, IsCalling};
 ghost use Rattle.txc_call.specs.Needs.{reply_reach, ReplyFits};
 ghost use Rattle.txc_call.specs.Reaches.{InReach};
 
 use crate::common::{Obeys, Player, body, number, say_number, say_unknown};
 use std::alloc::{AllocError, Global};
+use std::marker::Model;
 use std::str::SplitWhitespace;
 use txc_call::{CallError, CallMachine, Need, Outcome, Reply};
-use txc_db::DbCore;
 use txc_node::{Shown, Value};
 use txc_permits::PermitPool;
 use txc_registry::{Cacheable, Registry};
@@ -27,8 +26,16 @@ pub(super) struct Caller<A: App, C: Cacheable> {
     machine: CallMachine,
     registry: Registry<A, C>,
     pool: PermitPool,
-    ghost fits: { IsCalling A.next registry machine },
-    ghost common: { InCall 2 machine },
+}
+
+impl<A: App, C: Cacheable> Model for Caller<A, C> {
+    ghost use Rattle.txc_call.specs.Calling.{Calling, InCall, IsCalling};
+
+    ghost Value = { Calling };
+
+    ghost view = { λ c. c.machine };
+
+    ghost invariant = { λ c. IsCalling A.next c.registry c.machine × InCall 2 c.machine };
 }
 
 /// The reach that the words say: `LO KNOWN still`, or `closed`.
@@ -224,13 +231,7 @@ impl<A: App, C: Cacheable> Caller<A, C> {
         Ok(())
     }
 
-    fn call(
-        &mut self,
-        alloc: Global,
-        key: Key,
-        text: &str,
-        answer: &mut String,
-    ) {
+    fn call(&mut self, alloc: Global, key: Key, text: &str, answer: &mut String) {
         let ran = match text {
             "whole" => self.run_whole(alloc, key),
             "" => self.start(key),
@@ -279,9 +280,9 @@ impl<A: App, C: Cacheable> Obeys for Caller<A, C> {
 }
 
 impl<A: App, C: Cacheable> Player for Caller<A, C> {
-    type Other = DbCore;
+    type Other = Caller<A, C>;
 
-    fn other(&self, _alloc: Global) -> Option<DbCore> {
+    fn other(&self, _alloc: Global) -> Option<Caller<A, C>> {
         None
     }
 }

@@ -95,10 +95,16 @@ impl Definition for Counting {
 fn play_counting(alloc: Global, script: &str, answer: &mut String) -> Result<bool, AllocError> {
     let mut pool = PermitPool::new(alloc, 3)?;
     let mut objects = Vec::new(alloc);
-    for function in 0..5 {
-        let object = Function::new(alloc, pool.share()?, Counting { function });
-        enlist::<Counted, Function<Counting>>(&mut objects, object)?;
-    }
+    let nothing = Function::new(alloc, pool.share()?, Counting { function: 0 });
+    let queries = Function::new(alloc, pool.share()?, Counting { function: 1 });
+    let calls = Function::new(alloc, pool.share()?, Counting { function: 2 });
+    let whole = Function::new(alloc, pool.share()?, Counting { function: 3 });
+    let twice = Function::new(alloc, pool.share()?, Counting { function: 4 });
+    enlist::<Counted, Function<Counting>>(&mut objects, nothing)?;
+    enlist::<Counted, Function<Counting>>(&mut objects, queries)?;
+    enlist::<Counted, Function<Counting>>(&mut objects, calls)?;
+    enlist::<Counted, Function<Counting>>(&mut objects, whole)?;
+    enlist::<Counted, Function<Counting>>(&mut objects, twice)?;
     Ok(play::<Counted, Function<Counting>>(alloc, objects, pool, script, answer))
 }
 

@@ -81,8 +81,8 @@ impl Player for DbCore {
     }
 }
 
-/// A database with room for so many events, to which the commands were given that come before its lock. None where
-/// memory for the database itself was refused, or an answer is not wanted.
+/// A database with room for so many events, to which the commands were given that come before its lock. None
+/// where memory for the database itself was refused, or an answer is not wanted.
 pub(crate) fn played(
     alloc: Global,
     capacity: usize,

@@ -1,4 +1,5 @@
-//! The calls under the lock. Each answers what the database alone answers, with a front that shows the whole history.
+//! The calls under the lock. Each answers what the database alone answers, with a front that shows the whole
+//! history.
 ghost use Rattle.std.specs.Prelude.{◌≡◌, IfOk};
 
 use super::alone::played;
@@ -186,8 +187,8 @@ impl<J: Naming, R: Wait> Player for Shared<'_, J, R> {
     }
 }
 
-/// Plays a script to the database, after the commands before it, or with no others to compare with. None where memory
-/// for the feed was refused.
+/// Plays a script to the database, after the commands before it, or with no others to compare with. None
+/// where memory for the feed was refused.
 pub(super) fn is_answered_by<J: Naming>(
     rt: &impl Wait,
     alloc: Global,

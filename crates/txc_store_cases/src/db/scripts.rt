@@ -1,5 +1,5 @@
-//! What is called, and what is answered: the commands are those of the players, and an answer to a query is how many
-//! rows, the first and the last of them, and the validity.
+//! What is called, and what is answered: the commands are those of the players, and an answer to a query is
+//! how many rows, the first and the last of them, and the validity.
 
 /// The capacity of the row, what is called before the database goes under its lock, if it does, and after it.
 pub(super) type Script = (usize, &'static str, &'static str);
@@ -24,8 +24,9 @@ pub(super) const LOCKED: [Script; 6] = [
     (16, FOUR_EVENTS, FED),
 ];
 
-/// Two puts and two pins, what they answer and refuse, and holds that come and go. Then each kind of change at once: a
-/// row that goes to another group, a new one, and one that comes back. At last the pin's hold and two more are taken.
+/// Two puts and two pins, what they answer and refuse, and holds that come and go. Then each kind of change
+/// at once: a row that goes to another group, a new one, and one that comes back. At last the pin's hold and
+/// two more are taken.
 const WHOLE: &str = "reader => 0
 commit 0 -: put 1 7 2 a => 1
 pin 1000 0 => 2 at 1000
@@ -116,8 +117,8 @@ query all 2 4-8 => 1 7:x 7:x [4,4]; 0 [5,8] still; 0 [5,8] still; 0 [5,8] still;
 query all 3 4-8 => 0 [4,8] still; 0 [4,8] still; 0 [4,8] still; 0 [4,8] still; 0 [4,8] still
 ";
 
-/// The store refuses where more than 1,024 versions match, and the database goes on. What was removed is still a
-/// version, until a vacuum drops it.
+/// The store refuses where more than 1,024 versions match, and the database goes on. What was removed is
+/// still a version, until a vacuum drops it.
 const MANY: &str = "commit 0 -: put 1 0-1023 2 a => 1
 query all 1 1 => 1024 0:a 1023:a [1,1] still
 commit 1 -: put 1 1024 2 a => 2

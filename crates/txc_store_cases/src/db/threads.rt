@@ -14,8 +14,8 @@ use txc_db::{Database, DbCore, HistoryFront, Naming};
 /// How many events both threads leave.
 const EVENTS: usize = 16;
 
-/// What one thread calls: rows that nobody else changes are read, put and pinned. Which stamps it is given depends on
-/// the other thread.
+/// What one thread calls: rows that nobody else changes are read, put and pinned. Which stamps it is given
+/// depends on the other thread.
 const ONE: &str = "hold => ..
 query id 1 0 0 => 0 [0,..
 commit 0 id 1 0: put 1 0 2 a => ..

@@ -1,7 +1,7 @@
-//! What is called, and what is answered. `pin` pins the present at a moment, and `add` adds that pin; `skip` is an event
-//! between two pins. `fresh NOW STALENESS AT_LEAST` hands out pins, and `begin` begins a pin set with them and the
-//! present, which is shown as a star. `fill COUNT MOMENT` pins and adds so many times, and `crowd COUNT` has pins handed
-//! out so many times.
+//! What is called, and what is answered. `pin` pins the present at a moment, and `add` adds that pin; `skip`
+//! is an event between two pins. `fresh NOW STALENESS AT_LEAST` hands out pins, and `begin` begins a pin set
+//! with them and the present, which is shown as a star. `fill COUNT MOMENT` pins and adds so many times, and
+//! `crowd COUNT` has pins handed out so many times.
 
 /// The pins 2 and 4, of the moments 1000 and 2000, and no user.
 const TWO_PINS: &str = "skip => 1
@@ -26,9 +26,9 @@ pub(super) const SCRIPTS: [Script; 5] = [
 
 pub(super) const LIMITS: [Script; 2] = [("", CROWDED), ("", FULL)];
 
-/// The sum of a moment and the staleness is 2,500, one less, and over 64 bits; stamps below the one asked for are left out.
-/// A stamp is given back as often as it was handed out, and the first that was not is named. Only pins without users are
-/// retired, and only where they are older than is asked.
+/// The sum of a moment and the staleness is 2,500, one less, and over 64 bits; stamps below the one asked for
+/// are left out. A stamp is given back as often as it was handed out, and the first that was not is named.
+/// Only pins without users are retired, and only where they are older than is asked.
 const FRESH: &str = "fresh 2500 1500 0 => 4 2
 fresh 2500 1499 0 => 4
 fresh 2500 1500 3 => 4

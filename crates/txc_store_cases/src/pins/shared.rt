@@ -249,8 +249,8 @@ impl<J: Naming, R: Wait> Player for Shared<'_, J, R> {
     }
 }
 
-/// Plays a script to a new pincushion of the database, after what is called before it. None where memory for it was
-/// refused.
+/// Plays a script to a new pincushion of the database, after what is called before it. None where memory for
+/// it was refused.
 pub(super) fn is_answered_by<J: Naming>(
     rt: &impl Wait,
     alloc: Global,

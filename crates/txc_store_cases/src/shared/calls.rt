@@ -1,12 +1,13 @@
 //! The calls of a pass as commands, and what they answer.
 ghost use Rattle.std.specs.Prelude.{◌≡◌};
 
-use super::app::{Functions, find_body};
+use super::findings::find_body;
 use crate::common::{Obeys, Player, number, say_number, say_unknown, stamp};
 use std::alloc::Global;
 use std::str::SplitWhitespace;
 use std::sync::Wait;
 use txc_db::{Database, DbCore, Naming};
+use txc_functions::Program;
 use txc_shared::{Advanced, Finding, Insertion, NodeError, NodePass, SharedNode, audit};
 use txc_stamp::{Reach, Stamp};
 use txc_tags::Key;
@@ -16,7 +17,7 @@ use txc_tags::Key;
 pub(super) struct Caller<'a, J: Naming, R: Wait> {
     pub(super) rt: &'a R,
     pub(super) database: &'a Database<J>,
-    pub(super) node: &'a SharedNode<Functions, J>,
+    pub(super) node: &'a SharedNode<Program, J>,
     pub(super) pass: NodePass<J>,
 }
 
@@ -30,7 +31,7 @@ fn say_reach(answer: &mut String, reach: Reach) {
     let _ = write!(answer, "[{lo},{known}]{still}");
 }
 
-fn say_found(answer: &mut String, found: &Result<Option<Finding<Functions>>, NodeError>) {
+fn say_found(answer: &mut String, found: &Result<Option<Finding<Program>>, NodeError>) {
     match found {
         Ok(Some(finding)) => {
             let value = &finding.entry.value;
@@ -93,7 +94,7 @@ impl<'a, J: Naming, R: Wait> Caller<'a, J, R> {
         rt: &'a R,
         alloc: Global,
         database: &'a Database<J>,
-        node: &'a SharedNode<Functions, J>,
+        node: &'a SharedNode<Program, J>,
     ) -> Result<Self, NodeError> {
         let pass = node.pass(rt, alloc)?;
         Ok(Caller {

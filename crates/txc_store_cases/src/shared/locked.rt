@@ -1,7 +1,6 @@
 //! The calls of two passes through one node.
 ghost use Rattle.std.specs.Prelude.{◌≡◌};
 
-use super::app::Functions;
 use super::calls::{Caller, say_refusal};
 use crate::common::{Obeys, Player, changes, is_played, number, room, say_number, say_unknown};
 use crate::db::alone::played;
@@ -12,6 +11,7 @@ use std::str::SplitWhitespace;
 use std::sync::Wait;
 use std::test::Fail;
 use txc_db::{Database, DbCore, Naming};
+use txc_functions::Program;
 use txc_node::{Op, Record, Reply};
 use txc_shared::{NodeError, NodeSettings, SharedNode, meet};
 use txc_stamp::Stamp;
@@ -211,8 +211,8 @@ pub(super) const SETTINGS: NodeSettings = NodeSettings {
     recent: 4,
 };
 
-/// Puts the database and the node under their locks, and plays a script to two passes. None where memory for that was
-/// refused.
+/// Puts the database and the node under their locks, and plays a script to two passes. None where memory
+/// for that was refused.
 fn is_answered<J: Naming, R: Wait>(
     rt: &R,
     alloc: Global,
@@ -225,7 +225,7 @@ fn is_answered<J: Naming, R: Wait>(
     requires node { row ≡ J.node_rows 0 }
 {
     let database = Database::<J>::new(alloc, core).ok()?;
-    let node = SharedNode::<Functions, J>::new(alloc, SETTINGS, row, &database).ok()?;
+    let node = SharedNode::<Program, J>::new(alloc, SETTINGS, row, &database).ok()?;
     let one = Caller::new(rt, alloc, &database, &node).ok()?;
     let other = Caller::new(rt, alloc, &database, &node).ok()?;
     let mut callers = Callers { one, other };

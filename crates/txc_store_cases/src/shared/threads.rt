@@ -1,7 +1,6 @@
 //! Two passes through one node, on two threads.
 ghost use Rattle.std.specs.Prelude.{◌≡◌};
 
-use super::app::Functions;
 use super::calls::Caller;
 use super::locked::{HISTORY, SETTINGS};
 use crate::common::{is_played, room};
@@ -12,6 +11,7 @@ use std::sync::Wait;
 use std::test::Fail;
 use std::thread::{Threads, join};
 use txc_db::{Database, DbCore, Naming};
+use txc_functions::Program;
 use txc_node::Record;
 use txc_shared::{NodeFront, NodePass, SharedNode, meet};
 use txc_stream::EventRow;
@@ -19,8 +19,8 @@ use txc_stream::EventRow;
 /// How many calls each thread makes.
 const CALLS: usize = 100;
 
-/// What one thread calls: it alone takes the four events, and then looks up, inserts and sweeps. What it is answered depends
-/// on the other thread.
+/// What one thread calls: it alone takes the four events, and then looks up, inserts and sweeps. What it is
+/// answered depends on the other thread.
 const EVENTS: &str = "advance => 1 closed ..
 advance => 2 closed ..
 advance => 3 closed ..
@@ -40,12 +40,12 @@ lookup 9 0 9 => ..
 insert 8 1 => ..
 ";
 
-/// Plays the scripts, the second one so many times, and gives the pass. None where an answer is not wanted or memory for
-/// them was refused.
+/// Plays the scripts, the second one so many times, and gives the pass. None where an answer is not wanted
+/// or memory for them was refused.
 fn work<J: Naming>(
     rt: &impl Wait,
     alloc: Global,
-    (database, node): (&Database<J>, &SharedNode<Functions, J>),
+    (database, node): (&Database<J>, &SharedNode<Program, J>),
     pass: NodePass<J>,
     (first, then, times): (&str, &str, usize),
 ) -> Option<NodePass<J>> {
@@ -72,7 +72,7 @@ fn work_in_two_threads<J: Naming + Send + Sync, R: Threads + Wait + Sync>(
     rt: &R,
     alloc: Global,
     database: &Database<J>,
-    node: &SharedNode<Functions, J>,
+    node: &SharedNode<Program, J>,
     one: NodePass<J>,
     other: NodePass<J>,
 ) -> (Option<NodePass<J>>, Option<NodePass<J>>) {
@@ -105,7 +105,8 @@ fn are_of_both(records: &NodeFront) -> bool {
         && count_turns(records, 1) == Some(CALLS)
 }
 
-/// Whether both passes find all records once they meet. None where memory was refused, for which all is done again.
+/// Whether both passes find all records once they meet. None where memory was refused, for which all is
+/// done again.
 fn meet_after<J: Naming + Send + Sync, R: Threads + Wait + Sync>(
     rt: &R,
     alloc: Global,
@@ -116,7 +117,7 @@ fn meet_after<J: Naming + Send + Sync, R: Threads + Wait + Sync>(
     requires node { row ≡ J.node_rows 0 }
 {
     let database = Database::<J>::new(alloc, core).ok()?;
-    let node = SharedNode::<Functions, J>::new(alloc, SETTINGS, row, &database).ok()?;
+    let node = SharedNode::<Program, J>::new(alloc, SETTINGS, row, &database).ok()?;
     let one = node.pass(rt, alloc).ok()?;
     let other = node.pass(rt, alloc).ok()?;
     let (one, other) = work_in_two_threads(rt, alloc, &database, &node, one, other);

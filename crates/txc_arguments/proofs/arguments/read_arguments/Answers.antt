@@ -2,11 +2,12 @@ use Rattle.std.proofs.Common.{◌∙◌, ap, sym, inl, Some, codes, map, option_
 use Rattle.clap.specs.Words.{app_of, first_of, found_of, is_simple, matches_of}
 use Rattle.clap.proofs.WalkLemmas.{first_value-rows}
 use Rattle.txc_arguments.specs.Program.{IsRefusedAs}
+use Rattle.txc_arguments.proofs.Modes.{has_mode, is_mode}
 use Rattle.txc_arguments.proofs.Refusals.{passed_on, of_kind}
 use Rattle.txc_arguments.proofs.arguments.read_arguments.Goals as goal
 
-pub returns-in-Some-mode_named-clause-mode : goal.returns-in-Some-mode_named-clause-mode
-returns-in-Some-mode_named-clause-mode c =
+pub returns-clause-mode : goal.returns-clause-mode
+returns-clause-mode c =
     let shape = c.in_ok-command.ensures.shape in
     let rows = (c.in_ok-matches.ensures.matches (ap is_simple shape.2)).0 ∙ ap (λ a. matches_of a (map string_bytes c.args.words.now)) shape.2 in (
       shape.0,
@@ -15,8 +16,8 @@ returns-in-Some-mode_named-clause-mode c =
           ∙ sym c.get_str-mode.ensures ∙ ap (option_map (λ s. s.now)) c.in-Some.is ∙ ap Some c.in-Some-mode_named.ensures.answer,
     )
 
-pub returns-in-Some-mode_named-clause-settings : goal.returns-in-Some-mode_named-clause-settings
-returns-in-Some-mode_named-clause-settings c =
+pub returns-clause-settings : goal.returns-clause-settings
+returns-clause-settings c =
     let shape = c.in_ok-command.ensures.shape in
     let rows = (c.in_ok-matches.ensures.matches (ap is_simple shape.2)).0 ∙ ap (λ a. matches_of a (map string_bytes c.args.words.now)) shape.2 in (
       shape.0,
@@ -33,3 +34,11 @@ returns-in_err-matches-clause-refused c =
     let words = map string_bytes c.args.words.now in
     passed_on c.from_residual-in_err-matches.result c.in_err-matches.field-0.0 (IsRefusedAs words) c.from_residual-in_err-matches.ensures.1
     (of_kind (app_of c.in_ok-command.command) shape.0 words c.in_err-matches.field-0.0 shape.2 shape.1 c.in_err-matches.ensures.kinds)
+
+pub unreachable-requires : goal.unreachable-requires
+unreachable-requires c =
+    has_mode c.in_ok-command.command c.in_ok-matches.matches c.get_str-mode.result c.in_ok-command.ensures.asks c.in_ok-matches.ensures.parsed c.get_str-mode.ensures c.in_default.is
+
+pub unreachable-requires-in-None : goal.unreachable-requires-in-None
+unreachable-requires-in-None c =
+    is_mode c.in_ok-command.command c.in_ok-matches.matches c.get_str-mode.result c.in-Some.name c.in_ok-command.ensures.asks c.in_ok-matches.ensures.parsed c.get_str-mode.ensures c.in-Some.is c.in-None.ensures.refused

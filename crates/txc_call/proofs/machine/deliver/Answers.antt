@@ -1,4 +1,4 @@
-use Rattle.std.proofs.Common.{◌≡◌, ◌≢◌, ℕ, List, [], ◌∷◌, true≢false, sym, subst}
+use Rattle.std.proofs.Common.{ℕ, List, true≢false, sym, subst}
 use Rattle.txc_call.specs.declared.frame.Frame.{Frame}
 use Rattle.txc_call.specs.Turns.{turn_of, AfterAsk}
 use Rattle.txc_call.proofs.Leading.{given_place, value_onward}

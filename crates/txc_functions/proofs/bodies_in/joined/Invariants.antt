@@ -1,5 +1,5 @@
 use Rattle.std.proofs.Common.{◌≡◌, ◌++◌, drop}
-use Rattle.txc_shared.specs.Worked.{bodies_of}
+use Rattle.txc_functions.specs.Program.{bodies_of}
 use Rattle.txc_functions.proofs.Bodies.{after_commas}
 use Rattle.txc_functions.proofs.bodies_in.joined.Given as goal
 

@@ -1,7 +1,7 @@
 use Rattle.std.proofs.Common.{◌++◌, take, arith, rules, Ok, Err, Result, refl, sym, subst}
 use Rattle.std.proofs.KnownBytes.{Consumes-trans, Consumes-kept, Appends-trans}
 use Rattle.txc_run.specs.Runs.{HasRun, start_of}
-use Rattle.txc_run.specs.Turns.{status_by}
+use Rattle.txc_run.specs.declared.fault.Status.TheVariants.{Malformed}
 use Rattle.txc_run.specs.declared.fault.Status.{Status}
 use Rattle.txc_run.specs.declared.fault.RunFault.{RunFault}
 use Rattle.txc_run.proofs.Turning.{err_is, read_fault, reader_failed, run_ends, run_out_of_memory, nothing_more, stopped_ends, goes_on_at}
@@ -22,8 +22,8 @@ returns-in-Stopped-clause-after g c =
     let i = c.reads.invariant in
     let start = start_of c.args.mode c.args.settings in
     let read = i.read ++ take c.in_ok-n.n c.read.new.piece in
-    rw c.status.ensures (run_ends ⊥ start _ _ _ _ _ read i.written (Ok (status_by c.turn.new.session.replies.is_refused)) (Consumes-trans _ _ _ i.read (take c.in_ok-n.n c.read.new.piece) i.consumed c.in_ok-n.ensures.bytes.0) i.appended (λ h. absurd h)
-    (stopped_ends start read i.written c.turn.new.session _ _ _ c.in-Stopped.is (c.in_ok-turn.ensures.turned start i.read i.written i.answered)))
+    (run_ends ⊥ start _ _ _ _ _ read i.written (Ok (Malformed c.in-Stopped.line)) (Consumes-trans _ _ _ i.read (take c.in_ok-n.n c.read.new.piece) i.consumed c.in_ok-n.ensures.bytes.0) i.appended (λ h. absurd h)
+    (stopped_ends start read i.written c.turn.new.session _ c.in-Stopped.line _ _ c.in-Stopped.is (c.in_ok-turn.ensures.turned start i.read i.written i.answered)))
 
 pub returns-in_err-turn-clause-after : goal.returns-in_err-turn-clause-after
 returns-in_err-turn-clause-after g c =

@@ -4,7 +4,7 @@ use Rattle.std.proofs.Math.Seq.{take-length}
 use Rattle.std.proofs.lemmas.Option.{slice_get-get_or}
 use Rattle.txc_tags.specs.Tags.{with_tags}
 use Rattle.txc_rows.specs.declared.query.Change.{Change}
-use Rattle.txc_rows.specs.Members.{IsIn}
+use Rattle.txc_rows.proofs.Offered.{IsIn}
 use Rattle.txc_rows.specs.RowTags.{tags_of_row}
 use Rattle.txc_rows.specs.Net.{changes_state, net_changes, settled, puts_of}
 use Rattle.txc_db.specs.DatabaseValue.{DatabaseValue, newest, newest_state}

@@ -4,7 +4,7 @@ use Rattle.txc_tags.specs.Tags.{with_tags}
 use Rattle.txc_rows.specs.RowTags.{tags_of_row}
 use Rattle.txc_rows.specs.Net.{changes_state}
 use Rattle.txc_rows.specs.declared.query.Change.{Change}
-use Rattle.txc_rows.specs.Members.{IsIn}
+use Rattle.txc_rows.proofs.Offered.{IsIn}
 use Rattle.txc_db.specs.Calls.{matching_of, row_query}
 use Rattle.txc_rows.specs.declared.store_error.TheConstants.{MAX_MATCHING}
 use Rattle.txc_db.specs.NetWith.{found_rows}

@@ -1,15 +1,15 @@
+use Rattle.std.proofs.Common.{◌≡◌, ◌∷◌, sym, subst}
 use Rattle.txc_node.specs.contracts.node.NodeCore.{the_view}
-use Rattle.txc_node.specs.Cache.{found}
-use Rattle.txc_node.proofs.Moves.{moved_at, stands_first}
+use Rattle.txc_node.specs.Cache.{IsCache}
+use Rattle.txc_node.specs.Entries.{others}
+use Rattle.txc_node.proofs.LawLemmas.{lookup_keeps}
+use Rattle.txc_node.proofs.Moves.{after_found}
 use Rattle.txc_node.proofs.node.NodeCore.touch.Goals as goal
 
-pub returns-in-Some-clause-after : goal.returns-in-Some-clause-after
-returns-in-Some-clause-after c =
-    let h = rw (c.deref.ensures.value, c.in-Some.is) at c.best_at.ensures in
-    rw (← c.self.view_is) (moved_at (the_view c.self.inside) c.args.key.now c.args.lo c.args.hi c.in-Some.at c.move_to_front.new.entries.items h c.move_to_front.ensures.moved)
-
-pub returns-in-Some-clause-place : goal.returns-in-Some-clause-place
-returns-in-Some-clause-place c =
-    let n = the_view c.self.inside in
-    let h = rw (c.deref.ensures.value, c.in-Some.is) at c.best_at.ensures in
-    rw (← c.self.view_is) (stands_first (found n c.args.key.now c.args.lo c.args.hi) n.entries c.move_to_front.new.entries.items c.in-Some.at h c.move_to_front.ensures.moved)
+pub invariant_of-self-in-Some : goal.invariant_of-self-in-Some
+invariant_of-self-in-Some c =
+    let a = c.args in
+    let v = the_view c.self.inside in
+    let h = rw c.in-Some.is at c.best-found.ensures.found in
+    let moved : c.bring_first.new.self.entries ≡ h.0 ∷ others h.0 v.entries = c.bring_first.ensures.entries h.0 h.2 in
+    rw c.bring_first.ensures.capacity (subst IsCache (sym (after_found v a.key.now a.lo a.hi h.0 c.bring_first.new.self.entries h.1 moved)) (lookup_keeps v a.key.now a.lo a.hi c.self.invariant))

@@ -18,6 +18,6 @@ returns-in_ok-take-in-Unmade-clause-answered c =
       gives = unmade_gives self.node (self.lines + 1) self.line error of;
       takes = subst (λ (r : Refusal). Takes self.replies c.take.new.self (Replied (Insert of.0) (replies.Refused r))) c.of_entry-refusal.ensures (c.in_ok-take-in-Unmade.ensures.after (Insert of.0) (λ h. cc));
       flow_is = refl;
-      emptied = c.clear.ensures;
+      emptied = c.clear-in-Unmade.ensures;
       count = refl;
     }

@@ -7,9 +7,9 @@ pub returns-in-Ok-Stopped-clause-answered : goal.returns-in-Ok-Stopped-clause-an
 returns-in-Ok-Stopped-clause-answered c start read written h =
     let i = c.lines.invariant in
     let cut = c.in-Some.ensures.answer in
-    stopped_longer start _ written c.in-Some.after.now _ c.end_line.new.self
+    stopped_longer start _ written c.in-Some.after.now _ _ c.end_line.new.self
     (rejoined read i.done c.in-Some.before.now c.in-Some.after.now c.lines.rest.now c.args.bytes.now i.split cut.0)
-    (stopped_of start _ written c.end_line.new.self c.in-Ok-Stopped.field-0 c.in-Ok-Stopped.field-0-is (c.in-Ok-Stopped.ensures.answered start (read ++ i.done) written (i.answered start read written h)))
+    (stopped_of start _ written c.end_line.new.self c.in-Ok-Stopped.field-0 _ c.in-Ok-Stopped.field-0-is (c.in-Ok-Stopped.ensures.answered start (read ++ i.done) written (i.answered start read written h)))
 
 pub returns-in-Err-clause-answered : goal.returns-in-Err-clause-answered
 returns-in-Err-clause-answered c start read written h =

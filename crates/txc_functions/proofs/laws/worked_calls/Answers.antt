@@ -1,0 +1,22 @@
+use Rattle.std.proofs.Common.{refl}
+use Rattle.std.specs.Fmt.{digits}
+use Rattle.txc_shared.specs.Eval.{activation, call_below}
+use Rattle.txc_functions.proofs.laws.worked_calls.Goals as goal
+
+pub returns : goal.returns
+unfolding activation call_below digits
+returns c = record {
+  calls = record {
+    body = refl;
+    no_body = refl;
+    bodies = refl;
+    more_bodies = refl;
+    nested = refl;
+    count = refl;
+    one_query = refl;
+    nested_queries = refl;
+    longest = refl;
+    longest_length = refl;
+  };
+  refusals = record { arguments = refl; itself = refl; endless = refl; too_long = refl; no_function = refl };
+}

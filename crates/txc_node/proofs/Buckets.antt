@@ -1,0 +1,24 @@
+-- Places that are listed together.
+use Rattle.std.proofs.Common.{◌≡◌, true, false, ◌||◌, List, ◌∷◌, refl, sym, ap, ◌∙◌}
+use Rattle.std.proofs.lemmas.Bool.{false≢true}
+use Rattle.txc_node.specs.declared.place.Place.{Place}
+use Rattle.txc_node.specs.declared.stored.Stored.{Stored}
+use Rattle.txc_node.specs.Places.{equal_places, equal_places_is, equal_places_itself}
+use Rattle.txc_node.specs.Indexed.{has_place, is_live}
+
+pub is_later : (q first : Place) (ps : List Place) → equal_places q first ≡ false → has_place (first ∷ ps) q ≡ true → has_place ps q ≡ true
+is_later q first ps other h = sym (ap (λ b. b || has_place ps q) other) ∙ h
+
+-- what is not the place of the first is not the first
+pub not_first : (place first q : Place) → equal_places first place ≡ true → equal_places place q ≡ false → equal_places q first ≡ false
+not_first place first q is other = (elim (equal_places q first) as (λ b. equal_places q first ≡ b → b ≡ false) [
+  | true ↦ λ t. absurd (false≢true (sym other ∙ ap (equal_places place) (equal_places_is q first t ∙ equal_places_is first place is) ∙ equal_places_itself place))
+  | false ↦ λ t. refl
+]) refl
+
+-- where a still valid entry stands, the first is not, if none stands there
+pub not_dead : (ps : List (Place × Stored)) (first q : Place) → is_live ps first ≡ false → is_live ps q ≡ true → equal_places q first ≡ false
+not_dead ps first q dead live = (elim (equal_places q first) as (λ b. equal_places q first ≡ b → b ≡ false) [
+  | true ↦ λ t. absurd (false≢true (sym dead ∙ ap (is_live ps) (sym (equal_places_is q first t)) ∙ live))
+  | false ↦ λ t. refl
+]) refl

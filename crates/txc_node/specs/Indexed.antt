@@ -1,0 +1,217 @@
+-- The entries of a node as they are held, and the indexes that find them. Proofs alone need it, but for
+-- `entries_under`, of which a public contract speaks.
+use Rattle.std.specs.Prelude.{◌≡◌, ℕ, ◌+◌, ◌-◌, Bool, true, false, ◌&&◌, ◌||◌, ◌==◌, not, nat_lt, nat_le, if◌then◌else◌, Option, Some, None, unwrap_or, List, [], ◌∷◌, ◌++◌, map, length, take, drop, slice_get}
+use Rattle.std.specs.List.{AllByRecursion, filter, find, list_any, count_by}
+use Rattle.std.specs.Map.{lookup, lookup_entry, set_value}
+use Rattle.std.specs.HashMap.{HashMap}
+use Rattle.std.specs.Option.{option_map, option_map_or}
+use Rattle.txc_stamp.specs.Interval.{Interval, end_at, shown, closed_at}
+use Rattle.txc_tags.specs.declared.tag.Rows.{Rows}
+use Rattle.txc_tags.specs.declared.tag.Tag.{Tag}
+use Rattle.txc_tags.specs.contracts.tag.RowsPartialEq.TheImpl as rows_eq
+use Rattle.txc_tags.specs.Tags.{sets_match, tags_match}
+use Rattle.txc_tags.specs.Keys.{Call, same_call}
+use Rattle.txc_node.specs.declared.entry.Entry.{Entry}
+use Rattle.txc_node.specs.declared.hit.Shown.{Shown}
+use Rattle.txc_node.specs.declared.place.Place.{Place}
+use Rattle.txc_node.specs.declared.stored.Stored.{Stored}
+use Rattle.txc_node.specs.declared.versions.Found.{Found}
+use Rattle.txc_node.specs.Places.{place_of, equal_places}
+use Rattle.txc_node.specs.Entries.{same_place, others, AreApart}
+use Rattle.txc_node.specs.Cache.{is_invalidated, entry_after}
+
+-- ---- entries at their places
+
+-- the entry of a place and what is stored there
+abbrev pub entry_of : Place × Stored → Entry
+entry_of p = record { key = p.0.key; value = p.1.value; reach = p.1.reach; tags = p.1.tags }
+
+-- what is stored of an entry
+abbrev pub stored_of : Entry → Stored
+stored_of e = record { value = e.value; reach = e.reach; tags = e.tags }
+
+-- what a hit shows of what is stored
+abbrev pub shown_as : ℕ → Stored → Shown
+shown_as processed s = record { reach = shown processed s.reach; value = s.value; tags = s.tags }
+
+-- the entries of a cache, in its order
+abbrev pub entries_of : List (Place × Stored) → List Entry
+entries_of ps = map entry_of ps
+
+-- each stands at the place of its entry
+abbrev pub ArePlaced : List (Place × Stored) → Type 0
+ArePlaced ps = AllByRecursion (λ p. p.0 ≡ place_of (entry_of p)) ps
+
+-- the entry at a place
+abbrev pub entry_at : List (Place × Stored) → Place → Option Entry
+entry_at ps q = option_map entry_of (lookup_entry (equal_places q) ps)
+
+-- a still valid entry stands at the place
+abbrev pub is_live : List (Place × Stored) → Place → Bool
+is_live ps q = unwrap_or (option_map (λ s. s.reach.still) (lookup (equal_places q) ps)) false
+
+-- entries, the most recently used first, and the most that there may be
+pub record Held : Type 0 where
+  pub entries : List Entry
+  pub capacity : ℕ
+
+-- ---- by key
+
+-- the entries of a key
+abbrev pub entries_under : Call → List Entry → List Entry
+entries_under key es = filter (λ e. same_call e.key key) es
+
+-- their reaches
+abbrev pub reaches_under : Call → List Entry → List Interval
+reaches_under key es = map (λ e. e.reach) (entries_under key es)
+
+-- what an index lists for a key
+abbrev pub listed : List (Call × List Interval) → Call → List Interval
+listed index key = unwrap_or (lookup (same_call key) index) []
+
+-- the index lists of each key the reaches of its entries
+abbrev pub IndexesKeys : List (Call × List Interval) → List Entry → Type 0
+IndexesKeys index es = (key : Call) → listed index key ≡ reaches_under key es
+
+-- of the key it lists these now, and of all others what it listed
+abbrev pub Relists : Call → List Interval → List (Call × List Interval) → List (Call × List Interval) → Type 0
+Relists key rs old new = (k : Call) → listed new k ≡ (if same_call key k then rs else listed old k)
+
+-- a span meets the stamps from lo to hi
+abbrev pub meets : ℕ → ℕ → ℕ → Interval → Bool
+meets processed lo hi i = nat_le i.lo hi && nat_lt lo (end_at processed i)
+
+-- the span of a ends later than that of b, or equally and begins later
+abbrev pub lasts_longer : ℕ → Interval → Interval → Bool
+lasts_longer processed a b =
+    nat_lt (end_at processed b) (end_at processed a) || (end_at processed b == end_at processed a && nat_lt b.lo a.lo)
+
+-- the entries are all of the key, and have these reaches
+pub record AreOf (key : Call) (es : List Entry) (rs : List Interval) : Type 0 where
+  pub of_key : AllByRecursion (λ e. same_call e.key key ≡ true) es
+  pub reaches : map (λ e. e.reach) es ≡ rs
+
+-- the reach in the stead of one that begins alike
+abbrev pub in_stead : Interval → Interval → Interval
+in_stead new old = if old.lo == new.lo then new else old
+
+-- no entry is found, or the one that stands there in the list, and has that reach
+abbrev pub IsFound : List Entry → Option Entry → Option Found → Type 0
+IsFound es o None = o ≡ None
+IsFound es o (Some f) = (e : Entry) × (o ≡ Some e) × (slice_get es f.at ≡ Some e) × (f.reach ≡ e.reach)
+
+-- an entry has the place of e, and stands there among those of its key
+abbrev pub StandsUnder : Entry → List Entry → ℕ → Type 0
+StandsUnder e es at = (o : Entry) × (find (λ x. same_place x e) es ≡ Some o)
+    × (slice_get (entries_under e.key es) at ≡ Some o)
+
+-- the entry, and after it all at other places
+abbrev pub with_first : Entry → List Entry → List Entry
+with_first e es = e ∷ others e es
+
+-- ---- by tag
+
+-- the test of rows by which a map finds them
+abbrev pub equal_rows : Rows → Rows → Bool
+equal_rows = rows_eq.ghosts.eq
+
+-- the places that a table lists under rows
+abbrev pub places_under : List (Rows × List Place) → Rows → List Place
+places_under bs rows = unwrap_or (lookup (equal_rows rows) bs) []
+
+-- the place is among these
+abbrev pub has_place : List Place → Place → Bool
+has_place places q = list_any (equal_places q) places
+
+-- the place is listed under rows of a table
+abbrev pub lists_rows : List (Rows × List Place) → Rows → Place → Bool
+lists_rows bs rows q = has_place (places_under bs rows) q
+
+-- the place is listed under the tag
+abbrev pub lists : {S : Type 0} → List (HashMap Rows (List Place) S) → Tag → Place → Bool
+lists tables tag q =
+    unwrap_or (option_map (λ t. lists_rows t.entries tag.rows q) (slice_get tables tag.table)) false
+
+-- the place is listed under each tag of what is stored there, if that is still valid
+abbrev pub IsListed : {S : Type 0} → List (HashMap Rows (List Place) S) → Place → Stored → Type 0
+IsListed tables q s = s.reach.still ≡ true → AllByRecursion (λ t. lists tables t q ≡ true) s.tags
+
+-- so is the place of each entry
+abbrev pub IndexesTags : {S : Type 0} → List (HashMap Rows (List Place) S) → List Entry → Type 0
+IndexesTags tables es = AllByRecursion (λ e. IsListed tables (place_of e) (stored_of e)) es
+
+-- what was listed still is, but for what P leaves open
+abbrev pub KeepsListed : {S : Type 0} → (Tag → Place → Type 0)
+    → (old new : List (HashMap Rows (List Place) S)) → Type 0
+KeepsListed P old new = (t : Tag) (q : Place) → P t q → lists old t q ≡ true → lists new t q ≡ true
+
+-- ---- what an event has closed so far
+
+-- the event closes what is stored
+abbrev pub is_stale : ℕ → List Tag → Stored → Bool
+is_stale stamp tags s = s.reach.still && (nat_lt s.reach.known stamp && sets_match tags s.tags)
+
+-- what is stored after it
+abbrev pub stored_after : ℕ → List Tag → Stored → Stored
+stored_after stamp tags s =
+    if is_stale stamp tags s then record s { reach = closed_at (stamp - 1) s.reach } else s
+
+-- the new reach of what it closes
+abbrev pub closed_reach : ℕ → List Tag → Option Stored → Option Interval
+closed_reach stamp tags None = None
+closed_reach stamp tags (Some s) =
+    if is_stale stamp tags s then Some (closed_at (stamp - 1) s.reach) else None
+
+-- the pairs after the event has come to a place
+abbrev pub after_at : ℕ → List Tag → Place → List (Place × Stored) → List (Place × Stored)
+after_at stamp tags q ps =
+    option_map_or (λ s. set_value (equal_places q) ps (stored_after stamp tags s)) (lookup (equal_places q) ps) ps
+
+-- the event invalidates no entry at the place
+abbrev pub IsSpared : ℕ → List Tag → List (Place × Stored) → Place → Type 0
+IsSpared stamp tags ps q = (e : Entry) → entry_at ps q ≡ Some e → is_invalidated stamp tags e ≡ false
+
+-- where it invalidated none before, it does so now
+abbrev pub StaySpared : ℕ → List Tag → List (Place × Stored) → List (Place × Stored) → Type 0
+StaySpared stamp tags old new = (q : Place) → IsSpared stamp tags old q → IsSpared stamp tags new q
+
+-- it invalidates none at the places that a table lists under the rows at an index
+abbrev pub AreSparedAt : ℕ → List Tag → List (Place × Stored) → List (Rows × List Place) → ℕ → Type 0
+AreSparedAt stamp tags ps bs i = (x : Rows × List Place) → slice_get bs i ≡ Some x
+    → AllByRecursion (IsSpared stamp tags ps) x.1
+
+-- it invalidates none at the places that are listed under tags which match this one
+abbrev pub AreSparedBy : {S : Type 0} → ℕ → List Tag → List (Place × Stored)
+    → List (HashMap Rows (List Place) S) → Tag → Type 0
+AreSparedBy stamp tags ps tables tag = (t : Tag) (q : Place) → tags_match tag t ≡ true
+    → lists tables t q ≡ true → IsSpared stamp tags ps q
+
+-- of the old pairs the event has closed n
+pub record Closes (stamp : ℕ) (tags : List Tag) (old new : List (Place × Stored)) (n : ℕ) : Type 0 where
+  pub after : map (entry_after stamp tags) (entries_of new) ≡ map (entry_after stamp tags) (entries_of old)
+  pub count : n + count_by (is_invalidated stamp tags) (entries_of new)
+      ≡ count_by (is_invalidated stamp tags) (entries_of old)
+  pub spared : StaySpared stamp tags old new
+
+-- each entry at its place, at most one for a place, and each in the index of the keys
+pub record AreTied (ps : List (Place × Stored)) (index : List (Call × List Interval)) : Type 0 where
+  pub placed : ArePlaced ps
+  pub apart : AreApart (entries_of ps)
+  pub keys : IndexesKeys index (entries_of ps)
+
+-- ---- all of it
+
+-- each entry at its place, at most one for a place, and each in the indexes
+pub record IsIndexed {S : Type 0} (ps : List (Place × Stored)) (index : List (Call × List Interval)) (tables : List (HashMap Rows (List Place) S)) : Type 0 where
+  pub placed : ArePlaced ps
+  pub apart : AreApart (entries_of ps)
+  pub keys : IndexesKeys index (entries_of ps)
+  pub tags : IndexesTags tables (entries_of ps)
+
+-- what a turn of a sweep leaves of entries whose last is e
+abbrev pub turned : (Entry → Bool) → List Entry → Entry → List Entry
+turned ended es e = if ended e then take (length es - 1) es else e ∷ take (length es - 1) es
+
+-- what it leaves when all but the first m were looked at
+abbrev pub swept_to : (Entry → Bool) → List Entry → ℕ → List Entry
+swept_to ended es m = filter (λ e. not (ended e)) (drop m es) ++ take m es

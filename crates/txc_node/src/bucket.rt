@@ -1,0 +1,127 @@
+//! Places that are listed under the same rows.
+ghost use Rattle.std.specs.Prelude.{List, ◌≡◌, ◌∷◌, [], true, false, OnOk, IsTrue, IsFalse};
+ghost use Rattle.txc_node.specs.declared.place.Place.{Place};
+ghost use Rattle.txc_node.specs.Places.{equal_places};
+ghost use Rattle.txc_node.specs.Indexed.{has_place, is_live};
+
+use crate::place::Place;
+use crate::stored::Stored;
+use indexmap::IndexSet;
+use lru::LruCache;
+use std::alloc::{AllocError, Global};
+use std::marker::Model;
+
+/// Places that are listed together. There is at least one, and one alone takes no memory of its own.
+#[derive(Debug, Drop)]
+pub(crate) struct Bucket {
+    first: Place,
+    others: IndexSet<Place>,
+}
+
+impl Model for Bucket {
+    ghost use Rattle.std.specs.Prelude.{List, ◌∷◌};
+    ghost use Rattle.txc_node.specs.declared.place.Place.{Place};
+
+    ghost Value = { List Place };
+
+    ghost view = { λ b. b.first ∷ b.others.keys };
+}
+
+// Whether a still valid entry stands at a place.
+fn is_live(cache: &LruCache<Place, Stored>, place: &Place) -> bool
+    ensures { result ≡ is_live cache.now.entries place.now }
+{
+    match cache.peek(place) {
+        None => false,
+        Some(stored) => stored.reach.is_still(),
+    }
+}
+
+// Keeps of the places those at which still valid entries stand.
+fn clean(places: &mut IndexSet<Place>, cache: &LruCache<Place, Stored>)
+    ensures { (q : Place) → is_live cache.now.entries q ≡ true
+        → has_place places.old.keys q ≡ true → has_place places.new.keys q ≡ true }
+{
+    for i in (0..places.len()).rev() {
+        let stays = match places.get_index(i) {
+            None => true,
+            Some(place) => is_live(cache, place),
+        };
+        if !stays {
+            places.swap_remove_index(i);
+        }
+    }
+}
+
+impl Bucket {
+    /// One place.
+    pub(crate) fn one(alloc: Global, place: Place) -> Bucket
+        ensures { result ≡ place ∷ [] }
+    {
+        Bucket {
+            first: place,
+            others: IndexSet::new(alloc),
+        }
+    }
+
+    /// The places: the first, and the others.
+    pub(crate) fn parts(&self) -> (&Place, &[Place])
+        ensures { self.now ≡ result.0.now ∷ result.1.now }
+    {
+        (&self.first, self.others.as_slice())
+    }
+
+    /// Puts a place among them.
+    pub(crate) fn add(&mut self, place: &Place) -> Result<(), AllocError>
+        ensures listed { OnOk result (has_place self.new place.now ≡ true) }
+        ensures kept { (q : Place) → has_place self.old q ≡ true → has_place self.new q ≡ true }
+    {
+        if self.first != *place {
+            self.others.insert(place.copy())?;
+        }
+        Ok(())
+    }
+
+    // Drops the first where there are others, and says whether there were.
+    fn drop_first(&mut self) -> bool
+        ensures kept { IsTrue result → (q : Place) → (p : Place) → (ps : List Place)
+            → self.old ≡ p ∷ ps → has_place ps q ≡ true → has_place self.new q ≡ true }
+        ensures alone { IsFalse result → (p : Place) → (ps : List Place) → self.old ≡ p ∷ ps → ps ≡ [] }
+    {
+        match self.others.pop() {
+            None => false,
+            Some(other) => {
+                self.first = other;
+                true
+            }
+        }
+    }
+
+    /// Takes a place off where there are others, and says whether there are.
+    pub(crate) fn remove(&mut self, place: &Place) -> bool
+        ensures kept { IsTrue result → (q : Place) → equal_places place.now q ≡ false
+            → has_place self.old q ≡ true → has_place self.new q ≡ true }
+        ensures alone { IsFalse result → (q : Place) → has_place self.old q ≡ true
+            → equal_places place.now q ≡ true }
+    {
+        if self.first == *place {
+            return self.drop_first();
+        }
+        self.others.swap_remove(place);
+        true
+    }
+
+    /// Keeps those at which still valid entries stand, and says whether there are any.
+    pub(crate) fn clean(&mut self, cache: &LruCache<Place, Stored>) -> bool
+        ensures kept { IsTrue result → (q : Place) → is_live cache.now.entries q ≡ true
+            → has_place self.old q ≡ true → has_place self.new q ≡ true }
+        ensures none { IsFalse result → (q : Place) → has_place self.old q ≡ true
+            → is_live cache.now.entries q ≡ false }
+    {
+        clean(&mut self.others, cache);
+        if is_live(cache, &self.first) {
+            return true;
+        }
+        self.drop_first()
+    }
+}

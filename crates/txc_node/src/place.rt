@@ -1,0 +1,70 @@
+//! Where an entry stands.
+ghost use Rattle.std.specs.Prelude.{◌≡◌};
+ghost use Rattle.txc_node.specs.Places.{place_at};
+
+use std::hash::{Hash, Hasher};
+use txc_stamp::Stamp;
+use txc_tags::Key;
+
+/// Where an entry stands: its key, and its first stamp.
+#[derive(Debug, Drop)]
+pub(crate) struct Place {
+    pub(crate) key: Key,
+    pub(crate) lo: Stamp,
+}
+
+impl Place {
+    /// The place of that key and first stamp.
+    pub(crate) fn new(key: &Key, lo: Stamp) -> Place
+        ensures { result ≡ place_at key.now lo }
+    {
+        Place {
+            key: key.copy(),
+            lo,
+        }
+    }
+
+    /// An equal place.
+    pub(crate) fn copy(&self) -> Place
+        ensures { result ≡ self.now }
+    {
+        Place::new(&self.key, self.lo)
+    }
+}
+
+impl PartialEq for Place {
+    ghost use Rattle.std.specs.Cmp.{decided, partial_equiv_from_equiv};
+    ghost use Rattle.txc_node.specs.Places.{equal_places, equal_places_decides};
+
+    ghost eq = { equal_places };
+
+    ghost laws = { partial_equiv_from_equiv (decided equal_places equal_places_decides) };
+
+    fn eq(&self, other: &Place) -> bool {
+        self.key == other.key && self.lo == other.lo
+    }
+}
+
+impl Eq for Place {
+    ghost use Rattle.std.specs.Cmp.{decided};
+    ghost use Rattle.txc_node.specs.Places.{equal_places, equal_places_decides};
+
+    ghost laws = { decided equal_places equal_places_decides };
+}
+
+impl Hash for Place {
+    ghost use Rattle.std.specs.Prelude.{◌++◌};
+    ghost use Rattle.std.specs.Hash as fed;
+    ghost use Rattle.txc_node.specs.Places.{equal_places_alike};
+
+    ghost hash_input = { λ p. fed.u8 p.key.function ++ (fed.slice fed.u32 p.key.args ++ fed.u32 p.lo) };
+
+    ghost respects_eq = { equal_places_alike (λ p. fed.u8 p.key.function ++ (fed.slice fed.u32 p.key.args ++ fed.u32 p.lo)) };
+
+    fn hash<H: Hasher>(&self, state: &mut H) {
+        let (function, args) = (self.key.function(), self.key.args());
+        function.hash(state);
+        args.hash(state);
+        self.lo.number().hash(state);
+    }
+}

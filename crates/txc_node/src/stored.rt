@@ -1,0 +1,66 @@
+//! Entries as a cache holds them: the key stands in the place alone.
+ghost use Rattle.std.specs.Prelude.{◌≡◌};
+ghost use Rattle.txc_node.specs.Places.{place_of};
+ghost use Rattle.txc_node.specs.Indexed.{entry_of};
+
+use crate::entry::Entry;
+use crate::place::Place;
+use crate::value::Value;
+use txc_stamp::Reach;
+use txc_tags::TagSet;
+
+/// An entry but for its key.
+#[derive(Debug, Drop)]
+pub(crate) struct Stored {
+    pub(crate) value: Value,
+    pub(crate) reach: Reach,
+    pub(crate) tags: TagSet,
+}
+
+/// The place of an entry, the rest of it in another reach, and the reach that it had.
+pub(crate) fn split(entry: Entry, reach: Reach) -> (Place, Stored, Reach)
+    requires lo { reach.lo ≡ entry.reach.lo }
+    ensures entry { entry_of (result.0, result.1) ≡ record entry { reach = reach } }
+    ensures place { result.0 ≡ place_of entry }
+    ensures before { result.2 ≡ entry.reach }
+{
+    let Entry {
+        key,
+        value,
+        reach: before,
+        tags,
+    } = entry;
+    let place = Place {
+        key,
+        lo: reach.lo(),
+    };
+    (place, Stored { value, reach, tags }, before)
+}
+
+/// The entry at a place.
+pub(crate) fn join(place: Place, stored: Stored) -> Entry
+    ensures { result ≡ entry_of (place, stored) }
+{
+    let Place { key, .. } = place;
+    let Stored { value, reach, tags } = stored;
+    Entry {
+        key,
+        value,
+        reach,
+        tags,
+    }
+}
+
+/// The entry at a place, in another reach.
+pub(crate) fn in_reach(place: Place, stored: Stored, reach: Reach) -> Entry
+    ensures { result ≡ record (entry_of (place, stored)) { reach = reach } }
+{
+    let Place { key, .. } = place;
+    let Stored { value, tags, .. } = stored;
+    Entry {
+        key,
+        value,
+        reach,
+        tags,
+    }
+}

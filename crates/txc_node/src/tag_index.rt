@@ -1,0 +1,198 @@
+//! The index of the still valid entries by their tags.
+ghost use Rattle.std.specs.Prelude.{vec_len, ◌≡◌, ◌<◌, true, false, OnOk, Some, slice_get};
+ghost use Rattle.std.specs.List.{AllByRecursion};
+ghost use Rattle.txc_tags.specs.declared.tag.Tag.{Tag};
+ghost use Rattle.txc_tags.specs.declared.tag.Rows.{Rows};
+ghost use Rattle.txc_node.specs.declared.place.Place.{Place};
+ghost use Rattle.txc_tags.specs.Tags.{same_tag, has_tag};
+ghost use Rattle.txc_node.specs.Places.{equal_places};
+ghost use Rattle.txc_node.specs.Indexed.{equal_rows, has_place, lists_rows, lists, KeepsListed, is_live};
+
+use crate::bucket::Bucket;
+use crate::place::Place;
+use crate::stored::Stored;
+use indexmap::IndexMap;
+use lru::LruCache;
+use std::alloc::{AllocError, Global};
+use txc_tags::{LAST_TABLE, Rows, Tag, TagSet};
+
+/// The places of entries by the rows of one table that they depend on.
+pub(crate) type Buckets = IndexMap<Rows, Bucket>;
+
+/// How many tables there are.
+const TABLES: usize = LAST_TABLE as usize + 1;
+
+/// The places of the still valid entries by their tags, for each table a map. A place may stay there after
+/// its entry was closed, until an event has the tag or the entry is dropped.
+#[derive(Debug, Drop)]
+pub(crate) struct TagIndex {
+    alloc: Global,
+    pub(crate) tables: Vec<Buckets>,
+    ghost whole: { vec_len tables ≡ 16 },
+}
+
+// Lists a place under rows of a table.
+fn list(buckets: &mut Buckets, alloc: Global, rows: Rows, place: &Place) -> Result<(), AllocError>
+    ensures listed { OnOk result (lists_rows buckets.new.entries rows place.now ≡ true) }
+    ensures kept { (r : Rows) (q : Place) → lists_rows buckets.old.entries r q ≡ true
+        → lists_rows buckets.new.entries r q ≡ true }
+{
+    match buckets.get_mut(&rows) {
+        Some(bucket) => bucket.add(place),
+        None => {
+            buckets.insert(rows, Bucket::one(alloc, place.copy()))?;
+            Ok(())
+        }
+    }
+}
+
+// Takes a place off those under rows of a table.
+fn unlist(buckets: &mut Buckets, rows: Rows, place: &Place)
+    ensures places { (r : Rows) (q : Place) → equal_places place.now q ≡ false
+        → lists_rows buckets.old.entries r q ≡ true → lists_rows buckets.new.entries r q ≡ true }
+    ensures rows { (r : Rows) (q : Place) → equal_rows rows r ≡ false
+        → lists_rows buckets.old.entries r q ≡ true → lists_rows buckets.new.entries r q ≡ true }
+{
+    let stays = match buckets.get_mut(&rows) {
+        None => true,
+        Some(bucket) => bucket.remove(place),
+    };
+    if !stays {
+        buckets.swap_remove(&rows);
+    }
+}
+
+// Keeps under rows of a table the places at which still valid entries stand.
+fn clean_rows(buckets: &mut Buckets, rows: Rows, cache: &LruCache<Place, Stored>)
+    ensures kept { (r : Rows) (q : Place) → is_live cache.now.entries q ≡ true
+        → lists_rows buckets.old.entries r q ≡ true → lists_rows buckets.new.entries r q ≡ true }
+{
+    let stays = match buckets.get_mut(&rows) {
+        None => true,
+        Some(bucket) => bucket.clean(cache),
+    };
+    if !stays {
+        buckets.swap_remove(&rows);
+    }
+}
+
+// The same under all rows of a table.
+fn clean_all(buckets: &mut Buckets, cache: &LruCache<Place, Stored>)
+    ensures kept { (r : Rows) (q : Place) → is_live cache.now.entries q ≡ true
+        → lists_rows buckets.old.entries r q ≡ true → lists_rows buckets.new.entries r q ≡ true }
+{
+    for i in (0..buckets.len()).rev() {
+        let rows = match buckets.get_index(i) {
+            None => Rows::All,
+            Some((rows, _)) => *rows,
+        };
+        clean_rows(buckets, rows, cache);
+    }
+}
+
+// Whether a set has a tag.
+fn has_tag(tags: &TagSet, tag: &Tag) -> bool
+    ensures { result ≡ has_tag tags.now tag.now }
+{
+    tags.tags().contains(tag)
+}
+
+impl TagIndex {
+    /// The index of no entries.
+    pub(crate) fn new(alloc: Global) -> Result<TagIndex, AllocError> {
+        let mut tables = Vec::with_capacity(alloc, TABLES)?;
+        for i in 0..TABLES {
+            tables.push(IndexMap::new(alloc))?;
+        }
+        Ok(TagIndex { alloc, tables })
+    }
+
+    /// The places by the rows of the tag's table.
+    pub(crate) fn of_table(&self, tag: &Tag) -> &Buckets
+        ensures { slice_get self.now.tables.items tag.now.table ≡ Some result.now }
+    {
+        let at = tag.table.number() as usize;
+        &self.tables[at]
+    }
+
+    // Lists a place under a tag.
+    fn list_one(&mut self, tag: &Tag, place: &Place) -> Result<(), AllocError>
+        ensures listed { OnOk result (lists self.new.tables.items tag.now place.now ≡ true) }
+        ensures kept { KeepsListed (λ t q. Unit {0}) self.old.tables.items self.new.tables.items }
+    {
+        let at = tag.table.number() as usize;
+        list(&mut self.tables[at], self.alloc, tag.rows, place)
+    }
+
+    // Takes a place off those under a tag.
+    fn unlist_one(&mut self, tag: &Tag, place: &Place)
+        ensures places { KeepsListed (λ t q. equal_places place.now q ≡ false)
+            self.old.tables.items self.new.tables.items }
+        ensures tags { KeepsListed (λ t q. same_tag t tag.now ≡ false)
+            self.old.tables.items self.new.tables.items }
+    {
+        let at = tag.table.number() as usize;
+        unlist(&mut self.tables[at], tag.rows, place);
+    }
+
+    /// Lists a place under each of these tags.
+    pub(crate) fn list(&mut self, tags: &TagSet, place: &Place) -> Result<(), AllocError>
+        ensures listed { OnOk result
+            (AllByRecursion (λ t. lists self.new.tables.items t place.now ≡ true) tags.now) }
+        ensures kept { KeepsListed (λ t q. Unit {0}) self.old.tables.items self.new.tables.items }
+    {
+        for tag in tags.tags() {
+            self.list_one(tag, place)?;
+        }
+        Ok(())
+    }
+
+    /// Takes a place off those under each of these tags.
+    pub(crate) fn unlist(&mut self, tags: &TagSet, place: &Place)
+        ensures { KeepsListed (λ t q. equal_places place.now q ≡ false)
+            self.old.tables.items self.new.tables.items }
+    {
+        for tag in tags.tags() {
+            self.unlist_one(tag, place);
+        }
+    }
+
+    // Takes a place off those under a tag that is not one of the others.
+    fn unlist_other(&mut self, tag: &Tag, others: &TagSet, place: &Place)
+        ensures places { KeepsListed (λ t q. equal_places place.now q ≡ false)
+            self.old.tables.items self.new.tables.items }
+        ensures tags { KeepsListed (λ t q. has_tag others.now t ≡ true)
+            self.old.tables.items self.new.tables.items }
+    {
+        if !has_tag(others, tag) {
+            self.unlist_one(tag, place);
+        }
+    }
+
+    /// Takes a place off those under each of these tags that is not one of the others.
+    pub(crate) fn unlist_others(&mut self, tags: &TagSet, others: &TagSet, place: &Place)
+        ensures places { KeepsListed (λ t q. equal_places place.now q ≡ false)
+            self.old.tables.items self.new.tables.items }
+        ensures tags { KeepsListed (λ t q. has_tag others.now t ≡ true)
+            self.old.tables.items self.new.tables.items }
+    {
+        for tag in tags.tags() {
+            self.unlist_other(tag, others, place);
+        }
+    }
+
+    /// Keeps of the places under tags that match this one those at which still valid entries stand.
+    pub(crate) fn clean(&mut self, tag: &Tag, cache: &LruCache<Place, Stored>)
+        ensures { KeepsListed (λ t q. is_live cache.now.entries q ≡ true)
+            self.old.tables.items self.new.tables.items }
+    {
+        let at = tag.table.number() as usize;
+        let buckets = &mut self.tables[at];
+        if tag.is_wildcard() {
+            clean_all(buckets, cache);
+        } else {
+            clean_rows(buckets, tag.rows, cache);
+            clean_rows(buckets, Rows::All, cache);
+        }
+    }
+}

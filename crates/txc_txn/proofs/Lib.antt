@@ -1,0 +1,4 @@
+pub mod Longer
+pub mod Meanings
+pub mod Cores
+pub mod Worked

@@ -1,0 +1,21 @@
+use Rattle.std.proofs.Common.{sym, subst}
+use Rattle.txc_txn.specs.Core.{CoreValue, CoreHolds, IsRight, value_of}
+use Rattle.txc_txn.specs.Leading.{ReplyLeads}
+use Rattle.txc_txn.proofs.Cores.{core_seen, holds_seen, leads_seen}
+use Rattle.txc_txn.proofs.txn_core.TxnCore.next.Goals as goal
+
+pub answer-requires-clause-fits : goal.answer-requires-clause-fits
+answer-requires-clause-fits g c = rw c.see.ensures.same (core_seen g.A.App.next c.args.registry.now (value_of c.args.self.now) c.see.new.self.seen c.requires.fits)
+
+pub returns-clause-holds : goal.returns-clause-holds
+returns-clause-holds g c = λ L M begins h right.
+    let next = g.A.App.next in
+    c.answer.ensures.holds M
+    (subst (λ (v : CoreValue). IsRight next M v.call.need c.args.reply) (sym c.see.ensures.same) right)
+    (subst (CoreHolds next M c.args.registry.now) (sym c.see.ensures.same) (holds_seen c.states_stay.ensures.states next L M begins c.args.registry.now (value_of c.args.self.now) c.see.new.self.seen h))
+
+pub returns-clause-leads : goal.returns-clause-leads
+returns-clause-leads g c =
+    let next = g.A.App.next in
+    leads_seen next (value_of c.args.self.now) c.see.new.self.seen c.args.registry.now c.args.reply (value_of c.answer.new.self) c.answer.new.registry c.answer.result
+    (subst (λ (v : CoreValue). ReplyLeads next v c.args.registry.now c.args.reply (value_of c.answer.new.self) c.answer.new.registry c.answer.result) c.see.ensures.same c.answer.ensures.leads)

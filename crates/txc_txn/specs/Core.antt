@@ -1,0 +1,291 @@
+-- A read-only transaction: what it waits for, and what is true of it.
+use Rattle.std.specs.Prelude.{◌≡◌, ◌≢◌, ℕ, ◌+◌, ◌<◌, ◌≤◌, true, List, [], ◌∷◌, ◌++◌, All, Contains}
+use Rattle.std.specs.Prelude.{Option, Some, None, Ok, Err, map, max}
+use Rattle.txc_stamp.specs.Interval.{Interval, Holds}
+use Rattle.txc_tags.specs.Keys.{Call, node_of}
+use Rattle.txc_rows.specs.declared.query.Query.{Query}
+use Rattle.txc_node.specs.declared.entry.Entry.{Entry}
+use Rattle.txc_db.specs.History.{History, moment_at, state_at}
+use Rattle.txc_db.specs.Seen.{FrontValue}
+use Rattle.txc_cushion.specs.declared.pin.Pin.{Pin}
+use Rattle.txc_cushion.specs.declared.pins.Pins.{Pins}
+use Rattle.txc_cushion.specs.Pinning.{pin_of}
+use Rattle.txc_pinset.specs.declared.choice.Choice.TheVariants.{Present, At}
+use Rattle.txc_pinset.specs.Members.{PinSetValue, IsPinSet, AreBounds, begun, choice_of, kept, narrowed}
+use Rattle.txc_pinset.specs.Members.{with_present}
+use Rattle.txc_shared.specs.Eval.{Next}
+use Rattle.txc_registry.specs.Objects.{Objects}
+use Rattle.txc_call.specs.declared.need.Need.{Need}
+use Rattle.txc_call.specs.declared.need.Need.TheVariants as needs
+use Rattle.txc_call.specs.declared.reply.Reply.TheVariants as replies
+use Rattle.txc_call.specs.Needs.{ReplyHolds}
+use Rattle.txc_call.specs.Calling.{Calling, CallIsUnreached, IsCalling}
+use Rattle.txc_ports.specs.declared.bounds.Bounds.{Bounds}
+use Rattle.txc_ports.specs.declared.recorded.Recorded.{Recorded}
+use Rattle.txc_ports.specs.declared.error.TxnError.{TxnError}
+use Rattle.txc_ports.specs.declared.request.PortRequest.{PortRequest}
+use Rattle.txc_ports.specs.declared.request.PortRequest.TheVariants as requests
+use Rattle.txc_ports.specs.declared.reply.PortReply.{PortReply}
+use Rattle.txc_ports.specs.declared.reply.PortReply.TheVariants as ports
+use Rattle.txc_ports.specs.declared.turn.Turn.{Turn}
+use Rattle.txc_ports.specs.declared.turn.Turn.TheVariants.{Ask, Value, Refused}
+use Rattle.txc_ports.specs.Answers.{IsFresh, AreConsistent}
+use Rattle.txc_txn.specs.declared.pinning.Pinning.{Pinning}
+use Rattle.txc_txn.specs.declared.pinning.PinStep.{PinStep}
+use Rattle.txc_txn.specs.declared.pinning.PinStep.TheVariants.{Asked, Adding, Dropping}
+use Rattle.txc_txn.specs.declared.txn_core.TxnCore.{TxnCore}
+use Rattle.txc_txn.specs.Meaning.{IsMeant, LieWithin}
+
+-- What callers see of a core: its bounds, after how long it renews its newest pin, and the number of nodes;
+-- its pin set, and the stamps that it was handed or added; the answers that it recorded; its call; the pin of
+-- the present that is under way, if one is; and what it has seen of the history.
+pub record CoreValue : Type 0 where
+  pub bounds : Bounds
+  pub renew_after : ℕ
+  pub nodes : ℕ
+  pub pins : PinSetValue
+  pub taken : List ℕ
+  pub recorded : List Recorded
+  pub call : Calling
+  pub pinning : Option Pinning
+  pub seen : FrontValue
+
+abbrev pub value_of : TxnCore → CoreValue
+value_of c = record {
+  bounds = c.bounds;
+  renew_after = c.renew_after;
+  nodes = c.nodes;
+  pins = c.pins;
+  taken = c.taken.items;
+  recorded = c.recorded.items;
+  call = c.machine;
+  pinning = c.pinning;
+  seen = c.seen;
+}
+
+-- a core that was handed these pins, with its first call to come
+abbrev pub begun_core : ℕ → ℕ → Bounds → Pins → Calling → CoreValue
+begun_core nodes renew_after bounds pins call = record {
+  bounds = bounds;
+  renew_after = renew_after;
+  nodes = nodes;
+  pins = begun pins.pins.items;
+  taken = map (λ p. p.stamp) pins.pins.items;
+  recorded = [];
+  call = call;
+  pinning = None;
+  seen = pins.front;
+}
+
+-- no call is open
+abbrev pub IsIdle : CoreValue → Type 0
+IsIdle c = (c.call.need ≡ None) × (c.pinning ≡ None)
+
+-- ---- the pin of the present
+
+-- the least stamp that the pin of the present may have: one beyond the newest member, and within the bounds
+abbrev pub least_present : Bounds → List Pin → ℕ
+least_present bounds [] = bounds.at_least
+least_present bounds (newest ∷ older) = max (newest.stamp + 1) bounds.at_least
+
+-- a call that is yet to begin waits for the pin where there is no member; else the open call's query does
+abbrev pub WaitsForPin : Option Call → Option Need → List Pin → Type 0
+WaitsForPin (Some k) need members = (need ≡ None) × (members ≡ [])
+WaitsForPin None need members = (query : Query) × (need ≡ Some (needs.Query query))
+
+-- the pin that is to be added is newer than every member
+abbrev pub IsNewer : PinStep → List Pin → Type 0
+IsNewer Asked members = Unit {0}
+IsNewer (Adding pin) members = All (λ m. m.stamp < pin.stamp) members
+IsNewer (Dropping stamp error) members = Unit {0}
+
+-- the present is pinned while it is there
+abbrev pub PinningFits : Option Pinning → PinSetValue → Option Need → Type 0
+PinningFits None pins need = Unit {0}
+PinningFits (Some p) pins need = (pins.has_present ≡ true) × WaitsForPin p.first need pins.members
+    × IsNewer p.step pins.members
+
+-- the pin that is to be added is one that the bounds allow
+abbrev pub IsFreshStep : History → Bounds → PinStep → Type 0
+IsFreshStep L bounds Asked = Unit {0}
+IsFreshStep L bounds (Adding pin) = IsFresh L bounds pin
+IsFreshStep L bounds (Dropping stamp error) = Unit {0}
+
+abbrev pub IsFreshPinning : History → Bounds → Option Pinning → Type 0
+IsFreshPinning L bounds None = Unit {0}
+IsFreshPinning L bounds (Some p) = IsFreshStep L bounds p.step
+
+-- ---- what is true of a core
+
+-- in any history: its pin set is one, its call waits for what it needs, all its members lie in each reach of
+-- the call, which has none while the present is there, and were handed or added to it, and it has a member
+-- while its call goes on, and once a call was answered
+pub record IsCore (next : Next) (objects : Objects) (c : CoreValue) : Type 0 where
+  pub set : IsPinSet c.pins
+  pub call : IsCalling next objects c.call
+  pub within : LieWithin c.pins c.call
+  pub unreached : c.pins.has_present ≡ true → CallIsUnreached c.call
+  pub pinning : PinningFits c.pinning c.pins c.call.need
+  pub member : c.call.need ≢ None → c.pins.members ≢ []
+  pub answered : c.recorded ≢ [] → c.pins.members ≢ []
+  pub taken : All (λ m. Contains c.taken m.stamp) c.pins.members
+  pub nodes : 1 ≤ c.nodes
+
+-- in a history: its pin set means what it says, and so does the pin that is to join it
+pub record CoreHolds (next : Next) (L : History) (objects : Objects) (c : CoreValue) : Type 0 where
+  pub meant : IsMeant next L c.bounds c.pins c.recorded objects c.call
+  pub coming : IsFreshPinning L c.bounds c.pinning
+
+-- ---- requests
+
+-- the present is being pinned, and has come so far
+abbrev pub IsAt : CoreValue → PinStep → Type 0
+IsAt c step = (first : Option Call) × (c.pinning ≡ Some (record { step = step; first = first }))
+
+-- no pin is under way, and the call needs this
+abbrev pub IsNeeding : CoreValue → Need → Type 0
+IsNeeding c need = (c.pinning ≡ None) × (c.call.need ≡ Some need)
+
+-- The core asks this: a pin where it is due, and later than every member; to add it, or to take its hold
+-- away; what the call's node has of it at the stamps from the least to the greatest member; a query at the
+-- newest member; or to keep an entry at its call's node.
+abbrev pub IsAsking : CoreValue → PortRequest → Type 0
+IsAsking c (requests.Pin now at_least) = IsAt c Asked
+    × (choice_of c.bounds.now c.renew_after c.pins ≡ Present)
+    × (now ≡ c.bounds.now) × (at_least ≡ least_present c.bounds c.pins.members)
+IsAsking c (requests.AddPin pinned) = IsAt c (Adding (pin_of pinned))
+IsAsking c (requests.Unpin stamp) = (error : TxnError) × IsAt c (Dropping stamp error)
+IsAsking c (requests.Lookup node key lo hi) = IsNeeding c (needs.Lookup key) × (node ≡ node_of c.nodes key)
+    × AreBounds c.pins.members (lo, hi)
+IsAsking c (requests.Query query stamp) = IsNeeding c (needs.Query query)
+    × (choice_of c.bounds.now c.renew_after c.pins ≡ At stamp)
+IsAsking c (requests.Insert node entry) = IsNeeding c (needs.Insert entry)
+    × (node ≡ node_of c.nodes entry.key)
+IsAsking c request = ⊥
+
+-- the core asks, or its call has ended
+abbrev pub IsTurn : CoreValue → Turn → Type 0
+IsTurn c (Ask request) = IsAsking c request
+IsTurn c (Value value) = IsIdle c
+IsTurn c (Refused error) = IsIdle c
+IsTurn c turn = ⊥
+
+-- ---- replies
+
+-- the reach holds the newest member
+abbrev pub HoldsNewest : Interval → List Pin → Type 0
+HoldsNewest reach [] = ⊥
+HoldsNewest reach (newest ∷ older) = Holds reach newest.stamp
+
+-- the reply is one to what the core asks: a pin of its moment that is late enough, the pin that was to be
+-- added, or what was found at the newest member
+abbrev pub IsAnswered : CoreValue → PortReply → Type 0
+IsAnswered c (ports.Pin (Ok pinned)) = IsAt c Asked × (pinned.moment ≡ c.bounds.now)
+    × (least_present c.bounds c.pins.members ≤ pinned.stamp)
+IsAnswered c (ports.Pin (Err error)) = IsAt c Asked
+IsAnswered c (ports.AddPin pinned added) = IsAt c (Adding (pin_of pinned))
+IsAnswered c ports.Unpin = (stamp : ℕ) × (error : TxnError) × IsAt c (Dropping stamp error)
+IsAnswered c (ports.Lookup hit) = (k : Call) × IsNeeding c (needs.Lookup k)
+IsAnswered c (ports.Query (Ok found)) = (query : Query) × IsNeeding c (needs.Query query)
+    × HoldsNewest found.answer.reach c.pins.members
+IsAnswered c (ports.Query (Err error)) = (query : Query) × IsNeeding c (needs.Query query)
+IsAnswered c ports.Insert = (entry : Entry) × IsNeeding c (needs.Insert entry)
+IsAnswered c reply = ⊥
+
+-- the reply to what the call needs is right in the history
+abbrev pub IsRight : Next → History → Option Need → PortReply → Type 0
+IsRight next L need (ports.Pin (Ok pinned)) = moment_at L pinned.stamp ≡ Some pinned.moment
+IsRight next L need (ports.Lookup (Some hit)) = (n : Need) → need ≡ Some n
+    → ReplyHolds next L n (replies.Hit hit.answer)
+IsRight next L need (ports.Query (Ok found)) = (n : Need) → need ≡ Some n
+    → ReplyHolds next L n (replies.Found found.answer)
+IsRight next L need reply = Unit {0}
+
+-- ---- what a reply leaves
+
+-- narrowed by the reach where it holds a member; else as it was
+pub record IsNarrowed (reach : Interval) (old new : PinSetValue) : Type 0 where
+  pub held : kept reach old.members ≢ [] → new ≡ narrowed reach old
+  pub none : kept reach old.members ≡ [] → new ≡ old
+
+-- the pin set after a reply: narrowed by what was found, or with the pin of the present in its place
+abbrev pub PinsAfter : CoreValue → PortReply → PinSetValue → Type 0
+PinsAfter c (ports.AddPin pinned (Ok added)) new = new ≡ with_present (pin_of pinned) c.pins
+PinsAfter c (ports.Lookup (Some hit)) new = IsNarrowed hit.answer.reach c.pins new
+PinsAfter c (ports.Query (Ok found)) new = new ≡ narrowed found.answer.reach c.pins
+PinsAfter c reply new = new ≡ c.pins
+
+-- the stamps that were handed or added to the core: a pin that was added is one more
+abbrev pub taken_after : List ℕ → PortReply → List ℕ
+taken_after taken (ports.AddPin pinned (Ok added)) = taken ++ pinned.stamp ∷ []
+taken_after taken reply = taken
+
+-- the call that is to begin after the pin, if there is one
+abbrev pub first_call : Option Pinning → Option Call
+first_call None = None
+first_call (Some p) = p.first
+
+-- the call that the machine runs, if it runs one
+abbrev pub running_call : Option Need → Call → Option Call
+running_call None top = None
+running_call (Some need) top = Some top
+
+abbrev pub either_call : Option Call → Option Call → Option Call
+either_call (Some k) other = Some k
+either_call None other = other
+
+-- the call that is open, if one is
+abbrev pub open_call : CoreValue → Option Call
+open_call c = either_call (first_call c.pinning) (running_call c.call.need c.call.top)
+
+-- a value of the open call is recorded
+abbrev pub recorded_after : List Recorded → Turn → Option Call → List Recorded
+recorded_after recorded (Value value) (Some k) = recorded ++ record { key = k; value = value } ∷ []
+recorded_after recorded turn k = recorded
+
+-- the turn asks a port
+abbrev pub IsAsk : Turn → Type 0
+IsAsk (Ask request) = Unit {0}
+IsAsk turn = ⊥
+
+-- the turn is no value
+abbrev pub IsNoValue : Turn → Type 0
+IsNoValue (Value value) = ⊥
+IsNoValue turn = Unit {0}
+
+-- the call has ended
+abbrev pub IsEnd : Turn → Type 0
+IsEnd (Value value) = Unit {0}
+IsEnd (Refused error) = Unit {0}
+IsEnd turn = ⊥
+
+-- the bounds, after how long the newest pin is renewed, and the number of nodes stay
+pub record KeepsSettings (old new : CoreValue) : Type 0 where
+  pub bounds : new.bounds ≡ old.bounds
+  pub renew_after : new.renew_after ≡ old.renew_after
+  pub nodes : new.nodes ≡ old.nodes
+
+-- ---- the end
+
+-- the newest member, where a call was answered
+abbrev pub receipt_pin : List Recorded → List Pin → Option Pin
+receipt_pin [] members = None
+receipt_pin (r ∷ rs) [] = None
+receipt_pin (r ∷ rs) (newest ∷ older) = Some newest
+
+-- a receipt is explained: it has no pin and no answer; or its pin is one that the bounds allow, and there
+-- each answer is what its call comes to without a cache
+abbrev pub Explains : Next → History → Bounds → Option Pin → List Recorded → Type 0
+Explains next L bounds None answers = answers ≡ []
+Explains next L bounds (Some pin) answers = (answers ≢ []) × IsFresh L bounds pin
+    × AreConsistent next answers (state_at L pin.stamp)
+
+-- the stamp that was pinned, and was not added
+abbrev pub left_stamp : PinStep → Option ℕ
+left_stamp Asked = None
+left_stamp (Adding pin) = Some pin.stamp
+left_stamp (Dropping stamp error) = Some stamp
+
+abbrev pub left_pin : Option Pinning → Option ℕ
+left_pin None = None
+left_pin (Some p) = left_stamp p.step

@@ -1,0 +1,42 @@
+-- A read-only transaction with the registry of its functions.
+use Rattle.std.specs.Prelude.{◌≡◌}
+use Rattle.std.specs.Option.{ForSome}
+use mathlib.Core.List.{IsPrefix}
+use Rattle.txc_shared.specs.Eval.{Next}
+use Rattle.txc_registry.specs.Objects.{Objects}
+use Rattle.txc_ports.specs.declared.reply.PortReply.{PortReply}
+use Rattle.txc_ports.specs.declared.turn.Turn.{Turn}
+use Rattle.txc_ports.specs.Fronts.{front_of}
+use Rattle.txc_txn.specs.Core.{CoreValue, CoreHolds, IsAsk, IsCore, IsRight, IsTurn, KeepsSettings, PinsAfter}
+use Rattle.txc_txn.specs.Core.{open_call, recorded_after, taken_after}
+use Rattle.txc_txn.specs.Leading.{ReplyLeads}
+
+-- what callers see of it: its core, and what its objects do
+pub record TxnValue : Type 0 where
+  pub core : CoreValue
+  pub objects : Objects
+
+-- it is what it is in any history, and its pin set means what it says in the history that it has seen
+pub record IsKept (next : Next) (t : TxnValue) : Type 0 where
+  pub fits : IsCore next t.objects t.core
+  pub holds : CoreHolds next t.core.seen.history t.objects t.core
+
+-- the reply is right in the history that it shows
+abbrev pub IsShownRight : Next → TxnValue → PortReply → Type 0
+IsShownRight next t reply =
+    ForSome (front_of reply) (λ front. IsRight next front.history t.core.call.need reply)
+
+-- what comes of a reply: a turn, and what it leaves; more was seen of the history, and what the reply shows
+-- of it too
+pub record HasGoneOn (next : Next) (old : TxnValue) (reply : PortReply) (new : TxnValue)
+    (turn : Turn) : Type 0 where
+  pub turn_fits : IsTurn new.core turn
+  pub leads : ReplyLeads next old.core old.objects reply new.core new.objects turn
+  pub pins : PinsAfter old.core reply new.core.pins
+  pub taken : new.core.taken ≡ taken_after old.core.taken reply
+  pub recorded : new.core.recorded ≡ recorded_after old.core.recorded turn (open_call old.core)
+  pub goes_on : IsAsk turn → open_call new.core ≡ open_call old.core
+  pub settings : KeepsSettings old.core new.core
+  pub events : new.core.seen.events ≡ old.core.seen.events
+  pub longer : IsPrefix old.core.seen.history new.core.seen.history
+  pub shown : ForSome (front_of reply) (λ front. IsPrefix front.history new.core.seen.history)

@@ -1,0 +1,122 @@
+-- What comes of a call that begins, and of each reply.
+use Rattle.std.specs.Prelude.{◌≡◌, ◌≢◌, ◌⊎◌, ℕ, ◌<◌, [], Option, Some, None, IsNone, IsSome, Ok, Err}
+use Rattle.txc_stamp.specs.declared.stamp.TheConstants.{LAST_STAMP}
+use Rattle.txc_tags.specs.Keys.{Call}
+use Rattle.txc_rows.specs.declared.query.Query.{Query}
+use Rattle.txc_node.specs.declared.entry.Entry.{Entry}
+use Rattle.txc_node.specs.declared.hit.Shown.{Shown}
+use Rattle.txc_db.specs.declared.error.DbError.TheVariants.{Full}
+use Rattle.txc_pinset.specs.declared.choice.Choice.TheVariants.{Present}
+use Rattle.txc_pinset.specs.Members.{choice_of, kept}
+use Rattle.txc_shared.specs.Eval.{Next}
+use Rattle.txc_registry.specs.Objects.{Objects, activity_of}
+use Rattle.txc_call.specs.declared.error.CallError.TheVariants.{NoFunction}
+use Rattle.txc_call.specs.declared.need.Need.{Need}
+use Rattle.txc_call.specs.declared.need.Need.TheVariants as needs
+use Rattle.txc_call.specs.declared.need.Outcome.{Outcome}
+use Rattle.txc_call.specs.declared.reply.Reply.{Reply}
+use Rattle.txc_call.specs.declared.reply.Reply.TheVariants as replies
+use Rattle.txc_call.specs.Turns.{Turn as CallTurn, AfterReply}
+use Rattle.txc_ports.specs.declared.error.TxnError.{TxnError}
+use Rattle.txc_ports.specs.declared.error.TxnError.TheVariants as errors
+use Rattle.txc_ports.specs.declared.request.PortRequest.TheVariants as requests
+use Rattle.txc_ports.specs.declared.reply.PortReply.{PortReply}
+use Rattle.txc_ports.specs.declared.reply.PortReply.TheVariants as ports
+use Rattle.txc_ports.specs.declared.turn.Turn.{Turn}
+use Rattle.txc_ports.specs.declared.turn.Turn.TheVariants.{Ask, Value, Refused}
+use Rattle.txc_ports.specs.Refusals.{refused_call, refused_request, refused_pin}
+use Rattle.txc_txn.specs.declared.pinning.PinStep.TheVariants.{Dropping}
+use Rattle.txc_txn.specs.Core.{CoreValue, IsAsk, IsAt, first_call, least_present}
+
+-- ---- the call goes on
+
+-- the present is to be pinned, but its pin would have to be beyond the last stamp
+pub record IsBeyond (c : CoreValue) : Type 0 where
+  pub due : choice_of c.bounds.now c.renew_after c.pins ≡ Present
+  pub beyond : LAST_STAMP < least_present c.bounds c.pins.members
+
+-- out of memory, or no pin of the present can be had for a query
+abbrev pub IsWanting : Option Need → CoreValue → TxnError → Type 0
+IsWanting need c error = (error ≡ errors.Memory)
+    ⊎ ((query : Query) × (need ≡ Some (needs.Query query)) × IsBeyond c × (error ≡ errors.Database Full))
+
+-- what the core does once its call stands so: it asks for what the call needs, and the call stands so still;
+-- or the call's value is that of the turn
+abbrev pub NeedLeads : CoreValue → Objects → CoreValue → Objects → Turn → Type 0
+NeedLeads old objects new objects' (Ask request) = (new.call ≡ old.call) × (objects' ≡ objects)
+NeedLeads old objects new objects' (Value value) = (o : Outcome) × (old.call.need ≡ Some (needs.Value o))
+    × (value ≡ o.value)
+NeedLeads old objects new objects' (Refused error) = IsWanting old.call.need new error
+NeedLeads old objects new objects' turn = ⊥
+
+-- what the core does once its call stands so after a step of the machine, or was refused
+abbrev pub StandingLeads : CallTurn → CoreValue → Objects → Turn → Type 0
+StandingLeads (Ok standing) new objects (Ask request) =
+    (new.call.frames ≡ standing.frames) × (new.call.asked ≡ standing.asked) × (new.call.need ≡ standing.need)
+    × (objects ≡ standing.objects)
+StandingLeads (Ok standing) new objects (Value value) = (o : Outcome) × (standing.need ≡ Some (needs.Value o))
+    × (value ≡ o.value)
+StandingLeads (Ok standing) new objects (Refused error) = IsWanting standing.need new error
+StandingLeads (Ok standing) new objects turn = ⊥
+StandingLeads (Err error) new objects turn = turn ≡ Refused (refused_call error)
+
+-- what comes of a reply to this need of the call
+abbrev pub CallLeads : Next → CoreValue → Objects → Need → Reply → CoreValue → Objects → Turn → Type 0
+CallLeads next old objects need reply new objects' turn =
+    (stands : CallTurn) × AfterReply next old.call.frames old.call.asked objects need reply stands
+    × StandingLeads stands new objects' turn
+
+-- ---- a call begins
+
+-- it is refused where there is no such function, and nowhere else
+pub record BeginLeads (objects : Objects) (k : Call) (turn : Turn) : Type 0 where
+  pub there : IsSome (activity_of objects k.function) → IsAsk turn
+  pub absent : IsNone (activity_of objects k.function) → turn ≡ Refused (errors.Call (NoFunction k.function))
+
+-- what comes of the pin of the present: the call that waited for it begins, or the open one asks its query
+abbrev pub PinLeads : Option Call → Objects → Turn → Type 0
+PinLeads (Some k) objects turn = BeginLeads objects k turn
+PinLeads None objects turn = IsAsk turn
+
+-- ---- replies
+
+-- what a node has counts where a member lies in its reach; anything else is a miss
+pub record HitLeads (next : Next) (old : CoreValue) (objects : Objects) (k : Call) (hit : Shown)
+    (new : CoreValue) (objects' : Objects) (turn : Turn) : Type 0 where
+  pub held : kept hit.reach old.pins.members ≢ []
+      → CallLeads next old objects (needs.Lookup k) (replies.Hit hit) new objects' turn
+  pub none : kept hit.reach old.pins.members ≡ []
+      → CallLeads next old objects (needs.Lookup k) replies.Miss new objects' turn
+
+-- What comes of a reply. A pin is to be added, and one that is not added has its hold taken away, after which
+-- the call is refused for the reason; what a node or the database has goes to the call; and what the database
+-- refuses, the call is refused for.
+abbrev pub ReplyLeads : Next → CoreValue → Objects → PortReply → CoreValue → Objects → Turn → Type 0
+ReplyLeads next old objects (ports.Pin (Ok pinned)) new objects' turn = turn ≡ Ask (requests.AddPin pinned)
+ReplyLeads next old objects (ports.Pin (Err error)) new objects' turn = turn ≡ Refused (refused_request error)
+ReplyLeads next old objects (ports.AddPin pinned (Ok added)) new objects' turn =
+    PinLeads (first_call old.pinning) objects turn
+ReplyLeads next old objects (ports.AddPin pinned (Err error)) new objects' turn =
+    (turn ≡ Ask (requests.Unpin pinned.stamp)) × IsAt new (Dropping pinned.stamp (refused_pin error))
+ReplyLeads next old objects ports.Unpin new objects' turn =
+    (stamp : ℕ) (error : TxnError) → IsAt old (Dropping stamp error) → turn ≡ Refused error
+ReplyLeads next old objects (ports.Lookup None) new objects' turn =
+    (k : Call) → old.call.need ≡ Some (needs.Lookup k)
+    → CallLeads next old objects (needs.Lookup k) replies.Miss new objects' turn
+ReplyLeads next old objects (ports.Lookup (Some hit)) new objects' turn =
+    (k : Call) → old.call.need ≡ Some (needs.Lookup k)
+    → HitLeads next old objects k hit.answer new objects' turn
+ReplyLeads next old objects (ports.Query (Ok found)) new objects' turn =
+    (query : Query) → old.call.need ≡ Some (needs.Query query)
+    → CallLeads next old objects (needs.Query query) (replies.Found found.answer) new objects' turn
+ReplyLeads next old objects (ports.Query (Err error)) new objects' turn = turn
+    ≡ Refused (refused_request error)
+ReplyLeads next old objects ports.Insert new objects' turn =
+    (entry : Entry) → old.call.need ≡ Some (needs.Insert entry)
+    → CallLeads next old objects (needs.Insert entry) replies.Inserted new objects' turn
+ReplyLeads next old objects reply new objects' turn = ⊥
+
+-- what comes of a call that is to begin: where there is no member, a pin of the present is asked for first
+pub record StartLeads (c : CoreValue) (objects : Objects) (k : Call) (turn : Turn) : Type 0 where
+  pub pins : c.pins.members ≡ [] → IsAsk turn
+  pub begins : c.pins.members ≢ [] → BeginLeads objects k turn

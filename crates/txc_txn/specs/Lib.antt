@@ -1,0 +1,6 @@
+pub mod Meaning
+pub mod Laws
+pub mod Core
+pub mod Leading
+pub mod Kept
+pub mod Worked

@@ -1,0 +1,268 @@
+//! What a core makes of each reply.
+ghost use Rattle.std.specs.Prelude.{◌≡◌, None, Ok, Some};
+ghost use Rattle.std.specs.Option.{ForSome};
+ghost use mathlib.Core.List.{IsPrefix};
+ghost use Rattle.txc_db.specs.History.{History};
+ghost use Rattle.txc_ports.specs.Fronts.{front_of};
+
+use crate::pinning::{PinStep, Pinning};
+use crate::txn_core::TxnCore;
+use std::alloc::Global;
+use std::mem;
+use txc_call::Reply;
+use txc_cushion::{AddError, pin_of};
+use txc_db::{Answered, DbError, Pinned};
+use txc_node::Shown;
+use txc_ports::{PortReply, PortRequest, Turn, TxnError};
+use txc_registry::{Cacheable, Registry};
+use txc_shared::App;
+use txc_validity::Found;
+
+impl TxnCore {
+    ghost use Rattle.txc_txn.specs.Core.{open_call, recorded_after, taken_after, value_of, CoreHolds};
+    ghost use Rattle.txc_txn.specs.Core.{IsAnswered, IsAsk, IsCore, IsRight, IsTurn, PinsAfter};
+    ghost use Rattle.txc_txn.specs.Leading.{ReplyLeads};
+
+    // Sees what the reply shows of the history.
+    pub(crate) fn see(&mut self, reply: &PortReply)
+        requires { ForSome (front_of reply.now) (λ front. front.events ≡ self.old.seen.events) }
+        ensures events { self.new.seen.events ≡ self.old.seen.events }
+        ensures longer { IsPrefix self.old.seen.history self.new.seen.history }
+        ensures shown { ForSome (front_of reply.now) (λ front. IsPrefix front.history self.new.seen.history) }
+        ensures same { value_of self.new ≡ record (value_of self.old) { seen = self.new.seen } }
+    {
+        if let Some(front) = reply.front() {
+            self.seen.longer(front);
+        }
+    }
+
+    // The present was pinned, or was not.
+    pub(crate) fn answer_pin<A: App, C: Cacheable>(
+        &mut self,
+        registry: &mut Registry<A, C>,
+        pinned: Result<Pinned, DbError>,
+    ) -> Turn
+        requires fits { IsCore A.next registry.old (value_of self.old) }
+        requires reply { IsAnswered (value_of self.old) (PortReply.Pin pinned) }
+        ensures fits { IsCore A.next registry.new (value_of self.new) }
+        ensures holds { (L : History) → IsRight A.next L self.old.machine.need (PortReply.Pin pinned)
+            → CoreHolds A.next L registry.old (value_of self.old)
+            → CoreHolds A.next L registry.new (value_of self.new) }
+        ensures turn { IsTurn (value_of self.new) result }
+        ensures recorded { self.old.recorded.items
+            ≡ recorded_after self.old.recorded.items result (open_call (value_of self.old)) }
+        ensures goes_on { IsAsk result → open_call (value_of self.new) ≡ open_call (value_of self.old) }
+        ensures leads { ReplyLeads A.next (value_of self.old) registry.old (PortReply.Pin pinned)
+            (value_of self.new) registry.new result }
+        ensures same { value_of self.new
+            ≡ record (value_of self.old) { call = self.new.machine; pinning = self.new.pinning } }
+    {
+        let pinned = match pinned {
+            Ok(pinned) => pinned,
+            Err(error) => return self.give_up(registry, error.into()),
+        };
+        let Some(Pinning { step: _, first }) = mem::replace(&mut self.pinning, None) else {
+            unreachable!()
+        };
+        self.pinning = Some(Pinning {
+            step: PinStep::Adding(pin_of(&pinned)),
+            first,
+        });
+        Turn::Ask(PortRequest::AddPin(pinned))
+    }
+
+    // The pin was added, or was not.
+    pub(crate) fn answer_add<A: App, C: Cacheable>(
+        &mut self,
+        alloc: Global,
+        registry: &mut Registry<A, C>,
+        pinned: &Pinned,
+        added: Result<(), AddError>,
+    ) -> Turn
+        requires fits { IsCore A.next registry.old (value_of self.old) }
+        requires reply { IsAnswered (value_of self.old) (PortReply.AddPin pinned.now added) }
+        ensures fits { IsCore A.next registry.new (value_of self.new) }
+        ensures holds { (L : History) → CoreHolds A.next L registry.old (value_of self.old)
+            → CoreHolds A.next L registry.new (value_of self.new) }
+        ensures turn { IsTurn (value_of self.new) result }
+        ensures pins { PinsAfter (value_of self.old) (PortReply.AddPin pinned.now added) self.new.pins }
+        ensures taken { self.new.taken.items
+            ≡ taken_after self.old.taken.items (PortReply.AddPin pinned.now added) }
+        ensures recorded { self.new.recorded.items
+            ≡ recorded_after self.old.recorded.items result (open_call (value_of self.old)) }
+        ensures goes_on { IsAsk result → open_call (value_of self.new) ≡ open_call (value_of self.old) }
+        ensures leads { ReplyLeads A.next (value_of self.old) registry.old (PortReply.AddPin pinned.now added)
+            (value_of self.new) registry.new result }
+        ensures same { value_of self.new ≡ record (value_of self.old) {
+          pins = self.new.pins;
+          taken = self.new.taken.items;
+          recorded = self.new.recorded.items;
+          call = self.new.machine;
+          pinning = self.new.pinning;
+        } }
+    {
+        let Some(Pinning { step: _, first }) = mem::replace(&mut self.pinning, None) else {
+            unreachable!()
+        };
+        if let Err(error) = added {
+            self.pinning = Some(Pinning {
+                step: PinStep::Dropping(pinned.stamp, error.into()),
+                first,
+            });
+            return Turn::Ask(PortRequest::Unpin(pinned.stamp));
+        }
+        self.join_pin(pinned);
+        match first {
+            Some(key) => self.start_call(alloc, registry, key),
+            None => self.request(alloc, registry),
+        }
+    }
+
+    // The hold of a pin that was not added is gone: the call is refused for the reason.
+    pub(crate) fn answer_unpin<A: App, C: Cacheable>(
+        &mut self,
+        registry: &mut Registry<A, C>,
+    ) -> Turn
+        requires fits { IsCore A.next registry.old (value_of self.old) }
+        requires reply { IsAnswered (value_of self.old) PortReply.Unpin }
+        ensures fits { IsCore A.next registry.new (value_of self.new) }
+        ensures holds { (L : History) → CoreHolds A.next L registry.old (value_of self.old)
+            → CoreHolds A.next L registry.new (value_of self.new) }
+        ensures turn { IsTurn (value_of self.new) result }
+        ensures recorded { self.old.recorded.items
+            ≡ recorded_after self.old.recorded.items result (open_call (value_of self.old)) }
+        ensures ended { ¬ (IsAsk result) }
+        ensures leads { ReplyLeads A.next (value_of self.old) registry.old PortReply.Unpin
+            (value_of self.new) registry.new result }
+        ensures same { value_of self.new
+            ≡ record (value_of self.old) { call = self.new.machine; pinning = None } }
+    {
+        let Some(
+            Pinning {
+                step: PinStep::Dropping(_, error),
+                first: _,
+            },
+        ) = &self.pinning
+        else {
+            unreachable!()
+        };
+        let error = *error;
+        self.give_up(registry, error)
+    }
+
+    // A node has the call, or has not. What it has counts only where a member lies in its reach.
+    pub(crate) fn answer_lookup<A: App, C: Cacheable>(
+        &mut self,
+        alloc: Global,
+        registry: &mut Registry<A, C>,
+        hit: Option<Answered<Shown>>,
+    ) -> Turn
+        requires fits { IsCore A.next registry.old (value_of self.old) }
+        requires reply { IsAnswered (value_of self.old) (PortReply.Lookup hit) }
+        ensures fits { IsCore A.next registry.new (value_of self.new) }
+        ensures holds { (L : History) → IsRight A.next L self.old.machine.need (PortReply.Lookup hit)
+            → CoreHolds A.next L registry.old (value_of self.old)
+            → CoreHolds A.next L registry.new (value_of self.new) }
+        ensures turn { IsTurn (value_of self.new) result }
+        ensures pins { PinsAfter (value_of self.old) (PortReply.Lookup hit) self.new.pins }
+        ensures recorded { self.new.recorded.items
+            ≡ recorded_after self.old.recorded.items result (open_call (value_of self.old)) }
+        ensures goes_on { IsAsk result → open_call (value_of self.new) ≡ open_call (value_of self.old) }
+        ensures leads { ReplyLeads A.next (value_of self.old) registry.old (PortReply.Lookup hit)
+            (value_of self.new) registry.new result }
+        ensures same { value_of self.new ≡ record (value_of self.old) {
+          pins = self.new.pins;
+          recorded = self.new.recorded.items;
+          call = self.new.machine;
+          pinning = self.new.pinning;
+        } }
+    {
+        let Some(hit) = hit else {
+            return self.go_on(alloc, registry, Reply::Miss);
+        };
+        let Answered { answer, front: _ } = hit;
+        match self.narrow(answer.reach) {
+            Ok(()) => self.go_on(alloc, registry, Reply::Hit(answer)),
+            Err(_) => self.go_on(alloc, registry, Reply::Miss),
+        }
+    }
+
+    // The database found what was asked for at the newest member, or refused.
+    pub(crate) fn answer_query<A: App, C: Cacheable>(
+        &mut self,
+        alloc: Global,
+        registry: &mut Registry<A, C>,
+        found: Result<Answered<Found>, DbError>,
+    ) -> Turn
+        requires fits { IsCore A.next registry.old (value_of self.old) }
+        requires reply { IsAnswered (value_of self.old) (PortReply.Query found) }
+        ensures fits { IsCore A.next registry.new (value_of self.new) }
+        ensures holds { (L : History) → IsRight A.next L self.old.machine.need (PortReply.Query found)
+            → CoreHolds A.next L registry.old (value_of self.old)
+            → CoreHolds A.next L registry.new (value_of self.new) }
+        ensures turn { IsTurn (value_of self.new) result }
+        ensures pins { PinsAfter (value_of self.old) (PortReply.Query found) self.new.pins }
+        ensures recorded { self.new.recorded.items
+            ≡ recorded_after self.old.recorded.items result (open_call (value_of self.old)) }
+        ensures goes_on { IsAsk result → open_call (value_of self.new) ≡ open_call (value_of self.old) }
+        ensures leads { ReplyLeads A.next (value_of self.old) registry.old (PortReply.Query found)
+            (value_of self.new) registry.new result }
+        ensures same { value_of self.new ≡ record (value_of self.old) {
+          pins = self.new.pins;
+          recorded = self.new.recorded.items;
+          call = self.new.machine;
+          pinning = self.new.pinning;
+        } }
+    {
+        let found = match found {
+            Ok(found) => found,
+            Err(error) => return self.give_up(registry, error.into()),
+        };
+        let Answered { answer, front: _ } = found;
+        let Ok(()) = self.narrow(answer.reach) else {
+            unreachable!()
+        };
+        self.go_on(alloc, registry, Reply::Found(answer))
+    }
+
+    // Goes on with a reply.
+    pub(crate) fn answer<A: App, C: Cacheable>(
+        &mut self,
+        alloc: Global,
+        registry: &mut Registry<A, C>,
+        reply: PortReply,
+    ) -> Turn
+        requires fits { IsCore A.next registry.old (value_of self.old) }
+        requires reply { IsAnswered (value_of self.old) reply }
+        ensures fits { IsCore A.next registry.new (value_of self.new) }
+        ensures holds { (L : History) → IsRight A.next L self.old.machine.need reply
+            → CoreHolds A.next L registry.old (value_of self.old)
+            → CoreHolds A.next L registry.new (value_of self.new) }
+        ensures turn { IsTurn (value_of self.new) result }
+        ensures pins { PinsAfter (value_of self.old) reply self.new.pins }
+        ensures taken { self.new.taken.items ≡ taken_after self.old.taken.items reply }
+        ensures recorded { self.new.recorded.items
+            ≡ recorded_after self.old.recorded.items result (open_call (value_of self.old)) }
+        ensures goes_on { IsAsk result → open_call (value_of self.new) ≡ open_call (value_of self.old) }
+        ensures leads { ReplyLeads A.next (value_of self.old) registry.old reply
+            (value_of self.new) registry.new result }
+        ensures same { value_of self.new ≡ record (value_of self.old) {
+          pins = self.new.pins;
+          taken = self.new.taken.items;
+          recorded = self.new.recorded.items;
+          call = self.new.machine;
+          pinning = self.new.pinning;
+        } }
+    {
+        match reply {
+            PortReply::Pin(pinned) => self.answer_pin(registry, pinned),
+            PortReply::AddPin(pinned, added) => self.answer_add(alloc, registry, &pinned, added),
+            PortReply::Unpin => self.answer_unpin(registry),
+            PortReply::Lookup(hit) => self.answer_lookup(alloc, registry, hit),
+            PortReply::Query(found) => self.answer_query(alloc, registry, found),
+            PortReply::Insert => self.go_on(alloc, registry, Reply::Inserted),
+            PortReply::Fresh(_) | PortReply::GiveBack | PortReply::Hold(_) | PortReply::Commit(_) =>
+                unreachable!(),
+        }
+    }
+}

@@ -1,0 +1,53 @@
+//! What the meaning of a pin set comes to. Each is a lemma: it has no code.
+ghost use Rattle.txc_txn.specs.Laws.{MeaningStays, MeaningBegins, FindingNarrows, QueryLeavesAMember};
+ghost use Rattle.txc_txn.specs.Laws.{PresentJoins, PresentIsFresh, FewerMembersMeanTheSame, CallBegins};
+ghost use Rattle.txc_txn.specs.Laws.{CallIsGivenUp, ValueIsRecorded, OpenAnswersAreRight};
+ghost use Rattle.txc_txn.specs.Laws.{UnreachedAnswersAreValues, NewestExplains};
+ghost use Rattle.txc_txn.specs.Worked.{WorkedMeanings};
+
+use txc_db::states_stay;
+use txc_pinset::laws::{a_pin_set_is_never_empty, narrowing_keeps_exactly_the_held};
+
+/// What a pin set means in a history, it means in a longer one.
+pub fn meaning_stays()
+    ensures { MeaningStays }
+{
+    states_stay();
+}
+
+/// A transaction begins with what it means, and keeps it while calls begin and are given up.
+pub fn meaning_begins()
+    ensures begins { MeaningBegins }
+    ensures call { CallBegins }
+    ensures given_up { CallIsGivenUp }
+{}
+
+/// What a call is given narrows the pin set by its reach, and what a query is answered leaves a member.
+pub fn findings_narrow()
+    ensures narrows { FindingNarrows }
+    ensures query { QueryLeavesAMember }
+{
+    narrowing_keeps_exactly_the_held();
+}
+
+/// The present's pin may join, and members may be taken away.
+pub fn members_come_and_go()
+    ensures joins { PresentJoins }
+    ensures fresh { PresentIsFresh }
+    ensures fewer { FewerMembersMeanTheSame }
+{
+    a_pin_set_is_never_empty();
+}
+
+/// The value of a call is recorded, and the newest member explains all that was.
+pub fn answers_are_explained()
+    ensures recorded { ValueIsRecorded }
+    ensures frames { OpenAnswersAreRight }
+    ensures values { UnreachedAnswersAreValues }
+    ensures newest { NewestExplains }
+{}
+
+/// Which pin sets mean what they say, in a history that was worked by hand.
+pub fn worked_meanings()
+    ensures { WorkedMeanings }
+{}

@@ -1,0 +1,16 @@
+//! Read-only transactions, as a core that asks for one port request at a time.
+#![tactic(auto)]
+
+mod answers;
+pub mod laws;
+mod pinning;
+mod receipt;
+mod running_txn;
+mod steps;
+mod turns;
+mod txn_core;
+
+pub use pinning::{PinStep, Pinning};
+pub use receipt::{Left, Receipt};
+pub use running_txn::RunningTxn;
+pub use txn_core::TxnCore;

@@ -1,0 +1,116 @@
+//! A core with the registry of its functions, which keeps what its pin set means.
+ghost use Rattle.std.specs.Prelude.{◌≡◌, ◌≢◌, []};
+ghost use Rattle.std.specs.Option.{ForSome};
+ghost use Rattle.txc_registry.specs.Objects.{AllIdle};
+ghost use Rattle.txc_ports.specs.Fronts.{front_of};
+
+use crate::receipt::{Left, Receipt};
+use crate::txn_core::TxnCore;
+use std::alloc::Global;
+use std::marker::Model;
+use txc_db::states_stay;
+use txc_ports::{PortReply, Turn};
+use txc_registry::{Cacheable, Registry};
+use txc_shared::App;
+use txc_stamp::Stamp;
+use txc_tags::Key;
+
+/// A read-only transaction with the registry of its functions. In the history that it has seen, its pin set
+/// means what it says.
+#[derive(Drop)]
+pub struct RunningTxn<A: App, C: Cacheable> {
+    core: TxnCore,
+    registry: Registry<A, C>,
+}
+
+impl<A: App, C: Cacheable> Model for RunningTxn<A, C> {
+    ghost use Rattle.txc_txn.specs.Core.{value_of};
+    ghost use Rattle.txc_txn.specs.Kept.{TxnValue, IsKept};
+
+    ghost Value = { TxnValue };
+
+    ghost view = { λ t. record { core = value_of t.core; objects = t.registry } };
+
+    ghost invariant = { λ t. IsKept A.next (record { core = value_of t.core; objects = t.registry }) };
+}
+
+impl<A: App, C: Cacheable> RunningTxn<A, C> {
+    ghost use Rattle.txc_txn.specs.Core.{left_pin, open_call, receipt_pin, value_of, Explains, IsAnswered};
+    ghost use Rattle.txc_txn.specs.Core.{IsAsk, IsIdle, IsNoValue, IsTurn};
+    ghost use Rattle.txc_txn.specs.Kept.{HasGoneOn, IsKept, IsShownRight};
+    ghost use Rattle.txc_txn.specs.Leading.{StartLeads};
+
+    /// The core with its registry, where its pin set means what it says in the history that it has seen.
+    pub fn new(core: TxnCore, registry: Registry<A, C>) -> RunningTxn<A, C>
+        requires { IsKept A.next (record { core = value_of core; objects = registry }) }
+        ensures { result ≡ record { core = value_of core; objects = registry } }
+    {
+        RunningTxn { core, registry }
+    }
+
+    /// The core.
+    pub fn core(&self) -> &TxnCore
+        ensures { value_of result.now ≡ self.now.core }
+    {
+        &self.core
+    }
+
+    /// What holds of every such transaction. It does nothing when it runs.
+    pub fn is_kept(&self)
+        ensures { IsKept A.next self.now }
+    {
+        let _core = &self.core;
+    }
+
+    /// Begins a call.
+    pub fn start(&mut self, alloc: Global, key: Key) -> Turn
+        requires { IsIdle self.old.core }
+        ensures turn { IsTurn self.new.core result }
+        ensures begins { IsAsk result → open_call self.new.core ≡ Some key }
+        ensures no_value { IsNoValue result }
+        ensures leads { StartLeads self.old.core self.old.objects key result }
+        ensures same { self.new.core
+            ≡ record self.old.core { call = self.new.core.call; pinning = self.new.core.pinning } }
+    {
+        self.core.start(alloc, &mut self.registry, key)
+    }
+
+    /// Goes on with the reply to what it asked, which is right in the history that it shows.
+    pub fn next(&mut self, alloc: Global, reply: PortReply) -> Turn
+        requires reply { IsAnswered self.old.core reply }
+        requires row { ForSome (front_of reply) (λ front. front.events ≡ self.old.core.seen.events) }
+        requires right { IsShownRight A.next self.old reply }
+        ensures { HasGoneOn A.next self.old reply self.new result }
+    {
+        states_stay();
+        self.core.next(alloc, &mut self.registry, reply)
+    }
+
+    /// Ends the transaction, and returns what explains its answers, the pins to be given back, by their
+    /// stamps, and the registry. It takes no memory.
+    pub fn finish(self) -> (Receipt, Vec<Stamp>, Registry<A, C>)
+        requires { IsIdle self.core }
+        ensures answers { result.0.answers.items ≡ self.core.recorded }
+        ensures pin { result.0.pin ≡ receipt_pin self.core.recorded self.core.pins.members }
+        ensures explained { Explains A.next result.0.seen.history self.core.bounds result.0.pin
+            result.0.answers.items }
+        ensures seen { result.0.seen ≡ self.core.seen }
+        ensures give_back { result.1.items ≡ self.core.taken }
+        ensures idle { AllIdle result.2 }
+    {
+        let (receipt, give_back) = self.core.finish();
+        (receipt, give_back, self.registry)
+    }
+
+    /// Gives the transaction up, in the middle of a call too, and returns what is left to be done, and the
+    /// registry. It takes no memory.
+    pub fn cancel(self) -> (Left, Registry<A, C>)
+        ensures give_back { result.0.give_back.items ≡ self.core.taken }
+        ensures unpin { result.0.unpin ≡ left_pin self.core.pinning }
+        ensures idle { AllIdle result.1 }
+    {
+        let mut registry = self.registry;
+        let left = self.core.cancel(&mut registry);
+        (left, registry)
+    }
+}

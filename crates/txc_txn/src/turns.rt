@@ -1,0 +1,221 @@
+//! What a core does: it begins, answers calls, and ends.
+ghost use Rattle.std.specs.Prelude.{◌≡◌, ◌≢◌, ◌≤◌, [], All, IfErr, IfOk, Some, map, vec_len, vec_capacity, ◌<◌};
+ghost use Rattle.std.specs.Option.{ForSome};
+ghost use mathlib.Core.List.{IsPrefix};
+ghost use Rattle.txc_db.specs.History.{History};
+ghost use Rattle.txc_shared.specs.Eval.{Next};
+ghost use Rattle.txc_registry.specs.Objects.{AllIdle, Objects};
+ghost use Rattle.txc_ports.specs.Answers.{IsFresh};
+ghost use Rattle.txc_ports.specs.Fronts.{front_of};
+ghost use Rattle.txc_txn.specs.Core.{receipt_pin};
+
+use crate::receipt::{Left, Receipt};
+use crate::txn_core::TxnCore;
+use std::alloc::{AllocError, Global};
+use txc_call::CallMachine;
+use txc_cushion::{Pin, Pins};
+use txc_db::{HistoryFront, states_stay};
+use txc_pinset::PinSet;
+use txc_ports::{Bounds, PortReply, Recorded, Turn};
+use txc_registry::{Cacheable, Registry};
+use txc_shared::App;
+use txc_stamp::Stamp;
+use txc_tags::Key;
+
+// The stamps of the pins, with room for one more.
+fn stamps_of(alloc: Global, pins: &[Pin]) -> Result<Vec<Stamp>, AllocError>
+    ensures stamps { IfOk result (λ stamps. stamps.items ≡ map (λ p. p.stamp) pins.now) }
+    ensures room { IfOk result (λ stamps. vec_len stamps < vec_capacity stamps) }
+{
+    let mut stamps: Vec<Stamp> = pins.iter().map(|pin| pin.stamp).collect(alloc)?;
+    stamps.reserve(1)?;
+    Ok(stamps)
+}
+
+// The newest member, where a call was answered.
+fn receipt_pin(recorded: &[Recorded], members: &[Pin]) -> Option<Pin>
+    ensures { result ≡ receipt_pin recorded.now members.now }
+{
+    if recorded.is_empty() {
+        return None;
+    }
+    members.first().copied()
+}
+
+impl TxnCore {
+    ghost use Rattle.txc_txn.specs.Core.{begun_core, left_pin, open_call, recorded_after, taken_after};
+    ghost use Rattle.txc_txn.specs.Core.{value_of, CoreHolds, Explains, IsAnswered, IsAsk, IsCore, IsIdle};
+    ghost use Rattle.txc_txn.specs.Core.{IsNoValue, IsRight, IsTurn, KeepsSettings, PinsAfter};
+    ghost use Rattle.txc_txn.specs.Leading.{ReplyLeads, StartLeads};
+
+    /// Begins with the pins that it was handed for its bounds. Its calls are kept by one of so many nodes,
+    /// and its newest pin is renewed where its moment is more than `renew_after` milliseconds before the
+    /// bounds' `now`. Out of memory, it hands the pins back, each of which is still to be given back to the
+    /// pincushion.
+    pub fn begin(
+        alloc: Global,
+        nodes: usize,
+        renew_after: u64,
+        bounds: Bounds,
+        pins: Pins,
+    ) -> Result<TxnCore, Pins>
+        requires { 1 ≤ nodes }
+        ensures fits { IfOk result (λ core. (next : Next) (objects : Objects) → AllIdle objects
+            → IsCore next objects (value_of core)) }
+        ensures holds { IfOk result (λ core. (next : Next) (L : History) (objects : Objects)
+            → All (IsFresh L bounds) pins.pins.items → CoreHolds next L objects (value_of core)) }
+        ensures idle { IfOk result (λ core. IsIdle (value_of core)) }
+        ensures answer { IfOk result (λ core. value_of core
+            ≡ begun_core nodes renew_after bounds pins (value_of core).call) }
+        ensures handed_back { IfErr result (λ given. given ≡ pins) }
+    {
+        let Ok(set) = PinSet::begin(alloc, &pins) else {
+            return Err(pins);
+        };
+        let Ok(taken) = stamps_of(alloc, &pins.pins) else {
+            return Err(pins);
+        };
+        let Pins { pins: _, front, .. } = pins;
+        Ok(TxnCore {
+            bounds,
+            renew_after,
+            nodes,
+            pins: set,
+            taken,
+            recorded: Vec::new(alloc),
+            machine: CallMachine::new(alloc),
+            pinning: None,
+            seen: front,
+        })
+    }
+
+    /// Begins a call. Where there is no member, the present is pinned first.
+    pub fn start<A: App, C: Cacheable>(
+        &mut self,
+        alloc: Global,
+        registry: &mut Registry<A, C>,
+        key: Key,
+    ) -> Turn
+        requires fits { IsCore A.next registry.old (value_of self.old) }
+        requires idle { IsIdle (value_of self.old) }
+        ensures fits { IsCore A.next registry.new (value_of self.new) }
+        ensures holds { (L : History) → CoreHolds A.next L registry.old (value_of self.old)
+            → CoreHolds A.next L registry.new (value_of self.new) }
+        ensures turn { IsTurn (value_of self.new) result }
+        ensures begins { IsAsk result → open_call (value_of self.new) ≡ Some key }
+        ensures no_value { IsNoValue result }
+        ensures leads { StartLeads (value_of self.old) registry.old key result }
+        ensures same { value_of self.new ≡ record (value_of self.old) {
+          call = (value_of self.new).call;
+          pinning = (value_of self.new).pinning;
+        } }
+    {
+        if self.pins.members().is_empty() {
+            return self.ask_pin(registry, Some(key));
+        }
+        self.start_call(alloc, registry, key)
+    }
+
+    /// Goes on with the reply to what it asked.
+    pub fn next<A: App, C: Cacheable>(
+        &mut self,
+        alloc: Global,
+        registry: &mut Registry<A, C>,
+        reply: PortReply,
+    ) -> Turn
+        requires fits { IsCore A.next registry.old (value_of self.old) }
+        requires reply { IsAnswered (value_of self.old) reply }
+        requires row { ForSome (front_of reply) (λ front. front.events ≡ (value_of self.old).seen.events) }
+        ensures fits { IsCore A.next registry.new (value_of self.new) }
+        ensures holds { (L M : History) → IsPrefix L M → CoreHolds A.next L registry.old (value_of self.old)
+            → IsRight A.next M (value_of self.old).call.need reply
+            → CoreHolds A.next M registry.new (value_of self.new) }
+        ensures turn { IsTurn (value_of self.new) result }
+        ensures pins { PinsAfter (value_of self.old) reply (value_of self.new).pins }
+        ensures taken { (value_of self.new).taken ≡ taken_after (value_of self.old).taken reply }
+        ensures recorded { (value_of self.new).recorded
+            ≡ recorded_after (value_of self.old).recorded result (open_call (value_of self.old)) }
+        ensures goes_on { IsAsk result → open_call (value_of self.new) ≡ open_call (value_of self.old) }
+        ensures leads { ReplyLeads A.next (value_of self.old) registry.old reply
+            (value_of self.new) registry.new result }
+        ensures settings { KeepsSettings (value_of self.old) (value_of self.new) }
+        ensures events { (value_of self.new).seen.events ≡ (value_of self.old).seen.events }
+        ensures longer { IsPrefix (value_of self.old).seen.history (value_of self.new).seen.history }
+        ensures shown { ForSome (front_of reply)
+            (λ front. IsPrefix front.history (value_of self.new).seen.history) }
+    {
+        states_stay();
+        self.see(&reply);
+        self.answer(alloc, registry, reply)
+    }
+
+    /// Ends the transaction, and returns what explains its answers, and the pins to be given back, by their
+    /// stamps. It takes no memory.
+    pub fn finish(self) -> (Receipt, Vec<Stamp>)
+        requires idle { IsIdle (value_of self) }
+        requires answered { (value_of self).recorded ≢ [] → (value_of self).pins.members ≢ [] }
+        ensures answers { result.0.answers.items ≡ (value_of self).recorded }
+        ensures pin { result.0.pin ≡ receipt_pin (value_of self).recorded (value_of self).pins.members }
+        ensures explained { (next : Next) (L : History) (objects : Objects)
+            → CoreHolds next L objects (value_of self)
+            → Explains next L (value_of self).bounds result.0.pin result.0.answers.items }
+        ensures seen { result.0.seen ≡ (value_of self).seen }
+        ensures give_back { result.1.items ≡ (value_of self).taken }
+    {
+        let pin = receipt_pin(&self.recorded, self.pins.members());
+        let receipt = Receipt {
+            pin,
+            answers: self.recorded,
+            seen: self.seen,
+        };
+        (receipt, self.taken)
+    }
+
+    /// Gives the transaction up, in the middle of a call too, and returns what is left to be done. Every
+    /// object is idle then. It takes no memory.
+    pub fn cancel<A: App, C: Cacheable>(self, registry: &mut Registry<A, C>) -> Left
+        requires { IsCore A.next registry.old (value_of self) }
+        ensures idle { AllIdle registry.new }
+        ensures give_back { result.give_back.items ≡ (value_of self).taken }
+        ensures unpin { result.unpin ≡ left_pin (value_of self).pinning }
+    {
+        let unpin = match &self.pinning {
+            Some(pinning) => pinning.left(),
+            None => None,
+        };
+        let mut machine = self.machine;
+        machine.cancel(registry);
+        Left {
+            give_back: self.taken,
+            unpin,
+        }
+    }
+
+    /// The members of the pin set, the newest first.
+    pub fn members(&self) -> &[Pin]
+        ensures { result.now ≡ (value_of self.now).pins.members }
+    {
+        self.pins.members()
+    }
+
+    /// Whether the present is there.
+    pub fn has_present(&self) -> bool
+        ensures { result ≡ (value_of self.now).pins.has_present }
+    {
+        self.pins.has_present()
+    }
+
+    /// The calls that were answered, in order.
+    pub fn answers(&self) -> &[Recorded]
+        ensures { result.now ≡ (value_of self.now).recorded }
+    {
+        &self.recorded
+    }
+
+    /// What it has seen of the history.
+    pub fn seen(&self) -> &HistoryFront
+        ensures { result.now ≡ (value_of self.now).seen }
+    {
+        &self.seen
+    }
+}
