@@ -1,5 +1,5 @@
 -- How often a call that uses no node may still ask.
-use Rattle.std.proofs.Common.{◌≡◌, ⊎_elim, ℕ, suc, ◌-◌, ◌<◌, ◌≤◌, Option, Some, None, refl, sym, subst, arith}
+use Rattle.std.proofs.Common.{◌≡◌, ⊎_elim, ℕ, suc, ◌-◌, ◌<◌, ◌≤◌, Option, Some, None, refl, sym, subst, arith, inl, inr}
 use Rattle.txc_call.specs.declared.frames.TheConstants.{MAX_CALL_ASKS}
 use Rattle.txc_call.specs.declared.need.Need.{Need}
 use Rattle.txc_call.specs.declared.need.Need.TheVariants as needs
@@ -8,6 +8,8 @@ use Rattle.txc_call.specs.declared.reply.Reply.{Reply}
 use Rattle.txc_call.specs.declared.reply.Reply.TheVariants as replies
 use Rattle.txc_call.specs.Needs.{ReplyFits}
 use Rattle.txc_call.specs.Calling.{Calling, GoesOn}
+use Rattle.txc_rows.specs.declared.query.Query.{Query}
+use Rattle.txc_rw.specs.Core.{HasCounted, IsDone}
 
 -- none where the call is done; else one more than it may still ask
 abbrev pub left : Option Need → ℕ → ℕ
@@ -45,3 +47,50 @@ less old need reply asked c is fits on most =
     omega (arith, was, none))
     (λ (more : asked < c.asked). let at_most = left_most c.need c.asked in omega (arith, was, more, most, at_most))
     on
+
+pub counted_first : (c : Calling) → HasCounted c c
+counted_first c = go c.need refl
+  where
+    go : (need : Option Need) → c.need ≡ need → HasCounted c c
+    go None is = inr (λ done. subst (λ (n : Option Need). IsDone n) is done, omega arith)
+    go (Some (needs.Lookup k)) is = inr (λ done. subst (λ (n : Option Need). IsDone n) is done, omega arith)
+    go (Some (needs.Query q)) is = inr (λ done. subst (λ (n : Option Need). IsDone n) is done, omega arith)
+    go (Some (needs.Insert e)) is = inr (λ done. subst (λ (n : Option Need). IsDone n) is done, omega arith)
+    go (Some (needs.Value o)) is = inl (subst (λ (n : Option Need). IsDone n) (sym is) tt)
+
+-- a need that has a reply is no value
+undone : (need : Need) (reply : Reply) → ReplyFits need reply → ¬ (IsDone (Some need))
+undone (needs.Lookup k) reply fits done = done
+undone (needs.Query q) reply fits done = done
+undone (needs.Insert e) reply fits done = done
+undone (needs.Value o) replies.Miss fits done = fits
+undone (needs.Value o) (replies.Hit hit) fits done = fits
+undone (needs.Value o) (replies.Found found) fits done = fits
+undone (needs.Value o) replies.Inserted fits done = fits
+
+-- each reply is counted
+pub counted_next : (first old new : Calling) (need : Need) (reply : Reply) → old.need ≡ Some need → ReplyFits need reply → GoesOn old.asked new
+    → HasCounted first old → HasCounted first new
+counted_next first old new need reply is fits on h =
+    let open_call : ¬ (IsDone old.need) = λ done. undone need reply fits (subst (λ (n : Option Need). IsDone n) is done) in
+    ⊎_elim
+    (λ (done : (o : Outcome) × (new.need ≡ Some (needs.Value o))). inl (subst (λ (n : Option Need). IsDone n) (sym done.1) tt))
+    (λ (more : old.asked < new.asked).
+    ⊎_elim
+    (λ (done : IsDone old.need). absurd (open_call done))
+    (λ (so_far : (¬ (IsDone first.need)) × (first.asked ≤ old.asked)). let less = so_far.1 in inr (so_far.0, omega (arith, more, less)))
+    h)
+    on
+
+-- a reply that leads to another ask is counted
+pub counted_ask : (asked : ℕ) (mid : Calling) (after : ℕ) → GoesOn asked mid → (¬ (IsDone mid.need)) × (mid.asked ≤ after) → asked < after
+counted_ask asked mid after on two =
+    let more = two.1 in
+    ⊎_elim
+    (λ (done : (o : Outcome) × (mid.need ≡ Some (needs.Value o))). absurd (two.0 (subst (λ (n : Option Need). IsDone n) (sym done.1) tt)))
+    (λ (less : asked < mid.asked). omega (arith, more, less))
+    on
+
+-- a call that needs a query has asked as often or more
+pub counted_query : (old new : Calling) (q : Query) → new.need ≡ Some (needs.Query q) → HasCounted old new → (¬ (IsDone old.need)) × (old.asked ≤ new.asked)
+counted_query old new q is = ⊎_elim (λ (done : IsDone new.need). absurd (subst (λ (n : Option Need). IsDone n) is done)) (λ two. two)

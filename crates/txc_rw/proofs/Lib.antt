@@ -3,3 +3,5 @@ mod Counting
 mod Holding
 mod Lists
 mod Reached
+mod Turns
+mod Resting

@@ -117,6 +117,18 @@ needs_no_node (Some (needs.Query query)) = Unit {0}
 needs_no_node (Some (needs.Insert entry)) = ⊥
 needs_no_node (Some (needs.Value outcome)) = Unit {0}
 
+-- the call has its value
+abbrev pub IsDone : Option Need → Type 0
+IsDone None = ⊥
+IsDone (Some (needs.Lookup key)) = ⊥
+IsDone (Some (needs.Query query)) = ⊥
+IsDone (Some (needs.Insert entry)) = ⊥
+IsDone (Some (needs.Value outcome)) = Unit {0}
+
+-- the call has its value now; or it had none before, and asked as often or more
+abbrev pub HasCounted : Calling → Calling → Type 0
+HasCounted old new = IsDone new.need ⊎ ((¬ (IsDone old.need)) × (old.asked ≤ new.asked))
+
 -- ---- turns
 
 -- the core asks a query at its base, or what it did has ended
@@ -143,6 +155,12 @@ abbrev pub IsOfNeed : Option Need → Turn → Type 0
 IsOfNeed None turn = IsOfQuery turn
 IsOfNeed (Some need) turn = IsOfCall turn
 
+-- a call has its value, or is refused
+abbrev pub IsCallEnd : Turn → Type 0
+IsCallEnd (Value value) = Unit {0}
+IsCallEnd (Refused error) = Unit {0}
+IsCallEnd turn = ⊥
+
 -- the turn asks
 abbrev pub IsAsk : Turn → Type 0
 IsAsk (Ask request) = Unit {0}
@@ -153,6 +171,11 @@ abbrev pub IsAsked : Query → ℕ → Turn → Type 0
 IsAsked q stamp (Ask request) = request ≡ requests.Query q stamp
 IsAsked q stamp (Refused error) = error ≡ Memory
 IsAsked q stamp turn = ⊥
+
+-- the query that the turn asks, and the stamp, if it asks one
+abbrev pub asked_of : Turn → Option (Query × ℕ)
+asked_of (Ask (requests.Query q stamp)) = Some (q, stamp)
+asked_of turn = None
 
 -- the turn is a refusal
 abbrev pub IsRefused : Turn → Type 0

@@ -1,4 +1,5 @@
 pub mod Answers
 pub mod Core
 pub mod Outcomes
+pub mod Txn
 pub mod Laws

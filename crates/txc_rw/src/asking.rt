@@ -1,5 +1,5 @@
 //! What a core does until it asks.
-ghost use Rattle.std.specs.Prelude.{◌≡◌, None, OnErr, OnOk, Some, IsNone, IsSome};
+ghost use Rattle.std.specs.Prelude.{◌≡◌, ◌≤◌, None, OnErr, OnOk, Some, IsNone, IsSome};
 ghost use Rattle.txc_db.specs.History.{History};
 ghost use Rattle.txc_shared.specs.Eval.{Next};
 ghost use Rattle.txc_registry.specs.Objects.{activity_of, Objects};
@@ -21,7 +21,7 @@ use txc_shared::App;
 use txc_tags::Key;
 
 impl RwCore {
-    ghost use Rattle.txc_rw.specs.Core.{answers_after, IsAsk, IsAsked, IsOfCall, IsRefused, IsRw, IsTurn, RwHolds};
+    ghost use Rattle.txc_rw.specs.Core.{answers_after, IsAsk, IsAsked, IsDone, IsOfCall, IsRefused, IsRw, IsTurn, RwHolds};
 
     // Makes the query ready: when it is answered, it takes no memory to keep that.
     fn make_ready(&mut self, alloc: Global, query: &Query) -> Result<(), AllocError>
@@ -50,6 +50,7 @@ impl RwCore {
             → InCall 1 self.old.call → RwHolds next L objects self.old → RwHolds next L objects self.new }
         ensures turn { IsTurn self.new result }
         ensures kind { IsOfCall result }
+        ensures ended { ¬ (IsAsk result) }
         ensures answers { (next : Next) (objects : Objects) → IsCalling next objects self.old.call
             → self.new.answers ≡ answers_after self.old.answers self.old.call.top None result }
         ensures same { self.new
@@ -89,7 +90,10 @@ impl RwCore {
         ensures turn { IsTurn self.new result }
         ensures kind { IsOfCall result }
         ensures answers { self.new.answers ≡ answers_after self.old.answers self.old.call.top None result }
+        ensures open { IsAsk result → IsSome self.new.call.need }
         ensures goes_on { IsAsk result → self.new.call.top ≡ self.old.call.top }
+        ensures counted { IsAsk result
+            → (¬ (IsDone self.old.call.need)) × (self.old.call.asked ≤ self.new.call.asked) }
         ensures same { self.new ≡ record self.old {
           answers = self.new.answers;
           call = self.new.call;
@@ -126,7 +130,7 @@ impl RwCore {
         ensures turn { IsTurn self.new result }
         ensures kind { IsOfCall result }
         ensures no_value { self.old.answers ≡ answers_after self.old.answers self.old.call.top None result }
-        ensures goes_on { IsAsk result → self.new.call.top ≡ self.old.call.top }
+        ensures after { IsAsk result → self.new ≡ record self.old { reading = Some query } }
         ensures same { self.new ≡ record self.old { call = self.new.call; reading = self.new.reading } }
     {
         let Ok(()) = self.make_ready(alloc, &query) else {
@@ -155,6 +159,7 @@ impl RwCore {
         ensures turn { IsTurn self.new result }
         ensures kind { IsOfCall result }
         ensures answers { self.new.answers ≡ answers_after self.old.answers key None result }
+        ensures open { IsAsk result → IsSome self.new.call.need }
         ensures begins { IsAsk result → self.new.call.top ≡ key }
         ensures missing { IsNone (activity_of registry.old key.function)
             → result ≡ Turn.Refused (TxnError.Call (NoFunction key.function)) }

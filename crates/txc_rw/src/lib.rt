@@ -5,13 +5,17 @@
 #![tactic(auto)]
 
 mod asking;
+mod calling;
+mod finding;
 mod given;
 pub mod laws;
 mod reading;
 mod replies;
 mod rw_core;
+mod rw_txn;
 mod uncached;
 
 pub use given::Given;
 pub use reading::Reading;
 pub use rw_core::{MAX_CHANGES, RwCore};
+pub use rw_txn::{Committed, RwTxn};

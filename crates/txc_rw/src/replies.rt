@@ -1,5 +1,5 @@
 //! What a core makes of the answer to its query.
-ghost use Rattle.std.specs.Prelude.{◌≡◌, ◌≢◌, Err, IfOk, None, Some};
+ghost use Rattle.std.specs.Prelude.{◌≡◌, ◌≢◌, ◌<◌, Err, IfOk, IsSome, None, Some};
 ghost use Rattle.txc_db.specs.declared.error.DbError.{DbError};
 ghost use Rattle.txc_db.specs.History.{History};
 ghost use Rattle.txc_rw.specs.Core.{only_one};
@@ -88,7 +88,9 @@ impl RwCore {
         ensures answers { self.new.answers
             ≡ answers_after self.old.answers self.old.call.top self.old.reading result }
         ensures queried { self.new.queried ≡ queried_after self.old.queried self.old.reading reply }
+        ensures open { IsAsk result → IsSome self.new.call.need }
         ensures goes_on { IsAsk result → self.new.call.top ≡ self.old.call.top }
+        ensures counted { IsAsk result → self.old.call.asked < self.new.call.asked }
         ensures refused { (error : DbError) → reply ≡ Err error
             → result ≡ Turn.Refused (refused_request error) }
         ensures same { self.new ≡ record self.old {

@@ -1,3 +1,4 @@
+ghost use Rattle.txc_call.specs.declared.frames.TheConstants.{MAX_CALL_ASKS};
 ghost use Rattle.std.specs.Prelude.{◌≡◌, ◌<◌, ◌≤◌, ◌++◌, ◌∷◌, [], length, IfErr, IsOk, None, OnErr, OnOk};
 
 use crate::given::Given;
@@ -94,6 +95,13 @@ impl RwCore {
         ensures { result.now ≡ self.now.answers }
     {
         &self.answers
+    }
+
+    /// What holds of every core: its call asked no more than it may. It does nothing when it runs.
+    pub fn is_within_budget(&self)
+        ensures { self.now.call.asked ≤ MAX_CALL_ASKS }
+    {
+        self.machine.is_within_budget();
     }
 
     /// One change more. It is refused where there are [`MAX_CHANGES`] already, and dropped then.

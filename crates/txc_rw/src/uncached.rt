@@ -4,7 +4,7 @@ ghost use Rattle.txc_db.specs.History.{History};
 ghost use Rattle.txc_call.specs.declared.need.Need.{Need};
 ghost use Rattle.txc_call.specs.Calling.{CallHolds, InCall, IsAtRest, IsCalling};
 ghost use Rattle.txc_call.specs.Needs.{reply_reach, ReplyFits};
-ghost use Rattle.txc_rw.specs.Core.{needs_no_node};
+ghost use Rattle.txc_rw.specs.Core.{needs_no_node, HasCounted};
 
 use std::alloc::Global;
 use txc_call::{CallError, CallMachine, Need, Reply};
@@ -41,6 +41,7 @@ pub(crate) fn go_on_uncached<A: App, C: Cacheable>(
     ensures at_one { OnOk result (InCall 1 machine.new) }
     ensures holds { OnOk result ((L : History) → CallHolds A.next L registry.old machine.old
         → CallHolds A.next L registry.new machine.new) }
+    ensures counted { OnOk result (HasCounted machine.old machine.new) }
     ensures same_top { machine.new.top ≡ machine.old.top }
 {
     while let Some(reply) = reply_of_no_cache(machine) {

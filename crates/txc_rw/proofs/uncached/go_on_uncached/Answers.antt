@@ -1,6 +1,7 @@
-use Rattle.std.proofs.Common.{Option, sym, subst, ◌∙◌}
+use Rattle.std.proofs.Common.{Option, sym, subst, ◌∙◌, refl}
 use Rattle.txc_stamp.specs.Interval.{Interval}
 use Rattle.txc_call.specs.Reaches.{InReach}
+use Rattle.txc_rw.proofs.Counting.{counted_first, counted_next}
 use Rattle.txc_rw.proofs.Holding.{nothing_handed_in}
 use Rattle.txc_rw.proofs.uncached.go_on_uncached.Goals as goal
 
@@ -17,5 +18,18 @@ loop-reply-preserved g c = record {
       c.in_ok-reply.ensures.holds L c.in-Some.ensures.0 c.in-Some.ensures.1
       (nothing_handed_in g.A.App.next L c.in-Some.ensures.0 c.in-Some.reply c.in-Some.ensures.2 c.in-Some.ensures.3)
       (c.loop-reply.invariant.holds L h);
+  counted =
+      counted_next c.args.machine.now c.loop-reply.machine c.reply.new.self c.in-Some.ensures.0 c.in-Some.reply c.in-Some.ensures.1 c.in-Some.ensures.2
+      c.in_ok-reply.ensures.counted c.loop-reply.invariant.counted;
   same_top = c.reply.ensures.same_top ∙ c.loop-reply.invariant.same_top;
+}
+
+pub loop-reply-init : goal.loop-reply-init
+loop-reply-init g c = record {
+  fits = c.requires.fits;
+  some = c.requires.some;
+  at_one = c.requires.at_one;
+  holds = λ L h. h;
+  counted = counted_first c.args.machine.now;
+  same_top = refl;
 }

@@ -1,6 +1,7 @@
 use Rattle.std.proofs.Common.{◌≡◌, IsSome}
 use Rattle.txc_db.specs.History.{History}
 use Rattle.txc_call.specs.Calling.{CallHolds, InCall, IsCalling}
+use Rattle.txc_rw.specs.Core.{HasCounted}
 use Rattle.txc_rw.proofs.Counting.{left}
 use Rattle.txc_rw.proofs.uncached.go_on_uncached.Given as goal
 
@@ -10,6 +11,7 @@ invariant-loop-reply g l = record {
   some : IsSome l.machine.need;
   at_one : InCall 1 l.machine;
   holds : (L : History) → CallHolds g.A.App.next L l.initial.registry l.initial.machine → CallHolds g.A.App.next L l.registry l.machine;
+  counted : HasCounted l.initial.machine l.machine;
   same_top : l.machine.top ≡ l.initial.machine.top;
 }
 

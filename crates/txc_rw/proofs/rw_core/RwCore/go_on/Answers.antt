@@ -1,5 +1,7 @@
-use Rattle.std.proofs.Common.{sym, subst}
-use Rattle.txc_rw.specs.Core.{asked_query, RwHolds, RwValue}
+use Rattle.std.proofs.Common.{rules, ◌≡◌, ◌≤◌, Some, sym, subst}
+use Rattle.txc_call.specs.declared.need.Need.TheVariants as needs
+use Rattle.txc_rw.proofs.Counting.{counted_query}
+use Rattle.txc_rw.specs.Core.{asked_query, IsDone, RwHolds, RwValue}
 use Rattle.txc_rw.proofs.Holding.{given_up, holds_moved}
 use Rattle.txc_rw.proofs.rw_core.RwCore.go_on.Goals as goal
 
@@ -22,3 +24,13 @@ returns-in-Some-Value-clause-holds g c = λ L h.
     c.keep_value.ensures.holds g.A.App.next c.go_on_uncached.new.registry L c.go_on_uncached.ensures.fits c.in_default.ensures.at_one
     (holds_moved g.A.App.next L c.args.registry.now was (subst (λ (w : RwValue). RwHolds g.A.App.next L c.args.registry.now w) (sym c.self.view_is) h)
     c.go_on_uncached.new.registry c.go_on_uncached.new.machine was.reading c.in_default.ensures.holds)
+
+pub returns-in-Some-Query-clause-counted : goal.returns-in-Some-Query-clause-counted
+returns-in-Some-Query-clause-counted g c = λ asks.
+    let is : c.go_on_uncached.new.machine.need ≡ Some (needs.Query c.in-Some-Query.query) = search rules in
+    let both = counted_query c.self.inside.machine c.go_on_uncached.new.machine c.in-Some-Query.query is c.in_default.ensures.counted in
+    rw (c.ask_of_call.ensures.after asks) (subst (λ (w : RwValue). (¬ (IsDone w.call.need)) × (w.call.asked ≤ c.go_on_uncached.new.machine.asked)) c.self.view_is both)
+
+pub returns-in-Some-Query-clause-open : goal.returns-in-Some-Query-clause-open
+returns-in-Some-Query-clause-open g c = λ asks.
+    rw (c.ask_of_call.ensures.after asks) c.in_default.ensures.some

@@ -1,4 +1,4 @@
-use Rattle.std.proofs.Common.{◌≡◌, ◌≢◌, Bool, not, List, Option, Some, None, sym, ap, subst, ◌∙◌, arith, Contains}
+use Rattle.std.proofs.Common.{◌≡◌, ◌≢◌, ◌<◌, Bool, not, List, Option, Some, None, sym, ap, subst, ◌∙◌, arith, Contains}
 use Rattle.std.proofs.lemmas.List.Elements.{Contains-push}
 use Rattle.txc_stamp.specs.Interval.{Interval, Holds}
 use Rattle.txc_rows.specs.declared.query.Query.{Query}
@@ -7,6 +7,7 @@ use Rattle.txc_call.specs.Calling.{InCall}
 use Rattle.txc_rw.specs.declared.reading.Reading.{Reading}
 use Rattle.txc_rw.specs.Answers.{committed}
 use Rattle.txc_rw.specs.Core.{asked_query, IsFoundAt, IsRightReply, ReadingFits, RwHolds, RwValue}
+use Rattle.txc_rw.proofs.Counting.{counted_ask}
 use Rattle.txc_rw.proofs.Holding.{at_rest_holds, found_at_one, given_up, holds_queried, kept_more, need_of_call, reply_found, rows_given, some_by_test}
 use Rattle.txc_rw.proofs.rw_core.RwCore.reply.Goals as goal
 
@@ -91,3 +92,8 @@ returns-in-Err-reply-clause-holds g c = λ L right h.
     let none : asked_query c.replace.new.dest ≡ None = ap (λ (r : Option Reading). asked_query r) c.replace.ensures.after in
     holds_queried g.A.App.next L c.args.registry.now was h' q c.reply.new.registry c.reply.new.self c.push_reserved.new.self.items (asked_query c.replace.new.dest) c.push_reserved.ensures.items none
     (λ changes agree hold. at_rest_holds g.A.App.next (committed changes) c.reply.new.registry c.reply.new.self c.in-Err-reply.ensures.rest.1.0 c.in-Err-reply.ensures.rest.0)
+
+pub returns-in-Ok-reply-clause-counted : goal.returns-in-Ok-reply-clause-counted
+returns-in-Ok-reply-clause-counted g c = λ asks.
+    let more = counted_ask c.self.inside.machine.asked c.reply.new.self c.go_on.new.self.call.asked c.in-Ok-reply.ensures.counted (c.go_on.ensures.counted asks) in
+    subst (λ (w : RwValue). w.call.asked < c.go_on.new.self.call.asked) c.self.view_is more

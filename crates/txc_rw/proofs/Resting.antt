@@ -1,0 +1,52 @@
+-- A transaction between two calls.
+use Rattle.std.proofs.Common.{◌≡◌, List, [], ◌∷◌, ◌++◌, Option, None, Ok, Err, sym, subst, Contains}
+use Rattle.std.specs.Prelude.{Result, IfOk, OnErr, OnOk}
+use Rattle.std.proofs.lemmas.List.Elements.{All-contains, Contains-push}
+use Rattle.txc_rows.specs.declared.query.Change.{Change}
+use Rattle.txc_rows.specs.States.{State}
+use Rattle.txc_db.specs.History.{History}
+use Rattle.txc_shared.specs.Eval.{Next}
+use Rattle.txc_registry.specs.Objects.{Objects, AllIdle}
+use Rattle.txc_call.specs.declared.need.Need.{Need}
+use Rattle.txc_call.specs.Needs.{NeedFits}
+use Rattle.txc_rw.specs.declared.given.Given.{Given}
+use Rattle.txc_rw.specs.Answers.{AreRightIn, IsRightIn}
+use Rattle.txc_rw.specs.Core.{RwValue, RwHolds, IsIdle, IsRw}
+use Rattle.txc_rw.specs.Txn.{IsResting}
+use Rattle.txc_rw.proofs.Holding.{at_rest_holds}
+
+-- at rest, whatever the objects do
+holds_at_rest : (next : Next) (L : History) (os os' : Objects) (c : RwValue) → c.call.frames ≡ [] → c.call.need ≡ None → RwHolds next L os c → RwHolds next L os' c
+holds_at_rest next L os os' c empty none h = record {
+  within = h.within;
+  answers = h.answers;
+  call = λ changes agree. at_rest_holds next _ os' c.call empty none;
+}
+
+pub rested : (next : Next) (L : History) (os : Objects) (c : RwValue) → IsRw next os c → IsIdle c → RwHolds next L os c → AllIdle os × IsResting next L c
+rested next L os c fits idle h =
+    let at_rest : (c.call.frames ≡ []) × AllIdle os = subst (λ (n : Option Need). NeedFits next os c.call.top n c.call.frames) idle.0 fits.call in
+    (at_rest.1, record { frames = at_rest.0; need = idle.0; reading = idle.1; holds = λ os'. holds_at_rest next L os os' c at_rest.0 idle.0 h })
+
+-- a change more
+pub written : (next : Next) (L : History) (c c' : RwValue) (changes : List Change) → c' ≡ record c { changes = changes } → IsResting next L c → IsResting next L c'
+written next L c c' changes is h = subst (λ (w : RwValue). IsResting next L w) (sym is) record {
+  frames = h.frames;
+  need = h.need;
+  reading = h.reading;
+  holds = λ os. let k = h.holds os in record { within = k.within; answers = k.answers; call = k.call };
+}
+
+-- the last answer is right
+pub last_right : (next : Next) (s : State) (before now : List Given) (x : Given) → now ≡ before ++ x ∷ [] → AreRightIn next s now → IsRightIn next s x
+last_right next s before now x is right =
+    All-contains (IsRightIn next s) now x right (subst (λ (xs : List Given). Contains xs x) (sym is) (Contains-push before x))
+
+pub if_ok : {T E : Type 0} (P Q : T → Type 0) (r : Result T E) → ((v : T) → P v → Q v) → IfOk r P → IfOk r Q
+if_ok P Q (Ok v) step h = step v h
+if_ok P Q (Err e) step h = tt
+
+pub written_or_not : {T E : Type 0} (r : Result T E) (next : Next) (L : History) (c c' : RwValue) (changes : List Change)
+    → OnOk r (c' ≡ record c { changes = changes }) → OnErr r (c' ≡ c) → IsResting next L c → IsResting next L c'
+written_or_not (Ok done) next L c c' changes after unchanged h = written next L c c' changes after h
+written_or_not (Err e) next L c c' changes after unchanged h = subst (λ (w : RwValue). IsResting next L w) (sym unchanged) h

@@ -1,0 +1,27 @@
+use Rattle.std.proofs.Common.{◌≡◌, IsNone, IsSome, None}
+use mathlib.Core.List.{IsPrefix}
+use Rattle.txc_registry.specs.Objects.{activity_of}
+use Rattle.txc_call.specs.declared.error.CallError.TheVariants.{NoFunction}
+use Rattle.txc_ports.specs.declared.error.TxnError.TheVariants as errors
+use Rattle.txc_ports.specs.declared.turn.Turn.TheVariants.{Refused}
+use Rattle.txc_rw.specs.Core.{answers_after, IsAsk, IsOfCall, IsRw, IsTurn, RwHolds}
+use Rattle.txc_rw.proofs.Turns.{turns_left}
+use Rattle.txc_rw.proofs.calling.call_at.Given as goal
+
+abbrev pub invariant-loop-query : goal.invariant-loop-query
+invariant-loop-query g l = record {
+  fits : IsRw g.A.App.next l.registry l.core;
+  turn : IsTurn l.core l.turn;
+  kind : IsOfCall l.turn;
+  holds : RwHolds g.A.App.next l.seen.history l.fn.registry l.fn.core → RwHolds g.A.App.next l.seen.history l.registry l.core;
+  answers : l.core.answers ≡ answers_after l.fn.core.answers l.fn.key None l.turn;
+  open_call : IsAsk l.turn → IsSome l.core.call.need;
+  begins : IsAsk l.turn → l.core.call.top ≡ l.fn.key;
+  queried : IsPrefix l.fn.core.queried l.core.queried;
+  base : l.core.base ≡ l.fn.core.base;
+  changes : l.core.changes ≡ l.fn.core.changes;
+  missing : IsNone (activity_of l.fn.registry l.fn.key.function) → l.turn ≡ Refused (errors.Call (NoFunction l.fn.key.function));
+}
+
+abbrev pub decreases-loop-query : goal.decreases-loop-query
+decreases-loop-query g l = turns_left l.turn l.core.call.asked

@@ -1,0 +1,14 @@
+use Rattle.std.proofs.Common.{[], subst}
+use Rattle.txc_rw.specs.Txn.{TxnValue}
+use Rattle.std.proofs.Common.{◌≤◌, length}
+use Rattle.txc_db.specs.History.{state_at}
+use Rattle.txc_rw.specs.Answers.{AreRightIn}
+use Rattle.txc_rw.proofs.rw_txn.RwTxn.is_right.Goals as goal
+
+pub returns-clause-base : goal.returns-clause-base
+returns-clause-base g c = subst (λ (t : TxnValue). t.core.base ≤ length t.history) c.self.view_is (c.self.invariant.2.holds []).within
+
+pub returns-clause-answers : goal.returns-clause-answers
+returns-clause-answers g c =
+    subst (λ (t : TxnValue). AreRightIn g.A.App.next (state_at t.history t.core.base) t.core.answers) c.self.view_is
+    (c.answers_are_right.ensures.base g.A.App.next c.self.inside.seen.history [] c.self.inside.core (c.self.invariant.2.holds []))

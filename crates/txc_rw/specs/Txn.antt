@@ -1,0 +1,18 @@
+-- A read-write transaction between two calls.
+use Rattle.std.specs.Prelude.{◌≡◌, [], None}
+use Rattle.txc_db.specs.History.{History}
+use Rattle.txc_shared.specs.Eval.{Next}
+use Rattle.txc_registry.specs.Objects.{Objects}
+use Rattle.txc_rw.specs.Core.{RwValue, RwHolds}
+
+-- What callers see of a transaction: its core, and the history that it has seen, which has its base.
+pub record TxnValue : Type 0 where
+  pub core : RwValue
+  pub history : History
+
+-- no call is open, and no query, and each answer is right in the history
+pub record IsResting (next : Next) (L : History) (c : RwValue) : Type 0 where
+  pub frames : c.call.frames ≡ []
+  pub need : c.call.need ≡ None
+  pub reading : c.reading ≡ None
+  pub holds : (objects : Objects) → RwHolds next L objects c

@@ -1,0 +1,130 @@
+//! Calls and queries of a transaction, led to their end at the locked database.
+ghost use Rattle.std.specs.Prelude.{◌≡◌, ◌≤◌, length, IfErr, IfOk, IsNone, None, Some};
+ghost use mathlib.Core.List.{IsPrefix};
+ghost use Rattle.txc_registry.specs.Objects.{activity_of};
+ghost use Rattle.txc_call.specs.declared.error.CallError.TheVariants.{NoFunction};
+ghost use Rattle.txc_rw.specs.Core.{answers_after, asked_of, IsCallEnd, IsIdle, IsOfQuery, IsRw, RwHolds};
+
+use crate::finding::find;
+use crate::rw_core::RwCore;
+use std::alloc::Global;
+use std::sync::Wait;
+use txc_db::{Database, HistoryFront, Naming};
+use txc_node::Value;
+use txc_ports::{PortRequest, Turn, TxnError};
+use txc_registry::{Cacheable, Registry};
+use txc_rows::{Query, Row};
+use txc_shared::App;
+use txc_stamp::Stamp;
+use txc_tags::Key;
+
+// The query that the turn asks, and the stamp.
+fn asked(turn: &Turn) -> Option<(Query, Stamp)>
+    ensures { result ≡ asked_of turn.now }
+{
+    match turn {
+        Turn::Ask(PortRequest::Query { query, stamp }) => Some((*query, *stamp)),
+        _ => None,
+    }
+}
+
+// The value of a call that has ended.
+pub(crate) fn value_of(turn: Turn) -> Result<Value, TxnError>
+    requires { IsCallEnd turn }
+    ensures answer { IfOk result (λ value. turn ≡ Turn.Value value) }
+    ensures refused { IfErr result (λ error. turn ≡ Turn.Refused error) }
+{
+    match turn {
+        Turn::Value(value) => Ok(value),
+        Turn::Refused(error) => Err(error),
+        _ => unreachable!(),
+    }
+}
+
+// The rows of a query that has ended.
+pub(crate) fn rows_of(turn: Turn) -> Result<Vec<Row>, TxnError>
+    requires { IsOfQuery turn }
+    ensures answer { IfOk result (λ rows. turn ≡ Turn.Rows rows) }
+    ensures refused { IfErr result (λ error. turn ≡ Turn.Refused error) }
+{
+    match turn {
+        Turn::Rows(rows) => Ok(rows),
+        Turn::Refused(error) => Err(error),
+        _ => unreachable!(),
+    }
+}
+
+// Makes a call of the transaction: each query that it asks is asked at the database, until it has its value.
+pub(crate) fn call_at<J: Naming, A: App, C: Cacheable>(
+    rt: &impl Wait,
+    alloc: Global,
+    database: &Database<J>,
+    seen: &HistoryFront,
+    registry: &mut Registry<A, C>,
+    core: &mut RwCore,
+    key: Key,
+) -> Turn
+    requires named { seen.now.events ≡ J.database_row }
+    requires fits { IsRw A.next registry.old core.old }
+    requires idle { core.old.reading ≡ None }
+    requires shown { core.old.base ≤ length seen.now.history }
+    ensures fits { IsRw A.next registry.new core.new }
+    ensures ended { IsCallEnd result }
+    ensures idle { IsIdle core.new }
+    ensures holds { RwHolds A.next seen.now.history registry.old core.old
+        → RwHolds A.next seen.now.history registry.new core.new }
+    ensures answers { core.new.answers ≡ answers_after core.old.answers key None result }
+    ensures queried { IsPrefix core.old.queried core.new.queried }
+    ensures missing { IsNone (activity_of registry.old key.function)
+        → result ≡ Turn.Refused (TxnError.Call (NoFunction key.function)) }
+    ensures same { core.new ≡ record core.old {
+      queried = core.new.queried;
+      answers = core.new.answers;
+      call = core.new.call;
+      reading = None;
+    } }
+{
+    let mut turn = core.start(alloc, registry, key);
+    while let Some((query, stamp)) = asked(&turn) {
+        let found = find(rt, alloc, database, seen, &query, stamp);
+        turn = core.reply(alloc, registry, found);
+        core.is_within_budget();
+    }
+    turn
+}
+
+// Makes a query of the transaction's own at the database.
+pub(crate) fn query_at<J: Naming, A: App, C: Cacheable>(
+    rt: &impl Wait,
+    alloc: Global,
+    database: &Database<J>,
+    seen: &HistoryFront,
+    registry: &mut Registry<A, C>,
+    core: &mut RwCore,
+    query: Query,
+) -> Turn
+    requires named { seen.now.events ≡ J.database_row }
+    requires fits { IsRw A.next registry.old core.old }
+    requires idle { IsIdle core.old }
+    requires shown { core.old.base ≤ length seen.now.history }
+    ensures fits { IsRw A.next registry.new core.new }
+    ensures kind { IsOfQuery result }
+    ensures idle { IsIdle core.new }
+    ensures holds { RwHolds A.next seen.now.history registry.old core.old
+        → RwHolds A.next seen.now.history registry.new core.new }
+    ensures answers { core.new.answers
+        ≡ answers_after core.old.answers core.old.call.top (Some query) result }
+    ensures queried { IsPrefix core.old.queried core.new.queried }
+    ensures same { core.new ≡ record core.old {
+      queried = core.new.queried;
+      answers = core.new.answers;
+      call = core.new.call;
+    } }
+{
+    let turn = core.ask(alloc, registry, query);
+    let Some((query, stamp)) = asked(&turn) else {
+        return turn;
+    };
+    let found = find(rt, alloc, database, seen, &query, stamp);
+    core.reply(alloc, registry, found)
+}

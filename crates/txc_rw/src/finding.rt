@@ -1,0 +1,32 @@
+//! Queries of a transaction, asked at the locked database.
+ghost use Rattle.std.specs.Prelude.{◌≡◌, ◌≤◌, length, IfErr, IfOk};
+ghost use Rattle.txc_db.specs.Calls.{IsQueryRefused};
+ghost use Rattle.txc_db.specs.Shared.{MayRefuse};
+ghost use Rattle.txc_rw.specs.Core.{IsFoundAt};
+
+use std::alloc::Global;
+use std::sync::Wait;
+use txc_db::{Answered, Database, DbError, HistoryFront, Naming, states_stay};
+use txc_rows::Query;
+use txc_stamp::Stamp;
+use txc_validity::Found;
+
+// What the database finds for the query at a stamp that was seen.
+pub(crate) fn find<J: Naming>(
+    rt: &impl Wait,
+    alloc: Global,
+    database: &Database<J>,
+    seen: &HistoryFront,
+    query: &Query,
+    stamp: Stamp,
+) -> Result<Found, DbError>
+    requires named { seen.now.events ≡ J.database_row }
+    requires shown { stamp ≤ length seen.now.history }
+    ensures answer { IfOk result (IsFoundAt seen.now.history stamp query.now) }
+    ensures refused { IfErr result (MayRefuse J.database_row (λ d. IsQueryRefused d query.now stamp)) }
+{
+    states_stay();
+    let Answered { answer, front } = database.query(rt, alloc, query, stamp)?;
+    seen.agree(&front);
+    Ok(answer)
+}

@@ -1,0 +1,279 @@
+//! Read-write transactions over the locked database.
+ghost use Rattle.std.specs.Prelude.{◌≡◌, ◌++◌, ◌∷◌, ◌<◌, ◌≤◌, [], IfErr, IfOk, IsNone, IsOk, OnErr, OnOk, Some, length};
+ghost use mathlib.Core.List.{IsPrefix};
+ghost use Rattle.txc_rows.specs.States.{answer};
+ghost use Rattle.txc_db.specs.Calls.{IsHoldRefused};
+ghost use Rattle.txc_db.specs.History.{state_at};
+ghost use Rattle.txc_db.specs.Shared.{IsSharedCommitRefused, MayRefuse};
+ghost use Rattle.txc_shared.specs.Eval.{eval};
+ghost use Rattle.txc_registry.specs.Objects.{activity_of, AllIdle};
+ghost use Rattle.txc_call.specs.declared.error.CallError.TheVariants.{NoFunction};
+ghost use Rattle.txc_rw.specs.declared.rw_core.TheConstants.{MAX_CHANGES};
+ghost use Rattle.txc_rw.specs.Answers.{AreRightIn};
+ghost use Rattle.txc_rw.specs.Core.{tags_read, IsBegun, IsWriteRefused};
+ghost use Rattle.txc_rw.specs.Outcomes.{IsCommitted};
+
+use crate::calling::{call_at, query_at, rows_of, value_of};
+use crate::given::Given;
+use crate::laws::{answers_are_right, transactions_stay_right};
+use crate::rw_core::RwCore;
+use std::alloc::Global;
+use std::marker::Model;
+use std::sync::Wait;
+use txc_db::{Answered, CommitError, Database, DbError, HistoryFront, Naming, states_stay};
+use txc_node::Value;
+use txc_ports::{PortRequest, TxnError};
+use txc_registry::{Cacheable, Registry};
+use txc_rows::{Change, Query, Row};
+use txc_shared::App;
+use txc_stamp::Stamp;
+use txc_tags::{Key, Table};
+
+/// What a transaction that was committed came to.
+#[derive(Drop)]
+pub struct Committed {
+    /// The newest stamp that the commit left.
+    pub stamp: Stamp,
+    /// What the transaction was answered, in order.
+    pub answers: Vec<Given>,
+    /// The history up to the stamp.
+    pub front: HistoryFront,
+}
+
+/// A read-write transaction. It reads at its base, the newest stamp when it began, and keeps its changes
+/// until it commits. No node is used.
+///
+/// It holds its base until it is spent, by [`RwTxn::commit`] or [`RwTxn::abort`], which return the registry
+/// of its functions.
+pub struct RwTxn<'a, J: Naming, A: App, C: Cacheable> {
+    database: &'a Database<J>,
+    registry: Registry<A, C>,
+    core: RwCore,
+    seen: HistoryFront,
+}
+
+impl<'a, J: Naming, A: App, C: Cacheable> Model for RwTxn<'a, J, A, C> {
+    ghost use Rattle.std.specs.Prelude.{◌≡◌};
+    ghost use Rattle.txc_registry.specs.Objects.{AllIdle};
+    ghost use Rattle.txc_rw.specs.Txn.{TxnValue, IsResting};
+
+    ghost Value = { TxnValue };
+
+    ghost view = { λ t. record { core = t.core; history = t.seen.history } };
+
+    ghost invariant = { λ t. (t.seen.events ≡ J.database_row) × AllIdle t.registry
+        × IsResting A.next t.seen.history t.core };
+}
+
+impl<'a, J: Naming, A: App, C: Cacheable> RwTxn<'a, J, A, C> {
+    /// Begins a transaction at the newest stamp, which is held until it ends. A refusal returns the registry.
+    pub fn begin(
+        rt: &impl Wait,
+        alloc: Global,
+        database: &'a Database<J>,
+        registry: Registry<A, C>,
+    ) -> Result<RwTxn<'a, J, A, C>, (DbError, Registry<A, C>)>
+        requires { AllIdle registry }
+        ensures begun { IfOk result (λ txn. IsBegun (length txn.history) txn.core) }
+        ensures refused { IfErr result (λ e. MayRefuse J.database_row IsHoldRefused e.0) }
+        ensures handed_back { IfErr result (λ e. e.1 ≡ registry) }
+    {
+        transactions_stay_right();
+        let Answered { answer, front } = match database.hold(rt, alloc) {
+            Ok(held) => held,
+            Err(error) => return Err((error, registry)),
+        };
+        Ok(RwTxn {
+            database,
+            registry,
+            core: RwCore::begin(alloc, answer),
+            seen: front,
+        })
+    }
+
+    /// What holds of every transaction: each answer is what its call or its query gives at its base. It does
+    /// nothing when it runs.
+    pub fn is_right(&self)
+        ensures base { self.now.core.base ≤ length self.now.history }
+        ensures answers { AreRightIn A.next (state_at self.now.history self.now.core.base) self.now.core.answers }
+    {
+        answers_are_right();
+        let _base = self.core.base();
+    }
+
+    /// The stamp at which it reads.
+    pub fn base(&self) -> Stamp
+        ensures { result ≡ self.now.core.base }
+    {
+        self.core.base()
+    }
+
+    /// What it was answered, in order.
+    pub fn answers(&self) -> &[Given]
+        ensures { result.now ≡ self.now.core.answers }
+    {
+        self.core.answers()
+    }
+
+    /// The value of the call at its base. A refusal leaves the answers and the changes as they were.
+    pub fn call(&mut self, rt: &impl Wait, alloc: Global, key: Key) -> Result<Value, TxnError>
+        ensures answer { IfOk result (λ value.
+            eval A.next key (state_at self.old.history self.old.core.base) ≡ Some value) }
+        ensures after { IfOk result (λ value.
+            self.new.core.answers ≡ self.old.core.answers ++ Given.Value key value ∷ []) }
+        ensures unchanged { OnErr result (self.new.core.answers ≡ self.old.core.answers) }
+        ensures queried { IsPrefix self.old.core.queried self.new.core.queried }
+        ensures same { self.new ≡ record self.old {
+          core = record self.old.core {
+            queried = self.new.core.queried;
+            answers = self.new.core.answers;
+            call = self.new.core.call;
+          };
+        } }
+    {
+        answers_are_right();
+        let turn = call_at(
+            rt,
+            alloc,
+            self.database,
+            &self.seen,
+            &mut self.registry,
+            &mut self.core,
+            key,
+        );
+        value_of(turn)
+    }
+
+    /// The rows of the query at its base. A refusal leaves the answers and the changes as they were.
+    pub fn query(
+        &mut self,
+        rt: &impl Wait,
+        alloc: Global,
+        query: Query,
+    ) -> Result<Vec<Row>, TxnError>
+        ensures answer { IfOk result (λ rows.
+            rows.items ≡ answer query (state_at self.old.history self.old.core.base)) }
+        ensures after { IfOk result (λ rows.
+            self.new.core.answers ≡ self.old.core.answers ++ Given.Rows query rows.items ∷ []) }
+        ensures unchanged { OnErr result (self.new.core.answers ≡ self.old.core.answers) }
+        ensures queried { IsPrefix self.old.core.queried self.new.core.queried }
+        ensures same { self.new ≡ record self.old {
+          core = record self.old.core {
+            queried = self.new.core.queried;
+            answers = self.new.core.answers;
+            call = self.new.core.call;
+          };
+        } }
+    {
+        answers_are_right();
+        let turn = query_at(
+            rt,
+            alloc,
+            self.database,
+            &self.seen,
+            &mut self.registry,
+            &mut self.core,
+            query,
+        );
+        rows_of(turn)
+    }
+
+    /// The row is to stand at its table and id once the transaction is committed. It does not see it itself.
+    pub fn put(&mut self, row: Row) -> Result<(), TxnError>
+        ensures after { OnOk result (self.new ≡ record self.old {
+          core = record self.old.core {
+            changes = self.old.core.changes ++ Change.Put row ∷ [];
+          };
+        }) }
+        ensures only_if { IsOk result → length self.old.core.changes < MAX_CHANGES }
+        ensures refused { IfErr result (IsWriteRefused (length self.old.core.changes)) }
+        ensures unchanged { OnErr result (self.new ≡ self.old) }
+    {
+        self.core.write(Change::Put(row))
+    }
+
+    /// No row is to stand at the table and id once the transaction is committed.
+    pub fn remove(&mut self, table: Table, id: u32) -> Result<(), TxnError>
+        ensures after { OnOk result (self.new ≡ record self.old {
+          core = record self.old.core {
+            changes = self.old.core.changes ++ Change.Remove table id ∷ [];
+          };
+        }) }
+        ensures only_if { IsOk result → length self.old.core.changes < MAX_CHANGES }
+        ensures refused { IfErr result (IsWriteRefused (length self.old.core.changes)) }
+        ensures unchanged { OnErr result (self.new ≡ self.old) }
+    {
+        self.core.write(Change::Remove(table, id))
+    }
+
+    /// Commits the changes, where no event after the base matches what was read, and gives up the hold of the
+    /// base. A refusal is that of the database, in its order, and returns the transaction, open and still
+    /// holding its base.
+    pub fn commit(
+        self,
+        rt: &impl Wait,
+        alloc: Global,
+    ) -> Result<(Committed, Registry<A, C>), (RwTxn<'a, J, A, C>, CommitError)>
+        ensures named { IfOk result (λ done. done.0.front.events ≡ J.database_row) }
+        ensures answer { IfOk result (λ done.
+            IsCommitted A.next done.0.front.history self.entry.core done.0.stamp) }
+        ensures at_base { IfOk result (λ done.
+            AreRightIn A.next (state_at done.0.front.history self.entry.core.base) self.entry.core.answers) }
+        ensures answers { IfOk result (λ done. done.0.answers.items ≡ self.entry.core.answers) }
+        ensures idle { IfOk result (λ done. AllIdle done.1) }
+        ensures refused { IfErr result (λ e. MayRefuse J.database_row
+            (λ d. IsSharedCommitRefused d self.entry.core.base (tags_read self.entry.core) self.entry.core.changes) e.1) }
+        ensures handed_back { IfErr result (λ e. e.0 ≡ self.entry) }
+    {
+        states_stay();
+        answers_are_right();
+        let base = self.core.base();
+        let tags = self.core.tags();
+        let changes = self.core.changes();
+        let done = match self.database.commit(rt, alloc, base, tags, changes) {
+            Ok(done) => done,
+            Err(cause) => return Err((self, cause)),
+        };
+        let RwTxn {
+            database,
+            registry,
+            core,
+            seen,
+        } = self;
+        let Answered {
+            answer: stamp,
+            front,
+        } = done;
+        seen.agree(&front);
+        let (answers, request) = core.finish();
+        unpin(rt, database, &request);
+        let committed = Committed {
+            stamp,
+            answers,
+            front,
+        };
+        Ok((committed, registry))
+    }
+
+    /// Gives the transaction up, and the hold of its base. It takes no memory.
+    pub fn abort(self, rt: &impl Wait) -> Registry<A, C>
+        ensures { AllIdle result }
+    {
+        let RwTxn {
+            database,
+            mut registry,
+            core,
+            seen: _,
+        } = self;
+        let request = core.cancel(&mut registry);
+        unpin(rt, database, &request);
+        registry
+    }
+}
+
+// Makes the request to unpin a stamp. A database that is broken refuses it, and all else.
+fn unpin<J: Naming>(rt: &impl Wait, database: &Database<J>, request: &PortRequest) {
+    if let PortRequest::Unpin(stamp) = request {
+        let _refused = database.unpin(rt, *stamp);
+    }
+}
