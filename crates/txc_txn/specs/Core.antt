@@ -248,6 +248,16 @@ abbrev pub IsAsk : Turn → Type 0
 IsAsk (Ask request) = Unit {0}
 IsAsk turn = ⊥
 
+-- the turn does not ask the pincushion to add a pin
+abbrev pub IsNoAdding : Turn → Type 0
+IsNoAdding (Ask (requests.AddPin pinned)) = ⊥
+IsNoAdding turn = Unit {0}
+
+-- a pin is to be added only as soon as the database has given it
+abbrev pub AddsOnly : PortReply → Turn → Type 0
+AddsOnly (ports.Pin (Ok pinned)) turn = Unit {0}
+AddsOnly reply turn = IsNoAdding turn
+
 -- the turn is no value
 abbrev pub IsNoValue : Turn → Type 0
 IsNoValue (Value value) = ⊥

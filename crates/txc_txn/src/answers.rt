@@ -20,7 +20,8 @@ use txc_validity::Found;
 
 impl TxnCore {
     ghost use Rattle.txc_txn.specs.Core.{open_call, recorded_after, taken_after, value_of, CoreHolds};
-    ghost use Rattle.txc_txn.specs.Core.{IsAnswered, IsAsk, IsCore, IsRight, IsTurn, PinsAfter};
+    ghost use Rattle.txc_txn.specs.Core.{AddsOnly, IsAnswered, IsAsk, IsCore, IsNoAdding, IsRight, IsTurn};
+    ghost use Rattle.txc_txn.specs.Core.{PinsAfter};
     ghost use Rattle.txc_txn.specs.Leading.{ReplyLeads};
 
     // Sees what the reply shows of the history.
@@ -93,6 +94,7 @@ impl TxnCore {
         ensures goes_on { IsAsk result → open_call (value_of self.new) ≡ open_call (value_of self.old) }
         ensures leads { ReplyLeads A.next (value_of self.old) registry.old (PortReply.AddPin pinned.now added)
             (value_of self.new) registry.new result }
+        ensures no_add { IsNoAdding result }
         ensures same { value_of self.new ≡ record (value_of self.old) {
           pins = self.new.pins;
           taken = self.new.taken.items;
@@ -134,6 +136,7 @@ impl TxnCore {
         ensures ended { ¬ (IsAsk result) }
         ensures leads { ReplyLeads A.next (value_of self.old) registry.old PortReply.Unpin
             (value_of self.new) registry.new result }
+        ensures no_add { IsNoAdding result }
         ensures same { value_of self.new
             ≡ record (value_of self.old) { call = self.new.machine; pinning = None } }
     {
@@ -170,6 +173,7 @@ impl TxnCore {
         ensures goes_on { IsAsk result → open_call (value_of self.new) ≡ open_call (value_of self.old) }
         ensures leads { ReplyLeads A.next (value_of self.old) registry.old (PortReply.Lookup hit)
             (value_of self.new) registry.new result }
+        ensures no_add { IsNoAdding result }
         ensures same { value_of self.new ≡ record (value_of self.old) {
           pins = self.new.pins;
           recorded = self.new.recorded.items;
@@ -207,6 +211,7 @@ impl TxnCore {
         ensures goes_on { IsAsk result → open_call (value_of self.new) ≡ open_call (value_of self.old) }
         ensures leads { ReplyLeads A.next (value_of self.old) registry.old (PortReply.Query found)
             (value_of self.new) registry.new result }
+        ensures no_add { IsNoAdding result }
         ensures same { value_of self.new ≡ record (value_of self.old) {
           pins = self.new.pins;
           recorded = self.new.recorded.items;
@@ -246,6 +251,7 @@ impl TxnCore {
         ensures goes_on { IsAsk result → open_call (value_of self.new) ≡ open_call (value_of self.old) }
         ensures leads { ReplyLeads A.next (value_of self.old) registry.old reply
             (value_of self.new) registry.new result }
+        ensures adds { AddsOnly reply result }
         ensures same { value_of self.new ≡ record (value_of self.old) {
           pins = self.new.pins;
           taken = self.new.taken.items;
