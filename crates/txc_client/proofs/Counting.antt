@@ -21,7 +21,10 @@ use Rattle.txc_call.specs.declared.need.Need.TheVariants as needs
 use Rattle.txc_call.specs.declared.need.Outcome.{Outcome}
 use Rattle.txc_call.specs.declared.reply.Reply.{Reply}
 use Rattle.txc_call.specs.declared.reply.Reply.TheVariants as replies
-use Rattle.txc_call.specs.Turns.{Standing, Onward, UnlessRefused, UnlessMemory, count_refusal, ask_refusal, AllowedLeads, DoneLeads, AskLeads, AfterValue, AfterAsk, AfterAnswer, AfterMiss, AfterRows, AfterReply}
+use Rattle.txc_call.specs.Turns.{Standing, Onward, UnlessRefused, UnlessMemory, count_refusal, ask_refusal, AllowedLeads, DoneLeads, AskLeads, AfterValue, AfterAsk, AfterAnswer, AfterMiss, AfterRows, AfterReply, next_ask, outcome_of, unreached, with_answer, with_begun}
+use Rattle.txc_call.specs.Frames.{begun_frame, given}
+use Rattle.txc_shared.specs.declared.ask.Answer.TheVariants as answers
+use Rattle.txc_txn.specs.Core.{CoreValue}
 use Rattle.txc_ports.specs.declared.request.PortRequest.{PortRequest}
 use Rattle.txc_ports.specs.declared.request.PortRequest.TheVariants as requests
 use Rattle.txc_ports.specs.declared.reply.PortReply.{PortReply}
@@ -73,10 +76,95 @@ ask_counts asked s frame outer goes_on on ask os leads =
 
 module _ (next : Next) (s : Standing) where
   value_counts : (frames : List Frame) (asked : ℕ) (o : Outcome) (os : Objects) → AfterValue next frames asked o os (Ok s) → Counts asked s
-  value_counts [] asked o os leads = inl (o, cc)
+  value_counts [] asked o os leads = let done : s.need ≡ Some (needs.Value o) = cc in inl (o, done)
   value_counts (frame ∷ outer) asked o os leads =
+      let after : Frame = given frame o.reach o.tags in
+      let goes_on : Onward = λ idle_os bytes. AfterValue next outer (asked + 1) (unreached after bytes) idle_os (Ok s) in
+      let os' : Objects = with_answer os frame.key.function (answers.Value o.value) in
       ⊎_elim
-      (λ (out : (error : CallError) × (Ok s ≡ Err error) × _). let no = out.1.0 in absurd (cc no))
-      (λ (three : (ask : Ask) × _ × _).
-          ask_counts asked s _ outer _ (λ after bytes on. value_counts outer (asked + 1) _ after on) three.0 _ three.2)
+      (λ no. let no' : Ok s ≡ Err no.0 = no.1 in absurd (cc))
+      (λ (three : (ask : Ask) × (next_ask next os frame (answers.Value o.value) ≡ Some ask) × AskLeads outer asked after ask os' goes_on (Ok s)).
+          ask_counts asked s after outer goes_on (λ idle_os bytes on. value_counts outer (asked + 1) (unreached after bytes) idle_os on) three.0 os' three.2)
       leads
+
+  after_ask_counts : (outer : List Frame) (asked : ℕ) (frame : Frame) (ask : Ask) (os : Objects) → AfterAsk next outer asked frame ask os (Ok s) → Counts asked s
+  after_ask_counts outer asked frame ask os leads =
+      ask_counts asked s frame outer (λ idle_os bytes. AfterValue next outer (asked + 1) (unreached frame bytes) idle_os (Ok s))
+      (λ idle_os bytes on. value_counts outer (asked + 1) (unreached frame bytes) idle_os on) ask os leads
+
+  rows_count : (frames : List Frame) (asked : ℕ) (found : Found) (os : Objects) → AfterRows next frames asked found os (Ok s) → Counts asked s
+  rows_count [] asked found os leads = absurd leads
+  rows_count (frame ∷ outer) asked found os leads =
+      ⊎_elim
+      (λ no. let no' : Ok s ≡ Err no.0 = no.1 in absurd (cc))
+      (λ (three : (ask : Ask) × (next_ask next os frame (answers.Rows found.rows.items) ≡ Some ask)
+          × AfterAsk next outer asked (given frame (Some found.reach) found.tags) ask (with_answer os frame.key.function (answers.Rows found.rows.items)) (Ok s)).
+          after_ask_counts outer asked (given frame (Some found.reach) found.tags) three.0 (with_answer os frame.key.function (answers.Rows found.rows.items)) three.2)
+      leads
+
+  miss_counts : (frames : List Frame) (asked : ℕ) (k : Call) (os : Objects) → AfterMiss next frames asked k os (Ok s) → Counts asked s
+  miss_counts frames asked k os leads =
+      ⊎_elim
+      (λ no. let no' : Ok s ≡ Err no.0 = no.1.0 in absurd (cc))
+      (λ (three : (ask : Ask) × (next k.function k.args [] ≡ Some ask) × AfterAsk next frames asked (begun_frame k) ask (with_begun os k) (Ok s)).
+          after_ask_counts frames asked (begun_frame k) three.0 (with_begun os k) three.2)
+      leads
+
+  -- a reply to what a call needs
+  pub reply_counts : (frames : List Frame) (asked : ℕ) (os : Objects) (need : Need) (reply : Reply) → AfterReply next frames asked os need reply (Ok s) → Counts asked s
+  reply_counts frames asked os (needs.Lookup k) replies.Miss leads = miss_counts frames asked k os leads
+  reply_counts frames asked os (needs.Lookup k) (replies.Hit hit) leads = value_counts frames asked (outcome_of k hit.value hit.reach hit.tags) os leads
+  reply_counts frames asked os (needs.Lookup k) (replies.Found found) leads = absurd leads
+  reply_counts frames asked os (needs.Lookup k) replies.Inserted leads = absurd leads
+  reply_counts frames asked os (needs.Query q) replies.Miss leads = absurd leads
+  reply_counts frames asked os (needs.Query q) (replies.Hit hit) leads = absurd leads
+  reply_counts frames asked os (needs.Query q) (replies.Found found) leads = rows_count frames asked found os leads
+  reply_counts frames asked os (needs.Query q) replies.Inserted leads = absurd leads
+  reply_counts frames asked os (needs.Insert e) replies.Miss leads = absurd leads
+  reply_counts frames asked os (needs.Insert e) (replies.Hit hit) leads = absurd leads
+  reply_counts frames asked os (needs.Insert e) (replies.Found found) leads = absurd leads
+  reply_counts frames asked os (needs.Insert e) replies.Inserted leads = value_counts frames asked (outcome_of e.key e.value e.reach e.tags) os leads
+  reply_counts frames asked os (needs.Value o) replies.Miss leads = absurd leads
+  reply_counts frames asked os (needs.Value o) (replies.Hit hit) leads = absurd leads
+  reply_counts frames asked os (needs.Value o) (replies.Found found) leads = absurd leads
+  reply_counts frames asked os (needs.Value o) replies.Inserted leads = absurd leads
+
+-- ---- requests that may follow
+
+-- how far a pin of the present still has to go
+abbrev pub steps_of : PinStep → ℕ
+steps_of Asked = 3
+steps_of (Adding pin) = 2
+steps_of (Dropping stamp error) = 1
+
+-- the present may still be pinned, once, and the call ask so often
+abbrev pub left : Bool → Option Pinning → ℕ → ℕ
+left false pinning asked = MAX_CALL_ASKS - asked
+left true None asked = MAX_CALL_ASKS + 4 + (MAX_CALL_ASKS - asked)
+left true (Some p) asked = MAX_CALL_ASKS + steps_of p.step
+
+abbrev pub left_of : CoreValue → ℕ
+left_of c = left c.pins.has_present c.pinning c.call.asked
+
+-- none where the call has ended
+abbrev pub requests_left : Turn → CoreValue → ℕ
+requests_left (Ask request) c = suc (left_of c)
+requests_left Begun c = 0
+requests_left (Value value) c = 0
+requests_left (Rows rows) c = 0
+requests_left (At stamp) c = 0
+requests_left (Refused error) c = 0
+
+steps_few : (step : PinStep) → steps_of step ≤ 3
+steps_few Asked = omega arith
+steps_few (Adding pin) = omega arith
+steps_few (Dropping stamp error) = omega arith
+
+-- after a reply to the call that was counted
+counted_down : (before after : Bool) (pinning : Option Pinning) (a b : ℕ) → (after ≡ true → before ≡ true) → a < b → b ≤ MAX_CALL_ASKS
+    → left after pinning b < left before None a
+counted_down true true None a b keeps less most = omega (arith, less, most)
+counted_down true true (Some p) a b keeps less most = let few = steps_few p.step in omega (arith, few)
+counted_down true false pinning a b keeps less most = omega (arith, less, most)
+counted_down false true pinning a b keeps less most = let no : false ≡ true = keeps refl in absurd (cc no)
+counted_down false false pinning a b keeps less most = omega (arith, less, most)

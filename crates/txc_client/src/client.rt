@@ -2,6 +2,9 @@
 ghost use Rattle.std.specs.Prelude.{◌≡◌, ◌≤◌, ◌<◌, ◌⊎◌, [], get_or, true, All, Any, IfErr, IfOk, length, map};
 ghost use Rattle.txc_registry.specs.Objects.{AllIdle};
 ghost use Rattle.txc_shared.specs.Refusals.{IsNewPassRefused, MayRefuse};
+ghost use Rattle.txc_shared.specs.Eval.{Next};
+ghost use Rattle.txc_registry.specs.Objects.{Objects};
+ghost use Rattle.txc_txn.specs.Core.{value_of, CoreHolds, IsCore, IsIdle};
 ghost use Rattle.txc_txn.specs.Kept.{IsKept};
 ghost use Rattle.txc_client.specs.Txn.{client_of};
 
@@ -80,28 +83,29 @@ impl<'a, A: App, C: Cacheable, J: Naming> Client<'a, A, C, J> {
         ensures recorded { IfOk result (λ txn. txn.txn.core.recorded ≡ []) }
         ensures meant { IfOk result (λ txn. IsKept A.next txn.txn) }
         ensures present { IfOk result (λ txn. txn.txn.core.pins.has_present ≡ true) }
-        ensures client { IfOk result (λ txn. client_of txn ≡ self) }
-        ensures handed_back { IfErr result (λ e. e.1 ≡ self) }
+        ensures client { IfOk result (λ txn. client_of txn ≡ self.entry) }
+        ensures handed_back { IfErr result (λ e. e.1 ≡ self.entry) }
     {
-        let Bounds {
-            now,
-            staleness,
-            at_least,
-        } = bounds;
-        let pins = match self.ports.cushion.fresh(rt, alloc, now, staleness, at_least) {
-            Ok(pins) => pins,
-            Err(error) => return Err((error, self)),
-        };
-        let nodes = self.ports.len();
-        match TxnCore::begin(alloc, nodes, self.renew_after, bounds, pins) {
+        let Client {
+            ports,
+            registry,
+            renew_after,
+        } = self;
+        let cushion = ports.cushion;
+        let nodes = ports.len();
+        match begun(rt, alloc, cushion, nodes, renew_after, bounds) {
             Ok(core) => Ok(RoTxn {
-                ports: self.ports,
-                renew_after: self.renew_after,
-                txn: RunningTxn::new(core, self.registry),
+                ports,
+                renew_after,
+                txn: RunningTxn::new(core, registry),
             }),
-            Err(pins) => {
-                give_back_each(rt, self.ports.cushion, &pins);
-                Err((AllocError, self))
+            Err(error) => {
+                let client = Client {
+                    ports,
+                    registry,
+                    renew_after,
+                };
+                Err((error, client))
             }
         }
     }
@@ -112,6 +116,43 @@ impl<'a, A: App, C: Cacheable, J: Naming> Client<'a, A, C, J> {
         ensures { result.now ≡ get_or self.now.passes node result.now }
     {
         self.ports.pass(node)
+    }
+}
+
+// A core with the pins that the pincushion hands out for its bounds. Out of memory, they are given back.
+fn begun<J: Naming>(
+    rt: &impl Wait,
+    alloc: Global,
+    cushion: &Pincushion<J>,
+    nodes: usize,
+    renew_after: u64,
+    bounds: Bounds,
+) -> Result<TxnCore, AllocError>
+    requires { 1 ≤ nodes }
+    ensures fits { IfOk result (λ core. (next : Next) (objects : Objects) → AllIdle objects
+        → IsCore next objects (value_of core)) }
+    ensures holds { IfOk result (λ core. (next : Next) (objects : Objects)
+        → CoreHolds next (value_of core).seen.history objects (value_of core)) }
+    ensures idle { IfOk result (λ core. IsIdle (value_of core)) }
+    ensures row { IfOk result (λ core. (value_of core).seen.events ≡ J.database_row) }
+    ensures bounds { IfOk result (λ core. (value_of core).bounds ≡ bounds) }
+    ensures renew_after { IfOk result (λ core. (value_of core).renew_after ≡ renew_after) }
+    ensures nodes { IfOk result (λ core. (value_of core).nodes ≡ nodes) }
+    ensures recorded { IfOk result (λ core. (value_of core).recorded ≡ []) }
+    ensures present { IfOk result (λ core. (value_of core).pins.has_present ≡ true) }
+{
+    let Bounds {
+        now,
+        staleness,
+        at_least,
+    } = bounds;
+    let pins = cushion.fresh(rt, alloc, now, staleness, at_least)?;
+    match TxnCore::begin(alloc, nodes, renew_after, bounds, pins) {
+        Ok(core) => Ok(core),
+        Err(pins) => {
+            give_back_each(rt, cushion, &pins);
+            Err(AllocError)
+        }
     }
 }
 

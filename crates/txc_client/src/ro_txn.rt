@@ -111,36 +111,46 @@ impl<'a, A: App, C: Cacheable, J: Naming> RoTxn<'a, A, C, J> {
     /// Ends the transaction, and returns what explains its answers, and the client. It can't be refused, and takes no
     /// memory.
     pub fn commit(self, rt: &impl Wait) -> (Receipt, Client<'a, A, C, J>)
-        ensures answers { result.0.answers.items ≡ self.txn.core.recorded }
-        ensures pin { result.0.pin ≡ receipt_pin self.txn.core.recorded self.txn.core.pins.members }
-        ensures explained { Explains A.next result.0.seen.history self.txn.core.bounds result.0.pin
+        ensures answers { result.0.answers.items ≡ self.entry.txn.core.recorded }
+        ensures pin { result.0.pin ≡ receipt_pin self.entry.txn.core.recorded self.entry.txn.core.pins.members }
+        ensures explained { Explains A.next result.0.seen.history self.entry.txn.core.bounds result.0.pin
             result.0.answers.items }
-        ensures seen { result.0.seen ≡ self.txn.core.seen }
-        ensures client { result.1 ≡ client_of self }
+        ensures seen { result.0.seen ≡ self.entry.txn.core.seen }
+        ensures client { result.1 ≡ client_of self.entry }
     {
-        let (receipt, give_back, registry) = self.txn.finish();
-        let _ = self.ports.cushion.give_back(rt, &give_back);
+        let RoTxn {
+            ports,
+            renew_after,
+            txn,
+        } = self;
+        let (receipt, give_back, registry) = txn.finish();
+        let _ = ports.cushion.give_back(rt, &give_back);
         let client = Client {
-            ports: self.ports,
+            ports,
             registry,
-            renew_after: self.renew_after,
+            renew_after,
         };
         (receipt, client)
     }
 
     /// Gives the transaction up, and returns the client. It takes no memory.
     pub fn abort(self, rt: &impl Wait) -> Client<'a, A, C, J>
-        ensures { result ≡ client_of self }
+        ensures { result ≡ client_of self.entry }
     {
-        let (left, registry) = self.txn.cancel();
-        let _ = self.ports.cushion.give_back(rt, &left.give_back);
+        let RoTxn {
+            ports,
+            renew_after,
+            txn,
+        } = self;
+        let (left, registry) = txn.cancel();
+        let _ = ports.cushion.give_back(rt, &left.give_back);
         if let Some(stamp) = left.unpin {
-            let _ = self.ports.database.unpin(rt, stamp);
+            let _ = ports.database.unpin(rt, stamp);
         }
         Client {
-            ports: self.ports,
+            ports,
             registry,
-            renew_after: self.renew_after,
+            renew_after,
         }
     }
 }
