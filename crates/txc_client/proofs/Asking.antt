@@ -7,7 +7,8 @@ use Rattle.txc_stamp.specs.Interval.{Interval, Holds}
 use Rattle.txc_tags.specs.Keys.{Call, node_of}
 use Rattle.txc_rows.specs.declared.query.Query.{Query}
 use Rattle.txc_node.specs.declared.entry.Entry.{Entry}
-use Rattle.txc_db.specs.History.{History}
+use Rattle.txc_db.specs.History.{History, moment_at}
+use Rattle.txc_db.specs.Seen.{FrontValue}
 use Rattle.txc_cushion.specs.declared.pin.Pin.{Pin}
 use Rattle.txc_cushion.specs.Pinning.{is_older}
 use Rattle.txc_pinset.specs.declared.choice.Choice.{Choice}
@@ -60,7 +61,7 @@ module _ (next : Next) (row : List ℕ) (old new : TxnValue) (turn : Turn) where
   pub adds_next : (reply : PortReply) → IsOfRow row reply → AddsOnly reply turn
       → ReplyLeads next old.core old.objects reply new.core new.objects turn → AddsOf row turn
   adds_next (replies.Fresh pins) of only leads = no_adding row turn only
-  adds_next (replies.Pin (Ok pinned)) of only leads = subst (AddsOf row) (sym leads) of
+  adds_next (replies.Pin (Ok pinned)) of only leads = subst (AddsOf row) (sym leads) (of pinned.front refl)
   adds_next (replies.Pin (Err error)) of only leads = no_adding row turn only
   adds_next (replies.AddPin pinned added) of only leads = no_adding row turn only
   adds_next replies.Unpin of only leads = no_adding row turn only
@@ -84,7 +85,7 @@ module _ (next : Next) (row : List ℕ) (t : TxnValue) (kept : IsKept next t) wh
   may_ask nodes same (requests.Pin now at_least) asking adds = tt
   may_ask nodes same (requests.AddPin pinned) asking adds = adds
   may_ask nodes same (requests.Unpin stamp) asking adds = tt
-  may_ask nodes same (requests.Lookup node key lo hi) asking adds = node_there key node nodes asking.1.0 same
+  may_ask nodes same (requests.Lookup node key lo hi) asking adds = node_there key node nodes asking.1 same
   may_ask nodes same (requests.Query query stamp) asking adds = tt
   may_ask nodes same (requests.Insert node entry) asking adds = (
     node_there entry.key node nodes asking.1 same,
@@ -109,7 +110,7 @@ chosen now renew_after present (newest ∷ older) stamp reach is around = go (pr
 module _ (next : Next) (c : CoreValue) where
   pub is_answered : (request : PortRequest) (reply : PortReply) → IsAsking c request → IsReplyTo next request reply → IsAnswered c reply
   is_answered (requests.Pin now at_least) (replies.Pin (Ok pinned)) asking to =
-      (asking.0, to.0 ∙ asking.2.0, subst (λ (n : ℕ). n ≤ pinned.stamp) asking.2.1 to.1)
+      (asking.0, to.0 ∙ asking.2, subst (λ (n : ℕ). n ≤ pinned.stamp) asking.3 to.1)
   is_answered (requests.Pin now at_least) (replies.Pin (Err error)) asking to = asking.0
   is_answered (requests.AddPin pinned) (replies.AddPin given added) asking to = subst (λ p. IsAnswered c (replies.AddPin p added)) (sym to) asking
   is_answered (requests.Unpin stamp) replies.Unpin asking to = (stamp, asking.0, asking.1)
@@ -182,20 +183,26 @@ module _ (next : Next) (c : CoreValue) where
 
 module _ (next : Next) (t : TxnValue) where
   needs_this : (n m : Need) → t.core.call.need ≡ Some n → t.core.call.need ≡ Some m → n ≡ m
-  needs_this n m reply L is at = let same : Some n ≡ Some m = sym is ∙ at in cc
+  needs_this n m is at = let same : Some n ≡ Some m = sym is ∙ at in cc
 
   pub is_right : (request : PortRequest) (reply : PortReply) → IsAsking t.core request → IsReplyTo next request reply → IsShownRight next t reply
-  is_right (requests.Pin now at_least) (replies.Pin (Ok pinned)) asking to = to.2
-  is_right (requests.Pin now at_least) (replies.Pin (Err error)) asking to = tt
-  is_right (requests.AddPin pinned) (replies.AddPin given added) asking to = tt
-  is_right (requests.Unpin stamp) replies.Unpin asking to = tt
-  is_right (requests.Lookup node key lo hi) (replies.Lookup None) asking to = tt
-  is_right (requests.Lookup node key lo hi) (replies.Lookup (Some hit)) asking to = λ n is.
-      subst (λ (m : Need). ReplyHolds next hit.front.history m (calls.Hit hit.answer)) (needs_this (needs.Lookup key) n asking.0.1 is) to
-  is_right (requests.Query query stamp) (replies.Query (Ok found)) asking to = λ n is.
-      subst (λ (m : Need). ReplyHolds next found.front.history m (calls.Found found.answer)) (needs_this (needs.Query query) n asking.0.1 is) to.rows
-  is_right (requests.Query query stamp) (replies.Query (Err error)) asking to = tt
-  is_right (requests.Insert node entry) replies.Insert asking to = tt
+  is_right (requests.Pin now at_least) (replies.Pin (Ok pinned)) asking to = λ front is.
+      let same : pinned.front ≡ front = cc in
+      subst (λ (f : FrontValue). moment_at f.history pinned.stamp ≡ Some pinned.moment) same to.2
+  is_right (requests.Pin now at_least) (replies.Pin (Err error)) asking to = λ front is. absurd (cc is)
+  is_right (requests.AddPin pinned) (replies.AddPin given added) asking to = λ front is. tt
+  is_right (requests.Unpin stamp) replies.Unpin asking to = λ front is. absurd (cc is)
+  is_right (requests.Lookup node key lo hi) (replies.Lookup None) asking to = λ front is. absurd (cc is)
+  is_right (requests.Lookup node key lo hi) (replies.Lookup (Some hit)) asking to = λ front is n at.
+      let same : hit.front ≡ front = cc in
+      subst (λ (f : FrontValue). ReplyHolds next f.history n (calls.Hit hit.answer)) same
+      (subst (λ (m : Need). ReplyHolds next hit.front.history m (calls.Hit hit.answer)) (needs_this (needs.Lookup key) n asking.0.1 at) to)
+  is_right (requests.Query query stamp) (replies.Query (Ok found)) asking to = λ front is n at.
+      let same : found.front ≡ front = cc in
+      subst (λ (f : FrontValue). ReplyHolds next f.history n (calls.Found found.answer)) same
+      (subst (λ (m : Need). ReplyHolds next found.front.history m (calls.Found found.answer)) (needs_this (needs.Query query) n asking.0.1 at) to.rows)
+  is_right (requests.Query query stamp) (replies.Query (Err error)) asking to = λ front is. absurd (cc is)
+  is_right (requests.Insert node entry) replies.Insert asking to = λ front is. absurd (cc is)
   is_right (requests.Pin now at_least) (replies.Fresh pins) asking to = absurd to
   is_right (requests.Pin now at_least) (replies.AddPin given added) asking to = absurd to
   is_right (requests.Pin now at_least) replies.Unpin asking to = absurd to

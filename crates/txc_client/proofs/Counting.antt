@@ -30,7 +30,7 @@ use Rattle.txc_ports.specs.declared.request.PortRequest.TheVariants as requests
 use Rattle.txc_ports.specs.declared.reply.PortReply.{PortReply}
 use Rattle.txc_ports.specs.declared.reply.PortReply.TheVariants as ports
 use Rattle.txc_ports.specs.declared.turn.Turn.{Turn}
-use Rattle.txc_ports.specs.declared.turn.Turn.TheVariants.{Ask, Begun, Value, Rows, At, Refused}
+use Rattle.txc_ports.specs.declared.turn.Turn.TheVariants as turns
 use Rattle.txc_txn.specs.declared.pinning.Pinning.{Pinning}
 use Rattle.txc_txn.specs.declared.pinning.PinStep.{PinStep}
 use Rattle.txc_txn.specs.declared.pinning.PinStep.TheVariants.{Asked, Adding, Dropping}
@@ -148,12 +148,12 @@ left_of c = left c.pins.has_present c.pinning c.call.asked
 
 -- none where the call has ended
 abbrev pub requests_left : Turn → CoreValue → ℕ
-requests_left (Ask request) c = suc (left_of c)
-requests_left Begun c = 0
-requests_left (Value value) c = 0
-requests_left (Rows rows) c = 0
-requests_left (At stamp) c = 0
-requests_left (Refused error) c = 0
+requests_left (turns.Ask request) c = suc (left_of c)
+requests_left turns.Begun c = 0
+requests_left (turns.Value value) c = 0
+requests_left (turns.Rows rows) c = 0
+requests_left (turns.At stamp) c = 0
+requests_left (turns.Refused error) c = 0
 
 steps_few : (step : PinStep) → steps_of step ≤ 3
 steps_few Asked = omega arith

@@ -10,8 +10,8 @@ use Rattle.txc_client.proofs.Asking.{AddsOf}
 use Rattle.txc_client.proofs.Counting.{requests_left}
 use Rattle.txc_client.proofs.calling.call_at.Given as goal
 
-abbrev pub invariant-loop : goal.invariant-loop
-invariant-loop g l = record {
+abbrev pub invariant-loop-turn : goal.invariant-loop-turn
+invariant-loop-turn g l = record {
   passes : HaveGrown l.fn.ports l.ports;
   turn : IsTurn l.txn.core l.turn;
   adds : AddsOf g.J.Naming.database_row l.turn;
@@ -24,5 +24,5 @@ invariant-loop g l = record {
       → l.turn ≡ Refused (errors.Call (NoFunction l.fn.key.function));
 }
 
-abbrev pub decreases-loop : goal.decreases-loop
-decreases-loop g l = requests_left l.turn l.txn.core
+abbrev pub decreases-loop-turn : goal.decreases-loop-turn
+decreases-loop-turn g l = requests_left l.turn l.txn.core
