@@ -28,4 +28,6 @@ mod run;
 #[cfg(test)]
 mod shared;
 #[cfg(test)]
+mod transactions;
+#[cfg(test)]
 mod validity;
