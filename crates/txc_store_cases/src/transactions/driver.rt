@@ -88,7 +88,9 @@ impl<A: App, C: Cacheable> Driver<A, C> {
             staleness,
             at_least: Stamp::ZERO,
         };
-        let core = TxnCore::begin(alloc, 1, 5000, bounds, pins).ok()?;
+        let Ok(core) = TxnCore::begin(alloc, 1, 5000, bounds, pins) else {
+            return None;
+        };
         Some(Driver {
             database,
             registry,
