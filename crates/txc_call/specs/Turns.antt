@@ -84,7 +84,7 @@ error_of f faults.Args = errors.BadArguments f
 abbrev pub IsOutOfMemory : CallError → Type 0
 IsOutOfMemory error = (error ≡ errors.Memory) ⊎ (error ≡ errors.ObjectMemory)
 
--- refused for want of memory, or else this holds
+-- refused as out of memory, or else this holds
 abbrev pub UnlessMemory : Turn → Type 0 → Type 0
 UnlessMemory turn rest = ((error : CallError) × (turn ≡ Err error) × IsOutOfMemory error) ⊎ rest
 
