@@ -1,3 +1,4 @@
 pub mod Refusals
 pub mod Answers
 pub mod Fronts
+pub mod Asking

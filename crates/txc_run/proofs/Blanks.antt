@@ -1,9 +1,9 @@
 -- The words of a text, as its parts between blanks.
-use Rattle.std.proofs.Common.{◌≡◌, ◌≢◌, ℕ, ◌-◌, ◌<◌, Bool, true, false, zero, suc, List, [], ◌∷◌, ◌++◌, length, take, refl, sym, ap, ◌∙◌, arith}
-use Rattle.std.specs.List.{All, AllByRecursion, onto_first, join_with_byte}
+use Rattle.std.proofs.Common.{◌≡◌, ◌≢◌, ℕ, ◌+◌, ◌-◌, ◌<◌, ◌≤◌, ◌||◌, Bool, true, false, zero, suc, List, [], ◌∷◌, ◌++◌, length, take, Result, Ok, Err, OnErr, refl, sym, ap, ◌∙◌, arith}
+use Rattle.std.specs.List.{All, AllByRecursion, onto_first, join_with_byte, list_any}
 use Rattle.std.proofs.lemmas.Bool.Decides.{nat_tests}
 use Rattle.std.proofs.lemmas.List.Elements.{All-cons, All-nil, recursion_from_All}
-use Rattle.std.proofs.lemmas.List.Splits.{slice_split_at, slice_split_none, join_with_byte-slice_split}
+use Rattle.std.proofs.lemmas.List.Splits.{slice_split_at, slice_split_none, join_with_byte-slice_split, length-slice_split}
 use Rattle.txc_run.specs.Words.{HasNoBlank, HasWords, is_blank, words_of}
 
 is_other : (b : ℕ) → b ≢ 32 → is_blank b ≡ false
@@ -48,6 +48,63 @@ joined_are w (v ∷ words) h = words_cut _ w (join_with_byte 32 (v ∷ words)) r
 
 pub words_are : (text w : List ℕ) (words : List (List ℕ)) → HasWords text (w ∷ words) → words_of text ≡ w ∷ words
 words_are text w words h = ap words_of h.joined ∙ joined_are w words (recursion_from_All HasNoBlank (w ∷ words) h.each_is_one)
+
+-- ---- texts of so many words
+
+pub some_word : (text : List ℕ) → 1 ≤ length (words_of text)
+some_word text = omega (arith, length-slice_split is_blank text)
+
+length-onto_first : (x : ℕ) (parts : List (List ℕ)) → 1 ≤ length parts → length (onto_first x parts) ≡ length parts
+length-onto_first x [] h = absurd (omega arith)
+length-onto_first x (part ∷ parts) h = refl
+
+-- a text with a blank is two words at least
+blank_parts : (text : List ℕ) → list_any is_blank text ≡ true → 2 ≤ length (words_of text)
+blank_parts [] h = cc
+blank_parts (x ∷ text) h =
+    let go : (b : Bool) → is_blank x ≡ b → (b || list_any is_blank text) ≡ true → 2 ≤ length (words_of (x ∷ text)) = λ b. elim b as (λ v. is_blank x ≡ v → (v || list_any is_blank text) ≡ true → 2 ≤ length (words_of (x ∷ text))) [
+      | true ↦ (λ e k. rw e (omega (arith, some_word text)))
+      | false ↦ (λ e k. rw e (omega (arith, length-onto_first x (words_of text) (some_word text), blank_parts text k)))
+    ] in
+    go (is_blank x) refl h
+
+none_blank : (text : List ℕ) → list_any is_blank text ≡ false → HasNoBlank text
+none_blank [] h = All-nil (λ b. b ≢ 32)
+none_blank (x ∷ text) h =
+    let go : (b : Bool) → is_blank x ≡ b → (b || list_any is_blank text) ≡ false → HasNoBlank (x ∷ text) = λ b. elim b as (λ v. is_blank x ≡ v → (v || list_any is_blank text) ≡ false → HasNoBlank (x ∷ text)) [
+      | true ↦ (λ e k. absurd (let no : true ≡ false = k in cc))
+      | false ↦ (λ e k. let other : x ≢ 32 = grind (arith, nat_tests) in All-cons (λ b. b ≢ 32) x text other (none_blank text k))
+    ] in
+    go (is_blank x) refl h
+
+pub one_word_is : (text : List ℕ) → list_any is_blank text ≡ false → words_of text ≡ text ∷ []
+one_word_is text h = words_alone text (none_blank text h)
+
+pub not_one_word : (text : List ℕ) → list_any is_blank text ≡ true → length (words_of text) ≡ 1 → ⊥
+not_one_word text h e = omega (arith, blank_parts text h, e)
+
+-- a text without a blank is not more words
+pub no_more_words : (text : List ℕ) (n : ℕ) → 2 ≤ n → HasNoBlank text → length (words_of text) ≡ n → ⊥
+no_more_words text n l bare e = omega (arith, ap length (words_alone text bare), e)
+
+-- a text of one word more than another
+pub word_before : (text w rest : List ℕ) (words : List (List ℕ)) → text ≡ w ++ 32 ∷ rest → HasNoBlank w → words_of rest ≡ words → words_of text ≡ w ∷ words
+word_before text w rest words e bare is = words_cut text w rest e bare ∙ ap (λ (ws : List (List ℕ)). w ∷ ws) is
+
+pub words_before : (text w rest : List ℕ) → text ≡ w ++ 32 ∷ rest → HasNoBlank w → length (words_of text) ≡ length (words_of rest) + 1
+words_before text w rest e bare = omega (arith, ap length (words_cut text w rest e bare))
+
+pub on_err : {T E : Type 0} (r : Result T E) (P : Type 0) → P → OnErr r P
+on_err (Ok x) P h = tt
+on_err (Err e) P h = h
+
+-- the rest has not so many
+pub too_few : {T E : Type 0} (r : Result T E) (text w rest : List ℕ) (n : ℕ) → text ≡ w ++ 32 ∷ rest → HasNoBlank w → length (words_of rest) ≢ n → OnErr r (length (words_of text) ≢ n + 1)
+too_few r text w rest n e bare other = on_err r (length (words_of text) ≢ n + 1) (λ is. other (omega (arith, words_before text w rest e bare, is)))
+
+-- the words after one are so many fewer
+pub fewer_words : (text w rest : List ℕ) (n : ℕ) → text ≡ w ++ 32 ∷ rest → HasNoBlank w → (length (words_of rest) ≡ n → ⊥) → length (words_of text) ≡ n + 1 → ⊥
+fewer_words text w rest n e bare other is = other (omega (arith, words_before text w rest e bare, is))
 
 -- ---- words that are taken one after the other
 

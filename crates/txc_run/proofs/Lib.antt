@@ -1,5 +1,8 @@
 pub mod Cuts
+pub mod DigitTable
+pub mod Digits
 pub mod Streams
+pub mod Scans
 pub mod Blanks
 pub mod HexDigits
 pub mod WordFaults

@@ -1,6 +1,5 @@
 -- A run answers its lines.
 use Rattle.std.proofs.Common.{◌≡◌, ◌≢◌, ℕ, ◌+◌, Bool, true, false, ◌||◌, suc, ◌≤◌, List, [], ◌∷◌, ◌++◌, length, take, Ok, Err, Result, IfOk, OnErr, refl, sym, ap, subst, ◌∙◌, arith, append_assoc, eqb, inl, inr}
-use Rattle.std.specs.Prelude.{string_bytes}
 use Rattle.std.specs.List.{list_any}
 use Rattle.std.specs.declared.alloc.AllocError.{AllocError}
 use Rattle.std.proofs.lemmas.Bool.Decides.{nat_tests}
@@ -15,6 +14,8 @@ use Rattle.txc_run.specs.Runs.{Start}
 use Rattle.txc_run.specs.Replies.{mode_of, HasCounted, counted_by}
 use Rattle.txc_run.specs.Sessions.{kept_of, AnswersLine, HasAnswered, IsStopped, IsHalted, HasLast, HasEnded, IsUnclosed, AnswersAs, AnswersLast}
 use Rattle.txc_run.specs.LineFaults.{IsFaultOf}
+use Rattle.txc_node.specs.Cache.{Cache}
+use Rattle.txc_run.specs.declared.line_fault.LineFault.{LineFault}
 use Rattle.txc_run.specs.declared.line_fault.MalformedLine.{MalformedLine}
 use Rattle.txc_run.specs.declared.piece.TheConstants.{MAX_KEPT}
 use Rattle.txc_run.specs.declared.session.Session.{Session}
@@ -22,28 +23,58 @@ use Rattle.txc_run.specs.declared.session.Flow.{Flow}
 use Rattle.txc_run.specs.declared.session.Flow.TheVariants.{GoesOn, Stopped}
 use Rattle.txc_run.proofs.Answered.{given_more, begins_more, begins_longer, kept_append, gives_whole, any_more, text_more, all_written, fault_whole}
 
+none_taken : (n : ℕ) (xs : List ℕ) → take (suc n) xs ≡ [] → xs ≡ []
+none_taken n [] h = refl
+none_taken n (x ∷ xs) h = cc
+
+nothing_kept : (rest : List ℕ) → kept_of rest ≡ [] → rest ≡ []
+nothing_kept rest h = none_taken 4096 rest h
+
+-- what is read of a line as these bytes is read of the whole line too
+record ReadsAs (read line : List ℕ) : Type 0 where
+  gives : (c : Cache) (n : ℕ) (g : Given) (next : Cache) → Gives c n read g next → Gives c n line g next
+  fault : (fault : LineFault) → IsFaultOf read fault → IsFaultOf line fault
+
+kept_reads : (read line : List ℕ) → read ≡ kept_of line → ReadsAs read line
+kept_reads read line is = record {
+  gives = λ c n g next h. gives_whole c n line g next (subst (λ (l : List ℕ). Gives c n l g next) is h);
+  fault = λ fault h. fault_whole line fault (subst (λ (l : List ℕ). IsFaultOf l fault) is h);
+}
+
+whole_reads : (read line : List ℕ) → read ≡ line → ReadsAs read line
+whole_reads read line is = record {
+  gives = λ c n g next h. subst (λ (l : List ℕ). Gives c n l g next) is h;
+  fault = λ fault h. subst (λ (l : List ℕ). IsFaultOf l fault) is h;
+}
+
+-- the line that was read as these bytes was answered
+record IsAnswered (s next : Session) (read : List ℕ) (flow : Flow) : Type 0 where
+  answers : AnswersLine s.node next.node s.replies next.replies (s.lines + 1) read flow
+  count : next.lines ≡ s.lines + 1
+  emptied : next.line ≡ []
+
 -- what holds where the line that began with `rest` was answered, as a line that is `line` whole
 record LineAdded (start : Start) (written : List ℕ) (s : Session) (lines : List (List ℕ)) (given : List Given) : Type 0 where
   are_given : AreGiven start.cache 1 lines given s.node
   mode : mode_of s.replies ≡ start.mode
-  text : written ++ string_bytes s.replies.text ≡ lines_text start.mode given
+  text : written ++ s.replies.text.items ≡ lines_text start.mode given
   counted : HasCounted given s.replies
   refused : s.replies.is_refused ≡ list_any is_refused given
   count : s.lines ≡ length lines
 
-added_line : (start : Start) (read written before x : List ℕ) (s next : Session) (flow : Flow) (k : counted_by s.replies ≤ s.lines) (h : HasAnswered start read written s) → x ≡ kept_of (h.rest ++ before)
-    → (a : AnswersLine (record s { line = x; counted = k }) next flow) → LineAdded start written next (h.lines ++ (h.rest ++ before) ∷ []) (h.given ++ a.given ∷ [])
-added_line start read written before x s next flow k h is a =
+added_line : (start : Start) (read written before x : List ℕ) (s next : Session) (flow : Flow) (h : HasAnswered start read written s) → ReadsAs x (h.rest ++ before)
+    → (a : IsAnswered s next x flow) → LineAdded start written next (h.lines ++ (h.rest ++ before) ∷ []) (h.given ++ a.answers.given ∷ [])
+added_line start read written before x s next flow h reads a =
     let line = h.rest ++ before in
+    let given = a.answers.given in
     let number : s.lines + 1 ≡ 1 + length h.lines = omega (arith, h.count) in
-    let gives : Gives s.node (1 + length h.lines) line a.given next.node = gives_whole s.node (1 + length h.lines) line a.given next.node
-    (subst (λ (l : List ℕ). Gives s.node (1 + length h.lines) l a.given next.node) is (subst (λ (m : ℕ). Gives s.node m x a.given next.node) number a.gives)) in
+    let gives : Gives s.node (1 + length h.lines) line given next.node = reads.gives s.node (1 + length h.lines) given next.node (subst (λ (m : ℕ). Gives s.node m x given next.node) number a.answers.gives) in
     record {
-      are_given = given_more start.cache 1 h.lines h.given s.node line a.given next.node h.are_given h.well_formed gives;
-      mode = a.takes.mode ∙ h.mode;
-      text = text_more start.mode (mode_of s.replies) written (string_bytes s.replies.text) (string_bytes next.replies.text) h.given a.given h.mode h.text a.takes.text;
-      counted = a.takes.counted h.given h.counted;
-      refused = a.takes.refused ∙ ap (λ (b : Bool). b || is_refused a.given) h.refused ∙ sym (any_more is_refused h.given a.given);
+      are_given = given_more start.cache 1 h.lines h.given s.node line given next.node h.are_given h.well_formed gives;
+      mode = a.answers.takes.mode ∙ h.mode;
+      text = text_more start.mode (mode_of s.replies) written s.replies.text.items next.replies.text.items h.given given h.mode h.text a.answers.takes.text;
+      counted = a.answers.takes.counted h.given h.counted;
+      refused = a.answers.takes.refused ∙ ap (λ (b : Bool). b || is_refused given) h.refused ∙ sym (any_more is_refused h.given given);
       count = omega (arith, a.count, h.count, length-append h.lines (line ∷ []));
     }
 
@@ -51,16 +82,16 @@ no_end : HasNoEnd []
 no_end = λ k d l. absurd (omega arith)
 
 -- the line that ends after `before` was answered
-pub answered_line : (start : Start) (read written before x : List ℕ) (s next : Session) (flow : Flow) (k : counted_by s.replies ≤ s.lines) (h : HasAnswered start read written s) → HasNoEnd before
-    → x ≡ take MAX_KEPT (s.line ++ before) → AnswersLine (record s { line = x; counted = k }) next flow → AnswersAs start (read ++ (before ++ 10 ∷ [])) written next (Ok flow)
-answered_line start read written before x s next GoesOn k h bare is a =
+answered_line : (start : Start) (read written before x : List ℕ) (s next : Session) (flow : Flow) (h : HasAnswered start read written s) → HasNoEnd before
+    → ReadsAs x (h.rest ++ before) → IsAnswered s next x flow → AnswersAs start (read ++ (before ++ 10 ∷ [])) written next (Ok flow)
+answered_line start read written before x s next GoesOn h bare reads a =
     let line = h.rest ++ before in
-    let whole : x ≡ kept_of line = is ∙ ap (λ (l : List ℕ). take MAX_KEPT (l ++ before)) h.kept ∙ kept_append MAX_KEPT h.rest before in
-    let added = added_line start read written before x s next GoesOn k h whole a in
-    let malformed : list_any is_malformed (h.given ++ a.given ∷ []) ≡ is_malformed a.given = any_more is_malformed h.given a.given ∙ ap (λ (b : Bool). b || is_malformed a.given) h.well_formed in
+    let added = added_line start read written before x s next GoesOn h reads a in
+    let given = a.answers.given in
+    let malformed : list_any is_malformed (h.given ++ given ∷ []) ≡ is_malformed given = any_more is_malformed h.given given ∙ ap (λ (b : Bool). b || is_malformed given) h.well_formed in
     record {
       lines = h.lines ++ line ∷ [];
-      given = h.given ++ a.given ∷ [];
+      given = h.given ++ given ∷ [];
       rest = [];
       are_given = added.are_given;
       begins = begins_more read h.lines h.rest before h.begins h.not_ended bare;
@@ -71,23 +102,23 @@ answered_line start read written before x s next GoesOn k h bare is a =
       counted = added.counted;
       count = added.count;
       refused = added.refused;
-      well_formed = malformed ∙ a.flow_is;
+      well_formed = malformed ∙ a.answers.flow_is;
     }
-answered_line start read written before x s next (Stopped bad) k h bare is a =
+answered_line start read written before x s next (Stopped bad) h bare reads a =
     let line = h.rest ++ before in
-    let whole : x ≡ kept_of line = is ∙ ap (λ (l : List ℕ). take MAX_KEPT (l ++ before)) h.kept ∙ kept_append MAX_KEPT h.rest before in
-    let added = added_line start read written before x s next (Stopped bad) k h whole a in
-    let malformed : list_any is_malformed (h.given ++ a.given ∷ []) ≡ is_malformed a.given = any_more is_malformed h.given a.given ∙ ap (λ (b : Bool). b || is_malformed a.given) h.well_formed in
+    let added = added_line start read written before x s next (Stopped bad) h reads a in
+    let given = a.answers.given in
+    let malformed : list_any is_malformed (h.given ++ given ∷ []) ≡ is_malformed given = any_more is_malformed h.given given ∙ ap (λ (b : Bool). b || is_malformed given) h.well_formed in
     record {
       lines = h.lines ++ line ∷ [];
-      given = h.given ++ a.given ∷ [];
+      given = h.given ++ given ∷ [];
       others = [];
       answers = record { end = next.node; are_given = added.are_given };
       begins = begins_more read h.lines h.rest before h.begins h.not_ended bare;
-      text = all_written start.mode _ (h.given ++ a.given ∷ []) (malformed ∙ a.flow_is.0) added.text;
+      text = all_written start.mode _ (h.given ++ given ∷ []) (malformed ∙ a.answers.flow_is.0) added.text;
       refused = added.refused;
-      malformed = malformed ∙ a.flow_is.0;
-      wrong = (a.flow_is.1 ∙ added.count, (h.lines, line, refl, fault_whole line bad.fault (subst (λ (l : List ℕ). IsFaultOf l bad.fault) whole a.flow_is.2)));
+      malformed = malformed ∙ a.answers.flow_is.0;
+      wrong = (a.answers.flow_is.1 ∙ sym a.count ∙ added.count, (h.lines, line, refl, reads.fault bad.fault a.answers.flow_is.2));
     }
 
 -- a line goes on
@@ -110,7 +141,7 @@ extended_line start read written before x s k h bare is = record {
 }
 
 -- memory ran out after what was answered
-pub halted : (start : Start) (read written more : List ℕ) (s next : Session) → HasAnswered start read written s → string_bytes next.replies.text ≡ string_bytes s.replies.text
+pub halted : (start : Start) (read written more : List ℕ) (s next : Session) → HasAnswered start read written s → next.replies.text.items ≡ s.replies.text.items
     → IsHalted start (read ++ more) written next
 halted start read written more s next h e = record {
   lines = h.lines;
@@ -122,11 +153,22 @@ halted start read written more s next h e = record {
   well_formed = h.well_formed;
 }
 
-pub answered_end : (start : Start) (read written before x : List ℕ) (s next : Session) (k : counted_by s.replies ≤ s.lines) (r : Result Flow AllocError) → HasNoEnd before
-    → x ≡ take MAX_KEPT (s.line ++ before) → IfOk r (AnswersLine (record s { line = x; counted = k }) next) → OnErr r (string_bytes next.replies.text ≡ string_bytes s.replies.text)
+pub answered_end : (start : Start) (read written before x : List ℕ) (s next : Session) (r : Result Flow AllocError) → HasNoEnd before → x ≡ take MAX_KEPT (s.line ++ before)
+    → IfOk r (AnswersLine s.node next.node s.replies next.replies (s.lines + 1) x) → next.lines ≡ s.lines + 1 → next.line ≡ [] → OnErr r (next.replies.text.items ≡ s.replies.text.items)
     → HasAnswered start read written s → AnswersAs start (read ++ (before ++ 10 ∷ [])) written next r
-answered_end start read written before x s next k (Ok flow) bare is a e h = answered_line start read written before x s next flow k h bare is a
-answered_end start read written before x s next k (Err error) bare is a e h = halted start read written (before ++ 10 ∷ []) s next h e
+answered_end start read written before x s next (Ok flow) bare is a count emptied e h =
+    let kept : x ≡ kept_of (h.rest ++ before) = is ∙ ap (λ (l : List ℕ). take MAX_KEPT (l ++ before)) h.kept ∙ kept_append MAX_KEPT h.rest before in
+    answered_line start read written before x s next flow h bare (kept_reads x (h.rest ++ before) kept) (record { answers = a; count = count; emptied = emptied })
+answered_end start read written before x s next (Err error) bare is a count emptied e h = halted start read written (before ++ 10 ∷ []) s next h e
+
+-- a line that lies whole in the bytes
+pub answered_whole : (start : Start) (read written before : List ℕ) (s next : Session) (r : Result Flow AllocError) → HasNoEnd before → s.line ≡ []
+    → IfOk r (AnswersLine s.node next.node s.replies next.replies (s.lines + 1) before) → next.lines ≡ s.lines + 1 → next.line ≡ s.line → OnErr r (next.replies.text.items ≡ s.replies.text.items)
+    → HasAnswered start read written s → AnswersAs start (read ++ (before ++ 10 ∷ [])) written next r
+answered_whole start read written before s next (Ok flow) bare none a count same e h =
+    let begun : h.rest ≡ [] = nothing_kept h.rest (sym h.kept ∙ none) in
+    answered_line start read written before before s next flow h bare (whole_reads before (h.rest ++ before) (ap (λ (l : List ℕ). l ++ before) (sym begun))) (record { answers = a; count = count; emptied = same ∙ none })
+answered_whole start read written before s next (Err error) bare none a count same e h = halted start read written (before ++ 10 ∷ []) s next h e
 
 -- what is read after a malformed line, and once memory ran out, is not looked at
 pub stopped_longer : (start : Start) (read written more all : List ℕ) (bad : MalformedLine) (s : Session) → read ++ more ≡ all → IsStopped start read written bad s → IsStopped start all written bad s
@@ -161,7 +203,7 @@ pub split_more : (done before after rest all : List ℕ) → all ≡ done ++ res
 split_more done before after rest all e f = simp append_assoc (e ∙ ap (λ (xs : List ℕ). done ++ xs) f)
 
 pub nothing_answered : (start : Start) (s : Session) → s.node ≡ start.cache → s.lines ≡ 0 → s.line ≡ [] → mode_of s.replies ≡ start.mode → s.replies.is_refused ≡ false
-    → string_bytes s.replies.text ≡ [] → HasCounted [] s.replies → HasAnswered start [] [] s
+    → s.replies.text.items ≡ [] → HasCounted [] s.replies → HasAnswered start [] [] s
 nothing_answered start s node lines line mode refused output counted = record {
   lines = [];
   given = [];
@@ -178,14 +220,7 @@ nothing_answered start s node lines line mode refused output counted = record {
   well_formed = refl;
 }
 
-none_taken : (n : ℕ) (xs : List ℕ) → take (suc n) xs ≡ [] → xs ≡ []
-none_taken n [] h = refl
-none_taken n (x ∷ xs) h = cc
-
-nothing_kept : (rest : List ℕ) → kept_of rest ≡ [] → rest ≡ []
-nothing_kept rest h = none_taken 4096 rest h
-
-halted_same : (start : Start) (read written : List ℕ) (s next : Session) → HasAnswered start read written s → string_bytes next.replies.text ≡ string_bytes s.replies.text
+halted_same : (start : Start) (read written : List ℕ) (s next : Session) → HasAnswered start read written s → next.replies.text.items ≡ s.replies.text.items
     → IsHalted start read written next
 halted_same start read written s next h e = record {
   lines = h.lines;
@@ -210,42 +245,46 @@ all_read start read written s h some =
 
 -- it was answered
 ended_line : (start : Start) (read written : List ℕ) (s next : Session) (flow : Flow) → HasAnswered start read written s → (s.line ≡ [] → ⊥)
-    → AnswersLine s next flow → AnswersLast start read written next (Ok flow)
+    → IsAnswered s next s.line flow → AnswersLast start read written next (Ok flow)
 ended_line start read written s next GoesOn h some a =
     let line = h.rest ++ [] in
     let whole : s.line ≡ kept_of line = h.kept ∙ ap kept_of (sym (append-nil h.rest)) in
-    let added = added_line start read written [] s.line s next GoesOn s.counted h whole a in
-    let malformed : list_any is_malformed (h.given ++ a.given ∷ []) ≡ is_malformed a.given = any_more is_malformed h.given a.given ∙ ap (λ (b : Bool). b || is_malformed a.given) h.well_formed in
+    let added = added_line start read written [] s.line s next GoesOn h (kept_reads s.line line whole) a in
+    let given = a.answers.given in
+    let malformed : list_any is_malformed (h.given ++ given ∷ []) ≡ is_malformed given = any_more is_malformed h.given given ∙ ap (λ (b : Bool). b || is_malformed given) h.well_formed in
     record {
       lines = h.lines ++ line ∷ [];
-      given = h.given ++ a.given ∷ [];
+      given = h.given ++ given ∷ [];
       answers = record { end = next.node; are_given = added.are_given };
       all = all_read start read written s h some;
       mode = added.mode;
       text = added.text;
       counted = added.counted;
       refused = added.refused;
-      well_formed = malformed ∙ a.flow_is;
+      well_formed = malformed ∙ a.answers.flow_is;
     }
 ended_line start read written s next (Stopped bad) h some a =
     let line = h.rest ++ [] in
     let whole : s.line ≡ kept_of line = h.kept ∙ ap kept_of (sym (append-nil h.rest)) in
-    let added = added_line start read written [] s.line s next (Stopped bad) s.counted h whole a in
-    let malformed : list_any is_malformed (h.given ++ a.given ∷ []) ≡ is_malformed a.given = any_more is_malformed h.given a.given ∙ ap (λ (b : Bool). b || is_malformed a.given) h.well_formed in
+    let reads = kept_reads s.line line whole in
+    let added = added_line start read written [] s.line s next (Stopped bad) h reads a in
+    let given = a.answers.given in
+    let malformed : list_any is_malformed (h.given ++ given ∷ []) ≡ is_malformed given = any_more is_malformed h.given given ∙ ap (λ (b : Bool). b || is_malformed given) h.well_formed in
     record {
       lines = h.lines ++ line ∷ [];
-      given = h.given ++ a.given ∷ [];
+      given = h.given ++ given ∷ [];
       answers = record { end = next.node; are_given = added.are_given };
       all = all_read start read written s h some;
-      text = all_written start.mode _ (h.given ++ a.given ∷ []) (malformed ∙ a.flow_is.0) added.text;
+      text = all_written start.mode _ (h.given ++ given ∷ []) (malformed ∙ a.answers.flow_is.0) added.text;
       refused = added.refused;
-      end = (malformed ∙ a.flow_is.0, (a.flow_is.1 ∙ added.count, (h.lines, line, refl, fault_whole line bad.fault (subst (λ (l : List ℕ). IsFaultOf l bad.fault) whole a.flow_is.2))));
+      end = (malformed ∙ a.answers.flow_is.0, (a.answers.flow_is.1 ∙ sym a.count ∙ added.count, (h.lines, line, refl, reads.fault bad.fault a.answers.flow_is.2)));
     }
 
 pub answered_last : (start : Start) (read written : List ℕ) (s next : Session) (r : Result Flow AllocError) → HasAnswered start read written s → (s.line ≡ [] → ⊥)
-    → IfOk r (AnswersLine s next) → OnErr r (string_bytes next.replies.text ≡ string_bytes s.replies.text) → AnswersLast start read written next r
-answered_last start read written s next (Ok flow) h some a e = ended_line start read written s next flow h some a
-answered_last start read written s next (Err error) h some a e = halted_same start read written s next h e
+    → IfOk r (AnswersLine s.node next.node s.replies next.replies (s.lines + 1) s.line) → next.lines ≡ s.lines + 1 → next.line ≡ [] → OnErr r (next.replies.text.items ≡ s.replies.text.items)
+    → AnswersLast start read written next r
+answered_last start read written s next (Ok flow) h some a count emptied e = ended_line start read written s next flow h some (record { answers = a; count = count; emptied = emptied })
+answered_last start read written s next (Err error) h some a count emptied e = halted_same start read written s next h e
 
 -- no line was left
 pub none_left : (start : Start) (read written : List ℕ) (s : Session) → HasAnswered start read written s → s.line ≡ [] → HasLast start read written s
@@ -264,7 +303,7 @@ none_left start read written s h none = record {
 -- the report was put after the lines
 pub closed : (start : Start) (read written : List ℕ) (s next : Session) → HasLast start read written s → next.replies.is_refused ≡ s.replies.is_refused
     → ((given : List Given) → HasCounted given s.replies → list_any is_malformed given ≡ false
-    → string_bytes next.replies.text ≡ string_bytes s.replies.text ++ closing_text (mode_of s.replies) given) → HasEnded start read written GoesOn next
+    → next.replies.text.items ≡ s.replies.text.items ++ closing_text (mode_of s.replies) given) → HasEnded start read written GoesOn next
 closed start read written s next h refused closes =
     let text = closes h.given h.counted h.well_formed in
     record {
@@ -272,14 +311,14 @@ closed start read written s next h refused closes =
       given = h.given;
       answers = h.answers;
       all = h.all;
-      text = ap (λ (xs : List ℕ). written ++ xs) text ∙ sym (append_assoc written (string_bytes s.replies.text) _) ∙ ap (λ (xs : List ℕ). xs ++ closing_text (mode_of s.replies) h.given) h.text
+      text = ap (λ (xs : List ℕ). written ++ xs) text ∙ sym (append_assoc written (s.replies.text.items) _) ∙ ap (λ (xs : List ℕ). xs ++ closing_text (mode_of s.replies) h.given) h.text
           ∙ ap (λ (m : Mode). lines_text start.mode h.given ++ closing_text m h.given) h.mode;
       refused = refused ∙ h.refused;
       end = h.well_formed;
     }
 
 -- memory ran out at the end
-pub unclosed_last : (start : Start) (read written : List ℕ) (s next : Session) → HasLast start read written s → string_bytes next.replies.text ≡ string_bytes s.replies.text
+pub unclosed_last : (start : Start) (read written : List ℕ) (s next : Session) → HasLast start read written s → next.replies.text.items ≡ s.replies.text.items
     → mode_of s.replies ≡ Report → IsUnclosed start read written next
 unclosed_last start read written s next h e reports = record {
   lines = h.lines;

@@ -1,6 +1,6 @@
 -- Reads of a run, one after another.
 use Rattle.std.proofs.Common.{◌≡◌, ℕ, ◌+◌, Bool, true, false, List, [], ◌++◌, Option, Result, Ok, Err, arith, length, take, refl, sym, ap, subst, ◌∙◌, inl, inr}
-use Rattle.std.specs.Prelude.{string_bytes, IsErr, IsErrAnd}
+use Rattle.std.specs.Prelude.{IsErr, IsErrAnd}
 use Rattle.std.specs.Io.KnownBytes.{Appends, Consumes, IsAtEnd}
 use Rattle.std.specs.declared.alloc.AllocError.{AllocError}
 use Rattle.std.proofs.KnownBytes.{Appends-nil, Appends-trans, Appends-kept, Consumes-nil, Consumes-trans}
@@ -31,32 +31,32 @@ prefix_of : (written out all : List ℕ) (n : ℕ) → written ++ out ≡ all �
 prefix_of written out all n e = sym (take-append-add written out n) ∙ ap (take (length written + n)) e
 
 -- the writer failed
-pub turn_faults : (start : Start) (read written : List ℕ) (s : Session) (r : Result Flow AllocError) (old new : Option (List ℕ)) → AppendsPrefix old new (string_bytes s.replies.text)
+pub turn_faults : (start : Start) (read written : List ℕ) (s : Session) (r : Result Flow AllocError) (old new : Option (List ℕ)) → AppendsPrefix old new (s.replies.text.items)
     → AnswersAs start read written s r → EndsWith start read ⊥ written old new (Err Write)
 turn_faults start read written s (Ok GoesOn) old new prefix k =
-    let out = string_bytes s.replies.text in
+    let out = s.replies.text.items in
     (take prefix.0 out, prefix.2, (k.lines, k.given, length written + prefix.0, record { end = s.node; are_given = k.are_given }, inl (inl (k.rest, k.begins), prefix_of written out _ prefix.0 k.text)))
 turn_faults start read written s (Ok (Stopped bad)) old new prefix k =
-    let out = string_bytes s.replies.text in
+    let out = s.replies.text.items in
     (take prefix.0 out, prefix.2, (k.lines, k.given, length written + prefix.0, k.answers, inr (inr (k.others, k.begins, k.malformed), prefix_of written out _ prefix.0 k.text)))
 turn_faults start read written s (Err e) old new prefix k =
-    let out = string_bytes s.replies.text in
+    let out = s.replies.text.items in
     (take prefix.0 out, prefix.2, (k.lines, k.given, length written + prefix.0, k.answers, inl (inl (k.others, k.begins), prefix_of written out _ prefix.0 k.text)))
 
 -- out of memory
-pub turn_out_of_memory : (start : Start) (read written : List ℕ) (s : Session) (old new : Option (List ℕ)) → Appends old new (string_bytes s.replies.text)
+pub turn_out_of_memory : (start : Start) (read written : List ℕ) (s : Session) (old new : Option (List ℕ)) → Appends old new (s.replies.text.items)
     → IsHalted start read written s → EndsWith start read ⊥ written old new (Err Memory)
-turn_out_of_memory start read written s old new all k = (string_bytes s.replies.text, all, (k.lines, k.given, k.answers, inl (k.others, k.begins), k.text, k.well_formed))
+turn_out_of_memory start read written s old new all k = (s.replies.text.items, all, (k.lines, k.given, k.answers, inl (k.others, k.begins), k.text, k.well_formed))
 
 -- a malformed line was read
-pub turn_stops : (start : Start) (read written : List ℕ) (s : Session) (bad : MalformedLine) (old new : Option (List ℕ)) → Appends old new (string_bytes s.replies.text)
+pub turn_stops : (start : Start) (read written : List ℕ) (s : Session) (bad : MalformedLine) (old new : Option (List ℕ)) → Appends old new (s.replies.text.items)
     → IsStopped start read written bad s → EndsWith start read ⊥ written old new (Ok (Malformed bad))
 turn_stops start read written s bad old new all k =
-    (string_bytes s.replies.text, all, (k.lines, k.given, k.answers, inr (k.others, k.begins, k.malformed), k.text, (k.malformed, k.wrong)))
+    (s.replies.text.items, all, (k.lines, k.given, k.answers, inr (k.others, k.begins, k.malformed), k.text, (k.malformed, k.wrong)))
 
 -- the run goes on
-pub turn_goes_on : (start : Start) (read written : List ℕ) (s next : Session) → IsKeptBeside s next → string_bytes next.replies.text ≡ [] → HasAnswered start read written s
-    → HasAnswered start read (written ++ string_bytes s.replies.text) next
+pub turn_goes_on : (start : Start) (read written : List ℕ) (s next : Session) → IsKeptBeside s next → next.replies.text.items ≡ [] → HasAnswered start read written s
+    → HasAnswered start read (written ++ s.replies.text.items) next
 turn_goes_on start read written s next same none h = record {
   lines = h.lines;
   given = h.given;
@@ -67,7 +67,7 @@ turn_goes_on start read written s next same none h = record {
   kept = same.line ∙ h.kept;
   mode = ap mode_by same.report ∙ h.mode;
   counted = subst (HasReport h.given) (sym same.report) h.counted;
-  text = ap (λ (xs : List ℕ). (written ++ string_bytes s.replies.text) ++ xs) none ∙ append-nil (written ++ string_bytes s.replies.text) ∙ h.text;
+  text = ap (λ (xs : List ℕ). (written ++ s.replies.text.items) ++ xs) none ∙ append-nil (written ++ s.replies.text.items) ∙ h.text;
   count = same.lines ∙ h.count;
   refused = same.refused ∙ h.refused;
   well_formed = h.well_formed;
@@ -85,27 +85,27 @@ status_is lines given refused (Stopped bad) same end = end
 status_is lines given true GoesOn same end = (sym same, end)
 status_is lines given false GoesOn same end = sym same
 
-pub finish_done : (start : Start) (read written : List ℕ) (s : Session) (refused : Bool) (flow : Flow) (old new : Option (List ℕ)) → Appends old new (string_bytes s.replies.text) → refused ≡ s.replies.is_refused
+pub finish_done : (start : Start) (read written : List ℕ) (s : Session) (refused : Bool) (flow : Flow) (old new : Option (List ℕ)) → Appends old new (s.replies.text.items) → refused ≡ s.replies.is_refused
     → HasEnded start read written flow s → EndsWith start read (Unit {0}) written old new (Ok (status_after refused flow))
 finish_done start read written s refused flow old new all same k =
-    (string_bytes s.replies.text, all, (k.lines, k.given, k.answers, inl (k.all, tt), k.text, status_is k.lines k.given refused flow (same ∙ k.refused) k.end))
+    (s.replies.text.items, all, (k.lines, k.given, k.answers, inl (k.all, tt), k.text, status_is k.lines k.given refused flow (same ∙ k.refused) k.end))
 
-pub finish_out_of_memory : (start : Start) (read written : List ℕ) (s : Session) (old new : Option (List ℕ)) → Appends old new (string_bytes s.replies.text)
+pub finish_out_of_memory : (start : Start) (read written : List ℕ) (s : Session) (old new : Option (List ℕ)) → Appends old new (s.replies.text.items)
     → IsUnclosed start read written s → EndsWith start read (Unit {0}) written old new (Err Memory)
-finish_out_of_memory start read written s old new all k = (string_bytes s.replies.text, all, (k.lines, k.given, k.answers, k.first, k.text, k.well_formed))
+finish_out_of_memory start read written s old new all k = (s.replies.text.items, all, (k.lines, k.given, k.answers, k.first, k.text, k.well_formed))
 
 -- lines before one that could not be answered, or all, are first lines
 first_lines : (mode : Mode) (read : List ℕ) (lines : List (List ℕ)) → AreLinesBefore mode read lines → AreFirstLines read lines
 first_lines mode read lines (inl h) = inl h
 first_lines mode read lines (inr h) = inr h.1
 
-pub finish_faults : (start : Start) (read written : List ℕ) (s : Session) (r : Result Flow AllocError) (old new : Option (List ℕ)) → AppendsPrefix old new (string_bytes s.replies.text)
+pub finish_faults : (start : Start) (read written : List ℕ) (s : Session) (r : Result Flow AllocError) (old new : Option (List ℕ)) → AppendsPrefix old new (s.replies.text.items)
     → EndsAs start read written s r → EndsWith start read (Unit {0}) written old new (Err Write)
 finish_faults start read written s (Ok x) old new prefix k =
-    let out = string_bytes s.replies.text in
+    let out = s.replies.text.items in
     (take prefix.0 out, prefix.2, (k.lines, k.given, length written + prefix.0, k.answers, inr (inl (k.all, tt), prefix_of written out _ prefix.0 k.text)))
 finish_faults start read written s (Err e) old new prefix k =
-    let out = string_bytes s.replies.text in
+    let out = s.replies.text.items in
     (take prefix.0 out, prefix.2, (k.lines, k.given, length written + prefix.0, k.answers, inl (first_lines start.mode read k.lines k.first, prefix_of written out _ prefix.0 k.text)))
 
 -- ---- whole runs
@@ -131,9 +131,9 @@ run_ends P start a b w x y read written r consumes appends f e =
 pub run_out_of_memory : (start : Start) (a w : Option (List ℕ)) → HasRun start a a w w (Err Memory)
 run_out_of_memory start a w = ([], [], Consumes-nil a, Appends-nil w, ([], [], record { end = start.cache; are_given = refl }, inl ([], record { joined = refl; each_is_one = All-nil HasNoEnd }), refl, refl))
 
-pub turn_answered : (start : Start) (read written : List ℕ) (s next : Session) (flow : Flow) (old new : Option (List ℕ)) → Appends old new (string_bytes s.replies.text) → IsKeptBeside s next
-    → string_bytes next.replies.text ≡ [] → AnswersAs start read written s (Ok flow) → TurnsTo start read written next old new (Ok flow)
-turn_answered start read written s next GoesOn old new all same none h = (string_bytes s.replies.text, all, turn_goes_on start read written s next same none h, none)
+pub turn_answered : (start : Start) (read written : List ℕ) (s next : Session) (flow : Flow) (old new : Option (List ℕ)) → Appends old new (s.replies.text.items) → IsKeptBeside s next
+    → next.replies.text.items ≡ [] → AnswersAs start read written s (Ok flow) → TurnsTo start read written next old new (Ok flow)
+turn_answered start read written s next GoesOn old new all same none h = (s.replies.text.items, all, turn_goes_on start read written s next same none h, none)
 turn_answered start read written s next (Stopped bad) old new all same none h = turn_stops start read written s bad old new all h
 
 pub stopped_ends : (start : Start) (read written : List ℕ) (s : Session) (flow : Flow) (bad : MalformedLine) (old new : Option (List ℕ)) → flow ≡ Stopped bad → TurnsTo start read written s old new (Ok flow)
@@ -158,7 +158,7 @@ read_fault r n fault is reads e = e ∙ ap Err (ap (λ (x : Result ℕ RunFault)
 
 -- the reader failed
 pub reader_failed : (start : Start) (a b w x : Option (List ℕ)) (read written : List ℕ) (s : Session) (r : Result Status RunFault) → Consumes a b read → Appends w x written
-    → HasAnswered start read written s → string_bytes s.replies.text ≡ [] → r ≡ Err Read → HasRun start a b w x r
+    → HasAnswered start read written s → s.replies.text.items ≡ [] → r ≡ Err Read → HasRun start a b w x r
 reader_failed start a b w x read written s r consumes appends h none is =
     let text : written ≡ lines_text start.mode h.given = sym (append-nil written) ∙ ap (λ (xs : List ℕ). written ++ xs) (sym none) ∙ h.text in
     subst (HasRun start a b w x) (sym is) (read, written, consumes, appends, (h.lines, h.given, h.rest, record { end = s.node; are_given = h.are_given }, h.begins, h.not_ended, text, h.well_formed))

@@ -98,10 +98,14 @@ Spells line op = (words : List (List ℕ)) × HasWords line (name_of op ∷ word
 
 -- ---- lines
 
+-- a script may have each of these bytes
+abbrev pub ArePlain : List ℕ → Type 0
+ArePlain bytes = All (λ b. (32 ≤ b) × (b ≤ 126)) bytes
+
 -- few bytes, each from 0x20 to 0x7E
 pub record IsPlain (line : List ℕ) : Type 0 where
   pub few : length line ≤ MAX_LINE_LEN
-  pub bytes : All (λ b. (32 ≤ b) × (b ≤ 126)) line
+  pub bytes : ArePlain line
 
 -- empty, or a comment, which begins with `#`
 abbrev pub IsBlankOrComment : List ℕ → Type 0

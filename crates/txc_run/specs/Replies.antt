@@ -1,5 +1,5 @@
 -- Only private functions need this file: what a run does with replies.
-use Rattle.std.specs.Prelude.{◌≡◌, ℕ, ◌++◌, ◌∷◌, [], ◌||◌, false, List, Option, Some, None, ⊤, string_bytes}
+use Rattle.std.specs.Prelude.{◌≡◌, ℕ, ◌++◌, ◌∷◌, [], ◌||◌, false, List, Option, Some, None, ⊤}
 use Rattle.txc_settings.specs.declared.mode.Mode.{Mode}
 use Rattle.txc_settings.specs.declared.mode.Mode.TheVariants as modes
 use Rattle.txc_node.specs.declared.hit.Shown.{Shown}
@@ -39,7 +39,7 @@ counted_by r = counted_in r.report
 
 -- what a line gave was taken
 pub record Takes (old new : Replies) (given : Given) : Type 0 where
-  pub text : string_bytes new.text ≡ string_bytes old.text ++ line_text (mode_of old) given
+  pub text : new.text.items ≡ old.text.items ++ line_text (mode_of old) given
   pub mode : mode_of new ≡ mode_of old
   pub counted : (before : List Given) → HasCounted before old → HasCounted (before ++ given ∷ []) new
   pub refused : new.is_refused ≡ (old.is_refused || is_refused given)

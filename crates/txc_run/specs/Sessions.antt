@@ -1,5 +1,5 @@
 -- Only private functions need this file: a run in progress.
-use Rattle.std.specs.Prelude.{◌≡◌, ℕ, ◌+◌, Bool, true, false, List, [], ◌++◌, Result, Ok, Err, length, take, string_bytes}
+use Rattle.std.specs.Prelude.{◌≡◌, ℕ, Bool, true, false, List, ◌++◌, Result, Ok, Err, length, take}
 use Rattle.std.specs.List.{list_any}
 use Rattle.std.specs.declared.alloc.AllocError.{AllocError}
 use Rattle.txc_run.specs.Script.{BeginsWithLines, HasNoEnd, AreLinesOf}
@@ -11,7 +11,9 @@ use Rattle.txc_run.specs.LineFaults.{IsFaultOf}
 use Rattle.txc_run.specs.declared.fault.Status.{Status}
 use Rattle.txc_run.specs.declared.fault.Status.TheVariants.{Done, Refused, Malformed}
 use Rattle.txc_run.specs.declared.line_fault.MalformedLine.{MalformedLine}
+use Rattle.txc_node.specs.Cache.{Cache}
 use Rattle.txc_run.specs.declared.piece.TheConstants.{MAX_KEPT}
+use Rattle.txc_run.specs.declared.replies.Replies.{Replies}
 use Rattle.txc_run.specs.declared.session.Session.{Session}
 use Rattle.txc_run.specs.declared.session.Flow.{Flow}
 use Rattle.txc_run.specs.declared.session.Flow.TheVariants.{GoesOn, Stopped}
@@ -38,14 +40,12 @@ status_after refused (Stopped malformed) = Malformed malformed
 status_after true GoesOn = Refused
 status_after false GoesOn = Done
 
--- the line that ended was answered
-pub record AnswersLine (old new : Session) (flow : Flow) : Type 0 where
+-- a line was answered that has this number: it found one cache and left another, and its reply was taken
+pub record AnswersLine (c next : Cache) (old new : Replies) (n : ℕ) (line : List ℕ) (flow : Flow) : Type 0 where
   pub given : Given
-  pub gives : Gives old.node (old.lines + 1) old.line given new.node
-  pub takes : Takes old.replies new.replies given
-  pub flow_is : IsFlowAfter new.lines old.line given flow
-  pub emptied : new.line ≡ []
-  pub count : new.lines ≡ old.lines + 1
+  pub gives : Gives c n line given next
+  pub takes : Takes old new given
+  pub flow_is : IsFlowAfter n line given flow
 
 -- the lines that have ended were answered, and none was malformed; these bytes were written, and the rest
 -- of the replies is at hand
@@ -58,7 +58,7 @@ pub record HasAnswered (start : Start) (read written : List ℕ) (s : Session) :
   pub not_ended : HasNoEnd rest
   pub kept : s.line ≡ kept_of rest
   pub mode : mode_of s.replies ≡ start.mode
-  pub text : written ++ string_bytes s.replies.text ≡ lines_text start.mode given
+  pub text : written ++ s.replies.text.items ≡ lines_text start.mode given
   pub counted : HasCounted given s.replies
   pub count : s.lines ≡ length lines
   pub refused : s.replies.is_refused ≡ list_any is_refused given
@@ -71,7 +71,7 @@ pub record IsStopped (start : Start) (read written : List ℕ) (malformed_line :
   pub others : List ℕ
   pub answers : Answers start lines given
   pub begins : BeginsWithLines read lines others
-  pub text : written ++ string_bytes s.replies.text ≡ output_of start.mode given
+  pub text : written ++ s.replies.text.items ≡ output_of start.mode given
   pub refused : s.replies.is_refused ≡ list_any is_refused given
   pub malformed : list_any is_malformed given ≡ true
   pub wrong : EndInFault lines malformed_line
@@ -83,7 +83,7 @@ pub record IsHalted (start : Start) (read written : List ℕ) (s : Session) : Ty
   pub others : List ℕ
   pub answers : Answers start lines given
   pub begins : BeginsWithLines read lines others
-  pub text : written ++ string_bytes s.replies.text ≡ lines_text start.mode given
+  pub text : written ++ s.replies.text.items ≡ lines_text start.mode given
   pub well_formed : list_any is_malformed given ≡ false
 
 -- all lines of the script were answered, and all that is written of them is at hand
@@ -92,7 +92,7 @@ pub record HasEnded (start : Start) (read written : List ℕ) (flow : Flow) (s :
   pub given : List Given
   pub answers : Answers start lines given
   pub all : AreLinesOf read lines
-  pub text : written ++ string_bytes s.replies.text ≡ output_of start.mode given
+  pub text : written ++ s.replies.text.items ≡ output_of start.mode given
   pub refused : s.replies.is_refused ≡ list_any is_refused given
   pub end : IsEndOf lines given flow
 
@@ -103,7 +103,7 @@ pub record IsUnclosed (start : Start) (read written : List ℕ) (s : Session) : 
   pub given : List Given
   pub answers : Answers start lines given
   pub first : AreLinesBefore start.mode read lines
-  pub text : written ++ string_bytes s.replies.text ≡ lines_text start.mode given
+  pub text : written ++ s.replies.text.items ≡ lines_text start.mode given
   pub well_formed : list_any is_malformed given ≡ false
 
 -- the lines that end in the bytes were answered: the session goes on, or was stopped by a malformed line, or
@@ -120,7 +120,7 @@ pub record HasLast (start : Start) (read written : List ℕ) (s : Session) : Typ
   pub answers : Answers start lines given
   pub all : AreLinesOf read lines
   pub mode : mode_of s.replies ≡ start.mode
-  pub text : written ++ string_bytes s.replies.text ≡ lines_text start.mode given
+  pub text : written ++ s.replies.text.items ≡ lines_text start.mode given
   pub counted : HasCounted given s.replies
   pub refused : s.replies.is_refused ≡ list_any is_refused given
   pub well_formed : list_any is_malformed given ≡ false

@@ -1,5 +1,5 @@
 -- Only private functions need this file: one read of a run.
-use Rattle.std.specs.Prelude.{◌≡◌, ℕ, List, [], ◌++◌, Option, Result, Ok, Err, string_bytes, ◌⊎◌}
+use Rattle.std.specs.Prelude.{◌≡◌, ℕ, List, [], ◌++◌, Option, Result, Ok, Err, ◌⊎◌}
 use Rattle.std.specs.Io.KnownBytes.{Appends, Keeps}
 use Rattle.txc_run.specs.Runs.{Start, HasWritten}
 use Rattle.txc_run.specs.Sessions.{HasAnswered}
@@ -24,7 +24,7 @@ abbrev pub TurnsTo : Start → List ℕ → List ℕ → Session → Option (Lis
     → Result Flow RunFault → Type 0
 TurnsTo start read written s contents_old contents_new (Ok GoesOn) =
     (more : List ℕ) × Appends contents_old contents_new more
-    × HasAnswered start read (written ++ more) s × (string_bytes s.replies.text ≡ [])
+    × HasAnswered start read (written ++ more) s × (s.replies.text.items ≡ [])
 TurnsTo start read written s contents_old contents_new (Ok (Stopped malformed)) =
     EndsWith start read ⊥ written contents_old contents_new (Ok (Malformed malformed))
 TurnsTo start read written s contents_old contents_new (Err fault) =

@@ -1,10 +1,13 @@
 //! Lines are answered one after another.
-ghost use Rattle.std.specs.Prelude.{◌≡◌, ℕ, ◌+◌, ◌^◌, ◌<◌, ◌≤◌, List, [], ◌∷◌, ◌++◌, ◌||◌, length, if◌then◌else◌, string_bytes, Err, IfOk, OnOk, OnErr};
+ghost use Rattle.std.specs.Prelude.{◌≡◌, true, ℕ, ◌+◌, ◌^◌, ◌<◌, ◌≤◌, List, [], ◌∷◌, ◌++◌, ◌||◌, length, if◌then◌else◌, Err, IfOk, OnOk, OnErr};
 ghost use Rattle.std.specs.Io.KnownBytes.{Appends};
 ghost use Rattle.txc_run.specs.Script.{HasNoEnd};
 ghost use Rattle.txc_run.specs.Runs.{Start, start_of};
 ghost use Rattle.txc_run.specs.Written.{AppendsPrefix};
-ghost use Rattle.txc_run.specs.Sessions.{AnswersLine, HasAnswered, AnswersAs, AnswersLast, EndsAs, IsKeptBeside, status_after};
+ghost use Rattle.txc_run.specs.Given.{Malformed};
+ghost use Rattle.txc_run.specs.Lines.{ArePlain, IsMalformed};
+ghost use Rattle.txc_run.specs.Replies.{Takes, counted_by};
+ghost use Rattle.txc_run.specs.Sessions.{AnswersLine, HasAnswered, AnswersAs, AnswersLast, EndsAs, IsFlowAfter, IsKeptBeside, status_after};
 
 use crate::fault::{RunFault, Status};
 use crate::finding::find_fault;
@@ -20,11 +23,63 @@ use std::io::Write;
 use txc_node::{NodeCore, Refusal, Reply};
 use txc_settings::{Mode, Settings};
 
+/// Answers a line that has this number. Of its bytes it may be known that a line may have each.
+fn answer(
+    alloc: Global,
+    node: &mut NodeCore,
+    replies: &mut Replies,
+    number: u64,
+    line: &[u8],
+    known_plain: bool,
+) -> Result<Flow, AllocError>
+    requires count { counted_by replies.old + 1 < 2 ^ 64 }
+    requires plain { known_plain ≡ true → ArePlain line.now }
+    ensures answered { IfOk result
+        (AnswersLine node.old node.new replies.old replies.new number line.now) }
+    ensures unchanged { OnErr result (replies.new.text.items ≡ replies.old.text.items) }
+    ensures bound { counted_by replies.new ≤ counted_by replies.old + 1 }
+{
+    let read = read_line(alloc, line, known_plain)?;
+    match read {
+        Line::Quiet => Ok(Flow::GoesOn),
+        Line::Step(op) => {
+            make_step(alloc, node, op, replies)?;
+            Ok(Flow::GoesOn)
+        }
+        Line::Unmade(error) => {
+            let refusal = Refusal::of_entry(error);
+            replies.take(alloc, None, &Reply::Refused(refusal))?;
+            Ok(Flow::GoesOn)
+        }
+        Line::Malformed => answer_malformed(alloc, replies, number, line),
+    }
+}
+
+/// Answers a malformed line that has this number.
+#[cold]
+#[inline(never)]
+fn answer_malformed(
+    alloc: Global,
+    replies: &mut Replies,
+    number: u64,
+    line: &[u8],
+) -> Result<Flow, AllocError>
+    requires { IsMalformed line.now }
+    ensures flow { IfOk result (IsFlowAfter number line.now (Malformed number)) }
+    ensures after { OnOk result (Takes replies.old replies.new (Malformed number)) }
+    ensures unchanged { OnErr result (replies.new.text.items ≡ replies.old.text.items) }
+    ensures bound { counted_by replies.new ≡ counted_by replies.old }
+{
+    let fault = find_fault(alloc, line);
+    replies.take_malformed(alloc, number)?;
+    Ok(Flow::Stopped(MalformedLine { number, fault }))
+}
+
 impl Session {
     /// No line was read.
     pub fn new(alloc: Global, mode: Mode, settings: Settings) -> Result<Session, AllocError>
         ensures answered { IfOk result (λ s. HasAnswered (start_of mode settings) [] [] s) }
-        ensures no_output { IfOk result (λ s. string_bytes s.replies.text ≡ []) }
+        ensures no_output { IfOk result (λ s. s.replies.text.items ≡ []) }
         ensures no_line { IfOk result (λ s. s.lines ≡ 0) }
     {
         let line = LineStart::new(alloc)?;
@@ -52,52 +107,74 @@ impl Session {
         }
     }
 
-    /// Answers the line that has ended.
-    fn answer_line(&mut self, alloc: Global) -> Result<Flow, AllocError>
-        requires { self.old.lines + 1 < 2 ^ 64 }
-        ensures answered { IfOk result (AnswersLine self.old self.new) }
-        ensures unchanged { OnErr result
-            (string_bytes self.new.replies.text ≡ string_bytes self.old.replies.text) }
+    /// Answers a line.
+    fn answer_line(
+        &mut self,
+        alloc: Global,
+        line: &[u8],
+        known_plain: bool,
+    ) -> Result<Flow, AllocError>
+        requires count { self.old.lines + 1 < 2 ^ 64 }
+        requires plain { known_plain ≡ true → ArePlain line.now }
+        ensures answered { IfOk result (AnswersLine self.old.node self.new.node self.old.replies
+            self.new.replies (self.old.lines + 1) line.now) }
+        ensures unchanged { OnErr result (self.new.replies.text.items ≡ self.old.replies.text.items) }
         ensures counted { self.new.lines ≡ self.old.lines + 1 }
+        ensures same_line { self.new.line ≡ self.old.line }
     {
         self.lines += 1;
-        let line = read_line(alloc, self.line.bytes())?;
-        match line {
-            Line::Quiet => {
-                self.line.clear();
-                Ok(Flow::GoesOn)
-            }
-            Line::Step(op) => {
-                self.line.clear();
-                make_step(alloc, &mut self.node, op, &mut self.replies)?;
-                Ok(Flow::GoesOn)
-            }
-            Line::Unmade(error) => {
-                self.line.clear();
-                let refusal = Refusal::of_entry(error);
-                self.replies.take(alloc, None, &Reply::Refused(refusal))?;
-                Ok(Flow::GoesOn)
-            }
-            Line::Malformed => {
-                let number = self.lines;
-                let fault = find_fault(alloc, self.line.bytes());
-                self.line.clear();
-                self.replies.take_malformed(alloc, number)?;
-                Ok(Flow::Stopped(MalformedLine { number, fault }))
-            }
-        }
+        answer(
+            alloc,
+            &mut self.node,
+            &mut self.replies,
+            self.lines,
+            line,
+            known_plain,
+        )
     }
 
-    /// Answers the line that ends after these bytes.
-    fn end_line(&mut self, alloc: Global, bytes: &[u8]) -> Result<Flow, AllocError>
+    /// Answers the line that is kept.
+    fn answer_kept(&mut self, alloc: Global) -> Result<Flow, AllocError>
+        requires { self.old.lines + 1 < 2 ^ 64 }
+        ensures answered { IfOk result (AnswersLine self.old.node self.new.node self.old.replies
+            self.new.replies (self.old.lines + 1) self.old.line) }
+        ensures unchanged { OnErr result (self.new.replies.text.items ≡ self.old.replies.text.items) }
+        ensures counted { self.new.lines ≡ self.old.lines + 1 }
+        ensures emptied { self.new.line ≡ [] }
+    {
+        self.lines += 1;
+        let line = self.line.bytes();
+        let answered = answer(
+            alloc,
+            &mut self.node,
+            &mut self.replies,
+            self.lines,
+            line,
+            false,
+        );
+        self.line.clear();
+        answered
+    }
+
+    /// Answers the line that ends after these bytes. One that lies whole in them is not copied.
+    fn end_line(
+        &mut self,
+        alloc: Global,
+        bytes: &[u8],
+        known_plain: bool,
+    ) -> Result<Flow, AllocError>
         requires count { self.old.lines + 1 < 2 ^ 64 }
         requires no_end { HasNoEnd bytes.now }
+        requires plain { known_plain ≡ true → ArePlain bytes.now }
         ensures counted { self.new.lines ≤ self.old.lines + 1 }
         ensures answered { (start : Start) (read written : List ℕ) → HasAnswered start read written self.old
             → AnswersAs start (read ++ (bytes.now ++ 10 ∷ [])) written self.new result }
     {
+        if self.line.is_empty() {
+            return self.answer_line(alloc, bytes, known_plain);
+        }
         match self.line.add(bytes) {
-            Ok(()) => self.answer_line(alloc),
+            Ok(()) => self.answer_kept(alloc),
             Err(e) => Err(e),
         }
     }
@@ -125,7 +202,7 @@ impl Session {
         let mut rest = bytes;
         'lines: loop {
             match cut_line(rest) {
-                Some((before, after)) => match self.end_line(alloc, before) {
+                Some((before, is_plain, after)) => match self.end_line(alloc, before, is_plain) {
                     Ok(Flow::GoesOn) => rest = after,
                     Ok(Flow::Stopped(line)) => return Ok(Flow::Stopped(line)),
                     Err(e) => return Err(e),
@@ -144,7 +221,7 @@ impl Session {
         if self.line.is_empty() {
             return Ok(Flow::GoesOn);
         }
-        self.answer_line(alloc)
+        self.answer_kept(alloc)
     }
 
     /// Answers the last line, if its line feed is missing, and takes the end of the script.
@@ -166,14 +243,14 @@ impl Session {
     /// Writes the replies that are not written yet.
     pub fn write_out<W: Write>(&mut self, writer: &mut W) -> Result<(), RunFault>
         ensures after { OnOk result (Appends (W.contents writer.old) (W.contents writer.new)
-            (string_bytes self.old.replies.text)) }
-        ensures emptied { OnOk result (string_bytes self.new.replies.text ≡ []) }
+            (self.old.replies.text.items)) }
+        ensures emptied { OnOk result (self.new.replies.text.items ≡ []) }
         ensures prefix { OnErr result (AppendsPrefix (W.contents writer.old) (W.contents writer.new)
-            (string_bytes self.old.replies.text)) }
+            (self.old.replies.text.items)) }
         ensures refused { OnErr result (result ≡ Err RunFault.Write) }
         ensures same { IsKeptBeside self.old self.new }
     {
-        write_text(writer, self.replies.text().as_bytes())?;
+        write_text(writer, self.replies.text())?;
         self.replies.clear_text();
         Ok(())
     }

@@ -8,19 +8,37 @@ ghost use Rattle.txc_run.specs.Reading.{IsNoWord};
 use crate::unread::NoStep;
 use std::alloc::Global;
 
-/// What a hexadecimal digit stands for.
+/// What stands in [`DIGITS`] for a byte that is no digit.
+const X: u8 = 16;
+
+/// What each byte stands for as a hexadecimal digit.
+static DIGITS: [u8; 256] = [
+    X, X, X, X, X, X, X, X, X, X, X, X, X, X, X, X, X, X, X, X, X, X, X, X, X, X, X, X, X, X, X, X,
+    X, X, X, X, X, X, X, X, X, X, X, X, X, X, X, X, 0, 1, 2, 3, 4, 5, 6, 7, 8, 9, X, X, X, X, X, X,
+    X, X, X, X, X, X, X, X, X, X, X, X, X, X, X, X, X, X, X, X, X, X, X, X, X, X, X, X, X, X, X, X,
+    X, 10, 11, 12, 13, 14, 15, X, X, X, X, X, X, X, X, X, X, X, X, X, X, X, X, X, X, X, X, X, X, X,
+    X, X, X, X, X, X, X, X, X, X, X, X, X, X, X, X, X, X, X, X, X, X, X, X, X, X, X, X, X, X, X, X,
+    X, X, X, X, X, X, X, X, X, X, X, X, X, X, X, X, X, X, X, X, X, X, X, X, X, X, X, X, X, X, X, X,
+    X, X, X, X, X, X, X, X, X, X, X, X, X, X, X, X, X, X, X, X, X, X, X, X, X, X, X, X, X, X, X, X,
+    X, X, X, X, X, X, X, X, X, X, X, X, X, X, X, X, X, X, X, X, X, X, X, X, X, X, X, X, X, X, X, X,
+    X, X,
+];
+
+/// What a hexadecimal digit stands for. It has no branch by the digit's kind, which cannot be foreseen.
+#[inline(always)]
 fn digit_value(digit: u8) -> Option<u8>
     ensures answer { IfSome result (λ n. (n < 16) × (digit_of n ≡ digit)) }
     ensures refused { IfNone result ((n : ℕ) → n < 16 → digit_of n ≡ digit → ⊥) }
 {
-    match digit {
-        b'0'..=b'9' => Some(digit - b'0'),
-        b'a'..=b'f' => Some(digit - b'a' + 10),
-        _ => None,
+    let value = DIGITS[usize::from(digit)];
+    if value == X {
+        return None;
     }
+    Some(value)
 }
 
 /// The byte of two digits.
+#[inline(always)]
 pub fn read_byte(high: u8, low: u8) -> Option<u8>
     ensures answer { IfSome result (λ b. (b < 256) × (digits_of b ≡ high ∷ low ∷ [])) }
     ensures refused { IfNone result ((b : ℕ) → b < 256 → digits_of b ≡ high ∷ low ∷ [] → ⊥) }
@@ -41,7 +59,10 @@ fn read_digits(alloc: Global, text: &[u8]) -> Result<Vec<u8>, NoStep>
     ensures refused { IfErr result (IsNoWord (λ bytes.
         IsBytes bytes × (flat_map digits_of bytes ≡ text.now))) }
 {
-    let mut bytes = Vec::new(alloc);
+    let mut bytes = match Vec::with_capacity(alloc, text.len() / 2) {
+        Ok(bytes) => bytes,
+        Err(_) => return Err(NoStep::Memory),
+    };
     let mut rest = text;
     'digits: loop {
         match rest {

@@ -1,9 +1,10 @@
 //! The lines of a script.
-ghost use Rattle.std.specs.Prelude.{◌≤◌, ◌↔◌, IsTrue, All, IfOk};
-ghost use Rattle.txc_run.specs.Lines.{IsPlain, IsBlankOrComment};
+ghost use Rattle.std.specs.Prelude.{◌≡◌, ◌↔◌, true, IsTrue, IfOk};
+ghost use Rattle.txc_run.specs.Lines.{ArePlain, IsPlain, IsBlankOrComment};
 ghost use Rattle.txc_run.specs.Reading.{IsLine};
 
 use crate::reading::read_step;
+use crate::scan::plain_len;
 use crate::unread::NoStep;
 use std::alloc::{AllocError, Global};
 use txc_node::{EntryError, Op};
@@ -26,19 +27,20 @@ pub enum Line {
 
 /// Whether each byte is one that a script may have.
 fn are_plain(bytes: &[u8]) -> bool
-    ensures { IsTrue result ↔ All (λ b. (32 ≤ b) × (b ≤ 126)) bytes.now }
+    ensures { IsTrue result ↔ ArePlain bytes.now }
 {
-    bytes.iter().all(|b| *b >= 0x20 && *b <= 0x7e)
+    plain_len(bytes) == bytes.len()
 }
 
-/// Whether the bytes are few enough, and each is one that a script may have.
-fn is_plain(bytes: &[u8]) -> bool
+/// Whether the bytes are few enough, and each is one that a script may have, which may be known of them.
+fn is_plain(bytes: &[u8], known_plain: bool) -> bool
+    requires { known_plain ≡ true → ArePlain bytes.now }
     ensures { IsTrue result ↔ IsPlain bytes.now }
 {
     if bytes.len() > MAX_LINE_LEN {
         return false;
     }
-    are_plain(bytes)
+    known_plain || are_plain(bytes)
 }
 
 /// Whether the line is empty or a comment.
@@ -51,11 +53,13 @@ fn is_quiet(bytes: &[u8]) -> bool
     }
 }
 
-/// Reads a line, without its line feed.
-pub fn read_line(alloc: Global, bytes: &[u8]) -> Result<Line, AllocError>
+/// Reads a line, without its line feed. Of its bytes it may be known that a line may have each, so that they
+/// are not searched again.
+pub fn read_line(alloc: Global, bytes: &[u8], known_plain: bool) -> Result<Line, AllocError>
+    requires { known_plain ≡ true → ArePlain bytes.now }
     ensures { IfOk result (λ line. IsLine bytes.now line) }
 {
-    if !is_plain(bytes) {
+    if !is_plain(bytes, known_plain) {
         return Ok(Line::Malformed);
     }
     if is_quiet(bytes) {

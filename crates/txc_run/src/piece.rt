@@ -1,21 +1,32 @@
 //! Lines of bytes that come piece by piece.
-ghost use Rattle.std.specs.Prelude.{◌≡◌, ◌≤◌, [], ◌++◌, ◌∷◌, ◌==◌, position, length, take, vec_len, OnOk, IfOk, IfSome, IfNone};
+ghost use Rattle.std.specs.Prelude.{◌≡◌, ◌≤◌, [], ◌++◌, ◌∷◌, ◌==◌, true, position, length, take, vec_len, OnOk, IfOk, IfSome, IfNone};
 ghost use Rattle.txc_run.specs.Script.{HasNoEnd};
+ghost use Rattle.txc_run.specs.Lines.{ArePlain};
 
 use crate::line::MAX_LINE_LEN;
+use crate::scan::plain_len;
 use std::alloc::{AllocError, Global};
 use std::marker::Model;
 
 /// How much of a line is kept: enough to tell that it is too long.
 pub const MAX_KEPT: usize = MAX_LINE_LEN + 1;
 
-/// The bytes before the first line feed, and those after it.
-pub fn cut_line(bytes: &[u8]) -> Option<(&[u8], &[u8])>
-    ensures answer { IfSome result (λ r. (bytes.now ≡ r.0.now ++ 10 ∷ r.1.now) × HasNoEnd r.0.now) }
+/// The bytes before the first line feed, whether a line may have each of them, and the bytes after it.
+pub fn cut_line(bytes: &[u8]) -> Option<(&[u8], bool, &[u8])>
+    ensures answer { IfSome result (λ r. (bytes.now ≡ r.0.now ++ 10 ∷ r.2.now) × HasNoEnd r.0.now) }
+    ensures plain { IfSome result (λ r. r.1 ≡ true → ArePlain r.0.now) }
     ensures refused { IfNone result (HasNoEnd bytes.now) }
 {
+    let end = plain_len(bytes);
+    if end == bytes.len() {
+        return None;
+    }
+    if bytes[end] == b'\n' {
+        return Some((&bytes[..end], true, &bytes[end + 1..]));
+    }
+    // A byte that no line may have comes before the end of the line.
     match line_end(bytes) {
-        Some(i) => Some((&bytes[..i], &bytes[i + 1..])),
+        Some(i) => Some((&bytes[..i], false, &bytes[i + 1..])),
         None => None,
     }
 }

@@ -6,7 +6,7 @@ ghost use Rattle.txc_run.specs.Reading.{IsNamed, NamesStep, NamesNone};
 
 use crate::hex::read_hex;
 use crate::unread::{Malformed, NoStep};
-use crate::words::{first_word, words};
+use crate::words::{first_word, one_word, six_words, three_words, two_words};
 use std::alloc::Global;
 use txc_node::{Entry, Op};
 use txc_stamp::{LAST_STAMP, Stamp};
@@ -40,11 +40,11 @@ fn read_lookup(text: &[u8]) -> Result<Op, Malformed>
     ensures answer { IfOk result (NamesStep (IsNamed (codes "lookup") text.now)) }
     ensures refused { IfErr result (λ _. (op : Op) → IsNamed (codes "lookup") text.now op → ⊥) }
 {
-    let mut words = words(text, 3)?;
+    let (key, lo, hi) = three_words(text)?;
     Ok(Op::Lookup {
-        key: Key::read(words.next())?,
-        lo: read_stamp(words.next())?,
-        hi: read_stamp(words.next())?,
+        key: Key::read(key)?,
+        lo: read_stamp(lo)?,
+        hi: read_stamp(hi)?,
     })
 }
 
@@ -53,9 +53,9 @@ fn read_sweep(text: &[u8]) -> Result<Op, Malformed>
     ensures answer { IfOk result (NamesStep (IsNamed (codes "sweep") text.now)) }
     ensures refused { IfErr result (λ _. (op : Op) → IsNamed (codes "sweep") text.now op → ⊥) }
 {
-    let mut words = words(text, 1)?;
+    let horizon = one_word(text)?;
     Ok(Op::Sweep {
-        horizon: read_stamp(words.next())?,
+        horizon: read_stamp(horizon)?,
     })
 }
 
@@ -64,10 +64,10 @@ fn read_event(alloc: Global, text: &[u8]) -> Result<Op, NoStep>
     ensures answer { IfOk result (NamesStep (IsNamed (codes "event") text.now)) }
     ensures refused { IfErr result (NamesNone (IsNamed (codes "event") text.now)) }
 {
-    let mut words = words(text, 2)?;
+    let (stamp, tags) = two_words(text)?;
     Ok(Op::Event {
-        stamp: read_stamp(words.next())?,
-        tags: TagSet::read(alloc, words.next())?,
+        stamp: read_stamp(stamp)?,
+        tags: TagSet::read(alloc, tags)?,
     })
 }
 
@@ -76,13 +76,13 @@ fn read_insert(alloc: Global, text: &[u8]) -> Result<Op, NoStep>
     ensures answer { IfOk result (NamesStep (IsNamed (codes "insert") text.now)) }
     ensures refused { IfErr result (NamesNone (IsNamed (codes "insert") text.now)) }
 {
-    let mut words = words(text, 6)?;
-    let key = Key::read(words.next())?;
-    let lo = read_stamp(words.next())?;
-    let known = read_stamp(words.next())?;
-    let still = read_still(words.next())?;
-    let tags = TagSet::read(alloc, words.next())?;
-    let value = read_hex(alloc, words.next())?;
+    let (key_text, lo_text, known_text, reach_text, tags_text, value_text) = six_words(text)?;
+    let key = Key::read(key_text)?;
+    let lo = read_stamp(lo_text)?;
+    let known = read_stamp(known_text)?;
+    let still = read_still(reach_text)?;
+    let tags = TagSet::read(alloc, tags_text)?;
+    let value = read_hex(alloc, value_text)?;
     Ok(Op::Insert(Entry::new(key, value, lo, known, still, tags)?))
 }
 

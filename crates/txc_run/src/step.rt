@@ -1,5 +1,5 @@
 //! Steps of the node, whose replies are taken.
-ghost use Rattle.std.specs.Prelude.{◌+◌, ◌^◌, ◌<◌, ◌≤◌, ◌≡◌, OnOk, OnErr, string_bytes};
+ghost use Rattle.std.specs.Prelude.{◌+◌, ◌^◌, ◌<◌, ◌≤◌, ◌≡◌, OnOk, OnErr};
 ghost use Rattle.txc_run.specs.Replies.{counted_by, TakesStep};
 
 use crate::replies::Replies;
@@ -16,7 +16,7 @@ fn insert(
 ) -> Result<(), AllocError>
     requires room { counted_by replies.old + 1 < 2 ^ 64 }
     ensures after { OnOk result (TakesStep node.old (Op.Insert entry) node.new replies.old replies.new) }
-    ensures unchanged { OnErr result (string_bytes replies.new.text ≡ string_bytes replies.old.text) }
+    ensures unchanged { OnErr result (replies.new.text.items ≡ replies.old.text.items) }
     ensures bound { counted_by replies.new ≤ counted_by replies.old + 1 }
 {
     let function = Some(entry.key.function());
@@ -36,7 +36,7 @@ fn lookup(
 ) -> Result<(), AllocError>
     requires room { counted_by replies.old + 1 < 2 ^ 64 }
     ensures after { OnOk result (TakesStep node.old (Op.Lookup key lo hi) node.new replies.old replies.new) }
-    ensures unchanged { OnErr result (string_bytes replies.new.text ≡ string_bytes replies.old.text) }
+    ensures unchanged { OnErr result (replies.new.text.items ≡ replies.old.text.items) }
     ensures bound { counted_by replies.new ≤ counted_by replies.old + 1 }
 {
     let function = Some(key.function());
@@ -56,7 +56,7 @@ fn event(
 ) -> Result<(), AllocError>
     requires room { counted_by replies.old + 1 < 2 ^ 64 }
     ensures after { OnOk result (TakesStep node.old (Op.Event stamp tags) node.new replies.old replies.new) }
-    ensures unchanged { OnErr result (string_bytes replies.new.text ≡ string_bytes replies.old.text) }
+    ensures unchanged { OnErr result (replies.new.text.items ≡ replies.old.text.items) }
     ensures bound { counted_by replies.new ≤ counted_by replies.old + 1 }
 {
     match node.event(stamp, tags) {
@@ -77,7 +77,7 @@ fn sweep(
 ) -> Result<(), AllocError>
     requires room { counted_by replies.old + 1 < 2 ^ 64 }
     ensures after { OnOk result (TakesStep node.old (Op.Sweep horizon) node.new replies.old replies.new) }
-    ensures unchanged { OnErr result (string_bytes replies.new.text ≡ string_bytes replies.old.text) }
+    ensures unchanged { OnErr result (replies.new.text.items ≡ replies.old.text.items) }
     ensures bound { counted_by replies.new ≤ counted_by replies.old + 1 }
 {
     replies.take(alloc, None, &Reply::Swept(node.sweep(horizon)))
@@ -92,7 +92,7 @@ pub fn make_step(
 ) -> Result<(), AllocError>
     requires room { counted_by replies.old + 1 < 2 ^ 64 }
     ensures after { OnOk result (TakesStep node.old op node.new replies.old replies.new) }
-    ensures unchanged { OnErr result (string_bytes replies.new.text ≡ string_bytes replies.old.text) }
+    ensures unchanged { OnErr result (replies.new.text.items ≡ replies.old.text.items) }
     ensures bound { counted_by replies.new ≤ counted_by replies.old + 1 }
 {
     match op {

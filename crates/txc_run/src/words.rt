@@ -1,5 +1,5 @@
 //! The words of a line.
-ghost use Rattle.std.specs.Prelude.{◌≡◌, ◌≢◌, ◌<◌, ◌==◌, ◌∷◌, ◌++◌, count_by, length, position, IfOk, OnOk, OnErr, IfSome, IfNone};
+ghost use Rattle.std.specs.Prelude.{◌≡◌, ◌≢◌, ◌<◌, ◌==◌, [], ◌∷◌, ◌++◌, count_by, length, position, IfOk, OnErr, IfSome, IfNone};
 ghost use Rattle.txc_run.specs.Words.{HasNoBlank, words_of, words_left, is_blank};
 
 use crate::unread::Malformed;
@@ -53,16 +53,63 @@ pub fn all_words(text: &[u8]) -> WordsLeft<'_>
     }
 }
 
-/// The words of a text that has exactly so many.
-pub fn words(text: &[u8], count: usize) -> Result<WordsLeft<'_>, Malformed>
-    ensures answer { IfOk result (λ words. words_left words ≡ words_of text.now) }
-    ensures only_if { OnOk result (length (words_of text.now) ≡ count) }
-    ensures refused { OnErr result (length (words_of text.now) ≢ count) }
+/// The one word that the text is.
+#[inline]
+pub fn one_word(text: &[u8]) -> Result<&[u8], Malformed>
+    ensures answer { IfOk result (λ word. words_of text.now ≡ word.now ∷ []) }
+    ensures refused { OnErr result (length (words_of text.now) ≢ 1) }
 {
-    if count_blanks(text) + 1 != count {
+    if text.contains(&b' ') {
         return Err(Malformed);
     }
-    Ok(WordsLeft { rest: text, count })
+    Ok(text)
+}
+
+/// The two words that the text is.
+#[inline]
+pub fn two_words(text: &[u8]) -> Result<(&[u8], &[u8]), Malformed>
+    ensures answer { IfOk result (λ words. words_of text.now ≡ words.0.now ∷ words.1.now ∷ []) }
+    ensures refused { OnErr result (length (words_of text.now) ≢ 2) }
+{
+    let Some((first, rest)) = first_word(text) else {
+        return Err(Malformed);
+    };
+    let second = one_word(rest)?;
+    Ok((first, second))
+}
+
+/// The three words that the text is.
+#[inline]
+pub fn three_words(text: &[u8]) -> Result<(&[u8], &[u8], &[u8]), Malformed>
+    ensures answer { IfOk result (λ words.
+        words_of text.now ≡ words.0.now ∷ words.1.now ∷ words.2.now ∷ []) }
+    ensures refused { OnErr result (length (words_of text.now) ≢ 3) }
+{
+    let Some((first, rest)) = first_word(text) else {
+        return Err(Malformed);
+    };
+    let (second, third) = two_words(rest)?;
+    Ok((first, second, third))
+}
+
+/// The six words that the text is.
+#[inline]
+pub fn six_words(text: &[u8]) -> Result<(&[u8], &[u8], &[u8], &[u8], &[u8], &[u8]), Malformed>
+    ensures answer { IfOk result (λ words. words_of text.now
+        ≡ words.0.now ∷ words.1.now ∷ words.2.now ∷ words.3.now ∷ words.4.now ∷ words.5.now ∷ []) }
+    ensures refused { OnErr result (length (words_of text.now) ≢ 6) }
+{
+    let Some((first, rest)) = first_word(text) else {
+        return Err(Malformed);
+    };
+    let Some((second, rest)) = first_word(rest) else {
+        return Err(Malformed);
+    };
+    let Some((third, rest)) = first_word(rest) else {
+        return Err(Malformed);
+    };
+    let (fourth, fifth, sixth) = three_words(rest)?;
+    Ok((first, second, third, fourth, fifth, sixth))
 }
 
 impl<'a> WordsLeft<'a> {

@@ -25,7 +25,8 @@ use Rattle.txc_call.specs.declared.need.Need.{Need}
 use Rattle.txc_call.specs.declared.need.Need.TheVariants as needs
 use Rattle.txc_call.specs.declared.need.Outcome.{Outcome}
 use Rattle.txc_call.specs.Reaches.{InReach}
-use Rattle.txc_call.specs.Frames.{released, IsStack}
+use Rattle.txc_call.specs.Frames.{IsStack}
+use Rattle.txc_call.proofs.Offered.{finished}
 use Rattle.txc_call.specs.declared.reply.Reply.{Reply}
 use Rattle.txc_call.specs.declared.reply.Reply.TheVariants as replies
 use Rattle.txc_call.specs.Needs.{reach_of, reply_reach, NeedFits, NeedHolds, ReplyFits, ReplyHolds}
@@ -185,7 +186,8 @@ value_fits : (next : Next) (objects : Objects) (top : Call) (need : Option Need)
 value_fits next objects top need frames o is h =
     let done = subst (λ (n : Option Need). NeedFits next objects top n frames) is h in
     let at_bottom : asks.Call o.key ≡ asks.Call top = subst (λ (fs : List Frame). IsStack next objects top (asks.Call o.key) fs) done.1 done.0.open_frames.stack in
-    (done.1, subst (λ (fs : List Frame). AllIdle (released fs objects)) done.1 done.0.open_frames.free, cc)
+    let rest = finished next objects top o frames done in
+    (rest.0, rest.1, cc)
 
 module _ (next : Next) (objects : Objects) (call : Calling) (o : Outcome) (is : call.need ≡ Some (needs.Value o)) (calling : IsCalling next objects call) where
   pub done_key : o.key ≡ call.top

@@ -5,3 +5,4 @@ mod Lists
 mod Reached
 mod Turns
 mod Resting
+mod Running

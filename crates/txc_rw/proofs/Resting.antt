@@ -1,6 +1,6 @@
 -- A transaction between two calls.
 use Rattle.std.proofs.Common.{◌≡◌, List, [], ◌∷◌, ◌++◌, Option, None, Ok, Err, sym, subst, Contains}
-use Rattle.std.specs.Prelude.{Result, IfOk, OnErr, OnOk}
+use Rattle.std.specs.Prelude.{Result, IfErr, IfOk, OnErr, OnOk}
 use Rattle.std.proofs.lemmas.List.Elements.{All-contains, Contains-push}
 use Rattle.txc_rows.specs.declared.query.Change.{Change}
 use Rattle.txc_rows.specs.States.{State}
@@ -45,6 +45,10 @@ last_right next s before now x is right =
 pub if_ok : {T E : Type 0} (P Q : T → Type 0) (r : Result T E) → ((v : T) → P v → Q v) → IfOk r P → IfOk r Q
 if_ok P Q (Ok v) step h = step v h
 if_ok P Q (Err e) step h = tt
+
+pub if_err : {T E : Type 0} (P Q : E → Type 0) (r : Result T E) → ((e : E) → P e → Q e) → IfErr r P → IfErr r Q
+if_err P Q (Ok v) step h = tt
+if_err P Q (Err e) step h = step e h
 
 pub written_or_not : {T E : Type 0} (r : Result T E) (next : Next) (L : History) (c c' : RwValue) (changes : List Change)
     → OnOk r (c' ≡ record c { changes = changes }) → OnErr r (c' ≡ c) → IsResting next L c → IsResting next L c'

@@ -1,7 +1,6 @@
 -- What a turn asks.
-use Rattle.std.proofs.Common.{◌≡◌, ◌≢◌, ℕ, suc, ◌-◌, ◌<◌, ◌≤◌, List, [], ◌∷◌, ◌++◌, Option, Some, None, Ok, Err, refl, sym, ap, subst, ◌∙◌, arith, append-nil, append_assoc}
+use Rattle.std.proofs.Common.{◌≡◌, ◌≢◌, ℕ, suc, ◌-◌, ◌<◌, ◌≤◌, List, Option, Some, None, Ok, Err, refl, sym, ap, subst, ◌∙◌, arith}
 use Rattle.std.specs.Prelude.{Result, IfOk, IsSome}
-use mathlib.Core.List.{IsPrefix}
 use Rattle.txc_rows.specs.declared.query.Query.{Query}
 use Rattle.txc_validity.specs.declared.answer.Found.{Found}
 use Rattle.txc_db.specs.declared.error.DbError.{DbError}
@@ -13,7 +12,7 @@ use Rattle.txc_tags.specs.Keys.{Call}
 use Rattle.txc_db.specs.History.{History}
 use Rattle.txc_call.specs.declared.need.Need.{Need}
 use Rattle.txc_rw.specs.declared.given.Given.{Given}
-use Rattle.txc_rw.specs.Core.{RwValue, answers_after, asked_of, queried_after, IsAsk, IsCallEnd, IsFoundAt, IsIdle, IsOfCall, IsOfNeed, IsRightReply, IsTurn}
+use Rattle.txc_rw.specs.Core.{RwValue, answers_after, asked_of, IsAsk, IsCallEnd, IsFoundAt, IsIdle, IsOfCall, IsOfNeed, IsRightReply, IsTurn}
 
 -- what a turn that asks a query asks
 pub turn_asks : (c : RwValue) (turn : Turn) (q : Query) (stamp : ℕ) → asked_of turn ≡ Some (q, stamp) → IsTurn c turn → (c.reading ≡ Some q) × (stamp ≡ c.base) × IsAsk turn
@@ -60,17 +59,6 @@ fewer_turns (Rows rows) new before after asks more most = absurd asks
 fewer_turns (At n) new before after asks more most = absurd asks
 fewer_turns (Refused error) new before after asks more most = absurd asks
 
--- the queries that were answered only grow
-pub queried_longer : (queried : List Query) (reading : Option Query) (reply : Result Found DbError) → IsPrefix queried (queried_after queried reading reply)
-queried_longer queried (Some q) (Ok found) = (q ∷ [], refl)
-queried_longer queried (Some q) (Err error) = ([], append-nil queried)
-queried_longer queried None (Ok found) = ([], append-nil queried)
-queried_longer queried None (Err error) = ([], append-nil queried)
-
-pub prefix_then : {X : Type 0} (xs ys zs : List X) → IsPrefix xs ys → IsPrefix ys zs → IsPrefix xs zs
-prefix_then {X = X} xs ys zs one two =
-    (one.0 ++ two.0, sym (append_assoc xs one.0 two.0) ∙ ap (λ (l : List X). l ++ two.0) one.1 ∙ two.1)
-
 -- a refusal asks nothing
 pub no_refusal : (turn : Turn) (error : TxnError) → IsAsk turn → turn ≢ Refused error
 no_refusal (Ask request) error asks is = absurd (cc is)
@@ -108,3 +96,12 @@ answers_on before now k top reading (Refused error) new is asks same of = absurd
 pub kind_of_call : (need : Option Need) (turn : Turn) → IsSome need → IsOfNeed need turn → IsOfCall turn
 kind_of_call None turn some of = absurd (cc)
 kind_of_call (Some need) turn some of = of
+
+-- what is there is not nothing
+pub some_then : {X : Type 0} (o : Option X) → IsSome o → o ≢ None
+some_then None some is = absurd (cc)
+some_then (Some x) some is = absurd (cc is)
+
+-- what is there twice is one
+pub one_value : {X : Type 0} {x y : X} → Some x ≡ Some y → x ≡ y
+one_value is = cc is

@@ -1,12 +1,14 @@
 -- What is said of read-write transactions alone.
-use Rattle.std.specs.Prelude.{◌⊎◌, ℕ, ◌≤◌, length}
+use Rattle.std.specs.Prelude.{◌≡◌, ◌⊎◌, ℕ, ◌≤◌, true, List, length, Contains}
 use mathlib.Core.List.{IsPrefix}
+use Rattle.txc_rows.specs.declared.query.Query.{Query}
+use Rattle.txc_rows.specs.RowTags.{covers_query}
 use Rattle.txc_db.specs.History.{History, state_at}
 use Rattle.txc_db.specs.Shared.{IsQuietIn, IsEventIn}
 use Rattle.txc_shared.specs.Eval.{Next}
 use Rattle.txc_registry.specs.Objects.{Objects}
 use Rattle.txc_rw.specs.Answers.{AreRightIn}
-use Rattle.txc_rw.specs.Core.{RwValue, RwHolds, IsBegun, tags_read}
+use Rattle.txc_rw.specs.Core.{RwValue, RwHolds, IsBegun, tags_of, tags_read}
 use Rattle.txc_rw.specs.Outcomes.{IsCommitted}
 
 -- a transaction that has just begun, in a history that has its base
@@ -23,6 +25,11 @@ HoldsInLonger = (next : Next) (L M : History) (objects : Objects) (c : RwValue)
 abbrev pub AnswersAreRight : Type 0
 AnswersAreRight = (next : Next) (L : History) (objects : Objects) (c : RwValue)
     → RwHolds next L objects c → AreRightIn next (state_at L c.base) c.answers
+
+-- the tags of the queries that were answered cover each of these
+abbrev pub TagsCoverQueries : Type 0
+TagsCoverQueries = (queries : List Query) (q : Query) → Contains queries q
+    → covers_query (tags_of queries) q ≡ true
 
 -- where the database committed the changes of a transaction with the tags of what it read, each answer is
 -- right where the changes were made

@@ -1,12 +1,13 @@
 //! What a core does until it asks.
-ghost use Rattle.std.specs.Prelude.{◌≡◌, ◌≤◌, None, OnErr, OnOk, Some, IsNone, IsSome};
+ghost use Rattle.std.specs.Prelude.{◌≡◌, ◌≤◌, [], None, OnErr, OnOk, Some, IsNone, IsSome};
+ghost use Rattle.txc_rows.specs.States.{State};
 ghost use Rattle.txc_db.specs.History.{History};
 ghost use Rattle.txc_shared.specs.Eval.{Next};
 ghost use Rattle.txc_registry.specs.Objects.{activity_of, Objects};
 ghost use Rattle.txc_call.specs.declared.error.CallError.TheVariants.{NoFunction};
 ghost use Rattle.txc_call.specs.declared.need.Need.{Need};
 ghost use Rattle.txc_call.specs.declared.need.Outcome.{Outcome};
-ghost use Rattle.txc_call.specs.Calling.{InCall, IsCalling};
+ghost use Rattle.txc_call.specs.Calling.{started, InCall, IsCalling};
 
 use crate::given::Given;
 use crate::reading::Reading;
@@ -22,6 +23,7 @@ use txc_tags::Key;
 
 impl RwCore {
     ghost use Rattle.txc_rw.specs.Core.{answers_after, IsAsk, IsAsked, IsDone, IsOfCall, IsRefused, IsRw, IsTurn, RwHolds};
+    ghost use Rattle.txc_rw.specs.Leading.{standing_of, CallLeads, StandingLeads};
 
     // Makes the query ready: when it is answered, it takes no memory to keep that.
     fn make_ready(&mut self, alloc: Global, query: &Query) -> Result<(), AllocError>
@@ -53,6 +55,8 @@ impl RwCore {
         ensures ended { ¬ (IsAsk result) }
         ensures answers { (next : Next) (objects : Objects) → IsCalling next objects self.old.call
             → self.new.answers ≡ answers_after self.old.answers self.old.call.top None result }
+        ensures leads { (objects : Objects)
+            → StandingLeads (standing_of self.old.call objects) self.new objects result }
         ensures same { self.new
             ≡ record self.old { answers = self.new.answers; call = record self.old.call { need = None } } }
     {
@@ -94,6 +98,8 @@ impl RwCore {
         ensures goes_on { IsAsk result → self.new.call.top ≡ self.old.call.top }
         ensures counted { IsAsk result
             → (¬ (IsDone self.old.call.need)) × (self.old.call.asked ≤ self.new.call.asked) }
+        ensures leads { (s : State) → CallLeads A.next s (standing_of self.old.call registry.old) []
+            self.new registry.new result }
         ensures same { self.new ≡ record self.old {
           answers = self.new.answers;
           call = self.new.call;
@@ -131,6 +137,7 @@ impl RwCore {
         ensures kind { IsOfCall result }
         ensures no_value { self.old.answers ≡ answers_after self.old.answers self.old.call.top None result }
         ensures after { IsAsk result → self.new ≡ record self.old { reading = Some query } }
+        ensures leads { StandingLeads (standing_of self.old.call registry.old) self.new registry.new result }
         ensures same { self.new ≡ record self.old { call = self.new.call; reading = self.new.reading } }
     {
         let Ok(()) = self.make_ready(alloc, &query) else {
@@ -161,8 +168,14 @@ impl RwCore {
         ensures answers { self.new.answers ≡ answers_after self.old.answers key None result }
         ensures open { IsAsk result → IsSome self.new.call.need }
         ensures begins { IsAsk result → self.new.call.top ≡ key }
+        ensures leads { IsSome (activity_of registry.old key.function)
+            → (s : State) → CallLeads A.next s (standing_of (started key) registry.old) []
+            self.new registry.new result }
         ensures missing { IsNone (activity_of registry.old key.function)
             → result ≡ Turn.Refused (TxnError.Call (NoFunction key.function)) }
+        ensures missing_left { IsNone (activity_of registry.old key.function) → self.new ≡ self.old }
+        ensures missing_same { IsNone (activity_of registry.old key.function)
+            → registry.new ≡ registry.old }
         ensures same { self.new ≡ record self.old {
           answers = self.new.answers;
           call = self.new.call;

@@ -1,11 +1,14 @@
 //! Calls and queries of a transaction, led to their end at the locked database.
-ghost use Rattle.std.specs.Prelude.{◌≡◌, ◌≤◌, length, IfErr, IfOk, IsNone, None, Some};
-ghost use mathlib.Core.List.{IsPrefix};
+ghost use Rattle.std.specs.Prelude.{◌≡◌, ◌≤◌, ◌++◌, ◌∷◌, [], length, IfErr, IfOk, IsNone, IsSome, None, Err, OnErr, Some};
+ghost use Rattle.txc_db.specs.History.{state_at};
 ghost use Rattle.txc_registry.specs.Objects.{activity_of};
 ghost use Rattle.txc_call.specs.declared.error.CallError.TheVariants.{NoFunction};
-ghost use Rattle.txc_rw.specs.Core.{answers_after, asked_of, IsCallEnd, IsIdle, IsOfQuery, IsRw, RwHolds};
+ghost use Rattle.txc_call.specs.Calling.{started};
+ghost use Rattle.txc_rw.specs.Core.{asked_of, IsCallEnd, IsIdle, IsOfQuery, IsRw, RwHolds};
+ghost use Rattle.txc_rw.specs.Leading.{standing_of, IsQueryLeft, IsQueryRefusal, IsRun};
 
 use crate::finding::find;
+use crate::given::Given;
 use crate::rw_core::RwCore;
 use std::alloc::Global;
 use std::sync::Wait;
@@ -29,7 +32,7 @@ fn asked(turn: &Turn) -> Option<(Query, Stamp)>
 }
 
 // The value of a call that has ended.
-pub(crate) fn value_of(turn: Turn) -> Result<Value, TxnError>
+fn value_of(turn: Turn) -> Result<Value, TxnError>
     requires { IsCallEnd turn }
     ensures answer { IfOk result (λ value. turn ≡ Turn.Value value) }
     ensures refused { IfErr result (λ error. turn ≡ Turn.Refused error) }
@@ -42,7 +45,7 @@ pub(crate) fn value_of(turn: Turn) -> Result<Value, TxnError>
 }
 
 // The rows of a query that has ended.
-pub(crate) fn rows_of(turn: Turn) -> Result<Vec<Row>, TxnError>
+fn rows_of(turn: Turn) -> Result<Vec<Row>, TxnError>
     requires { IsOfQuery turn }
     ensures answer { IfOk result (λ rows. turn ≡ Turn.Rows rows) }
     ensures refused { IfErr result (λ error. turn ≡ Turn.Refused error) }
@@ -63,20 +66,25 @@ pub(crate) fn call_at<J: Naming, A: App, C: Cacheable>(
     registry: &mut Registry<A, C>,
     core: &mut RwCore,
     key: Key,
-) -> Turn
+) -> Result<Value, TxnError>
     requires named { seen.now.events ≡ J.database_row }
     requires fits { IsRw A.next registry.old core.old }
     requires idle { core.old.reading ≡ None }
     requires shown { core.old.base ≤ length seen.now.history }
     ensures fits { IsRw A.next registry.new core.new }
-    ensures ended { IsCallEnd result }
     ensures idle { IsIdle core.new }
     ensures holds { RwHolds A.next seen.now.history registry.old core.old
         → RwHolds A.next seen.now.history registry.new core.new }
-    ensures answers { core.new.answers ≡ answers_after core.old.answers key None result }
-    ensures queried { IsPrefix core.old.queried core.new.queried }
+    ensures after { IfOk result (λ value.
+        core.new.answers ≡ core.old.answers ++ Given.Value key value ∷ []) }
+    ensures unchanged { OnErr result (core.new.answers ≡ core.old.answers) }
+    ensures run { IsSome (activity_of registry.old key.function)
+        → IsRun A.next J.database_row (state_at seen.now.history core.old.base)
+        (standing_of (started key) registry.old) core.old core.new registry.new result }
     ensures missing { IsNone (activity_of registry.old key.function)
-        → result ≡ Turn.Refused (TxnError.Call (NoFunction key.function)) }
+        → result ≡ Err (TxnError.Call (NoFunction key.function)) }
+    ensures missing_left { IsNone (activity_of registry.old key.function) → core.new ≡ core.old }
+    ensures missing_same { IsNone (activity_of registry.old key.function) → registry.new ≡ registry.old }
     ensures same { core.new ≡ record core.old {
       queried = core.new.queried;
       answers = core.new.answers;
@@ -90,7 +98,7 @@ pub(crate) fn call_at<J: Naming, A: App, C: Cacheable>(
         turn = core.reply(alloc, registry, found);
         core.is_within_budget();
     }
-    turn
+    value_of(turn)
 }
 
 // Makes a query of the transaction's own at the database.
@@ -102,29 +110,28 @@ pub(crate) fn query_at<J: Naming, A: App, C: Cacheable>(
     registry: &mut Registry<A, C>,
     core: &mut RwCore,
     query: Query,
-) -> Turn
+) -> Result<Vec<Row>, TxnError>
     requires named { seen.now.events ≡ J.database_row }
     requires fits { IsRw A.next registry.old core.old }
     requires idle { IsIdle core.old }
     requires shown { core.old.base ≤ length seen.now.history }
     ensures fits { IsRw A.next registry.new core.new }
-    ensures kind { IsOfQuery result }
     ensures idle { IsIdle core.new }
     ensures holds { RwHolds A.next seen.now.history registry.old core.old
         → RwHolds A.next seen.now.history registry.new core.new }
-    ensures answers { core.new.answers
-        ≡ answers_after core.old.answers core.old.call.top (Some query) result }
-    ensures queried { IsPrefix core.old.queried core.new.queried }
-    ensures same { core.new ≡ record core.old {
-      queried = core.new.queried;
-      answers = core.new.answers;
-      call = core.new.call;
-    } }
+    ensures after { IfOk result (λ rows. core.new
+        ≡ record core.old {
+          queried = core.old.queried ++ query ∷ [];
+          answers = core.old.answers ++ Given.Rows query rows.items ∷ [];
+        }) }
+    ensures refused { IfErr result (IsQueryRefusal J.database_row core.old.base query) }
+    ensures left { IfErr result (IsQueryLeft core.old query core.new) }
+    ensures same_objects { registry.new ≡ registry.old }
 {
     let turn = core.ask(alloc, registry, query);
     let Some((query, stamp)) = asked(&turn) else {
-        return turn;
+        return rows_of(turn);
     };
     let found = find(rt, alloc, database, seen, &query, stamp);
-    core.reply(alloc, registry, found)
+    rows_of(core.reply(alloc, registry, found))
 }

@@ -1,5 +1,5 @@
 //! What the definitions come to. Each is a lemma: it has no code.
-ghost use Rattle.txc_rw.specs.Laws.{AnswersAreRight, CommitsAreRight, HoldsAtFirst, HoldsInLonger};
+ghost use Rattle.txc_rw.specs.Laws.{AnswersAreRight, CommitsAreRight, HoldsAtFirst, HoldsInLonger, TagsCoverQueries};
 
 use txc_db::{states_stay, tags_are_sound};
 
@@ -10,6 +10,11 @@ pub fn transactions_stay_right()
 {
     states_stay();
 }
+
+/// The tags that a commit is checked with cover each query that was answered.
+pub fn tags_cover_queries()
+    ensures { TagsCoverQueries }
+{}
 
 /// Every answer is right at the base, and, once the transaction is committed, at the stamp before its event,
 /// or, where it has none, at the newest stamp.

@@ -1,7 +1,12 @@
 //! What a core makes of the answer to its query.
-ghost use Rattle.std.specs.Prelude.{◌≡◌, ◌≢◌, ◌<◌, Err, IfOk, IsSome, None, Some};
+ghost use Rattle.std.specs.Prelude.{◌≡◌, ◌≢◌, ◌<◌, [], ◌∷◌, Ok, Err, IfOk, IsSome, None, Some};
+ghost use Rattle.txc_rows.specs.States.{State, answer};
+ghost use Rattle.txc_validity.specs.declared.answer.Found.{Found};
 ghost use Rattle.txc_db.specs.declared.error.DbError.{DbError};
 ghost use Rattle.txc_db.specs.History.{History};
+ghost use Rattle.txc_rows.specs.declared.query.Query.{Query};
+ghost use Rattle.txc_call.specs.declared.need.Need.{Need};
+ghost use Rattle.txc_call.specs.Calling.{IsAtRest, IsCalling};
 ghost use Rattle.txc_rw.specs.Core.{only_one};
 ghost use Rattle.txc_ports.specs.Refusals.{refused_request};
 
@@ -10,7 +15,7 @@ use crate::reading::Reading;
 use crate::rw_core::RwCore;
 use std::alloc::{AllocError, Global};
 use std::mem;
-use txc_call::Reply;
+use txc_call::{CallMachine, Reply};
 use txc_db::DbError;
 use txc_ports::{Turn, TxnError};
 use txc_registry::{Cacheable, Registry};
@@ -46,8 +51,22 @@ fn at_one(found: Found) -> Found
     }
 }
 
+// Gives the call up, if one is open.
+fn give_up<A: App, C: Cacheable>(machine: &mut CallMachine, registry: &mut Registry<A, C>)
+    requires { IsCalling A.next registry.old machine.old }
+    ensures rest { IsAtRest registry.new machine.new }
+    ensures need { machine.new.need ≡ None }
+    ensures same_call { machine.old.need ≡ None → machine.new ≡ machine.old }
+    ensures same_objects { machine.old.need ≡ None → registry.new ≡ registry.old }
+{
+    if machine.need().is_some() {
+        machine.cancel(registry);
+    }
+}
+
 impl RwCore {
     ghost use Rattle.txc_rw.specs.Core.{answers_after, queried_after, IsAsk, IsOfNeed, IsOfQuery, IsOneMore, IsRightReply, IsRw, IsTurn, RwHolds};
+    ghost use Rattle.txc_rw.specs.Leading.{standing_of, CallLeads, RowsLead};
 
     // Keeps the rows of the transaction's own query, and returns a copy of them.
     fn keep_rows(&mut self, alloc: Global, query: Query, rows: Vec<Row>) -> Turn
@@ -58,6 +77,7 @@ impl RwCore {
         ensures answers { self.new.answers
             ≡ answers_after self.old.answers self.old.call.top (Some query) result }
         ensures kept { IsOneMore (Given.Rows query rows.items) self.old.answers self.new.answers }
+        ensures rows { RowsLead rows.items result }
         ensures same { self.new ≡ record self.old { answers = self.new.answers } }
     {
         let Ok(copy) = copy_rows(alloc, &rows) else {
@@ -91,6 +111,15 @@ impl RwCore {
         ensures open { IsAsk result → IsSome self.new.call.need }
         ensures goes_on { IsAsk result → self.new.call.top ≡ self.old.call.top }
         ensures counted { IsAsk result → self.old.call.asked < self.new.call.asked }
+        ensures leads { (s : State) (query : Query) (found : Found)
+            → self.old.call.need ≡ Some (Need.Query query) → reply ≡ Ok found
+            → found.rows.items ≡ answer query s
+            → CallLeads A.next s (standing_of self.old.call registry.old) (query ∷ [])
+            self.new registry.new result }
+        ensures rows { (found : Found) → self.old.call.need ≡ None → reply ≡ Ok found
+            → RowsLead found.rows.items result }
+        ensures same_call { self.old.call.need ≡ None → self.new.call ≡ self.old.call }
+        ensures same_objects { self.old.call.need ≡ None → registry.new ≡ registry.old }
         ensures refused { (error : DbError) → reply ≡ Err error
             → result ≡ Turn.Refused (refused_request error) }
         ensures same { self.new ≡ record self.old {
@@ -106,7 +135,7 @@ impl RwCore {
         let found = match reply {
             Ok(found) => found,
             Err(error) => {
-                self.machine.cancel(registry);
+                give_up(&mut self.machine, registry);
                 return Turn::Refused(error.into());
             }
         };

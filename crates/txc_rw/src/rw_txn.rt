@@ -1,19 +1,20 @@
 //! Read-write transactions over the locked database.
-ghost use Rattle.std.specs.Prelude.{◌≡◌, ◌++◌, ◌∷◌, ◌<◌, ◌≤◌, [], IfErr, IfOk, IsNone, IsOk, OnErr, OnOk, Some, length};
-ghost use mathlib.Core.List.{IsPrefix};
+ghost use Rattle.std.specs.Prelude.{◌≡◌, ◌⊎◌, ◌++◌, ◌∷◌, ◌<◌, ◌≤◌, [], Err, List, IfErr, IfOk, IsNone, IsOk, IsSome, OnErr, OnOk, Some, length};
+ghost use Rattle.txc_rows.specs.declared.query.Change.{Change};
 ghost use Rattle.txc_rows.specs.States.{answer};
 ghost use Rattle.txc_db.specs.Calls.{IsHoldRefused};
 ghost use Rattle.txc_db.specs.History.{state_at};
-ghost use Rattle.txc_db.specs.Shared.{IsSharedCommitRefused, MayRefuse};
+ghost use Rattle.txc_db.specs.Shared.{IsEventIn, IsQuietIn, IsSharedCommitRefused, MayRefuse};
 ghost use Rattle.txc_shared.specs.Eval.{eval};
 ghost use Rattle.txc_registry.specs.Objects.{activity_of, AllIdle};
 ghost use Rattle.txc_call.specs.declared.error.CallError.TheVariants.{NoFunction};
 ghost use Rattle.txc_rw.specs.declared.rw_core.TheConstants.{MAX_CHANGES};
-ghost use Rattle.txc_rw.specs.Answers.{AreRightIn};
+ghost use Rattle.txc_rw.specs.Answers.{state_of, AgreeOn, AreRightIn};
 ghost use Rattle.txc_rw.specs.Core.{tags_read, IsBegun, IsWriteRefused};
+ghost use Rattle.txc_rw.specs.Leading.{HasRun, IsQueryLeft, IsQueryRefusal};
 ghost use Rattle.txc_rw.specs.Outcomes.{IsCommitted};
 
-use crate::calling::{call_at, query_at, rows_of, value_of};
+use crate::calling::{call_at, query_at};
 use crate::given::Given;
 use crate::laws::{answers_are_right, transactions_stay_right};
 use crate::rw_core::RwCore;
@@ -59,7 +60,7 @@ impl<'a, J: Naming, A: App, C: Cacheable> Model for RwTxn<'a, J, A, C> {
 
     ghost Value = { TxnValue };
 
-    ghost view = { λ t. record { core = t.core; history = t.seen.history } };
+    ghost view = { λ t. record { core = t.core; history = t.seen.history; objects = t.registry } };
 
     ghost invariant = { λ t. (t.seen.events ≡ J.database_row) × AllIdle t.registry
         × IsResting A.next t.seen.history t.core };
@@ -75,6 +76,7 @@ impl<'a, J: Naming, A: App, C: Cacheable> RwTxn<'a, J, A, C> {
     ) -> Result<RwTxn<'a, J, A, C>, (DbError, Registry<A, C>)>
         requires { AllIdle registry }
         ensures begun { IfOk result (λ txn. IsBegun (length txn.history) txn.core) }
+        ensures objects { IfOk result (λ txn. txn.objects ≡ registry) }
         ensures refused { IfErr result (λ e. MayRefuse J.database_row IsHoldRefused e.0) }
         ensures handed_back { IfErr result (λ e. e.1 ≡ registry) }
     {
@@ -91,11 +93,17 @@ impl<'a, J: Naming, A: App, C: Cacheable> RwTxn<'a, J, A, C> {
         })
     }
 
-    /// What holds of every transaction: each answer is what its call or its query gives at its base. It does
-    /// nothing when it runs.
+    /// What holds of every transaction: each answer is what its call or its query gives at its base, and in
+    /// each other state in which the queries that were answered give what they give there; and every object
+    /// is idle. It does nothing when it runs.
     pub fn is_right(&self)
+        ensures idle { AllIdle self.now.objects }
         ensures base { self.now.core.base ≤ length self.now.history }
-        ensures answers { AreRightIn A.next (state_at self.now.history self.now.core.base) self.now.core.answers }
+        ensures answers { AreRightIn A.next (state_at self.now.history self.now.core.base)
+            self.now.core.answers }
+        ensures rests { (changes : List Change)
+            → AgreeOn self.now.core.queried (state_at self.now.history self.now.core.base) (state_of changes)
+            → AreRightIn A.next (state_of changes) self.now.core.answers }
     {
         answers_are_right();
         let _base = self.core.base();
@@ -115,24 +123,31 @@ impl<'a, J: Naming, A: App, C: Cacheable> RwTxn<'a, J, A, C> {
         self.core.answers()
     }
 
-    /// The value of the call at its base. A refusal leaves the answers and the changes as they were.
+    /// The value of the call at its base. A refusal leaves the answers and the changes as they were; the
+    /// queries that were answered by then count as read.
     pub fn call(&mut self, rt: &impl Wait, alloc: Global, key: Key) -> Result<Value, TxnError>
         ensures answer { IfOk result (λ value.
             eval A.next key (state_at self.old.history self.old.core.base) ≡ Some value) }
         ensures after { IfOk result (λ value.
             self.new.core.answers ≡ self.old.core.answers ++ Given.Value key value ∷ []) }
         ensures unchanged { OnErr result (self.new.core.answers ≡ self.old.core.answers) }
-        ensures queried { IsPrefix self.old.core.queried self.new.core.queried }
+        ensures run { IsSome (activity_of self.old.objects key.function)
+            → HasRun A.next J.database_row self.old key self.new result }
+        ensures missing { IsNone (activity_of self.old.objects key.function)
+            → result ≡ Err (TxnError.Call (NoFunction key.function)) }
+        ensures missing_left { IsNone (activity_of self.old.objects key.function) → self.new ≡ self.old }
         ensures same { self.new ≡ record self.old {
           core = record self.old.core {
             queried = self.new.core.queried;
             answers = self.new.core.answers;
             call = self.new.core.call;
           };
+          objects = self.new.objects;
         } }
+        ensures idle { AllIdle self.new.objects }
     {
         answers_are_right();
-        let turn = call_at(
+        call_at(
             rt,
             alloc,
             self.database,
@@ -140,11 +155,11 @@ impl<'a, J: Naming, A: App, C: Cacheable> RwTxn<'a, J, A, C> {
             &mut self.registry,
             &mut self.core,
             key,
-        );
-        value_of(turn)
+        )
     }
 
-    /// The rows of the query at its base. A refusal leaves the answers and the changes as they were.
+    /// The rows of the query at its base. A refusal leaves the transaction as it was; but where it is out of
+    /// memory once the query was answered, that counts as read.
     pub fn query(
         &mut self,
         rt: &impl Wait,
@@ -153,20 +168,16 @@ impl<'a, J: Naming, A: App, C: Cacheable> RwTxn<'a, J, A, C> {
     ) -> Result<Vec<Row>, TxnError>
         ensures answer { IfOk result (λ rows.
             rows.items ≡ answer query (state_at self.old.history self.old.core.base)) }
-        ensures after { IfOk result (λ rows.
-            self.new.core.answers ≡ self.old.core.answers ++ Given.Rows query rows.items ∷ []) }
-        ensures unchanged { OnErr result (self.new.core.answers ≡ self.old.core.answers) }
-        ensures queried { IsPrefix self.old.core.queried self.new.core.queried }
-        ensures same { self.new ≡ record self.old {
-          core = record self.old.core {
-            queried = self.new.core.queried;
-            answers = self.new.core.answers;
-            call = self.new.core.call;
-          };
-        } }
+        ensures after { IfOk result (λ rows. self.new.core ≡ record self.old.core {
+          queried = self.old.core.queried ++ query ∷ [];
+          answers = self.old.core.answers ++ Given.Rows query rows.items ∷ [];
+        }) }
+        ensures refused { IfErr result (IsQueryRefusal J.database_row self.old.core.base query) }
+        ensures left { IfErr result (IsQueryLeft self.old.core query self.new.core) }
+        ensures same { self.new ≡ record self.old { core = self.new.core } }
     {
         answers_are_right();
-        let turn = query_at(
+        query_at(
             rt,
             alloc,
             self.database,
@@ -174,8 +185,7 @@ impl<'a, J: Naming, A: App, C: Cacheable> RwTxn<'a, J, A, C> {
             &mut self.registry,
             &mut self.core,
             query,
-        );
-        rows_of(turn)
+        )
     }
 
     /// The row is to stand at its table and id once the transaction is committed. It does not see it itself.
@@ -219,10 +229,14 @@ impl<'a, J: Naming, A: App, C: Cacheable> RwTxn<'a, J, A, C> {
             IsCommitted A.next done.0.front.history self.entry.core done.0.stamp) }
         ensures at_base { IfOk result (λ done.
             AreRightIn A.next (state_at done.0.front.history self.entry.core.base) self.entry.core.answers) }
+        ensures apart { IfOk result (λ done. let c = self.entry.core in
+            IsQuietIn done.0.front.history c.base (tags_read c) c.changes done.0.stamp
+            ⊎ IsEventIn done.0.front.history c.base (tags_read c) c.changes done.0.stamp) }
         ensures answers { IfOk result (λ done. done.0.answers.items ≡ self.entry.core.answers) }
+        ensures registry { IfOk result (λ done. done.1 ≡ self.entry.objects) }
         ensures idle { IfOk result (λ done. AllIdle done.1) }
-        ensures refused { IfErr result (λ e. MayRefuse J.database_row
-            (λ d. IsSharedCommitRefused d self.entry.core.base (tags_read self.entry.core) self.entry.core.changes) e.1) }
+        ensures refused { IfErr result (λ e. MayRefuse J.database_row (λ d. let c = self.entry.core in
+            IsSharedCommitRefused d c.base (tags_read c) c.changes) e.1) }
         ensures handed_back { IfErr result (λ e. e.0 ≡ self.entry) }
     {
         states_stay();
@@ -255,17 +269,18 @@ impl<'a, J: Naming, A: App, C: Cacheable> RwTxn<'a, J, A, C> {
         Ok((committed, registry))
     }
 
-    /// Gives the transaction up, and the hold of its base. It takes no memory.
+    /// Gives the transaction up, and the hold of its base, and returns the registry. It takes no memory.
     pub fn abort(self, rt: &impl Wait) -> Registry<A, C>
-        ensures { AllIdle result }
+        ensures answer { result ≡ self.entry.objects }
+        ensures idle { AllIdle result }
     {
         let RwTxn {
             database,
-            mut registry,
+            registry,
             core,
             seen: _,
         } = self;
-        let request = core.cancel(&mut registry);
+        let (_answers, request) = core.finish();
         unpin(rt, database, &request);
         registry
     }

@@ -1,10 +1,12 @@
 //! Calls that use no node.
-ghost use Rattle.std.specs.Prelude.{◌≡◌, IsSome, MatchOption, None, OnErr, OnOk, Some};
+ghost use Rattle.std.specs.Prelude.{◌≡◌, [], IsSome, MatchOption, None, OnErr, OnOk, Some};
+ghost use Rattle.txc_rows.specs.States.{State};
 ghost use Rattle.txc_db.specs.History.{History};
 ghost use Rattle.txc_call.specs.declared.need.Need.{Need};
-ghost use Rattle.txc_call.specs.Calling.{CallHolds, InCall, IsAtRest, IsCalling};
+ghost use Rattle.txc_call.specs.Calling.{turn_after, CallHolds, InCall, IsAtRest, IsCalling};
 ghost use Rattle.txc_call.specs.Needs.{reply_reach, ReplyFits};
 ghost use Rattle.txc_rw.specs.Core.{needs_no_node, HasCounted};
+ghost use Rattle.txc_rw.specs.Leading.{standing_of, IsLedTo};
 
 use std::alloc::Global;
 use txc_call::{CallError, CallMachine, Need, Reply};
@@ -42,6 +44,8 @@ pub(crate) fn go_on_uncached<A: App, C: Cacheable>(
     ensures holds { OnOk result ((L : History) → CallHolds A.next L registry.old machine.old
         → CallHolds A.next L registry.new machine.new) }
     ensures counted { OnOk result (HasCounted machine.old machine.new) }
+    ensures led { (s : State) → IsLedTo A.next s (standing_of machine.old registry.old) []
+        (turn_after result machine.new registry.new) }
     ensures same_top { machine.new.top ≡ machine.old.top }
 {
     while let Some(reply) = reply_of_no_cache(machine) {

@@ -13,7 +13,7 @@ use txc_tags::Table;
 use txc_validity::Found;
 
 /// What the query answers at the newest stamp, with a front that shows it. The stamp is held in between,
-/// so that no vacuum passes it.
+/// so that no vacuum passes it, and given up whatever the query answers.
 fn read_now<J: Naming>(
     rt: &impl Wait,
     alloc: Global,
@@ -24,9 +24,9 @@ fn read_now<J: Naming>(
         in IsAnswer (state_at L) query.now read.0 horizon (length L) read.1.answer)) }
 {
     let held = database.hold(rt, alloc)?;
-    let found = database.query(rt, alloc, query, held.answer)?;
+    let found = database.query(rt, alloc, query, held.answer);
     database.unpin(rt, held.answer)?;
-    Ok((held.answer, found))
+    Ok((held.answer, found?))
 }
 
 fn is_read<J: Naming>(rt: &impl Wait, alloc: Global, core: DbCore) -> Option<bool>

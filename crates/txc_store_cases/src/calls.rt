@@ -1,4 +1,4 @@
 //! Calls of functions, each need answered by hand.
 mod boxes;
-mod caller;
-mod counting;
+pub(crate) mod caller;
+pub(crate) mod counting;

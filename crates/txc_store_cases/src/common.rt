@@ -122,13 +122,13 @@ pub(crate) fn room(alloc: Global) -> Result<String, AllocError> {
     }
 }
 
-fn obey(player: &mut impl Obeys, alloc: Global, command: &str, answer: &mut String) {
+pub(crate) fn obey(player: &mut impl Obeys, alloc: Global, command: &str, answer: &mut String) {
     let (call, changes) = command.split_once(": ").unwrap_or((command, ""));
     player.obey(alloc, &mut call.split_whitespace(), changes, answer);
 }
 
 /// Gives the commands of a script, whatever they answer.
-fn give(player: &mut impl Obeys, alloc: Global, script: &str, answers: &mut String) {
+pub(crate) fn give(player: &mut impl Obeys, alloc: Global, script: &str, answers: &mut String) {
     for line in script.lines() {
         let (command, _) = line.split_once(" =>").unwrap_or((line, ""));
         obey(player, alloc, command, answers);

@@ -1,6 +1,6 @@
 //! Calls of the database, alone and under its lock, with what they answer.
 pub(crate) mod alone;
-mod calls;
-mod locked;
+pub(crate) mod calls;
+pub(crate) mod locked;
 mod scripts;
 mod threads;

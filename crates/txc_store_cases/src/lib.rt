@@ -10,6 +10,8 @@ mod calling;
 #[cfg(test)]
 mod calls;
 #[cfg(test)]
+mod clients;
+#[cfg(test)]
 mod common;
 #[cfg(test)]
 mod db;
@@ -19,13 +21,21 @@ mod errors;
 mod faults;
 #[cfg(test)]
 mod functions;
+// The cases' definitions speak of its types, so it is there without the cases too.
+mod objects;
 #[cfg(test)]
 mod pins;
+#[cfg(test)]
+mod plain;
 #[cfg(test)]
 mod rows;
 #[cfg(test)]
 mod run;
 #[cfg(test)]
 mod shared;
+#[cfg(test)]
+mod transactions;
+#[cfg(test)]
+mod updates;
 #[cfg(test)]
 mod validity;

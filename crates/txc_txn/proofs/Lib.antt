@@ -2,3 +2,4 @@ pub mod Longer
 pub mod Meanings
 pub mod Cores
 pub mod Worked
+pub mod Offered

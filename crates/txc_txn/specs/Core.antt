@@ -1,5 +1,5 @@
 -- A read-only transaction: what it waits for, and what is true of it.
-use Rattle.std.specs.Prelude.{◌≡◌, ◌≢◌, ℕ, ◌+◌, ◌<◌, ◌≤◌, true, List, [], ◌∷◌, ◌++◌, All, Contains}
+use Rattle.std.specs.Prelude.{◌≡◌, ◌≢◌, ◌⊎◌, ℕ, ◌+◌, ◌<◌, ◌≤◌, true, List, [], ◌∷◌, ◌++◌, All, Contains}
 use Rattle.std.specs.Prelude.{Option, Some, None, Ok, Err, map, max}
 use Rattle.txc_stamp.specs.Interval.{Interval, Holds}
 use Rattle.txc_tags.specs.Keys.{Call, node_of}
@@ -203,6 +203,10 @@ IsRight next L need reply = Unit {0}
 
 -- ---- what a reply leaves
 
+-- what was seen is what had been seen, or what the reply shows
+abbrev pub IsOneOf : FrontValue → Option FrontValue → FrontValue → Type 0
+IsOneOf old shown new = (new ≡ old) ⊎ (shown ≡ Some new)
+
 -- narrowed by the reach where it holds a member; else as it was
 pub record IsNarrowed (reach : Interval) (old new : PinSetValue) : Type 0 where
   pub held : kept reach old.members ≢ [] → new ≡ narrowed reach old
@@ -247,6 +251,16 @@ recorded_after recorded turn k = recorded
 abbrev pub IsAsk : Turn → Type 0
 IsAsk (Ask request) = Unit {0}
 IsAsk turn = ⊥
+
+-- the turn does not ask the pincushion to add a pin
+abbrev pub IsNoAdding : Turn → Type 0
+IsNoAdding (Ask (requests.AddPin pinned)) = ⊥
+IsNoAdding turn = Unit {0}
+
+-- a pin is to be added only as soon as the database has given it
+abbrev pub AddsOnly : PortReply → Turn → Type 0
+AddsOnly (ports.Pin (Ok pinned)) turn = Unit {0}
+AddsOnly reply turn = IsNoAdding turn
 
 -- the turn is no value
 abbrev pub IsNoValue : Turn → Type 0

@@ -8,7 +8,7 @@ use Rattle.txc_ports.specs.declared.reply.PortReply.{PortReply}
 use Rattle.txc_ports.specs.declared.turn.Turn.{Turn}
 use Rattle.txc_ports.specs.Fronts.{front_of}
 use Rattle.txc_txn.specs.Core.{CoreValue, CoreHolds, IsAsk, IsCore, IsRight, IsTurn, KeepsSettings, PinsAfter}
-use Rattle.txc_txn.specs.Core.{open_call, recorded_after, taken_after}
+use Rattle.txc_txn.specs.Core.{open_call, recorded_after, taken_after, AddsOnly, IsOneOf}
 use Rattle.txc_txn.specs.Leading.{ReplyLeads}
 
 -- what callers see of it: its core, and what its objects do
@@ -32,6 +32,7 @@ pub record HasGoneOn (next : Next) (old : TxnValue) (reply : PortReply) (new : T
     (turn : Turn) : Type 0 where
   pub turn_fits : IsTurn new.core turn
   pub leads : ReplyLeads next old.core old.objects reply new.core new.objects turn
+  pub adds : AddsOnly reply turn
   pub pins : PinsAfter old.core reply new.core.pins
   pub taken : new.core.taken ≡ taken_after old.core.taken reply
   pub recorded : new.core.recorded ≡ recorded_after old.core.recorded turn (open_call old.core)
@@ -40,3 +41,4 @@ pub record HasGoneOn (next : Next) (old : TxnValue) (reply : PortReply) (new : T
   pub events : new.core.seen.events ≡ old.core.seen.events
   pub longer : IsPrefix old.core.seen.history new.core.seen.history
   pub shown : ForSome (front_of reply) (λ front. IsPrefix front.history new.core.seen.history)
+  pub one : IsOneOf old.core.seen (front_of reply) new.core.seen

@@ -20,7 +20,8 @@ use txc_validity::Found;
 
 impl TxnCore {
     ghost use Rattle.txc_txn.specs.Core.{open_call, recorded_after, taken_after, value_of, CoreHolds};
-    ghost use Rattle.txc_txn.specs.Core.{IsAnswered, IsAsk, IsCore, IsRight, IsTurn, PinsAfter};
+    ghost use Rattle.txc_txn.specs.Core.{AddsOnly, IsAnswered, IsAsk, IsCore, IsNoAdding, IsOneOf, IsRight};
+    ghost use Rattle.txc_txn.specs.Core.{IsTurn, PinsAfter};
     ghost use Rattle.txc_txn.specs.Leading.{ReplyLeads};
 
     // Sees what the reply shows of the history.
@@ -29,6 +30,7 @@ impl TxnCore {
         ensures events { self.new.seen.events ≡ self.old.seen.events }
         ensures longer { IsPrefix self.old.seen.history self.new.seen.history }
         ensures shown { ForSome (front_of reply.now) (λ front. IsPrefix front.history self.new.seen.history) }
+        ensures one { IsOneOf self.old.seen (front_of reply.now) self.new.seen }
         ensures same { value_of self.new ≡ record (value_of self.old) { seen = self.new.seen } }
     {
         if let Some(front) = reply.front() {
@@ -93,6 +95,7 @@ impl TxnCore {
         ensures goes_on { IsAsk result → open_call (value_of self.new) ≡ open_call (value_of self.old) }
         ensures leads { ReplyLeads A.next (value_of self.old) registry.old (PortReply.AddPin pinned.now added)
             (value_of self.new) registry.new result }
+        ensures no_add { IsNoAdding result }
         ensures same { value_of self.new ≡ record (value_of self.old) {
           pins = self.new.pins;
           taken = self.new.taken.items;
@@ -134,6 +137,7 @@ impl TxnCore {
         ensures ended { ¬ (IsAsk result) }
         ensures leads { ReplyLeads A.next (value_of self.old) registry.old PortReply.Unpin
             (value_of self.new) registry.new result }
+        ensures no_add { IsNoAdding result }
         ensures same { value_of self.new
             ≡ record (value_of self.old) { call = self.new.machine; pinning = None } }
     {
@@ -170,6 +174,7 @@ impl TxnCore {
         ensures goes_on { IsAsk result → open_call (value_of self.new) ≡ open_call (value_of self.old) }
         ensures leads { ReplyLeads A.next (value_of self.old) registry.old (PortReply.Lookup hit)
             (value_of self.new) registry.new result }
+        ensures no_add { IsNoAdding result }
         ensures same { value_of self.new ≡ record (value_of self.old) {
           pins = self.new.pins;
           recorded = self.new.recorded.items;
@@ -207,6 +212,7 @@ impl TxnCore {
         ensures goes_on { IsAsk result → open_call (value_of self.new) ≡ open_call (value_of self.old) }
         ensures leads { ReplyLeads A.next (value_of self.old) registry.old (PortReply.Query found)
             (value_of self.new) registry.new result }
+        ensures no_add { IsNoAdding result }
         ensures same { value_of self.new ≡ record (value_of self.old) {
           pins = self.new.pins;
           recorded = self.new.recorded.items;
@@ -246,6 +252,7 @@ impl TxnCore {
         ensures goes_on { IsAsk result → open_call (value_of self.new) ≡ open_call (value_of self.old) }
         ensures leads { ReplyLeads A.next (value_of self.old) registry.old reply
             (value_of self.new) registry.new result }
+        ensures adds { AddsOnly reply result }
         ensures same { value_of self.new ≡ record (value_of self.old) {
           pins = self.new.pins;
           taken = self.new.taken.items;

@@ -36,7 +36,7 @@ impl<A: App, C: Cacheable> Model for RunningTxn<A, C> {
 
 impl<A: App, C: Cacheable> RunningTxn<A, C> {
     ghost use Rattle.txc_txn.specs.Core.{left_pin, open_call, receipt_pin, value_of, Explains, IsAnswered};
-    ghost use Rattle.txc_txn.specs.Core.{IsAsk, IsIdle, IsNoValue, IsTurn};
+    ghost use Rattle.txc_txn.specs.Core.{IsAsk, IsIdle, IsNoAdding, IsNoValue, IsTurn};
     ghost use Rattle.txc_txn.specs.Kept.{HasGoneOn, IsKept, IsShownRight};
     ghost use Rattle.txc_txn.specs.Leading.{StartLeads};
 
@@ -68,6 +68,7 @@ impl<A: App, C: Cacheable> RunningTxn<A, C> {
         ensures turn { IsTurn self.new.core result }
         ensures begins { IsAsk result → open_call self.new.core ≡ Some key }
         ensures no_value { IsNoValue result }
+        ensures no_add { IsNoAdding result }
         ensures leads { StartLeads self.old.core self.old.objects key result }
         ensures same { self.new.core
             ≡ record self.old.core { call = self.new.core.call; pinning = self.new.core.pinning } }

@@ -31,7 +31,7 @@ use txc_tags::Key;
 
 impl TxnCore {
     ghost use Rattle.txc_txn.specs.Core.{least_present, open_call, recorded_after, value_of, CoreHolds};
-    ghost use Rattle.txc_txn.specs.Core.{IsAsk, IsCore, IsEnd, IsIdle, IsNarrowed, IsNoValue, IsTurn};
+    ghost use Rattle.txc_txn.specs.Core.{IsAsk, IsCore, IsEnd, IsIdle, IsNarrowed, IsNoAdding, IsNoValue, IsTurn};
     ghost use Rattle.txc_txn.specs.Core.{WaitsForPin};
     ghost use Rattle.txc_txn.specs.Leading.{BeginLeads, CallLeads, IsBeyond, NeedLeads};
 
@@ -93,6 +93,7 @@ impl TxnCore {
         ensures asks { self.old.pins.members ≡ [] → IsAsk result }
         ensures refused { ¬ (IsAsk result) → IsBeyond (value_of self.new)
             × (result ≡ Turn.Refused (TxnError.Database DbError.Full)) }
+        ensures no_add { IsNoAdding result }
         ensures same { value_of self.new
             ≡ record (value_of self.old) { call = self.new.machine; pinning = self.new.pinning } }
     {
@@ -169,6 +170,7 @@ impl TxnCore {
         ensures lookup { (k : Call) → self.old.machine.need ≡ Some (Need.Lookup k) → IsAsk result }
         ensures query { (query : Query) → self.old.machine.need ≡ Some (Need.Query query)
             → self.old.pins.has_present ≡ false → IsAsk result }
+        ensures no_add { IsNoAdding result }
         ensures same { value_of self.new ≡ record (value_of self.old) {
           recorded = self.new.recorded.items;
           call = self.new.machine;
@@ -224,6 +226,7 @@ impl TxnCore {
         ensures no_value { IsNoValue result }
         ensures begins { IsAsk result → open_call (value_of self.new) ≡ Some key }
         ensures leads { BeginLeads registry.old key result }
+        ensures no_add { IsNoAdding result }
         ensures same { value_of self.new
             ≡ record (value_of self.old) { call = self.new.machine; pinning = self.new.pinning } }
     {
@@ -257,6 +260,7 @@ impl TxnCore {
         ensures leads { (need : Need) → self.old.machine.need ≡ Some need
             → CallLeads A.next (value_of self.old) registry.old need reply
             (value_of self.new) registry.new result }
+        ensures no_add { IsNoAdding result }
         ensures same { value_of self.new ≡ record (value_of self.old) {
           recorded = self.new.recorded.items;
           call = self.new.machine;

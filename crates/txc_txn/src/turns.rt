@@ -45,7 +45,8 @@ fn receipt_pin(recorded: &[Recorded], members: &[Pin]) -> Option<Pin>
 impl TxnCore {
     ghost use Rattle.txc_txn.specs.Core.{begun_core, left_pin, open_call, recorded_after, taken_after};
     ghost use Rattle.txc_txn.specs.Core.{value_of, CoreHolds, Explains, IsAnswered, IsAsk, IsCore, IsIdle};
-    ghost use Rattle.txc_txn.specs.Core.{IsNoValue, IsRight, IsTurn, KeepsSettings, PinsAfter};
+    ghost use Rattle.txc_txn.specs.Core.{AddsOnly, IsNoAdding, IsNoValue, IsOneOf, IsRight, IsTurn, KeepsSettings};
+    ghost use Rattle.txc_txn.specs.Core.{PinsAfter};
     ghost use Rattle.txc_txn.specs.Leading.{ReplyLeads, StartLeads};
 
     /// Begins with the pins that it was handed for its bounds. Its calls are kept by one of so many nodes,
@@ -104,6 +105,7 @@ impl TxnCore {
         ensures turn { IsTurn (value_of self.new) result }
         ensures begins { IsAsk result → open_call (value_of self.new) ≡ Some key }
         ensures no_value { IsNoValue result }
+        ensures no_add { IsNoAdding result }
         ensures leads { StartLeads (value_of self.old) registry.old key result }
         ensures same { value_of self.new ≡ record (value_of self.old) {
           call = (value_of self.new).call;
@@ -138,11 +140,13 @@ impl TxnCore {
         ensures goes_on { IsAsk result → open_call (value_of self.new) ≡ open_call (value_of self.old) }
         ensures leads { ReplyLeads A.next (value_of self.old) registry.old reply
             (value_of self.new) registry.new result }
+        ensures adds { AddsOnly reply result }
         ensures settings { KeepsSettings (value_of self.old) (value_of self.new) }
         ensures events { (value_of self.new).seen.events ≡ (value_of self.old).seen.events }
         ensures longer { IsPrefix (value_of self.old).seen.history (value_of self.new).seen.history }
         ensures shown { ForSome (front_of reply)
             (λ front. IsPrefix front.history (value_of self.new).seen.history) }
+        ensures one { IsOneOf (value_of self.old).seen (front_of reply) (value_of self.new).seen }
     {
         states_stay();
         self.see(&reply);

@@ -62,14 +62,14 @@ fn rows(alloc: Global, words: &mut SplitWhitespace<'_>) -> Result<Vec<Row>, Allo
     Ok(rows)
 }
 
-fn hit(alloc: Global, words: &mut SplitWhitespace<'_>) -> Option<Reply> {
+pub(crate) fn hit(alloc: Global, words: &mut SplitWhitespace<'_>) -> Option<Reply> {
     let reach = reach(words)?;
     let tags = tags(alloc, words)?;
     let value = Value::new(body(alloc, words.next().unwrap_or("")).ok()?)?;
     Some(Reply::Hit(Shown { reach, value, tags }))
 }
 
-fn found(alloc: Global, words: &mut SplitWhitespace<'_>) -> Option<Reply> {
+pub(crate) fn found(alloc: Global, words: &mut SplitWhitespace<'_>) -> Option<Reply> {
     let reach = reach(words)?;
     let tags = tags(alloc, words)?;
     let rows = rows(alloc, words).ok()?;
@@ -129,7 +129,7 @@ fn is_common(reply: &Reply) -> bool
     }
 }
 
-fn say_query(answer: &mut String, query: &Query) {
+pub(crate) fn say_query(answer: &mut String, query: &Query) {
     let _ = match query {
         Query::ById(_, id) => write!(answer, "id {id}"),
         Query::ByGroup(_, group) => write!(answer, "group {group}"),
@@ -166,7 +166,7 @@ fn say_need(answer: &mut String, need: Option<&Need>) {
 }
 
 /// How many permits can be taken, of three at most.
-fn free(pool: &mut PermitPool) -> usize {
+pub(crate) fn free(pool: &mut PermitPool) -> usize {
     let (one, two, three) = (pool.take(), pool.take(), pool.take());
     usize::from(one.is_some()) + usize::from(two.is_some()) + usize::from(three.is_some())
 }

@@ -1,4 +1,4 @@
-//! Functions that do nothing but ask so often.
+//! Functions that do nothing but ask.
 ghost use Rattle.std.specs.Prelude.{◌≡◌, ◌≤◌, length};
 ghost use Rattle.txc_shared.specs.declared.ask.Ask.TheVariants as asks;
 ghost use Rattle.txc_store_cases.specs.Counting.{ask_at, called};
@@ -16,12 +16,12 @@ use txc_tags::{Key, Table};
 
 /// The function of a number, which asks the same again and again, and is then done with no byte.
 #[derive(Drop)]
-struct Counting {
-    function: u8,
+pub(crate) struct Counting {
+    pub(crate) function: u8,
 }
 
 /// The application of these functions.
-struct Counted;
+pub(crate) struct Counted;
 
 impl App for Counted {
     ghost use Rattle.txc_store_cases.specs.Counting.{counting};
@@ -40,26 +40,29 @@ fn call(function: u8, args: &[u32]) -> Ask
     Ask::Call(key)
 }
 
+fn table() -> Table
+    ensures { result ≡ 1 }
+{
+    let Some(table) = Table::new(1) else {
+        unreachable!()
+    };
+    table
+}
+
 /// What the function asks after so many answers.
 fn ask_at(alloc: Global, function: u8, given: usize) -> Ask
     ensures { result ≡ ask_at function given }
 {
-    if function == 1 && given < 63 {
-        let Some(table) = Table::new(1) else {
-            unreachable!()
-        };
-        return Ask::Query(Query::ById(table, 0));
+    match function {
+        1 if given < 63 => Ask::Query(Query::ById(table(), 0)),
+        2 if given < 63 => call(1, &[given as u32]),
+        3 if given < 1 => call(2, &[]),
+        4 if given < 2 => call(0, &[]),
+        5 if given < 1 => Ask::Query(Query::ByGroup(table(), 2)),
+        6 if given < 1 => Ask::Query(Query::ById(table(), 9)),
+        6 if given < 2 => call(5, &[]),
+        _ => Ask::Done(Bytes::new(Vec::new(alloc))),
     }
-    if function == 2 && given < 63 {
-        return call(1, &[given as u32]);
-    }
-    if function == 3 && given < 1 {
-        return call(2, &[]);
-    }
-    if function == 4 && given < 2 {
-        return call(0, &[]);
-    }
-    Ask::Done(Bytes::new(Vec::new(alloc)))
 }
 
 impl Definition for Counting {

@@ -10,10 +10,10 @@ use txc_tags::TagSet;
 use txc_validity::Found;
 
 /// What a commit takes beside its base: the tags of what was read, and the changes.
-pub(super) type Work = (TagSet, Vec<Change>);
+pub(crate) type Work = (TagSet, Vec<Change>);
 
 /// The calls that are made alone and under the lock. Each writes what it answers.
-pub(super) trait Calls {
+pub(crate) trait Calls {
     fn commit(&mut self, alloc: Global, base: Stamp, work: &Work, answer: &mut String);
 
     fn pin(&mut self, alloc: Global, now: u64, at_least: Stamp, answer: &mut String);
@@ -71,7 +71,7 @@ pub(super) fn say_pinned(answer: &mut String, pinned: &Pinned) {
 }
 
 /// What an event changed, with its tags, or the moment of a pin.
-pub(super) fn say_event(answer: &mut String, alloc: Global, event: &Event) {
+pub(crate) fn say_event(answer: &mut String, alloc: Global, event: &Event) {
     if let What::Pin(moment) = event.what {
         let _ = write!(answer, "; pin {moment}");
         return;
@@ -159,7 +159,7 @@ fn answer_query(
     }
 }
 
-pub(super) fn obey_calls(
+pub(crate) fn obey_calls(
     calls: &mut impl Calls,
     alloc: Global,
     words: &mut SplitWhitespace<'_>,

@@ -22,7 +22,7 @@ use txc_stream::EventRow;
 
 /// A database under its lock, and a feed of it, which sees the front of each answer too.
 #[derive(Drop)]
-pub(super) struct Shared<'a, J: Naming, R: Wait> {
+pub(crate) struct Shared<'a, J: Naming, R: Wait> {
     rt: &'a R,
     database: &'a Database<J>,
     feed: Feed<J>,
@@ -31,7 +31,7 @@ pub(super) struct Shared<'a, J: Naming, R: Wait> {
 }
 
 impl<'a, J: Naming, R: Wait> Shared<'a, J, R> {
-    pub(super) fn new(
+    pub(crate) fn new(
         rt: &'a R,
         alloc: Global,
         database: &'a Database<J>,

@@ -1,5 +1,4 @@
 use Rattle.std.proofs.Common.{◌≡◌, ◌+◌, ◌*◌, ◌≤◌, List, ℕ, []}
-use Rattle.std.specs.Prelude.{string_bytes}
 use Rattle.std.specs.Io.KnownBytes.{Appends, Consumes}
 use Rattle.txc_run.specs.Sessions.{HasAnswered}
 use Rattle.txc_run.specs.Runs.{start_of}
@@ -13,7 +12,7 @@ invariant-reads g l = record {
   consumed : Consumes (g.R.Read.remaining l.fn.reader) (g.R.Read.remaining l.reader) read;
   appended : Appends (g.W.Write.contents l.fn.writer) (g.W.Write.contents l.writer) written;
   answered : HasAnswered (start_of l.fn.mode l.fn.settings) read written l.session;
-  none : string_bytes l.session.replies.text ≡ [];
+  none : l.session.replies.text.items ≡ [];
 }
 
 abbrev pub decreases-reads : goal.decreases-reads

@@ -1,10 +1,13 @@
 use Rattle.std.proofs.Common.{◌≡◌, IsNone, IsSome, None}
-use mathlib.Core.List.{IsPrefix}
+use Rattle.txc_db.specs.History.{state_at}
 use Rattle.txc_registry.specs.Objects.{activity_of}
 use Rattle.txc_call.specs.declared.error.CallError.TheVariants.{NoFunction}
+use Rattle.txc_call.specs.Calling.{started}
 use Rattle.txc_ports.specs.declared.error.TxnError.TheVariants as errors
 use Rattle.txc_ports.specs.declared.turn.Turn.TheVariants.{Refused}
 use Rattle.txc_rw.specs.Core.{answers_after, IsAsk, IsOfCall, IsRw, IsTurn, RwHolds}
+use Rattle.txc_rw.specs.Leading.{standing_of}
+use Rattle.txc_rw.proofs.Running.{IsRunSo}
 use Rattle.txc_rw.proofs.Turns.{turns_left}
 use Rattle.txc_rw.proofs.calling.call_at.Given as goal
 
@@ -17,10 +20,13 @@ invariant-loop-query g l = record {
   answers : l.core.answers ≡ answers_after l.fn.core.answers l.fn.key None l.turn;
   open_call : IsAsk l.turn → IsSome l.core.call.need;
   begins : IsAsk l.turn → l.core.call.top ≡ l.fn.key;
-  queried : IsPrefix l.fn.core.queried l.core.queried;
+  run : IsSome (activity_of l.fn.registry l.fn.key.function)
+      → IsRunSo g.A.App.next g.J.Naming.database_row (state_at l.seen.history l.fn.core.base) (standing_of (started l.fn.key) l.fn.registry) l.fn.core l.core l.registry l.turn;
   base : l.core.base ≡ l.fn.core.base;
   changes : l.core.changes ≡ l.fn.core.changes;
   missing : IsNone (activity_of l.fn.registry l.fn.key.function) → l.turn ≡ Refused (errors.Call (NoFunction l.fn.key.function));
+  missing_left : IsNone (activity_of l.fn.registry l.fn.key.function) → l.core ≡ l.fn.core;
+  missing_same : IsNone (activity_of l.fn.registry l.fn.key.function) → l.registry ≡ l.fn.registry;
 }
 
 abbrev pub decreases-loop-query : goal.decreases-loop-query

@@ -1,5 +1,4 @@
 use Rattle.std.proofs.Common.{◌++◌, List, ℕ, refl, ap, ◌∙◌}
-use Rattle.std.specs.Prelude.{string_bytes}
 use Rattle.txc_run.specs.Given.{Malformed}
 use Rattle.txc_run.proofs.LineRead.{either_true}
 use Rattle.txc_run.proofs.Taking.{none_counted}
@@ -7,7 +6,7 @@ use Rattle.txc_run.proofs.replies.Replies.take_malformed.Goals as goal
 
 pub returns-clause-after : goal.returns-clause-after
 returns-clause-after c = record {
-  text = c.in_ok-push_str.ensures.bytes ∙ ap (λ (xs : List ℕ). string_bytes c.args.self.now.text ++ xs) (c.as_str.ensures.value ∙ c.in_ok-line.ensures.ok);
+  text = c.in_ok-extend_from_slice.ensures.items ∙ ap (λ (xs : List ℕ). c.args.self.now.text.items ++ xs) (c.as_bytes.ensures.value ∙ c.in_ok-line.ensures.ok);
   mode = refl;
   counted = λ before h. none_counted before (Malformed c.args.number) c.args.self.now.report refl h;
   refused = either_true c.args.self.now.is_refused;

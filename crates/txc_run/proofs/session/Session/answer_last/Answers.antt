@@ -7,4 +7,6 @@ returns-then-is_empty c start read written h = none_left start read written c.ar
 
 pub returns : goal.returns
 returns c start read written h =
-    answered_last start read written c.args.self.now c.answer_line.new.self c.answer_line.result h (not_nothing c.args.self.now.line (sym c.is_empty.ensures ∙ c.if-is_empty.false)) c.answer_line.ensures.answered c.answer_line.ensures.unchanged
+    let ended = c.answer_kept.ensures in
+    answered_last start read written c.args.self.now c.answer_kept.new.self c.answer_kept.result h (not_nothing c.args.self.now.line (sym c.is_empty.ensures ∙ c.if-is_empty.false))
+    ended.answered ended.counted ended.emptied ended.unchanged

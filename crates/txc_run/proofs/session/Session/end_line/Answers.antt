@@ -1,10 +1,18 @@
-use Rattle.txc_run.proofs.SessionLines.{answered_end, halted}
-use Rattle.std.proofs.Common.{refl}
+use Rattle.std.proofs.Common.{refl, sym, ◌∙◌}
+use Rattle.txc_run.proofs.SessionLines.{answered_end, answered_whole, halted, is_nothing}
 use Rattle.txc_run.proofs.session.Session.end_line.Goals as goal
+
+pub returns-then-is_empty-clause-answered : goal.returns-then-is_empty-clause-answered
+returns-then-is_empty-clause-answered c start read written h =
+    let ended = c.answer_line.ensures in
+    answered_whole start read written c.args.bytes.now c.args.self.now c.answer_line.new.self c.answer_line.result c.requires.no_end (is_nothing c.args.self.now.line (sym c.is_empty.ensures ∙ c.if-is_empty.true))
+    ended.answered ended.counted ended.same_line ended.unchanged h
 
 pub returns-in-Ok-clause-answered : goal.returns-in-Ok-clause-answered
 returns-in-Ok-clause-answered c start read written h =
-    answered_end start read written c.args.bytes.now c.add.new.self c.args.self.now c.answer_line.new.self _ c.answer_line.result c.requires.no_end c.in-Ok.ensures c.answer_line.ensures.answered c.answer_line.ensures.unchanged h
+    let ended = c.answer_kept.ensures in
+    answered_end start read written c.args.bytes.now c.add.new.self c.args.self.now c.answer_kept.new.self c.answer_kept.result c.requires.no_end c.in-Ok.ensures
+    ended.answered ended.counted ended.emptied ended.unchanged h
 
 pub returns-in-Err-clause-answered : goal.returns-in-Err-clause-answered
 returns-in-Err-clause-answered c start read written h = halted start read written _ c.args.self.now _ h refl

@@ -1,5 +1,7 @@
-use Rattle.std.proofs.Common.{rules, ◌≡◌, ◌≤◌, Some, sym, subst}
+use Rattle.std.proofs.Common.{rules, ◌≡◌, ◌≤◌, Some, Err, ap, sym, subst}
 use Rattle.txc_call.specs.declared.need.Need.TheVariants as needs
+use Rattle.txc_ports.specs.declared.turn.Turn.TheVariants.{Refused}
+use Rattle.txc_rw.specs.Leading.{standing_of}
 use Rattle.txc_rw.proofs.Counting.{counted_query}
 use Rattle.txc_rw.specs.Core.{asked_query, IsDone, RwHolds, RwValue}
 use Rattle.txc_rw.proofs.Holding.{given_up, holds_moved}
@@ -34,3 +36,16 @@ returns-in-Some-Query-clause-counted g c = λ asks.
 pub returns-in-Some-Query-clause-open : goal.returns-in-Some-Query-clause-open
 returns-in-Some-Query-clause-open g c = λ asks.
     rw (c.ask_of_call.ensures.after asks) c.in_default.ensures.some
+
+pub returns-in-Err-clause-leads : goal.returns-in-Err-clause-leads
+returns-in-Err-clause-leads g c = λ s.
+    rw (← c.self.view_is) (Err c.in-Err.error, c.in-Err.ensures.led s, ap Refused c.into.ensures)
+
+pub returns-in-Some-Query-clause-leads : goal.returns-in-Some-Query-clause-leads
+returns-in-Some-Query-clause-leads g c = λ s.
+    rw (← c.self.view_is) (standing_of c.go_on_uncached.new.machine c.go_on_uncached.new.registry, c.in_default.ensures.led s, c.ask_of_call.ensures.leads)
+
+pub returns-in-Some-Value-clause-leads : goal.returns-in-Some-Value-clause-leads
+returns-in-Some-Value-clause-leads g c = λ s.
+    rw (← c.self.view_is)
+    (standing_of c.go_on_uncached.new.machine c.go_on_uncached.new.registry, c.in_default.ensures.led s, c.keep_value.ensures.leads c.go_on_uncached.new.registry)

@@ -1,12 +1,18 @@
-use Rattle.std.proofs.Common.{◌≡◌, ◌≢◌, ◌<◌, Bool, not, List, Option, Some, None, sym, ap, subst, ◌∙◌, arith, Contains}
+use Rattle.std.proofs.Common.{◌≡◌, ◌≢◌, ◌<◌, Bool, not, List, [], ◌∷◌, Option, Some, None, Err, sym, ap, subst, ◌∙◌, arith, Contains}
 use Rattle.std.proofs.lemmas.List.Elements.{Contains-push}
 use Rattle.txc_stamp.specs.Interval.{Interval, Holds}
 use Rattle.txc_rows.specs.declared.query.Query.{Query}
 use Rattle.txc_call.specs.declared.need.Need.TheVariants as needs
-use Rattle.txc_call.specs.Calling.{InCall}
+use Rattle.txc_rows.specs.States.{answer}
+use Rattle.txc_validity.specs.declared.answer.Found.{Found}
+use Rattle.txc_ports.specs.declared.turn.Turn.TheVariants.{Refused}
+use Rattle.txc_call.specs.Turns.{Turn as CallTurn}
+use Rattle.txc_call.specs.Calling.{Calling, InCall}
 use Rattle.txc_rw.specs.declared.reading.Reading.{Reading}
 use Rattle.txc_rw.specs.Answers.{committed}
 use Rattle.txc_rw.specs.Core.{asked_query, IsFoundAt, IsRightReply, ReadingFits, RwHolds, RwValue}
+use Rattle.txc_rw.specs.Leading.{standing_of}
+use Rattle.txc_rw.proofs.Running.{led_both, led_by_found, same_found}
 use Rattle.txc_rw.proofs.Counting.{counted_ask}
 use Rattle.txc_rw.proofs.Holding.{at_rest_holds, found_at_one, given_up, holds_queried, kept_more, need_of_call, reply_found, rows_given, some_by_test}
 use Rattle.txc_rw.proofs.rw_core.RwCore.reply.Goals as goal
@@ -19,7 +25,7 @@ returns-in-Err-clause-holds g c = λ L right h.
     let asked : was.reading ≡ Some q = ap (λ (r : Option Reading). asked_query r) (sym c.replace.ensures.value ∙ c.in-Some.is) in
     let h' : RwHolds g.A.App.next L c.args.registry.now was = subst (λ (w : RwValue). RwHolds g.A.App.next L c.args.registry.now w) same h in
     let none : asked_query c.replace.new.dest ≡ None = ap (λ (r : Option Reading). asked_query r) c.replace.ensures.after in
-    given_up g.A.App.next L c.args.registry.now was h' c.cancel.new.registry c.cancel.new.self (asked_query c.replace.new.dest) c.cancel.ensures.rest.0 c.cancel.ensures.need
+    given_up g.A.App.next L c.args.registry.now was h' c.give_up.new.registry c.give_up.new.machine (asked_query c.replace.new.dest) c.give_up.ensures.rest.0 c.give_up.ensures.need
 
 pub invariant_of-self-then-is_none : goal.invariant_of-self-then-is_none
 invariant_of-self-then-is_none g c =
@@ -97,3 +103,21 @@ pub returns-in-Ok-reply-clause-counted : goal.returns-in-Ok-reply-clause-counted
 returns-in-Ok-reply-clause-counted g c = λ asks.
     let more = counted_ask c.self.inside.machine.asked c.reply.new.self c.go_on.new.self.call.asked c.in-Ok-reply.ensures.counted (c.go_on.ensures.counted asks) in
     subst (λ (w : RwValue). w.call.asked < c.go_on.new.self.call.asked) c.self.view_is more
+
+pub returns-in-Ok-reply-clause-leads : goal.returns-in-Ok-reply-clause-leads
+returns-in-Ok-reply-clause-leads g c = λ s query found need is right.
+    let call : Calling = c.self.inside.machine in
+    let need' : call.need ≡ Some (needs.Query query) = subst (λ (w : RwValue). w.call.need ≡ Some (needs.Query query)) (sym c.self.view_is) need in
+    let right' : c.in-Ok.found.rows.items ≡ answer query s = subst (λ (f : Found). f.rows.items ≡ answer query s) (same_found c.args.reply found c.in-Ok.found is c.in-Ok.is) right in
+    let mid : CallTurn = standing_of c.reply.new.self c.reply.new.registry in
+    let one = led_by_found g.A.App.next s call c.args.registry.now mid query c.in-Ok.found c.at_one.result need' c.at_one.ensures.rows right' c.in-Ok-reply.ensures.answer in
+    let on = c.go_on.ensures.leads s in
+    rw (← c.self.view_is) (on.0, led_both g.A.App.next s (standing_of call c.args.registry.now) mid on.0 (query ∷ []) [] one on.1, on.2)
+
+pub returns-in-Err-reply-clause-leads : goal.returns-in-Err-reply-clause-leads
+returns-in-Err-reply-clause-leads g c = λ s query found need is right.
+    let call : Calling = c.self.inside.machine in
+    let need' : call.need ≡ Some (needs.Query query) = subst (λ (w : RwValue). w.call.need ≡ Some (needs.Query query)) (sym c.self.view_is) need in
+    let right' : c.in-Ok.found.rows.items ≡ answer query s = subst (λ (f : Found). f.rows.items ≡ answer query s) (same_found c.args.reply found c.in-Ok.found is c.in-Ok.is) right in
+    let one = led_by_found g.A.App.next s call c.args.registry.now (Err c.in-Err-reply.error) query c.in-Ok.found c.at_one.result need' c.at_one.ensures.rows right' c.in-Err-reply.ensures.answer in
+    rw (← c.self.view_is) (Err c.in-Err-reply.error, one, ap Refused c.into-in-Err-reply.ensures)

@@ -1,6 +1,7 @@
-use Rattle.std.proofs.Common.{sym, subst}
+use Rattle.std.proofs.Common.{[], sym, subst}
 use Rattle.txc_call.specs.Calling.{Calling, CallHolds}
 use Rattle.txc_rw.specs.Core.{asked_query, RwHolds, RwValue}
+use Rattle.txc_rw.specs.Leading.{standing_of, CallLeads}
 use Rattle.txc_rw.proofs.Holding.{holds_moved}
 use Rattle.txc_rw.proofs.rw_core.RwCore.start.Goals as goal
 
@@ -11,3 +12,8 @@ returns-in-Ok-clause-holds g c = λ L h.
     (holds_moved g.A.App.next L c.args.registry.now was (subst (λ (w : RwValue). RwHolds g.A.App.next L c.args.registry.now w) (sym c.self.view_is) h)
     c.args.registry.now c.start.new.self was.reading
     (λ M hold. subst (λ (w : Calling). CallHolds g.A.App.next M c.args.registry.now w) (sym c.in-Ok.ensures.after) tt))
+
+pub returns-in-Ok-clause-leads : goal.returns-in-Ok-clause-leads
+returns-in-Ok-clause-leads g c = λ there s.
+    subst (λ (w : Calling). CallLeads g.A.App.next s (standing_of w c.args.registry.now) [] c.go_on.new.self c.go_on.new.registry c.go_on.result) c.in-Ok.ensures.after
+    (c.go_on.ensures.leads s)

@@ -1,35 +1,32 @@
-use Rattle.std.proofs.Common.{◌≡◌, ℕ, List, [], None, Some, ap, subst, ◌∙◌}
+use Rattle.std.proofs.Common.{◌≡◌, ℕ, List, [], ◌∷◌, ◌++◌, Some, ap, subst}
 use Rattle.std.specs.Prelude.{IfOk}
 use Rattle.txc_db.specs.History.{History}
-use Rattle.txc_ports.specs.declared.turn.Turn.{Turn}
-use Rattle.txc_ports.specs.declared.turn.Turn.TheVariants as turns
 use Rattle.txc_rw.specs.declared.given.Given.TheVariants as given
-use Rattle.txc_rw.specs.Core.{answers_after, RwValue}
+use Rattle.txc_rw.specs.Core.{RwValue}
 use Rattle.txc_rw.specs.Txn.{TxnValue}
 use Rattle.txc_db.specs.History.{state_at}
 use Rattle.txc_shared.specs.Eval.{eval}
 use Rattle.txc_rw.proofs.Resting.{if_ok, last_right, rested}
 use Rattle.txc_rw.proofs.rw_txn.RwTxn.call.Goals as goal
 
-pub call_at-turn-requires-clause-shown : goal.call_at-turn-requires-clause-shown
-call_at-turn-requires-clause-shown g c = (c.self.invariant.2.holds []).within
+pub call_at-requires-clause-shown : goal.call_at-requires-clause-shown
+call_at-requires-clause-shown g c = (c.self.invariant.2.holds []).within
 
 pub invariant_of-self : goal.invariant_of-self
 invariant_of-self g c =
-    let two = rested g.A.App.next c.self.inside.seen.history c.call_at-turn.new.registry c.call_at-turn.new.core c.call_at-turn.ensures.fits c.call_at-turn.ensures.idle
-    (c.call_at-turn.ensures.holds (c.self.invariant.2.holds c.self.inside.registry)) in
+    let two = rested g.A.App.next c.self.inside.seen.history c.call_at.new.registry c.call_at.new.core c.call_at.ensures.fits c.call_at.ensures.idle
+    (c.call_at.ensures.holds (c.self.invariant.2.holds c.self.inside.registry)) in
     (c.self.invariant.0, two.0, two.1)
 
 pub returns-clause-answer : goal.returns-clause-answer
 returns-clause-answer g c =
-    let core' : RwValue = c.call_at-turn.new.core in
+    let core' : RwValue = c.call_at.new.core in
     let L : History = c.self.inside.seen.history in
-    let right = c.answers_are_right.ensures.base g.A.App.next L c.call_at-turn.new.registry core' (c.call_at-turn.ensures.holds (c.self.invariant.2.holds c.self.inside.registry)) in
-    let base : core'.base ≡ c.self.inside.core.base = ap (λ (w : RwValue). w.base) c.call_at-turn.ensures.same in
-    subst (λ (t : TxnValue). IfOk c.value_of.result (λ v. eval g.A.App.next c.args.key (state_at t.history t.core.base) ≡ Some v)) c.self.view_is
-    (if_ok (λ (v : List ℕ). c.call_at-turn.result ≡ turns.Value v) (λ (v : List ℕ). eval g.A.App.next c.args.key (state_at L c.self.inside.core.base) ≡ Some v) c.value_of.result
+    let right = c.answers_are_right.ensures.base g.A.App.next L c.call_at.new.registry core' (c.call_at.ensures.holds (c.self.invariant.2.holds c.self.inside.registry)) in
+    let base : core'.base ≡ c.self.inside.core.base = ap (λ (w : RwValue). w.base) c.call_at.ensures.same in
+    subst (λ (t : TxnValue). IfOk c.call_at.result (λ v. eval g.A.App.next c.args.key (state_at t.history t.core.base) ≡ Some v)) c.self.view_is
+    (if_ok (λ (v : List ℕ). core'.answers ≡ c.self.inside.core.answers ++ given.Value c.args.key v ∷ []) (λ (v : List ℕ). eval g.A.App.next c.args.key (state_at L c.self.inside.core.base) ≡ Some v) c.call_at.result
     (λ v is.
     subst (λ (n : ℕ). eval g.A.App.next c.args.key (state_at L n) ≡ Some v) base
-    (last_right g.A.App.next (state_at L core'.base) c.self.inside.core.answers core'.answers (given.Value c.args.key v)
-    (c.call_at-turn.ensures.answers ∙ ap (λ (t : Turn). answers_after c.self.inside.core.answers c.args.key None t) is) right))
-    c.value_of.ensures.answer)
+    (last_right g.A.App.next (state_at L core'.base) c.self.inside.core.answers core'.answers (given.Value c.args.key v) is right))
+    c.call_at.ensures.after)

@@ -1,37 +1,35 @@
-use Rattle.std.proofs.Common.{◌≡◌, ℕ, [], Some, ap, subst, ◌∙◌}
+use Rattle.std.proofs.Common.{◌≡◌, ℕ, [], ◌∷◌, ◌++◌, ap, subst}
 use Rattle.std.specs.Prelude.{IfOk, Vec}
 use Rattle.std.specs.declared.alloc.Global.{Global}
 use Rattle.txc_rows.specs.States.{RowValue}
 use Rattle.txc_db.specs.History.{History}
-use Rattle.txc_ports.specs.declared.turn.Turn.{Turn}
-use Rattle.txc_ports.specs.declared.turn.Turn.TheVariants as turns
 use Rattle.txc_rw.specs.declared.given.Given.TheVariants as given
-use Rattle.txc_rw.specs.Core.{answers_after, RwValue}
+use Rattle.txc_rw.specs.Core.{RwValue}
 use Rattle.txc_rw.specs.Txn.{TxnValue}
 use Rattle.txc_rows.specs.States.{answer}
 use Rattle.txc_db.specs.History.{state_at}
 use Rattle.txc_rw.proofs.Resting.{if_ok, last_right, rested}
 use Rattle.txc_rw.proofs.rw_txn.RwTxn.query.Goals as goal
 
-pub query_at-turn-requires-clause-shown : goal.query_at-turn-requires-clause-shown
-query_at-turn-requires-clause-shown g c = (c.self.invariant.2.holds []).within
+pub query_at-requires-clause-shown : goal.query_at-requires-clause-shown
+query_at-requires-clause-shown g c = (c.self.invariant.2.holds []).within
 
 pub invariant_of-self : goal.invariant_of-self
 invariant_of-self g c =
-    let two = rested g.A.App.next c.self.inside.seen.history c.query_at-turn.new.registry c.query_at-turn.new.core c.query_at-turn.ensures.fits c.query_at-turn.ensures.idle
-    (c.query_at-turn.ensures.holds (c.self.invariant.2.holds c.self.inside.registry)) in
+    let two = rested g.A.App.next c.self.inside.seen.history c.query_at.new.registry c.query_at.new.core c.query_at.ensures.fits c.query_at.ensures.idle
+    (c.query_at.ensures.holds (c.self.invariant.2.holds c.self.inside.registry)) in
     (c.self.invariant.0, two.0, two.1)
 
 pub returns-clause-answer : goal.returns-clause-answer
 returns-clause-answer g c =
-    let core' : RwValue = c.query_at-turn.new.core in
+    let core : RwValue = c.self.inside.core in
+    let core' : RwValue = c.query_at.new.core in
     let L : History = c.self.inside.seen.history in
-    let right = c.answers_are_right.ensures.base g.A.App.next L c.query_at-turn.new.registry core' (c.query_at-turn.ensures.holds (c.self.invariant.2.holds c.self.inside.registry)) in
-    let base : core'.base ≡ c.self.inside.core.base = ap (λ (w : RwValue). w.base) c.query_at-turn.ensures.same in
-    subst (λ (t : TxnValue). IfOk c.rows_of.result (λ v. v.items ≡ answer c.args.query (state_at t.history t.core.base))) c.self.view_is
-    (if_ok (λ (v : Vec RowValue Global). c.query_at-turn.result ≡ turns.Rows v) (λ (v : Vec RowValue Global). v.items ≡ answer c.args.query (state_at L c.self.inside.core.base)) c.rows_of.result
+    let right = c.answers_are_right.ensures.base g.A.App.next L c.query_at.new.registry core' (c.query_at.ensures.holds (c.self.invariant.2.holds c.self.inside.registry)) in
+    subst (λ (t : TxnValue). IfOk c.query_at.result (λ v. v.items ≡ answer c.args.query (state_at t.history t.core.base))) c.self.view_is
+    (if_ok (λ (v : Vec RowValue Global). core' ≡ record core { queried = core.queried ++ c.args.query ∷ []; answers = core.answers ++ given.Rows c.args.query v.items ∷ [] })
+    (λ (v : Vec RowValue Global). v.items ≡ answer c.args.query (state_at L core.base)) c.query_at.result
     (λ v is.
-    subst (λ (n : ℕ). v.items ≡ answer c.args.query (state_at L n)) base
-    (last_right g.A.App.next (state_at L core'.base) c.self.inside.core.answers core'.answers (given.Rows c.args.query v.items)
-    (c.query_at-turn.ensures.answers ∙ ap (λ (t : Turn). answers_after c.self.inside.core.answers c.self.inside.core.call.top (Some c.args.query) t) is) right))
-    c.rows_of.ensures.answer)
+    subst (λ (n : ℕ). v.items ≡ answer c.args.query (state_at L n)) (ap (λ (w : RwValue). w.base) is)
+    (last_right g.A.App.next (state_at L core'.base) core.answers core'.answers (given.Rows c.args.query v.items) (ap (λ (w : RwValue). w.answers) is) right))
+    c.query_at.ensures.after)

@@ -20,6 +20,7 @@ returns g c =
     subst (λ (v : TxnValue). HasGoneOn g.A.App.next v c.args.reply (record { core = value_of c.next.new.self; objects = c.next.new.registry }) c.next.result) c.self.view_is record {
       turn_fits = c.next.ensures.turn;
       leads = c.next.ensures.leads;
+      adds = c.next.ensures.adds;
       pins = c.next.ensures.pins;
       taken = c.next.ensures.taken;
       recorded = c.next.ensures.recorded;
@@ -28,4 +29,5 @@ returns g c =
       events = c.next.ensures.events;
       longer = c.next.ensures.longer;
       shown = c.next.ensures.shown;
+      one = c.next.ensures.one;
     }

@@ -1,0 +1,6 @@
+pub mod Grown
+pub mod Drawn
+pub mod Counting
+pub mod Turns
+pub mod Values
+pub mod Crosses

@@ -1,0 +1,74 @@
+use Rattle.std.proofs.Common.{◌≡◌, length, sym, ap, subst, ◌∙◌}
+use Rattle.txc_db.specs.Seen.{FrontValue}
+use Rattle.txc_ports.specs.Asking.{MayAsk}
+use Rattle.txc_txn.specs.Core.{CoreValue, IsAsk, IsTurn}
+use Rattle.txc_txn.proofs.Offered.{adds_at_first, adds_next, is_answered, is_right, may_ask, AddsOf}
+use Rattle.txc_client.proofs.Counting.{goes_down}
+use Rattle.txc_client.proofs.Grown.{as_many, have_grown_self, have_grown_then, prefix_then}
+use Rattle.txc_client.proofs.Turns.{history_stays, none_recorded, recorded_on, recorded_stays, row_stays, settings_stay, settings_then}
+use Rattle.txc_client.proofs.calling.call_at.Goals as goal
+
+pub loop-turn-init : goal.loop-turn-init
+loop-turn-init g c =
+    let old = c.args.txn.now.core in
+    let new = c.start-turn.new.self.core in
+    let same = c.start-turn.ensures.same in
+    record {
+      passes = have_grown_self c.args.ports.now;
+      turn = c.start-turn.ensures.turn;
+      adds = adds_at_first g.J.Naming.database_row c.start-turn.result c.start-turn.ensures.no_add;
+      events = row_stays old new same ∙ c.requires.events;
+      begins = c.start-turn.ensures.begins;
+      recorded = recorded_stays old new same ∙ sym (none_recorded old.recorded c.start-turn.result _ c.start-turn.ensures.no_value);
+      settings = settings_stay old new same;
+      longer = history_stays old new same;
+      missing = λ members none. (c.start-turn.ensures.leads.begins members).absent none;
+    }
+
+pub loop-turn-preserved : goal.loop-turn-preserved
+loop-turn-preserved g c =
+    let inv = c.loop-turn.invariant in
+    let on = c.next-turn.ensures in
+    let asks : IsAsk c.loop-turn.turn = subst IsAsk (sym c.in-Ask.is) tt in
+    record {
+      passes = have_grown_then c.args.ports.now c.loop-turn.ports c.ask-reply.new.self inv.passes c.ask-reply.ensures.passes;
+      turn = on.turn_fits;
+      adds = adds_next g.A.App.next g.J.Naming.database_row c.loop-turn.txn c.next-turn.new.self c.next-turn.result c.ask-reply.result c.ask-reply.ensures.row on.adds on.leads;
+      events = on.events ∙ inv.events;
+      begins = λ more. on.goes_on more ∙ inv.begins asks;
+      recorded = on.recorded ∙ recorded_on c.args.txn.now.core.recorded c.loop-turn.txn.core.recorded c.in-Ask.request c.loop-turn.turn c.next-turn.result c.args.key _ c.in-Ask.is inv.recorded (inv.begins asks);
+      settings = settings_then c.args.txn.now.core c.loop-turn.txn.core c.next-turn.new.self.core inv.settings on.settings;
+      longer = prefix_then c.args.txn.now.core.seen.history c.loop-turn.txn.core.seen.history c.next-turn.new.self.core.seen.history inv.longer on.longer;
+      missing = λ members none. absurd (cc (inv.missing members none, c.in-Ask.is));
+    }
+
+pub loop-turn-smaller : goal.loop-turn-smaller
+loop-turn-smaller g c =
+    let inv = c.loop-turn.invariant in
+    let asking = subst (IsTurn c.loop-turn.txn.core) c.in-Ask.is inv.turn in
+    rw c.in-Ask.is
+    (goes_down g.A.App.next c.loop-turn.txn c.next-turn.new.self c.ask-reply.result c.next-turn.result c.is_kept.ensures c.is_kept-in-Ask.ensures
+    (is_answered g.A.App.next c.loop-turn.txn.core c.in-Ask.request c.ask-reply.result asking c.ask-reply.ensures.answer) c.next-turn.ensures)
+
+pub ask-reply-requires : goal.ask-reply-requires
+ask-reply-requires g c =
+    let inv = c.loop-turn.invariant in
+    let txn = c.loop-turn.txn in
+    let same : c.seen.result.now ≡ txn.core.seen = c.seen.ensures ∙ ap (λ (w : CoreValue). w.seen) c.core.ensures in
+    let nodes : txn.core.nodes ≡ length c.loop-turn.ports = inv.settings.nodes ∙ c.requires.nodes ∙ sym (as_many c.args.ports.now c.loop-turn.ports inv.passes) in
+    record {
+      row = ap (λ (f : FrontValue). f.events) same ∙ inv.events;
+      may = subst (λ (f : FrontValue). MayAsk g.A.App.next g.J.Naming.database_row (length c.loop-turn.ports) f.history c.in-Ask.request) (sym same)
+          (may_ask g.A.App.next g.J.Naming.database_row txn c.is_kept.ensures (length c.loop-turn.ports) nodes c.in-Ask.request
+          (subst (IsTurn txn.core) c.in-Ask.is inv.turn) (subst (AddsOf g.J.Naming.database_row) c.in-Ask.is inv.adds));
+    }
+
+pub next-turn-requires : goal.next-turn-requires
+next-turn-requires g c =
+    let txn = c.loop-turn.txn in
+    let asking = subst (IsTurn txn.core) c.in-Ask.is c.loop-turn.invariant.turn in
+    record {
+      reply = is_answered g.A.App.next txn.core c.in-Ask.request c.ask-reply.result asking c.ask-reply.ensures.answer;
+      row = λ front is. c.ask-reply.ensures.row front is ∙ sym c.loop-turn.invariant.events;
+      right = is_right g.A.App.next txn c.in-Ask.request c.ask-reply.result asking c.ask-reply.ensures.answer;
+    }

@@ -1,0 +1,29 @@
+use Rattle.std.proofs.Common.{◌≡◌, ◌∙◌, Some, IfOk, sym, subst}
+use Rattle.txc_ports.specs.declared.turn.Turn.{Turn}
+use Rattle.txc_txn.specs.Core.{recorded_after}
+use Rattle.txc_client.specs.Txn.{IsValueOf}
+use Rattle.txc_client.proofs.Grown.{as_many}
+use Rattle.txc_client.proofs.Values.{value_of_last}
+use Rattle.txc_client.proofs.ro_txn.RoTxn.call.Goals as goal
+use Rattle.txc_client.proofs.ro_txn.RoTxn.call.Goals.{in-Value, in-Refused}
+
+pub invariant_of-self : goal.invariant_of-self
+invariant_of-self g c =
+    let called = c.call_at-turn.ensures in (
+      record {
+        idle = called.idle;
+        events = called.events;
+        nodes = called.settings.nodes ∙ c.self.invariant.0.nodes ∙ sym (as_many c.self.inside.ports c.call_at-turn.new.ports called.passes);
+      },
+      c.self.invariant.1 ∙ sym called.settings.renew_after,
+    )
+
+-- the value is the one that was recorded last
+pub returns-clause-answer : goal.returns-clause-answer
+returns-clause-answer g c = elim c.match-turn.branch [
+  | in-Value w ↦
+      subst (λ r. IfOk r (IsValueOf g.A.App.next c.call_at-turn.new.txn.core c.args.key)) (sym w.result-is)
+      (value_of_last g.A.App.next c.call_at-turn.new.txn.core c.self.inside.txn.core.recorded c.args.key w.in-Value.value c.is_kept.ensures.holds.meant.consistent
+      (subst (λ (t : Turn). c.call_at-turn.new.txn.core.recorded ≡ recorded_after c.self.inside.txn.core.recorded t (Some c.args.key)) w.in-Value.is c.call_at-turn.ensures.recorded))
+  | in-Refused w ↦ subst (λ r. IfOk r (IsValueOf g.A.App.next c.call_at-turn.new.txn.core c.args.key)) (sym w.result-is) tt
+]

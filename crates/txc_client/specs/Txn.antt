@@ -1,0 +1,33 @@
+-- What callers see of clients and of their transactions.
+use Rattle.std.specs.Prelude.{◌≡◌, ℕ, List, Some, All, length}
+use Rattle.txc_tags.specs.Keys.{Call}
+use Rattle.txc_db.specs.History.{state_at}
+use Rattle.txc_shared.specs.Eval.{Next, eval}
+use Rattle.txc_shared.specs.Passes.{PassValue}
+use Rattle.txc_txn.specs.Core.{CoreValue, IsIdle}
+use Rattle.txc_txn.specs.Kept.{TxnValue}
+
+-- a client: its passes, one through each node in order, and after how long it renews the newest pin
+pub record ClientValue : Type 0 where
+  pub passes : List PassValue
+  pub renew_after : ℕ
+
+-- a transaction: its core and what its objects do, and the passes of its client
+pub record RoTxnValue : Type 0 where
+  pub txn : TxnValue
+  pub passes : List PassValue
+
+-- between two calls: none is open, what was seen is of the row, and there is a pass through each node
+pub record IsResting (row : List ℕ) (t : RoTxnValue) : Type 0 where
+  pub idle : IsIdle t.txn.core
+  pub events : t.txn.core.seen.events ≡ row
+  pub nodes : t.txn.core.nodes ≡ length t.passes
+
+-- the client of a transaction
+abbrev pub client_of : RoTxnValue → ClientValue
+client_of t = record { passes = t.passes; renew_after = t.txn.core.renew_after }
+
+-- at every member, this is what the call comes to without a cache
+abbrev pub IsValueOf : Next → CoreValue → Call → List ℕ → Type 0
+IsValueOf next c k bytes =
+    All (λ p. eval next k (state_at c.seen.history p.stamp) ≡ Some bytes) c.pins.members

@@ -1,0 +1,53 @@
+//! A call of a transaction, led to its end at the locked ports.
+ghost use Rattle.std.specs.Prelude.{◌≡◌, ◌≢◌, [], IsNone, Some, length};
+ghost use mathlib.Core.List.{IsPrefix};
+ghost use Rattle.txc_registry.specs.Objects.{activity_of};
+ghost use Rattle.txc_call.specs.declared.error.CallError.TheVariants.{NoFunction};
+ghost use Rattle.txc_txn.specs.Core.{recorded_after, IsEnd, IsIdle, KeepsSettings};
+ghost use Rattle.txc_client.specs.Ports.{HaveGrown};
+
+use crate::ports::Ports;
+use std::alloc::Global;
+use std::sync::Wait;
+use txc_db::Naming;
+use txc_ports::{Turn, TxnError};
+use txc_registry::Cacheable;
+use txc_shared::App;
+use txc_tags::Key;
+use txc_txn::RunningTxn;
+
+// Makes a call of the transaction. Each of its requests is one locked call, until it has a value or is
+// refused.
+pub(crate) fn call_at<A: App, C: Cacheable, J: Naming>(
+    rt: &impl Wait,
+    alloc: Global,
+    ports: &mut Ports<'_, A, J>,
+    txn: &mut RunningTxn<A, C>,
+    key: Key,
+) -> Turn
+    requires idle { IsIdle txn.old.core }
+    requires events { txn.old.core.seen.events ≡ J.database_row }
+    requires nodes { txn.old.core.nodes ≡ length ports.old }
+    ensures passes { HaveGrown ports.old ports.new }
+    ensures ended { IsEnd result }
+    ensures idle { IsIdle txn.new.core }
+    ensures recorded { txn.new.core.recorded ≡ recorded_after txn.old.core.recorded result (Some key) }
+    ensures settings { KeepsSettings txn.old.core txn.new.core }
+    ensures events { txn.new.core.seen.events ≡ J.database_row }
+    ensures longer { IsPrefix txn.old.core.seen.history txn.new.core.seen.history }
+    ensures missing { txn.old.core.pins.members ≢ [] → IsNone (activity_of txn.old.objects key.function)
+        → result ≡ Turn.Refused (TxnError.Call (NoFunction key.function)) }
+{
+    let mut turn = txn.start(alloc, key);
+    loop {
+        match turn {
+            Turn::Ask(request) => {
+                txn.is_kept();
+                let reply = ports.ask(rt, alloc, txn.core().seen(), request);
+                turn = txn.next(alloc, reply);
+                txn.is_kept();
+            }
+            ended => return ended,
+        }
+    }
+}

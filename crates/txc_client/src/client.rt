@@ -1,0 +1,180 @@
+//! Clients, and the beginning of their transactions.
+ghost use Rattle.std.specs.Prelude.{◌≡◌, ◌≤◌, ◌<◌, ◌⊎◌, [], get_or, true, All, Any, IfErr, IfOk, length, map};
+ghost use Rattle.txc_cushion.specs.Cushion.{front_of, handed_out};
+ghost use Rattle.txc_cushion.specs.Shared.{MayAnswer};
+ghost use Rattle.txc_registry.specs.Objects.{AllIdle};
+ghost use Rattle.txc_shared.specs.Refusals.{IsNewPassRefused, MayRefuse};
+ghost use Rattle.txc_shared.specs.Eval.{Next};
+ghost use Rattle.txc_registry.specs.Objects.{Objects};
+ghost use Rattle.txc_txn.specs.Core.{value_of, CoreHolds, IsCore, IsIdle};
+ghost use Rattle.txc_txn.specs.Kept.{IsKept};
+ghost use Rattle.txc_client.specs.Txn.{client_of};
+
+use crate::ports::Ports;
+use crate::ro_txn::RoTxn;
+use std::alloc::{AllocError, Global};
+use std::marker::Model;
+use std::sync::Wait;
+use txc_cushion::{Pincushion, Pins};
+use txc_db::{Database, Naming};
+use txc_ports::Bounds;
+use txc_registry::{Cacheable, Registry};
+use txc_shared::{App, NodeError, NodePass, SharedNode};
+use txc_txn::{RunningTxn, TxnCore};
+
+/// A client of a database, its pincushion and its nodes, with the functions that it calls, all idle.
+///
+/// It is sent to the thread that uses it, and begins one transaction at a time.
+#[derive(Drop)]
+pub struct Client<'a, A: App, C: Cacheable, J: Naming> {
+    pub(crate) ports: Ports<'a, A, J>,
+    pub(crate) registry: Registry<A, C>,
+    pub(crate) renew_after: u64,
+}
+
+impl<'a, A: App, C: Cacheable, J: Naming> Model for Client<'a, A, C, J> {
+    ghost use Rattle.txc_registry.specs.Objects.{AllIdle};
+    ghost use Rattle.txc_client.specs.Txn.{ClientValue};
+
+    ghost Value = { ClientValue };
+
+    ghost view = { λ c. record { passes = c.ports; renew_after = c.renew_after } };
+
+    ghost invariant = { λ c. AllIdle c.registry };
+}
+
+impl<'a, A: App, C: Cacheable, J: Naming> Client<'a, A, C, J> {
+    /// A client with a pass of its own through each node. It renews the newest pin of a transaction where its
+    /// moment is more than `renew_after` milliseconds before the transaction's `now`.
+    ///
+    /// It is refused as a pass is. The passes drawn by then stay counted at their nodes, and the registry is
+    /// dropped.
+    pub fn new(
+        rt: &impl Wait,
+        alloc: Global,
+        database: &'a Database<J>,
+        cushion: &'a Pincushion<J>,
+        nodes: &'a [SharedNode<A, J>],
+        registry: Registry<A, C>,
+        renew_after: u64,
+    ) -> Result<Client<'a, A, C, J>, NodeError>
+        requires some { 1 ≤ length nodes.now }
+        requires idle { AllIdle registry }
+        ensures nodes { IfOk result (λ client. map (λ pass. pass.settings) client.passes ≡ nodes.now) }
+        ensures records { IfOk result (λ client. All (λ pass. pass.records ≡ []) client.passes) }
+        ensures renew_after { IfOk result (λ client. client.renew_after ≡ renew_after) }
+        ensures refused { IfErr result (λ e. (e ≡ NodeError.Memory)
+            ⊎ Any (λ node. MayRefuse J.node_rows (IsNewPassRefused node) e) nodes.now) }
+    {
+        let ports = Ports::new(rt, alloc, database, cushion, nodes)?;
+        Ok(Client {
+            ports,
+            registry,
+            renew_after,
+        })
+    }
+
+    /// Begins a transaction with the newest of the pins that its bounds allow, and the present. Out of
+    /// memory, it returns the client.
+    pub fn begin_ro(
+        self,
+        rt: &impl Wait,
+        alloc: Global,
+        bounds: Bounds,
+    ) -> Result<RoTxn<'a, A, C, J>, (AllocError, Client<'a, A, C, J>)>
+        ensures bounds { IfOk result (λ txn. txn.txn.core.bounds ≡ bounds) }
+        ensures recorded { IfOk result (λ txn. txn.txn.core.recorded ≡ []) }
+        ensures meant { IfOk result (λ txn. IsKept A.next txn.txn) }
+        ensures members { IfOk result (MayAnswer J.database_row (λ c txn. (txn.txn.core.seen ≡ front_of c)
+            × (txn.txn.core.pins.members ≡ handed_out c bounds.now bounds.staleness bounds.at_least))) }
+        ensures present { IfOk result (λ txn. txn.txn.core.pins.has_present ≡ true) }
+        ensures row { IfOk result (λ txn. txn.txn.core.seen.events ≡ J.database_row) }
+        ensures client { IfOk result (λ txn. client_of txn ≡ self.entry) }
+        ensures handed_back { IfErr result (λ e. e.1 ≡ self.entry) }
+    {
+        let Client {
+            ports,
+            registry,
+            renew_after,
+        } = self;
+        let cushion = ports.cushion;
+        let nodes = ports.len();
+        match begun(rt, alloc, cushion, nodes, renew_after, bounds) {
+            Ok(core) => Ok(RoTxn {
+                ports,
+                renew_after,
+                txn: RunningTxn::new(core, registry),
+            }),
+            Err(error) => {
+                let client = Client {
+                    ports,
+                    registry,
+                    renew_after,
+                };
+                Err((error, client))
+            }
+        }
+    }
+
+    /// How many nodes there are.
+    pub fn node_count(&self) -> usize
+        ensures answer { result ≡ length self.now.passes }
+        ensures some { 1 ≤ result }
+    {
+        self.ports.len()
+    }
+
+    /// The pass through a node, which shows a legal history of it.
+    pub fn pass(&self, node: usize) -> &NodePass<J>
+        requires { node < length self.now.passes }
+        ensures { result.now ≡ get_or self.now.passes node result.now }
+    {
+        self.ports.pass(node)
+    }
+}
+
+// A core with the pins that the pincushion hands out for its bounds. Out of memory, they are given back.
+fn begun<J: Naming>(
+    rt: &impl Wait,
+    alloc: Global,
+    cushion: &Pincushion<J>,
+    nodes: usize,
+    renew_after: u64,
+    bounds: Bounds,
+) -> Result<TxnCore, AllocError>
+    requires { 1 ≤ nodes }
+    ensures fits { IfOk result (λ core. (next : Next) (objects : Objects) → AllIdle objects
+        → IsCore next objects (value_of core)) }
+    ensures holds { IfOk result (λ core. (next : Next) (objects : Objects)
+        → CoreHolds next (value_of core).seen.history objects (value_of core)) }
+    ensures idle { IfOk result (λ core. IsIdle (value_of core)) }
+    ensures row { IfOk result (λ core. (value_of core).seen.events ≡ J.database_row) }
+    ensures bounds { IfOk result (λ core. (value_of core).bounds ≡ bounds) }
+    ensures renew_after { IfOk result (λ core. (value_of core).renew_after ≡ renew_after) }
+    ensures nodes { IfOk result (λ core. (value_of core).nodes ≡ nodes) }
+    ensures recorded { IfOk result (λ core. (value_of core).recorded ≡ []) }
+    ensures members { IfOk result (MayAnswer J.database_row (λ c core. ((value_of core).seen ≡ front_of c)
+        × ((value_of core).pins.members ≡ handed_out c bounds.now bounds.staleness bounds.at_least))) }
+    ensures present { IfOk result (λ core. (value_of core).pins.has_present ≡ true) }
+{
+    let Bounds {
+        now,
+        staleness,
+        at_least,
+    } = bounds;
+    let pins = cushion.fresh(rt, alloc, now, staleness, at_least)?;
+    match TxnCore::begin(alloc, nodes, renew_after, bounds, pins) {
+        Ok(core) => Ok(core),
+        Err(pins) => {
+            give_back_each(rt, cushion, &pins);
+            Err(AllocError)
+        }
+    }
+}
+
+// Gives the pins back one by one, which takes no memory.
+fn give_back_each<J: Naming>(rt: &impl Wait, cushion: &Pincushion<J>, pins: &Pins) {
+    for pin in &pins.pins {
+        let _ = cushion.give_back(rt, &[pin.stamp]);
+    }
+}

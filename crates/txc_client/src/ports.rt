@@ -1,0 +1,229 @@
+//! The locked ports that a transaction asks, one call for each request.
+ghost use Rattle.std.specs.Prelude.{◌≡◌, ◌≤◌, ◌<◌, ◌⊎◌, [], get_or, map, All, Any, IfErr, IfOk, IfSome, length};
+ghost use Rattle.txc_shared.specs.Refusals.{IsNewPassRefused, MayRefuse};
+
+use std::alloc::Global;
+use std::marker::Model;
+use std::sync::Wait;
+use txc_cushion::Pincushion;
+use txc_db::{Answered, Database, DbError, HistoryFront, Naming};
+use txc_node::{Entry, Shown};
+use txc_ports::{PortReply, PortRequest};
+use txc_rows::Query;
+use txc_shared::laws::found_rows_give_true_entries;
+use txc_shared::{App, Finding, NodeError, NodePass, SharedNode};
+use txc_stamp::Stamp;
+use txc_tags::Key;
+use txc_validity::Found;
+
+/// A database, its pincushion, and nodes that take its events, with a pass through each node. Contracts see
+/// the passes.
+#[derive(Drop)]
+pub(crate) struct Ports<'a, A: App, J: Naming> {
+    pub(crate) database: &'a Database<J>,
+    pub(crate) cushion: &'a Pincushion<J>,
+    nodes: &'a [SharedNode<A, J>],
+    passes: Vec<NodePass<J>>,
+}
+
+impl<'a, A: App, J: Naming> Model for Ports<'a, A, J> {
+    ghost use Rattle.std.specs.Prelude.{◌≡◌, ◌≤◌, length, List, map};
+    ghost use Rattle.txc_shared.specs.Passes.{PassValue};
+
+    ghost Value = { List PassValue };
+
+    ghost view = { λ p. p.passes.items };
+
+    // Each pass is one of the node at its place.
+    ghost invariant = { λ p. (map (λ pass. pass.settings) p.passes.items ≡ p.nodes.now)
+        × (1 ≤ length p.nodes.now) };
+}
+
+impl<'a, A: App, J: Naming> Ports<'a, A, J> {
+    ghost use Rattle.txc_shared.specs.Claims.{IsTrueIn};
+    ghost use Rattle.txc_shared.specs.Nodes.{entry_shown};
+    ghost use Rattle.txc_client.specs.Ports.{HaveGrown};
+    ghost use Rattle.txc_ports.specs.Asking.{IsOfRow, IsReplyTo, MayAsk};
+
+    /// Draws a pass through each node. It is refused as a pass is.
+    pub(crate) fn new(
+        rt: &impl Wait,
+        alloc: Global,
+        database: &'a Database<J>,
+        cushion: &'a Pincushion<J>,
+        nodes: &'a [SharedNode<A, J>],
+    ) -> Result<Ports<'a, A, J>, NodeError>
+        requires { 1 ≤ length nodes.now }
+        ensures nodes { IfOk result (λ ports. map (λ pass. pass.settings) ports ≡ nodes.now) }
+        ensures records { IfOk result (λ ports. All (λ pass. pass.records ≡ []) ports) }
+        ensures refused { IfErr result (λ e. (e ≡ NodeError.Memory)
+            ⊎ Any (λ node. MayRefuse J.node_rows (IsNewPassRefused node) e) nodes.now) }
+    {
+        let passes = draw_passes(rt, alloc, nodes)?;
+        Ok(Ports {
+            database,
+            cushion,
+            nodes,
+            passes,
+        })
+    }
+
+    /// How many nodes there are.
+    pub(crate) fn len(&self) -> usize
+        ensures answer { result ≡ length self.now }
+        ensures some { 1 ≤ result }
+    {
+        self.passes.len()
+    }
+
+    /// The pass through a node.
+    pub(crate) fn pass(&self, node: usize) -> &NodePass<J>
+        requires { node < length self.now }
+        ensures { result.now ≡ get_or self.now node result.now }
+    {
+        &self.passes[node]
+    }
+
+    // What the node has of the call. A node that refuses has nothing.
+    fn look_up(
+        &mut self,
+        rt: &impl Wait,
+        alloc: Global,
+        node: usize,
+        key: &Key,
+        lo: Stamp,
+        hi: Stamp,
+    ) -> Option<Answered<Shown>>
+        requires { node < length self.old }
+        ensures answer { IfSome result (λ hit.
+            IsTrueIn A.next hit.front.history (entry_shown key.now hit.answer)) }
+        ensures row { IfSome result (λ hit. hit.front.events ≡ J.database_row) }
+        ensures passes { HaveGrown self.old self.new }
+    {
+        let nodes = self.nodes;
+        let pass = &mut self.passes[node];
+        let Ok(Some(finding)) = pass.lookup(rt, alloc, &nodes[node], key, lo, hi) else {
+            return None;
+        };
+        Some(shown_by(finding))
+    }
+
+    // Gives the node an entry to keep. A node that refuses keeps nothing.
+    fn insert(
+        &mut self,
+        rt: &impl Wait,
+        alloc: Global,
+        node: usize,
+        entry: Entry,
+        seen: &HistoryFront,
+    )
+        requires node { node < length self.old }
+        requires row { seen.now.events ≡ J.database_row }
+        requires is_true { IsTrueIn A.next seen.now.history entry }
+        ensures { HaveGrown self.old self.new }
+    {
+        let Ok(front) = seen.again(alloc) else {
+            return;
+        };
+        let finding = Finding::new(entry, front);
+        let nodes = self.nodes;
+        let pass = &mut self.passes[node];
+        let _ = pass.insert(rt, alloc, &nodes[node], finding);
+    }
+
+    /// Asks what the transaction asks, in one call. It has seen that much of the history.
+    pub(crate) fn ask(
+        &mut self,
+        rt: &impl Wait,
+        alloc: Global,
+        seen: &HistoryFront,
+        request: PortRequest,
+    ) -> PortReply
+        requires row { seen.now.events ≡ J.database_row }
+        requires may { MayAsk A.next J.database_row (length self.old) seen.now.history request }
+        ensures answer { IsReplyTo A.next request result }
+        ensures row { IsOfRow J.database_row result }
+        ensures passes { HaveGrown self.old self.new }
+    {
+        match request {
+            PortRequest::Pin { now, at_least } => PortReply::Pin(
+                self.database.pin(rt, alloc, now, at_least),
+            ),
+            PortRequest::AddPin(pinned) => {
+                let added = self.cushion.add(rt, &pinned);
+                PortReply::AddPin(pinned, added)
+            }
+            PortRequest::Unpin(stamp) => {
+                let _ = self.database.unpin(rt, stamp);
+                PortReply::Unpin
+            }
+            PortRequest::Lookup { node, key, lo, hi } => {
+                PortReply::Lookup(self.look_up(rt, alloc, node, &key, lo, hi))
+            }
+            PortRequest::Query { query, stamp } => {
+                PortReply::Query(find(rt, alloc, self.database, &query, stamp))
+            }
+            PortRequest::Insert { node, entry } => {
+                self.insert(rt, alloc, node, entry, seen);
+                PortReply::Insert
+            }
+            _ => unreachable!(),
+        }
+    }
+}
+
+ghost use Rattle.txc_shared.specs.Claims.{IsTrueIn};
+ghost use Rattle.txc_shared.specs.Passes.{shown_of_entry};
+ghost use Rattle.txc_ports.specs.Asking.{IsFoundOver};
+
+// A pass through each of the nodes, in order.
+fn draw_passes<A: App, J: Naming>(
+    rt: &impl Wait,
+    alloc: Global,
+    nodes: &[SharedNode<A, J>],
+) -> Result<Vec<NodePass<J>>, NodeError>
+    ensures nodes { IfOk result (λ passes. map (λ pass. pass.settings) passes.items ≡ nodes.now) }
+    ensures records { IfOk result (λ passes. All (λ pass. pass.records ≡ []) passes.items) }
+    ensures refused { IfErr result (λ e. (e ≡ NodeError.Memory)
+        ⊎ Any (λ node. MayRefuse J.node_rows (IsNewPassRefused node) e) nodes.now) }
+{
+    let mut passes = Vec::new(alloc);
+    for node in nodes {
+        passes.push(node.pass(rt, alloc)?)?;
+    }
+    Ok(passes)
+}
+
+// What a finding shows of its call, with the history in which it is true.
+fn shown_by<A: App>(finding: Finding<A>) -> Answered<Shown>
+    ensures answer { result.answer ≡ shown_of_entry finding.entry }
+    ensures front { result.front ≡ finding.front }
+    ensures is_true { IsTrueIn A.next finding.front.history finding.entry }
+{
+    let Finding { entry, front, .. } = finding;
+    let Entry {
+        key: _,
+        value,
+        reach,
+        tags,
+    } = entry;
+    Answered {
+        answer: Shown { reach, value, tags },
+        front,
+    }
+}
+
+// The answer of the query at the stamp, with the history in which it holds.
+fn find<J: Naming>(
+    rt: &impl Wait,
+    alloc: Global,
+    database: &Database<J>,
+    query: &Query,
+    stamp: Stamp,
+) -> Result<Answered<Found>, DbError>
+    ensures answer { IfOk result (λ found. IsFoundOver found.front.history query.now stamp found.answer) }
+    ensures row { IfOk result (λ found. found.front.events ≡ J.database_row) }
+{
+    found_rows_give_true_entries();
+    database.query(rt, alloc, query, stamp)
+}

@@ -1,0 +1,160 @@
+//! Read-only transactions of clients.
+ghost use Rattle.std.specs.Prelude.{◌≡◌, ◌≢◌, ◌++◌, ◌∷◌, [], Err, IfOk, IsNone, OnErr};
+ghost use mathlib.Core.List.{IsPrefix};
+ghost use Rattle.txc_registry.specs.Objects.{activity_of, AllIdle};
+ghost use Rattle.txc_call.specs.declared.error.CallError.TheVariants.{NoFunction};
+ghost use Rattle.txc_txn.specs.Core.{receipt_pin, Explains, KeepsSettings};
+ghost use Rattle.txc_txn.specs.Kept.{IsKept};
+ghost use Rattle.txc_client.specs.Ports.{HaveGrown};
+ghost use Rattle.txc_client.specs.Txn.{client_of, IsValueOf};
+
+use crate::calling::call_at;
+use crate::client::Client;
+use crate::ports::Ports;
+use std::alloc::Global;
+use std::marker::Model;
+use std::sync::Wait;
+use txc_cushion::Pin;
+use txc_db::{HistoryFront, Naming};
+use txc_node::Value;
+use txc_ports::{Recorded, Turn, TxnError};
+use txc_registry::Cacheable;
+use txc_shared::App;
+use txc_tags::Key;
+use txc_txn::{Receipt, RunningTxn};
+
+/// A read-only transaction of a client. All that it answers is right at each stamp where it may still be
+/// serialised.
+///
+/// It must be spent, by [`RoTxn::commit`] or [`RoTxn::abort`], which return the client.
+pub struct RoTxn<'a, A: App, C: Cacheable, J: Naming> {
+    pub(crate) ports: Ports<'a, A, J>,
+    pub(crate) renew_after: u64,
+    pub(crate) txn: RunningTxn<A, C>,
+}
+
+impl<'a, A: App, C: Cacheable, J: Naming> Model for RoTxn<'a, A, C, J> {
+    ghost use Rattle.std.specs.Prelude.{◌≡◌};
+    ghost use Rattle.txc_client.specs.Txn.{RoTxnValue, IsResting};
+
+    ghost Value = { RoTxnValue };
+
+    ghost view = { λ t. record { txn = t.txn; passes = t.ports } };
+
+    ghost invariant = { λ t. IsResting J.database_row (record { txn = t.txn; passes = t.ports })
+        × (t.renew_after ≡ t.txn.core.renew_after) };
+}
+
+impl<'a, A: App, C: Cacheable, J: Naming> RoTxn<'a, A, C, J> {
+    /// The call's value: what it comes to without a cache at every stamp that remains.
+    ///
+    /// Where it is refused, the transaction is open and its answers are as before. A node that refuses is one
+    /// that has nothing, and keeps nothing.
+    pub fn call(&mut self, rt: &impl Wait, alloc: Global, key: Key) -> Result<Value, TxnError>
+        ensures passes { HaveGrown self.old.passes self.new.passes }
+        ensures answer { IfOk result (IsValueOf A.next self.new.txn.core key) }
+        ensures recorded { IfOk result (λ value. self.new.txn.core.recorded
+            ≡ self.old.txn.core.recorded ++ record { key = key; value = value } ∷ []) }
+        ensures unchanged { OnErr result (self.new.txn.core.recorded ≡ self.old.txn.core.recorded) }
+        ensures meant { IsKept A.next self.new.txn }
+        ensures idle { AllIdle self.new.txn.objects }
+        ensures settings { KeepsSettings self.old.txn.core self.new.txn.core }
+        ensures longer { IsPrefix self.old.txn.core.seen.history self.new.txn.core.seen.history }
+        ensures missing { self.old.txn.core.pins.members ≢ []
+            → IsNone (activity_of self.old.txn.objects key.function)
+            → result ≡ Err (TxnError.Call (NoFunction key.function)) }
+    {
+        let turn = call_at(rt, alloc, &mut self.ports, &mut self.txn, key);
+        self.txn.is_kept();
+        match turn {
+            Turn::Value(value) => Ok(value),
+            Turn::Refused(error) => Err(error),
+            _ => unreachable!(),
+        }
+    }
+
+    /// The pins where it may still be serialised, the newest first.
+    pub fn members(&self) -> &[Pin]
+        ensures { result.now ≡ self.now.txn.core.pins.members }
+    {
+        self.txn.core().members()
+    }
+
+    /// Whether it may still be serialised at the present.
+    pub fn has_present(&self) -> bool
+        ensures { result ≡ self.now.txn.core.pins.has_present }
+    {
+        self.txn.core().has_present()
+    }
+
+    /// The calls that were answered, with their values, in order.
+    pub fn answers(&self) -> &[Recorded]
+        ensures { result.now ≡ self.now.txn.core.recorded }
+    {
+        self.txn.core().answers()
+    }
+
+    /// What it has seen of the history.
+    pub fn seen(&self) -> &HistoryFront
+        ensures answer { result.now ≡ self.now.txn.core.seen }
+        ensures row { result.now.events ≡ J.database_row }
+    {
+        self.txn.core().seen()
+    }
+
+    /// What its pin set means. It does nothing when it runs.
+    pub fn is_kept(&self)
+        ensures meant { IsKept A.next self.now.txn }
+        ensures idle { AllIdle self.now.txn.objects }
+    {
+        self.txn.is_kept();
+    }
+
+    /// Ends the transaction, and returns what explains its answers, and the client. It can't be refused, and
+    /// takes no memory.
+    pub fn commit(self, rt: &impl Wait) -> (Receipt, Client<'a, A, C, J>)
+        ensures answers { result.0.answers.items ≡ self.entry.txn.core.recorded }
+        ensures pin { result.0.pin
+            ≡ receipt_pin self.entry.txn.core.recorded self.entry.txn.core.pins.members }
+        ensures explained { Explains A.next result.0.seen.history self.entry.txn.core.bounds result.0.pin
+            result.0.answers.items }
+        ensures seen { result.0.seen ≡ self.entry.txn.core.seen }
+        ensures row { result.0.seen.events ≡ J.database_row }
+        ensures client { result.1 ≡ client_of self.entry }
+    {
+        let RoTxn {
+            ports,
+            renew_after,
+            txn,
+        } = self;
+        let (receipt, give_back, registry) = txn.finish();
+        let _ = ports.cushion.give_back(rt, &give_back);
+        let client = Client {
+            ports,
+            registry,
+            renew_after,
+        };
+        (receipt, client)
+    }
+
+    /// Gives the transaction up, and returns the client. It takes no memory.
+    pub fn abort(self, rt: &impl Wait) -> Client<'a, A, C, J>
+        ensures { result ≡ client_of self.entry }
+    {
+        let RoTxn {
+            ports,
+            renew_after,
+            txn,
+        } = self;
+        let (left, registry) = txn.cancel();
+        let _ = ports.cushion.give_back(rt, &left.give_back);
+        if let Some(stamp) = left.unpin {
+            let _ = ports.database.unpin(rt, stamp);
+        }
+        Client {
+            ports,
+            registry,
+            renew_after,
+        }
+    }
+}

@@ -1,0 +1,52 @@
+-- What a transaction may ask of the ports, and what they answer.
+use Rattle.std.specs.Prelude.{◌≡◌, ℕ, ◌<◌, ◌≤◌, List, Some, None, Ok, Err}
+use Rattle.std.specs.Option.{ForSome}
+use Rattle.txc_stamp.specs.Interval.{Holds}
+use Rattle.txc_rows.specs.declared.query.Query.{Query}
+use Rattle.txc_validity.specs.declared.answer.Found.{Found}
+use Rattle.txc_db.specs.History.{History, moment_at}
+use Rattle.txc_shared.specs.Eval.{Next}
+use Rattle.txc_shared.specs.Claims.{IsTrueIn, RowsHold}
+use Rattle.txc_shared.specs.Nodes.{entry_shown}
+use Rattle.txc_ports.specs.declared.request.PortRequest.{PortRequest}
+use Rattle.txc_ports.specs.declared.request.PortRequest.TheVariants as requests
+use Rattle.txc_ports.specs.declared.reply.PortReply.{PortReply}
+use Rattle.txc_ports.specs.declared.reply.PortReply.TheVariants as replies
+use Rattle.txc_ports.specs.Fronts.{front_of}
+
+-- what may be asked of ports with so many nodes: to add a pin of the row, what a node that there is has, and to
+-- keep only an entry that is true in the history
+abbrev pub MayAsk : Next → List ℕ → ℕ → History → PortRequest → Type 0
+MayAsk next row nodes L (requests.Pin now at_least) = Unit {0}
+MayAsk next row nodes L (requests.AddPin pinned) = pinned.front.events ≡ row
+MayAsk next row nodes L (requests.Unpin stamp) = Unit {0}
+MayAsk next row nodes L (requests.Lookup node key lo hi) = node < nodes
+MayAsk next row nodes L (requests.Query query stamp) = Unit {0}
+MayAsk next row nodes L (requests.Insert node entry) = (node < nodes) × IsTrueIn next L entry
+MayAsk next row nodes L request = ⊥
+
+-- what was found for the query at the stamp, over a reach that holds it
+pub record IsFoundOver (L : History) (query : Query) (stamp : ℕ) (found : Found) : Type 0 where
+  pub around : Holds found.reach stamp
+  pub rows : RowsHold L query found.rows.items (Some found.reach) found.tags
+
+-- The reply is one to the request, and right in the history that it shows: a pin of that moment, late enough; what
+-- a node has is true of the call; and what was found is the answer of the query.
+abbrev pub IsReplyTo : Next → PortRequest → PortReply → Type 0
+IsReplyTo next (requests.Pin now at_least) (replies.Pin (Ok pinned)) = (pinned.moment ≡ now)
+    × (at_least ≤ pinned.stamp) × (moment_at pinned.front.history pinned.stamp ≡ Some pinned.moment)
+IsReplyTo next (requests.Pin now at_least) (replies.Pin (Err error)) = Unit {0}
+IsReplyTo next (requests.AddPin pinned) (replies.AddPin given added) = given ≡ pinned
+IsReplyTo next (requests.Unpin stamp) replies.Unpin = Unit {0}
+IsReplyTo next (requests.Lookup node key lo hi) (replies.Lookup None) = Unit {0}
+IsReplyTo next (requests.Lookup node key lo hi) (replies.Lookup (Some hit)) =
+    IsTrueIn next hit.front.history (entry_shown key hit.answer)
+IsReplyTo next (requests.Query query stamp) (replies.Query (Ok found)) =
+    IsFoundOver found.front.history query stamp found.answer
+IsReplyTo next (requests.Query query stamp) (replies.Query (Err error)) = Unit {0}
+IsReplyTo next (requests.Insert node entry) replies.Insert = Unit {0}
+IsReplyTo next request reply = ⊥
+
+-- what the reply shows is of the row
+abbrev pub IsOfRow : List ℕ → PortReply → Type 0
+IsOfRow row reply = ForSome (front_of reply) (λ front. front.events ≡ row)

@@ -1,0 +1,179 @@
+//! Replies as text, written after what is not written out yet.
+ghost use Rattle.std.specs.Prelude.{◌≡◌, ℕ, ◌+◌, ◌*◌, ◌<◌, ◌≤◌, [], ◌∷◌, ◌++◌, length, OnOk, OnErr, codes, vec_len, vec_capacity};
+ghost use Rattle.std.specs.Fmt.{decimal};
+ghost use Rattle.std.specs.List.{flat_map};
+ghost use Rattle.txc_stamp.specs.Texts.{reach_text};
+ghost use Rattle.txc_node.specs.Hit.{seen};
+ghost use Rattle.txc_node.specs.Steps.{seen_reply};
+ghost use Rattle.txc_node.specs.Texts.{digit_of, digits_of, hex_text, reply_text};
+ghost use Rattle.txc_node.specs.declared.reply.Reply.TheVariants as replies;
+
+use std::alloc::{AllocError, Global};
+use txc_node::{Hit, Inserted, Reply, Value};
+use txc_stamp::Reach;
+
+/// More bytes than a reply takes beside the digits of a value.
+const MAX_REPLY: usize = 128;
+
+/// Puts bytes at the end, where there is room for them.
+#[inline(always)]
+fn put(text: &mut Vec<u8>, bytes: &[u8])
+    requires { vec_len text.old + length bytes.now ≤ vec_capacity text.old }
+    ensures after { text.new.items ≡ text.old.items ++ bytes.now }
+    ensures len { vec_len text.new ≡ vec_len text.old + length bytes.now }
+    ensures capacity { vec_capacity text.old ≤ vec_capacity text.new }
+{
+    match text.extend_from_slice(bytes) {
+        Ok(()) => {}
+        Err(_) => unreachable!(),
+    }
+}
+
+/// Puts the digits of a number at the end.
+fn put_number(text: &mut Vec<u8>, number: u64)
+    requires { vec_len text.old + length (decimal number) ≤ vec_capacity text.old }
+    ensures after { text.new.items ≡ text.old.items ++ decimal number }
+    ensures len { vec_len text.new ≡ vec_len text.old + length (decimal number) }
+    ensures capacity { vec_capacity text.old ≤ vec_capacity text.new }
+{
+    if number < 10 {
+        return put(text, &[b'0' + number as u8]);
+    }
+    put_number(text, number / 10);
+    put(text, &[b'0' + (number % 10) as u8])
+}
+
+/// Puts a number of at most 20 digits at the end.
+#[inline(always)]
+#[tactic(auto, using(crate::proofs::Digits::few_digits))]
+fn put_u64(text: &mut Vec<u8>, number: u64)
+    requires { vec_len text.old + 20 ≤ vec_capacity text.old }
+    ensures after { text.new.items ≡ text.old.items ++ decimal number }
+    ensures len { vec_len text.new ≤ vec_len text.old + 20 }
+    ensures capacity { vec_capacity text.old ≤ vec_capacity text.new }
+{
+    put_number(text, number)
+}
+
+/// A hexadecimal digit.
+#[inline(always)]
+fn digit(n: u8) -> u8
+    requires { n < 16 }
+    ensures { result ≡ digit_of n }
+{
+    if n < 10 { b'0' + n } else { b'a' + (n - 10) }
+}
+
+/// Puts the two digits of each byte at the end.
+fn put_digits(text: &mut Vec<u8>, bytes: &[u8])
+    requires { vec_len text.old + 2 * length bytes.now ≤ vec_capacity text.old }
+    ensures after { text.new.items ≡ text.old.items ++ flat_map digits_of bytes.now }
+    ensures len { vec_len text.new ≡ vec_len text.old + 2 * length bytes.now }
+    ensures capacity { vec_capacity text.old ≤ vec_capacity text.new }
+{
+    for byte in bytes {
+        put(text, &[digit(*byte / 16), digit(*byte % 16)]);
+    }
+}
+
+/// Puts a value at the end: a dash for no bytes, or two digits for each.
+fn put_value(text: &mut Vec<u8>, value: &Value)
+    requires { vec_len text.old + 2 * length value.now + 1 ≤ vec_capacity text.old }
+    ensures after { text.new.items ≡ text.old.items ++ hex_text value.now }
+    ensures len { vec_len text.new ≤ vec_len text.old + 2 * length value.now + 1 }
+    ensures capacity { vec_capacity text.old ≤ vec_capacity text.new }
+{
+    let bytes = value.bytes();
+    if bytes.is_empty() {
+        return put(text, b"-");
+    }
+    put_digits(text, bytes)
+}
+
+/// Puts a reach at the end: `[0,3) still`, or `closed`.
+fn put_reach(text: &mut Vec<u8>, reach: Reach)
+    requires { vec_len text.old + 50 ≤ vec_capacity text.old }
+    ensures after { text.new.items ≡ text.old.items ++ reach_text reach }
+    ensures len { vec_len text.new ≤ vec_len text.old + 50 }
+    ensures capacity { vec_capacity text.old ≤ vec_capacity text.new }
+{
+    put(text, b"[");
+    put_u64(text, u64::from(reach.lo().number()));
+    put(text, b",");
+    put_u64(text, u64::from(reach.known().number()) + 1);
+    if reach.is_still() {
+        put(text, b") still")
+    } else {
+        put(text, b") closed")
+    }
+}
+
+/// Puts a word and a number at the end, as a line.
+fn put_count(text: &mut Vec<u8>, word: &[u8], count: u64)
+    requires { vec_len text.old + length word.now + 21 ≤ vec_capacity text.old }
+    ensures { text.new.items ≡ text.old.items ++ (word.now ++ (decimal count ++ 10 ∷ [])) }
+{
+    put(text, word);
+    put_u64(text, count);
+    put(text, b"\n");
+}
+
+/// Adds the line of a hit.
+fn push_hit(text: &mut Vec<u8>, hit: &Hit<'_>) -> Result<(), AllocError>
+    ensures after { OnOk result (text.new.items
+        ≡ text.old.items ++ (reply_text (replies.Hit (seen hit.now)) ++ 10 ∷ [])) }
+    ensures unchanged { OnErr result (text.new.items ≡ text.old.items) }
+{
+    text.reserve(MAX_REPLY + 2 * hit.value.bytes().len())?;
+    put(text, b"hit ");
+    put_reach(text, hit.reach());
+    put(text, b" ");
+    put_value(text, hit.value);
+    put(text, b"\n");
+    Ok(())
+}
+
+/// Adds the line of any reply, which takes a block of its own.
+#[cold]
+fn push_other(alloc: Global, text: &mut Vec<u8>, reply: &Reply<Hit<'_>>) -> Result<(), AllocError>
+    ensures after { OnOk result (text.new.items
+        ≡ text.old.items ++ (reply_text (seen_reply reply.now) ++ 10 ∷ [])) }
+    ensures unchanged { OnErr result (text.new.items ≡ text.old.items) }
+{
+    let line = format!(in alloc; "{reply}\n")?;
+    text.extend_from_slice(line.as_bytes())
+}
+
+/// Adds the line of a reply.
+pub fn push_reply(
+    alloc: Global,
+    text: &mut Vec<u8>,
+    reply: &Reply<Hit<'_>>,
+) -> Result<(), AllocError>
+    ensures after { OnOk result (text.new.items
+        ≡ text.old.items ++ (reply_text (seen_reply reply.now) ++ 10 ∷ [])) }
+    ensures unchanged { OnErr result (text.new.items ≡ text.old.items) }
+{
+    match reply {
+        Reply::Hit(hit) => push_hit(text, hit),
+        Reply::Miss => text.extend_from_slice(b"miss\n"),
+        Reply::Closed(count) => {
+            text.reserve(MAX_REPLY)?;
+            put_count(text, b"closed ", *count as u64);
+            Ok(())
+        }
+        Reply::Inserted(
+            Inserted::Stored {
+                reach,
+                evicted: None,
+            },
+        ) => {
+            text.reserve(MAX_REPLY)?;
+            put(text, b"stored ");
+            put_reach(text, *reach);
+            put(text, b"\n");
+            Ok(())
+        }
+        _ => push_other(alloc, text, reply),
+    }
+}

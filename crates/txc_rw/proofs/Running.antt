@@ -1,0 +1,235 @@
+-- How a call was led, step by step.
+use Rattle.std.proofs.Common.{◌≡◌, ◌⊎◌, inl, inr, ℕ, List, [], ◌∷◌, ◌++◌, Some, None, Ok, Err, refl, sym, ap, subst, ◌∙◌, append-nil, append_assoc, Option}
+use Rattle.std.specs.Prelude.{Result, Vec, IfOk, IfErr}
+use Rattle.std.specs.declared.alloc.Global.{Global}
+use Rattle.std.proofs.lemmas.Grind.{flat_map-append}
+use Rattle.txc_rows.specs.declared.query.Query.{Query}
+use Rattle.txc_rows.specs.States.{RowValue, State, answer}
+use Rattle.txc_validity.specs.declared.answer.Found.{Found}
+use Rattle.txc_db.specs.declared.error.DbError.{DbError}
+use Rattle.txc_db.specs.Calls.{IsQueryRefused}
+use Rattle.txc_db.specs.Shared.{MayRefuse}
+use Rattle.txc_shared.specs.Eval.{Next}
+use Rattle.txc_call.specs.declared.need.Need.{Need}
+use Rattle.txc_call.specs.declared.need.Need.TheVariants as needs
+use Rattle.txc_call.specs.declared.reply.Reply.{Reply}
+use Rattle.txc_call.specs.declared.reply.Reply.TheVariants as replies
+use Rattle.txc_call.specs.Needs.{reply_reach, ReplyFits}
+use Rattle.txc_registry.specs.Objects.{Objects}
+use Rattle.txc_call.specs.Calling.{Calling}
+use Rattle.txc_call.specs.Turns.{Turn as CallTurn, AfterReply}
+use Rattle.txc_ports.specs.declared.error.TxnError.{TxnError}
+use Rattle.txc_ports.specs.declared.turn.Turn.{Turn}
+use Rattle.txc_ports.specs.declared.turn.Turn.TheVariants.{Ask, Begun, Value, Rows, At, Refused}
+use Rattle.txc_ports.specs.Refusals.{refused_call, refused_request}
+use Rattle.txc_rw.specs.declared.given.Given.{Given}
+use Rattle.txc_rw.specs.declared.given.Given.TheVariants as given
+use Rattle.txc_rw.specs.Core.{RwValue, answers_after, queried_after, IsAsk, IsIdle, IsTurn}
+use Rattle.txc_rw.specs.Leading.{query_in, queries_in, standing_of, CallLeads, EndsCall, IsLedAt, IsLedTo, IsRefusedAt, IsQueryRefusal, IsRun, IsStepAt, IsUncached, RowsLead, StandingLeads, Step}
+
+module _ (next : Next) (s : State) where
+  led_more : (from mid end : CallTurn) (steps : List Step) (x : Step) → IsLedAt next s from steps mid → IsStepAt next s mid x end → IsLedAt next s from (steps ++ x ∷ []) end
+  led_more from mid end [] x led step = (end, subst (λ (t : CallTurn). IsStepAt next s t x end) led step, refl)
+  led_more from mid end (y ∷ steps) x led step = (led.0, led.1, led_more led.0 mid end steps x led.2 step)
+
+  led_then : (from mid end : CallTurn) (one two : List Step) → IsLedAt next s from one mid → IsLedAt next s mid two end → IsLedAt next s from (one ++ two) end
+  led_then from mid end [] two led on = subst (λ (t : CallTurn). IsLedAt next s t two end) led on
+  led_then from mid end (y ∷ one) two led on = (led.0, led.1, led_then led.0 mid end one two led.2 on)
+
+  -- no step yet
+  pub not_led : (from : CallTurn) → IsLedTo next s from [] from
+  not_led from = record { steps = []; led = refl; answered = refl }
+
+  -- a step more
+  pub led_on : (from mid end : CallTurn) (queries : List Query) (x : Step) → IsLedTo next s from queries mid → IsStepAt next s mid x end → IsLedTo next s from (queries ++ query_in x.need) end
+  led_on from mid end queries x h step = record {
+    steps = h.steps ++ x ∷ [];
+    led = led_more from mid end h.steps x h.led step;
+    answered =
+        flat_map-append (λ (y : Step). query_in y.need) h.steps (x ∷ [])
+        ∙ ap (λ (qs : List Query). qs ++ (query_in x.need ++ [])) h.answered
+        ∙ ap (λ (qs : List Query). queries ++ qs) (append-nil (query_in x.need));
+  }
+
+  -- some steps, and then others
+  pub led_both : (from mid end : CallTurn) (one two : List Query) → IsLedTo next s from one mid → IsLedTo next s mid two end → IsLedTo next s from (one ++ two) end
+  led_both from mid end one two h on = record {
+    steps = h.steps ++ on.steps;
+    led = led_then from mid end h.steps on.steps h.led on.led;
+    answered =
+        flat_map-append (λ (y : Step). query_in y.need) h.steps on.steps
+        ∙ ap (λ (qs : List Query). qs ++ queries_in on.steps) h.answered
+        ∙ ap (λ (qs : List Query). one ++ qs) on.answered;
+  }
+
+-- a reply that hands in nothing is that of no cache, and to no query
+pub uncached_of : (s : State) (need : Need) (reply : Reply) → ReplyFits need reply → reply_reach reply ≡ None → IsUncached s need reply × (query_in need ≡ [])
+uncached_of s (needs.Lookup k) replies.Miss fits none = (refl, refl)
+uncached_of s (needs.Lookup k) (replies.Hit hit) fits none = absurd (cc none)
+uncached_of s (needs.Lookup k) (replies.Found found) fits none = absurd fits
+uncached_of s (needs.Lookup k) replies.Inserted fits none = absurd fits
+uncached_of s (needs.Query q) (replies.Found found) fits none = absurd (cc none)
+uncached_of s (needs.Query q) replies.Miss fits none = absurd fits
+uncached_of s (needs.Query q) (replies.Hit hit) fits none = absurd fits
+uncached_of s (needs.Query q) replies.Inserted fits none = absurd fits
+uncached_of s (needs.Insert e) replies.Inserted fits none = (refl, refl)
+uncached_of s (needs.Insert e) replies.Miss fits none = absurd fits
+uncached_of s (needs.Insert e) (replies.Hit hit) fits none = absurd fits
+uncached_of s (needs.Insert e) (replies.Found found) fits none = absurd fits
+uncached_of s (needs.Value o) replies.Miss fits none = absurd fits
+uncached_of s (needs.Value o) (replies.Hit hit) fits none = absurd fits
+uncached_of s (needs.Value o) (replies.Found found) fits none = absurd fits
+uncached_of s (needs.Value o) replies.Inserted fits none = absurd fits
+
+-- a call that hands in nothing goes on
+pub led_by_none : (next : Next) (s : State) (from : CallTurn) (call : Calling) (objects : Objects) (end : CallTurn) (need : Need) (reply : Reply)
+    → call.need ≡ Some need → ReplyFits need reply → reply_reach reply ≡ None
+    → ((n : Need) → call.need ≡ Some n → AfterReply next call.frames call.asked objects n reply end)
+    → IsLedTo next s from [] (standing_of call objects) → IsLedTo next s from [] end
+led_by_none next s from call objects end need reply is fits none answer h =
+    let both = uncached_of s need reply fits none in
+    subst (λ (qs : List Query). IsLedTo next s from qs end) both.1
+    (led_on next s from (standing_of call objects) end [] (record { need = need; reply = reply }) h (is, both.0, answer need is))
+
+-- a call goes on with what was found for its query
+pub led_by_found : (next : Next) (s : State) (call : Calling) (objects : Objects) (end : CallTurn) (q : Query) (found told : Found)
+    → call.need ≡ Some (needs.Query q) → told.rows ≡ found.rows → found.rows.items ≡ answer q s
+    → ((n : Need) → call.need ≡ Some n → AfterReply next call.frames call.asked objects n (replies.Found told) end)
+    → IsLedTo next s (standing_of call objects) (q ∷ []) end
+led_by_found next s call objects end q found told is rows right after =
+    led_on next s (standing_of call objects) (standing_of call objects) end [] (record { need = needs.Query q; reply = replies.Found told }) (not_led next s (standing_of call objects))
+    (is, ap (λ (v : Vec RowValue Global). v.items) rows ∙ right, after (needs.Query q) is)
+
+-- the reply that is the answer
+pub same_found : (reply : Result Found DbError) (one other : Found) → reply ≡ Ok one → reply ≡ Ok other → one ≡ other
+same_found reply one other is is' =
+    let two : Ok one ≡ Ok other = sym is ∙ is' in
+    cc two
+
+-- ---- runs
+
+-- the database refused what the call needs
+abbrev pub IsAskRefused : List ℕ → ℕ → CallTurn → Turn → Type 0
+IsAskRefused row base (Ok standing) (Refused error) = (q : Query) × (standing.need ≡ Some (needs.Query q)) × IsRefusedAt row base q error
+IsAskRefused row base stands turn = ⊥
+
+-- a call came so far, and the core did this last
+pub record IsRunSo (next : Next) (row : List ℕ) (s : State) (from : CallTurn) (old new : RwValue) (objects : Objects) (turn : Turn) : Type 0 where
+  pub queries : List Query
+  pub stands : CallTurn
+  pub led : IsLedTo next s from queries stands
+  pub queried : new.queried ≡ old.queried ++ queries
+  pub does : StandingLeads stands new objects turn ⊎ IsAskRefused row old.base stands turn
+
+-- as the core begins
+pub run_begins : (next : Next) (row : List ℕ) (s : State) (from : CallTurn) (old new : RwValue) (objects : Objects) (turn : Turn) → new.queried ≡ old.queried
+    → CallLeads next s from [] new objects turn → IsRunSo next row s from old new objects turn
+run_begins next row s from old new objects turn same leads = record {
+  queries = [];
+  stands = leads.0;
+  led = leads.1;
+  queried = same ∙ sym (append-nil old.queried);
+  does = inl leads.2;
+}
+
+-- as it ends, with its value or a refusal
+run_ends : (next : Next) (row : List ℕ) (s : State) (from : CallTurn) (old new : RwValue) (objects : Objects) (turn : Turn) (result : Result (List ℕ) TxnError)
+    → ((stands : CallTurn) → StandingLeads stands new objects turn ⊎ IsAskRefused row old.base stands turn → EndsCall row old.base stands objects result)
+    → IsRunSo next row s from old new objects turn → IsRun next row s from old new objects result
+run_ends next row s from old new objects turn result ends h = record {
+  queries = h.queries;
+  stands = h.stands;
+  led = h.led;
+  queried = h.queried;
+  ended = ends h.stands h.does;
+}
+
+value_ends : (row : List ℕ) (base : ℕ) (stands : CallTurn) (new : RwValue) (objects : Objects) (v : List ℕ) → StandingLeads stands new objects (Value v) ⊎ IsAskRefused row base stands (Value v)
+    → EndsCall row base stands objects (Ok v)
+value_ends row base (Ok standing) new objects v (inl h) = h
+value_ends row base (Ok standing) new objects v (inr h) = absurd h
+value_ends row base (Err e) new objects v (inl h) = absurd (cc h)
+value_ends row base (Err e) new objects v (inr h) = absurd h
+
+refusal_ends : (row : List ℕ) (base : ℕ) (stands : CallTurn) (new : RwValue) (objects : Objects) (e : TxnError) → StandingLeads stands new objects (Refused e) ⊎ IsAskRefused row base stands (Refused e)
+    → EndsCall row base stands objects (Err e)
+refusal_ends row base (Ok standing) new objects e (inl h) = inl h
+refusal_ends row base (Ok standing) new objects e (inr h) = inr h
+refusal_ends row base (Err cause) new objects e (inl h) = let same : e ≡ refused_call cause = cc h in ap Err same
+refusal_ends row base (Err cause) new objects e (inr h) = absurd h
+
+pub run_over : (next : Next) (row : List ℕ) (s : State) (from : CallTurn) (old new : RwValue) (objects : Objects) (turn : Turn) (result : Result (List ℕ) TxnError)
+    → IfOk result (λ v. turn ≡ Value v) → IfErr result (λ e. turn ≡ Refused e) → IsRunSo next row s from old new objects turn → IsRun next row s from old new objects result
+run_over next row s from old new objects turn (Ok v) is there h =
+    run_ends next row s from old new objects (Value v) (Ok v) (λ stands. value_ends row old.base stands new objects v) (subst (λ (t : Turn). IsRunSo next row s from old new objects t) is h)
+run_over next row s from old new objects turn (Err e) there is h =
+    run_ends next row s from old new objects (Refused e) (Err e) (λ stands. refusal_ends row old.base stands new objects e) (subst (λ (t : Turn). IsRunSo next row s from old new objects t) is h)
+
+-- a core that asks: its call stands as it came so far
+run_asks : (next : Next) (row : List ℕ) (s : State) (from : CallTurn) (old core : RwValue) (objects : Objects) (turn : Turn) (queries : List Query) (stands : CallTurn)
+    → IsLedTo next s from queries stands → StandingLeads stands core objects turn ⊎ IsAskRefused row old.base stands turn → IsAsk turn
+    → IsLedTo next s from queries (standing_of core.call objects)
+run_asks next row s from old core objects (Ask r) queries (Ok standing) led (inl does) asks = subst (λ (t : CallTurn). IsLedTo next s from queries t) (sym does) led
+run_asks next row s from old core objects (Ask r) queries (Ok standing) led (inr does) asks = absurd does
+run_asks next row s from old core objects (Ask r) queries (Err e) led (inl does) asks = absurd (cc does)
+run_asks next row s from old core objects (Ask r) queries (Err e) led (inr does) asks = absurd does
+run_asks next row s from old core objects Begun queries stands led does asks = absurd asks
+run_asks next row s from old core objects (Value v) queries stands led does asks = absurd asks
+run_asks next row s from old core objects (Rows rows) queries stands led does asks = absurd asks
+run_asks next row s from old core objects (At n) queries stands led does asks = absurd asks
+run_asks next row s from old core objects (Refused e) queries stands led does asks = absurd asks
+
+-- and goes on with the database's answer
+pub run_goes_on : (next : Next) (row : List ℕ) (s : State) (from : CallTurn) (old core new : RwValue) (objects objects' : Objects) (turn turn' : Turn) (reply : Result Found DbError) (q : Query)
+    → IsRunSo next row s from old core objects turn → IsAsk turn → core.reading ≡ Some q → core.call.need ≡ Some (needs.Query q)
+    → new.queried ≡ queried_after core.queried core.reading reply
+    → IfErr reply (MayRefuse row (λ d. IsQueryRefused d q old.base))
+    → ((e : DbError) → reply ≡ Err e → turn' ≡ Refused (refused_request e))
+    → ((f : Found) → reply ≡ Ok f → CallLeads next s (standing_of core.call objects) (q ∷ []) new objects' turn')
+    → IsRunSo next row s from old new objects' turn'
+run_goes_on next row s from old core new objects objects' turn turn' (Ok f) q h asks reading need queried refused is leads =
+    let on = leads f refl in
+    let all : new.queried ≡ core.queried ++ q ∷ [] = queried ∙ ap (λ (r : Option Query). queried_after core.queried r (Ok f)) reading in
+    record {
+      queries = h.queries ++ q ∷ [];
+      stands = on.0;
+      led = led_both next s from (standing_of core.call objects) on.0 h.queries (q ∷ []) (run_asks next row s from old core objects turn h.queries h.stands h.led h.does asks) on.1;
+      queried = all ∙ ap (λ (qs : List Query). qs ++ q ∷ []) h.queried ∙ append_assoc old.queried h.queries (q ∷ []);
+      does = inl on.2;
+    }
+run_goes_on next row s from old core new objects objects' turn turn' (Err e) q h asks reading need queried refused is leads =
+    let all : new.queried ≡ core.queried = queried ∙ ap (λ (r : Option Query). queried_after core.queried r (Err e)) reading in
+    record {
+      queries = h.queries;
+      stands = standing_of core.call objects;
+      led = run_asks next row s from old core objects turn h.queries h.stands h.led h.does asks;
+      queried = all ∙ h.queried;
+      does = inr (subst (λ (t : Turn). IsAskRefused row old.base (standing_of core.call objects) t) (sym (is e refl)) (q, need, (e, refused, refl)));
+    }
+
+-- ---- the transaction's own query
+
+pub query_refused : (row : List ℕ) (base : ℕ) (q : Query) (reply : Result Found DbError) (turn : Turn) (e : TxnError)
+    → IfErr reply (MayRefuse row (λ d. IsQueryRefused d q base))
+    → ((f : Found) → reply ≡ Ok f → RowsLead f.rows.items turn) → ((d : DbError) → reply ≡ Err d → turn ≡ Refused (refused_request d)) → turn ≡ Refused e
+    → IsQueryRefusal row base q e
+query_refused row base q (Ok f) turn e refused rows is turned = inl (subst (λ (t : Turn). RowsLead f.rows.items t) turned (rows f refl))
+query_refused row base q (Err d) turn e refused rows is turned =
+    let both : Refused e ≡ Refused (refused_request d) = sym turned ∙ is d refl in
+    let same : e ≡ refused_request d = cc both in
+    inr (d, refused, same)
+
+pub query_after : (old new : RwValue) (q : Query) (reply : Result Found DbError) (turn : Turn) (rows : Vec RowValue Global) → IsIdle old → turn ≡ Rows rows
+    → IsTurn new turn → new.queried ≡ queried_after old.queried (Some q) reply → new.answers ≡ answers_after old.answers old.call.top (Some q) turn
+    → new.call ≡ old.call → ((d : DbError) → reply ≡ Err d → turn ≡ Refused (refused_request d))
+    → new ≡ record old { queried = new.queried; answers = new.answers; call = new.call; reading = new.reading }
+    → new ≡ record old { queried = old.queried ++ q ∷ []; answers = old.answers ++ given.Rows q rows.items ∷ [] }
+query_after old new q (Err d) turn rows idle is fits queried answers call refused same = absurd (cc (sym is ∙ refused d refl))
+query_after old new q (Ok f) turn rows idle is fits queried answers call refused same =
+    let now : new.reading ≡ old.reading = (subst (λ (t : Turn). IsTurn new t) is fits).1 ∙ sym idle.1 in
+    let kept : new.answers ≡ old.answers ++ given.Rows q rows.items ∷ [] = answers ∙ ap (λ (t : Turn). answers_after old.answers old.call.top (Some q) t) is in
+    same
+    ∙ ap (λ (qs : List Query). record old { queried = qs; answers = new.answers; call = new.call; reading = new.reading }) queried
+    ∙ ap (λ (xs : List Given). record old { queried = old.queried ++ q ∷ []; answers = xs; call = new.call; reading = new.reading }) kept
+    ∙ ap (λ (w : Calling). record old { queried = old.queried ++ q ∷ []; answers = old.answers ++ given.Rows q rows.items ∷ []; call = w; reading = new.reading }) call
+    ∙ ap (λ (r : Option Query). record old { queried = old.queried ++ q ∷ []; answers = old.answers ++ given.Rows q rows.items ∷ []; reading = r }) now

@@ -1,0 +1,139 @@
+-- How a call of a transaction goes: by what it is answered, and what comes of it.
+use Rattle.std.specs.Prelude.{◌≡◌, ◌⊎◌, ℕ, List, [], ◌∷◌, ◌++◌, Some, Result, Ok, Err}
+use Rattle.std.specs.List.{flat_map}
+use Rattle.txc_tags.specs.Keys.{Call}
+use Rattle.txc_rows.specs.declared.query.Query.{Query}
+use Rattle.txc_rows.specs.States.{RowValue, State, answer}
+use Rattle.txc_db.specs.declared.error.DbError.{DbError}
+use Rattle.txc_db.specs.Calls.{IsQueryRefused}
+use Rattle.txc_db.specs.History.{state_at}
+use Rattle.txc_db.specs.Shared.{MayRefuse}
+use Rattle.txc_shared.specs.Eval.{Next}
+use Rattle.txc_registry.specs.Objects.{Objects}
+use Rattle.txc_call.specs.declared.need.Need.{Need}
+use Rattle.txc_call.specs.declared.need.Need.TheVariants as needs
+use Rattle.txc_call.specs.declared.need.Outcome.{Outcome}
+use Rattle.txc_call.specs.declared.reply.Reply.{Reply}
+use Rattle.txc_call.specs.declared.reply.Reply.TheVariants as replies
+use Rattle.txc_call.specs.Calling.{Calling, started}
+use Rattle.txc_call.specs.Turns.{Turn as CallTurn, AfterReply}
+use Rattle.txc_ports.specs.declared.error.TxnError.{TxnError}
+use Rattle.txc_ports.specs.declared.error.TxnError.TheVariants.{Memory}
+use Rattle.txc_ports.specs.declared.turn.Turn.{Turn}
+use Rattle.txc_ports.specs.declared.turn.Turn.TheVariants.{Ask, Value, Rows, Refused}
+use Rattle.txc_ports.specs.Refusals.{refused_call, refused_request}
+use Rattle.txc_rw.specs.Core.{RwValue}
+use Rattle.txc_rw.specs.Txn.{TxnValue}
+
+-- ---- steps
+
+-- what a call needed, and the reply
+pub record Step : Type 0 where
+  pub need : Need
+  pub reply : Reply
+
+-- the reply of no cache: a lookup is a miss, an insertion is passed over, and a query has its rows in the
+-- state
+abbrev pub IsUncached : State → Need → Reply → Type 0
+IsUncached s (needs.Lookup k) reply = reply ≡ replies.Miss
+IsUncached s (needs.Query q) (replies.Found found) = found.rows.items ≡ answer q s
+IsUncached s (needs.Insert e) reply = reply ≡ replies.Inserted
+IsUncached s need reply = ⊥
+
+-- the call stands so, and such a reply to what it needs leads it on
+abbrev pub IsStepAt : Next → State → CallTurn → Step → CallTurn → Type 0
+IsStepAt next s (Ok from) step after = (from.need ≡ Some step.need) × IsUncached s step.need step.reply
+    × AfterReply next from.frames from.asked from.objects step.need step.reply after
+IsStepAt next s (Err error) step after = ⊥
+
+-- such replies lead it on, one after the other, to where it stands at last, or is refused
+abbrev pub IsLedAt : Next → State → CallTurn → List Step → CallTurn → Type 0
+IsLedAt next s from [] end = end ≡ from
+IsLedAt next s from (step ∷ steps) end =
+    (after : CallTurn) × IsStepAt next s from step after × IsLedAt next s after steps end
+
+-- the query that was needed, if it was one
+abbrev pub query_in : Need → List Query
+query_in (needs.Lookup k) = []
+query_in (needs.Query q) = q ∷ []
+query_in (needs.Insert e) = []
+query_in (needs.Value o) = []
+
+-- the queries that were answered
+abbrev pub queries_in : List Step → List Query
+queries_in steps = flat_map (λ step. query_in step.need) steps
+
+-- such replies lead it from the one to the other, and these queries were answered on the way
+pub record IsLedTo (next : Next) (s : State) (from : CallTurn) (queries : List Query) (end : CallTurn)
+    : Type 0 where
+  pub steps : List Step
+  pub led : IsLedAt next s from steps end
+  pub answered : queries_in steps ≡ queries
+
+-- how the call stands, beside what the objects do
+abbrev pub standing_of : Calling → Objects → CallTurn
+standing_of call objects =
+    Ok (record { frames = call.frames; asked = call.asked; need = call.need; objects = objects })
+
+-- ---- the core
+
+-- what the core does once its call stands so: it asks what the call needs, and the call stands so still; or
+-- the call's value is that of the turn; or it is refused, as the call is, or as out of memory
+abbrev pub StandingLeads : CallTurn → RwValue → Objects → Turn → Type 0
+StandingLeads (Ok standing) new objects (Ask request) = standing_of new.call objects ≡ Ok standing
+StandingLeads (Ok standing) new objects (Value value) = (o : Outcome) × (standing.need ≡ Some (needs.Value o))
+    × (value ≡ o.value) × (objects ≡ standing.objects)
+StandingLeads (Ok standing) new objects (Refused error) = error ≡ Memory
+StandingLeads (Ok standing) new objects turn = ⊥
+StandingLeads (Err error) new objects turn = turn ≡ Refused (refused_call error)
+
+-- where these queries are answered on the way, the call comes to stand so that the core does this
+abbrev pub CallLeads : Next → State → CallTurn → List Query → RwValue → Objects → Turn → Type 0
+CallLeads next s from queries new objects turn =
+    (stands : CallTurn) × IsLedTo next s from queries stands × StandingLeads stands new objects turn
+
+-- what comes of the rows of the transaction's own query: they are those of the turn, or out of memory
+abbrev pub RowsLead : List RowValue → Turn → Type 0
+RowsLead rows (Rows answered) = answered.items ≡ rows
+RowsLead rows (Refused error) = error ≡ Memory
+RowsLead rows turn = ⊥
+
+-- ---- the transaction
+
+-- some database of the row refuses the query at the base so
+abbrev pub IsRefusedAt : List ℕ → ℕ → Query → TxnError → Type 0
+IsRefusedAt row base q error = (cause : DbError)
+    × MayRefuse row (λ d. IsQueryRefused d q base) cause × (error ≡ refused_request cause)
+
+-- how a call ends that stands so: with its value; refused as the call is; or, where it needs a query, as the
+-- database refuses that; or out of memory
+abbrev pub EndsCall : List ℕ → ℕ → CallTurn → Objects → Result (List ℕ) TxnError → Type 0
+EndsCall row base (Ok standing) objects (Ok value) = (o : Outcome) × (standing.need ≡ Some (needs.Value o))
+    × (value ≡ o.value) × (objects ≡ standing.objects)
+EndsCall row base (Ok standing) objects (Err error) = (error ≡ Memory)
+    ⊎ ((q : Query) × (standing.need ≡ Some (needs.Query q)) × IsRefusedAt row base q error)
+EndsCall row base (Err cause) objects result = result ≡ Err (refused_call cause)
+
+-- a call in a state: replies of no cache led it on to where it stands; the queries that were answered on the
+-- way, and no other, were answered the transaction; and it ended so
+pub record IsRun (next : Next) (row : List ℕ) (s : State) (from : CallTurn) (old new : RwValue)
+    (objects : Objects) (result : Result (List ℕ) TxnError) : Type 0 where
+  pub queries : List Query
+  pub stands : CallTurn
+  pub led : IsLedTo next s from queries stands
+  pub queried : new.queried ≡ old.queried ++ queries
+  pub ended : EndsCall row old.base stands objects result
+
+-- the call of a transaction ran in the state of its base, from its start
+abbrev pub HasRun : Next → List ℕ → TxnValue → Call → TxnValue → Result (List ℕ) TxnError → Type 0
+HasRun next row old k new result = IsRun next row (state_at old.history old.core.base)
+    (standing_of (started k) old.objects) old.core new.core new.objects result
+
+-- of a query of its own: out of memory, or as the database refuses it
+abbrev pub IsQueryRefusal : List ℕ → ℕ → Query → TxnError → Type 0
+IsQueryRefusal row base q error = (error ≡ Memory) ⊎ IsRefusedAt row base q error
+
+-- what a query that was refused leaves: all as it was, but that out of memory it may have been answered
+abbrev pub IsQueryLeft : RwValue → Query → RwValue → TxnError → Type 0
+IsQueryLeft old q new error = (new ≡ old)
+    ⊎ ((error ≡ Memory) × (new ≡ record old { queried = old.queried ++ q ∷ [] }))

@@ -1,0 +1,12 @@
+pub mod PartLemmas
+pub mod NodeLemmas
+pub mod PortsLemmas
+pub mod KeptLemmas
+pub mod AskLemmas
+pub mod MakingLemmas
+pub mod Explaining
+pub mod Whole
+pub mod Tellings
+pub mod Turning
+pub mod Stepping
+pub mod MemberLemmas

@@ -1,0 +1,47 @@
+-- The ports of a new world.
+use Rattle.std.proofs.Common.{◌≡◌, ◌∙◌, ℕ, zero, suc, ◌+◌, ◌<◌, List, [], ◌∷◌, ◌++◌, length, get_or, slice_get, Some, None, All, refl, ap, sym, subst, arith}
+use Rattle.std.proofs.lemmas.Option.{slice_get-get_or}
+use Rattle.txc_db.specs.declared.pinned.Pinned.{Pinned}
+use Rattle.txc_db.specs.DatabaseValue.{DatabaseValue, front_of}
+use Rattle.txc_db.specs.Seen.{FrontValue}
+use Rattle.txc_cushion.specs.Cushion.{CushionValue, empty_cushion}
+use Rattle.txc_cushion.specs.Cushion.{front_of as cushion_front}
+use Rattle.txc_shared.specs.Nodes.{NodeValue}
+use Rattle.txc_shared.specs.declared.settings.NodeSettings.{NodeSettings}
+use Rattle.txc_world.specs.declared.settings.WorldSettings.{WorldSettings}
+use Rattle.txc_world.specs.Parts.{IsPartOf}
+use Rattle.txc_world.specs.Ports.{ArePorts, IsNodeOf}
+use Rattle.txc_world.specs.Making.{node_settings, AreNewNodes, IsNewNode}
+use Rattle.txc_world.proofs.PartLemmas.{part_itself}
+
+-- what holds of each item by its place holds with one item more
+each_push : {X : Type 0} (P : ℕ → X → Type 0) (xs : List X) (y : X) → ((i : ℕ) (x : X) → slice_get xs i ≡ Some x → P i x) → P (length xs) y
+    → (i : ℕ) (x : X) → slice_get (xs ++ y ∷ []) i ≡ Some x → P i x
+each_push P [] y h last zero x is = let same : y ≡ x = cc in subst (P 0) same last
+each_push P [] y h last (suc i) x is = absurd (cc is)
+each_push P (z ∷ zs) y h last zero x is = h zero x is
+each_push P (z ∷ zs) y h last (suc i) x is = each_push (λ k. P (suc k)) zs y (λ k w at. h (suc k) w at) last i x is
+
+pub new_nodes_push : (settings : WorldSettings) (passes : ℕ) (seen : FrontValue) (nodes : List NodeValue) (n : NodeValue) (number : ℕ)
+    → length nodes ≡ number → AreNewNodes settings passes seen nodes → IsNewNode (node_settings settings number) settings.row_cap passes seen n
+    → AreNewNodes settings passes seen (nodes ++ n ∷ [])
+new_nodes_push settings passes seen nodes n number is are new =
+    each_push (λ k m. IsNewNode (node_settings settings k) settings.row_cap passes seen m) nodes n are
+    (subst (λ (k : ℕ). IsNewNode (node_settings settings k) settings.row_cap passes seen n) (sym is) new)
+
+new_node_is : (settings : NodeSettings) (row_cap actors : ℕ) (whole : FrontValue) (n : NodeValue) → IsNewNode settings row_cap (actors + 1) whole n
+    → IsNodeOf whole actors n
+new_node_is settings row_cap actors whole n new = record {
+  row = ap (λ (f : FrontValue). f.events) new.seen_is;
+  seen = λ w. subst (IsPartOf whole) (sym new.seen_is) (part_itself whole);
+  passes = new.passes_are;
+}
+
+pub new_ports : (settings : WorldSettings) (d : DatabaseValue) (front : FrontValue) (cushion : CushionValue) (nodes : List NodeValue) (spare : List Pinned) (actors : ℕ)
+    → front ≡ front_of d → cushion ≡ empty_cushion front → AreNewNodes settings (actors + 1) (front_of d) nodes → spare ≡ []
+    → ArePorts (record { database = d; cushion = cushion; nodes = nodes; spare = spare; actors = actors })
+new_ports settings d front cushion nodes spare actors front_is cushion_is new none = record {
+  cushion = subst (λ (c : CushionValue). IsPartOf (front_of d) (cushion_front c)) (sym cushion_is) (subst (IsPartOf (front_of d)) (sym front_is) (part_itself (front_of d)));
+  nodes = λ i n within. new_node_is (node_settings settings i) settings.row_cap actors (front_of d) (get_or nodes i n) (new i (get_or nodes i n) (slice_get-get_or nodes i n within));
+  spare = subst (All (λ pinned. IsPartOf (front_of d) pinned.front)) (sym none) (λ i n within. absurd (omega (arith, within)));
+}

@@ -1,0 +1,110 @@
+-- What the steps at a node keep of it.
+use Rattle.std.proofs.Common.{◌≡◌, ◌∙◌, ◌⊎◌, inl, inr, ℕ, ◌+◌, Bool, true, false, List, Option, Some, None, Result, Ok, Err, refl, ap, sym, subst}
+use mathlib.Core.List.{IsPrefix}
+use Rattle.txc_tags.specs.Keys.{Call}
+use Rattle.txc_db.specs.History.{History}
+use Rattle.txc_db.specs.Seen.{FrontValue}
+use Rattle.txc_node.specs.declared.entry.Entry.{Entry}
+use Rattle.txc_node.specs.declared.hit.Shown.{Shown}
+use Rattle.txc_node.specs.declared.op.Op.{Op}
+use Rattle.txc_node.specs.declared.op.Op.TheVariants.{Insert, Lookup, Sweep}
+use Rattle.txc_shared.specs.declared.advanced.Advanced.{Advanced}
+use Rattle.txc_shared.specs.declared.advanced.Advanced.TheVariants.{Taken, Idle}
+use Rattle.txc_shared.specs.declared.error.NodeError.{NodeError}
+use Rattle.txc_shared.specs.declared.error.NodeError.TheVariants as errors
+use Rattle.txc_shared.specs.declared.insertion.Insertion.{Insertion}
+use Rattle.txc_shared.specs.declared.settings.NodeSettings.{NodeSettings}
+use Rattle.txc_shared.specs.Nodes.{NodeValue, after_call, next_event, seeing, IsLonger, HasAdvanced}
+use Rattle.txc_shared.specs.Refusals.{IsLeft, IsBroken}
+use Rattle.txc_stream.proofs.Offered.{longer_is}
+use Rattle.txc_world.specs.Parts.{IsPartOf}
+use Rattle.txc_world.specs.NodeSteps.{LookupLeads, HasInserted, InsertLeads, AdvanceLeads, SweepLeads}
+use Rattle.txc_world.specs.Ports.{IsNodeOf}
+use Rattle.txc_world.proofs.PartLemmas.{part_itself}
+
+-- the longer of the whole and a part of it is the whole
+pub longer_is_whole : (one whole longer : FrontValue) → IsLonger one whole longer → IsPartOf whole one → longer ≡ whole
+longer_is_whole one whole longer l part =
+    let events : longer.events ≡ whole.events = l.events ∙ part.row in
+    let history : longer.history ≡ whole.history = longer_is one.history whole.history longer.history part.begins l.either l.second in
+    λ i. record { events = events i; history = history i }
+
+-- a step keeps how the node was made, its row and its passes; and what it has seen is part of the whole unless it
+-- is broken, if it was before
+pub record StaysNode (whole : FrontValue) (old new : NodeValue) : Type 0 where
+  pub settings : new.settings ≡ old.settings
+  pub row : old.seen.events ≡ whole.events → new.seen.events ≡ whole.events
+  pub passes : new.passes ≡ old.passes
+  pub seen : (old.broken ≡ false → IsPartOf whole old.seen) → new.broken ≡ false → IsPartOf whole new.seen
+
+pub node_stays : (whole : FrontValue) (actors : ℕ) (old new : NodeValue) → StaysNode whole old new → IsNodeOf whole actors old
+    → IsNodeOf whole actors new
+node_stays whole actors old new s n = record { row = s.row n.row; seen = s.seen n.seen; passes = s.passes ∙ n.passes }
+
+module _ (whole : FrontValue) where
+  pub stays_itself : (n : NodeValue) → StaysNode whole n n
+  stays_itself n = record { settings = refl; row = λ h. h; passes = refl; seen = λ h. h }
+
+  stays_same : (old new : NodeValue) → new ≡ old → StaysNode whole old new
+  stays_same old new is = subst (λ (n : NodeValue). StaysNode whole old n) (sym is) (stays_itself old)
+
+  pub stays_after : (old new : NodeValue) (pass : ℕ) (op : Op) → new ≡ after_call old pass op → StaysNode whole old new
+  stays_after old new pass op is =
+      subst (λ (n : NodeValue). StaysNode whole old n) (sym is) (record { settings = refl; row = λ h. h; passes = refl; seen = λ h. h })
+
+  -- what was broken stays so, whatever it has seen
+  stays_broken : (old new : NodeValue) → IsBroken old new → StaysNode whole old new
+  stays_broken old new broke = record {
+    settings = ap (λ (n : NodeValue). n.settings) broke.is;
+    row = λ h. broke.events ∙ h;
+    passes = ap (λ (n : NodeValue). n.passes) broke.is;
+    seen = λ h whole_new. let no : true ≡ false = sym (ap (λ (n : NodeValue). n.broken) broke.is) ∙ whole_new in absurd (cc no);
+  }
+
+  pub stays_left : (old new : NodeValue) (e : NodeError) → IsLeft old new e → StaysNode whole old new
+  stays_left old new errors.Broken (inl same) = stays_same old new same.0
+  stays_left old new errors.Broken (inr broke) = stays_broken old new broke
+  stays_left old new errors.EmptyRange same = stays_same old new same
+  stays_left old new errors.HistoryFull same = stays_same old new same
+  stays_left old new errors.PassesFull same = stays_same old new same
+  stays_left old new errors.Memory same = stays_same old new same
+
+  pub stays_looked_up : (old new : NodeValue) (pass : ℕ) (key : Call) (lo hi : ℕ) (found : Option Shown)
+      → LookupLeads pass key lo hi old new found → StaysNode whole old new
+  stays_looked_up old new pass key lo hi (Some shown) leads = stays_after old new pass (Lookup key lo hi) leads.0
+  stays_looked_up old new pass key lo hi None (inl leads) = stays_after old new pass (Lookup key lo hi) leads.0
+  stays_looked_up old new pass key lo hi None (inr refused) = stays_left old new refused.0 refused.2
+
+  -- one of two parts is a part
+  longer_part : (one other longer : FrontValue) → IsLonger one other longer → IsPartOf whole one → IsPartOf whole other → IsPartOf whole longer
+  longer_part one other longer l a b = elim l.either [
+    | inl is ↦ record { row = l.events ∙ a.row; begins = subst (λ (h : History). IsPrefix h whole.history) (sym is) a.begins }
+    | inr is ↦ record { row = l.events ∙ a.row; begins = subst (λ (h : History). IsPrefix h whole.history) (sym is) b.begins }
+  ]
+
+  pub stays_inserted : (old new : NodeValue) (pass : ℕ) (seen : FrontValue) (entry : Entry) (made : Option Insertion)
+      → IsPartOf whole seen → InsertLeads pass seen entry old new made → StaysNode whole old new
+  stays_inserted old new pass seen entry (Some insertion) part has = record {
+    settings = ap (λ (n : NodeValue). n.settings) has.after;
+    row = λ h. has.longer.events ∙ h;
+    passes = ap (λ (n : NodeValue). n.passes) has.after;
+    seen = λ h whole_new. longer_part old.seen seen new.seen has.longer (h (sym (ap (λ (n : NodeValue). n.broken) has.after) ∙ whole_new)) part;
+  }
+  stays_inserted old new pass seen entry None part (inl same) = stays_same old new same
+  stays_inserted old new pass seen entry None part (inr refused) = stays_left old new refused.0 refused.2
+
+  stays_seeing : (old new : NodeValue) → new ≡ seeing old whole → StaysNode whole old new
+  stays_seeing old new is =
+      subst (λ (n : NodeValue). StaysNode whole old n) (sym is) (record { settings = refl; row = λ h. refl; passes = refl; seen = λ h w. part_itself whole })
+
+  pub stays_advanced : (old new : NodeValue) (pass : ℕ) (advanced : Result Advanced NodeError)
+      → AdvanceLeads pass whole old new advanced → StaysNode whole old new
+  stays_advanced old new pass (Ok (Taken stamp closed)) leads =
+      subst (λ (n : NodeValue). StaysNode whole old n) (sym leads.1.0) (record { settings = refl; row = λ h. refl; passes = refl; seen = λ h w. part_itself whole })
+  stays_advanced old new pass (Ok Idle) leads = stays_seeing old new leads.1.0
+  stays_advanced old new pass (Err e) leads = stays_left old new e leads.0
+
+  pub stays_swept : (old new : NodeValue) (pass horizon : ℕ) (swept : Result ℕ NodeError)
+      → SweepLeads pass horizon old new swept → StaysNode whole old new
+  stays_swept old new pass horizon (Ok count) leads = stays_after old new pass (Sweep horizon) leads.1
+  stays_swept old new pass horizon (Err e) leads = stays_left old new e leads.0

@@ -1,0 +1,121 @@
+-- One step of a world.
+use Rattle.std.proofs.Common.{◌≡◌, ℕ, zero, suc, ◌<◌, ◌≤◌, List, [], ◌∷◌, length, map, Option, Some, None, refl, sym, ap, subst, ◌∙◌, slice_get, slice_set}
+use Rattle.std.specs.Prelude.{All, MatchOption, option_map}
+use Rattle.std.proofs.lemmas.Option.{slice_get-map}
+use Rattle.std.proofs.lemmas.List.{map-set}
+use Rattle.std.proofs.lemmas.List.Elements.{All-set, All-weaker}
+use Rattle.txc_shared.specs.Eval.{Next}
+use Rattle.txc_registry.specs.Objects.{Objects}
+use Rattle.txc_ports.specs.declared.request.PortRequest.TheVariants as requests
+use Rattle.txc_ports.specs.declared.turn.Turn.{Turn}
+use Rattle.txc_ports.specs.declared.turn.Turn.TheVariants as turns
+use Rattle.txc_txn.specs.Core.{CoreValue}
+use Rattle.txc_world.specs.declared.actor.OpenCall.{OpenCall}
+use Rattle.txc_world.specs.declared.actor.OpenTxn.{OpenTxn}
+use Rattle.txc_world.specs.declared.actor.Actor.{Actor}
+use Rattle.txc_world.specs.declared.actor.Actor.TheVariants.{Idle, Reading, Leaving}
+use Rattle.txc_world.specs.declared.reply.Reply.{Reply}
+use Rattle.txc_world.specs.declared.reply.Reply.TheVariants.{Refused}
+use Rattle.txc_world.specs.declared.reply.Refusal.TheVariants.{NoActor}
+use Rattle.txc_world.specs.declared.settings.WorldSettings.{WorldSettings}
+use Rattle.txc_world.specs.declared.step.Act.{Act}
+use Rattle.txc_world.specs.declared.step.Step.TheVariants as steps
+use Rattle.txc_world.specs.Told.{Story, Told, act_at, act_in, after, story_after, IsActDue, IsDue, IsExplainedIn, IsNoReceipt, ReplyExplains}
+use Rattle.txc_world.specs.Ports.{PortsValue, whole_of, KeepsRow}
+use Rattle.txc_world.specs.Actors.{story_at, story_of, AddsPart, HasCall, IsActor, IsOpenCall, IsOpenTxn, IsThere}
+use Rattle.txc_world.specs.Worlds.{told_of, IsWorld}
+use Rattle.txc_world.proofs.Whole.{part_kept}
+
+-- ---- places of a list
+
+module _ {X : Type 0} where
+  set_twice : (xs : List X) (i : ℕ) (a b : X) → slice_set (slice_set xs i a) i b ≡ slice_set xs i b
+  set_twice [] i a b = refl
+  set_twice (x ∷ xs) zero a b = refl
+  set_twice (x ∷ xs) (suc i) a b = ap (λ (l : List X). x ∷ l) (set_twice xs i a b)
+
+  set_length : (xs : List X) (i : ℕ) (a : X) → length (slice_set xs i a) ≡ length xs
+  set_length [] i a = refl
+  set_length (x ∷ xs) zero a = refl
+  set_length (x ∷ xs) (suc i) a = ap suc (set_length xs i a)
+
+-- ---- what an actor keeps while others step
+
+module _ (old new : PortsValue) (keeps : KeepsRow old new) where
+  adds_later : (turn : Turn) → AddsPart (whole_of old) turn → AddsPart (whole_of new) turn
+  adds_later (turns.Ask (requests.Fresh bounds)) part = tt
+  adds_later (turns.Ask (requests.Pin now at_least)) part = tt
+  adds_later (turns.Ask (requests.AddPin pinned)) part = part_kept old new pinned.front keeps part
+  adds_later (turns.Ask (requests.Unpin stamp)) part = tt
+  adds_later (turns.Ask (requests.Lookup node key lo hi)) part = tt
+  adds_later (turns.Ask (requests.Query query stamp)) part = tt
+  adds_later (turns.Ask (requests.Insert node entry)) part = tt
+  adds_later (turns.Ask (requests.GiveBack stamps)) part = tt
+  adds_later (turns.Ask requests.Hold) part = tt
+  adds_later (turns.Ask (requests.Commit base read changes)) part = tt
+  adds_later turns.Begun part = tt
+  adds_later (turns.Value value) part = tt
+  adds_later (turns.Rows rows) part = tt
+  adds_later (turns.At stamp) part = tt
+  adds_later (turns.Refused error) part = tt
+
+  call_later : (c : CoreValue) (call : Option OpenCall) → HasCall (whole_of old) c call → HasCall (whole_of new) c call
+  call_later c None h = h
+  call_later c (Some call) h = record { turn = h.turn; no_value = h.no_value; key = h.key; adds = adds_later call.turn h.adds }
+
+  module _ {A C : Type 0} (count : ℕ) where
+    actor_later : (actor : Actor A C) → IsActor (whole_of old) count actor → IsActor (whole_of new) count actor
+    actor_later (Idle objects) h = h
+    actor_later (Reading o) h = record {
+      seen = part_kept old new o.txn.core.seen keeps h.seen;
+      nodes = h.nodes;
+      call = call_later o.txn.core o.call h.call;
+    }
+    actor_later (Leaving objects stamp) h = h
+
+    pub there_later : (slot : Option (Actor A C)) → IsThere (whole_of old) count slot → IsThere (whole_of new) count slot
+    there_later None h = h
+    there_later (Some actor) h = actor_later actor h
+
+-- ---- an actor steps
+
+module _ {A C : Type 0} (settings : WorldSettings) (ports new : PortsValue) (actors : List (Option (Actor A C))) (place : ℕ) (actor' : Actor A C) where
+  pub world_acts : IsWorld settings ports actors → KeepsRow ports new → IsActor (whole_of new) (length new.nodes) actor'
+      → IsWorld settings new (slice_set (slice_set actors place None) place (Some actor'))
+  world_acts h keeps kept =
+      let same : length new.nodes ≡ settings.nodes = keeps.count ∙ h.nodes in
+      rw (set_twice actors place None (Some actor')) (record {
+        nodes = same;
+        some = h.some;
+        passes = set_length actors place (Some actor') ∙ h.passes ∙ sym keeps.actors;
+        there = All-set (IsThere (whole_of new) settings.nodes) actors place (Some actor') (subst (λ (n : ℕ). IsActor (whole_of new) n actor') same kept)
+            (All-weaker (IsThere (whole_of ports) settings.nodes) (IsThere (whole_of new) settings.nodes) (there_later ports new keeps settings.nodes) actors h.there);
+      })
+
+module _ {A C : Type 0} (settings : WorldSettings) (ports : PortsValue) (actors : List (Option (Actor A C))) (place : ℕ) (actor : Actor A C)
+    (is : slice_get actors place ≡ Some (Some actor)) where
+  pub story_there : slice_get (told_of settings ports actors).actors place ≡ Some (story_of actor)
+  story_there = slice_get-map story_at actors place ∙ ap (λ (o : Option (Option (Actor A C))). option_map story_at o) is
+
+  -- what the world shows after the step is what is told
+  pub told_act : (new : PortsValue) (actors' : List (Option (Actor A C))) (actor' : Actor A C) (act : Act) (reply : Reply) (now : Told)
+      → actors' ≡ slice_set (slice_set actors place None) place (Some actor')
+      → story_of actor' ≡ story_after act reply (story_of actor)
+      → new.database.history ≡ act_in act reply (story_of actor) ports.database.history → new.spare ≡ ports.spare
+      → told_of settings ports actors ≡ now → told_of settings new actors' ≡ after now (steps.Actor place act) reply
+  told_act new actors' actor' act reply now put story history spare shows =
+      let told : told_of settings new actors' ≡ after (told_of settings ports actors) (steps.Actor place act) reply =
+      rw (put, set_twice actors place None (Some actor'), story_there, history, spare, map-set story_at actors place (Some actor'), story) refl
+      in told ∙ ap (λ (t : Told). after t (steps.Actor place act) reply) shows
+
+  pub due_act : (act : Act) (reply : Reply) (now : Told) → IsActDue (story_of actor) act reply → told_of settings ports actors ≡ now
+      → IsDue now (steps.Actor place act) reply
+  due_act act reply now h shows =
+      let due : IsDue (told_of settings ports actors) (steps.Actor place act) reply = rw story_there h in
+      subst (λ (t : Told). IsDue t (steps.Actor place act) reply) shows due
+
+  pub explained_act : (next : Next) (act : Act) (reply : Reply) (now : Told) → ReplyExplains next ports.database.history (story_of actor) reply
+      → told_of settings ports actors ≡ now → IsExplainedIn next now.history now (steps.Actor place act) reply
+  explained_act next act reply now h shows =
+      let explained : IsExplainedIn next ports.database.history (told_of settings ports actors) (steps.Actor place act) reply = rw story_there h in
+      subst (λ (t : Told). IsExplainedIn next t.history t (steps.Actor place act) reply) shows explained

@@ -1,0 +1,236 @@
+-- What is told of steps one after another.
+use Rattle.std.proofs.Common.{◌≡◌, ℕ, ◌+◌, ◌<◌, ◌≤◌, Bool, true, false, List, [], ◌∷◌, ◌++◌, length, Some, None, Option, refl, sym, subst, ap, ◌∙◌, take, get_or, add-one, arith, length-take-le, length-append, slice_get}
+use Rattle.std.proofs.Math.Seq.{take-suc, take-length}
+use Rattle.std.specs.Prelude.{if◌then◌else◌, nat_lt, MatchOption}
+use mathlib.Core.List.{IsPrefix}
+use Rattle.txc_db.specs.History.{History, commit_event, pin_event, state_at}
+use Rattle.txc_db.specs.Facts.{EventValue}
+use Rattle.txc_cushion.specs.declared.pin.Pin.{Pin}
+use Rattle.txc_shared.specs.Eval.{Next}
+use Rattle.txc_world.specs.declared.step.Act.{Act}
+use Rattle.txc_world.specs.declared.step.Act.TheVariants.{BeginRo, Start, Request, Commit, Abort}
+use Rattle.txc_world.specs.declared.step.Keep.{Keep}
+use Rattle.txc_world.specs.declared.step.Keep.TheVariants as keeps
+use Rattle.txc_world.specs.declared.step.Step.{Step}
+use Rattle.txc_world.specs.declared.step.Step.TheVariants.{Actor, Keeper}
+use Rattle.txc_world.specs.declared.did.Did.{Did}
+use Rattle.txc_world.specs.declared.did.Did.TheVariants as dids
+use Rattle.txc_world.specs.declared.reply.Reply.{Reply}
+use Rattle.txc_world.specs.declared.reply.Reply.TheVariants as replies
+use Rattle.txc_world.specs.Told.{Reading, Story, idle, reading, leaving, Told, act_in, act_at, after, did_in, keep_in, told_by, AreDue, AreExplained, AreExplainedIn, IsDue, IsExplainedIn, IsNoReceipt, IsReceiptOf, ReplyExplains}
+use Rattle.txc_stream.proofs.Offered.{prefix_self, prefix_trans}
+use Rattle.txc_world.proofs.Explaining.{explained_later}
+
+-- ---- one more step and its reply
+
+pub told_more : (told : Told) (steps : List Step) (replies : List Reply) (step : Step) (reply : Reply) → length replies ≡ length steps
+    → told_by told (steps ++ step ∷ []) (replies ++ reply ∷ []) ≡ after (told_by told steps replies) step reply
+told_more told [] [] step reply e = refl
+told_more told [] (r ∷ replies) step reply e = absurd (cc)
+told_more told (s ∷ steps) [] step reply e = absurd (cc)
+told_more told (s ∷ steps) (r ∷ replies) step reply e =
+    let e' : length replies ≡ length steps = cc in told_more (after told s r) steps replies step reply e'
+
+pub explained_more : (next : Next) (told : Told) (steps : List Step) (replies : List Reply) (step : Step) (reply : Reply)
+    → length replies ≡ length steps → AreExplained next told steps replies
+    → IsExplainedIn next (told_by told steps replies).history (told_by told steps replies) step reply
+    → AreExplained next told (steps ++ step ∷ []) (replies ++ reply ∷ [])
+explained_more next told [] [] step reply e h k = (k, tt)
+explained_more next told [] (r ∷ replies) step reply e h k = absurd (cc)
+explained_more next told (s ∷ steps) [] step reply e h k = absurd (cc)
+explained_more next told (s ∷ steps) (r ∷ replies) step reply e h k =
+    let e' : length replies ≡ length steps = cc in (h.0, explained_more next (after told s r) steps replies step reply e' h.1 k)
+
+pub due_more : (told : Told) (steps : List Step) (replies : List Reply) (step : Step) (reply : Reply) → length replies ≡ length steps
+    → AreDue told steps replies → IsDue (told_by told steps replies) step reply → AreDue told (steps ++ step ∷ []) (replies ++ reply ∷ [])
+due_more told [] [] step reply e h k = (k, tt)
+due_more told [] (r ∷ replies) step reply e h k = absurd (cc)
+due_more told (s ∷ steps) [] step reply e h k = absurd (cc)
+due_more told (s ∷ steps) (r ∷ replies) step reply e h k =
+    let e' : length replies ≡ length steps = cc in (h.0, due_more (after told s r) steps replies step reply e' h.1 k)
+
+-- ---- the history goes on
+
+did_goes_on : (did : Did) (now : ℕ) (L : History) → IsPrefix L (did_in did now L)
+did_goes_on (dids.Pinned stamp) now L = (pin_event now ∷ [], refl)
+did_goes_on dids.Added now L = prefix_self L
+did_goes_on (dids.NotAdded error) now L = prefix_self L
+did_goes_on dids.Unpinned now L = prefix_self L
+did_goes_on (dids.Hit reach) now L = prefix_self L
+did_goes_on dids.Miss now L = prefix_self L
+did_goes_on (dids.Rows found) now L = prefix_self L
+did_goes_on (dids.Stored reach) now L = prefix_self L
+did_goes_on dids.Kept now L = prefix_self L
+did_goes_on dids.Dropped now L = prefix_self L
+did_goes_on (dids.Refused error) now L = prefix_self L
+
+request_goes_on : (reply : Reply) (story : Story) (L : History) → IsPrefix L (act_in Request reply story L)
+request_goes_on (replies.Asked did end) (reading r) L = did_goes_on did r.bounds.now L
+request_goes_on (replies.Asked did end) idle L = prefix_self L
+request_goes_on (replies.Asked did end) (leaving stamp) L = prefix_self L
+request_goes_on replies.Begun story L = prefix_self L
+request_goes_on replies.Started story L = prefix_self L
+request_goes_on (replies.Ended end) story L = prefix_self L
+request_goes_on (replies.Receipt pin) story L = prefix_self L
+request_goes_on (replies.Aborted left) story L = prefix_self L
+request_goes_on (replies.At stamp) story L = prefix_self L
+request_goes_on replies.Added story L = prefix_self L
+request_goes_on replies.GivenBack story L = prefix_self L
+request_goes_on (replies.Retired stamps) story L = prefix_self L
+request_goes_on replies.Unpinned story L = prefix_self L
+request_goes_on (replies.Vacuumed horizon) story L = prefix_self L
+request_goes_on (replies.Rows found) story L = prefix_self L
+request_goes_on (replies.Advanced advanced) story L = prefix_self L
+request_goes_on (replies.Swept count) story L = prefix_self L
+request_goes_on (replies.Refused refusal) story L = prefix_self L
+
+act_goes_on : (act : Act) (reply : Reply) (story : Story) (L : History) → IsPrefix L (act_in act reply story L)
+act_goes_on Request reply story L = request_goes_on reply story L
+act_goes_on (BeginRo bounds) reply story L = prefix_self L
+act_goes_on (Start key) reply story L = prefix_self L
+act_goes_on Commit reply story L = prefix_self L
+act_goes_on Abort reply story L = prefix_self L
+
+if_goes_on : (L more : History) (b : Bool) → IsPrefix L (if b then L ++ more else L)
+if_goes_on L more true = (more, refl)
+if_goes_on L more false = prefix_self L
+
+keep_goes_on : (keep : Keep) (reply : Reply) (L : History) → IsPrefix L (keep_in keep reply L)
+keep_goes_on (keeps.Write change) (replies.At stamp) L = if_goes_on L (commit_event (state_at L (length L)) (change ∷ []) ∷ []) (nat_lt (length L) stamp)
+keep_goes_on (keeps.Write change) replies.Begun L = prefix_self L
+keep_goes_on (keeps.Write change) replies.Started L = prefix_self L
+keep_goes_on (keeps.Write change) (replies.Asked did end) L = prefix_self L
+keep_goes_on (keeps.Write change) (replies.Ended end) L = prefix_self L
+keep_goes_on (keeps.Write change) (replies.Receipt pin) L = prefix_self L
+keep_goes_on (keeps.Write change) (replies.Aborted left) L = prefix_self L
+keep_goes_on (keeps.Write change) replies.Added L = prefix_self L
+keep_goes_on (keeps.Write change) replies.GivenBack L = prefix_self L
+keep_goes_on (keeps.Write change) (replies.Retired stamps) L = prefix_self L
+keep_goes_on (keeps.Write change) replies.Unpinned L = prefix_self L
+keep_goes_on (keeps.Write change) (replies.Vacuumed horizon) L = prefix_self L
+keep_goes_on (keeps.Write change) (replies.Rows found) L = prefix_self L
+keep_goes_on (keeps.Write change) (replies.Advanced advanced) L = prefix_self L
+keep_goes_on (keeps.Write change) (replies.Swept count) L = prefix_self L
+keep_goes_on (keeps.Write change) (replies.Refused refusal) L = prefix_self L
+keep_goes_on (keeps.Pin now) (replies.At stamp) L = (pin_event now ∷ [], refl)
+keep_goes_on (keeps.Pin now) replies.Begun L = prefix_self L
+keep_goes_on (keeps.Pin now) replies.Started L = prefix_self L
+keep_goes_on (keeps.Pin now) (replies.Asked did end) L = prefix_self L
+keep_goes_on (keeps.Pin now) (replies.Ended end) L = prefix_self L
+keep_goes_on (keeps.Pin now) (replies.Receipt pin) L = prefix_self L
+keep_goes_on (keeps.Pin now) (replies.Aborted left) L = prefix_self L
+keep_goes_on (keeps.Pin now) replies.Added L = prefix_self L
+keep_goes_on (keeps.Pin now) replies.GivenBack L = prefix_self L
+keep_goes_on (keeps.Pin now) (replies.Retired stamps) L = prefix_self L
+keep_goes_on (keeps.Pin now) replies.Unpinned L = prefix_self L
+keep_goes_on (keeps.Pin now) (replies.Vacuumed horizon) L = prefix_self L
+keep_goes_on (keeps.Pin now) (replies.Rows found) L = prefix_self L
+keep_goes_on (keeps.Pin now) (replies.Advanced advanced) L = prefix_self L
+keep_goes_on (keeps.Pin now) (replies.Swept count) L = prefix_self L
+keep_goes_on (keeps.Pin now) (replies.Refused refusal) L = prefix_self L
+keep_goes_on (keeps.Add stamp) reply L = prefix_self L
+keep_goes_on (keeps.GiveBack stamp) reply L = prefix_self L
+keep_goes_on (keeps.Retire now age) reply L = prefix_self L
+keep_goes_on (keeps.Unpin stamp) reply L = prefix_self L
+keep_goes_on keeps.Vacuum reply L = prefix_self L
+keep_goes_on (keeps.Query stamp query) reply L = prefix_self L
+keep_goes_on (keeps.Advance node) reply L = prefix_self L
+keep_goes_on (keeps.Sweep node horizon) reply L = prefix_self L
+
+act_at_goes_on : (place : ℕ) (act : Act) (reply : Reply) (told : Told) (story : Option Story) → IsPrefix told.history (act_at place act reply told story).history
+act_at_goes_on place act reply told None = prefix_self told.history
+act_at_goes_on place act reply told (Some story) = act_goes_on act reply story told.history
+
+pub after_goes_on : (told : Told) (step : Step) (reply : Reply) → IsPrefix told.history (after told step reply).history
+after_goes_on told (Actor place act) reply = act_at_goes_on place act reply told (slice_get told.actors place)
+after_goes_on told (Keeper keep) reply = keep_goes_on keep reply told.history
+
+pub told_goes_on : (told : Told) (steps : List Step) (replies : List Reply) → IsPrefix told.history (told_by told steps replies).history
+told_goes_on told [] replies = prefix_self told.history
+told_goes_on told (s ∷ steps) [] = prefix_self told.history
+told_goes_on told (s ∷ steps) (r ∷ replies) =
+    let now = after told s r in
+    prefix_trans told.history now.history (told_by now steps replies).history (after_goes_on told s r) (told_goes_on now steps replies)
+
+-- ---- what is explained stays explained
+
+module _ (next : Next) (L M : History) (on : IsPrefix L M) where
+  receipt_later : (story : Story) (pin : Option Pin) → IsReceiptOf next L story pin → IsReceiptOf next M story pin
+  receipt_later idle pin h = h
+  receipt_later (reading r) pin h = explained_later next L M r.bounds pin r.answers on h
+  receipt_later (leaving stamp) pin h = h
+
+  reply_later : (story : Story) (reply : Reply) → ReplyExplains next L story reply → ReplyExplains next M story reply
+  reply_later story (replies.Receipt pin) h = receipt_later story pin h
+  reply_later story replies.Begun h = tt
+  reply_later story replies.Started h = tt
+  reply_later story (replies.Asked did end) h = tt
+  reply_later story (replies.Ended end) h = tt
+  reply_later story (replies.Aborted left) h = tt
+  reply_later story (replies.At stamp) h = tt
+  reply_later story replies.Added h = tt
+  reply_later story replies.GivenBack h = tt
+  reply_later story (replies.Retired stamps) h = tt
+  reply_later story replies.Unpinned h = tt
+  reply_later story (replies.Vacuumed horizon) h = tt
+  reply_later story (replies.Rows found) h = tt
+  reply_later story (replies.Advanced advanced) h = tt
+  reply_later story (replies.Swept count) h = tt
+  reply_later story (replies.Refused refusal) h = tt
+
+  place_later : (reply : Reply) (story : Option Story) → MatchOption story (IsNoReceipt reply) (λ s. ReplyExplains next L s reply)
+      → MatchOption story (IsNoReceipt reply) (λ s. ReplyExplains next M s reply)
+  place_later reply None h = h
+  place_later reply (Some story) h = reply_later story reply h
+
+  step_later : (told : Told) (step : Step) (reply : Reply) → IsExplainedIn next L told step reply → IsExplainedIn next M told step reply
+  step_later told (Actor place act) reply h = place_later reply (slice_get told.actors place) h
+  step_later told (Keeper keep) reply h = h
+
+-- what is explained as it is told is explained in the whole history
+pub whole : (next : Next) (told : Told) (steps : List Step) (replies : List Reply) → AreExplained next told steps replies
+    → AreExplainedIn next (told_by told steps replies).history told steps replies
+whole next told [] replies h = tt
+whole next told (s ∷ steps) [] h = tt
+whole next told (s ∷ steps) (r ∷ replies) h =
+    let now = after told s r in
+    let end = (told_by now steps replies).history in (
+      step_later next told.history end (prefix_trans told.history now.history end (after_goes_on told s r) (told_goes_on now steps replies)) told s r h.0,
+      whole next now steps replies h.1,
+    )
+
+-- ---- the loop over the steps
+
+module _ (next : Next) (start : Told) (steps : List Step) (i : ℕ) (replies : List Reply) (step : Step) (reply : Reply)
+    (within : i < length steps) (is : step ≡ get_or steps i step) (even : length replies ≡ i) where
+  as_long : length replies ≡ length (take i steps)
+  as_long = let less : i ≤ length steps = omega (arith, within) in let long = length-take-le i steps less in even ∙ sym long
+
+  next_steps : take (i + 1) steps ≡ take i steps ++ step ∷ []
+  next_steps = ap (λ n. take n steps) (add-one i) ∙ take-suc steps i step within ∙ ap (λ s. take i steps ++ s ∷ []) (sym is)
+
+  pub loop_told : (now new : Told) → now ≡ told_by start (take i steps) replies → new ≡ after now step reply
+      → new ≡ told_by start (take (i + 1) steps) (replies ++ reply ∷ [])
+  loop_told now new h k = rw next_steps (k ∙ ap (λ (t : Told). after t step reply) h ∙ sym (told_more start (take i steps) replies step reply as_long))
+
+  pub loop_due : (now : Told) → now ≡ told_by start (take i steps) replies → AreDue start (take i steps) replies → IsDue now step reply
+      → AreDue start (take (i + 1) steps) (replies ++ reply ∷ [])
+  loop_due now h e k = rw next_steps (due_more start (take i steps) replies step reply as_long e (subst (λ (t : Told). IsDue t step reply) h k))
+
+  pub loop_explained : (now : Told) → now ≡ told_by start (take i steps) replies → AreExplained next start (take i steps) replies
+      → IsExplainedIn next now.history now step reply → AreExplained next start (take (i + 1) steps) (replies ++ reply ∷ [])
+  loop_explained now h e k =
+      rw next_steps (explained_more next start (take i steps) replies step reply as_long e (subst (λ (t : Told). IsExplainedIn next t.history t step reply) h k))
+
+pub length_more : (replies : List Reply) (reply : Reply) (i : ℕ) → length replies ≡ i → length (replies ++ reply ∷ []) ≡ i + 1
+length_more replies reply i e = length-append replies (reply ∷ []) ∙ ap (λ n. n + 1) e
+
+-- at the end of the loop
+pub loop_whole : (next : Next) (start : Told) (steps : List Step) (i : ℕ) (replies : List Reply) (now : Told) → length steps ≤ i → i ≤ length steps
+    → now ≡ told_by start (take i steps) replies → AreExplained next start (take i steps) replies → AreExplainedIn next now.history start steps replies
+loop_whole next start steps i replies now past within is e =
+    let at : i ≡ length steps = omega (arith, past, within) in
+    let all : take i steps ≡ steps = ap (λ n. take n steps) at ∙ take-length steps in
+    let e' = subst (λ (ss : List Step). AreExplained next start ss replies) all e in
+    let is' : now ≡ told_by start steps replies = is ∙ ap (λ (ss : List Step). told_by start ss replies) all in
+    rw is' (whole next start steps replies e')

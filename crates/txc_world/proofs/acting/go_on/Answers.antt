@@ -1,0 +1,25 @@
+use Rattle.std.proofs.Common.{sym, ap, ◌∙◌}
+use Rattle.txc_ports.specs.Fronts.{front_of}
+use Rattle.txc_txn.proofs.Offered.{is_answered, is_right, may_ask}
+use Rattle.txc_world.proofs.Turning.{adds_next, adds_of, asked_at, counted_in, seen_next, shows_part}
+use Rattle.txc_world.specs.Ports.{whole_of}
+use Rattle.txc_world.proofs.acting.go_on.Goals as goal
+
+pub next-turn-requires-clause-reply : goal.next-turn-requires-clause-reply
+next-turn-requires-clause-reply g c =
+    is_answered g.A.App.next c.args.txn.now.core c.args.request c.ask-did.result.reply c.requires.asks c.ask-did.ensures.reply
+
+pub returns-clause-seen : goal.returns-clause-seen
+returns-clause-seen g c =
+    seen_next c.args.ports.now c.ask-did.new.self c.args.txn.now.core.seen c.next-turn.new.self.core.seen (front_of c.ask-did.result.reply)
+    c.ask-did.ensures.keeps c.requires.seen c.ask-did.ensures.shown c.next-turn.ensures.one
+
+pub returns-clause-adds : goal.returns-clause-adds
+returns-clause-adds g c =
+    adds_next g.A.App.next (whole_of c.ask-did.new.self) c.args.txn.now c.next-turn.new.self c.next-turn.result
+    c.ask-did.result.reply c.ask-did.ensures.shown c.next-turn.ensures.adds c.next-turn.ensures.leads
+
+pub returns-clause-history : goal.returns-clause-history
+returns-clause-history g c =
+    c.ask-did.ensures.history c.args.txn.now.core.bounds.now (asked_at c.args.txn.now.core c.args.request c.requires.asks)
+    ∙ sym (rw c.counted-did.ensures (counted_in _ c.ask-did.result.did c.args.txn.now.core.bounds.now c.args.ports.now.database.history))

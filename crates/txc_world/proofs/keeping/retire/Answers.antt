@@ -1,0 +1,24 @@
+use Rattle.std.proofs.Common.{ap}
+use Rattle.txc_world.specs.Ports.{PortsValue}
+use Rattle.txc_world.specs.Keeping.{stamps_of}
+use Rattle.txc_world.proofs.keeping.retire.Goals as goal
+
+pub returns-in-Ok : goal.returns-in-Ok
+returns-in-Ok g c = record {
+  leads = c.in-Ok.ensures.leads;
+  history = ap (λ (p : PortsValue). p.database.history) c.in-Ok.ensures.leads.0;
+  spare = ap (λ (p : PortsValue). stamps_of p.spare) c.in-Ok.ensures.leads.0;
+  due = tt;
+  no_receipt = tt;
+  keeps = c.retire.ensures.keeps;
+}
+
+pub returns-in-Err : goal.returns-in-Err
+returns-in-Err g c = record {
+  leads = c.in-Err.ensures.leads;
+  history = ap (λ (p : PortsValue). p.database.history) c.in-Err.ensures.leads;
+  spare = ap (λ (p : PortsValue). stamps_of p.spare) c.in-Err.ensures.leads;
+  due = tt;
+  no_receipt = tt;
+  keeps = c.retire.ensures.keeps;
+}

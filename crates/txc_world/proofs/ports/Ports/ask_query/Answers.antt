@@ -1,0 +1,27 @@
+use Rattle.std.proofs.Common.{sym, subst}
+use Rattle.txc_db.specs.Seen.{FrontValue}
+use Rattle.txc_ports.specs.declared.request.PortRequest.TheVariants as requests
+use Rattle.txc_world.specs.declared.asked.Asked.{Asked}
+use Rattle.txc_world.specs.Asks.{AskLeads, IsAsked}
+use Rattle.txc_world.proofs.AskLemmas.{asked_refusal, asked_rows}
+use Rattle.txc_world.proofs.ports.Ports.ask_query.Goals as goal
+
+pub returns-in-Ok-clause-asked : goal.returns-in-Ok-clause-asked
+returns-in-Ok-clause-asked g c =
+    subst (λ (a : Asked). IsAsked g.A.App.next (requests.Query c.args.query.now c.args.stamp) c.args.self.now c.find_told.new.self a) (sym c.asked_rows.ensures)
+    (asked_rows g.A.App.next c.args.self.now c.find_told.new.self c.find_told.ensures.same c.args.query.now c.args.stamp _ _ c.in-Ok.ensures.found c.in-Ok.ensures.rows)
+
+pub returns-in-Ok-clause-leads : goal.returns-in-Ok-clause-leads
+returns-in-Ok-clause-leads g c = λ seen.
+    subst (λ (a : Asked). AskLeads c.args.pass seen (requests.Query c.args.query.now c.args.stamp) c.args.self.now c.find_told.new.self a.did a.reply) (sym c.asked_rows.ensures)
+    (c.find_told.ensures.same, (c.in-Ok.ensures.found, c.in-Ok.ensures.only_if))
+
+pub returns-in-Err-clause-asked : goal.returns-in-Err-clause-asked
+returns-in-Err-clause-asked g c =
+    subst (λ (a : Asked). IsAsked g.A.App.next (requests.Query c.args.query.now c.args.stamp) c.args.self.now c.find_told.new.self a) (sym c.asked_refusal.ensures)
+    (asked_refusal g.A.App.next c.args.self.now c.find_told.new.self c.find_told.ensures.same c.args.query.now c.args.stamp c.in-Err.refusal)
+
+pub returns-in-Err-clause-leads : goal.returns-in-Err-clause-leads
+returns-in-Err-clause-leads g c = λ seen.
+    subst (λ (a : Asked). AskLeads c.args.pass seen (requests.Query c.args.query.now c.args.stamp) c.args.self.now c.find_told.new.self a.did a.reply) (sym c.asked_refusal.ensures)
+    (c.find_told.ensures.same, c.in-Err.ensures.refused)

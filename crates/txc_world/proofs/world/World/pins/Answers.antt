@@ -1,0 +1,22 @@
+use Rattle.std.proofs.Common.{◌≡◌, ◌<◌, Bool, List, Some, ap, subst, sym, ◌∙◌}
+use Rattle.std.specs.Prelude.{slice_get}
+use Rattle.std.proofs.lemmas.Option.{slice_get-get_or}
+use Rattle.txc_cushion.specs.declared.pin.Pin.{Pin}
+use Rattle.txc_world.specs.Worlds.{AreMembersOf}
+use Rattle.txc_world.proofs.MemberLemmas.{members_there}
+use Rattle.txc_world.specs.declared.actor.Actor.TheVariants.{Reading}
+use Rattle.txc_world.proofs.world.World.pins.Goals as goal
+
+pub returns-clause-members : goal.returns-clause-members
+returns-clause-members g c = λ r at.
+    let held = c.in-Some-Some.field-0-is ∙ ap Some c.in-Reading.is in
+    let lies : slice_get c.self.inside.actors.items c.args.place ≡ Some (Some (Reading c.in-Reading.current)) =
+    rw (sym c.deref.ensures.value)
+    (slice_get-get_or c.deref.result.now c.args.place c.in-Some-Some.field-0.now c.in-Some-Some.ensures.lookup.3.0
+    ∙ ap Some (sym c.in-Some-Some.ensures.lookup.1 ∙ held)) in
+    subst (λ (b : Bool). AreMembersOf g.A.App.next c.args.self.now.history r b c.members.result.now)
+    (sym (c.has_present.ensures ∙ ap (λ v. v.pins.has_present) c.core-core.ensures))
+    (subst (λ (ms : List Pin). AreMembersOf g.A.App.next c.args.self.now.history r c.in-Reading.current.txn.core.pins.has_present ms)
+    (sym (c.members.ensures ∙ ap (λ v. v.pins.members) c.core-core.ensures))
+    (members_there g.A.App.next c.self.inside.settings c.self.inside.ports c.self.inside.actors.items c.args.place c.in-Reading.current c.args.self.now r
+    c.is_kept.ensures c.self.invariant lies c.self.view_is at))

@@ -1,0 +1,183 @@
+-- What actors keep, and how they are told.
+use Rattle.std.specs.Prelude.{◌≡◌, ℕ, ◌≤◌, Bool, List, [], All, Option, Some, None, Result, Ok, length, option_map, if◌then◌else◌}
+use Rattle.std.specs.List.{list_any}
+use Rattle.txc_stamp.specs.Interval.{Interval}
+use Rattle.txc_tags.specs.Keys.{Call}
+use Rattle.txc_db.specs.History.{History}
+use Rattle.txc_db.specs.Seen.{FrontValue}
+use Rattle.txc_cushion.specs.declared.pin.Pin.{Pin}
+use Rattle.txc_registry.specs.Objects.{AllIdle}
+use Rattle.txc_ports.specs.declared.bounds.Bounds.{Bounds}
+use Rattle.txc_cushion.specs.declared.error.UnknownPin.{UnknownPin}
+use Rattle.txc_shared.specs.Eval.{Next}
+use Rattle.txc_ports.specs.declared.reply.PortReply.{PortReply}
+use Rattle.txc_ports.specs.declared.request.PortRequest.{PortRequest}
+use Rattle.txc_ports.specs.declared.request.PortRequest.TheVariants as requests
+use Rattle.txc_cushion.specs.declared.pins.Pins.{Pins}
+use Rattle.txc_txn.specs.Leading.{StartLeads}
+use Rattle.txc_txn.specs.Kept.{HasGoneOn, TxnValue}
+use Rattle.txc_ports.specs.declared.turn.Turn.{Turn}
+use Rattle.txc_ports.specs.declared.turn.Turn.TheVariants.{Ask, Value, Refused}
+use Rattle.txc_pinset.specs.Members.{is_held_by}
+use Rattle.txc_world.specs.declared.did.Did.{Did}
+use Rattle.txc_world.specs.declared.did.Did.TheVariants.{Hit, Miss}
+use Rattle.txc_world.specs.declared.reply.End.{End}
+use Rattle.txc_world.specs.declared.reply.End.TheVariants as ends
+use Rattle.txc_txn.specs.Core.{CoreValue, begun_core, open_call, IsAsk, IsIdle, IsNoValue, IsTurn}
+use Rattle.txc_world.specs.declared.actor.OpenCall.{OpenCall}
+use Rattle.txc_world.specs.declared.actor.OpenTxn.{OpenTxn}
+use Rattle.txc_world.specs.declared.actor.Actor.{Actor}
+use Rattle.txc_world.specs.declared.actor.Actor.TheVariants.{Idle, Reading, Leaving}
+use Rattle.txc_world.specs.declared.reply.Reply.{Reply}
+use Rattle.txc_world.specs.declared.reply.Reply.TheVariants as replies
+use Rattle.txc_world.specs.declared.reply.Reply.TheVariants.{Asked, Begun, Ended}
+use Rattle.txc_world.specs.declared.reply.Refusal.TheVariants.{Memory}
+use Rattle.txc_world.specs.Parts.{IsPartOf}
+use Rattle.txc_world.specs.Ports.{PortsValue}
+use Rattle.txc_world.specs.Asks.{FreshLeads, IsAsked}
+use Rattle.txc_world.specs.Keeping.{GiveBackLeads}
+use Rattle.txc_world.specs.Told.{Story, idle, reading, leaving}
+
+-- a pin that is to be added is of the whole
+abbrev pub AddsPart : FrontValue → Turn → Type 0
+AddsPart whole (Ask (requests.AddPin pinned)) = IsPartOf whole pinned.front
+AddsPart whole turn = Unit {0}
+
+-- the call's next turn is one of the core's, which has it open under its key while it asks; it is no value,
+-- and asks to add only what the whole shows
+pub record IsOpenCall (whole : FrontValue) (c : CoreValue) (call : OpenCall) : Type 0 where
+  pub turn : IsTurn c call.turn
+  pub no_value : IsNoValue call.turn
+  pub key : IsAsk call.turn → open_call c ≡ Some call.key
+  pub adds : AddsPart whole call.turn
+
+abbrev pub HasCall : FrontValue → CoreValue → Option OpenCall → Type 0
+HasCall whole c None = IsIdle c
+HasCall whole c (Some call) = IsOpenCall whole c call
+
+-- What is true of an open transaction over so many nodes, beside what its type keeps: what it has seen is
+-- part of the whole, and its open call waits for its next turn.
+pub record IsOpenTxn {A C : Type 0} (whole : FrontValue) (count : ℕ) (o : OpenTxn A C) : Type 0 where
+  pub seen : IsPartOf whole o.txn.core.seen
+  pub nodes : o.txn.core.nodes ≡ count
+  pub call : HasCall whole o.txn.core o.call
+
+-- a core that has begun within the bounds
+pub record IsBegun (whole : FrontValue) (count : ℕ) (bounds : Bounds) (c : CoreValue) : Type 0 where
+  pub seen : IsPartOf whole c.seen
+  pub nodes : c.nodes ≡ count
+  pub is_idle : IsIdle c
+  pub asked : c.bounds ≡ bounds
+  pub recorded : c.recorded ≡ []
+
+abbrev pub IsActor : {A C : Type 0} → FrontValue → ℕ → Actor A C → Type 0
+IsActor whole count (Idle objects) = AllIdle objects
+IsActor whole count (Reading o) = IsOpenTxn whole count o
+IsActor whole count (Leaving objects stamp) = AllIdle objects
+
+-- nobody is in the middle of a step
+abbrev pub IsThere : {A C : Type 0} → FrontValue → ℕ → Option (Actor A C) → Type 0
+IsThere whole count None = ⊥
+IsThere whole count (Some actor) = IsActor whole count actor
+
+-- ---- turns of a call
+
+-- a call asks, is answered, or is refused
+abbrev pub IsCallTurn : Turn → Type 0
+IsCallTurn (Ask request) = Unit {0}
+IsCallTurn (Value value) = Unit {0}
+IsCallTurn (Refused error) = Unit {0}
+IsCallTurn turn = ⊥
+
+-- a call that asks is open with its turn; else it has ended so
+abbrev pub IsNoted : Call → Turn → Option OpenCall → Option End → Type 0
+IsNoted key (Ask request) call end = (call ≡ Some (record { key = key; turn = Ask request })) × (end ≡ None)
+IsNoted key (Value value) call end = (call ≡ None) × (end ≡ Some (ends.Value value))
+IsNoted key (Refused error) call end = (call ≡ None) × (end ≡ Some (ends.Refused error))
+IsNoted key turn call end = ⊥
+
+-- the reach holds one of the members
+abbrev pub holds_any : Interval → List Pin → Bool
+holds_any reach members = list_any (is_held_by reach) members
+
+-- what a node did, but that a hit which holds no member is a miss
+abbrev pub counted : List Pin → Did → Did
+counted members (Hit reach) = if holds_any reach members then Hit reach else Miss
+counted members did = did
+
+-- ---- what comes of a step
+
+-- a core began with the pins that the pincushion handed out for the bounds
+pub record HasBegun (renew_after : ℕ) (bounds : Bounds) (old new : PortsValue) (c : CoreValue) : Type 0 where
+  pub pins : Pins
+  pub fresh : FreshLeads {A = Unit {0}} bounds.now bounds.staleness bounds.at_least old new (Ok pins)
+  pub core : c ≡ begun_core (length old.nodes) renew_after bounds pins c.call
+
+-- a transaction began, with no call; or the actor has nothing open
+abbrev pub BeginLeads : {A C : Type 0} → ℕ → Bounds → PortsValue → PortsValue → Actor A C → Reply → Type 0
+BeginLeads renew_after bounds old new (Reading o) reply = HasBegun renew_after bounds old new o.txn.core
+    × (o.call ≡ None) × (reply ≡ Begun)
+BeginLeads renew_after bounds old new (Idle objects) reply = reply ≡ replies.Refused Memory
+BeginLeads renew_after bounds old new (Leaving objects stamp) reply = ⊥
+
+-- a call is open, with the turn that its start came to
+pub record HasStarted {A C : Type 0} (key : Call) (before : TxnValue) (actor : Actor A C) : Type 0 where
+  pub current : OpenTxn A C
+  pub turn : Turn
+  pub actor_is : actor ≡ Reading current
+  pub call : current.call ≡ Some (record { key = key; turn = turn })
+  pub leads : StartLeads before.core before.objects key turn
+  pub same : current.txn.core ≡ record before.core {
+    call = current.txn.core.call;
+    pinning = current.txn.core.pinning;
+  }
+
+-- One request of a transaction: the port that was asked did this, and the transaction went on with its reply.
+pub record HasAsked (next : Next) (request : PortRequest) (old new : PortsValue) (before after : TxnValue)
+    (did : Did) (turn : Turn) : Type 0 where
+  pub reply : PortReply
+  pub port : Did
+  pub asked : IsAsked next request old new (record { did = port; reply = reply })
+  pub counts : did ≡ counted before.core.pins.members port
+  pub went : HasGoneOn next before reply after turn
+
+-- the open call made the request, and is open still or has ended at the turn that came of it
+pub record HasRequested {A C : Type 0} (next : Next) (key : Call) (request : PortRequest)
+    (old new : PortsValue) (before : TxnValue) (actor : Actor A C) (reply : Reply) : Type 0 where
+  pub current : OpenTxn A C
+  pub did : Did
+  pub end : Option End
+  pub turn : Turn
+  pub actor_is : actor ≡ Reading current
+  pub reply_is : reply ≡ Asked did end
+  pub asks : HasAsked next request old new before current.txn did turn
+  pub noted : IsNoted key turn current.call end
+
+-- a request at a turn of the open call: it is made; or the call had ended, which is told, and no port was
+-- asked
+abbrev pub RequestLeads : {A C : Type 0} → Next → Call → Turn → PortsValue → PortsValue → TxnValue → Actor A C → Reply
+    → Type 0
+RequestLeads next key (Ask request) old new before actor reply =
+    HasRequested next key request old new before actor reply
+RequestLeads next key (Refused error) old new before actor reply = (new ≡ old)
+    × (actor ≡ Reading (record { txn = before; call = None })) × (reply ≡ Ended (ends.Refused error))
+RequestLeads next key turn old new before actor reply = ⊥
+
+-- users of these stamps were given back to the pincushion, or it refused, and nothing has changed
+abbrev pub HasGivenBack : List ℕ → PortsValue → PortsValue → Type 0
+HasGivenBack stamps old new = (given : Result (Unit {0}) UnknownPin) × GiveBackLeads stamps old new given
+
+-- ---- how it is told
+
+abbrev pub story_of : {A C : Type 0} → Actor A C → Story
+story_of (Idle objects) = idle
+story_of (Reading o) = reading (record {
+  bounds = o.txn.core.bounds;
+  call = option_map (λ c. c.key) o.call;
+  answers = o.txn.core.recorded;
+})
+story_of (Leaving objects stamp) = leaving stamp
+
+abbrev pub story_at : {A C : Type 0} → Option (Actor A C) → Story
+story_at None = idle
+story_at (Some actor) = story_of actor

@@ -1,0 +1,161 @@
+-- What comes of a transaction's request at the plain ports, and how it is told.
+use Rattle.std.specs.Prelude.{◌≡◌, ◌⊎◌, ℕ, ◌≤◌, Result, Ok, Err, Option, Some, None, List, [], ◌∷◌, map, true}
+use Rattle.std.specs.Option.{option_map, ForSome}
+use Rattle.txc_rows.specs.declared.query.Query.{Query}
+use Rattle.txc_rows.specs.RowTags.{query_tag}
+use Rattle.txc_validity.specs.declared.answer.Found.{Found}
+use Rattle.txc_validity.specs.Answers.{IsAnswer}
+use Rattle.txc_db.specs.declared.answered.Answered.{Answered}
+use Rattle.txc_db.specs.declared.error.DbError.{DbError}
+use Rattle.txc_db.specs.declared.pinned.Pinned.{Pinned}
+use Rattle.txc_db.specs.History.{History, moment_at, state_at}
+use Rattle.txc_db.specs.Seen.{FrontValue}
+use Rattle.txc_db.specs.DatabaseValue.{after_pin, after_unpin, front_of, is_held, newest}
+use Rattle.txc_db.specs.Calls.{IsAnswerable, IsPinnable, IsPinRefused, IsQueryRefused, IsUnpinRefused}
+use Rattle.txc_cushion.specs.declared.error.AddError.{AddError}
+use Rattle.txc_cushion.specs.Cushion.{after_add, after_fresh, handed_out}
+use Rattle.txc_cushion.specs.declared.pins.Pins.{Pins}
+use Rattle.txc_cushion.specs.Refusals.{IsAddable, IsAddRefused}
+use Rattle.txc_shared.specs.declared.insertion.Insertion.{Insertion}
+use Rattle.txc_shared.specs.declared.insertion.Insertion.TheVariants as insertions
+use Rattle.txc_shared.specs.Eval.{Next}
+use Rattle.txc_ports.specs.declared.request.PortRequest.{PortRequest}
+use Rattle.txc_ports.specs.declared.request.PortRequest.TheVariants as requests
+use Rattle.txc_ports.specs.declared.reply.PortReply.{PortReply}
+use Rattle.txc_ports.specs.declared.reply.PortReply.TheVariants as replies
+use Rattle.txc_ports.specs.Asking.{IsFoundOver, IsOfRow, IsReplyTo}
+use Rattle.txc_ports.specs.Fronts.{front_of as shown_by}
+use Rattle.txc_world.specs.declared.did.RowsFound.{RowsFound}
+use Rattle.txc_world.specs.declared.did.Did.{Did}
+use Rattle.txc_world.specs.declared.did.Did.TheVariants as dids
+use Rattle.txc_world.specs.declared.asked.Asked.{Asked}
+use Rattle.txc_world.specs.Told.{did_in}
+use Rattle.txc_world.specs.Parts.{IsPartOf}
+use Rattle.txc_world.specs.NodeSteps.{LookupLeads, InsertLeads}
+use Rattle.txc_world.specs.Ports.{PortsValue, whole_of, KeepsRow, HasRefused, HasLedNode}
+
+-- ---- pins
+
+-- a pin of the moment is one event more, and its front shows it
+pub record HasPinned (now at_least : ℕ) (old new : PortsValue) (pinned : Pinned) : Type 0 where
+  pub after : new ≡ record old { database = after_pin old.database now }
+  pub only_if : IsPinnable old.database at_least
+  pub stamp : pinned.stamp ≡ newest new.database
+  pub moment : pinned.moment ≡ now
+  pub late : at_least ≤ pinned.stamp
+  pub front : pinned.front ≡ front_of new.database
+  pub shown : moment_at pinned.front.history pinned.stamp ≡ Some pinned.moment
+
+-- of a pin: it was made, or the database refused
+abbrev pub PinLeads : ℕ → ℕ → PortsValue → PortsValue → Result Pinned DbError → Type 0
+PinLeads now at_least old new (Ok pinned) = HasPinned now at_least old new pinned
+PinLeads now at_least old new (Err e) = HasRefused old new e × IsPinRefused old.database at_least e
+
+-- of a pin that is added: it is in the pincushion, or was refused, and nothing has changed
+abbrev pub AddLeads : {A : Type 0} → Pinned → PortsValue → PortsValue → Result A AddError → Type 0
+AddLeads pinned old new (Ok added) = (new ≡ record old { cushion = after_add old.cushion pinned })
+    × IsAddable old.cushion pinned.stamp
+AddLeads pinned old new (Err e) = (new ≡ old) × IsAddRefused old.cushion pinned.stamp e
+
+-- of a hold: there is one fewer of the stamp, or the database refused, and nothing has changed
+abbrev pub UnpinLeads : {A : Type 0} → ℕ → PortsValue → PortsValue → Result A DbError → Type 0
+UnpinLeads stamp old new (Ok unpinned) = (new ≡ record old { database = after_unpin old.database stamp })
+    × (is_held stamp old.database.holds ≡ true)
+UnpinLeads stamp old new (Err e) = (new ≡ old) × IsUnpinRefused old.database stamp e
+
+-- of a beginning: the newest of the fresh pins are handed out, each with one user more; or nothing has
+-- changed
+abbrev pub FreshLeads : {A : Type 0} → ℕ → ℕ → ℕ → PortsValue → PortsValue → Result Pins A → Type 0
+FreshLeads now staleness at_least old new (Ok pins) =
+    (new ≡ record old { cushion = after_fresh old.cushion now staleness at_least })
+    × (pins.pins.items ≡ handed_out old.cushion now staleness at_least)
+FreshLeads now staleness at_least old new (Err e) = new ≡ old
+
+-- ---- queries
+
+-- the answer of the query at the stamp, with its validity and its tag, and a front of the whole history
+pub record HasFound (query : Query) (stamp : ℕ) (p : PortsValue) (found : Answered Found) : Type 0 where
+  pub answer : IsAnswer (state_at p.database.history) query stamp p.database.horizon (newest p.database)
+      found.answer
+  pub tag : found.answer.tags ≡ query_tag query ∷ []
+  pub front : found.front ≡ whole_of p
+  pub over : IsFoundOver found.front.history query stamp found.answer
+
+abbrev pub FindLeads : Query → ℕ → PortsValue → Result (Answered Found) DbError → Type 0
+FindLeads query stamp p (Ok found) = HasFound query stamp p found × IsAnswerable p.database stamp
+FindLeads query stamp p (Err e) = IsQueryRefused p.database query stamp e
+
+-- what is told of the rows found: their ids, in order, with their reach and tags
+pub record IsToldOf (found : Found) (rows : RowsFound) : Type 0 where
+  pub ids : rows.ids.items ≡ map (λ r. r.id) found.rows.items
+  pub reach : rows.reach ≡ found.reach
+  pub tags : rows.tags ≡ found.tags
+
+-- ---- requests
+
+-- an insertion, as it is told: no node's is dropped
+abbrev pub did_insert : Option Insertion → Did
+did_insert (Some (insertions.Stored reach)) = dids.Stored reach
+did_insert (Some insertions.Kept) = dids.Kept
+did_insert None = dids.Dropped
+
+-- what a port did, as it is told, is what the transaction is given
+abbrev pub DoesTell : PortReply → Did → Type 0
+DoesTell (replies.Pin (Ok pinned)) did = did ≡ dids.Pinned pinned.stamp
+DoesTell (replies.Pin (Err e)) did = did ≡ dids.Refused e
+DoesTell (replies.AddPin pinned (Ok added)) did = did ≡ dids.Added
+DoesTell (replies.AddPin pinned (Err e)) did = did ≡ dids.NotAdded e
+DoesTell replies.Unpin did = (did ≡ dids.Unpinned) ⊎ ((e : DbError) × (did ≡ dids.Refused e))
+DoesTell (replies.Lookup (Some hit)) did = did ≡ dids.Hit hit.answer.reach
+DoesTell (replies.Lookup None) did = did ≡ dids.Miss
+DoesTell (replies.Query (Ok found)) did = (rows : RowsFound) × (did ≡ dids.Rows rows)
+    × IsToldOf found.answer rows
+DoesTell (replies.Query (Err e)) did = did ≡ dids.Refused e
+DoesTell replies.Insert did = (made : Option Insertion) × (did ≡ did_insert made)
+DoesTell reply did = ⊥
+
+-- of a hold, by what is told
+abbrev pub UnpinTold : ℕ → PortsValue → PortsValue → Did → Type 0
+UnpinTold stamp old new dids.Unpinned = (new ≡ record old { database = after_unpin old.database stamp })
+    × (is_held stamp old.database.holds ≡ true)
+UnpinTold stamp old new (dids.Refused e) = (new ≡ old) × IsUnpinRefused old.database stamp e
+UnpinTold stamp old new did = ⊥
+
+-- What comes of a request: a pin, or the hold of one taken away; a pin added; a lookup or an insertion at
+-- the node of its number, as a step of the pass; or a query, which changes nothing.
+abbrev pub AskLeads : ℕ → FrontValue → PortRequest → PortsValue → PortsValue → Did → PortReply → Type 0
+AskLeads pass seen (requests.Pin now at_least) old new did (replies.Pin pinned) =
+    PinLeads now at_least old new pinned
+AskLeads pass seen (requests.AddPin pinned) old new did (replies.AddPin given added) =
+    AddLeads pinned old new added
+AskLeads pass seen (requests.Unpin stamp) old new did replies.Unpin = UnpinTold stamp old new did
+AskLeads pass seen (requests.Lookup node key lo hi) old new did (replies.Lookup hit) =
+    HasLedNode node (λ was is. LookupLeads pass key lo hi was is (option_map (λ h. h.answer) hit)) old new
+AskLeads pass seen (requests.Query query stamp) old new did (replies.Query found) =
+    (new ≡ old) × FindLeads query stamp old found
+AskLeads pass seen (requests.Insert node entry) old new did replies.Insert = (made : Option Insertion)
+    × (did ≡ did_insert made)
+    × HasLedNode node (λ was is. InsertLeads pass seen entry was is made) old new
+AskLeads pass seen request old new did reply = ⊥
+
+-- the request asks for this moment, where it asks for a pin
+abbrev pub IsAskedAt : ℕ → PortRequest → Type 0
+IsAskedAt now (requests.Pin moment at_least) = moment ≡ now
+IsAskedAt now request = Unit {0}
+
+-- what the request hands in is part of the whole: a pin that is to be added
+abbrev pub ShowsPart : FrontValue → PortRequest → Type 0
+ShowsPart whole (requests.AddPin pinned) = IsPartOf whole pinned.front
+ShowsPart whole request = Unit {0}
+
+-- The reply is one to the request, right in the history that it shows, which is part of the whole; it is
+-- what is told of the port, and of the history.
+pub record IsAsked (next : Next) (request : PortRequest) (old new : PortsValue) (asked : Asked) : Type 0 where
+  pub reply : IsReplyTo next request asked.reply
+  pub row : IsOfRow old.database.events asked.reply
+  pub shown : ForSome (shown_by asked.reply) (λ front. IsPartOf (whole_of new) front)
+  pub tells : DoesTell asked.reply asked.did
+  pub history : (now : ℕ) → IsAskedAt now request
+      → new.database.history ≡ did_in asked.did now old.database.history
+  pub keeps : KeepsRow old new
+  pub spare : new.spare ≡ old.spare

@@ -1,0 +1,10 @@
+pub mod Parts
+pub mod Ports
+pub mod NodeSteps
+pub mod Asks
+pub mod Keeping
+pub mod Kept
+pub mod Making
+pub mod Told
+pub mod Actors
+pub mod Worlds

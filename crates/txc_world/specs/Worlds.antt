@@ -1,0 +1,49 @@
+-- What a world keeps, and how it is told.
+use Rattle.std.specs.Prelude.{◌≡◌, ℕ, ◌≤◌, Bool, true, List, [], All, Option, None, Some, length, map}
+use Rattle.txc_db.specs.History.{History, state_at}
+use Rattle.txc_cushion.specs.declared.pin.Pin.{Pin}
+use Rattle.txc_shared.specs.Eval.{Next}
+use Rattle.txc_ports.specs.Answers.{AreConsistent, IsFresh}
+use Rattle.txc_world.specs.declared.actor.Actor.{Actor}
+use Rattle.txc_world.specs.declared.settings.WorldSettings.{WorldSettings}
+use Rattle.txc_world.specs.declared.reply.Refusal.{Refusal}
+use Rattle.txc_world.specs.declared.reply.Refusal.TheVariants.{NoActor, NotOpen}
+use Rattle.txc_world.specs.Told.{Reading, Story, idle, reading, leaving, Told}
+use Rattle.txc_world.specs.Ports.{PortsValue, whole_of}
+use Rattle.txc_world.specs.Actors.{story_at, IsThere}
+
+-- its settings, its history, the stamps of the pins that its keeper has yet to add, and what each actor has
+-- open
+abbrev pub told_of : {A C : Type 0} → WorldSettings → PortsValue → List (Option (Actor A C)) → Told
+told_of settings ports actors = record {
+  settings = settings;
+  history = ports.database.history;
+  spare = map (λ p. p.stamp) ports.spare;
+  actors = map story_at actors;
+}
+
+-- what is true of every world: it has the nodes of its settings, at least one; each actor has its pass
+-- through each; and no actor is in the middle of a step
+pub record IsWorld {A C : Type 0} (settings : WorldSettings) (ports : PortsValue)
+    (actors : List (Option (Actor A C))) : Type 0 where
+  pub nodes : length ports.nodes ≡ settings.nodes
+  pub some : 1 ≤ settings.nodes
+  pub passes : length actors ≡ ports.actors
+  pub there : All (IsThere (whole_of ports) settings.nodes) actors
+
+-- ---- pin sets
+
+-- the refusal of the pins of an actor, if one is due: there is no such actor, or it has no transaction open
+abbrev pub due_of_pins : Option Story → Option Refusal
+due_of_pins None = Some NoActor
+due_of_pins (Some idle) = Some NotOpen
+due_of_pins (Some (reading r)) = None
+due_of_pins (Some (leaving stamp)) = Some NotOpen
+
+-- Where a transaction may still be serialised: at the present or at a member; and each member is a pin that
+-- the bounds allow, at which each answer is what its call comes to without a cache.
+pub record AreMembersOf (next : Next) (L : History) (r : Reading) (has_present : Bool)
+    (members : List Pin) : Type 0 where
+  pub some : members ≡ [] → has_present ≡ true
+  pub fresh : All (IsFresh L r.bounds) members
+  pub consistent : All (λ m. AreConsistent next r.answers (state_at L m.stamp)) members

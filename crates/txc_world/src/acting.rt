@@ -1,0 +1,404 @@
+//! What an actor does, each kind of step by itself.
+ghost use Rattle.std.specs.Prelude.{◌≡◌, ◌≤◌, ◌<◌, All, IfOk, None, Some, length, map};
+ghost use Rattle.std.specs.Option.{ForSome};
+ghost use Rattle.txc_registry.specs.Objects.{AllIdle, Objects};
+ghost use Rattle.txc_shared.specs.Eval.{Next};
+ghost use Rattle.txc_txn.specs.Core.{left_pin, open_call, recorded_after, value_of, CoreHolds, IsAsk, IsAsking, IsCore, IsTurn};
+ghost use Rattle.txc_world.specs.Actors.{counted, holds_any, story_of, AddsPart, BeginLeads, HasAsked, HasBegun, HasGivenBack, HasStarted, IsActor, IsBegun, IsCallTurn, IsNoted, IsOpenTxn, RequestLeads};
+ghost use Rattle.txc_world.specs.Parts.{IsPartOf};
+ghost use Rattle.txc_world.specs.Ports.{whole_of, KeepsRow};
+ghost use Rattle.txc_world.specs.Told.{act_in, did_in, idle, leaving, story_after, IsActDue, IsActReply, IsNoReceipt, ReplyExplains};
+
+use crate::actor::{Actor, OpenCall, OpenTxn};
+use crate::asked::Asked;
+use crate::did::Did;
+use crate::ports::Ports;
+use crate::reply::{End, Refusal, Reply};
+use crate::step::Act;
+use std::alloc::{AllocError, Global};
+use txc_cushion::Pin;
+use txc_ports::{Bounds, PortRequest, Turn};
+use txc_registry::{Cacheable, Registry};
+use txc_shared::App;
+use txc_stamp::{Reach, Stamp};
+use txc_tags::Key;
+use txc_txn::{RunningTxn, TxnCore};
+
+// A core with the pins that it is handed. Out of memory, they are given back.
+fn begun<A: App>(
+    alloc: Global,
+    ports: &mut Ports<A>,
+    renew_after: u64,
+    bounds: Bounds,
+) -> Result<TxnCore, AllocError>
+    requires { 1 ≤ length ports.old.nodes }
+    ensures fits { IfOk result (λ core. (next : Next) (objects : Objects) → AllIdle objects
+        → IsCore next objects (value_of core)) }
+    ensures holds { IfOk result (λ core. (next : Next) (objects : Objects)
+        → CoreHolds next (value_of core).seen.history objects (value_of core)) }
+    ensures core { IfOk result (λ core. IsBegun (whole_of ports.new) (length ports.new.nodes) bounds
+        (value_of core)) }
+    ensures begins { IfOk result (λ core. HasBegun renew_after bounds ports.old ports.new (value_of core)) }
+    ensures same { ports.new ≡ record ports.old { cushion = ports.new.cushion } }
+{
+    let nodes = ports.len();
+    let pins = ports.fresh(alloc, bounds.now, bounds.staleness, bounds.at_least)?;
+    match TxnCore::begin(alloc, nodes, renew_after, bounds, pins) {
+        Ok(core) => Ok(core),
+        Err(pins) => {
+            ports.give_back_pins(&pins);
+            Err(AllocError)
+        }
+    }
+}
+
+// Begins a transaction, or leaves nothing open.
+fn begin_ro<A: App, C: Cacheable>(
+    alloc: Global,
+    ports: &mut Ports<A>,
+    renew_after: u64,
+    registry: Registry<A, C>,
+    bounds: Bounds,
+) -> (Actor<A, C>, Reply)
+    requires idle { AllIdle registry }
+    requires nodes { 1 ≤ length ports.old.nodes }
+    ensures fits { IsActor (whole_of ports.new) (length ports.new.nodes) result.0 }
+    ensures told { story_of result.0 ≡ story_after (Act.BeginRo bounds) result.1 idle }
+    ensures due { IsActReply (Act.BeginRo bounds) result.1 }
+    ensures leads { BeginLeads renew_after bounds ports.old ports.new result.0 result.1 }
+    ensures same { ports.new ≡ record ports.old { cushion = ports.new.cushion } }
+{
+    match begun(alloc, ports, renew_after, bounds) {
+        Ok(core) => {
+            let txn = RunningTxn::new(core, registry);
+            (Actor::Reading(OpenTxn { txn, call: None }), Reply::Begun)
+        }
+        Err(_) => (Actor::Idle(registry), Reply::Refused(Refusal::Memory)),
+    }
+}
+
+// Starts a call. It asks for nothing yet, and is open even where it has ended at once.
+fn start<A: App, C: Cacheable>(
+    alloc: Global,
+    whole: &Ports<A>,
+    current: OpenTxn<A, C>,
+    key: &Key,
+) -> (Actor<A, C>, Reply)
+    requires { IsOpenTxn (whole_of whole.now) (length whole.now.nodes) current }
+    ensures fits { IsActor (whole_of whole.now) (length whole.now.nodes) result.0 }
+    ensures told { story_of result.0
+        ≡ story_after (Act.Start key.now) result.1 (story_of (Actor.Reading current)) }
+    ensures due { IsActDue (story_of (Actor.Reading current)) (Act.Start key.now) result.1 }
+    ensures leads { current.call ≡ None → HasStarted key.now current.txn result.0 }
+{
+    let mut current = current;
+    if current.call.is_some() {
+        return (Actor::Reading(current), Reply::Refused(Refusal::MidCall));
+    }
+    let turn = current.txn.start(alloc, key.copy());
+    current.call = Some(OpenCall {
+        key: key.copy(),
+        turn,
+    });
+    (Actor::Reading(current), Reply::Started)
+}
+
+// What the port did, but that a hit which holds no member is a miss.
+fn counted(did: Did, members: &[Pin]) -> Did
+    ensures { result ≡ counted members.now did }
+{
+    match did {
+        Did::Hit(reach) if !holds_any(reach, members) => Did::Miss,
+        did => did,
+    }
+}
+
+// Whether the reach holds one of the members.
+fn holds_any(reach: Reach, members: &[Pin]) -> bool
+    ensures { result ≡ holds_any reach members.now }
+{
+    members.iter().any(|pin| reach.holds(pin.stamp))
+}
+
+/// What a request did, and what the transaction does next.
+#[derive(Drop)]
+struct Went {
+    did: Did,
+    turn: Turn,
+}
+
+// Asks the port, and goes on with the reply.
+fn go_on<A: App, C: Cacheable>(
+    alloc: Global,
+    ports: &mut Ports<A>,
+    pass: usize,
+    txn: &mut RunningTxn<A, C>,
+    request: PortRequest,
+) -> Went
+    requires own { pass < ports.old.actors }
+    requires asks { IsAsking txn.old.core request }
+    requires seen { IsPartOf (whole_of ports.old) txn.old.core.seen }
+    requires nodes { txn.old.core.nodes ≡ length ports.old.nodes }
+    requires adds { AddsPart (whole_of ports.old) (Turn.Ask request) }
+    ensures asks { HasAsked A.next request ports.old ports.new txn.old txn.new result.did result.turn }
+    ensures turn { IsTurn txn.new.core result.turn }
+    ensures goes_on { IsAsk result.turn → open_call txn.new.core ≡ open_call txn.old.core }
+    ensures recorded { txn.new.core.recorded
+        ≡ recorded_after txn.old.core.recorded result.turn (open_call txn.old.core) }
+    ensures bounds { txn.new.core.bounds ≡ txn.old.core.bounds }
+    ensures seen { IsPartOf (whole_of ports.new) txn.new.core.seen }
+    ensures nodes { txn.new.core.nodes ≡ length ports.new.nodes }
+    ensures adds { AddsPart (whole_of ports.new) result.turn }
+    ensures history { ports.new.database.history
+        ≡ did_in result.did txn.old.core.bounds.now ports.old.database.history }
+    ensures keeps { KeepsRow ports.old ports.new }
+    ensures spare { ports.new.spare ≡ ports.old.spare }
+{
+    txn.is_kept();
+    let Asked { did, reply } = ports.ask(alloc, pass, txn.core().seen(), request);
+    let did = counted(did, txn.core().members());
+    let turn = txn.next(alloc, reply);
+    Went { did, turn }
+}
+
+// How the call stands at this turn: it is open still, or has ended.
+fn note(key: Key, turn: Turn) -> (Option<OpenCall>, Option<End>)
+    requires { IsCallTurn turn }
+    ensures { IsNoted key turn result.0 result.1 }
+{
+    match turn {
+        Turn::Ask(request) => {
+            let turn = Turn::Ask(request);
+            (Some(OpenCall { key, turn }), None)
+        }
+        Turn::Value(value) => (None, Some(End::Value(value))),
+        Turn::Refused(error) => (None, Some(End::Refused(error))),
+        _ => unreachable!(),
+    }
+}
+
+// Makes the next request of the open call. A call that ended before any is told so by its first request.
+fn request_call<A: App, C: Cacheable>(
+    alloc: Global,
+    ports: &mut Ports<A>,
+    pass: usize,
+    current: OpenTxn<A, C>,
+) -> (Actor<A, C>, Reply)
+    requires own { pass < ports.old.actors }
+    requires fits { IsOpenTxn (whole_of ports.old) (length ports.old.nodes) current }
+    ensures fits { IsActor (whole_of ports.new) (length ports.new.nodes) result.0 }
+    ensures told { story_of result.0 ≡ story_after Act.Request result.1 (story_of (Actor.Reading current)) }
+    ensures due { IsActDue (story_of (Actor.Reading current)) Act.Request result.1 }
+    ensures history { ports.new.database.history
+        ≡ act_in Act.Request result.1 (story_of (Actor.Reading current)) ports.old.database.history }
+    ensures keeps { KeepsRow ports.old ports.new }
+    ensures spare { ports.new.spare ≡ ports.old.spare }
+    ensures no_receipt { IsNoReceipt result.1 }
+    ensures leads { ForSome current.call (λ call.
+        RequestLeads A.next call.key call.turn ports.old ports.new current.txn result.0 result.1) }
+{
+    let OpenTxn { txn, call } = current;
+    let Some(OpenCall { key, turn }) = call else {
+        return (
+            Actor::Reading(OpenTxn { txn, call: None }),
+            Reply::Refused(Refusal::NoRequest),
+        );
+    };
+    let mut txn = txn;
+    match turn {
+        Turn::Ask(request) => {
+            let Went { did, turn } = go_on(alloc, ports, pass, &mut txn, request);
+            let (call, end) = note(key, turn);
+            (
+                Actor::Reading(OpenTxn { txn, call }),
+                Reply::Asked(did, end),
+            )
+        }
+        Turn::Refused(error) => {
+            let end = End::Refused(error);
+            (
+                Actor::Reading(OpenTxn { txn, call: None }),
+                Reply::Ended(end),
+            )
+        }
+        _ => unreachable!(),
+    }
+}
+
+// Takes the hold away that is left, and has nothing open then.
+fn leave<A: App, C: Cacheable>(
+    ports: &mut Ports<A>,
+    registry: Registry<A, C>,
+    stamp: Stamp,
+) -> (Actor<A, C>, Reply)
+    requires { AllIdle registry }
+    ensures fits { IsActor (whole_of ports.new) (length ports.new.nodes) result.0 }
+    ensures told { story_of result.0 ≡ story_after Act.Request result.1 (leaving stamp) }
+    ensures due { IsActDue (leaving stamp) Act.Request result.1 }
+    ensures history { ports.new.database.history ≡ ports.old.database.history }
+    ensures keeps { KeepsRow ports.old ports.new }
+    ensures spare { ports.new.spare ≡ ports.old.spare }
+    ensures no_receipt { IsNoReceipt result.1 }
+{
+    let did = match ports.unpin(stamp) {
+        Ok(()) => Did::Unpinned,
+        Err(error) => Did::Refused(error),
+    };
+    (Actor::Idle(registry), Reply::Asked(did, None))
+}
+
+// Ends the transaction with its receipt, and gives its pins back.
+fn commit<A: App, C: Cacheable>(
+    ports: &mut Ports<A>,
+    current: OpenTxn<A, C>,
+) -> (Actor<A, C>, Reply)
+    requires { IsOpenTxn (whole_of ports.old) (length ports.old.nodes) current }
+    ensures fits { IsActor (whole_of ports.new) (length ports.new.nodes) result.0 }
+    ensures told { story_of result.0 ≡ story_after Act.Commit result.1 (story_of (Actor.Reading current)) }
+    ensures due { IsActDue (story_of (Actor.Reading current)) Act.Commit result.1 }
+    ensures explained { ReplyExplains A.next ports.old.database.history (story_of (Actor.Reading current))
+        result.1 }
+    ensures same { ports.new ≡ record ports.old { cushion = ports.new.cushion } }
+    ensures gives_back { current.call ≡ None → HasGivenBack current.txn.core.taken ports.old ports.new }
+{
+    let OpenTxn { txn, call } = current;
+    if call.is_some() {
+        return (
+            Actor::Reading(OpenTxn { txn, call }),
+            Reply::Refused(Refusal::MidCall),
+        );
+    }
+    let (receipt, pins, registry) = txn.finish();
+    let _ = ports.give_back(&pins);
+    (Actor::Idle(registry), Reply::Receipt(receipt.pin))
+}
+
+// Gives the transaction up, in the middle of a call too, and its pins back.
+fn abort<A: App, C: Cacheable>(ports: &mut Ports<A>, current: OpenTxn<A, C>) -> (Actor<A, C>, Reply)
+    ensures fits { IsActor (whole_of ports.new) (length ports.new.nodes) result.0 }
+    ensures told { story_of result.0 ≡ story_after Act.Abort result.1 (story_of (Actor.Reading current)) }
+    ensures due { IsActDue (story_of (Actor.Reading current)) Act.Abort result.1 }
+    ensures left { result.1 ≡ Reply.Aborted (left_pin current.txn.core.pinning) }
+    ensures same { ports.new ≡ record ports.old { cushion = ports.new.cushion } }
+    ensures gives_back { HasGivenBack current.txn.core.taken ports.old ports.new }
+    ensures no_receipt { IsNoReceipt result.1 }
+{
+    let (left, registry) = current.txn.cancel();
+    let _ = ports.give_back(&left.give_back);
+    let actor = match left.unpin {
+        Some(stamp) => Actor::Leaving(registry, stamp),
+        None => Actor::Idle(registry),
+    };
+    (actor, Reply::Aborted(left.unpin))
+}
+
+// What an actor does that has nothing open.
+fn act_idle<A: App, C: Cacheable>(
+    alloc: Global,
+    ports: &mut Ports<A>,
+    renew_after: u64,
+    registry: Registry<A, C>,
+    act: &Act,
+) -> (Actor<A, C>, Reply)
+    requires idle { AllIdle registry }
+    requires nodes { 1 ≤ length ports.old.nodes }
+    ensures fits { IsActor (whole_of ports.new) (length ports.new.nodes) result.0 }
+    ensures told { story_of result.0 ≡ story_after act.now result.1 idle }
+    ensures due { IsActDue idle act.now result.1 }
+    ensures same { ports.new ≡ record ports.old { cushion = ports.new.cushion } }
+    ensures no_receipt { IsNoReceipt result.1 }
+{
+    match act {
+        Act::BeginRo(bounds) => begin_ro(alloc, ports, renew_after, registry, *bounds),
+        _ => (Actor::Idle(registry), Reply::Refused(Refusal::NotOpen)),
+    }
+}
+
+// What an actor does that has a transaction open.
+fn act_open<A: App, C: Cacheable>(
+    alloc: Global,
+    ports: &mut Ports<A>,
+    pass: usize,
+    current: OpenTxn<A, C>,
+    act: &Act,
+) -> (Actor<A, C>, Reply)
+    requires own { pass < ports.old.actors }
+    requires fits { IsOpenTxn (whole_of ports.old) (length ports.old.nodes) current }
+    ensures fits { IsActor (whole_of ports.new) (length ports.new.nodes) result.0 }
+    ensures told { story_of result.0 ≡ story_after act.now result.1 (story_of (Actor.Reading current)) }
+    ensures due { IsActDue (story_of (Actor.Reading current)) act.now result.1 }
+    ensures history { ports.new.database.history
+        ≡ act_in act.now result.1 (story_of (Actor.Reading current)) ports.old.database.history }
+    ensures explained { ReplyExplains A.next ports.old.database.history (story_of (Actor.Reading current))
+        result.1 }
+    ensures keeps { KeepsRow ports.old ports.new }
+    ensures spare { ports.new.spare ≡ ports.old.spare }
+{
+    match act {
+        Act::BeginRo(_) => (
+            Actor::Reading(current),
+            Reply::Refused(Refusal::AlreadyOpen),
+        ),
+        Act::Start(key) => start(alloc, ports, current, key),
+        Act::Request => request_call(alloc, ports, pass, current),
+        Act::Commit => commit(ports, current),
+        Act::Abort => abort(ports, current),
+    }
+}
+
+// What an actor does that has a hold left to take away.
+fn act_leaving<A: App, C: Cacheable>(
+    ports: &mut Ports<A>,
+    registry: Registry<A, C>,
+    stamp: Stamp,
+    act: &Act,
+) -> (Actor<A, C>, Reply)
+    requires { AllIdle registry }
+    ensures fits { IsActor (whole_of ports.new) (length ports.new.nodes) result.0 }
+    ensures told { story_of result.0 ≡ story_after act.now result.1 (leaving stamp) }
+    ensures due { IsActDue (leaving stamp) act.now result.1 }
+    ensures history { ports.new.database.history ≡ ports.old.database.history }
+    ensures keeps { KeepsRow ports.old ports.new }
+    ensures spare { ports.new.spare ≡ ports.old.spare }
+    ensures no_receipt { IsNoReceipt result.1 }
+{
+    match act {
+        Act::Request => leave(ports, registry, stamp),
+        Act::BeginRo(_) => (
+            Actor::Leaving(registry, stamp),
+            Reply::Refused(Refusal::AlreadyOpen),
+        ),
+        _ => (
+            Actor::Leaving(registry, stamp),
+            Reply::Refused(Refusal::NotOpen),
+        ),
+    }
+}
+
+/// One step of an actor.
+pub(crate) fn act<A: App, C: Cacheable>(
+    alloc: Global,
+    ports: &mut Ports<A>,
+    renew_after: u64,
+    pass: usize,
+    actor: Actor<A, C>,
+    act: &Act,
+) -> (Actor<A, C>, Reply)
+    requires own { pass < ports.old.actors }
+    requires nodes { 1 ≤ length ports.old.nodes }
+    requires fits { IsActor (whole_of ports.old) (length ports.old.nodes) actor }
+    ensures fits { IsActor (whole_of ports.new) (length ports.new.nodes) result.0 }
+    ensures told { story_of result.0 ≡ story_after act.now result.1 (story_of actor) }
+    ensures due { IsActDue (story_of actor) act.now result.1 }
+    ensures history { ports.new.database.history
+        ≡ act_in act.now result.1 (story_of actor) ports.old.database.history }
+    ensures explained { ReplyExplains A.next ports.old.database.history (story_of actor) result.1 }
+    ensures keeps { KeepsRow ports.old ports.new }
+    ensures spare { ports.new.spare ≡ ports.old.spare }
+{
+    match actor {
+        Actor::Idle(registry) => act_idle(alloc, ports, renew_after, registry, act),
+        Actor::Reading(current) => act_open(alloc, ports, pass, current, act),
+        Actor::Leaving(registry, stamp) => act_leaving(ports, registry, stamp, act),
+    }
+}

@@ -1,0 +1,73 @@
+//! What an actor has open.
+ghost use Rattle.std.specs.Prelude.{◌≡◌, ◌<◌, map, None, Some, slice_get, slice_set, vec_len, IfOk};
+
+use std::alloc::{AllocError, Global};
+use std::mem;
+use txc_ports::Turn;
+use txc_registry::{Cacheable, Registry};
+use txc_shared::App;
+use txc_stamp::Stamp;
+use txc_tags::Key;
+use txc_txn::RunningTxn;
+
+/// A call that did not end for its caller yet: its key, and what it does next.
+#[derive(Drop)]
+pub(crate) struct OpenCall {
+    pub key: Key,
+    pub turn: Turn,
+}
+
+/// A read-only transaction, and its call, where one is open.
+#[derive(Drop)]
+pub(crate) struct OpenTxn<A: App, C: Cacheable> {
+    pub txn: RunningTxn<A, C>,
+    pub call: Option<OpenCall>,
+}
+
+/// An actor, with the registry of its functions.
+#[derive(Drop)]
+pub(crate) enum Actor<A: App, C: Cacheable> {
+    /// It has nothing open.
+    Idle(Registry<A, C>),
+    Reading(OpenTxn<A, C>),
+    /// It gave a transaction up, and has the hold of the stamp still to take away.
+    Leaving(Registry<A, C>, Stamp),
+}
+
+/// Takes an actor out of its place, which is empty until it is put back.
+pub(crate) fn take_out<A: App, C: Cacheable>(
+    actors: &mut Vec<Option<Actor<A, C>>>,
+    place: usize,
+) -> Option<Actor<A, C>>
+    requires { place < vec_len actors.old }
+    ensures actor { slice_get actors.old.items place ≡ Some result }
+    ensures after { actors.new.items ≡ slice_set actors.old.items place None }
+{
+    mem::replace(&mut actors[place], None)
+}
+
+/// Puts an actor at its place.
+pub(crate) fn put_back<A: App, C: Cacheable>(
+    actors: &mut Vec<Option<Actor<A, C>>>,
+    place: usize,
+    actor: Actor<A, C>,
+)
+    requires { place < vec_len actors.old }
+    ensures { actors.new.items ≡ slice_set actors.old.items place (Some actor) }
+{
+    actors[place] = Some(actor);
+}
+
+/// Actors with nothing open, one for each registry.
+pub(crate) fn idle_actors<A: App, C: Cacheable>(
+    alloc: Global,
+    registries: Vec<Registry<A, C>>,
+) -> Result<Vec<Option<Actor<A, C>>>, AllocError>
+    ensures { IfOk result (λ actors. actors.items
+        ≡ map (λ registry. Some (Actor.Idle registry)) registries.items) }
+{
+    registries
+        .into_iter()
+        .map(|registry| Some(Actor::Idle(registry)))
+        .collect(alloc)
+}

@@ -1,0 +1,9 @@
+use crate::did::Did;
+use txc_ports::PortReply;
+
+/// What a port did at a request of a transaction, and its reply.
+#[derive(Drop)]
+pub(crate) struct Asked {
+    pub(crate) did: Did,
+    pub(crate) reply: PortReply,
+}

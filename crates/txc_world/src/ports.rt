@@ -1,0 +1,211 @@
+//! The plain ports of a world.
+ghost use Rattle.std.specs.Prelude.{◌≡◌, false, ◌≤◌, ◌<◌, length, IfSome, IfOk, OnErr, slice_get, Some, All};
+ghost use Rattle.std.specs.Option.{option_map};
+ghost use Rattle.txc_shared.specs.Claims.{IsTrueIn};
+ghost use Rattle.txc_shared.specs.Nodes.{entry_shown};
+
+use crate::nodes;
+use std::alloc::{AllocError, Global};
+use std::marker::Model;
+use txc_cushion::{AddError, CushionCore, Pins};
+use txc_db::{Answered, DbCore, DbError, HistoryFront, Pinned};
+use txc_node::{Entry, Shown};
+use txc_rows::Query;
+use txc_shared::laws::found_rows_give_true_entries;
+use txc_shared::{App, Finding, Insertion, StoredNode};
+use txc_stamp::Stamp;
+use txc_tags::Key;
+use txc_validity::Found;
+
+/// The database, the pincushion and the nodes of a world, and the pins that its keeper has and did not add
+/// yet.
+///
+/// What each of them shows of the history is part of the database's. Each actor has a pass through each
+/// node, by the actor's number, and the keeper has the last one.
+#[derive(Drop)]
+pub(crate) struct Ports<A: App> {
+    pub(crate) database: DbCore,
+    pub(crate) cushion: CushionCore,
+    pub(crate) nodes: Vec<StoredNode<A>>,
+    pub(crate) spare: Vec<Pinned>,
+    pub(crate) actors: usize,
+    // The database's newest stamp.
+    pub(crate) newest: Stamp,
+}
+
+impl<A: App> Model for Ports<A> {
+    ghost use Rattle.std.specs.Prelude.{◌≡◌, length};
+    ghost use Rattle.txc_world.specs.Ports.{PortsValue, ArePorts};
+
+    ghost Value = { PortsValue };
+
+    ghost view = { λ p. record {
+      database = p.database;
+      cushion = p.cushion;
+      nodes = p.nodes.items;
+      spare = p.spare.items;
+      actors = p.actors;
+    } };
+
+    ghost invariant = { λ p. (p.newest ≡ length p.database.history) × ArePorts (record {
+      database = p.database;
+      cushion = p.cushion;
+      nodes = p.nodes.items;
+      spare = p.spare.items;
+      actors = p.actors;
+    }) };
+}
+
+impl<A: App> Ports<A> {
+    ghost use Rattle.txc_ports.specs.Answers.{IsFresh};
+    ghost use Rattle.txc_world.specs.Asks.{AddLeads, FindLeads, FreshLeads, PinLeads, UnpinLeads};
+    ghost use Rattle.txc_world.specs.NodeSteps.{InsertLeads, LookupLeads};
+    ghost use Rattle.txc_world.specs.Parts.{IsPartOf};
+    ghost use Rattle.txc_world.specs.Ports.{whole_of, HasLedNode, KeepsRow};
+
+    /// How many nodes there are.
+    pub(crate) fn len(&self) -> usize
+        ensures { result ≡ length self.now.nodes }
+    {
+        self.nodes.len()
+    }
+
+    /// One of the nodes.
+    pub(crate) fn node(&self, at: usize) -> &StoredNode<A>
+        requires { at < length self.now.nodes }
+        ensures there { slice_get self.now.nodes at ≡ Some result.now }
+        ensures seen { result.now.broken ≡ false → IsPartOf (whole_of self.now) result.now.seen }
+    {
+        &self.nodes[at]
+    }
+
+    /// Pins the present, with this moment.
+    pub(crate) fn pin(
+        &mut self,
+        alloc: Global,
+        now: u64,
+        at_least: Stamp,
+    ) -> Result<Pinned, DbError>
+        ensures leads { PinLeads now at_least self.old self.new result }
+        ensures keeps { KeepsRow self.old self.new }
+    {
+        let pinned = self.database.pin(alloc, now, at_least)?;
+        self.newest = pinned.stamp;
+        Ok(pinned)
+    }
+
+    /// Adds a pin to the pincushion.
+    pub(crate) fn add(&mut self, pinned: &Pinned) -> Result<(), AddError>
+        requires { IsPartOf (whole_of self.old) pinned.now.front }
+        ensures leads { AddLeads pinned.now self.old self.new result }
+        ensures keeps { KeepsRow self.old self.new }
+    {
+        match self.cushion.add(pinned) {
+            Ok(()) => Ok(()),
+            Err(refusal) => Err(refusal),
+        }
+    }
+
+    /// Takes one hold of the stamp away.
+    pub(crate) fn unpin(&mut self, stamp: Stamp) -> Result<(), DbError>
+        ensures leads { UnpinLeads stamp self.old self.new result }
+        ensures same { self.new ≡ record self.old { database = self.new.database } }
+        ensures history { self.new.database.history ≡ self.old.database.history }
+        ensures keeps { KeepsRow self.old self.new }
+    {
+        match self.database.unpin(stamp) {
+            Ok(()) => Ok(()),
+            Err(refusal) => Err(refusal),
+        }
+    }
+
+    /// The answer of the query at the stamp, with a front of the whole history.
+    pub(crate) fn find(
+        &mut self,
+        alloc: Global,
+        query: &Query,
+        stamp: Stamp,
+    ) -> Result<Answered<Found>, DbError>
+        ensures same { self.new ≡ self.old }
+        ensures leads { FindLeads query.now stamp self.old result }
+    {
+        found_rows_give_true_entries();
+        let answer = self.database.query(alloc, query, stamp)?;
+        let front = self.database.front(alloc)?;
+        Ok(Answered { answer, front })
+    }
+
+    /// What the node has of the call, as a step of the pass. A node that refuses has nothing.
+    pub(crate) fn look_up(
+        &mut self,
+        alloc: Global,
+        pass: usize,
+        at: usize,
+        key: &Key,
+        lo: Stamp,
+        hi: Stamp,
+    ) -> Option<Answered<Shown>>
+        requires node { at < length self.old.nodes }
+        requires own { pass ≤ self.old.actors }
+        ensures leads { HasLedNode at (λ was is.
+            LookupLeads pass key.now lo hi was is (option_map (λ hit. hit.answer) result)) self.old self.new }
+        ensures right { IfSome result (λ hit.
+            IsTrueIn A.next hit.front.history (entry_shown key.now hit.answer)) }
+        ensures part { IfSome result (λ hit. IsPartOf (whole_of self.old) hit.front) }
+        ensures keeps { KeepsRow self.old self.new }
+    {
+        let node = &mut self.nodes[at];
+        nodes::look_up(alloc, node, pass, key, lo, hi)
+    }
+
+    /// Gives the node an entry to keep, as a step of the pass. A node that refuses keeps nothing.
+    pub(crate) fn insert(
+        &mut self,
+        alloc: Global,
+        pass: usize,
+        at: usize,
+        entry: Entry,
+        seen: &HistoryFront,
+    ) -> Option<Insertion>
+        requires node { at < length self.old.nodes }
+        requires own { pass ≤ self.old.actors }
+        requires seen { IsPartOf (whole_of self.old) seen.now }
+        requires is_true { IsTrueIn A.next seen.now.history entry }
+        ensures leads { HasLedNode at (λ was is.
+            InsertLeads pass seen.now entry was is result) self.old self.new }
+        ensures keeps { KeepsRow self.old self.new }
+    {
+        let Ok(front) = seen.again(alloc) else {
+            return None;
+        };
+        let node = &mut self.nodes[at];
+        nodes::insert(alloc, node, pass, Finding::new(entry, front))
+    }
+
+    /// The newest of the pins that the bounds allow, each with one user more.
+    pub(crate) fn fresh(
+        &mut self,
+        alloc: Global,
+        now: u64,
+        staleness: u64,
+        at_least: Stamp,
+    ) -> Result<Pins, AllocError>
+        ensures leads { FreshLeads now staleness at_least self.old self.new result }
+        ensures part { IfOk result (λ pins. IsPartOf (whole_of self.old) pins.front) }
+        ensures allowed { IfOk result (λ pins. All (IsFresh pins.front.history
+            (record { now = now; staleness = staleness; at_least = at_least })) pins.pins.items) }
+        ensures same { self.new ≡ record self.old { cushion = self.new.cushion } }
+    {
+        let pins = self.cushion.fresh(alloc, now, staleness, at_least)?;
+        Ok(pins)
+    }
+
+    /// Gives one user of each of the pins back. It takes no memory.
+    pub(crate) fn give_back_pins(&mut self, pins: &Pins)
+        ensures { self.new ≡ record self.old { cushion = self.new.cushion } }
+    {
+        for pin in &pins.pins {
+            let _ = self.give_back(&[pin.stamp]);
+        }
+    }
+}

@@ -1,0 +1,92 @@
+//! What the steps of a world are replied.
+use crate::did::{Did, RowsFound};
+use std::alloc::AllocError;
+use thiserror::Error;
+use txc_cushion::{AddError, Pin, UnknownPin};
+use txc_db::DbError;
+use txc_node::Value;
+use txc_ports::TxnError;
+use txc_shared::{Advanced, NodeError};
+use txc_stamp::Stamp;
+
+/// How a call ended.
+#[derive(Debug, Drop)]
+pub enum End {
+    Value(Value),
+    Refused(TxnError),
+}
+
+/// Why a step was refused. The first six are the world's own: they come before any other, in this order, and
+/// change nothing.
+#[derive(Clone, Copy, Debug, PartialEq, Eq, Error)]
+pub enum Refusal {
+    #[error("there is no such actor")]
+    NoActor,
+    #[error("there is no such node")]
+    NoNode,
+    /// The actor has a transaction open, or has the hold of one still to take away.
+    #[error("a transaction is open already")]
+    AlreadyOpen,
+    #[error("no transaction is open")]
+    NotOpen,
+    #[error("the transaction is in the middle of a call")]
+    MidCall,
+    /// The actor has no call open; or the keeper has no such pin to add.
+    #[error("there is no request to make")]
+    NoRequest,
+    #[error("{0}")]
+    Database(DbError),
+    #[error("{0}")]
+    Pincushion(AddError),
+    #[error("{0}")]
+    GiveBack(UnknownPin),
+    #[error("{0}")]
+    Node(NodeError),
+    /// A growth was refused.
+    #[error("out of memory")]
+    Memory,
+}
+
+impl From<AllocError> for Refusal {
+    ghost use Rattle.std.specs.Prelude.{◌≡◌};
+    ghost use Rattle.txc_world.specs.declared.reply.Refusal.TheVariants.{Memory};
+
+    ghost from_gives = { λ _ it. it ≡ Memory };
+
+    fn from(_: AllocError) -> Refusal {
+        Refusal::Memory
+    }
+}
+
+/// What a step did.
+#[derive(Drop)]
+pub enum Reply {
+    /// A transaction is open.
+    Begun,
+    /// A call is open.
+    Started,
+    /// What the port did that was asked, and how the call ended, where it ended with this.
+    Asked(Did, Option<End>),
+    /// How the call ended, where it ended before any request.
+    Ended(End),
+    /// The pin of the stamp at which every answer of the transaction is right; none where no call was
+    /// answered.
+    Receipt(Option<Pin>),
+    /// The transaction was given up. The hold of this stamp, if there is one, is still to be taken away by
+    /// one request.
+    Aborted(Option<Stamp>),
+    /// The newest stamp, after a commit or a pin of the keeper.
+    At(Stamp),
+    Added,
+    GivenBack,
+    /// The stamps of the pins that were taken out, the least first.
+    Retired(Vec<Stamp>),
+    Unpinned,
+    /// The horizon.
+    Vacuumed(Stamp),
+    Rows(RowsFound),
+    Advanced(Advanced),
+    /// How many entries were dropped.
+    Swept(usize),
+    Refused(Refusal),
+}

@@ -1,0 +1,175 @@
+//! Every interleaving of the steps of actors and of the keeper.
+ghost use Rattle.std.specs.Prelude.{◌≡◌, ◌<◌, ◌≤◌, [], false, length, map, slice_get, vec_len, All, Err, IfOk, IsOk, MatchOption, OnErr, Some};
+ghost use Rattle.txc_node.specs.declared.node.TheConstants.{MAX_CAPACITY, MAX_RECENT};
+ghost use Rattle.txc_stream.specs.declared.row.TheConstants.{MAX_CAPACITY as MAX_ROW};
+ghost use Rattle.txc_shared.specs.declared.log.TheConstants.{MAX_PASSES};
+ghost use Rattle.txc_shared.specs.Nodes.{start_of};
+ghost use Rattle.txc_shared.specs.Runs.{IsNode};
+ghost use Rattle.txc_registry.specs.Objects.{AllIdle};
+ghost use Rattle.txc_world.specs.Worlds.{due_of_pins, AreMembersOf};
+ghost use Rattle.txc_world.specs.Told.{after, idle, reading, told_by, AreDue, AreExplained, AreExplainedIn, IsDue, IsExplainedIn, Reading};
+
+use crate::acting::act;
+use crate::actor::{Actor, idle_actors, put_back, take_out};
+use crate::keeping::keep;
+use crate::ports::Ports;
+use crate::reply::{Refusal, Reply};
+use crate::settings::WorldSettings;
+use crate::step::{Act, Step};
+use std::alloc::{AllocError, Global};
+use std::marker::Model;
+use txc_cushion::Pin;
+use txc_db::DbError;
+use txc_registry::{Cacheable, Registry};
+use txc_shared::laws::nodes_go_on;
+use txc_shared::{App, StoredNode};
+
+/// Where a read-only transaction may still be serialised.
+#[derive(Clone, Copy, Debug)]
+pub struct Members<'a> {
+    /// Whether it may be serialised at the present still.
+    pub has_present: bool,
+    /// Its members, the newest first.
+    pub pins: &'a [Pin],
+}
+
+/// Actors, each with a registry of its own and a transaction that may be open, and the keeper, over one
+/// database, one pincushion and the nodes.
+///
+/// Contracts see what is told of it: its settings; its history; the stamps of the pins that the keeper has
+/// and did not add yet; and what each actor has open.
+#[derive(Drop)]
+pub struct World<A: App, C: Cacheable> {
+    settings: WorldSettings,
+    ports: Ports<A>,
+    // None but in the middle of a step of it.
+    actors: Vec<Option<Actor<A, C>>>,
+}
+
+impl<A: App, C: Cacheable> Model for World<A, C> {
+    ghost use Rattle.txc_world.specs.Told.{Told};
+    ghost use Rattle.txc_world.specs.Worlds.{told_of, IsWorld};
+
+    ghost Value = { Told };
+
+    ghost view = { λ w. told_of w.settings w.ports w.actors.items };
+
+    ghost invariant = { λ w. IsWorld w.settings w.ports w.actors.items };
+}
+
+impl<A: App, C: Cacheable> World<A, C> {
+    /// An empty history, an empty pincushion and empty nodes, and an actor for each registry, with nothing
+    /// open.
+    pub fn new(
+        alloc: Global,
+        settings: WorldSettings,
+        registries: Vec<Registry<A, C>>,
+    ) -> Result<World<A, C>, DbError>
+        requires capacity { (1 ≤ settings.capacity) × (settings.capacity ≤ MAX_CAPACITY) }
+        requires nodes { 1 ≤ settings.nodes }
+        requires recent { (1 ≤ settings.recent) × (settings.recent ≤ MAX_RECENT) }
+        requires row_cap { (1 ≤ settings.row_cap) × (settings.row_cap ≤ MAX_ROW) }
+        requires actors { vec_len registries < MAX_PASSES }
+        requires all_idle { All AllIdle registries.items }
+        ensures settings { IfOk result (λ world. world.settings ≡ settings) }
+        ensures history { IfOk result (λ world. world.history ≡ []) }
+        ensures spare { IfOk result (λ world. world.spare ≡ []) }
+        ensures actors { IfOk result (λ world. world.actors ≡ map (λ registry. idle) registries.items) }
+    {
+        let ports = Ports::new(alloc, &settings, registries.len())?;
+        let actors = idle_actors(alloc, registries)?;
+        Ok(World {
+            settings,
+            ports,
+            actors,
+        })
+    }
+
+    /// The members of the actor's read-only transaction, and whether the present is there.
+    pub fn pins(&self, place: usize) -> Result<Members<'_>, Refusal>
+        ensures due { MatchOption (due_of_pins (slice_get self.now.actors place)) (IsOk result)
+            (λ refusal. result ≡ Err refusal) }
+        ensures members { IfOk result (λ members. (r : Reading)
+            → slice_get self.now.actors place ≡ Some (reading r)
+            → AreMembersOf A.next self.now.history r members.has_present members.pins.now) }
+    {
+        let Some(Some(actor)) = self.actors.get(place) else {
+            return Err(Refusal::NoActor);
+        };
+        let Actor::Reading(current) = actor else {
+            return Err(Refusal::NotOpen);
+        };
+        current.txn.is_kept();
+        let core = current.txn.core();
+        Ok(Members {
+            has_present: core.has_present(),
+            pins: core.members(),
+        })
+    }
+
+    /// A node, as it is between two steps. Unless it is broken, each result that it holds is true in the
+    /// history, and it is what a legal history of records leaves, whose events are those of the history.
+    pub fn node(&self, at: usize) -> &StoredNode<A>
+        requires { at < self.now.settings.nodes }
+        ensures { result.now.broken ≡ false → IsNode A.next self.now.history (start_of result.now.settings)
+            result.now.records result.now.cache false }
+    {
+        nodes_go_on();
+        let node = self.ports.node(at);
+        node.is_sound();
+        node
+    }
+
+    // One step of an actor.
+    fn act(&mut self, alloc: Global, place: usize, doing: &Act) -> Reply
+        ensures told { self.new ≡ after self.old (Step.Actor place doing.now) result }
+        ensures due { IsDue self.old (Step.Actor place doing.now) result }
+        ensures explained { IsExplainedIn A.next self.old.history self.old (Step.Actor place doing.now) result }
+    {
+        if place >= self.actors.len() {
+            return Reply::Refused(Refusal::NoActor);
+        }
+        let Some(actor) = take_out(&mut self.actors, place) else {
+            unreachable!();
+        };
+        let renew_after = self.settings.renew_after;
+        let (actor, reply) = act(alloc, &mut self.ports, renew_after, place, actor, doing);
+        put_back(&mut self.actors, place, actor);
+        reply
+    }
+
+    // One step.
+    fn step(&mut self, alloc: Global, step: &Step) -> Reply
+        ensures told { self.new ≡ after self.old step.now result }
+        ensures due { IsDue self.old step.now result }
+        ensures explained { IsExplainedIn A.next self.old.history self.old step.now result }
+    {
+        match step {
+            Step::Actor(place, doing) => self.act(alloc, *place, doing),
+            Step::Keeper(doing) => keep(alloc, &mut self.ports, doing),
+        }
+    }
+
+    /// Takes the steps one after another, and returns what each was replied. The room of the replies is made
+    /// before the first step; out of memory later on is a reply.
+    ///
+    /// What it leaves is what the steps and their replies tell. A receipt is given to nobody but an actor
+    /// with a read-only transaction open, and explains the answers told of it: in the history as it was told
+    /// until then, and in that of the whole run.
+    pub fn run(&mut self, alloc: Global, steps: &[Step]) -> Result<Vec<Reply>, AllocError>
+        ensures told { IfOk result (λ replies. self.new ≡ told_by self.old steps.now replies.items) }
+        ensures explained { IfOk result (λ replies. AreExplained A.next self.old steps.now replies.items) }
+        ensures explained_in_the_end { IfOk result (λ replies.
+            AreExplainedIn A.next self.new.history self.old steps.now replies.items) }
+        ensures due { IfOk result (λ replies. AreDue self.old steps.now replies.items) }
+        ensures each { IfOk result (λ replies. length replies.items ≡ length steps.now) }
+        ensures unchanged { OnErr result (self.new ≡ self.old) }
+    {
+        let mut replies = Vec::with_capacity(alloc, steps.len())?;
+        for step in steps {
+            let reply = self.step(alloc, step);
+            replies.push_reserved(reply);
+        }
+        Ok(replies)
+    }
+}
