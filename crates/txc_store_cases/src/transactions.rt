@@ -179,7 +179,8 @@ fn transactions_ask_as_worked(rt: HostRuntime) -> Result<(), Fail> {
     let mut answer = room(rt.alloc())?;
     for script in SCRIPTS {
         let mut played = play(rt.alloc(), script, &mut answer);
-        if played.is_none() {
+        // Where memory was refused, a call has ended in the middle of the script.
+        if played != Some(true) {
             played = play(rt.alloc(), script, &mut answer);
         }
         assert!(&rt; played == Some(true), "{answer}");
