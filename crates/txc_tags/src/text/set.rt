@@ -36,11 +36,7 @@ fn bad_tag(text: &[u8], rest: &[u8]) -> SetError
 }
 
 /// Adds the tag, where memory was not refused before. Returns whether it is now.
-fn add_unless(
-    refused: Option<AllocError>,
-    set: &mut TagSet,
-    tag: Tag,
-) -> Option<AllocError>
+fn add_unless(refused: Option<AllocError>, set: &mut TagSet, tag: Tag) -> Option<AllocError>
     ensures { IfNone result ((refused ≡ None) × (set.new ≡ with_tag tag set.old)) }
 {
     if refused.is_some() {
