@@ -3,7 +3,7 @@ use Rattle.std.specs.Prelude.{codes, IfErr}
 use Rattle.txc_run.specs.Lines.{Spells}
 use Rattle.txc_run.specs.Reading.{IsNamed}
 use Rattle.txc_run.specs.Replies.{MakesNone}
-use Rattle.txc_run.proofs.Named.{same_text, other_text, named, unnamed, makes_none_as, no_step}
+use Rattle.txc_run.proofs.Named.{same_text, other_text, named, makes_none_as, no_step}
 use Rattle.txc_run.proofs.step.make_step.Goals as goal
 
 pub returns-then-eq-clause-refused : goal.returns-then-eq-clause-refused
