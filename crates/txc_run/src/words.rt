@@ -1,5 +1,5 @@
 //! The words of a line.
-ghost use Rattle.std.specs.Prelude.{◌≡◌, ◌≢◌, ◌<◌, ◌==◌, [], ◌∷◌, ◌++◌, count_by, length, position, IfOk, OnErr, IfSome, IfNone};
+ghost use Rattle.std.specs.Prelude.{◌≡◌, ◌≢◌, ◌<◌, [], ◌∷◌, ◌++◌, count_by, length, IfOk, OnErr, IfSome, IfNone};
 ghost use Rattle.txc_run.specs.Words.{HasNoBlank, words_of, words_left, is_blank};
 
 use crate::scan::word_len;
