@@ -1,7 +1,8 @@
 -- The words of a text, as its parts between blanks.
-use Rattle.std.proofs.Common.{◌≡◌, ◌≢◌, ℕ, ◌+◌, ◌-◌, ◌<◌, ◌≤◌, ◌||◌, Bool, true, false, zero, suc, List, [], ◌∷◌, ◌++◌, length, take, Result, Ok, Err, OnErr, refl, sym, ap, ◌∙◌, arith}
-use Rattle.std.specs.List.{All, AllByRecursion, onto_first, join_with_byte, list_any}
+use Rattle.std.proofs.Common.{◌≡◌, ◌≢◌, ℕ, ◌+◌, ◌-◌, ◌<◌, ◌≤◌, Bool, true, false, zero, suc, List, [], ◌∷◌, ◌++◌, length, take, drop, get_or, Result, Ok, Err, OnErr, refl, sym, ap, subst, ◌∙◌, arith}
+use Rattle.std.specs.List.{All, AllByRecursion, onto_first, join_with_byte}
 use Rattle.std.proofs.lemmas.Bool.Decides.{nat_tests}
+use Rattle.std.proofs.lemmas.List.{drop_more, take_all, take-append-drop}
 use Rattle.std.proofs.lemmas.List.Elements.{All-cons, All-nil, recursion_from_All}
 use Rattle.std.proofs.lemmas.List.Splits.{slice_split_at, slice_split_none, join_with_byte-slice_split, length-slice_split}
 use Rattle.txc_run.specs.Words.{HasNoBlank, HasWords, is_blank, words_of}
@@ -54,34 +55,16 @@ words_are text w words h = ap words_of h.joined ∙ joined_are w words (recursio
 pub some_word : (text : List ℕ) → 1 ≤ length (words_of text)
 some_word text = omega (arith, length-slice_split is_blank text)
 
-length-onto_first : (x : ℕ) (parts : List (List ℕ)) → 1 ≤ length parts → length (onto_first x parts) ≡ length parts
-length-onto_first x [] h = absurd (omega arith)
-length-onto_first x (part ∷ parts) h = refl
+-- a text whose first bytes are all and have no blank
+pub one_word_is : (text : List ℕ) (n : ℕ) → length text ≤ n → HasNoBlank (take n text) → words_of text ≡ text ∷ []
+one_word_is text n all bare = words_alone text (subst HasNoBlank (take_all n text all) bare)
 
 -- a text with a blank is two words at least
-blank_parts : (text : List ℕ) → list_any is_blank text ≡ true → 2 ≤ length (words_of text)
-blank_parts [] h = cc
-blank_parts (x ∷ text) h =
-    let go : (b : Bool) → is_blank x ≡ b → (b || list_any is_blank text) ≡ true → 2 ≤ length (words_of (x ∷ text)) = λ b. elim b as (λ v. is_blank x ≡ v → (v || list_any is_blank text) ≡ true → 2 ≤ length (words_of (x ∷ text))) [
-      | true ↦ (λ e k. rw e (omega (arith, some_word text)))
-      | false ↦ (λ e k. rw e (omega (arith, length-onto_first x (words_of text) (some_word text), blank_parts text k)))
-    ] in
-    go (is_blank x) refl h
-
-none_blank : (text : List ℕ) → list_any is_blank text ≡ false → HasNoBlank text
-none_blank [] h = All-nil (λ b. b ≢ 32)
-none_blank (x ∷ text) h =
-    let go : (b : Bool) → is_blank x ≡ b → (b || list_any is_blank text) ≡ false → HasNoBlank (x ∷ text) = λ b. elim b as (λ v. is_blank x ≡ v → (v || list_any is_blank text) ≡ false → HasNoBlank (x ∷ text)) [
-      | true ↦ (λ e k. absurd (let no : true ≡ false = k in cc))
-      | false ↦ (λ e k. let other : x ≢ 32 = grind (arith, nat_tests) in All-cons (λ b. b ≢ 32) x text other (none_blank text k))
-    ] in
-    go (is_blank x) refl h
-
-pub one_word_is : (text : List ℕ) → list_any is_blank text ≡ false → words_of text ≡ text ∷ []
-one_word_is text h = words_alone text (none_blank text h)
-
-pub not_one_word : (text : List ℕ) → list_any is_blank text ≡ true → length (words_of text) ≡ 1 → ⊥
-not_one_word text h e = omega (arith, blank_parts text h, e)
+pub not_one_word : (text : List ℕ) (n : ℕ) → n < length text → HasNoBlank (take n text) → get_or text n 0 ≡ 32 → length (words_of text) ≡ 1 → ⊥
+not_one_word text n within bare here e =
+    let rest = drop (n + 1) text in
+    let split : text ≡ take n text ++ 32 ∷ rest = sym (take-append-drop n text) ∙ ap (λ (ys : List ℕ). take n text ++ ys) (drop_more text n 0 within ∙ ap (λ b. b ∷ rest) here) in
+    omega (arith, ap length (words_cut text (take n text) rest split bare), some_word rest, e)
 
 -- a text without a blank is not more words
 pub no_more_words : (text : List ℕ) (n : ℕ) → 2 ≤ n → HasNoBlank text → length (words_of text) ≡ n → ⊥

@@ -1,5 +1,5 @@
 -- The steps that the words of a line name.
-use Rattle.std.proofs.Common.{◌≡◌, ◌<◌, ◌≤◌, lit<, ℕ, Bool, true, false, List, [], ◌∷◌, ◌++◌, Some, Result, Ok, Err, IfOk, IfErr, get_or, length, refl, arith, sym, ap, subst, ◌∙◌}
+use Rattle.std.proofs.Common.{◌≡◌, ◌<◌, ◌≤◌, lit<, ℕ, Bool, true, false, List, [], ◌∷◌, ◌++◌, Some, Result, Ok, Err, IfErr, OnOk, get_or, length, refl, arith, sym, ap, subst, ◌∙◌}
 use Rattle.std.specs.Prelude.{codes, IsErr, IsErrAnd}
 use Rattle.std.specs.Str.{bytes_eq}
 use Rattle.std.proofs.lemmas.Slice.Eq.{bytes_eq-Decides}
@@ -15,14 +15,19 @@ use Rattle.txc_node.specs.declared.entry.EntryError.TheVariants as errors
 use Rattle.txc_node.specs.declared.op.Op.{Op}
 use Rattle.txc_node.specs.declared.op.Op.TheVariants.{Insert, Lookup, Event, Sweep}
 use Rattle.txc_node.specs.declared.value.TheConstants.{MAX_VALUE_LEN}
+use Rattle.txc_node.specs.Cache.{Cache}
 use Rattle.txc_node.specs.Steps.{entry_refusal, refusal_by}
 use Rattle.txc_node.proofs.Offered.{entry_has_no_reach, entry_is_too_long}
 use Rattle.txc_run.specs.Words.{HasNoBlank, HasWords, words_of}
 use Rattle.txc_run.specs.Hex.{IsHexWord}
 use Rattle.txc_run.specs.Lines.{IsKeyWord, IsStampWord, IsTagsWord, still_text, AreLookupWords, AreEventWords, AreSweepWords, AreInsertWords, name_of, AreWordsAfter, Spells}
-use Rattle.txc_run.specs.Reading.{IsNoWord, IsNamed, NamesStep, NamesNone, set_reason}
+use Rattle.txc_run.specs.Reading.{IsNoWord, IsNamed, NamesNone, set_reason}
+use Rattle.txc_run.specs.Replies.{MakesStep, MakesNone}
 use Rattle.txc_run.specs.declared.unread.NoStep.{NoStep}
 use Rattle.txc_run.specs.declared.unread.NoStep.TheVariants as reasons
+use Rattle.txc_run.specs.declared.unread.Unanswered.{Unanswered}
+use Rattle.txc_run.specs.declared.unread.Unanswered.TheVariants as unanswered
+use Rattle.txc_run.specs.declared.replies.Replies.{Replies}
 use Rattle.txc_run.proofs.Blanks.{words_cut, words_alone, has_words, words_are}
 
 -- ---- texts that are compared
@@ -42,6 +47,17 @@ none_named (Err e) name text h = h
 pub malformed : {T : Type 0} (r : Result T NoStep) (Is : Op → Type 0) → IsErr r × IsErrAnd r (λ reason. reason ≡ reasons.Malformed) → ((op : Op) → Is op → ⊥) → IfErr r (NamesNone Is)
 malformed (Ok x) Is h none = tt
 malformed (Err reason) Is h none = subst (NamesNone Is) (sym h.1) none
+
+pub no_word : {T : Type 0} (r : Result T NoStep) (Is : Op → Type 0) → IsErr r × IsErrAnd r (λ reason. reason ≡ reasons.Malformed) → ((op : Op) → Is op → ⊥) → IfErr r (IsNoWord Is)
+no_word (Ok x) Is h none = tt
+no_word (Err reason) Is h none = subst (IsNoWord Is) (sym h.1) none
+
+pub no_tags : {T : Type 0} (r : Result T NoStep) (Is : Op → Type 0) (word : List ℕ) (error : SetError) → IsErr r × IsErrAnd r (λ reason. reason ≡ set_reason error) → IsSetRefusal word error
+    → ((op : Op) → Is op → (tags : List Tag) × IsTagsWord word tags) → IfErr r (IsNoWord Is)
+no_tags (Ok x) Is word error h refused some = tt
+no_tags (Err reason) Is word (sets.BadTag bad) h refused some =
+    subst (IsNoWord Is) (sym h.1) (λ op is. let tags = some op is in refused.1 (tags.1.0, tags.1.1))
+no_tags (Err reason) Is word (sets.Memory error) h refused some = subst (IsNoWord Is) (sym h.1) tt
 
 -- a set of tags that was refused is no word of any such step, or a growth was refused
 pub tags_unread : {T : Type 0} (r : Result T NoStep) (Is : Op → Type 0) (word : List ℕ) (error : SetError) → IsErr r × IsErrAnd r (λ reason. reason ≡ set_reason error) → IsSetRefusal word error
@@ -198,15 +214,16 @@ unnamed line op bare s =
     let none : s.0 ≡ [] = cc in
     some_words op (subst (AreWordsAfter op) none s.2)
 
-pub names_as : {T : Type 0} (Is Js : Op → Type 0) (r : Result Op T) → ((op : Op) → Is op → Js op) → IfOk r (NamesStep Is) → IfOk r (NamesStep Js)
-names_as Is Js (Ok op) there h = (there op h.0, h.1)
-names_as Is Js (Err reason) there h = tt
+-- a step of that name is one of the line, and the other way round
+pub makes_as : {T : Type 0} (Is Js : Op → Type 0) (r : Result T Unanswered) (c next : Cache) (old new : Replies) → ((op : Op) → Is op → Js op) → OnOk r (MakesStep Is c next old new) → OnOk r (MakesStep Js c next old new)
+makes_as Is Js (Ok x) c next old new there h = (h.0, there h.0 h.1, h.2)
+makes_as Is Js (Err reason) c next old new there h = tt
 
-pub names_none_as : {T : Type 0} (Is Js : Op → Type 0) (r : Result T NoStep) → ((op : Op) → Is op → Js op) → ((op : Op) → Js op → Is op) → IfErr r (NamesNone Is) → IfErr r (NamesNone Js)
-names_none_as Is Js (Ok x) there back h = tt
-names_none_as Is Js (Err reasons.Malformed) there back h = λ op js. h op (back op js)
-names_none_as Is Js (Err (reasons.Unmade error)) there back h = (h.0, there (Insert h.0) h.1, h.2)
-names_none_as Is Js (Err reasons.Memory) there back h = tt
+pub makes_none_as : {T : Type 0} (Is Js : Op → Type 0) (r : Result T Unanswered) (c next : Cache) (old new : Replies) → ((op : Op) → Js op → Is op) → IfErr r (MakesNone Is c next old new)
+    → IfErr r (MakesNone Js c next old new)
+makes_none_as Is Js (Ok x) c next old new back h = tt
+makes_none_as Is Js (Err unanswered.Malformed) c next old new back h = (λ op js. h.0 op (back op js), h.1, h.2)
+makes_none_as Is Js (Err unanswered.Memory) c next old new back h = tt
 
 -- there is no step of another name
 pub no_step : (name text : List ℕ) (op : Op) → (name ≡ codes "insert" → ⊥) → (name ≡ codes "lookup" → ⊥) → (name ≡ codes "event" → ⊥) → (name ≡ codes "sweep" → ⊥) → IsNamed name text op → ⊥

@@ -1,15 +1,17 @@
 -- Bytes that are searched sixteen at a time.
-use Rattle.std.proofs.Common.{◌≡◌, ◌||◌, ◌⊎◌, inl, inr, ℕ, zero, suc, ◌+◌, ◌-◌, ◌^◌, ◌%◌, ◌<◌, ◌≤◌, Bool, true, false, not, ltb, cond, min, List, [], ◌∷◌, length, take, get_or, refl, ap, subst, ◌∙◌, arith, w8, nat_lt}
+use Rattle.std.proofs.Common.{◌≡◌, ◌≢◌, ◌||◌, ◌⊎◌, inl, inr, ℕ, zero, suc, ◌+◌, ◌-◌, ◌^◌, ◌%◌, ◌<◌, ◌≤◌, Bool, true, false, not, ltb, cond, min, List, [], ◌∷◌, length, take, get_or, refl, sym, ap, subst, ◌∙◌, arith, w8, nat_lt}
 use Rattle.std.specs.List.{All, prefix_len}
 use Rattle.std.proofs.lemmas.List.{get_or-take, length-take, length-map, take_all}
 use Rattle.std.proofs.lemmas.Simd.{bitmask_splat, run_in_chunk_fails, run_in_chunk_stops, tops_compared, zip2_splat_left, mask_l-mod}
-use Rattle.std.proofs.lemmas.Bool.Decides.{nat_tests}
+use Rattle.std.proofs.lemmas.Bool.Decides.{nat_tests, Decides-eqb}
 use lib.Lanes.{chunk, zip2, mask_l, top}
+use lib.Dec.{eqb}
 use lib.ListN.{replicate}
 use mathlib.Core.List.{map}
 use mir.Val.{hbits, bits}
 use Rattle.txc_run.specs.Lines.{ArePlain}
 use Rattle.txc_run.specs.LineFaults.{is_foreign}
+use Rattle.txc_run.specs.Words.{HasNoBlank, is_blank}
 
 or_true : (b : Bool) → (b || true) ≡ true
 or_true true = refl
@@ -88,3 +90,40 @@ pub not_all_plain : (xs : List ℕ) (n : ℕ) → n ≤ length xs → (n < lengt
 not_all_plain xs n within stops all =
     let go : (n < length xs) ⊎ (length xs ≤ n) → n ≡ length xs = λ w. elim w [ inl w ↦ absurd (is_bad _ (stops w) (all n 0 w)) | inr w ↦ omega arith ] in
     go (grind arith)
+
+-- ---- blanks
+
+pub blank_marks : (n : ℕ) (xs : List ℕ) → length xs ≡ n → n ≤ 64 → mask_l (map (top (hbits w8)) (zip2 (λ a b. cond (eqb a b) (2 ^ bits w8 - 1) 0) xs (replicate n 32))) % 2 ^ 64 ≡ mask_l (map is_blank xs)
+blank_marks n xs long few = bitmask_splat w8 eqb xs n 32 long few
+
+is_other : (b : ℕ) → is_blank b ≡ false → b ≢ 32
+is_other b h e = grind (arith, nat_tests)
+
+blank_is : (b : ℕ) → is_blank b ≡ true → b ≡ 32
+blank_is b h = (Decides-eqb b 32).0 h
+
+-- bytes without a blank, and r more of them
+bare_more : (xs : List ℕ) (at r : ℕ) → HasNoBlank (take at xs) → ((k : ℕ) → at ≤ k → k < at + r → is_blank (get_or xs k 0) ≡ false) → HasNoBlank (take (at + r) xs)
+bare_more xs at r before after = λ k d l.
+    let few : k < at + r = omega (arith, l, length-take (at + r) xs) in
+    let within : k < length xs = omega (arith, l, length-take (at + r) xs) in
+    let there = get_or-take (at + r) xs k d few in
+    let go : (k < at) ⊎ (at ≤ k) → get_or (take (at + r) xs) k d ≢ 32 = λ w. elim w [
+      | inl w ↦ (λ e. before k d (omega (arith, w, length-take at xs, within)) (get_or-take at xs k d w ∙ sym there ∙ e))
+      | inr w ↦ (λ e. is_other _ (after k w few) (get_or_same xs k 0 d within ∙ sym there ∙ e))
+    ] in
+    go (grind arith)
+
+-- the bytes of a load, as far as r of them stand before the first blank
+pub bare_in_chunk : (xs : List ℕ) (at n r : ℕ) → at + n ≤ length xs → r ≡ prefix_len (λ b. not (is_blank b)) (chunk at n xs) → HasNoBlank (take at xs) → HasNoBlank (take (at + r) xs)
+bare_in_chunk xs at n r room e before = bare_more xs at r before (λ k a b. run_in_chunk_fails is_blank xs at n r 0 room e k a b)
+
+pub blank_in_chunk : (xs : List ℕ) (at n r : ℕ) → at + n ≤ length xs → r ≡ prefix_len (λ b. not (is_blank b)) (chunk at n xs) → r < n → get_or xs (at + r) 0 ≡ 32
+blank_in_chunk xs at n r room e few = blank_is _ (run_in_chunk_stops is_blank xs at n r 0 room e few)
+
+pub bare_whole_chunk : (xs : List ℕ) (at n r : ℕ) → at + n ≤ length xs → r ≡ prefix_len (λ b. not (is_blank b)) (chunk at n xs) → n ≤ r → HasNoBlank (take at xs) → HasNoBlank (take (at + n) xs)
+bare_whole_chunk xs at n r room e all before = bare_more xs at n before (λ k a b. run_in_chunk_fails is_blank xs at n r 0 room e k a (omega (arith, b, all)))
+
+-- one byte more
+pub bare_one_more : (xs : List ℕ) (at : ℕ) → HasNoBlank (take at xs) → get_or xs at 0 ≢ 32 → HasNoBlank (take (at + 1) xs)
+bare_one_more xs at before other = bare_more xs at 1 before (λ k a b. let same : k ≡ at = omega (arith, a, b) in let here : get_or xs k 0 ≢ 32 = λ e. other (sym (ap (λ (n : ℕ). get_or xs n 0) same) ∙ e) in grind (arith, nat_tests))

@@ -6,9 +6,8 @@ use Rattle.txc_node.specs.declared.refusal.Refusal.TheVariants.{Memory}
 use Rattle.txc_node.specs.declared.reply.Reply.TheVariants.{Refused}
 use Rattle.txc_node.specs.Cache.{Cache}
 use Rattle.txc_run.specs.Lines.{IsQuiet, IsStepLine}
-use Rattle.txc_run.specs.Reading.{IsLine}
+use Rattle.txc_run.specs.Reading.{Line, IsLine}
 use Rattle.txc_run.specs.Given.{Given, Replied, AreGiven}
-use Rattle.txc_run.specs.declared.line.Line.{Line}
 
 -- no line without a reply names a step
 abbrev pub NoQuietLineNamesAStep : Type 0

@@ -8,8 +8,6 @@ use Rattle.txc_node.specs.declared.op.Op.{Op}
 use Rattle.txc_node.specs.declared.op.Op.TheVariants.{Insert, Lookup, Event, Sweep}
 use Rattle.txc_node.specs.Steps.{refusal_by, entry_refusal}
 use Rattle.txc_run.specs.Lines.{IsQuiet, IsStepLine, IsMalformed, IsTextAfter, name_of}
-use Rattle.txc_run.specs.declared.line.Line.{Line}
-use Rattle.txc_run.specs.declared.line.Line.TheVariants.{Quiet, Step, Unmade, Malformed}
 use Rattle.txc_run.specs.declared.unread.NoStep.{NoStep}
 use Rattle.txc_run.specs.declared.unread.NoStep.TheVariants as reasons
 
@@ -18,7 +16,7 @@ abbrev pub set_reason : SetError → NoStep
 set_reason (sets.BadTag bad) = reasons.Malformed
 set_reason (sets.Memory error) = reasons.Memory
 
--- a malformed word is no such word; the reading of a word asks for no entry; a growth may be refused
+-- a malformed text is none of these; its reading asks for no entry; a growth may be refused
 abbrev pub IsNoWord : {V : Type 0} → (V → Type 0) → NoStep → Type 0
 IsNoWord {V} Is reasons.Malformed = (v : V) → Is v → ⊥
 IsNoWord Is (reasons.Unmade error) = ⊥
@@ -48,6 +46,13 @@ abbrev pub NamesNone : (Op → Type 0) → NoStep → Type 0
 NamesNone Is reasons.Malformed = (op : Op) → Is op → ⊥
 NamesNone Is (reasons.Unmade error) = IsUnmade Is error
 NamesNone Is reasons.Memory = ⊤
+
+-- what a line is: one without a reply, a step, an insertion whose entry cannot be made, or none of these
+pub data Line : Type 0 where
+  Quiet : Line
+  Step : Op → Line
+  Unmade : EntryError → Line
+  Malformed : Line
 
 -- the bytes are such a line
 abbrev pub IsLine : List ℕ → Line → Type 0

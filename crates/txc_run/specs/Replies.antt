@@ -12,6 +12,8 @@ use Rattle.txc_run.specs.Output.{line_text}
 use Rattle.txc_run.specs.Reports.{IsReportOf, steps_of}
 use Rattle.txc_run.specs.declared.replies.Replies.{Replies}
 use Rattle.txc_run.specs.declared.report.Report.{Report}
+use Rattle.txc_run.specs.declared.unread.Unanswered.{Unanswered}
+use Rattle.txc_run.specs.declared.unread.Unanswered.TheVariants as reasons
 
 -- a run with a report is in mode report
 abbrev pub mode_by : Option Report → Mode
@@ -52,3 +54,12 @@ IsFor function op reply = is_refusal reply ≡ false → function ≡ function_o
 abbrev pub TakesStep : Cache → Op → Cache → Replies → Replies → Type 0
 TakesStep c op next old new = (reply : Reply Shown) × MayReply c op reply next
     × Takes old new (Replied op reply)
+
+-- such a step was made: it has a reply, which was taken, and leaves that cache
+abbrev pub MakesStep : (Op → Type 0) → Cache → Cache → Replies → Replies → Type 0
+MakesStep Is c next old new = (op : Op) × Is op × TakesStep c op next old new
+
+-- there is no such step, and nothing changed; or a growth was refused
+abbrev pub MakesNone : (Op → Type 0) → Cache → Cache → Replies → Replies → Unanswered → Type 0
+MakesNone Is c next old new reasons.Malformed = ((op : Op) → Is op → ⊥) × (next ≡ c) × (new ≡ old)
+MakesNone Is c next old new reasons.Memory = ⊤

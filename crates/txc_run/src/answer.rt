@@ -11,16 +11,17 @@ ghost use Rattle.txc_run.specs.Sessions.{AnswersLine, HasAnswered, AnswersAs, An
 
 use crate::fault::{RunFault, Status};
 use crate::finding::find_fault;
-use crate::line::{Line, read_line};
+use crate::line::{is_plain, is_quiet};
 use crate::line_fault::MalformedLine;
 use crate::piece::{LineStart, cut_line};
 use crate::replies::Replies;
 use crate::session::{Flow, Session};
 use crate::step::make_step;
+use crate::unread::Unanswered;
 use crate::writer::write_text;
 use std::alloc::{AllocError, Global};
 use std::io::Write;
-use txc_node::{NodeCore, Refusal, Reply};
+use txc_node::NodeCore;
 use txc_settings::{Mode, Settings};
 
 /// Answers a line that has this number. Of its bytes it may be known that a line may have each.
@@ -39,19 +40,16 @@ fn answer(
     ensures unchanged { OnErr result (replies.new.text.items ≡ replies.old.text.items) }
     ensures bound { counted_by replies.new ≤ counted_by replies.old + 1 }
 {
-    let read = read_line(alloc, line, known_plain)?;
-    match read {
-        Line::Quiet => Ok(Flow::GoesOn),
-        Line::Step(op) => {
-            make_step(alloc, node, op, replies)?;
-            Ok(Flow::GoesOn)
-        }
-        Line::Unmade(error) => {
-            let refusal = Refusal::of_entry(error);
-            replies.take(alloc, None, &Reply::Refused(refusal))?;
-            Ok(Flow::GoesOn)
-        }
-        Line::Malformed => answer_malformed(alloc, replies, number, line),
+    if !is_plain(line, known_plain) {
+        return answer_malformed(alloc, replies, number, line);
+    }
+    if is_quiet(line) {
+        return Ok(Flow::GoesOn);
+    }
+    match make_step(alloc, node, line, replies) {
+        Ok(()) => Ok(Flow::GoesOn),
+        Err(Unanswered::Malformed) => answer_malformed(alloc, replies, number, line),
+        Err(Unanswered::Memory) => Err(AllocError),
     }
 }
 

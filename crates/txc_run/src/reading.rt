@@ -1,14 +1,15 @@
-//! The steps that lines name.
+//! What steps are asked for, by the words of lines.
 ghost use Rattle.std.specs.Prelude.{◌≡◌, ℕ, Bool, codes, IfOk, IfErr};
 ghost use Rattle.txc_node.specs.declared.op.Op.{Op};
-ghost use Rattle.txc_run.specs.Lines.{IsStampWord, still_text, Spells};
-ghost use Rattle.txc_run.specs.Reading.{IsNamed, NamesStep, NamesNone};
+ghost use Rattle.txc_node.specs.declared.op.Op.TheVariants.{Insert, Lookup, Event, Sweep};
+ghost use Rattle.txc_run.specs.Lines.{IsStampWord, still_text};
+ghost use Rattle.txc_run.specs.Reading.{IsNamed, IsNoWord, NamesStep, NamesNone};
 
 use crate::hex::read_hex;
 use crate::unread::{Malformed, NoStep};
-use crate::words::{first_word, one_word, six_words, three_words, two_words};
+use crate::words::{one_word, six_words, three_words, two_words};
 use std::alloc::Global;
-use txc_node::{Entry, Op};
+use txc_node::Entry;
 use txc_stamp::{LAST_STAMP, Stamp};
 use txc_tags::{Key, TagSet, read_number};
 
@@ -35,45 +36,42 @@ pub fn read_still(text: &[u8]) -> Result<bool, Malformed>
     }
 }
 
-/// `lookup`, by what comes after its name.
-fn read_lookup(text: &[u8]) -> Result<Op, Malformed>
-    ensures answer { IfOk result (NamesStep (IsNamed (codes "lookup") text.now)) }
+/// What a lookup asks for, by what comes after its name: a key, and the first and the last stamp.
+pub fn read_lookup(text: &[u8]) -> Result<(Key, Stamp, Stamp), Malformed>
+    ensures answer { IfOk result (λ r. IsNamed (codes "lookup") text.now (Lookup r.0 r.1 r.2)) }
     ensures refused { IfErr result (λ _. (op : Op) → IsNamed (codes "lookup") text.now op → ⊥) }
 {
-    let (key, lo, hi) = three_words(text)?;
-    Ok(Op::Lookup {
-        key: Key::read(key)?,
-        lo: read_stamp(lo)?,
-        hi: read_stamp(hi)?,
-    })
+    let (key_text, lo_text, hi_text) = three_words(text)?;
+    let key = Key::read(key_text)?;
+    let lo = read_stamp(lo_text)?;
+    let hi = read_stamp(hi_text)?;
+    Ok((key, lo, hi))
 }
 
-/// `sweep`, by what comes after its name.
-fn read_sweep(text: &[u8]) -> Result<Op, Malformed>
-    ensures answer { IfOk result (NamesStep (IsNamed (codes "sweep") text.now)) }
+/// The horizon of a sweep, by what comes after its name.
+pub fn read_sweep(text: &[u8]) -> Result<Stamp, Malformed>
+    ensures answer { IfOk result (λ horizon. IsNamed (codes "sweep") text.now (Sweep horizon)) }
     ensures refused { IfErr result (λ _. (op : Op) → IsNamed (codes "sweep") text.now op → ⊥) }
 {
-    let horizon = one_word(text)?;
-    Ok(Op::Sweep {
-        horizon: read_stamp(horizon)?,
-    })
+    let horizon_text = one_word(text)?;
+    let horizon = read_stamp(horizon_text)?;
+    Ok(horizon)
 }
 
-/// `event`, by what comes after its name.
-fn read_event(alloc: Global, text: &[u8]) -> Result<Op, NoStep>
-    ensures answer { IfOk result (NamesStep (IsNamed (codes "event") text.now)) }
-    ensures refused { IfErr result (NamesNone (IsNamed (codes "event") text.now)) }
+/// The stamp and the tags of an event, by what comes after its name.
+pub fn read_event(alloc: Global, text: &[u8]) -> Result<(Stamp, TagSet), NoStep>
+    ensures answer { IfOk result (λ r. IsNamed (codes "event") text.now (Event r.0 r.1)) }
+    ensures refused { IfErr result (IsNoWord (IsNamed (codes "event") text.now)) }
 {
-    let (stamp, tags) = two_words(text)?;
-    Ok(Op::Event {
-        stamp: read_stamp(stamp)?,
-        tags: TagSet::read(alloc, tags)?,
-    })
+    let (stamp_text, tags_text) = two_words(text)?;
+    let stamp = read_stamp(stamp_text)?;
+    let tags = TagSet::read(alloc, tags_text)?;
+    Ok((stamp, tags))
 }
 
-/// `insert`, by what comes after its name.
-fn read_insert(alloc: Global, text: &[u8]) -> Result<Op, NoStep>
-    ensures answer { IfOk result (NamesStep (IsNamed (codes "insert") text.now)) }
+/// The entry of an insertion, by what comes after its name.
+pub fn read_insert(alloc: Global, text: &[u8]) -> Result<Entry, NoStep>
+    ensures answer { IfOk result (λ e. NamesStep (IsNamed (codes "insert") text.now) (Insert e)) }
     ensures refused { IfErr result (NamesNone (IsNamed (codes "insert") text.now)) }
 {
     let (key_text, lo_text, known_text, reach_text, tags_text, value_text) = six_words(text)?;
@@ -83,28 +81,5 @@ fn read_insert(alloc: Global, text: &[u8]) -> Result<Op, NoStep>
     let still = read_still(reach_text)?;
     let tags = TagSet::read(alloc, tags_text)?;
     let value = read_hex(alloc, value_text)?;
-    Ok(Op::Insert(Entry::new(key, value, lo, known, still, tags)?))
-}
-
-/// The step that the line names.
-pub fn read_step(alloc: Global, line: &[u8]) -> Result<Op, NoStep>
-    ensures answer { IfOk result (NamesStep (Spells line.now)) }
-    ensures refused { IfErr result (NamesNone (Spells line.now)) }
-{
-    let Some((name, text)) = first_word(line) else {
-        return Err(NoStep::Malformed);
-    };
-    if name == b"insert".as_slice() {
-        return read_insert(alloc, text);
-    }
-    if name == b"lookup".as_slice() {
-        return Ok(read_lookup(text)?);
-    }
-    if name == b"event".as_slice() {
-        return read_event(alloc, text);
-    }
-    if name == b"sweep".as_slice() {
-        return Ok(read_sweep(text)?);
-    }
-    Err(NoStep::Malformed)
+    Ok(Entry::new(key, value, lo, known, still, tags)?)
 }

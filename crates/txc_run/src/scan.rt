@@ -3,6 +3,7 @@ ghost use Rattle.std.specs.Prelude.{◌≡◌, ◌+◌, ◌<◌, ◌≤◌, true
 ghost use Rattle.std.specs.List.{prefix_len};
 ghost use Rattle.std.specs.Simd.Lanes.{chunk};
 ghost use Rattle.txc_run.specs.LineFaults.{is_foreign};
+ghost use Rattle.txc_run.specs.Words.{HasNoBlank, is_blank};
 
 use std::simd::prelude::*;
 
@@ -38,6 +39,38 @@ fn before_high(bytes: &[u8], at: usize) -> usize
     }
 }
 
+/// How many of the sixteen bytes from this place on stand before the first blank.
+#[inline(always)]
+fn before_blank(bytes: &[u8], at: usize) -> usize
+    requires { at + 16 ≤ length bytes.now }
+    ensures { result ≡ prefix_len (λ b. not (is_blank b)) (chunk at 16 bytes.now) }
+{
+    let marks = u8x16::from_slice(&bytes[at..])
+        .simd_eq(u8x16::splat(b' '))
+        .to_bitmask();
+    if marks == 0 {
+        16
+    } else {
+        marks.trailing_zeros() as usize
+    }
+}
+
+/// How many of the eight bytes from this place on stand before the first blank.
+#[inline(always)]
+fn before_blank_of_eight(bytes: &[u8], at: usize) -> usize
+    requires { at + 8 ≤ length bytes.now }
+    ensures { result ≡ prefix_len (λ b. not (is_blank b)) (chunk at 8 bytes.now) }
+{
+    let marks = u8x8::from_slice(&bytes[at..])
+        .simd_eq(u8x8::splat(b' '))
+        .to_bitmask();
+    if marks == 0 {
+        8
+    } else {
+        marks.trailing_zeros() as usize
+    }
+}
+
 /// Whether no line may have the byte.
 #[inline(always)]
 fn is_foreign(byte: u8) -> bool
@@ -67,4 +100,47 @@ pub fn plain_len(bytes: &[u8]) -> usize
         at += 1;
     }
     at
+}
+
+/// How many bytes stand before the first blank, counted one by one from this place on.
+#[inline(always)]
+fn word_len_from(bytes: &[u8], from: usize) -> usize
+    requires within { from ≤ length bytes.now }
+    requires before { HasNoBlank (take from bytes.now) }
+    ensures bound { result ≤ length bytes.now }
+    ensures bare { HasNoBlank (take result bytes.now) }
+    ensures stops { result < length bytes.now → slice_index bytes.now result ≡ 32 }
+{
+    let mut at = from;
+    while at < bytes.len() {
+        if bytes[at] == b' ' {
+            return at;
+        }
+        at += 1;
+    }
+    at
+}
+
+/// How many bytes stand before the first blank.
+pub fn word_len(bytes: &[u8]) -> usize
+    ensures bound { result ≤ length bytes.now }
+    ensures bare { HasNoBlank (take result bytes.now) }
+    ensures stops { result < length bytes.now → slice_index bytes.now result ≡ 32 }
+{
+    let mut at = 0;
+    while bytes.len() - at >= 16 {
+        let before = before_blank(bytes, at);
+        if before < 16 {
+            return at + before;
+        }
+        at += 16;
+    }
+    if bytes.len() - at < 8 {
+        return word_len_from(bytes, at);
+    }
+    let before = before_blank_of_eight(bytes, at);
+    if before < 8 {
+        return at + before;
+    }
+    word_len_from(bytes, at + 8)
 }

@@ -6,6 +6,15 @@ use txc_tags::{BadKey, SetError};
 #[derive(Clone, Copy, Debug, PartialEq, Eq)]
 pub struct Malformed;
 
+/// Why a line was not answered.
+#[derive(Clone, Copy, Debug, PartialEq, Eq)]
+pub enum Unanswered {
+    /// It is not that of a step.
+    Malformed,
+    /// A growth was refused.
+    Memory,
+}
+
 /// Why a text names no step that can be made.
 #[derive(Clone, Copy, Debug, PartialEq, Eq)]
 pub enum NoStep {

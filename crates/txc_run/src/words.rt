@@ -1,7 +1,8 @@
 //! The words of a line.
-ghost use Rattle.std.specs.Prelude.{◌≡◌, ◌≢◌, ◌<◌, ◌==◌, [], ◌∷◌, ◌++◌, count_by, length, position, IfOk, OnErr, IfSome, IfNone};
+ghost use Rattle.std.specs.Prelude.{◌≡◌, ◌≢◌, ◌<◌, [], ◌∷◌, ◌++◌, count_by, length, IfOk, OnErr, IfSome, IfNone};
 ghost use Rattle.txc_run.specs.Words.{HasNoBlank, words_of, words_left, is_blank};
 
+use crate::scan::word_len;
 use crate::unread::Malformed;
 
 /// The word before the first blank, and what comes after that blank.
@@ -10,16 +11,11 @@ pub fn first_word(text: &[u8]) -> Option<(&[u8], &[u8])>
         (text.now ≡ w.0.now ++ 32 ∷ w.1.now) × HasNoBlank w.0.now) }
     ensures refused { IfNone result (HasNoBlank text.now) }
 {
-    match blank_at(text) {
-        Some(i) => Some((&text[..i], &text[i + 1..])),
-        None => None,
+    let end = word_len(text);
+    if end == text.len() {
+        return None;
     }
-}
-
-fn blank_at(text: &[u8]) -> Option<usize>
-    ensures { result ≡ position (λ b. b == 32) text.now }
-{
-    text.iter().position(|b| *b == b' ')
+    Some((&text[..end], &text[end + 1..]))
 }
 
 fn count_blanks(text: &[u8]) -> usize
@@ -59,7 +55,7 @@ pub fn one_word(text: &[u8]) -> Result<&[u8], Malformed>
     ensures answer { IfOk result (λ word. words_of text.now ≡ word.now ∷ []) }
     ensures refused { OnErr result (length (words_of text.now) ≢ 1) }
 {
-    if text.contains(&b' ') {
+    if word_len(text) < text.len() {
         return Err(Malformed);
     }
     Ok(text)

@@ -1,7 +1,6 @@
 -- The text of a set of tags: a dash, or tags joined by commas.
-use Rattle.std.proofs.Common.{◌≡◌, Result, Ok, Err, IfOk, ℕ, ◌+◌, inl, inr, false, ◌==◌, List, [], ◌∷◌, ◌++◌, map, length, refl, sym, ap, subst, ◌∙◌, arith, append-nil}
+use Rattle.std.proofs.Common.{◌≡◌, Option, Some, None, IfNone, Result, Ok, Err, IfOk, ℕ, ◌+◌, inl, inr, false, ◌==◌, List, [], ◌∷◌, ◌++◌, map, length, refl, sym, ap, subst, ◌∙◌, arith, append-nil}
 use Rattle.std.specs.Bool.{⊤}
-use Rattle.std.specs.Result.{IsOkAnd}
 use Rattle.std.specs.List.{flat_map, join_with_byte}
 use Rattle.std.proofs.lemmas.List.Elements.{All-head, All-tail, All-nil, All-cons, All-push}
 use Rattle.std.proofs.lemmas.Bool.Decides.{nat_tests}
@@ -104,11 +103,12 @@ module _ (text rest : List ℕ) (set : List Tag) (read : HasTags text rest set) 
       ap (with_tag tag) read.set_is ∙ sym (with_tags_push read.tags [] tag),
     )
 
--- what a step makes of a set that is there, it makes of the set that is meant
-pub carried : {E : Type 0} (f : List Tag → List Tag) (meant : List Tag) (old new : Result (List Tag) E) → IfOk new (λ n. IsOkAnd old (λ o. n ≡ f o)) → IfOk old (λ o. o ≡ meant) → IfOk new (λ n. n ≡ f meant)
-carried f meant (Ok o) (Ok n) h k = h ∙ ap f k
-carried f meant (Err e) (Ok n) h k = absurd h
-carried f meant old (Err e) h k = tt
+-- a set to which all tags were added, where memory was not refused, and one tag more
+pub carried : {E : Type 0} (tag : Tag) (meant old new : List Tag) (refused after : Option E) → IfNone after ((refused ≡ None) × (new ≡ with_tag tag old)) → IfNone refused (old ≡ meant)
+    → IfNone after (new ≡ with_tag tag meant)
+carried tag meant old new None None h k = h.1 ∙ ap (with_tag tag) k
+carried tag meant old new (Some e) None h k = cc
+carried tag meant old new refused (Some e) h k = tt
 
 -- ---- tags are known by their text
 

@@ -1,5 +1,5 @@
 //! Texts of sets of tags: `-`, `t1:id=7,t1:grp=2,t2:?`.
-ghost use Rattle.std.specs.Prelude.{◌≡◌, ℕ, ◌∷◌, List, codes, IsOk, IsOkAnd, IfOk, IfErr, string_bytes};
+ghost use Rattle.std.specs.Prelude.{◌≡◌, ℕ, ◌∷◌, List, None, codes, IsOk, IfOk, IfErr, IfNone, string_bytes};
 ghost use Rattle.txc_tags.specs.declared.tag.Tag.{Tag};
 ghost use Rattle.txc_tags.specs.Tags.{with_tag, IsCanonical};
 ghost use Rattle.txc_tags.specs.TextGrammar.{IsText, IsTextOf};
@@ -35,13 +35,17 @@ fn bad_tag(text: &[u8], rest: &[u8]) -> SetError
     })
 }
 
-/// The set with the tag, where memory was not refused before.
-fn with_one(set: Result<TagSet, AllocError>, tag: Tag) -> Result<TagSet, AllocError>
-    ensures { IfOk result (λ new. IsOkAnd set (λ old. new ≡ with_tag tag old)) }
+/// Adds the tag, where memory was not refused before. Returns whether it is now.
+fn add_unless(refused: Option<AllocError>, set: &mut TagSet, tag: Tag) -> Option<AllocError>
+    ensures { IfNone result ((refused ≡ None) × (set.new ≡ with_tag tag set.old)) }
 {
-    let mut set = set?;
-    set.add(tag)?;
-    Ok(set)
+    if refused.is_some() {
+        return refused;
+    }
+    match set.add(tag) {
+        Ok(()) => None,
+        Err(error) => Some(error),
+    }
 }
 
 /// The set of the tags of a text that does not begin with a dash, made while the text is read. Where memory
@@ -51,18 +55,19 @@ fn read_tags(alloc: Global, text: &[u8]) -> Result<TagSet, SetError>
     ensures answer { IfOk result (IsSetOfText text.now) }
     ensures refused { IfErr result (IsSetRefusal text.now) }
 {
-    let mut set = Ok(TagSet::new(alloc));
+    let mut set = TagSet::new(alloc);
+    let mut refused = None;
     let mut rest = text;
     loop {
         let (tag, after) = match read_tag(rest) {
             Ok(read) => read,
             Err(wrong) => return Err(bad_tag(text, wrong)),
         };
-        set = with_one(set, tag);
+        refused = add_unless(refused, &mut set, tag);
         if after.is_empty() {
-            return match set {
-                Ok(set) => Ok(set),
-                Err(error) => Err(SetError::Memory(error)),
+            return match refused {
+                None => Ok(set),
+                Some(error) => Err(SetError::Memory(error)),
             };
         }
         match read_word(after, b",") {

@@ -1,21 +1,20 @@
-use Rattle.std.proofs.Common.{refl, subst}
-use Rattle.txc_node.specs.declared.op.Op.TheVariants.{Insert}
-use Rattle.txc_node.specs.declared.refusal.Refusal.{Refusal}
-use Rattle.txc_node.specs.declared.reply.Reply.TheVariants as replies
-use Rattle.txc_node.specs.Steps.{refusal_by}
-use Rattle.txc_run.specs.Given.{Replied}
-use Rattle.txc_run.specs.Replies.{Takes}
-use Rattle.txc_run.proofs.LineRead.{unmade_op, unmade_gives}
+use Rattle.std.proofs.Common.{subst}
+use Rattle.txc_run.specs.Lines.{Spells}
+use Rattle.txc_run.specs.Replies.{MakesNone}
+use Rattle.txc_run.specs.declared.unread.Unanswered.TheVariants.{Malformed}
+use Rattle.txc_run.proofs.LineRead.{no_line, malformed_answered}
 use Rattle.txc_run.proofs.answer.answer.Goals as goal
 
-pub returns-in_ok-take-in-Unmade-clause-answered : goal.returns-in_ok-take-in-Unmade-clause-answered
-returns-in_ok-take-in-Unmade-clause-answered c =
-    let line = c.args.line.now in
-    let error = c.in-Unmade.error in
-    let of = unmade_op line line c.in_ok-read.read error refl c.in-Unmade.is c.in_ok-read.ensures in
-    record {
-      given = Replied (Insert of.0) (replies.Refused (refusal_by error));
-      gives = unmade_gives c.args.node.now c.args.number line error of;
-      takes = subst (λ (r : Refusal). Takes c.args.replies.now c.take.new.self (Replied (Insert of.0) (replies.Refused r))) c.of_entry-refusal.ensures (c.in_ok-take-in-Unmade.ensures.after (Insert of.0) (λ h. cc));
-      flow_is = refl;
-    }
+pub answer_malformed-requires-in-Err-Malformed : goal.answer_malformed-requires-in-Err-Malformed
+answer_malformed-requires-in-Err-Malformed c =
+    let none : MakesNone (Spells c.args.line.now) c.args.node.now c.make_step.new.node c.args.replies.now c.make_step.new.replies Malformed =
+    subst (MakesNone (Spells c.args.line.now) c.args.node.now c.make_step.new.node c.args.replies.now c.make_step.new.replies) c.in-Err-Malformed.field-0-is c.in-Err-Malformed.ensures.refused in
+    no_line c.args.line.now (λ quiet. let yes = c.is_quiet.ensures.1 quiet in let no = c.if-is_quiet.false in cc) none.0
+
+pub returns-in-Err-Malformed-clause-answered : goal.returns-in-Err-Malformed-clause-answered
+returns-in-Err-Malformed-clause-answered c =
+    let none : MakesNone (Spells c.args.line.now) c.args.node.now c.make_step.new.node c.args.replies.now c.make_step.new.replies Malformed =
+    subst (MakesNone (Spells c.args.line.now) c.args.node.now c.make_step.new.node c.args.replies.now c.make_step.new.replies) c.in-Err-Malformed.field-0-is c.in-Err-Malformed.ensures.refused in
+    let bad = no_line c.args.line.now (λ quiet. let yes = c.is_quiet.ensures.1 quiet in let no = c.if-is_quiet.false in cc) none.0 in
+    let ended = c.answer_malformed-in-Err-Malformed in
+    malformed_answered ended.result c.args.node.now c.make_step.new.node c.args.replies.now c.make_step.new.replies ended.new.replies c.args.number c.args.line.now bad none.1 none.2 ended.ensures.flow ended.ensures.after

@@ -6,29 +6,26 @@ use Rattle.txc_run.proofs.Blanks.{has_words}
 use Rattle.txc_run.proofs.Named.{none_named, sweep_in}
 use Rattle.txc_run.proofs.reading.read_sweep.Goals as goal
 
-pub returns-in_err-horizon-clause-refused : goal.returns-in_err-horizon-clause-refused
-returns-in_err-horizon-clause-refused c = none_named _ (codes "sweep") c.args.text.now (λ op is. let of = sweep_in c.args.text.now op is in c.in_err-horizon.ensures.refused (ap length of.words.are))
+pub returns-in_err-horizon_text-clause-refused : goal.returns-in_err-horizon_text-clause-refused
+returns-in_err-horizon_text-clause-refused c = none_named _ (codes "sweep") c.args.text.now (λ op is. let of = sweep_in c.args.text.now op is in c.in_err-horizon_text.ensures.refused (ap length of.words.are))
 
-pub returns-in_err-read_stamp-clause-refused : goal.returns-in_err-read_stamp-clause-refused
-returns-in_err-read_stamp-clause-refused c = none_named _ (codes "sweep") c.args.text.now (λ op is.
+pub returns-in_err-horizon-clause-refused : goal.returns-in_err-horizon-clause-refused
+returns-in_err-horizon-clause-refused c = none_named _ (codes "sweep") c.args.text.now (λ op is.
     let of = sweep_in c.args.text.now op is in
-    let same : of.words.horizon_word ≡ c.in_ok-horizon.horizon.now = ap (λ (ws : List (List ℕ)). get_or ws 0 []) (sym of.words.are ∙ c.in_ok-horizon.ensures.answer) in
-    c.in_err-read_stamp.ensures.refused of.horizon (subst (λ (w : List ℕ). IsStampWord w of.horizon) same of.words.is_horizon))
+    let same : of.words.horizon_word ≡ c.in_ok-horizon_text.horizon_text.now = ap (λ (ws : List (List ℕ)). get_or ws 0 []) (sym of.words.are ∙ c.in_ok-horizon_text.ensures.answer) in
+    c.in_err-horizon.ensures.refused of.horizon (subst (λ (w : List ℕ). IsStampWord w of.horizon) same of.words.is_horizon))
 
 pub returns-clause-answer : goal.returns-clause-answer
 returns-clause-answer c =
     let text = c.args.text.now in (
+      refl,
       (
-        refl,
-        (
-          words_of text,
-          has_words text,
-          record {
-            horizon_word = c.in_ok-horizon.horizon.now;
-            are = c.in_ok-horizon.ensures.answer;
-            is_horizon = c.in_ok-read_stamp.ensures.answer;
-          },
-        ),
+        words_of text,
+        has_words text,
+        record {
+          horizon_word = c.in_ok-horizon_text.horizon_text.now;
+          are = c.in_ok-horizon_text.ensures.answer;
+          is_horizon = c.in_ok-horizon.ensures.answer;
+        },
       ),
-      tt,
     )

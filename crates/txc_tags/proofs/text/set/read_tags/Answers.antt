@@ -1,4 +1,4 @@
-use Rattle.std.proofs.Common.{Ok, sym, subst}
+use Rattle.std.proofs.Common.{None, sym, subst}
 use Rattle.txc_tags.specs.Tags.{with_tag}
 use Rattle.txc_tags.specs.TextSet.{IsSetOfText}
 use Rattle.txc_tags.proofs.TextReading.{empty}
@@ -16,15 +16,15 @@ pub loop-read-preserved : goal.loop-read-preserved
 loop-read-preserved c = (
   with_tag c.in-Ok.read.0 c.loop-read.invariant.0,
   one_more c.args.text.now c.loop-read.rest.now c.loop-read.invariant.0 c.loop-read.invariant.1 c.requires c.in-Ok.read.0 c.in-Ok.read.1.now c.in-Ok.ensures.answer.0 c.in-Ok.ensures.answer.1 c.in-Ok-read_word.more.now c.in-Ok-read_word.ensures.answer.parts,
-  carried (with_tag c.in-Ok.read.0) c.loop-read.invariant.0 c.loop-read.set c.with_one-set.result c.with_one-set.ensures c.loop-read.invariant.2,
+  carried c.in-Ok.read.0 c.loop-read.invariant.0 c.loop-read.set c.add_unless-refused.new.set c.loop-read.refused c.add_unless-refused.result c.add_unless-refused.ensures c.loop-read.invariant.2,
 )
 
-pub returns-in-Ok-set-clause-answer : goal.returns-in-Ok-set-clause-answer
-returns-in-Ok-set-clause-answer c =
-    subst (IsSetOfText c.args.text.now) (sym (carried (with_tag c.in-Ok.read.0) c.loop-read.invariant.0 c.loop-read.set (Ok c.in-Ok-set.set) c.in-Ok-set.ensures c.loop-read.invariant.2))
+pub returns-in-None-clause-answer : goal.returns-in-None-clause-answer
+returns-in-None-clause-answer c =
+    subst (IsSetOfText c.args.text.now) (sym (carried c.in-Ok.read.0 c.loop-read.invariant.0 c.loop-read.set c.add_unless-refused.new.set c.loop-read.refused None c.in-None.ensures c.loop-read.invariant.2))
     (all_tags c.args.text.now c.loop-read.rest.now c.loop-read.invariant.0 c.loop-read.invariant.1 c.requires c.in-Ok.read.0 c.in-Ok.read.1.now c.in-Ok.ensures.answer.0 c.in-Ok.ensures.answer.1 (empty c.in-Ok.read.1.now c.if-is_empty.ensures))
 
-pub returns-in-Err-set-clause-refused : goal.returns-in-Err-set-clause-refused
-returns-in-Err-set-clause-refused c =
+pub returns-in-Some-clause-refused : goal.returns-in-Some-clause-refused
+returns-in-Some-clause-refused c =
     let p = all_tags c.args.text.now c.loop-read.rest.now c.loop-read.invariant.0 c.loop-read.invariant.1 c.requires c.in-Ok.read.0 c.in-Ok.read.1.now c.in-Ok.ensures.answer.0 c.in-Ok.ensures.answer.1 (empty c.in-Ok.read.1.now c.if-is_empty.ensures) in
     (p.0, p.1)
