@@ -98,6 +98,7 @@ def functions(crate, file, text):
 def owner(head):
     """A pattern of the name that the prover gives to an impl."""
     head = re.sub(r"\{.*", "", head).strip()
+    head = re.sub(r"<dyn ([^<>]*)>", r"Dyn\1", head)
     depth, bare = 0, ""
     for c in head[4:]:
         depth += (c == "<") - (c == ">")
