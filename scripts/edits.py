@@ -90,7 +90,8 @@ def functions(crate, file, text):
         is_fn = re.match(r"( *)(?:pub(?:\([a-z]*\))? )?(?:const )?(?:unsafe )?fn (\w+)", line)
         if is_fn and (is_fn[1] == "" or kind and is_fn[1] == "    "):
             last = next((n for n in range(at, len(lines)) if lines[n] == is_fn[1] + "}"), at)
-            path = "::".join(module + [kind.replace("$", r"\w*")] * bool(kind) + [is_fn[2]])
+            # a method is named by the module of its type, wherever its `impl` stands
+            path = rf"{crate}::(?:\w+::)*{kind}::{is_fn[2]}" if kind else "::".join(module + [is_fn[2]])
             found.append((at, last, path))
     return found
 
@@ -98,6 +99,7 @@ def functions(crate, file, text):
 def owner(head):
     """A pattern of the name that the prover gives to an impl."""
     head = re.sub(r"\{.*", "", head).strip()
+    head = re.sub(r"<dyn ([^<>]*)>", r"Dyn\1", head)
     depth, bare = 0, ""
     for c in head[4:]:
         depth += (c == "<") - (c == ">")
@@ -162,13 +164,13 @@ def apply(edits, folder):
 def judge(edit, lines, status, is_alone):
     own = []
     for path in edit.functions:
-        name = re.compile(r"fn " + path.replace("::", "::") + r"(?:<.*>)?: (.*)")
+        name = re.compile(rf"fn {path}(?:<.*>)?: (.*)")
         own += [it[1] for it in map(name.match, lines) if it]
-    failing = [it for it in own if it != "proved" and not re.match(r"no proof: it calls `[^`]*`, which is not proved$", it)
+    failing = [it for it in own if it != "proved" and not re.match(r"no proof: it calls `.*`, which (?:is|are) not proved$", it)
                and not it.startswith("not proved; it waits")]
     if failing:
         edit.verdict, edit.said = "refused", failing[0]
-        proofs = [it for it in lines if any(f"proofs/{proof_folder(path)}/" in it for path in edit.functions)]
+        proofs = [it for it in lines if any(re.search(f"proofs/{proof_folder(path)}/", it) for path in edit.functions)]
         errors = [it for it in proofs if ": error" in it]
         if errors and all(NAMES.search(it) for it in errors) and not any("it is not proved that" in it for it in own):
             edit.said = "names: " + errors[0]
@@ -182,7 +184,8 @@ def judge(edit, lines, status, is_alone):
 
 
 def proof_folder(path):
-    return "/".join(path.split("::")[1:])
+    """A pattern of the folder of the function's proof."""
+    return path.partition("::")[2].replace("::", "/")
 
 
 def main():
