@@ -7,4 +7,6 @@ pub mod Kept
 pub mod Making
 pub mod Told
 pub mod Actors
+pub mod Books
+pub mod Tidy
 pub mod Worlds

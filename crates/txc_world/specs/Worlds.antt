@@ -11,6 +11,8 @@ use Rattle.txc_world.specs.declared.reply.Refusal.TheVariants.{NoActor, NotOpen}
 use Rattle.txc_world.specs.Told.{Reading, Story, idle, reading, leaving, Told}
 use Rattle.txc_world.specs.Ports.{PortsValue, whole_of}
 use Rattle.txc_world.specs.Actors.{story_at, IsThere}
+use Rattle.txc_world.specs.Books.{account_at, books_of, Books}
+use Rattle.txc_world.specs.Tidy.{AreBalanced, Purse}
 
 -- its settings, its history, the stamps of the pins that its keeper has yet to add, and what each actor has
 -- open
@@ -21,6 +23,21 @@ told_of settings ports actors = record {
   spare = map (λ p. p.stamp) ports.spare;
   actors = map story_at actors;
 }
+
+-- what callers see of a world: what is told of it, and its books
+pub record WorldValue : Type 0 where
+  pub told : Told
+  pub books : Books
+
+abbrev pub value_of : {A C : Type 0} → WorldSettings → PortsValue → List (Option (Actor A C)) → WorldValue
+value_of settings ports actors = record {
+  told = told_of settings ports actors;
+  books = books_of ports (map account_at actors);
+}
+
+-- each has what is its own, the keeper by its purse
+abbrev pub IsBalanced : WorldValue → Purse → Type 0
+IsBalanced world purse = AreBalanced world.told.spare world.books purse
 
 -- what is true of every world: it has the nodes of its settings, at least one; each actor has its pass
 -- through each; and no actor is in the middle of a step

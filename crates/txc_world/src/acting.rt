@@ -1,10 +1,11 @@
 //! What an actor does, each kind of step by itself.
-ghost use Rattle.std.specs.Prelude.{◌≡◌, ◌≤◌, ◌<◌, All, IfOk, None, Some, length, map};
+ghost use Rattle.std.specs.Prelude.{◌≡◌, ◌≤◌, ◌<◌, ◌∷◌, [], All, IfOk, None, OnErr, Some, length, map};
 ghost use Rattle.std.specs.Option.{ForSome};
 ghost use Rattle.txc_registry.specs.Objects.{AllIdle, Objects};
 ghost use Rattle.txc_shared.specs.Eval.{Next};
 ghost use Rattle.txc_txn.specs.Core.{left_pin, open_call, recorded_after, value_of, CoreHolds, IsAsk, IsAsking, IsCore, IsTurn};
 ghost use Rattle.txc_world.specs.Actors.{counted, holds_any, story_of, AddsPart, BeginLeads, HasAsked, HasBegun, HasGivenBack, HasStarted, IsActor, IsBegun, IsCallTurn, IsNoted, IsOpenTxn, RequestLeads};
+ghost use Rattle.txc_world.specs.Books.{account_of, account_of_core, nothing, ActCounts, IsFair, IsLossOf};
 ghost use Rattle.txc_world.specs.Parts.{IsPartOf};
 ghost use Rattle.txc_world.specs.Ports.{whole_of, KeepsRow};
 ghost use Rattle.txc_world.specs.Told.{act_in, did_in, idle, leaving, story_after, IsActDue, IsActReply, IsNoReceipt, ReplyExplains};
@@ -17,6 +18,7 @@ use crate::reply::{End, Refusal, Reply};
 use crate::step::Act;
 use std::alloc::{AllocError, Global};
 use txc_cushion::Pin;
+use txc_cushion::laws::give_back_counts_users;
 use txc_ports::{Bounds, PortRequest, Turn};
 use txc_registry::{Cacheable, Registry};
 use txc_shared::App;
@@ -39,8 +41,11 @@ fn begun<A: App>(
     ensures core { IfOk result (λ core. IsBegun (whole_of ports.new) (length ports.new.nodes) bounds
         (value_of core)) }
     ensures begins { IfOk result (λ core. HasBegun renew_after bounds ports.old ports.new (value_of core)) }
+    ensures fair { IfOk result (λ core. IsFair ports.old ports.new nothing (account_of_core (value_of core))) }
+    ensures given_back { OnErr result (IsFair ports.old ports.new nothing nothing) }
     ensures same { ports.new ≡ record ports.old { cushion = ports.new.cushion } }
 {
+    ports.count_right();
     let nodes = ports.len();
     let pins = ports.fresh(alloc, bounds.now, bounds.staleness, bounds.at_least)?;
     match TxnCore::begin(alloc, nodes, renew_after, bounds, pins) {
@@ -67,6 +72,7 @@ fn begin_ro<A: App, C: Cacheable>(
     ensures due { IsActReply (Act.BeginRo bounds) result.1 }
     ensures leads { BeginLeads renew_after bounds ports.old ports.new result.0 result.1 }
     ensures same { ports.new ≡ record ports.old { cushion = ports.new.cushion } }
+    ensures counts { ActCounts ports.old ports.new nothing (account_of result.0) result.1 }
 {
     match begun(alloc, ports, renew_after, bounds) {
         Ok(core) => {
@@ -90,6 +96,7 @@ fn start<A: App, C: Cacheable>(
         ≡ story_after (Act.Start key.now) result.1 (story_of (Actor.Reading current)) }
     ensures due { IsActDue (story_of (Actor.Reading current)) (Act.Start key.now) result.1 }
     ensures leads { current.call ≡ None → HasStarted key.now current.txn result.0 }
+    ensures counts { ActCounts whole.now whole.now (account_of (Actor.Reading current)) (account_of result.0) result.1 }
 {
     let mut current = current;
     if current.call.is_some() {
@@ -153,6 +160,8 @@ fn go_on<A: App, C: Cacheable>(
         ≡ did_in result.did txn.old.core.bounds.now ports.old.database.history }
     ensures keeps { KeepsRow ports.old ports.new }
     ensures spare { ports.new.spare ≡ ports.old.spare }
+    ensures fair { IsFair ports.old ports.new (account_of_core txn.old.core) (account_of_core txn.new.core) }
+    ensures loss { IsLossOf ports.old (account_of_core txn.old.core) result.did }
 {
     txn.is_kept();
     let Asked { did, reply } = ports.ask(alloc, pass, txn.core().seen(), request);
@@ -194,6 +203,7 @@ fn request_call<A: App, C: Cacheable>(
     ensures keeps { KeepsRow ports.old ports.new }
     ensures spare { ports.new.spare ≡ ports.old.spare }
     ensures no_receipt { IsNoReceipt result.1 }
+    ensures counts { ActCounts ports.old ports.new (account_of (Actor.Reading current)) (account_of result.0) result.1 }
     ensures leads { ForSome current.call (λ call.
         RequestLeads A.next call.key call.turn ports.old ports.new current.txn result.0 result.1) }
 {
@@ -239,7 +249,9 @@ fn leave<A: App, C: Cacheable>(
     ensures keeps { KeepsRow ports.old ports.new }
     ensures spare { ports.new.spare ≡ ports.old.spare }
     ensures no_receipt { IsNoReceipt result.1 }
+    ensures counts { ActCounts ports.old ports.new (record { taken = []; own = stamp ∷ [] }) (account_of result.0) result.1 }
 {
+    ports.count_right();
     let did = match ports.unpin(stamp) {
         Ok(()) => Did::Unpinned,
         Err(error) => Did::Refused(error),
@@ -260,7 +272,9 @@ fn commit<A: App, C: Cacheable>(
         result.1 }
     ensures same { ports.new ≡ record ports.old { cushion = ports.new.cushion } }
     ensures gives_back { current.call ≡ None → HasGivenBack current.txn.core.taken ports.old ports.new }
+    ensures counts { ActCounts ports.old ports.new (account_of (Actor.Reading current)) (account_of result.0) result.1 }
 {
+    give_back_counts_users();
     let OpenTxn { txn, call } = current;
     if call.is_some() {
         return (
@@ -282,7 +296,9 @@ fn abort<A: App, C: Cacheable>(ports: &mut Ports<A>, current: OpenTxn<A, C>) -> 
     ensures same { ports.new ≡ record ports.old { cushion = ports.new.cushion } }
     ensures gives_back { HasGivenBack current.txn.core.taken ports.old ports.new }
     ensures no_receipt { IsNoReceipt result.1 }
+    ensures counts { ActCounts ports.old ports.new (account_of (Actor.Reading current)) (account_of result.0) result.1 }
 {
+    give_back_counts_users();
     let (left, registry) = current.txn.cancel();
     let _ = ports.give_back(&left.give_back);
     let actor = match left.unpin {
@@ -307,6 +323,7 @@ fn act_idle<A: App, C: Cacheable>(
     ensures due { IsActDue idle act.now result.1 }
     ensures same { ports.new ≡ record ports.old { cushion = ports.new.cushion } }
     ensures no_receipt { IsNoReceipt result.1 }
+    ensures counts { ActCounts ports.old ports.new nothing (account_of result.0) result.1 }
 {
     match act {
         Act::BeginRo(bounds) => begin_ro(alloc, ports, renew_after, registry, *bounds),
@@ -333,6 +350,7 @@ fn act_open<A: App, C: Cacheable>(
         result.1 }
     ensures keeps { KeepsRow ports.old ports.new }
     ensures spare { ports.new.spare ≡ ports.old.spare }
+    ensures counts { ActCounts ports.old ports.new (account_of (Actor.Reading current)) (account_of result.0) result.1 }
 {
     match act {
         Act::BeginRo(_) => (
@@ -361,6 +379,7 @@ fn act_leaving<A: App, C: Cacheable>(
     ensures keeps { KeepsRow ports.old ports.new }
     ensures spare { ports.new.spare ≡ ports.old.spare }
     ensures no_receipt { IsNoReceipt result.1 }
+    ensures counts { ActCounts ports.old ports.new (record { taken = []; own = stamp ∷ [] }) (account_of result.0) result.1 }
 {
     match act {
         Act::Request => leave(ports, registry, stamp),
@@ -395,6 +414,7 @@ pub(crate) fn act<A: App, C: Cacheable>(
     ensures explained { ReplyExplains A.next ports.old.database.history (story_of actor) result.1 }
     ensures keeps { KeepsRow ports.old ports.new }
     ensures spare { ports.new.spare ≡ ports.old.spare }
+    ensures counts { ActCounts ports.old ports.new (account_of actor) (account_of result.0) result.1 }
 {
     match actor {
         Actor::Idle(registry) => act_idle(alloc, ports, renew_after, registry, act),

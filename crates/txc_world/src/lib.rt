@@ -10,6 +10,7 @@ mod acting;
 mod actor;
 mod asked;
 mod asking;
+mod counting;
 mod did;
 mod keeper;
 mod keeping;

@@ -1,0 +1,138 @@
+-- What stays in balance over a world and over a list of steps.
+use Rattle.std.proofs.Common.{◌≡◌, ◌∙◌, ℕ, ◌+◌, ◌<◌, ◌≤◌, true, false, List, [], ◌∷◌, ◌++◌, length, map, Result, Ok, Err, Option, Some, None, refl, ap, sym, subst, arith, slice_get, slice_set}
+use Rattle.std.proofs.lemmas.Option.{slice_get-map}
+use Rattle.std.proofs.lemmas.List.{map-set}
+use Rattle.std.specs.Option.{option_map}
+use Rattle.txc_db.specs.declared.error.DbError.TheVariants as errors
+use Rattle.txc_cushion.specs.Entries.{stamps_of, times, users_of}
+use Rattle.txc_world.specs.declared.actor.Actor.{Actor}
+use Rattle.txc_world.specs.declared.did.Did.{Did}
+use Rattle.txc_world.specs.declared.did.Did.TheVariants as dids
+use Rattle.txc_world.specs.declared.reply.Reply.{Reply}
+use Rattle.txc_world.specs.declared.reply.Reply.TheVariants as replies
+use Rattle.txc_world.specs.declared.reply.End.{End}
+use Rattle.txc_world.specs.declared.settings.WorldSettings.{WorldSettings}
+use Rattle.txc_world.specs.declared.step.Step.{Step}
+use Rattle.txc_world.specs.Ports.{PortsValue}
+use Rattle.txc_world.specs.Keeping.{stamps_of as stamps_of_pins}
+use Rattle.txc_world.specs.Books.{account_at, account_of, books_of, times_own, times_taken, Account, ActCounts, CountRight, HasLost, IsFair, IsLossOf}
+use Rattle.txc_world.specs.Tidy.{purse_after, purse_by, AreBalanced, AreTidy, IsTidy, LoseNoSnapshot, LosesNoSnapshot, LosesNothing, Purse}
+use Rattle.txc_world.specs.Worlds.{value_of, IsBalanced, WorldValue}
+use Rattle.txc_world.proofs.Counting.{sum_at, sum_set}
+use Rattle.txc_world.proofs.Stepping.{set_twice}
+
+-- ---- an actor steps
+
+module _ (old new : PortsValue) (accounts : List Account) (place : ℕ) (before after : Account) (there : slice_get accounts place ≡ Some before) (spare : List ℕ) (purse : Purse) where
+  acts_balanced : IsFair old new before after → AreBalanced spare (books_of old accounts) purse → AreBalanced spare (books_of new (slice_set accounts place after)) purse
+  acts_balanced fair h = record {
+    held = λ t.
+        let a = h.held t in
+        let b = fair.holds t in
+        let c = sum_set (λ (x : Account). times t x.own) accounts place before after there in
+        omega (arith, a, b, c);
+    used = λ t.
+        let a = h.used t in
+        let b = fair.users t in
+        let c = sum_set (λ (x : Account). times t x.taken) accounts place before after there in
+        omega (arith, a, b, c);
+  }
+
+  -- what an actor has is held
+  none_lost : CountRight old → AreBalanced spare (books_of old accounts) purse → HasLost old before → ⊥
+  none_lost right h lost =
+      let t = lost.stamp in
+      let a = h.held t in
+      let b = h.used t in
+      let c = sum_at (λ (x : Account). times t x.own) accounts place before there in
+      let d = sum_at (λ (x : Account). times t x.taken) accounts place before there in
+      let e = lost.had in
+      let gone = lost.lost in
+      let once = right.once old.cushion t right.cushion in
+      let pins : times t (stamps_of old.cushion.entries) ≡ 0 = omega (arith, a, gone) in
+      let users = once.1 pins in
+      absurd (omega (arith, a, b, c, d, e, gone, users))
+
+  did_not_lose : (did : Did) (end : Option End) → CountRight old → AreBalanced spare (books_of old accounts) purse → IsLossOf old before did → LosesNothing (replies.Asked did end)
+  did_not_lose (dids.Refused (errors.SnapshotGone horizon)) end right h lost = none_lost right h lost
+  did_not_lose (dids.Refused (errors.Conflict first)) end right h lost = tt
+  did_not_lose (dids.Refused errors.Full) end right h lost = tt
+  did_not_lose (dids.Refused (errors.Store cause)) end right h lost = tt
+  did_not_lose (dids.Refused errors.Broken) end right h lost = tt
+  did_not_lose (dids.Refused (errors.NotPinned named)) end right h lost = tt
+  did_not_lose (dids.Refused (errors.FutureStamp last)) end right h lost = tt
+  did_not_lose (dids.Refused errors.HoldsFull) end right h lost = tt
+  did_not_lose (dids.Refused errors.Memory) end right h lost = tt
+  did_not_lose (dids.Pinned stamp) end right h lost = tt
+  did_not_lose dids.Added end right h lost = tt
+  did_not_lose (dids.NotAdded e) end right h lost = tt
+  did_not_lose dids.Unpinned end right h lost = tt
+  did_not_lose (dids.Hit reach) end right h lost = tt
+  did_not_lose dids.Miss end right h lost = tt
+  did_not_lose (dids.Rows rows) end right h lost = tt
+  did_not_lose (dids.Stored reach) end right h lost = tt
+  did_not_lose dids.Kept end right h lost = tt
+  did_not_lose dids.Dropped end right h lost = tt
+
+  loses_nothing : (reply : Reply) → CountRight old → AreBalanced spare (books_of old accounts) purse → ActCounts old new before after reply → LosesNothing reply
+  loses_nothing (replies.Asked did end) right h counts = did_not_lose did end right h counts.loss
+  loses_nothing replies.Begun right h counts = tt
+  loses_nothing replies.Started right h counts = tt
+  loses_nothing (replies.Ended end) right h counts = tt
+  loses_nothing (replies.Receipt pin) right h counts = tt
+  loses_nothing (replies.Aborted left) right h counts = tt
+  loses_nothing (replies.At stamp) right h counts = tt
+  loses_nothing replies.Added right h counts = tt
+  loses_nothing replies.GivenBack right h counts = tt
+  loses_nothing (replies.Retired stamps) right h counts = tt
+  loses_nothing replies.Unpinned right h counts = tt
+  loses_nothing (replies.Vacuumed horizon) right h counts = tt
+  loses_nothing (replies.Rows found) right h counts = tt
+  loses_nothing (replies.Advanced advanced) right h counts = tt
+  loses_nothing (replies.Swept count) right h counts = tt
+  loses_nothing (replies.Refused refusal) right h counts = tt
+
+module _ {A C : Type 0} (settings : WorldSettings) (old new : PortsValue) (actors : List (Option (Actor A C))) (place : ℕ) (actor actor' : Actor A C)
+    (is : slice_get actors place ≡ Some (Some actor)) where
+  account_there : slice_get (map account_at actors) place ≡ Some (account_of actor)
+  account_there = slice_get-map account_at actors place ∙ ap (λ (o : Option (Option (Actor A C))). option_map account_at o) is
+
+  pub world_balanced : (actors' : List (Option (Actor A C))) (was now : WorldValue) (reply : Reply) (purse : Purse)
+      → actors' ≡ slice_set (slice_set actors place None) place (Some actor') → new.spare ≡ old.spare → CountRight old
+      → ActCounts old new (account_of actor) (account_of actor') reply
+      → value_of settings old actors ≡ was → value_of settings new actors' ≡ now → IsBalanced was purse → IsBalanced now purse × LosesNothing reply
+  world_balanced actors' was now reply purse put spare right counts shows shows' h =
+      let h' = subst (λ (w : WorldValue). IsBalanced w purse) (sym shows) h in
+      let b = acts_balanced old new (map account_at actors) place (account_of actor) (account_of actor') account_there (stamps_of_pins old.spare) purse counts.fair h' in
+      (
+        subst (λ (w : WorldValue). IsBalanced w purse) shows' (rw (put, set_twice actors place None (Some actor'), spare, map-set account_at actors place (Some actor')) b),
+        loses_nothing old new (map account_at actors) place (account_of actor) (account_of actor') account_there (stamps_of_pins old.spare) purse reply right h' counts,
+      )
+
+-- ---- one more step and its reply
+
+pub tidy_first : (purse : Purse) (steps : List Step) (replies : List Reply) (step : Step) (reply : Reply) → length replies ≡ length steps
+    → AreTidy purse (steps ++ step ∷ []) (replies ++ reply ∷ []) → AreTidy purse steps replies × IsTidy step reply (purse_by purse steps replies)
+tidy_first purse [] [] step reply e h = (tt, h.0)
+tidy_first purse [] (r ∷ rs) step reply e h = absurd (cc e)
+tidy_first purse (s ∷ ss) [] step reply e h = absurd (cc e)
+tidy_first purse (s ∷ ss) (r ∷ rs) step reply e h =
+    let e' : length rs ≡ length ss = cc in
+    let rest = tidy_first (purse_after s r purse) ss rs step reply e' h.1 in
+    ((h.0, rest.0), rest.1)
+
+pub purse_more : (purse : Purse) (steps : List Step) (replies : List Reply) (step : Step) (reply : Reply) → length replies ≡ length steps
+    → purse_by purse (steps ++ step ∷ []) (replies ++ reply ∷ []) ≡ purse_after step reply (purse_by purse steps replies)
+purse_more purse [] [] step reply e = refl
+purse_more purse [] (r ∷ rs) step reply e = absurd (cc e)
+purse_more purse (s ∷ ss) [] step reply e = absurd (cc e)
+purse_more purse (s ∷ ss) (r ∷ rs) step reply e =
+    let e' : length rs ≡ length ss = cc in purse_more (purse_after s r purse) ss rs step reply e'
+
+pub lose_more : (steps : List Step) (replies : List Reply) (step : Step) (reply : Reply) → length replies ≡ length steps
+    → LoseNoSnapshot steps replies → LosesNoSnapshot step reply → LoseNoSnapshot (steps ++ step ∷ []) (replies ++ reply ∷ [])
+lose_more [] [] step reply e h k = (k, tt)
+lose_more [] (r ∷ rs) step reply e h k = absurd (cc e)
+lose_more (s ∷ ss) [] step reply e h k = absurd (cc e)
+lose_more (s ∷ ss) (r ∷ rs) step reply e h k =
+    let e' : length rs ≡ length ss = cc in (h.0, lose_more ss rs step reply e' h.1 k)
