@@ -26,7 +26,7 @@ use Rattle.txc_world.specs.Books.{books_of, times_own, times_taken, Account, Cou
 use Rattle.txc_world.specs.Tidy.{purse_kept, AreBalanced, IsTidyKeep, KeepsBalance, Purse}
 use Rattle.txc_world.specs.Kept.{told_addition}
 use Rattle.txc_world.proofs.KeptLemmas.{pinned_spare_stamps}
-use Rattle.txc_world.proofs.Counting.{held_there, times_append, times_cons, times_one, times_without}
+use Rattle.txc_world.proofs.Times.{held_there, times_append, times_cons, times_one, times_without}
 use Rattle.txc_world.proofs.Fairness.{left_holds, pin_holds}
 
 module _ (old new : PortsValue) where

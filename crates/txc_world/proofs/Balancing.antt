@@ -1,5 +1,6 @@
 -- What stays in balance over a world and over a list of steps.
-use Rattle.std.proofs.Common.{◌≡◌, ◌∙◌, ℕ, ◌+◌, ◌<◌, ◌≤◌, true, false, List, [], ◌∷◌, ◌++◌, length, map, Result, Ok, Err, Option, Some, None, refl, ap, sym, subst, arith, slice_get, slice_set}
+use Rattle.std.proofs.Common.{◌≡◌, ◌∙◌, ℕ, ◌+◌, ◌<◌, ◌≤◌, true, false, List, [], ◌∷◌, ◌++◌, length, map, Result, Ok, Err, Option, Some, None, refl, ap, sym, subst, arith, slice_get, slice_set, take, get_or, add-one, length-take-le}
+use Rattle.std.proofs.Math.Seq.{take-length, take-suc}
 use Rattle.std.proofs.lemmas.Option.{slice_get-map}
 use Rattle.std.proofs.lemmas.List.{map-set}
 use Rattle.std.specs.Option.{option_map}
@@ -18,7 +19,7 @@ use Rattle.txc_world.specs.Keeping.{stamps_of as stamps_of_pins}
 use Rattle.txc_world.specs.Books.{account_at, account_of, books_of, times_own, times_taken, Account, ActCounts, CountRight, HasLost, IsFair, IsLossOf}
 use Rattle.txc_world.specs.Tidy.{purse_after, purse_by, AreBalanced, AreTidy, IsTidy, LoseNoSnapshot, LosesNoSnapshot, LosesNothing, Purse}
 use Rattle.txc_world.specs.Worlds.{value_of, IsBalanced, WorldValue}
-use Rattle.txc_world.proofs.Counting.{sum_at, sum_set}
+use Rattle.txc_world.proofs.Times.{sum_at, sum_set}
 use Rattle.txc_world.proofs.Stepping.{set_twice}
 
 -- ---- an actor steps
@@ -136,3 +137,38 @@ lose_more [] (r ∷ rs) step reply e h k = absurd (cc e)
 lose_more (s ∷ ss) [] step reply e h k = absurd (cc e)
 lose_more (s ∷ ss) (r ∷ rs) step reply e h k =
     let e' : length rs ≡ length ss = cc in (h.0, lose_more ss rs step reply e' h.1 k)
+
+-- ---- the loop over the steps
+
+-- each list that is tidy leaves each what is its own, and loses no snapshot
+abbrev pub StaysBalanced : WorldValue → WorldValue → List Step → List Reply → Type 0
+StaysBalanced start now steps replies = (purse : Purse) → IsBalanced start purse → AreTidy purse steps replies
+    → IsBalanced now (purse_by purse steps replies) × LoseNoSnapshot steps replies
+
+module _ (steps : List Step) (i : ℕ) (step : Step) (within : i < length steps) where
+  one_more : step ≡ get_or steps i step → take (i + 1) steps ≡ take i steps ++ step ∷ []
+  one_more is = ap (λ n. take n steps) (add-one i) ∙ take-suc steps i step within ∙ ap (λ s. take i steps ++ s ∷ []) (sym is)
+
+  as_many : (replies : List Reply) → length replies ≡ i → length replies ≡ length (take i steps)
+  as_many replies even = let less : i ≤ length steps = omega (arith, within) in let long = length-take-le i steps less in even ∙ sym long
+
+  pub loop_tidy : (replies : List Reply) (reply : Reply) → step ≡ get_or steps i step → length replies ≡ i
+      → (start now new : WorldValue) → StaysBalanced start now (take i steps) replies
+      → ((purse : Purse) → IsBalanced now purse → IsTidy step reply purse → IsBalanced new (purse_after step reply purse) × LosesNoSnapshot step reply)
+      → StaysBalanced start new (take (i + 1) steps) (replies ++ reply ∷ [])
+  loop_tidy replies reply is even start now new h k = rw (one_more is) (λ purse b tidy.
+      let long = as_many replies even in
+      let parts = tidy_first purse (take i steps) replies step reply long tidy in
+      let before = h purse b parts.0 in
+      let last = k (purse_by purse (take i steps) replies) before.0 parts.1 in
+      (
+        subst (IsBalanced new) (sym (purse_more purse (take i steps) replies step reply long)) last.0,
+        lose_more (take i steps) replies step reply long before.1 last.1,
+      ))
+
+pub loop_tidy_end : (steps : List Step) (i : ℕ) (replies : List Reply) → length steps ≤ i → i ≤ length steps
+    → (start now : WorldValue) → StaysBalanced start now (take i steps) replies → StaysBalanced start now steps replies
+loop_tidy_end steps i replies past within start now h =
+    let at : i ≡ length steps = omega (arith, past, within) in
+    let all : take i steps ≡ steps = ap (λ n. take n steps) at ∙ take-length steps in
+    subst (λ (ss : List Step). StaysBalanced start now ss replies) all h

@@ -1,5 +1,7 @@
 -- What a transaction's requests do to holds and users.
-use Rattle.std.proofs.Common.{◌≡◌, ◌∙◌, ℕ, zero, suc, ◌+◌, ◌<◌, ◌≤◌, ◌==◌, Bool, true, false, cond, List, [], ◌∷◌, ◌++◌, length, map, ◌&&◌, All, Contains, Result, Ok, Err, Option, Some, None, refl, ap, sym, subst, inl, inr, arith, length-append}
+use Rattle.std.proofs.Common.{◌≡◌, ◌∙◌, ℕ, zero, suc, ◌+◌, ◌<◌, ◌≤◌, ◌==◌, Bool, true, false, cond, List, [], ◌∷◌, ◌++◌, length, map, ◌&&◌, All, Contains, Result, Ok, Err, Option, Some, None, refl, ap, sym, subst, inl, inr, arith, eqb-true, length-append, get_or, drop, add-one}
+use Rattle.std.proofs.Math.Seq.{drop-cons}
+use Rattle.std.proofs.lemmas.List.{drop_all}
 use Rattle.std.proofs.lemmas.List.Elements.{All-head}
 use Rattle.std.specs.Prelude.{if◌then◌else◌}
 use Rattle.std.specs.List.{AllByRecursion}
@@ -43,9 +45,10 @@ use Rattle.txc_world.specs.Ports.{PortsValue, HasLedNode}
 use Rattle.txc_world.specs.Asks.{did_insert, AddLeads, DoesTell, FreshLeads, PinLeads, UnpinLeads}
 use Rattle.txc_world.specs.Keeping.{GiveBackLeads}
 use Rattle.txc_world.specs.declared.did.RowsFound.{RowsFound}
+use Rattle.txc_world.specs.declared.reply.Reply.{Reply}
 use Rattle.txc_world.specs.Actors.{counted, holds_any}
-use Rattle.txc_world.specs.Books.{account_of_core, gained, listed, nothing, spent, Account, AskCounts, CountRight, HasLost, IsFair, IsGone, IsLossOf}
-use Rattle.txc_world.proofs.Counting.{times_append, times_cons, times_one, times_there, times_without}
+use Rattle.txc_world.specs.Books.{account_of_core, gained, handed, listed, nothing, spent, Account, ActCounts, AskCounts, CountRight, HasLost, IsFair, IsGone, IsLossOf, ReplyIsLossOf}
+use Rattle.txc_world.proofs.Times.{times_append, times_cons, times_off, times_one, times_there, times_without}
 
 -- ---- what is fair
 
@@ -90,7 +93,7 @@ fair_then old between new a b c first second = record {
 
 -- pins are handed out, each with one user more
 pub fair_fresh : (old new : PortsValue) (now staleness at_least : ℕ) (pins : Pins) → CountRight old → FreshLeads {A = Unit {0}} now staleness at_least old new (Ok pins)
-    → IsFair old new nothing (record { taken = map (λ p. p.stamp) pins.pins.items; own = [] })
+    → IsFair old new nothing (handed pins.pins.items)
 fair_fresh old new now staleness at_least pins right leads = rw (leads.0, leads.1) (record {
   holds = λ t. let one = right.fresh old.cushion now staleness at_least t right.cushion in let same = ap (times t) one.stamps in omega (arith, same);
   users = λ t. let one = right.fresh old.cushion now staleness at_least t right.cushion in let more = one.users in omega (arith, more);
@@ -98,26 +101,26 @@ fair_fresh old new now staleness at_least pins right leads = rw (leads.0, leads.
 
 -- users are given back, or the pincushion refuses
 pub fair_give_back : {A : Type 0} → (old new : PortsValue) (stamps : List ℕ) (given : Result A UnknownPin) → GiveBackCountsUsers → GiveBackLeads stamps old new given
-    → (taken left own : List ℕ) → ((t : ℕ) → times t left + times t stamps ≤ times t taken)
-    → IsFair old new (record { taken = taken; own = own }) (record { taken = left; own = own })
-fair_give_back old new stamps (Ok given) law leads taken left own less = rw leads.0 (record {
-  holds = λ t. let one = law old.cushion stamps t leads.1 in let same = ap (times t) one.stamps in omega (arith, same);
+    → (taken left own rest : List ℕ) → ((t : ℕ) → times t left + times t stamps ≤ times t taken) → ((t : ℕ) → times t rest ≤ times t own)
+    → IsFair old new (record { taken = taken; own = own }) (record { taken = left; own = rest })
+fair_give_back old new stamps (Ok given) law leads taken left own rest less fewer_own = rw leads.0 (record {
+  holds = λ t. let one = law old.cushion stamps t leads.1 in let same = ap (times t) one.stamps in let o = fewer_own t in omega (arith, same, o);
   users = λ t. let one = law old.cushion stamps t leads.1 in let fewer = one.users in let l = less t in omega (arith, fewer, l);
 })
-fair_give_back old new stamps (Err unknown) law leads taken left own less = rw leads.0 (record {
-  holds = λ t. omega arith;
+fair_give_back old new stamps (Err unknown) law leads taken left own rest less fewer_own = rw leads.0 (record {
+  holds = λ t. let o = fewer_own t in omega (arith, o);
   users = λ t. let l = less t in omega (arith, l);
 })
 
 -- ---- what is gone
 
-none_held : (stamp horizon newest : ℕ) (holds : List ℕ) → stamp < horizon → AllByRecursion (IsReadable horizon newest) holds → times stamp holds ≡ 0
-none_held stamp horizon newest [] below all = refl
-none_held stamp horizon newest (h ∷ hs) below all = go (h == stamp) refl (none_held stamp horizon newest hs below all.1)
+none_held : (stamp horizon last : ℕ) (holds : List ℕ) → stamp < horizon → AllByRecursion (IsReadable horizon last) holds → times stamp holds ≡ 0
+none_held stamp horizon last [] below all = refl
+none_held stamp horizon last (h ∷ hs) below all = go (h == stamp) refl (none_held stamp horizon last hs below all.1)
   where
     go : (b : Bool) → (h == stamp) ≡ b → times stamp hs ≡ 0 → times stamp (h ∷ hs) ≡ 0
-    go true is none = let same : h ≡ stamp = cc in let low = all.0.low in absurd (omega (arith, low, same, below))
-    go false is none = times_cons stamp h hs ∙ rw is none
+    go true is none = let same : h ≡ stamp = eqb-true h stamp is in let low = all.0.low in absurd (omega (arith, low, same, below))
+    go false is none = times_off stamp h hs is ∙ none
 
 module _ (p : PortsValue) (right : CountRight p) where
   pub gone_query : (query : Query) (stamp : ℕ) (e : DbError) → IsQueryRefused p.database query stamp e → IsGone (requests.Query query stamp) p (dids.Refused e)
@@ -330,3 +333,41 @@ module _ (next : Next) (objects : Objects) (p : PortsValue) (c : CoreValue) (fit
   loss_counted members request (dids.Stored reach) asking gone = tt
   loss_counted members request dids.Kept asking gone = tt
   loss_counted members request dids.Dropped asking gone = tt
+
+-- ---- the ends of a transaction
+
+-- all that was taken is given back; a hold is left, if one was there
+pub fair_ended : {A : Type 0} → (old new : PortsValue) (c : CoreValue) (stamps : List ℕ) (given : Result A UnknownPin) → GiveBackCountsUsers → GiveBackLeads stamps old new given
+    → stamps ≡ c.taken → (rest : List ℕ) → ((t : ℕ) → times t rest ≤ times t (listed (left_pin c.pinning))) → IsFair old new (account_of_core c) (record { taken = []; own = rest })
+fair_ended old new c stamps given law leads same rest fewer =
+    fair_give_back old new stamps given law leads c.taken [] (listed (left_pin c.pinning)) rest (λ t. rw same (omega arith)) fewer
+
+pub loss_unpin : (p : PortsValue) (a : Account) (stamp : ℕ) (e : DbError) → IsUnpinRefused p.database stamp e → IsLossOf p a (dids.Refused e)
+loss_unpin p a stamp (errors.SnapshotGone horizon) h = absurd h
+loss_unpin p a stamp (errors.Conflict first) h = tt
+loss_unpin p a stamp errors.Full h = tt
+loss_unpin p a stamp (errors.Store cause) h = tt
+loss_unpin p a stamp errors.Broken h = tt
+loss_unpin p a stamp (errors.NotPinned named) h = tt
+loss_unpin p a stamp (errors.FutureStamp last) h = tt
+loss_unpin p a stamp errors.HoldsFull h = tt
+loss_unpin p a stamp errors.Memory h = tt
+
+-- a step that leaves the ports and the account
+pub counts_itself : (p : PortsValue) (a : Account) (reply : Reply) → ReplyIsLossOf p a reply → ActCounts p p a a reply
+counts_itself p a reply loss = record { fair = fair_itself p a; loss = loss }
+
+-- one pin after another is given back
+pub fair_rest : {A : Type 0} → (old between new : PortsValue) (pins : List Pin) (i : ℕ) (pin : Pin) (given : Result A UnknownPin) → GiveBackCountsUsers
+    → GiveBackLeads (pin.stamp ∷ []) between new given → i < length pins → pin ≡ get_or pins i pin → IsFair old between (handed pins) (handed (drop i pins))
+    → IsFair old new (handed pins) (handed (drop (i + 1) pins))
+fair_rest old between new pins i pin given law leads within is fair =
+    let rest = drop (i + 1) pins in
+    let first : drop i pins ≡ pin ∷ rest = drop-cons pins i pin within ∙ (ap (λ (p : Pin). p ∷ drop (suc i) pins) (sym is) ∙ ap (λ (n : ℕ). pin ∷ drop n pins) (sym (add-one i))) in
+    let one : (t : ℕ) → times t (map (λ p. p.stamp) rest) + times t (pin.stamp ∷ []) ≤ times t (map (λ p. p.stamp) (drop i pins)) =
+    λ t. rw first (let all = times_cons t pin.stamp (map (λ (p : Pin). p.stamp) rest) in let own = times_one t pin.stamp in omega (arith, all, own)) in
+    fair_then old between new (handed pins) (handed (drop i pins)) (handed rest) fair
+    (fair_give_back between new (pin.stamp ∷ []) given law leads (map (λ (p : Pin). p.stamp) (drop i pins)) (map (λ (p : Pin). p.stamp) rest) [] [] one (λ t. omega arith))
+
+pub fair_all : (old new : PortsValue) (pins : List Pin) (i : ℕ) → length pins ≤ i → IsFair old new (handed pins) (handed (drop i pins)) → IsFair old new (handed pins) nothing
+fair_all old new pins i past fair = rw (drop_all pins i past) at fair

@@ -19,6 +19,7 @@ use Rattle.txc_world.specs.declared.reply.Refusal.TheVariants as refusals
 use Rattle.txc_world.specs.Ports.{PortsValue, HasRefused, HasLedNode, KeepsRow}
 use Rattle.txc_world.specs.Keeping.{stamps_of, HasPinnedSpare, HasAddedSpare, WriteLeads, PinSpareLeads, AddSpareLeads}
 use Rattle.txc_world.specs.Kept.{told_addition, IsKept}
+use Rattle.txc_world.specs.Tidy.{KeepsBalance}
 use Rattle.txc_world.specs.Told.{keep_in, spare_after, IsDueOr, IsKeepDue}
 use Rattle.txc_shared.specs.Nodes.{NodeValue}
 use Rattle.txc_world.proofs.PortsLemmas.{left_history}
@@ -101,28 +102,31 @@ led_spare old new at leads h = ap (λ (p : PortsValue). stamps_of p.spare) h.is
 
 -- an addition is told so
 pub kept_addition : (old new : PortsValue) (stamp : ℕ) (added : Option (Result (Unit {0}) AddError)) → AddSpareLeads stamp old new added
-    → KeepsRow old new → IsKept (keeps.Add stamp) old new (told_addition added)
-kept_addition old new stamp (Some (Ok added)) leads keeps = record {
+    → KeepsRow old new → KeepsBalance (keeps.Add stamp) old new (told_addition added) → IsKept (keeps.Add stamp) old new (told_addition added)
+kept_addition old new stamp (Some (Ok added)) leads keeps balance = record {
   leads = leads;
   history = ap (λ (p : PortsValue). p.database.history) leads.added.0;
   spare = leads.spare;
   due = due_held (length old.nodes) stamp (stamps_of old.spare) replies.Added _ leads.held tt;
   no_receipt = tt;
   keeps = keeps;
+  balance = balance;
 }
-kept_addition old new stamp (Some (Err e)) leads keeps = record {
+kept_addition old new stamp (Some (Err e)) leads keeps balance = record {
   leads = leads;
   history = ap (λ (p : PortsValue). p.database.history) leads.added.0;
   spare = leads.spare;
   due = due_held (length old.nodes) stamp (stamps_of old.spare) (Refused (refusals.Pincushion e)) _ leads.held tt;
   no_receipt = tt;
   keeps = keeps;
+  balance = balance;
 }
-kept_addition old new stamp None leads keeps = record {
+kept_addition old new stamp None leads keeps balance = record {
   leads = leads;
   history = ap (λ (p : PortsValue). p.database.history) leads.0;
   spare = ap (λ (p : PortsValue). stamps_of p.spare) leads.0;
   due = due_not_held stamp (stamps_of old.spare) _ leads.1;
   no_receipt = tt;
   keeps = keeps;
+  balance = balance;
 }

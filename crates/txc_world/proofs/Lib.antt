@@ -10,7 +10,7 @@ pub mod Tellings
 pub mod Turning
 pub mod Stepping
 pub mod MemberLemmas
-pub mod Counting
+pub mod Times
 pub mod Fairness
 pub mod Balance
 pub mod Balancing

@@ -1,9 +1,10 @@
 -- The books of a world: who has each hold of a stamp, and who uses each pin.
-use Rattle.std.specs.Prelude.{◌≡◌, ℕ, ◌+◌, ◌<◌, ◌≤◌, List, [], ◌∷◌, Option, Some, None, sum_by, false}
+use Rattle.std.specs.Prelude.{◌≡◌, ℕ, ◌+◌, ◌<◌, ◌≤◌, List, [], ◌∷◌, Option, Some, None, map, sum_by, false}
 use Rattle.txc_db.specs.declared.error.DbError.TheVariants.{SnapshotGone}
 use Rattle.txc_db.specs.DatabaseValue.{IsSound}
 use Rattle.txc_db.specs.Laws.{OneHoldLess}
 use Rattle.txc_cushion.specs.declared.entry.PinEntry.{PinEntry}
+use Rattle.txc_cushion.specs.declared.pin.Pin.{Pin}
 use Rattle.txc_cushion.specs.Entries.{stamps_of, times, users_of}
 use Rattle.txc_cushion.specs.Cushion.{IsCushion}
 use Rattle.txc_cushion.specs.Laws.{AddCountsOnePin, FreshCountsUsers, GiveBackCountsUsers, PinsEachStampOnce, RetireCountsTheUnused}
@@ -27,6 +28,10 @@ pub record Account : Type 0 where
 
 abbrev pub nothing : Account
 nothing = record { taken = []; own = [] }
+
+-- these pins were handed out
+abbrev pub handed : List Pin → Account
+handed pins = record { taken = map (λ p. p.stamp) pins; own = [] }
 
 -- the stamp, if there is one
 abbrev pub listed : Option ℕ → List ℕ

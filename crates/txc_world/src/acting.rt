@@ -252,11 +252,13 @@ fn leave<A: App, C: Cacheable>(
     ensures counts { ActCounts ports.old ports.new (record { taken = []; own = stamp ∷ [] }) (account_of result.0) result.1 }
 {
     ports.count_right();
-    let did = match ports.unpin(stamp) {
-        Ok(()) => Did::Unpinned,
-        Err(error) => Did::Refused(error),
-    };
-    (Actor::Idle(registry), Reply::Asked(did, None))
+    match ports.unpin(stamp) {
+        Ok(()) => (Actor::Idle(registry), Reply::Asked(Did::Unpinned, None)),
+        Err(error) => (
+            Actor::Idle(registry),
+            Reply::Asked(Did::Refused(error), None),
+        ),
+    }
 }
 
 // Ends the transaction with its receipt, and gives its pins back.
@@ -301,11 +303,13 @@ fn abort<A: App, C: Cacheable>(ports: &mut Ports<A>, current: OpenTxn<A, C>) -> 
     give_back_counts_users();
     let (left, registry) = current.txn.cancel();
     let _ = ports.give_back(&left.give_back);
-    let actor = match left.unpin {
-        Some(stamp) => Actor::Leaving(registry, stamp),
-        None => Actor::Idle(registry),
-    };
-    (actor, Reply::Aborted(left.unpin))
+    match left.unpin {
+        Some(stamp) => (
+            Actor::Leaving(registry, stamp),
+            Reply::Aborted(Some(stamp)),
+        ),
+        None => (Actor::Idle(registry), Reply::Aborted(None)),
+    }
 }
 
 // What an actor does that has nothing open.

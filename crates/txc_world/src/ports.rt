@@ -1,5 +1,5 @@
 //! The plain ports of a world.
-ghost use Rattle.std.specs.Prelude.{◌≡◌, false, ◌≤◌, ◌<◌, [], length, map, IfSome, IfOk, OnErr, slice_get, Some, All};
+ghost use Rattle.std.specs.Prelude.{◌≡◌, false, ◌≤◌, ◌<◌, length, IfSome, IfOk, OnErr, slice_get, Some, All};
 ghost use Rattle.std.specs.Option.{option_map};
 ghost use Rattle.txc_shared.specs.Claims.{IsTrueIn};
 ghost use Rattle.txc_shared.specs.Nodes.{entry_shown};
@@ -60,7 +60,7 @@ impl<A: App> Model for Ports<A> {
 impl<A: App> Ports<A> {
     ghost use Rattle.txc_ports.specs.Answers.{IsFresh};
     ghost use Rattle.txc_world.specs.Asks.{AddLeads, FindLeads, FreshLeads, PinLeads, UnpinLeads};
-    ghost use Rattle.txc_world.specs.Books.{nothing, IsFair};
+    ghost use Rattle.txc_world.specs.Books.{handed, nothing, IsFair};
     ghost use Rattle.txc_world.specs.NodeSteps.{InsertLeads, LookupLeads};
     ghost use Rattle.txc_world.specs.Parts.{IsPartOf};
     ghost use Rattle.txc_world.specs.Ports.{whole_of, HasLedNode, KeepsRow};
@@ -205,8 +205,7 @@ impl<A: App> Ports<A> {
     /// Gives one user of each of the pins back. It takes no memory.
     pub(crate) fn give_back_pins(&mut self, pins: &Pins)
         ensures same { self.new ≡ record self.old { cushion = self.new.cushion } }
-        ensures fair { IsFair self.old self.new
-            (record { taken = map (λ p. p.stamp) pins.now.pins.items; own = [] }) nothing }
+        ensures fair { IsFair self.old self.new (handed pins.now.pins.items) nothing }
     {
         give_back_counts_users();
         for pin in &pins.pins {

@@ -1,5 +1,5 @@
 -- How often stamps stand in lists.
-use Rattle.std.proofs.Common.{◌≡◌, ◌∙◌, ℕ, zero, suc, ◌+◌, ◌<◌, ◌≤◌, ◌==◌, Bool, true, false, cond, List, [], ◌∷◌, ◌++◌, length, Option, Some, None, Contains, refl, sym, ap, arith, eqb-true, eq-eqb, slice_get, slice_set}
+use Rattle.std.proofs.Common.{◌≡◌, ◌∙◌, ℕ, zero, suc, ◌+◌, ◌<◌, ◌≤◌, ◌==◌, Bool, true, false, cond, List, [], ◌∷◌, ◌++◌, length, Option, Some, None, Contains, refl, sym, ap, arith, eq-eqb, zero-add, slice_get, slice_set}
 use Rattle.std.specs.Prelude.{sum_by}
 use Rattle.std.proofs.lemmas.List.Sums.{sum_by-cons, sum_by-append}
 use Rattle.txc_db.specs.DatabaseValue.{holds_of, is_held, without}
@@ -8,6 +8,12 @@ use Rattle.txc_cushion.specs.Entries.{times}
 
 pub times_cons : (t x : ℕ) (xs : List ℕ) → times t (x ∷ xs) ≡ cond (x == t) 1 0 + times t xs
 times_cons t x xs = sum_by-cons (λ (s : ℕ). cond (s == t) 1 0) x xs
+
+times_on : (t x : ℕ) (xs : List ℕ) → (x == t) ≡ true → times t (x ∷ xs) ≡ 1 + times t xs
+times_on t x xs is = times_cons t x xs ∙ rw is refl
+
+pub times_off : (t x : ℕ) (xs : List ℕ) → (x == t) ≡ false → times t (x ∷ xs) ≡ times t xs
+times_off t x xs is = times_cons t x xs ∙ rw is (zero-add (times t xs))
 
 pub times_append : (t : ℕ) (xs ys : List ℕ) → times t (xs ++ ys) ≡ times t xs + times t ys
 times_append t xs ys = sum_by-append (λ (s : ℕ). cond (s == t) 1 0) xs ys
@@ -42,8 +48,7 @@ pub times_there : (x : ℕ) (xs : List ℕ) → Contains xs x → 0 < times x xs
 times_there x [] (k, within, at) = absurd (omega (arith, within))
 times_there x (y ∷ ys) (zero, within, at) =
     let same : y ≡ x = at in
-    let here : (y == x) ≡ true = eq-eqb y x same in
-    let all = rw here at (times_cons x y ys) in
+    let all = times_on x y ys (eq-eqb y x same) in
     omega (arith, all)
 times_there x (y ∷ ys) (suc k, within, at) =
     let rest = times_there x ys (k, omega (arith, within), at) in
