@@ -107,15 +107,19 @@ module _ (old new : PortsValue) where
             let one = right.add old.cushion pinned t right.cushion leads.added.1 in
             let b = one.stamps in
             let c = times_without right.unpin t stamp (stamps_of_pins old.spare) leads.held in
-            let d = rw leads.stamp_is at (times_one t pinned.stamp) in
-            omega (arith, a, b, c, d);
+            let d = ap (λ (s : ℕ). times t (s ∷ [])) leads.stamp_is in
+            let e = times_one t pinned.stamp in
+            let f = times_one t stamp in
+            omega (arith, a, b, c, d, e, f);
         used = λ t.
             let a = h.used t in
             let one = right.add old.cushion pinned t right.cushion leads.added.1 in
             let b = one.users in
             let c = times_cons t stamp purse.lent in
-            let d = rw leads.stamp_is at (times_one t pinned.stamp) in
-            omega (arith, a, b, c, d);
+            let d = ap (λ (s : ℕ). times t (s ∷ [])) leads.stamp_is in
+            let e = times_one t pinned.stamp in
+            let f = times_one t stamp in
+            omega (arith, a, b, c, d, e, f);
       })
 
   keeps_not_added : (stamp : ℕ) (e : AddError) → CountRight old → HasAddedSpare {A = Unit {0}} stamp old new (Err e) → KeepsBalance (keeps.Add stamp) old new (Refused (refusals.Pincushion e))

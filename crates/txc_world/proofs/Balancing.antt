@@ -1,6 +1,8 @@
 -- What stays in balance over a world and over a list of steps.
 use Rattle.std.proofs.Common.{◌≡◌, ◌∙◌, ℕ, ◌+◌, ◌<◌, ◌≤◌, true, false, List, [], ◌∷◌, ◌++◌, length, map, Result, Ok, Err, Option, Some, None, refl, ap, sym, subst, arith, slice_get, slice_set, take, get_or, add-one, length-take-le}
 use Rattle.std.proofs.Math.Seq.{take-length, take-suc}
+use Rattle.std.specs.Prelude.{sum_by}
+use Rattle.std.proofs.lemmas.List.Sums.{sum_by-cons}
 use Rattle.std.proofs.lemmas.Option.{slice_get-map}
 use Rattle.std.proofs.lemmas.List.{map-set}
 use Rattle.std.specs.Option.{option_map}
@@ -16,11 +18,29 @@ use Rattle.txc_world.specs.declared.settings.WorldSettings.{WorldSettings}
 use Rattle.txc_world.specs.declared.step.Step.{Step}
 use Rattle.txc_world.specs.Ports.{PortsValue}
 use Rattle.txc_world.specs.Keeping.{stamps_of as stamps_of_pins}
-use Rattle.txc_world.specs.Books.{account_at, account_of, books_of, times_own, times_taken, Account, ActCounts, CountRight, HasLost, IsFair, IsLossOf}
-use Rattle.txc_world.specs.Tidy.{purse_after, purse_by, AreBalanced, AreTidy, IsTidy, LoseNoSnapshot, LosesNoSnapshot, LosesNothing, Purse}
+use Rattle.txc_world.specs.Books.{account_at, account_of, books_of, nothing, times_own, times_taken, Account, ActCounts, CountRight, HasLost, IsFair, IsLossOf}
+use Rattle.txc_world.specs.Tidy.{empty_purse, purse_after, purse_by, AreBalanced, AreTidy, IsTidy, LoseNoSnapshot, LosesNoSnapshot, LosesNothing, Purse}
 use Rattle.txc_world.specs.Worlds.{value_of, IsBalanced, WorldValue}
 use Rattle.txc_world.proofs.Times.{sum_at, sum_set}
 use Rattle.txc_world.proofs.Stepping.{set_twice}
+
+-- ---- a new world
+
+module _ {A C X : Type 0} (start : X → Option (Actor A C)) (starts : (x : X) → account_at (start x) ≡ nothing) where
+  none_have : (count : Account → ℕ) → count nothing ≡ 0 → (xs : List X) → sum_by count (map account_at (map start xs)) ≡ 0
+  none_have count none [] = refl
+  none_have count none (x ∷ xs) =
+      let all = sum_by-cons count (account_at (start x)) (map account_at (map start xs)) in
+      let first = ap count (starts x) in
+      let rest = none_have count none xs in
+      omega (arith, all, first, rest, none)
+
+  pub new_balanced : (settings : WorldSettings) (ports : PortsValue) (actors : List (Option (Actor A C))) (xs : List X)
+      → ports.database.holds ≡ [] → ports.cushion.entries ≡ [] → ports.spare ≡ [] → actors ≡ map start xs → IsBalanced (value_of settings ports actors) empty_purse
+  new_balanced settings ports actors xs holds entries spare is = rw (holds, entries, spare, is) (record {
+    held = λ t. let none = none_have (λ (a : Account). times t a.own) refl xs in omega (arith, none);
+    used = λ t. let none = none_have (λ (a : Account). times t a.taken) refl xs in omega (arith, none);
+  })
 
 -- ---- an actor steps
 

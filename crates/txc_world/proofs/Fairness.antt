@@ -159,7 +159,7 @@ gone_unpin p stamp errors.Memory h = tt
 
 -- ---- requests
 
-left_holds : (old new : DatabaseValue) (e : DbError) → IsLeft old new e → new.holds ≡ old.holds
+pub left_holds : (old new : DatabaseValue) (e : DbError) → IsLeft old new e → new.holds ≡ old.holds
 left_holds old new (errors.SnapshotGone horizon) left = ap (λ (d : DatabaseValue). d.holds) left
 left_holds old new (errors.Conflict first) left = ap (λ (d : DatabaseValue). d.holds) left
 left_holds old new errors.Full left = ap (λ (d : DatabaseValue). d.holds) left
@@ -370,4 +370,4 @@ fair_rest old between new pins i pin given law leads within is fair =
     (fair_give_back between new (pin.stamp ∷ []) given law leads (map (λ (p : Pin). p.stamp) (drop i pins)) (map (λ (p : Pin). p.stamp) rest) [] [] one (λ t. omega arith))
 
 pub fair_all : (old new : PortsValue) (pins : List Pin) (i : ℕ) → length pins ≤ i → IsFair old new (handed pins) (handed (drop i pins)) → IsFair old new (handed pins) nothing
-fair_all old new pins i past fair = rw (drop_all pins i past) at fair
+fair_all old new pins i past fair = rw (drop_all i pins past) at fair

@@ -6,6 +6,7 @@ use Rattle.txc_world.specs.declared.actor.Actor.{Actor}
 use Rattle.txc_world.specs.declared.actor.Actor.TheVariants.{Idle}
 use Rattle.txc_world.specs.Ports.{whole_of}
 use Rattle.txc_world.specs.Actors.{story_at, IsThere}
+use Rattle.txc_world.proofs.Balancing.{new_balanced}
 use Rattle.txc_world.proofs.world.World.new.Goals as goal
 
 pub invariant_of-result : goal.invariant_of-result
@@ -18,3 +19,8 @@ invariant_of-result g c = record {
 
 pub returns-clause-actors : goal.returns-clause-actors
 returns-clause-actors g c = rw c.in_ok-actors.ensures (map-map story_at (λ r. Some (Idle r)) c.args.registries.items)
+
+pub returns-clause-balanced : goal.returns-clause-balanced
+returns-clause-balanced g c =
+    new_balanced (λ r. Some (Idle r)) (λ r. refl) c.args.settings c.in_ok-ports.ports c.in_ok-actors.actors.items c.args.registries.items
+    c.in_ok-ports.ensures.holds c.in_ok-ports.ensures.entries c.in_ok-ports.ensures.spare c.in_ok-actors.ensures
