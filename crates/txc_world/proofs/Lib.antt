@@ -7,6 +7,8 @@ pub mod MakingLemmas
 pub mod Explaining
 pub mod Whole
 pub mod Tellings
+pub mod CommitLemmas
+pub mod WritingLemmas
 pub mod Turning
 pub mod Stepping
 pub mod MemberLemmas

@@ -21,6 +21,7 @@ use std::marker::Model;
 use txc_cushion::Pin;
 use txc_db::DbError;
 use txc_registry::{Cacheable, Registry};
+use txc_rw::laws::transactions_stay_right;
 use txc_shared::laws::nodes_go_on;
 use txc_shared::{App, StoredNode};
 
@@ -54,7 +55,7 @@ impl<A: App, C: Cacheable> Model for World<A, C> {
 
     ghost view = { λ w. told_of w.settings w.ports w.actors.items };
 
-    ghost invariant = { λ w. IsWorld w.settings w.ports w.actors.items };
+    ghost invariant = { λ w. IsWorld A.next w.settings w.ports w.actors.items };
 }
 
 impl<A: App, C: Cacheable> World<A, C> {
@@ -124,11 +125,12 @@ impl<A: App, C: Cacheable> World<A, C> {
     fn act(&mut self, alloc: Global, place: usize, doing: &Act) -> Reply
         ensures told { self.new ≡ after self.old (Step.Actor place doing.now) result }
         ensures due { IsDue self.old (Step.Actor place doing.now) result }
-        ensures explained { IsExplainedIn A.next self.old.history self.old (Step.Actor place doing.now) result }
+        ensures explained { IsExplainedIn A.next self.new.history self.old (Step.Actor place doing.now) result }
     {
         if place >= self.actors.len() {
             return Reply::Refused(Refusal::NoActor);
         }
+        transactions_stay_right();
         let Some(actor) = take_out(&mut self.actors, place) else {
             unreachable!();
         };
@@ -142,8 +144,9 @@ impl<A: App, C: Cacheable> World<A, C> {
     fn step(&mut self, alloc: Global, step: &Step) -> Reply
         ensures told { self.new ≡ after self.old step.now result }
         ensures due { IsDue self.old step.now result }
-        ensures explained { IsExplainedIn A.next self.old.history self.old step.now result }
+        ensures explained { IsExplainedIn A.next self.new.history self.old step.now result }
     {
+        transactions_stay_right();
         match step {
             Step::Actor(place, doing) => self.act(alloc, *place, doing),
             Step::Keeper(doing) => keep(alloc, &mut self.ports, doing),
@@ -154,8 +157,10 @@ impl<A: App, C: Cacheable> World<A, C> {
     /// before the first step; out of memory later on is a reply.
     ///
     /// What it leaves is what the steps and their replies tell. A receipt is given to nobody but an actor
-    /// with a read-only transaction open, and explains the answers told of it: in the history as it was told
-    /// until then, and in that of the whole run.
+    /// with a read-only transaction open, and explains the answers told of it. Nobody but an actor with a
+    /// read-write transaction open has that committed; each answer told of it is right at its base, and at
+    /// the stamp before the event of the commit, or, where there is none, at the newest stamp. Both hold in
+    /// the history as it was told by then, and in that of the whole run.
     pub fn run(&mut self, alloc: Global, steps: &[Step]) -> Result<Vec<Reply>, AllocError>
         ensures told { IfOk result (λ replies. self.new ≡ told_by self.old steps.now replies.items) }
         ensures explained { IfOk result (λ replies. AreExplained A.next self.old steps.now replies.items) }

@@ -14,7 +14,7 @@ loop-step-preserved g c =
       due = loop_due g.A.App.next start steps i replies c.step-item.result c.step-reply.result c.loop-step-test.true c.step-item.is h.each
           c.loop-step.self h.told h.due c.step-reply.ensures.due;
       explained = loop_explained g.A.App.next start steps i replies c.step-item.result c.step-reply.result c.loop-step-test.true c.step-item.is h.each
-          c.loop-step.self h.told h.explained c.step-reply.ensures.explained;
+          c.loop-step.self c.step-reply.new.self h.told c.step-reply.ensures.told h.explained c.step-reply.ensures.explained;
       each = length_more replies c.step-reply.result i h.each;
       room = rw c.push_reserved.ensures.capacity h.room;
     })
