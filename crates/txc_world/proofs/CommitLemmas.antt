@@ -1,5 +1,6 @@
 -- What a commit of a read-write transaction makes of the history, and what it explains.
 use Rattle.std.proofs.Common.{◌≡◌, ◌≢◌, ◌∙◌, ◌⊎◌, inl, inr, ⊎_elim, ℕ, ◌+◌, ◌≤◌, arith, List, [], ◌∷◌, ◌++◌, length, take, Option, Some, None, refl, ap, sym, subst, add-one}
+use Rattle.std.specs.Prelude.{option_map, Ok}
 use Rattle.std.proofs.lemmas.List.{length_push, take_all}
 use Rattle.txc_stream.proofs.Offered.{prefix_push, push_get}
 use Rattle.txc_tags.specs.declared.tag.Tag.{Tag}
@@ -20,7 +21,11 @@ use Rattle.txc_registry.specs.Objects.{Objects}
 use Rattle.txc_rw.specs.Core.{RwValue, RwHolds, tags_read}
 use Rattle.txc_rw.specs.Laws.{AnswersAreRight, EventCommitsAreRight, HoldsInLonger, QuietCommitsAreRight}
 use Rattle.txc_rw.specs.Outcomes.{HasChanged, HasChangedNothing}
+use Rattle.txc_world.specs.declared.actor.OpenCall.{OpenCall}
 use Rattle.txc_world.specs.Told.{Writing, CommitExplains}
+use Rattle.txc_world.specs.Ports.{PortsValue}
+use Rattle.txc_world.specs.Keeping.{CommitLeads}
+use Rattle.txc_world.specs.Actors.{told_answers}
 
 -- ---- with a net change or none
 
@@ -70,9 +75,9 @@ told_writing c = record { base = c.base; call = None; answers = c.answers; chang
 
 module _ (next : Next) (objects : Objects) (c : RwValue) (d : DatabaseValue) (h : RwHolds next d.history objects c)
     (base_right : AnswersAreRight) (quiet_right : QuietCommitsAreRight) (event_right : EventCommitsAreRight) (longer : HoldsInLonger)
-    (states : StatesStay) (tags : TagsStay) (due : IsCommittable d c.base (tags_read c) c.changes) where
-  explained_quiet : newest_net d c.changes ≡ [] → CommitExplains next d.history (newest d) (told_writing c) (newest d)
-  explained_quiet none = record {
+    (states : StatesStay) (tags : TagsStay) where
+  explained_quiet : IsCommittable d c.base (tags_read c) c.changes → newest_net d c.changes ≡ [] → CommitExplains next d.history (newest d) (told_writing c) (newest d)
+  explained_quiet due none = record {
     within = h.within;
     at_base = base_right next d.history objects c h;
     made = inl (
@@ -82,9 +87,9 @@ module _ (next : Next) (objects : Objects) (c : RwValue) (d : DatabaseValue) (h 
     );
   }
 
-  explained_event : (e : EventValue) → e ≡ commit_event (newest_state d) c.changes → newest_net d c.changes ≢ []
+  explained_event : (e : EventValue) → e ≡ commit_event (newest_state d) c.changes → IsCommittable d c.base (tags_read c) c.changes → newest_net d c.changes ≢ []
       → CommitExplains next (d.history ++ e ∷ []) (newest d) (told_writing c) (newest d + 1)
-  explained_event e is some =
+  explained_event e is due some =
       let L' = d.history ++ e ∷ [] in
       let long : length L' ≡ newest d + 1 = length_push d.history e in
       let h' = longer next d.history L' objects c (prefix_push d.history e) h in
@@ -98,18 +103,38 @@ module _ (next : Next) (objects : Objects) (c : RwValue) (d : DatabaseValue) (h 
         );
       }
 
-  pub explained_commit : (L' : History) (stamp : ℕ) → L' ≡ (after_commit d c.changes).history → stamp ≡ length L'
+  explained_commit : (L' : History) (stamp : ℕ) → IsCommittable d c.base (tags_read c) c.changes → L' ≡ (after_commit d c.changes).history → stamp ≡ length L'
       → CommitExplains next L' (newest d) (told_writing c) stamp
-  explained_commit L' stamp is at = elim (empty_or (newest_net d c.changes)) [
+  explained_commit L' stamp due is at = elim (empty_or (newest_net d c.changes)) [
     | inl none ↦
         let same : L' ≡ d.history = is ∙ quiet_history d c.changes none in
         let last : stamp ≡ newest d = at ∙ ap (λ (L : History). length L) same in
         subst (λ (L : History). CommitExplains next L (newest d) (told_writing c) stamp) (sym same)
-        (subst (λ (n : ℕ). CommitExplains next d.history (newest d) (told_writing c) n) (sym last) (explained_quiet none))
+        (subst (λ (n : ℕ). CommitExplains next d.history (newest d) (told_writing c) n) (sym last) (explained_quiet due none))
     | inr some ↦
         let e = commit_event (newest_state d) c.changes in
         let same : L' ≡ d.history ++ commit_event (newest_state d) c.changes ∷ [] = is ∙ event_history d c.changes some in
         let last : stamp ≡ newest d + 1 = at ∙ (ap (λ (L : History). length L) same ∙ length_push d.history e) in
         subst (λ (L : History). CommitExplains next L (newest d) (told_writing c) stamp) (sym same)
-        (subst (λ (n : ℕ). CommitExplains next (d.history ++ e ∷ []) (newest d) (told_writing c) n) (sym last) (explained_event e refl some))
+        (subst (λ (n : ℕ). CommitExplains next (d.history ++ e ∷ []) (newest d) (told_writing c) n) (sym last) (explained_event e refl due some))
   ]
+
+  -- what was lent to the commit is the core's
+  pub explained_lent : (old new : PortsValue) (base : ℕ) (read : List Tag) (changes : List Change) (stamp : ℕ) → old.database ≡ d → CommitLeads base read changes old new (Ok stamp)
+      → base ≡ c.base → read ≡ tags_read c → changes ≡ c.changes
+      → CommitExplains next new.database.history (newest d) (told_writing c) stamp
+  explained_lent old new base read changes stamp same leads one two three =
+      let due : IsCommittable d c.base (tags_read c) c.changes =
+      subst (λ (cs : List Change). IsCommittable d c.base (tags_read c) cs) three
+      (subst (λ (r : List Tag). IsCommittable d c.base r changes) two
+      (subst (λ (b : ℕ). IsCommittable d b read changes) one
+      (subst (λ (v : DatabaseValue). IsCommittable v base read changes) same leads.2))) in
+      let is : new.database.history ≡ (after_commit d c.changes).history =
+      ap (λ (p : PortsValue). p.database.history) leads.0
+      ∙ (ap (λ (v : DatabaseValue). (after_commit v changes).history) same ∙ ap (λ (cs : List Change). (after_commit d cs).history) three) in
+      explained_commit new.database.history stamp due is leads.1
+
+-- and where no call is open, it is all that is told
+pub explained_open : (next : Next) (L : History) (count : ℕ) (c : RwValue) (stamp : ℕ) (call : Option OpenCall) → call ≡ None → CommitExplains next L count (told_writing c) stamp
+    → CommitExplains next L count (record { base = c.base; call = option_map (λ k. k.key) call; answers = told_answers call c.answers; changes = c.changes }) stamp
+explained_open next L count c stamp call none h = rw none h

@@ -3,6 +3,7 @@ use Rattle.std.specs.Prelude.{◌≡◌, ℕ, ◌-◌, ◌≤◌, Bool, List, []
 use Rattle.std.specs.List.{list_any}
 use Rattle.txc_stamp.specs.Interval.{Interval}
 use Rattle.txc_tags.specs.Keys.{Call}
+use Rattle.txc_rows.specs.declared.query.Query.{Query}
 use Rattle.txc_db.specs.History.{History}
 use Rattle.txc_db.specs.Seen.{FrontValue}
 use Rattle.txc_cushion.specs.declared.pin.Pin.{Pin}
@@ -17,7 +18,7 @@ use Rattle.txc_cushion.specs.declared.pins.Pins.{Pins}
 use Rattle.txc_txn.specs.Leading.{StartLeads}
 use Rattle.txc_txn.specs.Kept.{HasGoneOn, TxnValue}
 use Rattle.txc_ports.specs.declared.turn.Turn.{Turn}
-use Rattle.txc_ports.specs.declared.turn.Turn.TheVariants.{Ask, Value, Refused}
+use Rattle.txc_ports.specs.declared.turn.Turn.TheVariants.{Ask, Value, Rows, Refused}
 use Rattle.txc_pinset.specs.Members.{is_held_by}
 use Rattle.txc_world.specs.declared.did.Did.{Did}
 use Rattle.txc_world.specs.declared.did.Did.TheVariants.{Hit, Miss}
@@ -35,7 +36,7 @@ use Rattle.txc_world.specs.declared.actor.Actor.TheVariants.{Idle, Reading, Writ
 use Rattle.txc_world.specs.declared.reply.Reply.{Reply}
 use Rattle.txc_world.specs.declared.reply.Reply.TheVariants as replies
 use Rattle.txc_world.specs.declared.reply.Reply.TheVariants.{Asked, Begun, Ended}
-use Rattle.txc_world.specs.declared.reply.Refusal.TheVariants.{Memory}
+use Rattle.txc_world.specs.declared.reply.Refusal.TheVariants.{Memory, Transaction}
 use Rattle.txc_world.specs.Parts.{IsPartOf}
 use Rattle.txc_world.specs.Ports.{PortsValue}
 use Rattle.txc_world.specs.Asks.{FreshLeads, IsAsked}
@@ -92,7 +93,7 @@ pub record IsRwCall (c : RwValue) (call : OpenCall) : Type 0 where
   pub turn : IsRwTurn c call.turn
   pub kind : IsOfCall call.turn
   pub key : IsRwAsk call.turn → c.call.top ≡ call.key
-  pub open : IsRwAsk call.turn → IsSome c.call.need
+  pub is_open : IsRwAsk call.turn → IsSome c.call.need
   pub answers : c.answers ≡ answers_after (told_by_turn call.turn c.answers) call.key None call.turn
 
 abbrev pub HasRwCall : RwValue → Option OpenCall → Type 0
@@ -120,6 +121,23 @@ IsThere next whole count None = ⊥
 IsThere next whole count (Some actor) = IsActor next whole count actor
 
 -- ---- turns of a call
+
+-- the query that the turn asks, if it asks one
+abbrev pub asked_query : Turn → Option Query
+asked_query (Ask (requests.Query query stamp)) = Some query
+asked_query turn = None
+
+-- the call has ended so
+abbrev pub IsEndOf : Turn → End → Type 0
+IsEndOf (Value value) end = end ≡ ends.Value value
+IsEndOf (Refused error) end = end ≡ ends.Refused error
+IsEndOf turn end = ⊥
+
+-- what is told of a query of a read-write transaction's own
+abbrev pub IsToldQuery : Turn → Reply → Type 0
+IsToldQuery (Rows rows) reply = reply ≡ replies.Answered rows
+IsToldQuery (Refused error) reply = reply ≡ replies.Refused (Transaction error)
+IsToldQuery turn reply = ⊥
 
 -- a call that asks is open with its turn; else it has ended so
 abbrev pub IsNoted : Call → Turn → Option OpenCall → Option End → Type 0

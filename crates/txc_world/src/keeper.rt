@@ -1,5 +1,5 @@
 //! The steps of the keeper at the plain ports.
-ghost use Rattle.std.specs.Prelude.{◌≡◌, ◌<◌, false, true, length, slice_index, IfErr, IfNone, IfOk, IfSome};
+ghost use Rattle.std.specs.Prelude.{◌≡◌, ◌<◌, Err, false, true, length, slice_index, IfErr, IfNone, IfOk, IfSome};
 ghost use Rattle.std.specs.List.{remove};
 ghost use Rattle.txc_db.specs.DatabaseValue.{is_held, without};
 ghost use Rattle.txc_world.specs.Keeping.{stamps_of};
@@ -33,6 +33,14 @@ fn place_of(spare: &[Pinned], stamp: Stamp) -> Option<usize>
         }
     }
     None
+}
+
+// A refusal, as it is told and as it is handed over.
+fn told_refusal(refusal: &DbError) -> (Did, Result<Found, DbError>)
+    ensures { result ≡ (Did.Refused refusal.now, Err refusal.now) }
+{
+    let did = Did::Refused(*refusal);
+    (did, Err(*refusal))
 }
 
 impl<A: App> Ports<A> {
@@ -157,7 +165,7 @@ impl<A: App> Ports<A> {
     {
         match self.found_told(alloc, query, stamp) {
             Ok((found, rows)) => (Did::Rows(rows), Ok(found)),
-            Err(refusal) => (Did::Refused(refusal), Err(refusal)),
+            Err(refusal) => told_refusal(&refusal),
         }
     }
 

@@ -1,10 +1,10 @@
 //! What an actor does with a read-write transaction, each kind of step by itself.
-ghost use Rattle.std.specs.Prelude.{◌≡◌, ◌++◌, ◌∷◌, ◌<◌, [], IfErr, IfOk, IsSome, None, OnErr, OnOk, Some, length};
+ghost use Rattle.std.specs.Prelude.{◌≡◌, ◌++◌, ◌∷◌, ◌<◌, [], IfErr, IsSome, None, OnErr, OnOk, Some, length};
 ghost use Rattle.txc_rows.specs.declared.query.Change.{Change};
 ghost use Rattle.txc_registry.specs.Objects.{AllIdle};
 ghost use Rattle.txc_rw.specs.declared.rw_core.TheConstants.{MAX_CHANGES};
-ghost use Rattle.txc_rw.specs.Core.{answers_after, IsAsk, IsIdle, IsOfCall, IsOfQuery, IsRw, IsTurn, IsWriteRefused, RwHolds};
-ghost use Rattle.txc_world.specs.Actors.{story_of, IsActor, IsOpenRw};
+ghost use Rattle.txc_rw.specs.Core.{answers_after, IsAsk, IsCallEnd, IsIdle, IsOfCall, IsOfQuery, IsRw, IsTurn, IsWriteRefused, RwHolds};
+ghost use Rattle.txc_world.specs.Actors.{asked_query, story_of, IsActor, IsEndOf, IsOpenRw, IsToldQuery};
 ghost use Rattle.txc_world.specs.Ports.{whole_of, KeepsRow};
 ghost use Rattle.txc_world.specs.Told.{act_in, idle, story_after, IsActDue, IsActReply, IsNoCommit, ReplyExplains};
 
@@ -15,13 +15,13 @@ use crate::ports::Ports;
 use crate::reply::{End, Refusal, Reply};
 use crate::step::Act;
 use std::alloc::Global;
+use txc_db::states_stay;
 use txc_ports::{PortRequest, Turn, TxnError};
 use txc_registry::{Cacheable, Registry};
 use txc_rows::{Change, Query};
 use txc_rw::laws::{answers_are_right, transactions_stay_right};
 use txc_rw::{MAX_CHANGES, RwCore};
 use txc_shared::App;
-use txc_stamp::Stamp;
 use txc_tags::Key;
 
 /// Begins a transaction at the newest stamp, which is held, or leaves nothing open.
@@ -84,6 +84,28 @@ fn start<A: App, C: Cacheable>(
     (Actor::Writing(current), Reply::Started)
 }
 
+// The query that the turn asks, if it asks one.
+fn asked(turn: &Turn) -> Option<Query>
+    ensures { result ≡ asked_query turn.now }
+{
+    match turn {
+        Turn::Ask(PortRequest::Query { query, stamp: _ }) => Some(*query),
+        _ => None,
+    }
+}
+
+// How the call has ended.
+fn end_of(turn: Turn) -> End
+    requires { IsCallEnd turn }
+    ensures { IsEndOf turn result }
+{
+    match turn {
+        Turn::Value(value) => End::Value(value),
+        Turn::Refused(error) => End::Refused(error),
+        _ => unreachable!(),
+    }
+}
+
 /// What a request did, and what the transaction does next.
 #[derive(Drop)]
 struct Went {
@@ -121,6 +143,24 @@ fn go_on<A: App, C: Cacheable>(
     Went { did, turn }
 }
 
+// The call has ended so before any request.
+fn end_call<A: App, C: Cacheable>(
+    core: RwCore,
+    registry: Registry<A, C>,
+    end: End,
+) -> (Actor<A, C>, Reply)
+    ensures actor { result.0
+        ≡ Actor.Writing (record { core = core; registry = registry; call = None }) }
+    ensures reply { result.1 ≡ Reply.Ended end }
+{
+    let current = OpenRw {
+        core,
+        registry,
+        call: None,
+    };
+    (Actor::Writing(current), Reply::Ended(end))
+}
+
 // Makes the next request of the open call. A call that ended before any is told so by its first request.
 fn request<A: App, C: Cacheable>(
     alloc: Global,
@@ -134,45 +174,70 @@ fn request<A: App, C: Cacheable>(
     ensures same { ports.new ≡ ports.old }
     ensures no_commit { IsNoCommit result.1 }
 {
-    let mut current = current;
-    let Some(OpenCall { key, turn }) = current.call else {
+    let OpenRw {
+        mut core,
+        mut registry,
+        call,
+    } = current;
+    let Some(OpenCall { key, turn }) = call else {
+        let call = None;
+        let current = OpenRw {
+            core,
+            registry,
+            call,
+        };
         return (
-            Actor::Writing(OpenRw {
-                core: current.core,
-                registry: current.registry,
-                call: None,
-            }),
+            Actor::Writing(current),
             Reply::Refused(Refusal::NoRequest),
         );
     };
-    match turn {
-        Turn::Ask(PortRequest::Query { query, stamp: _ }) => {
-            let Went { did, turn } = go_on(
-                alloc,
-                ports,
-                &mut current.core,
-                &mut current.registry,
-                &query,
-            );
-            let (call, end) = note(key, turn);
-            current.call = call;
-            (Actor::Writing(current), Reply::Asked(did, end))
-        }
-        Turn::Value(value) => {
-            current.call = None;
-            (Actor::Writing(current), Reply::Ended(End::Value(value)))
-        }
-        Turn::Refused(error) => {
-            current.call = None;
-            (Actor::Writing(current), Reply::Ended(End::Refused(error)))
-        }
-        _ => unreachable!(),
-    }
+    let Some(query) = asked(&turn) else {
+        return end_call(core, registry, end_of(turn));
+    };
+    let Went { did, turn } = go_on(alloc, ports, &mut core, &mut registry, &query);
+    let (call, end) = note(key, turn);
+    let current = OpenRw {
+        core,
+        registry,
+        call,
+    };
+    (Actor::Writing(current), Reply::Asked(did, end))
+}
+
+// Asks a query of its own at the base, and goes on with what was found.
+fn find<A: App, C: Cacheable>(
+    alloc: Global,
+    ports: &mut Ports<A>,
+    core: &mut RwCore,
+    registry: &mut Registry<A, C>,
+    query: &Query,
+) -> Turn
+    requires fits { IsRw A.next registry.old core.old }
+    requires holds { RwHolds A.next ports.old.database.history registry.old core.old }
+    requires idle { IsIdle core.old }
+    ensures same_ports { ports.new ≡ ports.old }
+    ensures fits { IsRw A.next registry.new core.new }
+    ensures holds { RwHolds A.next ports.old.database.history registry.new core.new }
+    ensures idle { IsIdle core.new }
+    ensures kind { IsOfQuery result }
+    ensures answers { core.new.answers
+        ≡ answers_after core.old.answers core.old.call.top (Some query.now) result }
+    ensures base { core.new.base ≡ core.old.base }
+    ensures changes { core.new.changes ≡ core.old.changes }
+{
+    let turn = core.ask(alloc, registry, *query);
+    let Some(query) = asked(&turn) else {
+        return turn;
+    };
+    let base = core.base();
+    let found = ports.answer(alloc, &query, base);
+    core.reply(alloc, registry, found)
 }
 
 // What is told of a query of its own that has ended.
 fn told_rows(turn: Turn) -> Reply
     requires { IsOfQuery turn }
+    ensures { IsToldQuery turn result }
 {
     match turn {
         Turn::Rows(rows) => Reply::Answered(rows),
@@ -196,21 +261,21 @@ fn ask<A: App, C: Cacheable>(
     ensures same { ports.new ≡ ports.old }
     ensures no_commit { IsNoCommit result.1 }
 {
-    let mut current = current;
     if current.call.is_some() {
         return (Actor::Writing(current), Reply::Refused(Refusal::MidCall));
     }
-    let turn = current.core.ask(alloc, &current.registry, *query);
-    let turn = match turn {
-        Turn::Ask(_) => {
-            let base = current.core.base();
-            let found = ports.answer(alloc, query, base);
-            current.core.reply(alloc, &mut current.registry, found)
-        }
-        turn => turn,
+    let OpenRw {
+        mut core,
+        mut registry,
+        call: _,
+    } = current;
+    let turn = find(alloc, ports, &mut core, &mut registry, query);
+    let current = OpenRw {
+        core,
+        registry,
+        call: None,
     };
-    let reply = told_rows(turn);
-    (Actor::Writing(current), reply)
+    (Actor::Writing(current), told_rows(turn))
 }
 
 // Keeps a copy of the change.
@@ -245,11 +310,13 @@ fn write<A: App, C: Cacheable>(
     if current.call.is_some() {
         return (Actor::Writing(current), Reply::Refused(Refusal::MidCall));
     }
-    let reply = match keep_change(alloc, &mut current.core, change) {
-        Ok(()) => Reply::Kept,
-        Err(error) => Reply::Refused(Refusal::Transaction(error)),
-    };
-    (Actor::Writing(current), reply)
+    match keep_change(alloc, &mut current.core, change) {
+        Ok(()) => (Actor::Writing(current), Reply::Kept),
+        Err(error) => (
+            Actor::Writing(current),
+            Reply::Refused(Refusal::Transaction(error)),
+        ),
+    }
 }
 
 // Commits the changes, where nothing that was read has changed. A refusal leaves the transaction open, as it
@@ -272,6 +339,7 @@ fn commit<A: App, C: Cacheable>(
 {
     answers_are_right();
     transactions_stay_right();
+    states_stay();
     let mut current = current;
     if current.call.is_some() {
         return (Actor::Writing(current), Reply::Refused(Refusal::MidCall));
