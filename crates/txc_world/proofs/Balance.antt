@@ -49,7 +49,7 @@ module _ (old new : PortsValue) where
   balance_refused e h purse accounts b = balance_same purse accounts (left_holds old.database new.database e h.left)
       (ap (λ (p : PortsValue). p.cushion) h.is) (ap (λ (p : PortsValue). stamps_of_pins p.spare) h.is) b
 
-committed_holds : (d : DatabaseValue) (net : List Change) (other : DatabaseValue) → other.holds ≡ d.holds → (where_some net d other).holds ≡ d.holds
+pub committed_holds : (d : DatabaseValue) (net : List Change) (other : DatabaseValue) → other.holds ≡ d.holds → (where_some net d other).holds ≡ d.holds
 committed_holds d [] other same = refl
 committed_holds d (c ∷ cs) other same = same
 

@@ -14,6 +14,8 @@ use Rattle.txc_world.specs.declared.did.Did.TheVariants as dids
 use Rattle.txc_world.specs.declared.reply.Reply.{Reply}
 use Rattle.txc_world.specs.declared.reply.Reply.TheVariants as replies
 use Rattle.txc_world.specs.declared.reply.End.{End}
+use Rattle.txc_world.specs.declared.reply.Refusal.TheVariants as refusals
+use Rattle.txc_ports.specs.declared.error.TxnError.TheVariants as txns
 use Rattle.txc_world.specs.declared.settings.WorldSettings.{WorldSettings}
 use Rattle.txc_world.specs.declared.step.Step.{Step}
 use Rattle.txc_world.specs.Ports.{PortsValue}
@@ -111,7 +113,26 @@ module _ (old new : PortsValue) (accounts : List Account) (place : ℕ) (before 
   loses_nothing (replies.Rows found) right h counts = tt
   loses_nothing (replies.Advanced advanced) right h counts = tt
   loses_nothing (replies.Swept count) right h counts = tt
-  loses_nothing (replies.Refused refusal) right h counts = tt
+  loses_nothing (replies.Based base) right h counts = tt
+  loses_nothing (replies.Answered rows) right h counts = tt
+  loses_nothing replies.Kept right h counts = tt
+  loses_nothing (replies.Refused refusals.NoActor) right h counts = tt
+  loses_nothing (replies.Refused refusals.NoNode) right h counts = tt
+  loses_nothing (replies.Refused refusals.AlreadyOpen) right h counts = tt
+  loses_nothing (replies.Refused refusals.NotOpen) right h counts = tt
+  loses_nothing (replies.Refused refusals.MidCall) right h counts = tt
+  loses_nothing (replies.Refused refusals.NoRequest) right h counts = tt
+  loses_nothing (replies.Refused (refusals.Database e)) right h counts = tt
+  loses_nothing (replies.Refused (refusals.Pincushion e)) right h counts = tt
+  loses_nothing (replies.Refused (refusals.GiveBack e)) right h counts = tt
+  loses_nothing (replies.Refused (refusals.Node e)) right h counts = tt
+  loses_nothing (replies.Refused refusals.Memory) right h counts = tt
+  loses_nothing (replies.Refused (refusals.Transaction (txns.SnapshotLost horizon))) right h counts = none_lost right h counts.loss
+  loses_nothing (replies.Refused (refusals.Transaction (txns.Call cause))) right h counts = tt
+  loses_nothing (replies.Refused (refusals.Transaction (txns.Database cause))) right h counts = tt
+  loses_nothing (replies.Refused (refusals.Transaction txns.PinsFull)) right h counts = tt
+  loses_nothing (replies.Refused (refusals.Transaction txns.BufferFull)) right h counts = tt
+  loses_nothing (replies.Refused (refusals.Transaction txns.Memory)) right h counts = tt
 
 module _ {A C : Type 0} (settings : WorldSettings) (old new : PortsValue) (actors : List (Option (Actor A C))) (place : ℕ) (actor actor' : Actor A C)
     (is : slice_get actors place ≡ Some (Some actor)) where

@@ -3,6 +3,7 @@ use Rattle.std.proofs.Common.{◌≡◌, ◌∙◌, ℕ, ◌+◌, ◌<◌, ◌�
 use Rattle.std.specs.Prelude.{if◌then◌else◌}
 use Rattle.std.proofs.lemmas.Bool.Decides.{nat_tests}
 use Rattle.std.proofs.lemmas.List.{map-append}
+use Rattle.txc_tags.specs.declared.tag.Tag.{Tag}
 use Rattle.txc_rows.specs.declared.query.Change.{Change}
 use Rattle.txc_db.specs.declared.error.DbError.{DbError}
 use Rattle.txc_db.specs.declared.pinned.Pinned.{Pinned}
@@ -17,10 +18,10 @@ use Rattle.txc_world.specs.declared.reply.Reply.TheVariants.{Refused}
 use Rattle.txc_world.specs.declared.reply.Refusal.{Refusal}
 use Rattle.txc_world.specs.declared.reply.Refusal.TheVariants as refusals
 use Rattle.txc_world.specs.Ports.{PortsValue, HasRefused, HasLedNode, KeepsRow}
-use Rattle.txc_world.specs.Keeping.{stamps_of, HasPinnedSpare, HasAddedSpare, WriteLeads, PinSpareLeads, AddSpareLeads}
+use Rattle.txc_world.specs.Keeping.{stamps_of, CommitLeads, HasPinnedSpare, HasAddedSpare, WriteLeads, PinSpareLeads, AddSpareLeads}
 use Rattle.txc_world.specs.Kept.{told_addition, IsKept}
 use Rattle.txc_world.specs.Tidy.{KeepsBalance}
-use Rattle.txc_world.specs.Told.{keep_in, spare_after, IsDueOr, IsKeepDue}
+use Rattle.txc_world.specs.Told.{commit_in, keep_in, spare_after, IsDueOr, IsKeepDue}
 use Rattle.txc_shared.specs.Nodes.{NodeValue}
 use Rattle.txc_world.proofs.PortsLemmas.{left_history}
 
@@ -38,14 +39,18 @@ committed : (d : DatabaseValue) (net : List Change) (e : EventValue) (stamp : �
 committed d [] e stamp is = rw (ap (nat_lt (length d.history)) is ∙ lt_itself (length d.history)) refl
 committed d (c ∷ cs) e stamp is = rw (lt_more (length d.history) stamp (is ∙ length-append d.history (e ∷ []))) refl
 
-pub written : (old new : PortsValue) (change : Change) (stamp : ℕ) → WriteLeads change old new (Ok stamp)
-    → new.database.history ≡ keep_in (keeps.Write change) (replies.At stamp) old.database.history
-written old new change stamp leads =
+-- the changes of a commit stand in the history, as its stamp tells
+pub commit_told : (old new : PortsValue) (base : ℕ) (read : List Tag) (changes : List Change) (stamp : ℕ) → CommitLeads base read changes old new (Ok stamp)
+    → new.database.history ≡ commit_in changes stamp old.database.history
+commit_told old new base read changes stamp leads =
     let d = old.database in
-    let changes = change ∷ [] in
     let same : new.database ≡ after_commit d changes = ap (λ (p : PortsValue). p.database) leads.0 in
     ap (λ (e : DatabaseValue). e.history) same
     ∙ committed d (newest_net d changes) (commit_event (newest_state d) changes) stamp (leads.1 ∙ ap newest same)
+
+pub written : (old new : PortsValue) (change : Change) (stamp : ℕ) → WriteLeads change old new (Ok stamp)
+    → new.database.history ≡ keep_in (keeps.Write change) (replies.At stamp) old.database.history
+written old new change stamp leads = commit_told old new (newest old.database) [] (change ∷ []) stamp leads
 
 -- ---- what stays
 

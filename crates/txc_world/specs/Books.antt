@@ -11,13 +11,17 @@ use Rattle.txc_cushion.specs.Laws.{AddCountsOnePin, FreshCountsUsers, GiveBackCo
 use Rattle.txc_ports.specs.declared.request.PortRequest.{PortRequest}
 use Rattle.txc_ports.specs.declared.request.PortRequest.TheVariants as requests
 use Rattle.txc_ports.specs.declared.reply.PortReply.{PortReply}
+use Rattle.txc_ports.specs.declared.error.TxnError.TheVariants.{SnapshotLost}
+use Rattle.txc_ports.specs.declared.turn.Turn.{Turn}
+use Rattle.txc_ports.specs.declared.turn.Turn.TheVariants as turns
 use Rattle.txc_txn.specs.Core.{left_after, left_pin, taken_after, CoreValue}
 use Rattle.txc_world.specs.declared.actor.Actor.{Actor}
-use Rattle.txc_world.specs.declared.actor.Actor.TheVariants.{Idle, Reading, Leaving}
+use Rattle.txc_world.specs.declared.actor.Actor.TheVariants.{Idle, Reading, Writing, Leaving}
 use Rattle.txc_world.specs.declared.did.Did.{Did}
 use Rattle.txc_world.specs.declared.did.Did.TheVariants as dids
 use Rattle.txc_world.specs.declared.reply.Reply.{Reply}
-use Rattle.txc_world.specs.declared.reply.Reply.TheVariants.{Asked}
+use Rattle.txc_world.specs.declared.reply.Reply.TheVariants.{Asked, Refused}
+use Rattle.txc_world.specs.declared.reply.Refusal.TheVariants.{Transaction}
 use Rattle.txc_world.specs.Ports.{PortsValue}
 
 -- what an actor has: the stamps of the pins that it was handed or added, of each of which it is a user; and
@@ -38,14 +42,15 @@ abbrev pub listed : Option ℕ → List ℕ
 listed None = []
 listed (Some stamp) = stamp ∷ []
 
--- a transaction has what it took, and the hold of a pin that is not added yet; one that was given up has the
--- hold that is left
+-- a read-only transaction has what it took, and the hold of a pin that is not added yet; a read-write one has
+-- that of its base; and one that has ended has the hold that is left
 abbrev pub account_of_core : CoreValue → Account
 account_of_core c = record { taken = c.taken; own = listed (left_pin c.pinning) }
 
 abbrev pub account_of : {A C : Type 0} → Actor A C → Account
 account_of (Idle objects) = nothing
 account_of (Reading o) = account_of_core o.txn.core
+account_of (Writing o) = record { taken = []; own = o.core.base ∷ [] }
 account_of (Leaving objects stamp) = record { taken = []; own = stamp ∷ [] }
 
 abbrev pub account_at : {A C : Type 0} → Option (Actor A C) → Account
@@ -115,7 +120,12 @@ IsLossOf p account did = Unit {0}
 
 abbrev pub ReplyIsLossOf : PortsValue → Account → Reply → Type 0
 ReplyIsLossOf p account (Asked did end) = IsLossOf p account did
+ReplyIsLossOf p account (Refused (Transaction (SnapshotLost horizon))) = HasLost p account
 ReplyIsLossOf p account reply = Unit {0}
+
+abbrev pub TurnIsLossOf : PortsValue → Account → Turn → Type 0
+TurnIsLossOf p account (turns.Refused (SnapshotLost horizon)) = HasLost p account
+TurnIsLossOf p account turn = Unit {0}
 
 -- one request of a transaction: it is fair, and is refused as gone only where that is so
 pub record AskCounts (request : PortRequest) (old new : PortsValue) (did : Did) (reply : PortReply)

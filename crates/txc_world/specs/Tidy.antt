@@ -2,6 +2,7 @@
 use Rattle.std.specs.Prelude.{◌≡◌, ℕ, ◌+◌, ◌≤◌, List, [], ◌∷◌, ◌++◌, Contains}
 use Rattle.txc_db.specs.declared.error.DbError.TheVariants.{SnapshotGone}
 use Rattle.txc_db.specs.DatabaseValue.{without}
+use Rattle.txc_ports.specs.declared.error.TxnError.TheVariants.{SnapshotLost}
 use Rattle.txc_cushion.specs.Entries.{stamps_of, times, users_of}
 use Rattle.txc_world.specs.declared.step.Keep.{Keep}
 use Rattle.txc_world.specs.declared.step.Keep.TheVariants as keeps
@@ -72,6 +73,7 @@ AreTidy purse (step ∷ steps) (reply ∷ replies) =
 -- no query is refused for a snapshot that is gone
 abbrev pub LosesNothing : Reply → Type 0
 LosesNothing (Asked (dids.Refused (SnapshotGone horizon)) end) = ⊥
+LosesNothing (Refused (refusals.Transaction (SnapshotLost horizon))) = ⊥
 LosesNothing reply = Unit {0}
 
 -- nor is it one of an actor; the keeper may ask for what is gone

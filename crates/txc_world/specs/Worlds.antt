@@ -8,7 +8,7 @@ use Rattle.txc_world.specs.declared.actor.Actor.{Actor}
 use Rattle.txc_world.specs.declared.settings.WorldSettings.{WorldSettings}
 use Rattle.txc_world.specs.declared.reply.Refusal.{Refusal}
 use Rattle.txc_world.specs.declared.reply.Refusal.TheVariants.{NoActor, NotOpen}
-use Rattle.txc_world.specs.Told.{Reading, Story, idle, reading, leaving, Told}
+use Rattle.txc_world.specs.Told.{Reading, Story, idle, reading, writing, leaving, Told}
 use Rattle.txc_world.specs.Ports.{PortsValue, whole_of}
 use Rattle.txc_world.specs.Actors.{story_at, IsThere}
 use Rattle.txc_world.specs.Books.{account_at, books_of, Books}
@@ -41,20 +41,22 @@ IsBalanced world purse = AreBalanced world.told.spare world.books purse
 
 -- what is true of every world: it has the nodes of its settings, at least one; each actor has its pass
 -- through each; and no actor is in the middle of a step
-pub record IsWorld {A C : Type 0} (settings : WorldSettings) (ports : PortsValue)
+pub record IsWorld {A C : Type 0} (next : Next) (settings : WorldSettings) (ports : PortsValue)
     (actors : List (Option (Actor A C))) : Type 0 where
   pub nodes : length ports.nodes ≡ settings.nodes
   pub some : 1 ≤ settings.nodes
   pub passes : length actors ≡ ports.actors
-  pub there : All (IsThere (whole_of ports) settings.nodes) actors
+  pub there : All (IsThere next (whole_of ports) settings.nodes) actors
 
 -- ---- pin sets
 
--- the refusal of the pins of an actor, if one is due: there is no such actor, or it has no transaction open
+-- the refusal of the pins of an actor, if one is due: there is no such actor, or it has no read-only
+-- transaction open
 abbrev pub due_of_pins : Option Story → Option Refusal
 due_of_pins None = Some NoActor
 due_of_pins (Some idle) = Some NotOpen
 due_of_pins (Some (reading r)) = None
+due_of_pins (Some (writing w)) = Some NotOpen
 due_of_pins (Some (leaving stamp)) = Some NotOpen
 
 -- Where a transaction may still be serialised: at the present or at a member; and each member is a pin that

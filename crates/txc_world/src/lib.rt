@@ -21,6 +21,7 @@ mod reply;
 mod settings;
 mod step;
 mod world;
+mod writing;
 
 pub use did::{Did, RowsFound};
 pub use reply::{End, Refusal, Reply};

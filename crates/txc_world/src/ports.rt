@@ -59,7 +59,7 @@ impl<A: App> Model for Ports<A> {
 
 impl<A: App> Ports<A> {
     ghost use Rattle.txc_ports.specs.Answers.{IsFresh};
-    ghost use Rattle.txc_world.specs.Asks.{AddLeads, FindLeads, FreshLeads, PinLeads, UnpinLeads};
+    ghost use Rattle.txc_world.specs.Asks.{AddLeads, FindLeads, FreshLeads, HoldLeads, PinLeads, UnpinLeads};
     ghost use Rattle.txc_world.specs.Books.{handed, nothing, IsFair};
     ghost use Rattle.txc_world.specs.NodeSteps.{InsertLeads, LookupLeads};
     ghost use Rattle.txc_world.specs.Parts.{IsPartOf};
@@ -117,6 +117,19 @@ impl<A: App> Ports<A> {
     {
         match self.database.unpin(stamp) {
             Ok(()) => Ok(()),
+            Err(refusal) => Err(refusal),
+        }
+    }
+
+    /// Holds the newest stamp.
+    pub(crate) fn hold(&mut self, alloc: Global) -> Result<Stamp, DbError>
+        ensures leads { HoldLeads self.old self.new result }
+        ensures same { self.new ≡ record self.old { database = self.new.database } }
+        ensures history { self.new.database.history ≡ self.old.database.history }
+        ensures keeps { KeepsRow self.old self.new }
+    {
+        match self.database.hold(alloc) {
+            Ok(base) => Ok(base),
             Err(refusal) => Err(refusal),
         }
     }

@@ -22,6 +22,7 @@ use std::marker::Model;
 use txc_cushion::Pin;
 use txc_db::DbError;
 use txc_registry::{Cacheable, Registry};
+use txc_rw::laws::transactions_stay_right;
 use txc_shared::laws::nodes_go_on;
 use txc_shared::{App, StoredNode};
 
@@ -55,7 +56,7 @@ impl<A: App, C: Cacheable> Model for World<A, C> {
 
     ghost view = { λ w. value_of w.settings w.ports w.actors.items };
 
-    ghost invariant = { λ w. IsWorld w.settings w.ports w.actors.items };
+    ghost invariant = { λ w. IsWorld A.next w.settings w.ports w.actors.items };
 }
 
 impl<A: App, C: Cacheable> World<A, C> {
@@ -126,13 +127,14 @@ impl<A: App, C: Cacheable> World<A, C> {
     fn act(&mut self, alloc: Global, place: usize, doing: &Act) -> Reply
         ensures told { self.new.told ≡ after self.old.told (Step.Actor place doing.now) result }
         ensures due { IsDue self.old.told (Step.Actor place doing.now) result }
-        ensures explained { IsExplainedIn A.next self.old.told.history self.old.told (Step.Actor place doing.now) result }
+        ensures explained { IsExplainedIn A.next self.new.told.history self.old.told (Step.Actor place doing.now) result }
         ensures balanced { (purse : Purse) → IsBalanced self.old purse
             → IsBalanced self.new purse × LosesNothing result }
     {
         if place >= self.actors.len() {
             return Reply::Refused(Refusal::NoActor);
         }
+        transactions_stay_right();
         let Some(actor) = take_out(&mut self.actors, place) else {
             unreachable!();
         };
@@ -147,10 +149,11 @@ impl<A: App, C: Cacheable> World<A, C> {
     fn step(&mut self, alloc: Global, step: &Step) -> Reply
         ensures told { self.new.told ≡ after self.old.told step.now result }
         ensures due { IsDue self.old.told step.now result }
-        ensures explained { IsExplainedIn A.next self.old.told.history self.old.told step.now result }
+        ensures explained { IsExplainedIn A.next self.new.told.history self.old.told step.now result }
         ensures balanced { (purse : Purse) → IsBalanced self.old purse → IsTidy step.now result purse
             → IsBalanced self.new (purse_after step.now result purse) × LosesNoSnapshot step.now result }
     {
+        transactions_stay_right();
         match step {
             Step::Actor(place, doing) => self.act(alloc, *place, doing),
             Step::Keeper(doing) => keep(alloc, &mut self.ports, doing),
@@ -161,8 +164,10 @@ impl<A: App, C: Cacheable> World<A, C> {
     /// before the first step; out of memory later on is a reply.
     ///
     /// What it leaves is what the steps and their replies tell. A receipt is given to nobody but an actor
-    /// with a read-only transaction open, and explains the answers told of it: in the history as it was told
-    /// until then, and in that of the whole run.
+    /// with a read-only transaction open, and explains the answers told of it. Nobody but an actor with a
+    /// read-write transaction open has that committed; each answer told of it is right at its base, and at
+    /// the stamp before the event of the commit, or, where there is none, at the newest stamp. Both hold in
+    /// the history as it was told by then, and in that of the whole run.
     ///
     /// Where each has what is its own, as in a new world, and the list is tidy, each has so after it, and no
     /// query of an open transaction is refused for a snapshot that is gone.

@@ -1,4 +1,4 @@
-use Rattle.std.proofs.Common.{refl, Option, List, Some, ap, ◌∙◌, slice_set}
+use Rattle.std.proofs.Common.{Option, List, Some, refl, ap, ◌∙◌, slice_set}
 use Rattle.txc_world.specs.declared.actor.Actor.{Actor}
 use Rattle.txc_world.specs.Worlds.{WorldValue}
 use Rattle.txc_world.proofs.Balancing.{world_balanced}
@@ -8,8 +8,8 @@ use Rattle.txc_world.proofs.world.World.act.Goals as goal
 pub invariant_of-self : goal.invariant_of-self
 invariant_of-self g c =
     rw (c.put_back.ensures, c.take_out.ensures.after)
-    (world_acts c.self.inside.settings c.self.inside.ports c.act-actor.new.ports c.self.inside.actors.items c.args.place c.act-actor.result.0
-    c.self.invariant c.act-actor.ensures.keeps c.act-actor.ensures.fits)
+    (world_acts c.transactions_stay_right.ensures.longer g.A.App.next c.self.inside.settings c.self.inside.ports c.act-actor.new.ports c.self.inside.actors.items
+    c.args.place c.act-actor.result.0 c.self.invariant c.act-actor.ensures.keeps c.act-actor.ensures.fits)
 
 pub returns-clause-told : goal.returns-clause-told
 returns-clause-told g c =
@@ -28,8 +28,8 @@ returns-clause-due g c =
 pub returns-clause-explained : goal.returns-clause-explained
 returns-clause-explained g c =
     explained_act c.self.inside.settings c.self.inside.ports c.self.inside.actors.items c.args.place c.in-Some.actor
-    (c.take_out.ensures.actor ∙ ap Some c.in-Some.is) g.A.App.next c.args.doing.now c.act-actor.result.1 c.args.self.now.told
-    c.act-actor.ensures.explained (ap (λ (w : WorldValue). w.told) c.self.view_is)
+    (c.take_out.ensures.actor ∙ ap Some c.in-Some.is) g.A.App.next c.act-actor.new.ports c.args.doing.now c.act-actor.result.1 c.args.self.now.told _
+    c.act-actor.ensures.explained (ap (λ (w : WorldValue). w.told) c.self.view_is) refl
 
 pub returns-clause-balanced : goal.returns-clause-balanced
 returns-clause-balanced g c = λ purse h.

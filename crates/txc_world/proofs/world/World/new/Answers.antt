@@ -14,7 +14,7 @@ invariant_of-result g c = record {
   nodes = c.in_ok-ports.ensures.count;
   some = c.requires.nodes;
   passes = ap length c.in_ok-actors.ensures ∙ length-map c.args.registries.items (λ r. Some (Idle r)) ∙ sym (c.len.ensures ∙ c.args.registries.ok.0) ∙ sym c.in_ok-ports.ensures.actors_are;
-  there = rw c.in_ok-actors.ensures (All-map (IsThere (whole_of c.in_ok-ports.ports) c.args.settings.nodes) (λ r. Some (Idle r)) c.args.registries.items c.requires.all_idle);
+  there = rw c.in_ok-actors.ensures (All-map (IsThere g.A.App.next (whole_of c.in_ok-ports.ports) c.args.settings.nodes) (λ r. Some (Idle r)) c.args.registries.items c.requires.all_idle);
 }
 
 pub returns-clause-actors : goal.returns-clause-actors

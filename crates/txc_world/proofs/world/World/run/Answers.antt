@@ -15,7 +15,7 @@ loop-step-preserved g c =
       due = loop_due g.A.App.next start steps i replies c.step-item.result c.step-reply.result c.loop-step-test.true c.step-item.is h.each
           c.loop-step.self.told h.told h.due c.step-reply.ensures.due;
       explained = loop_explained g.A.App.next start steps i replies c.step-item.result c.step-reply.result c.loop-step-test.true c.step-item.is h.each
-          c.loop-step.self.told h.told h.explained c.step-reply.ensures.explained;
+          c.loop-step.self.told c.step-reply.new.self.told h.told c.step-reply.ensures.told h.explained c.step-reply.ensures.explained;
       tidy = loop_tidy c.args.steps.now i c.step-item.result c.loop-step-test.true replies c.step-reply.result c.step-item.is h.each
           c.args.self.now c.loop-step.self c.step-reply.new.self h.tidy c.step-reply.ensures.balanced;
       each = length_more replies c.step-reply.result i h.each;
