@@ -1,4 +1,4 @@
-use Rattle.std.proofs.Common.{Option, List, Some, refl, ap, ◌∙◌, slice_set}
+use Rattle.std.proofs.Common.{Option, List, Some, ap, ◌∙◌, slice_set}
 use Rattle.txc_world.specs.declared.actor.Actor.{Actor}
 use Rattle.txc_world.proofs.Stepping.{due_act, explained_act, told_act, world_acts}
 use Rattle.txc_world.proofs.world.World.act.Goals as goal
@@ -25,5 +25,5 @@ returns-clause-due g c =
 pub returns-clause-explained : goal.returns-clause-explained
 returns-clause-explained g c =
     explained_act c.self.inside.settings c.self.inside.ports c.self.inside.actors.items c.args.place c.in-Some.actor
-    (c.take_out.ensures.actor ∙ ap Some c.in-Some.is) g.A.App.next c.act-actor.new.ports c.args.doing.now c.act-actor.result.1 c.args.self.now _
-    c.act-actor.ensures.explained c.self.view_is refl
+    (c.take_out.ensures.actor ∙ ap Some c.in-Some.is) g.A.App.next c.act-actor.new.ports c.args.doing.now c.act-actor.result.1 c.args.self.now
+    c.act-actor.ensures.explained c.self.view_is
