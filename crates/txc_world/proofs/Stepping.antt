@@ -4,7 +4,6 @@ use Rattle.std.specs.Prelude.{All, MatchOption, option_map}
 use Rattle.std.proofs.lemmas.Option.{slice_get-map}
 use Rattle.std.proofs.lemmas.List.{map-set}
 use Rattle.std.proofs.lemmas.List.Elements.{All-set, All-weaker}
-use Rattle.txc_db.specs.History.{History}
 use Rattle.txc_shared.specs.Eval.{Next}
 use Rattle.txc_registry.specs.Objects.{Objects}
 use Rattle.txc_ports.specs.declared.request.PortRequest.TheVariants as requests
@@ -137,10 +136,9 @@ module _ {A C : Type 0} (settings : WorldSettings) (ports : PortsValue) (actors 
       let due : IsDue (told_of settings ports actors) (steps.Actor place act) reply = rw story_there h in
       subst (λ (t : Told). IsDue t (steps.Actor place act) reply) shows due
 
-  pub explained_act : (next : Next) (new : PortsValue) (act : Act) (reply : Reply) (now now' : Told)
+  pub explained_act : (next : Next) (new : PortsValue) (act : Act) (reply : Reply) (now : Told)
       → ReplyExplains next new.database.history (length ports.database.history) (story_of actor) reply
-      → told_of settings ports actors ≡ now → new.database.history ≡ now'.history → IsExplainedIn next now'.history now (steps.Actor place act) reply
-  explained_act next new act reply now now' h shows is =
+      → told_of settings ports actors ≡ now → IsExplainedIn next new.database.history now (steps.Actor place act) reply
+  explained_act next new act reply now h shows =
       let explained : IsExplainedIn next new.database.history (told_of settings ports actors) (steps.Actor place act) reply = rw story_there h in
-      subst (λ (L : History). IsExplainedIn next L now (steps.Actor place act) reply) is
-      (subst (λ (t : Told). IsExplainedIn next new.database.history t (steps.Actor place act) reply) shows explained)
+      subst (λ (t : Told). IsExplainedIn next new.database.history t (steps.Actor place act) reply) shows explained

@@ -302,9 +302,9 @@ module _ (next : Next) (start : Told) (steps : List Step) (i : ℕ) (replies : L
   pub loop_explained : (now new : Told) → now ≡ told_by start (take i steps) replies → new ≡ after now step reply → AreExplained next start (take i steps) replies
       → IsExplainedIn next new.history now step reply → AreExplained next start (take (i + 1) steps) (replies ++ reply ∷ [])
   loop_explained now new h k e x =
-      let then : IsExplainedIn next (after now step reply).history now step reply = subst (λ (t : Told). IsExplainedIn next t.history now step reply) k x in
+      let now_after : IsExplainedIn next (after now step reply).history now step reply = subst (λ (t : Told). IsExplainedIn next t.history now step reply) k x in
       rw next_steps (explained_more next start (take i steps) replies step reply as_long e
-      (subst (λ (t : Told). IsExplainedIn next (after t step reply).history t step reply) h then))
+      (subst (λ (t : Told). IsExplainedIn next (after t step reply).history t step reply) h now_after))
 
 pub length_more : (replies : List Reply) (reply : Reply) (i : ℕ) → length replies ≡ i → length (replies ++ reply ∷ []) ≡ i + 1
 length_more replies reply i e = length-append replies (reply ∷ []) ∙ ap (λ n. n + 1) e

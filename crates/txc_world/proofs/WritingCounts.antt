@@ -16,7 +16,7 @@ use Rattle.txc_ports.specs.declared.request.PortRequest.TheVariants as requests
 use Rattle.txc_ports.specs.declared.turn.Turn.{Turn}
 use Rattle.txc_ports.specs.declared.turn.Turn.TheVariants as turns
 use Rattle.txc_ports.specs.Refusals.{refused_request}
-use Rattle.txc_rw.specs.Core.{IsAsked}
+use Rattle.txc_rw.specs.Core.{IsAsked, IsWriteRefused}
 use Rattle.txc_rw.specs.Leading.{RowsLead}
 use Rattle.txc_world.specs.declared.did.Did.{Did}
 use Rattle.txc_world.specs.declared.did.Did.TheVariants as dids
@@ -111,6 +111,15 @@ module _ (p : PortsValue) (base : ℕ) where
   loss_rows a turns.Begun reply told loss = absurd told
   loss_rows a (turns.Value value) reply told loss = absurd told
   loss_rows a (turns.At at) reply told loss = absurd told
+
+-- a write is not refused so
+pub loss_write : (p : PortsValue) (a : Account) (count : ℕ) (e : TxnError) → IsWriteRefused count e → ReplyIsLossOf p a (replies.Refused (refusals.Transaction e))
+loss_write p a count (txns.SnapshotLost horizon) refused = absurd refused
+loss_write p a count (txns.Call cause) refused = tt
+loss_write p a count (txns.Database cause) refused = tt
+loss_write p a count txns.PinsFull refused = tt
+loss_write p a count txns.BufferFull refused = tt
+loss_write p a count txns.Memory refused = tt
 
 -- ---- steps
 

@@ -6,7 +6,7 @@ use Rattle.txc_world.proofs.writing.begin_rw.Goals as goal
 
 pub returns-in-Ok-clause-counts : goal.returns-in-Ok-clause-counts
 returns-in-Ok-clause-counts g c =
-    subst (λ (b : ℕ). ActCounts c.args.ports.now c.hold.new.self nothing (based b) (Based c.in-Ok.base)) (sym c.begin-core.ensures.base)
+    subst (λ (b : ℕ). ActCounts c.args.ports.now c.hold.new.self nothing (based b) (Based c.in-Ok.base)) (sym c.begin-core.ensures.at_base)
     (counts_begun c.args.ports.now c.hold.new.self c.in-Ok.base c.in-Ok.ensures.leads)
 
 pub returns-in-Err-clause-counts : goal.returns-in-Err-clause-counts

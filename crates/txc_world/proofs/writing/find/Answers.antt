@@ -26,8 +26,8 @@ returns-clause-base g c =
     ap (λ (v : RwValue). v.base) c.reply.ensures.same
     ∙ ap (λ (v : RwValue). v.base) (c.ask-turn.ensures.after (is_ask c.ask-turn.result asks.0 asks.1))
 
-pub returns-in_default-asked-clause-loss : goal.returns-in_default-asked-clause-loss
-returns-in_default-asked-clause-loss g c =
+pub returns-in_default-clause-loss : goal.returns-in_default-clause-loss
+returns-in_default-clause-loss g c =
     loss_asked c.args.ports.now c.args.core.now.base (based c.args.core.now.base) c.args.query.now _ c.ask-turn.result c.ask-turn.ensures.answer
 
 pub returns-clause-loss : goal.returns-clause-loss

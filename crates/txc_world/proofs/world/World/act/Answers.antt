@@ -28,8 +28,8 @@ returns-clause-due g c =
 pub returns-clause-explained : goal.returns-clause-explained
 returns-clause-explained g c =
     explained_act c.self.inside.settings c.self.inside.ports c.self.inside.actors.items c.args.place c.in-Some.actor
-    (c.take_out.ensures.actor ∙ ap Some c.in-Some.is) g.A.App.next c.act-actor.new.ports c.args.doing.now c.act-actor.result.1 c.args.self.now.told _
-    c.act-actor.ensures.explained (ap (λ (w : WorldValue). w.told) c.self.view_is) refl
+    (c.take_out.ensures.actor ∙ ap Some c.in-Some.is) g.A.App.next c.act-actor.new.ports c.args.doing.now c.act-actor.result.1 c.args.self.now.told
+    c.act-actor.ensures.explained (ap (λ (w : WorldValue). w.told) c.self.view_is)
 
 pub returns-clause-balanced : goal.returns-clause-balanced
 returns-clause-balanced g c = λ purse h.
