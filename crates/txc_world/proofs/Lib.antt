@@ -17,3 +17,4 @@ pub mod Fairness
 pub mod Balance
 pub mod Balancing
 pub mod WritingCounts
+pub mod Giving

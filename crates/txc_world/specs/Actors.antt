@@ -38,6 +38,7 @@ use Rattle.txc_world.specs.declared.reply.Reply.TheVariants as replies
 use Rattle.txc_world.specs.declared.reply.Reply.TheVariants.{Asked, Begun, Ended}
 use Rattle.txc_world.specs.declared.reply.Refusal.TheVariants.{Memory, Transaction}
 use Rattle.txc_world.specs.Parts.{IsPartOf}
+use Rattle.txc_world.specs.Books.{KeepsUsers}
 use Rattle.txc_world.specs.Ports.{PortsValue}
 use Rattle.txc_world.specs.Asks.{FreshLeads, IsAsked}
 use Rattle.txc_world.specs.Keeping.{GiveBackLeads}
@@ -163,11 +164,13 @@ pub record HasBegun (renew_after : ℕ) (bounds : Bounds) (old new : PortsValue)
   pub fresh : FreshLeads {A = Unit {0}} bounds.now bounds.staleness bounds.at_least old new (Ok pins)
   pub core : c ≡ begun_core (length old.nodes) renew_after bounds pins c.call
 
--- a transaction began, with no call; or the actor has nothing open
+-- a transaction began, with no call; or the actor has nothing open, and the pins that it was handed are given
+-- back
 abbrev pub BeginLeads : {A C : Type 0} → ℕ → Bounds → PortsValue → PortsValue → Actor A C → Reply → Type 0
 BeginLeads renew_after bounds old new (Reading o) reply = HasBegun renew_after bounds old new o.txn.core
     × (o.call ≡ None) × (reply ≡ Begun)
-BeginLeads renew_after bounds old new (Idle objects) reply = reply ≡ replies.Refused Memory
+BeginLeads renew_after bounds old new (Idle objects) reply = (reply ≡ replies.Refused Memory)
+    × KeepsUsers old new
 BeginLeads renew_after bounds old new actor reply = ⊥
 
 -- a call is open, with the turn that its start came to

@@ -7,6 +7,7 @@ use Rattle.txc_cushion.specs.declared.entry.PinEntry.{PinEntry}
 use Rattle.txc_cushion.specs.declared.pin.Pin.{Pin}
 use Rattle.txc_cushion.specs.Entries.{stamps_of, times, users_of}
 use Rattle.txc_cushion.specs.Cushion.{IsCushion}
+use Rattle.txc_cushion.specs.Refusals.{HaveUsers}
 use Rattle.txc_cushion.specs.Laws.{AddCountsOnePin, FreshCountsUsers, GiveBackCountsUsers, PinsEachStampOnce, RetireCountsTheUnused}
 use Rattle.txc_ports.specs.declared.request.PortRequest.{PortRequest}
 use Rattle.txc_ports.specs.declared.request.PortRequest.TheVariants as requests
@@ -78,6 +79,17 @@ times_taken stamp accounts = sum_by (λ a. times stamp a.taken) accounts
 -- how many holds of the stamp are the actors' own
 abbrev pub times_own : ℕ → List Account → ℕ
 times_own stamp accounts = sum_by (λ a. times stamp a.own) accounts
+
+-- each pin has the users that it had
+abbrev pub KeepsUsers : PortsValue → PortsValue → Type 0
+KeepsUsers old new =
+    (stamp : ℕ) → users_of stamp new.cushion.entries ≡ users_of stamp old.cushion.entries
+
+-- each of these pins has one user fewer, where they have that many
+abbrev pub GivesBack : PortsValue → PortsValue → List Pin → Type 0
+GivesBack old new pins = HaveUsers old.cushion.entries (map (λ p. p.stamp) pins)
+    → (stamp : ℕ) → users_of stamp new.cushion.entries + times stamp (map (λ p. p.stamp) pins)
+    ≡ users_of stamp old.cushion.entries
 
 -- ---- what a step of an actor does to them
 

@@ -6,7 +6,7 @@ ghost use Rattle.txc_shared.specs.Eval.{Next};
 ghost use Rattle.txc_rw.specs.Core.{IsOfCall};
 ghost use Rattle.txc_txn.specs.Core.{left_pin, open_call, recorded_after, value_of, CoreHolds, IsAsk, IsAsking, IsCore, IsTurn};
 ghost use Rattle.txc_world.specs.Actors.{counted, holds_any, story_of, AddsPart, BeginLeads, HasAsked, HasBegun, HasGivenBack, HasStarted, IsActor, IsBegun, IsNoted, IsOpenTxn, RequestLeads};
-ghost use Rattle.txc_world.specs.Books.{account_of, account_of_core, nothing, ActCounts, IsFair, IsLossOf};
+ghost use Rattle.txc_world.specs.Books.{account_of, account_of_core, nothing, ActCounts, IsFair, IsLossOf, KeepsUsers};
 ghost use Rattle.txc_world.specs.Parts.{IsPartOf};
 ghost use Rattle.txc_world.specs.Ports.{whole_of, KeepsRow};
 ghost use Rattle.txc_world.specs.Told.{act_in, did_in, idle, leaving, story_after, IsActDue, IsActReply, IsNoCommit, ReplyExplains};
@@ -44,7 +44,8 @@ fn begun<A: App>(
         (value_of core)) }
     ensures begins { IfOk result (λ core. HasBegun renew_after bounds ports.old ports.new (value_of core)) }
     ensures fair { IfOk result (λ core. IsFair ports.old ports.new nothing (account_of_core (value_of core))) }
-    ensures given_back { OnErr result (IsFair ports.old ports.new nothing nothing) }
+    ensures fair_again { OnErr result (IsFair ports.old ports.new nothing nothing) }
+    ensures given_back { OnErr result (KeepsUsers ports.old ports.new) }
     ensures same { ports.new ≡ record ports.old { cushion = ports.new.cushion } }
 {
     ports.count_right();
