@@ -7,4 +7,5 @@ pub mod Kept
 pub mod Making
 pub mod Told
 pub mod Actors
+pub mod Writing
 pub mod Worlds

@@ -1,11 +1,14 @@
 //! What an actor does with a read-write transaction, each kind of step by itself.
 ghost use Rattle.std.specs.Prelude.{◌≡◌, ◌++◌, ◌∷◌, ◌<◌, [], IfErr, IsSome, None, OnErr, OnOk, Some, length};
+ghost use Rattle.std.specs.Option.{ForSome};
 ghost use Rattle.txc_rows.specs.declared.query.Change.{Change};
+ghost use Rattle.txc_ports.specs.declared.turn.Turn.{Turn};
 ghost use Rattle.txc_registry.specs.Objects.{AllIdle};
 ghost use Rattle.txc_rw.specs.declared.rw_core.TheConstants.{MAX_CHANGES};
 ghost use Rattle.txc_rw.specs.Core.{answers_after, IsAsk, IsCallEnd, IsIdle, IsOfCall, IsOfQuery, IsRw, IsTurn, IsWriteRefused, RwHolds};
 ghost use Rattle.txc_world.specs.Actors.{asked_query, story_of, IsActor, IsEndOf, IsOpenRw, IsToldQuery};
 ghost use Rattle.txc_world.specs.Ports.{whole_of, KeepsRow};
+ghost use Rattle.txc_world.specs.Writing.{BeginRwLeads, CommitLeadsRw, FindLeadsRw, HasAskedRw, HasRequestedRw, HasStartedRw};
 ghost use Rattle.txc_world.specs.Told.{act_in, idle, story_after, IsActDue, IsActReply, IsNoCommit, ReplyExplains};
 
 use crate::acting::note;
@@ -38,6 +41,7 @@ pub(crate) fn begin_rw<A: App, C: Cacheable>(
     ensures keeps { KeepsRow ports.old ports.new }
     ensures spare { ports.new.spare ≡ ports.old.spare }
     ensures no_commit { IsNoCommit result.1 }
+    ensures leads { BeginRwLeads ports.old ports.new result.0 result.1 }
 {
     transactions_stay_right();
     match ports.hold(alloc) {
@@ -69,6 +73,7 @@ fn start<A: App, C: Cacheable>(
     ensures told { story_of result.0
         ≡ story_after (Act.Start key.now) result.1 (story_of (Actor.Writing current)) }
     ensures due { IsActDue (story_of (Actor.Writing current)) (Act.Start key.now) result.1 }
+    ensures leads { current.call ≡ None → HasStartedRw A.next key.now current result.0 }
 {
     let mut current = current;
     if current.call.is_some() {
@@ -136,6 +141,8 @@ fn go_on<A: App, C: Cacheable>(
         ≡ answers_after core.old.answers core.old.call.top None result.turn }
     ensures base { core.new.base ≡ core.old.base }
     ensures changes { core.new.changes ≡ core.old.changes }
+    ensures asks { HasAskedRw A.next query.now ports.old core.old core.new registry.old registry.new
+        result.did result.turn }
 {
     let base = core.base();
     let (did, found) = ports.answer_told(alloc, query, base);
@@ -173,6 +180,8 @@ fn request<A: App, C: Cacheable>(
     ensures due { IsActDue (story_of (Actor.Writing current)) Act.Request result.1 }
     ensures same { ports.new ≡ ports.old }
     ensures no_commit { IsNoCommit result.1 }
+    ensures leads { ForSome current.call (λ call. ForSome (asked_query call.turn) (λ query.
+        HasRequestedRw A.next call.key query ports.old current result.0 result.1)) }
 {
     let OpenRw {
         mut core,
@@ -224,6 +233,7 @@ fn find<A: App, C: Cacheable>(
         ≡ answers_after core.old.answers core.old.call.top (Some query.now) result }
     ensures base { core.new.base ≡ core.old.base }
     ensures changes { core.new.changes ≡ core.old.changes }
+    ensures leads { FindLeadsRw query.now core.old.base ports.old result }
 {
     let turn = core.ask(alloc, registry, *query);
     let Some(query) = asked(&turn) else {
@@ -260,6 +270,8 @@ fn ask<A: App, C: Cacheable>(
     ensures due { IsActDue (story_of (Actor.Writing current)) (Act.Ask query.now) result.1 }
     ensures same { ports.new ≡ ports.old }
     ensures no_commit { IsNoCommit result.1 }
+    ensures leads { current.call ≡ None → (turn : Turn) × IsToldQuery turn result.1
+        × FindLeadsRw query.now current.core.base ports.old turn }
 {
     if current.call.is_some() {
         return (Actor::Writing(current), Reply::Refused(Refusal::MidCall));
@@ -336,6 +348,8 @@ fn commit<A: App, C: Cacheable>(
         (length ports.old.database.history) (story_of (Actor.Writing current)) result.1 }
     ensures keeps { KeepsRow ports.old ports.new }
     ensures spare { ports.new.spare ≡ ports.old.spare }
+    ensures leads { current.call ≡ None
+        → CommitLeadsRw ports.old ports.new current result.0 result.1 }
 {
     answers_are_right();
     transactions_stay_right();
