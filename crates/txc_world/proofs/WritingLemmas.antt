@@ -1,6 +1,6 @@
 -- An open read-write transaction, step by step.
-use Rattle.std.proofs.Common.{◌≡◌, ◌∙◌, ℕ, ◌+◌, ◌-◌, arith, Bool, false, List, [], ◌∷◌, ◌++◌, length, take, Option, Some, None, Ok, Err, refl, ap, sym, subst}
-use Rattle.std.specs.Prelude.{is_some, Result}
+use Rattle.std.proofs.Common.{◌≡◌, ◌∙◌, ◌⊎◌, inl, inr, ℕ, ◌+◌, ◌-◌, arith, Bool, false, List, [], ◌∷◌, ◌++◌, length, take, Option, Some, None, Ok, Err, refl, ap, sym, subst}
+use Rattle.std.specs.Prelude.{is_some, IsSome, Result}
 use Rattle.std.proofs.lemmas.List.{length_push, take_at}
 use Rattle.txc_tags.specs.Keys.{Call}
 use Rattle.txc_rows.specs.declared.query.Query.{Query}
@@ -13,12 +13,16 @@ use Rattle.txc_db.specs.History.{History, state_at}
 use Rattle.txc_shared.specs.Eval.{Next}
 use Rattle.txc_registry.specs.Objects.{Objects}
 use Rattle.txc_call.specs.declared.need.Need.{Need}
+use Rattle.txc_call.specs.declared.need.Need.TheVariants as needs
 use Rattle.txc_ports.specs.declared.request.PortRequest.{PortRequest}
 use Rattle.txc_ports.specs.declared.turn.Turn.{Turn}
 use Rattle.txc_ports.specs.declared.turn.Turn.TheVariants as turns
 use Rattle.txc_rw.specs.declared.given.Given.{Given}
 use Rattle.txc_rw.specs.declared.given.Given.TheVariants as given
-use Rattle.txc_rw.specs.Core.{answers_after, IsAsk, IsIdle, IsOfCall, IsOfNeed, IsOfQuery, IsRightReply, IsRw, IsTurn, RwHolds, RwValue}
+use Rattle.txc_rw.specs.Core.{answers_after, queried_after, IsAsk, IsAsked, IsIdle, IsOfCall, IsOfNeed, IsOfQuery, IsRightReply, IsRw, IsTurn, ReadingFits, RwHolds, RwValue}
+use Rattle.txc_rw.specs.Leading.{RowsLead}
+use Rattle.txc_ports.specs.Refusals.{refused_request}
+use Rattle.txc_world.specs.Writing.{FindLeadsRw}
 use Rattle.txc_world.specs.declared.actor.OpenCall.{OpenCall}
 use Rattle.txc_world.specs.Told.{writing}
 use Rattle.txc_world.specs.Ports.{PortsValue}
@@ -109,3 +113,57 @@ still_open c c' changes call none is h =
     let idle : IsIdle c = subst (λ (o : Option OpenCall). HasRwCall c o) none h in
     let idle' : IsIdle c' = subst (λ (v : RwValue). IsIdle v) (sym is) idle in
     subst (λ (o : Option OpenCall). HasRwCall c' o) (sym none) idle'
+
+-- ---- what comes of each step
+
+-- a call that waits for a query needs it
+pub needs_query : (reading : Option Query) (need : Option Need) (q : Query) → ReadingFits reading need → reading ≡ Some q → IsSome need → need ≡ Some (needs.Query q)
+needs_query None need q fits is some = absurd (cc is)
+needs_query (Some p) None q fits is some = absurd (cc some)
+needs_query (Some p) (Some need) q fits is some =
+    let same : p ≡ q = cc is in
+    ap (λ (n : Need). Some n) (fits ∙ ap (λ (x : Query). needs.Query x) same)
+
+pub answered_at : (query : Query) (stamp base : ℕ) (p : PortsValue) (found : Result Found DbError) → stamp ≡ base → AnswerLeads query stamp p found → AnswerLeads query base p found
+answered_at query stamp base p found same leads = subst (λ (n : ℕ). AnswerLeads query n p found) same leads
+
+pub answered_rows : (query : Query) (base : ℕ) (p : PortsValue) (found : Result Found DbError) (f : Found) → AnswerLeads query base p found → found ≡ Ok f
+    → f.rows.items ≡ answer query (state_at p.database.history base)
+answered_rows query base p found f leads is = (subst (λ (r : Result Found DbError). AnswerLeads query base p r) is leads).0.answer.rows
+
+pub queried_so : (queried : List Query) (reading : Option Query) (q : Query) (found : Result Found DbError) (now : List Query) → reading ≡ Some q
+    → now ≡ queried_after queried reading found → now ≡ queried_after queried (Some q) found
+queried_so queried reading q found now is h = subst (λ (r : Option Query). now ≡ queried_after queried r found) is h
+
+-- a query of its own
+pub found_leads : (query : Query) (base : ℕ) (p : PortsValue) (found : Result Found DbError) (turn : Turn) → AnswerLeads query base p found
+    → ((f : Found) → found ≡ Ok f → RowsLead f.rows.items turn) → ((e : DbError) → found ≡ Err e → turn ≡ turns.Refused (refused_request e)) → FindLeadsRw query base p turn
+found_leads query base p (Ok f) (turns.Rows rows) leads on off = (f, leads, on f refl)
+found_leads query base p (Ok f) (turns.Refused e) leads on off = inl (on f refl)
+found_leads query base p (Ok f) (turns.Ask request) leads on off = absurd (on f refl)
+found_leads query base p (Ok f) turns.Begun leads on off = absurd (on f refl)
+found_leads query base p (Ok f) (turns.Value value) leads on off = absurd (on f refl)
+found_leads query base p (Ok f) (turns.At stamp) leads on off = absurd (on f refl)
+found_leads query base p (Err e) turn leads on off = subst (λ (t : Turn). FindLeadsRw query base p t) (sym (off e refl)) (inr (e, leads, refl))
+
+-- one that was not asked, as it is out of memory
+pub not_asked : (c : RwValue) (query : Query) (base : ℕ) (p : PortsValue) (stamp : ℕ) (turn : Turn) → IsTurn c turn → IsAsked query stamp turn → asked_query turn ≡ None → FindLeadsRw query base p turn
+not_asked c query base p stamp (turns.Ask request) is asked none =
+    let some : asked_query (turns.Ask request) ≡ Some query = ap (λ (r : PortRequest). asked_query (turns.Ask r)) asked in
+    let both : Some query ≡ None = sym some ∙ none in absurd (cc both)
+not_asked c query base p stamp (turns.Refused e) is asked none = inl asked
+not_asked c query base p stamp turns.Begun is asked none = absurd is
+not_asked c query base p stamp (turns.Value value) is asked none = absurd asked
+not_asked c query base p stamp (turns.Rows rows) is asked none = absurd asked
+not_asked c query base p stamp (turns.At at) is asked none = absurd is
+
+-- the query that is asked is the one
+pub asks_it : (query q : Query) (stamp : ℕ) (turn : Turn) → IsAsked query stamp turn → asked_query turn ≡ Some q → query ≡ q
+asks_it query q stamp (turns.Ask request) asked is =
+    let some : asked_query (turns.Ask request) ≡ Some query = ap (λ (r : PortRequest). asked_query (turns.Ask r)) asked in
+    let both : Some query ≡ Some q = sym some ∙ is in cc both
+asks_it query q stamp (turns.Refused e) asked is = absurd (cc is)
+asks_it query q stamp turns.Begun asked is = absurd asked
+asks_it query q stamp (turns.Value value) asked is = absurd asked
+asks_it query q stamp (turns.Rows rows) asked is = absurd asked
+asks_it query q stamp (turns.At at) asked is = absurd asked

@@ -9,4 +9,5 @@ pub mod Told
 pub mod Actors
 pub mod Books
 pub mod Tidy
+pub mod Writing
 pub mod Worlds

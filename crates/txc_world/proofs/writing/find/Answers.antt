@@ -1,7 +1,9 @@
-use Rattle.std.proofs.Common.{ap, sym, ◌∙◌}
+use Rattle.std.proofs.Common.{ap, subst, sym, ◌∙◌}
+use Rattle.txc_rows.specs.declared.query.Query.{Query}
 use Rattle.txc_rw.specs.Core.{RwValue}
-use Rattle.txc_world.proofs.WritingLemmas.{asks_query, idle_after, is_ask, of_query, right_answer}
-use Rattle.std.proofs.Common.{ℕ, subst}
+use Rattle.txc_world.specs.Writing.{FindLeadsRw}
+use Rattle.txc_world.proofs.WritingLemmas.{answered_at, asks_it, asks_query, found_leads, idle_after, is_ask, not_asked, of_query, right_answer}
+use Rattle.std.proofs.Common.{ℕ}
 use Rattle.txc_world.specs.Books.{TurnIsLossOf}
 use Rattle.txc_world.proofs.WritingCounts.{based, loss_asked, loss_found}
 use Rattle.txc_world.proofs.writing.find.Goals as goal
@@ -38,3 +40,15 @@ returns-clause-loss g c =
     subst (λ (b : ℕ). TurnIsLossOf c.args.ports.now (based b) c.reply.result) (c.base-base.ensures ∙ ap (λ (v : RwValue). v.base) same)
     (loss_found c.args.ports.now c.base-base.result c.in-Some.query c.answer-found.result c.reply.result c.count_right.ensures c.answer-found.ensures.leads
     (λ found is. c.reply.ensures.rows found none is) c.reply.ensures.refused)
+
+pub returns-clause-leads : goal.returns-clause-leads
+returns-clause-leads g c =
+    let is = sym c.asked.ensures ∙ c.in-Some.is in
+    let asks = asks_query c.ask-turn.new.self c.ask-turn.result c.in-Some.query c.ask-turn.ensures.turn is in
+    let same = c.ask-turn.ensures.after (is_ask c.ask-turn.result asks.0 asks.1) in
+    let none = ap (λ (v : RwValue). v.call.need) same ∙ c.requires.idle.0 in
+    subst (λ (q : Query). FindLeadsRw q c.args.core.now.base c.args.ports.now c.reply.result) (sym (asks_it c.args.query.now c.in-Some.query _ c.ask-turn.result c.ask-turn.ensures.answer is))
+    (found_leads c.in-Some.query c.args.core.now.base c.args.ports.now c.answer-found.result c.reply.result
+    (answered_at c.in-Some.query c.base-base.result c.args.core.now.base c.args.ports.now c.answer-found.result
+    (c.base-base.ensures ∙ ap (λ (v : RwValue). v.base) same) c.answer-found.ensures.leads)
+    (λ f found. c.reply.ensures.rows f none found) c.reply.ensures.refused)

@@ -1,10 +1,18 @@
-use Rattle.std.proofs.Common.{Some, ap, sym, ◌∙◌}
+use Rattle.std.proofs.Common.{◌≡◌, Option, Some, [], ap, refl, subst, sym, ◌∙◌}
+use Rattle.std.specs.Prelude.{IsNone, IsSome}
+use Rattle.txc_tags.specs.Keys.{Call}
+use Rattle.txc_registry.specs.Objects.{activity_of}
+use Rattle.txc_call.specs.Calling.{started}
+use Rattle.txc_call.specs.declared.error.CallError.TheVariants.{NoFunction}
+use Rattle.txc_ports.specs.declared.error.TxnError.TheVariants.{Call as CallRefused}
+use Rattle.txc_ports.specs.declared.turn.Turn.TheVariants as turns
+use Rattle.txc_rw.specs.Leading.{standing_of, CallLeads}
+use Rattle.txc_world.specs.declared.actor.OpenCall.{OpenCall}
 use Rattle.txc_rw.specs.Core.{RwValue}
 use Rattle.txc_world.specs.Actors.{told_answers}
 use Rattle.txc_world.proofs.WritingLemmas.{answers_at_start, none_by_test, told_at_start, writing_same}
 use Rattle.txc_world.proofs.Fairness.{counts_itself}
 use Rattle.txc_world.proofs.WritingCounts.{based, counts_based}
-use Rattle.std.proofs.Common.{refl}
 use Rattle.txc_world.proofs.writing.start.Goals as goal
 
 pub returns-clause-fits : goal.returns-clause-fits
@@ -35,3 +43,18 @@ returns-then-is_some-clause-counts g c = counts_itself c.args.whole.now (based c
 pub returns-clause-counts : goal.returns-clause-counts
 returns-clause-counts g c =
     counts_based c.args.whole.now c.args.whole.now c.args.current.core.base c.start-turn.new.self.base _ refl (ap (λ (v : RwValue). v.base) c.start-turn.ensures.same) tt
+
+pub returns-clause-leads : goal.returns-clause-leads
+returns-clause-leads g c = λ none. record {
+  current = record { core = c.start-turn.new.self; registry = c.start-turn.new.registry; call = Some (record { key = c.copy-2.result; turn = c.start-turn.result }) };
+  turn = c.start-turn.result;
+  actor_is = refl;
+  call = ap (λ (k : Call). let call : OpenCall = record { key = k; turn = c.start-turn.result } in Some call) c.copy-2.ensures;
+  leads = λ there s.
+      subst (λ (k : Call). CallLeads g.A.App.next s (standing_of (started k) c.args.current.registry) [] c.start-turn.new.self c.start-turn.new.registry c.start-turn.result)
+      c.copy.ensures
+      (c.start-turn.ensures.leads (subst (λ (k : Call). IsSome (activity_of c.args.current.registry k.function)) (sym c.copy.ensures) there) s);
+  missing = λ gone.
+      subst (λ (k : Call). c.start-turn.result ≡ turns.Refused (CallRefused (NoFunction k.function))) c.copy.ensures
+      (c.start-turn.ensures.missing (subst (λ (k : Call). IsNone (activity_of c.args.current.registry k.function)) (sym c.copy.ensures) gone));
+}
