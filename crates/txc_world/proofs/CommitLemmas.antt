@@ -1,10 +1,9 @@
 -- What a commit of a read-write transaction makes of the history, and what it explains.
-use Rattle.std.proofs.Common.{◌≡◌, ◌≢◌, ◌∙◌, ◌⊎◌, inl, inr, ⊎_elim, ℕ, ◌+◌, ◌≤◌, arith, List, [], ◌∷◌, ◌++◌, length, take, Option, Some, None, refl, ap, sym, subst, add-one}
+use Rattle.std.proofs.Common.{◌≡◌, ◌≢◌, ◌∙◌, ◌⊎◌, inl, inr, ℕ, ◌+◌, arith, List, [], ◌∷◌, ◌++◌, length, Option, Some, None, refl, ap, sym, subst, add-one}
 use Rattle.std.specs.Prelude.{option_map, Ok}
 use Rattle.std.proofs.lemmas.List.{length_push, take_all}
 use Rattle.txc_stream.proofs.Offered.{prefix_push, push_get}
 use Rattle.txc_tags.specs.declared.tag.Tag.{Tag}
-use Rattle.txc_tags.specs.Keys.{Call}
 use Rattle.txc_tags.specs.Tags.{sets_match}
 use Rattle.txc_rows.specs.declared.query.Change.{Change}
 use Rattle.txc_rows.specs.Net.{net_changes}
@@ -12,7 +11,6 @@ use Rattle.txc_rows.specs.States.{State}
 use Rattle.txc_db.specs.Facts.{EventValue}
 use Rattle.txc_db.specs.History.{History, state_at, event_at, commit_event}
 use Rattle.txc_db.specs.DatabaseValue.{DatabaseValue, after_commit, after_event_of, newest, newest_net, newest_state, where_some}
-use Rattle.txc_db.specs.Refusals.{NoneMatches}
 use Rattle.txc_db.specs.Calls.{IsCommittable}
 use Rattle.txc_db.specs.Laws.{StatesStay, TagsStay}
 use Rattle.txc_db.specs.Shared.{IsQuietIn, IsEventIn}
@@ -83,7 +81,7 @@ module _ (next : Next) (objects : Objects) (c : RwValue) (d : DatabaseValue) (h 
     made = inl (
       refl,
       subst (λ (L : History). HasChangedNothing next L c.changes c.answers (newest d)) (sym (take_all (newest d) d.history (omega arith)))
-      (quiet_right next d.history objects c (newest d) h (quiet_in states tags d c.base (tags_read c) c.changes due none)),
+          (quiet_right next d.history objects c (newest d) h (quiet_in states tags d c.base (tags_read c) c.changes due none)),
     );
   }
 
@@ -99,7 +97,7 @@ module _ (next : Next) (objects : Objects) (c : RwValue) (d : DatabaseValue) (h 
         made = inr (
           refl,
           subst (λ (L : History). HasChanged next L c.changes c.answers (newest d + 1)) (sym (take_all (newest d + 1) L' (omega (arith, long))))
-          (event_right next L' objects c (newest d + 1) h' (event_in states tags d c.base (tags_read c) c.changes due e is some)),
+              (event_right next L' objects c (newest d + 1) h' (event_in states tags d c.base (tags_read c) c.changes due e is some)),
         );
       }
 

@@ -1,5 +1,5 @@
 -- What is told of the keeper's steps.
-use Rattle.std.proofs.Common.{◌≡◌, ◌∙◌, ℕ, ◌+◌, ◌<◌, ◌≤◌, nat_lt, arith, Bool, true, false, List, [], ◌∷◌, ◌++◌, length, map, Result, Ok, Err, Option, Some, None, refl, ap, sym, subst, length-append}
+use Rattle.std.proofs.Common.{◌≡◌, ◌∙◌, ℕ, ◌+◌, ◌<◌, ◌≤◌, nat_lt, arith, Bool, true, false, List, [], ◌∷◌, ◌++◌, length, Result, Ok, Err, Option, Some, None, refl, ap, sym, subst, length-append}
 use Rattle.std.specs.Prelude.{if◌then◌else◌}
 use Rattle.std.proofs.lemmas.Bool.Decides.{nat_tests}
 use Rattle.std.proofs.lemmas.List.{map-append}
@@ -8,20 +8,19 @@ use Rattle.txc_rows.specs.declared.query.Change.{Change}
 use Rattle.txc_db.specs.declared.error.DbError.{DbError}
 use Rattle.txc_db.specs.declared.pinned.Pinned.{Pinned}
 use Rattle.txc_db.specs.Facts.{EventValue}
-use Rattle.txc_db.specs.History.{History, commit_event, pin_event}
+use Rattle.txc_db.specs.History.{commit_event, pin_event}
 use Rattle.txc_db.specs.DatabaseValue.{DatabaseValue, after_commit, after_event_of, is_held, newest, newest_net, newest_state, where_some}
 use Rattle.txc_cushion.specs.declared.error.AddError.{AddError}
 use Rattle.txc_world.specs.declared.step.Keep.TheVariants as keeps
 use Rattle.txc_world.specs.declared.reply.Reply.{Reply}
 use Rattle.txc_world.specs.declared.reply.Reply.TheVariants as replies
 use Rattle.txc_world.specs.declared.reply.Reply.TheVariants.{Refused}
-use Rattle.txc_world.specs.declared.reply.Refusal.{Refusal}
 use Rattle.txc_world.specs.declared.reply.Refusal.TheVariants as refusals
 use Rattle.txc_world.specs.Ports.{PortsValue, HasRefused, HasLedNode, KeepsRow}
-use Rattle.txc_world.specs.Keeping.{stamps_of, CommitLeads, HasPinnedSpare, HasAddedSpare, WriteLeads, PinSpareLeads, AddSpareLeads}
+use Rattle.txc_world.specs.Keeping.{stamps_of, CommitLeads, HasPinnedSpare, WriteLeads, AddSpareLeads}
 use Rattle.txc_world.specs.Kept.{told_addition, IsKept}
 use Rattle.txc_world.specs.Tidy.{KeepsBalance}
-use Rattle.txc_world.specs.Told.{commit_in, keep_in, spare_after, IsDueOr, IsKeepDue}
+use Rattle.txc_world.specs.Told.{commit_in, keep_in, IsDueOr}
 use Rattle.txc_shared.specs.Nodes.{NodeValue}
 use Rattle.txc_world.proofs.PortsLemmas.{left_history}
 

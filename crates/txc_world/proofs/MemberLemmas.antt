@@ -1,5 +1,5 @@
 -- What a world says of the members of a pin set.
-use Rattle.std.proofs.Common.{zero, suc, [], ◌∷◌, ◌≡◌, ℕ, ◌<◌, List, length, map, Option, Some, None, refl, sym, ap, subst, ◌∙◌, slice_get, slice_index_or, All}
+use Rattle.std.proofs.Common.{zero, suc, [], ◌∷◌, ◌≡◌, ℕ, List, Option, Some, sym, ap, subst, ◌∙◌, slice_get, slice_index_or, All}
 use Rattle.std.specs.Prelude.{option_map}
 use Rattle.std.proofs.lemmas.List.Elements.{All-head, All-tail}
 use mathlib.Core.List.{IsPrefix}
@@ -14,7 +14,7 @@ use Rattle.txc_world.specs.declared.actor.OpenTxn.{OpenTxn}
 use Rattle.txc_world.specs.declared.actor.Actor.{Actor}
 use Rattle.txc_world.specs.declared.actor.Actor.TheVariants as actors
 use Rattle.txc_world.specs.declared.settings.WorldSettings.{WorldSettings}
-use Rattle.txc_world.specs.Told.{Reading, Story, reading, Told}
+use Rattle.txc_world.specs.Told.{Reading, reading, Told}
 use Rattle.txc_world.specs.Ports.{PortsValue, whole_of}
 use Rattle.txc_world.specs.Actors.{story_of, IsThere}
 use Rattle.txc_world.specs.Worlds.{told_of, AreMembersOf, IsWorld}

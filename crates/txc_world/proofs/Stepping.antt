@@ -1,29 +1,25 @@
 -- One step of a world.
-use Rattle.std.proofs.Common.{◌≡◌, ℕ, zero, suc, ◌<◌, ◌≤◌, List, [], ◌∷◌, length, map, Option, Some, None, refl, sym, ap, subst, ◌∙◌, slice_get, slice_set}
-use Rattle.std.specs.Prelude.{All, MatchOption, option_map}
+use Rattle.std.proofs.Common.{◌≡◌, ℕ, zero, suc, List, [], ◌∷◌, length, Option, Some, None, refl, sym, ap, subst, ◌∙◌, slice_get, slice_set}
+use Rattle.std.specs.Prelude.{All, option_map}
 use Rattle.std.proofs.lemmas.Option.{slice_get-map}
 use Rattle.std.proofs.lemmas.List.{map-set}
 use Rattle.std.proofs.lemmas.List.Elements.{All-set, All-weaker}
 use Rattle.txc_shared.specs.Eval.{Next}
-use Rattle.txc_registry.specs.Objects.{Objects}
 use Rattle.txc_ports.specs.declared.request.PortRequest.TheVariants as requests
 use Rattle.txc_ports.specs.declared.turn.Turn.{Turn}
 use Rattle.txc_ports.specs.declared.turn.Turn.TheVariants as turns
 use Rattle.txc_txn.specs.Core.{CoreValue}
 use Rattle.txc_rw.specs.Laws.{HoldsInLonger}
 use Rattle.txc_world.specs.declared.actor.OpenCall.{OpenCall}
-use Rattle.txc_world.specs.declared.actor.OpenTxn.{OpenTxn}
 use Rattle.txc_world.specs.declared.actor.Actor.{Actor}
 use Rattle.txc_world.specs.declared.actor.Actor.TheVariants.{Idle, Reading, Writing, Leaving}
 use Rattle.txc_world.specs.declared.reply.Reply.{Reply}
-use Rattle.txc_world.specs.declared.reply.Reply.TheVariants.{Refused}
-use Rattle.txc_world.specs.declared.reply.Refusal.TheVariants.{NoActor}
 use Rattle.txc_world.specs.declared.settings.WorldSettings.{WorldSettings}
 use Rattle.txc_world.specs.declared.step.Act.{Act}
 use Rattle.txc_world.specs.declared.step.Step.TheVariants as steps
-use Rattle.txc_world.specs.Told.{Story, Told, act_at, act_in, after, story_after, IsActDue, IsDue, IsExplainedIn, IsNoReceipt, ReplyExplains}
+use Rattle.txc_world.specs.Told.{Told, act_in, after, story_after, IsActDue, IsDue, IsExplainedIn, ReplyExplains}
 use Rattle.txc_world.specs.Ports.{PortsValue, whole_of, KeepsRow}
-use Rattle.txc_world.specs.Actors.{story_at, story_of, AddsPart, HasCall, IsActor, IsOpenCall, IsOpenTxn, IsThere}
+use Rattle.txc_world.specs.Actors.{story_at, story_of, AddsPart, HasCall, IsActor, IsThere}
 use Rattle.txc_world.specs.Worlds.{told_of, IsWorld}
 use Rattle.txc_world.proofs.Whole.{part_kept}
 

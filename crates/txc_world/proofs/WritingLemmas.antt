@@ -1,5 +1,5 @@
 -- An open read-write transaction, step by step.
-use Rattle.std.proofs.Common.{◌≡◌, ◌∙◌, ◌⊎◌, inl, inr, ℕ, ◌+◌, ◌-◌, arith, Bool, false, List, [], ◌∷◌, ◌++◌, length, take, Option, Some, None, Ok, Err, refl, ap, sym, subst}
+use Rattle.std.proofs.Common.{◌≡◌, ◌∙◌, inl, inr, ℕ, ◌+◌, ◌-◌, arith, false, List, [], ◌∷◌, ◌++◌, length, take, Option, Some, None, Ok, Err, refl, ap, sym, subst}
 use Rattle.std.specs.Prelude.{is_some, IsSome, Result}
 use Rattle.std.proofs.lemmas.List.{length_push, take_at}
 use Rattle.txc_tags.specs.Keys.{Call}

@@ -1,5 +1,5 @@
 -- What actors keep, and how they are told.
-use Rattle.std.specs.Prelude.{◌≡◌, ℕ, ◌-◌, ◌≤◌, Bool, List, [], All, Option, Some, None, Result, Ok, IsSome, length, take, option_map, if◌then◌else◌}
+use Rattle.std.specs.Prelude.{◌≡◌, ℕ, ◌-◌, Bool, List, [], Option, Some, None, Result, Ok, IsSome, length, take, option_map, if◌then◌else◌}
 use Rattle.std.specs.List.{list_any}
 use Rattle.txc_stamp.specs.Interval.{Interval}
 use Rattle.txc_tags.specs.Keys.{Call}

@@ -1,5 +1,5 @@
 -- What comes of a transaction's request at the plain ports, and how it is told.
-use Rattle.std.specs.Prelude.{◌≡◌, ◌⊎◌, ℕ, ◌≤◌, Result, Ok, Err, Option, Some, None, List, [], ◌∷◌, map, true}
+use Rattle.std.specs.Prelude.{◌≡◌, ◌⊎◌, ℕ, ◌≤◌, Result, Ok, Err, Option, Some, None, [], ◌∷◌, map, true}
 use Rattle.std.specs.Option.{option_map, ForSome}
 use Rattle.txc_rows.specs.declared.query.Query.{Query}
 use Rattle.txc_rows.specs.RowTags.{query_tag}
@@ -8,7 +8,7 @@ use Rattle.txc_validity.specs.Answers.{IsAnswer}
 use Rattle.txc_db.specs.declared.answered.Answered.{Answered}
 use Rattle.txc_db.specs.declared.error.DbError.{DbError}
 use Rattle.txc_db.specs.declared.pinned.Pinned.{Pinned}
-use Rattle.txc_db.specs.History.{History, moment_at, state_at}
+use Rattle.txc_db.specs.History.{moment_at, state_at}
 use Rattle.txc_db.specs.Seen.{FrontValue}
 use Rattle.txc_db.specs.DatabaseValue.{after_hold, after_pin, after_unpin, front_of, is_held, newest}
 use Rattle.txc_db.specs.Calls.{IsAnswerable, IsHoldable, IsHoldRefused, IsPinnable, IsPinRefused, IsQueryRefused, IsUnpinRefused}

@@ -1,5 +1,5 @@
 -- What a world keeps, and how it is told.
-use Rattle.std.specs.Prelude.{◌≡◌, ℕ, ◌≤◌, Bool, true, List, [], All, Option, None, Some, length, map}
+use Rattle.std.specs.Prelude.{◌≡◌, ◌≤◌, Bool, true, List, [], All, Option, None, Some, length, map}
 use Rattle.txc_db.specs.History.{History, state_at}
 use Rattle.txc_cushion.specs.declared.pin.Pin.{Pin}
 use Rattle.txc_shared.specs.Eval.{Next}

@@ -367,10 +367,7 @@ fn act_open<A: App, C: Cacheable>(
             Actor::Reading(current),
             Reply::Refused(Refusal::AlreadyOpen),
         ),
-        Act::Ask(_) | Act::Write(_) => (
-            Actor::Reading(current),
-            Reply::Refused(Refusal::NotOpen),
-        ),
+        Act::Ask(_) | Act::Write(_) => (Actor::Reading(current), Reply::Refused(Refusal::NotOpen)),
         Act::Start(key) => start(alloc, ports, current, key),
         Act::Request => request_call(alloc, ports, pass, current),
         Act::Commit => commit(ports, current),

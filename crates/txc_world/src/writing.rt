@@ -82,9 +82,7 @@ fn start<A: App, C: Cacheable>(
     if current.call.is_some() {
         return (Actor::Writing(current), Reply::Refused(Refusal::MidCall));
     }
-    let turn = current
-        .core
-        .start(alloc, &mut current.registry, key.copy());
+    let turn = current.core.start(alloc, &mut current.registry, key.copy());
     current.call = Some(OpenCall {
         key: key.copy(),
         turn,
@@ -201,10 +199,7 @@ fn request<A: App, C: Cacheable>(
             registry,
             call,
         };
-        return (
-            Actor::Writing(current),
-            Reply::Refused(Refusal::NoRequest),
-        );
+        return (Actor::Writing(current), Reply::Refused(Refusal::NoRequest));
     };
     let Some(query) = asked(&turn) else {
         return end_call(core, registry, end_of(turn));
@@ -375,10 +370,7 @@ fn commit<A: App, C: Cacheable>(
     match ports.commit(alloc, base, read, changes) {
         Ok(stamp) => {
             let _unpin = current.core.cancel(&mut current.registry);
-            (
-                Actor::Leaving(current.registry, base),
-                Reply::At(stamp),
-            )
+            (Actor::Leaving(current.registry, base), Reply::At(stamp))
         }
         Err(refusal) => (
             Actor::Writing(current),
@@ -388,10 +380,7 @@ fn commit<A: App, C: Cacheable>(
 }
 
 // Gives the transaction up, in the middle of a call too.
-fn abort<A: App, C: Cacheable>(
-    whole: &Ports<A>,
-    current: OpenRw<A, C>,
-) -> (Actor<A, C>, Reply)
+fn abort<A: App, C: Cacheable>(whole: &Ports<A>, current: OpenRw<A, C>) -> (Actor<A, C>, Reply)
     requires { IsOpenRw A.next whole.now.database.history current }
     ensures fits { IsActor A.next (whole_of whole.now) (length whole.now.nodes) result.0 }
     ensures told { story_of result.0 ≡ story_after Act.Abort result.1 (story_of (Actor.Writing current)) }

@@ -2,7 +2,7 @@ use Rattle.std.proofs.Common.{ap, subst, sym, ◌∙◌}
 use Rattle.txc_rows.specs.declared.query.Query.{Query}
 use Rattle.txc_rw.specs.Core.{RwValue}
 use Rattle.txc_world.specs.Writing.{FindLeadsRw}
-use Rattle.txc_world.proofs.WritingLemmas.{answered_at, asks_it, asks_query, found_leads, idle_after, is_ask, not_asked, of_query, right_answer}
+use Rattle.txc_world.proofs.WritingLemmas.{answered_at, asks_it, asks_query, found_leads, idle_after, is_ask, of_query, right_answer}
 use Rattle.std.proofs.Common.{ℕ}
 use Rattle.txc_world.specs.Books.{TurnIsLossOf}
 use Rattle.txc_world.proofs.WritingCounts.{based, loss_asked, loss_found}

@@ -1,4 +1,4 @@
-use Rattle.std.proofs.Common.{◌≡◌, Option, Some, [], ap, refl, subst, sym, ◌∙◌}
+use Rattle.std.proofs.Common.{◌≡◌, Some, [], ap, refl, subst, sym, ◌∙◌}
 use Rattle.std.specs.Prelude.{IsNone, IsSome}
 use Rattle.txc_tags.specs.Keys.{Call}
 use Rattle.txc_registry.specs.Objects.{activity_of}

@@ -1,8 +1,7 @@
-use Rattle.std.proofs.Common.{◌≡◌, sym, ◌∙◌, ap, length, map, List, Option, Some, refl}
+use Rattle.std.proofs.Common.{sym, ◌∙◌, ap, length, Some}
 use Rattle.std.proofs.lemmas.List.{length-map}
 use Rattle.std.proofs.lemmas.Simd.{map-map}
 use Rattle.std.proofs.lemmas.List.Elements.{All-map}
-use Rattle.txc_world.specs.declared.actor.Actor.{Actor}
 use Rattle.txc_world.specs.declared.actor.Actor.TheVariants.{Idle}
 use Rattle.txc_world.specs.Ports.{whole_of}
 use Rattle.txc_world.specs.Actors.{story_at, IsThere}
