@@ -14,7 +14,7 @@ use Rattle.txc_shared.specs.Eval.{Next}
 use Rattle.txc_registry.specs.Objects.{Objects}
 use Rattle.txc_rw.specs.Answers.{AgreeOn, state_of}
 use Rattle.txc_rw.specs.Core.{RwValue, RwHolds, tags_of, tags_read}
-use Rattle.txc_rw.specs.Outcomes.{IsCommitted}
+use Rattle.txc_rw.specs.Outcomes.{HasChanged, HasChangedNothing, IsCommitted}
 use Rattle.txc_rw.proofs.Holding.{holds_in_longer, right_where}
 use Rattle.txc_rw.proofs.Lists.{tags_cover}
 
@@ -32,23 +32,31 @@ module _ (sound : EventTagsAreSound) (L : History) (qs : List Query) (base last 
   pub agree_at : base ≤ last → AgreeOn qs (state_at L base) (state_at L last)
   agree_at known = λ q there. same_answer q there (last - base) last (omega (arith, known)) (omega arith)
 
+pub quiet_commits_are_right : EventTagsAreSound → (next : Next) (L : History) (objects : Objects) (c : RwValue) (stamp : ℕ) → RwHolds next L objects c
+    → IsQuietIn L c.base (tags_read c) c.changes stamp → HasChangedNothing next L c.changes c.answers stamp
+quiet_commits_are_right sound next L objects c stamp h quiet = record {
+  newest = quiet.newest;
+  none = quiet.none;
+  right = right_where next L objects c h stamp (agree_at sound L c.queried c.base stamp quiet.apart quiet.known);
+}
+
+pub event_commits_are_right : EventTagsAreSound → (next : Next) (L : History) (objects : Objects) (c : RwValue) (stamp : ℕ) → RwHolds next L objects c
+    → IsEventIn L c.base (tags_read c) c.changes stamp → HasChanged next L c.changes c.answers stamp
+event_commits_are_right sound next L objects c stamp h one = record {
+  before = one.before;
+  one_more = one.next;
+  newest = one.newest;
+  some = one.some;
+  event = one.event;
+  right = right_where next L objects c h one.before (agree_at sound L c.queried c.base one.before one.apart one.known);
+}
+
 pub commits_are_right : EventTagsAreSound → (next : Next) (L : History) (objects : Objects) (c : RwValue) (stamp : ℕ) → RwHolds next L objects c
     → IsQuietIn L c.base (tags_read c) c.changes stamp ⊎ IsEventIn L c.base (tags_read c) c.changes stamp → IsCommitted next L c stamp
 commits_are_right sound next L objects c stamp h =
     ⊎_elim
-    (λ (quiet : IsQuietIn L c.base (tags_read c) c.changes stamp). inl (record {
-      newest = quiet.newest;
-      none = quiet.none;
-      right = right_where next L objects c h stamp (agree_at sound L c.queried c.base stamp quiet.apart quiet.known);
-    }))
-    (λ (one : IsEventIn L c.base (tags_read c) c.changes stamp). inr (record {
-      before = one.before;
-      one_more = one.next;
-      newest = one.newest;
-      some = one.some;
-      event = one.event;
-      right = right_where next L objects c h one.before (agree_at sound L c.queried c.base one.before one.apart one.known);
-    }))
+    (λ (quiet : IsQuietIn L c.base (tags_read c) c.changes stamp). inl (quiet_commits_are_right sound next L objects c stamp h quiet))
+    (λ (one : IsEventIn L c.base (tags_read c) c.changes stamp). inr (event_commits_are_right sound next L objects c stamp h one))
 
 -- what holds in a history holds in another that begins alike and has the base
 pub holds_seen : StatesStay → (next : Next) (L F : History) (objects : Objects) (c : RwValue) → IsPrefix L F ⊎ IsPrefix F L → c.base ≤ length F → RwHolds next L objects c → RwHolds next F objects c

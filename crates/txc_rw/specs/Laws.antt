@@ -9,7 +9,7 @@ use Rattle.txc_shared.specs.Eval.{Next}
 use Rattle.txc_registry.specs.Objects.{Objects}
 use Rattle.txc_rw.specs.Answers.{AreRightIn}
 use Rattle.txc_rw.specs.Core.{RwValue, RwHolds, IsBegun, tags_of, tags_read}
-use Rattle.txc_rw.specs.Outcomes.{IsCommitted}
+use Rattle.txc_rw.specs.Outcomes.{HasChanged, HasChangedNothing, IsCommitted}
 
 -- a transaction that has just begun, in a history that has its base
 abbrev pub HoldsAtFirst : Type 0
@@ -31,8 +31,20 @@ abbrev pub TagsCoverQueries : Type 0
 TagsCoverQueries = (queries : List Query) (q : Query) → Contains queries q
     → covers_query (tags_of queries) q ≡ true
 
--- where the database committed the changes of a transaction with the tags of what it read, each answer is
--- right where the changes were made
+-- where the database committed the changes of a transaction with the tags of what it read, and nothing
+-- changed, each answer is right at the newest stamp
+abbrev pub QuietCommitsAreRight : Type 0
+QuietCommitsAreRight = (next : Next) (L : History) (objects : Objects) (c : RwValue) (stamp : ℕ)
+    → RwHolds next L objects c → IsQuietIn L c.base (tags_read c) c.changes stamp
+    → HasChangedNothing next L c.changes c.answers stamp
+
+-- and where there is an event, before it
+abbrev pub EventCommitsAreRight : Type 0
+EventCommitsAreRight = (next : Next) (L : History) (objects : Objects) (c : RwValue) (stamp : ℕ)
+    → RwHolds next L objects c → IsEventIn L c.base (tags_read c) c.changes stamp
+    → HasChanged next L c.changes c.answers stamp
+
+-- either way, each answer is right where the changes were made
 abbrev pub CommitsAreRight : Type 0
 CommitsAreRight = (next : Next) (L : History) (objects : Objects) (c : RwValue) (stamp : ℕ)
     → RwHolds next L objects c

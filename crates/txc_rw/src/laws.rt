@@ -1,5 +1,5 @@
 //! What the definitions come to. Each is a lemma: it has no code.
-ghost use Rattle.txc_rw.specs.Laws.{AnswersAreRight, CommitsAreRight, HoldsAtFirst, HoldsInLonger, TagsCoverQueries};
+ghost use Rattle.txc_rw.specs.Laws.{AnswersAreRight, CommitsAreRight, EventCommitsAreRight, HoldsAtFirst, HoldsInLonger, QuietCommitsAreRight, TagsCoverQueries};
 
 use txc_db::{states_stay, tags_are_sound};
 
@@ -20,6 +20,8 @@ pub fn tags_cover_queries()
 /// or, where it has none, at the newest stamp.
 pub fn answers_are_right()
     ensures base { AnswersAreRight }
+    ensures quiet { QuietCommitsAreRight }
+    ensures event { EventCommitsAreRight }
     ensures committed { CommitsAreRight }
 {
     tags_are_sound();

@@ -303,3 +303,10 @@ left_stamp (Dropping stamp error) = Some stamp
 abbrev pub left_pin : Option Pinning → Option ℕ
 left_pin None = None
 left_pin (Some p) = left_stamp p.step
+
+-- the pin that is left to be added or unpinned after a reply: the one that the database has just given, or the
+-- pincushion has just refused
+abbrev pub left_after : PortReply → Option ℕ
+left_after (ports.Pin (Ok pinned)) = Some pinned.stamp
+left_after (ports.AddPin pinned (Err error)) = Some pinned.stamp
+left_after reply = None

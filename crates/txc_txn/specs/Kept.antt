@@ -8,7 +8,7 @@ use Rattle.txc_ports.specs.declared.reply.PortReply.{PortReply}
 use Rattle.txc_ports.specs.declared.turn.Turn.{Turn}
 use Rattle.txc_ports.specs.Fronts.{front_of}
 use Rattle.txc_txn.specs.Core.{CoreValue, CoreHolds, IsAsk, IsCore, IsRight, IsTurn, KeepsSettings, PinsAfter}
-use Rattle.txc_txn.specs.Core.{open_call, recorded_after, taken_after, AddsOnly, IsOneOf}
+use Rattle.txc_txn.specs.Core.{left_after, left_pin, open_call, recorded_after, taken_after, AddsOnly, IsOneOf}
 use Rattle.txc_txn.specs.Leading.{ReplyLeads}
 
 -- what callers see of it: its core, and what its objects do
@@ -35,6 +35,7 @@ pub record HasGoneOn (next : Next) (old : TxnValue) (reply : PortReply) (new : T
   pub adds : AddsOnly reply turn
   pub pins : PinsAfter old.core reply new.core.pins
   pub taken : new.core.taken ≡ taken_after old.core.taken reply
+  pub left : left_pin new.core.pinning ≡ left_after reply
   pub recorded : new.core.recorded ≡ recorded_after old.core.recorded turn (open_call old.core)
   pub goes_on : IsAsk turn → open_call new.core ≡ open_call old.core
   pub settings : KeepsSettings old.core new.core

@@ -19,7 +19,8 @@ use txc_shared::App;
 use txc_validity::Found;
 
 impl TxnCore {
-    ghost use Rattle.txc_txn.specs.Core.{open_call, recorded_after, taken_after, value_of, CoreHolds};
+    ghost use Rattle.txc_txn.specs.Core.{left_after, left_pin, open_call, recorded_after, taken_after};
+    ghost use Rattle.txc_txn.specs.Core.{value_of, CoreHolds};
     ghost use Rattle.txc_txn.specs.Core.{AddsOnly, IsAnswered, IsAsk, IsCore, IsNoAdding, IsOneOf, IsRight};
     ghost use Rattle.txc_txn.specs.Core.{IsTurn, PinsAfter};
     ghost use Rattle.txc_txn.specs.Leading.{ReplyLeads};
@@ -56,6 +57,7 @@ impl TxnCore {
         ensures goes_on { IsAsk result → open_call (value_of self.new) ≡ open_call (value_of self.old) }
         ensures leads { ReplyLeads A.next (value_of self.old) registry.old (PortReply.Pin pinned)
             (value_of self.new) registry.new result }
+        ensures left { left_pin self.new.pinning ≡ left_after (PortReply.Pin pinned) }
         ensures same { value_of self.new
             ≡ record (value_of self.old) { call = self.new.machine; pinning = self.new.pinning } }
     {
@@ -96,6 +98,7 @@ impl TxnCore {
         ensures leads { ReplyLeads A.next (value_of self.old) registry.old (PortReply.AddPin pinned.now added)
             (value_of self.new) registry.new result }
         ensures no_add { IsNoAdding result }
+        ensures left { left_pin self.new.pinning ≡ left_after (PortReply.AddPin pinned.now added) }
         ensures same { value_of self.new ≡ record (value_of self.old) {
           pins = self.new.pins;
           taken = self.new.taken.items;
@@ -175,6 +178,7 @@ impl TxnCore {
         ensures leads { ReplyLeads A.next (value_of self.old) registry.old (PortReply.Lookup hit)
             (value_of self.new) registry.new result }
         ensures no_add { IsNoAdding result }
+        ensures left { left_pin self.new.pinning ≡ None }
         ensures same { value_of self.new ≡ record (value_of self.old) {
           pins = self.new.pins;
           recorded = self.new.recorded.items;
@@ -213,6 +217,7 @@ impl TxnCore {
         ensures leads { ReplyLeads A.next (value_of self.old) registry.old (PortReply.Query found)
             (value_of self.new) registry.new result }
         ensures no_add { IsNoAdding result }
+        ensures left { left_pin self.new.pinning ≡ None }
         ensures same { value_of self.new ≡ record (value_of self.old) {
           pins = self.new.pins;
           recorded = self.new.recorded.items;
@@ -253,6 +258,7 @@ impl TxnCore {
         ensures leads { ReplyLeads A.next (value_of self.old) registry.old reply
             (value_of self.new) registry.new result }
         ensures adds { AddsOnly reply result }
+        ensures left { left_pin self.new.pinning ≡ left_after reply }
         ensures same { value_of self.new ≡ record (value_of self.old) {
           pins = self.new.pins;
           taken = self.new.taken.items;

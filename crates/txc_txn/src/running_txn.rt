@@ -1,5 +1,5 @@
 //! A core with the registry of its functions, which keeps what its pin set means.
-ghost use Rattle.std.specs.Prelude.{◌≡◌, ◌≢◌, []};
+ghost use Rattle.std.specs.Prelude.{◌≡◌, ◌≢◌, [], None};
 ghost use Rattle.std.specs.Option.{ForSome};
 ghost use Rattle.txc_registry.specs.Objects.{AllIdle};
 ghost use Rattle.txc_ports.specs.Fronts.{front_of};
@@ -69,6 +69,7 @@ impl<A: App, C: Cacheable> RunningTxn<A, C> {
         ensures begins { IsAsk result → open_call self.new.core ≡ Some key }
         ensures no_value { IsNoValue result }
         ensures no_add { IsNoAdding result }
+        ensures left { left_pin self.new.core.pinning ≡ None }
         ensures leads { StartLeads self.old.core self.old.objects key result }
         ensures same { self.new.core
             ≡ record self.old.core { call = self.new.core.call; pinning = self.new.core.pinning } }

@@ -30,7 +30,7 @@ use txc_stamp::{Reach, Stamp};
 use txc_tags::Key;
 
 impl TxnCore {
-    ghost use Rattle.txc_txn.specs.Core.{least_present, open_call, recorded_after, value_of, CoreHolds};
+    ghost use Rattle.txc_txn.specs.Core.{least_present, left_pin, open_call, recorded_after, value_of, CoreHolds};
     ghost use Rattle.txc_txn.specs.Core.{IsAsk, IsCore, IsEnd, IsIdle, IsNarrowed, IsNoAdding, IsNoValue, IsTurn};
     ghost use Rattle.txc_txn.specs.Core.{WaitsForPin};
     ghost use Rattle.txc_txn.specs.Leading.{BeginLeads, CallLeads, IsBeyond, NeedLeads};
@@ -94,6 +94,7 @@ impl TxnCore {
         ensures refused { ¬ (IsAsk result) → IsBeyond (value_of self.new)
             × (result ≡ Turn.Refused (TxnError.Database DbError.Full)) }
         ensures no_add { IsNoAdding result }
+        ensures left { left_pin self.new.pinning ≡ None }
         ensures same { value_of self.new
             ≡ record (value_of self.old) { call = self.new.machine; pinning = self.new.pinning } }
     {
@@ -171,6 +172,7 @@ impl TxnCore {
         ensures query { (query : Query) → self.old.machine.need ≡ Some (Need.Query query)
             → self.old.pins.has_present ≡ false → IsAsk result }
         ensures no_add { IsNoAdding result }
+        ensures left { left_pin self.new.pinning ≡ None }
         ensures same { value_of self.new ≡ record (value_of self.old) {
           recorded = self.new.recorded.items;
           call = self.new.machine;
@@ -227,6 +229,7 @@ impl TxnCore {
         ensures begins { IsAsk result → open_call (value_of self.new) ≡ Some key }
         ensures leads { BeginLeads registry.old key result }
         ensures no_add { IsNoAdding result }
+        ensures left { left_pin self.new.pinning ≡ None }
         ensures same { value_of self.new
             ≡ record (value_of self.old) { call = self.new.machine; pinning = self.new.pinning } }
     {
@@ -261,6 +264,7 @@ impl TxnCore {
             → CallLeads A.next (value_of self.old) registry.old need reply
             (value_of self.new) registry.new result }
         ensures no_add { IsNoAdding result }
+        ensures left { left_pin self.new.pinning ≡ None }
         ensures same { value_of self.new ≡ record (value_of self.old) {
           recorded = self.new.recorded.items;
           call = self.new.machine;

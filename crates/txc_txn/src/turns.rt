@@ -1,5 +1,5 @@
 //! What a core does: it begins, answers calls, and ends.
-ghost use Rattle.std.specs.Prelude.{◌≡◌, ◌≢◌, ◌≤◌, [], All, IfErr, IfOk, Some, map, vec_len, vec_capacity, ◌<◌};
+ghost use Rattle.std.specs.Prelude.{◌≡◌, ◌≢◌, ◌≤◌, [], All, IfErr, IfOk, None, Some, map, vec_len, vec_capacity, ◌<◌};
 ghost use Rattle.std.specs.Option.{ForSome};
 ghost use mathlib.Core.List.{IsPrefix};
 ghost use Rattle.txc_db.specs.History.{History};
@@ -43,7 +43,7 @@ fn receipt_pin(recorded: &[Recorded], members: &[Pin]) -> Option<Pin>
 }
 
 impl TxnCore {
-    ghost use Rattle.txc_txn.specs.Core.{begun_core, left_pin, open_call, recorded_after, taken_after};
+    ghost use Rattle.txc_txn.specs.Core.{begun_core, left_after, left_pin, open_call, recorded_after, taken_after};
     ghost use Rattle.txc_txn.specs.Core.{value_of, CoreHolds, Explains, IsAnswered, IsAsk, IsCore, IsIdle};
     ghost use Rattle.txc_txn.specs.Core.{AddsOnly, IsNoAdding, IsNoValue, IsOneOf, IsRight, IsTurn, KeepsSettings};
     ghost use Rattle.txc_txn.specs.Core.{PinsAfter};
@@ -106,6 +106,7 @@ impl TxnCore {
         ensures begins { IsAsk result → open_call (value_of self.new) ≡ Some key }
         ensures no_value { IsNoValue result }
         ensures no_add { IsNoAdding result }
+        ensures left { left_pin (value_of self.new).pinning ≡ None }
         ensures leads { StartLeads (value_of self.old) registry.old key result }
         ensures same { value_of self.new ≡ record (value_of self.old) {
           call = (value_of self.new).call;
@@ -141,6 +142,7 @@ impl TxnCore {
         ensures leads { ReplyLeads A.next (value_of self.old) registry.old reply
             (value_of self.new) registry.new result }
         ensures adds { AddsOnly reply result }
+        ensures left { left_pin (value_of self.new).pinning ≡ left_after reply }
         ensures settings { KeepsSettings (value_of self.old) (value_of self.new) }
         ensures events { (value_of self.new).seen.events ≡ (value_of self.old).seen.events }
         ensures longer { IsPrefix (value_of self.old).seen.history (value_of self.new).seen.history }

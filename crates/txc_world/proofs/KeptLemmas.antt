@@ -1,25 +1,26 @@
 -- What is told of the keeper's steps.
-use Rattle.std.proofs.Common.{◌≡◌, ◌∙◌, ℕ, ◌+◌, ◌<◌, ◌≤◌, nat_lt, arith, Bool, true, false, List, [], ◌∷◌, ◌++◌, length, map, Result, Ok, Err, Option, Some, None, refl, ap, sym, subst, length-append}
+use Rattle.std.proofs.Common.{◌≡◌, ◌∙◌, ℕ, ◌+◌, ◌<◌, ◌≤◌, nat_lt, arith, Bool, true, false, List, [], ◌∷◌, ◌++◌, length, Result, Ok, Err, Option, Some, None, refl, ap, sym, subst, length-append}
 use Rattle.std.specs.Prelude.{if◌then◌else◌}
 use Rattle.std.proofs.lemmas.Bool.Decides.{nat_tests}
 use Rattle.std.proofs.lemmas.List.{map-append}
+use Rattle.txc_tags.specs.declared.tag.Tag.{Tag}
 use Rattle.txc_rows.specs.declared.query.Change.{Change}
 use Rattle.txc_db.specs.declared.error.DbError.{DbError}
 use Rattle.txc_db.specs.declared.pinned.Pinned.{Pinned}
 use Rattle.txc_db.specs.Facts.{EventValue}
-use Rattle.txc_db.specs.History.{History, commit_event, pin_event}
+use Rattle.txc_db.specs.History.{commit_event, pin_event}
 use Rattle.txc_db.specs.DatabaseValue.{DatabaseValue, after_commit, after_event_of, is_held, newest, newest_net, newest_state, where_some}
 use Rattle.txc_cushion.specs.declared.error.AddError.{AddError}
 use Rattle.txc_world.specs.declared.step.Keep.TheVariants as keeps
 use Rattle.txc_world.specs.declared.reply.Reply.{Reply}
 use Rattle.txc_world.specs.declared.reply.Reply.TheVariants as replies
 use Rattle.txc_world.specs.declared.reply.Reply.TheVariants.{Refused}
-use Rattle.txc_world.specs.declared.reply.Refusal.{Refusal}
 use Rattle.txc_world.specs.declared.reply.Refusal.TheVariants as refusals
 use Rattle.txc_world.specs.Ports.{PortsValue, HasRefused, HasLedNode, KeepsRow}
-use Rattle.txc_world.specs.Keeping.{stamps_of, HasPinnedSpare, HasAddedSpare, WriteLeads, PinSpareLeads, AddSpareLeads}
+use Rattle.txc_world.specs.Keeping.{stamps_of, CommitLeads, HasPinnedSpare, WriteLeads, AddSpareLeads}
 use Rattle.txc_world.specs.Kept.{told_addition, IsKept}
-use Rattle.txc_world.specs.Told.{keep_in, spare_after, IsDueOr, IsKeepDue}
+use Rattle.txc_world.specs.Tidy.{KeepsBalance}
+use Rattle.txc_world.specs.Told.{commit_in, keep_in, IsDueOr}
 use Rattle.txc_shared.specs.Nodes.{NodeValue}
 use Rattle.txc_world.proofs.PortsLemmas.{left_history}
 
@@ -37,14 +38,18 @@ committed : (d : DatabaseValue) (net : List Change) (e : EventValue) (stamp : �
 committed d [] e stamp is = rw (ap (nat_lt (length d.history)) is ∙ lt_itself (length d.history)) refl
 committed d (c ∷ cs) e stamp is = rw (lt_more (length d.history) stamp (is ∙ length-append d.history (e ∷ []))) refl
 
-pub written : (old new : PortsValue) (change : Change) (stamp : ℕ) → WriteLeads change old new (Ok stamp)
-    → new.database.history ≡ keep_in (keeps.Write change) (replies.At stamp) old.database.history
-written old new change stamp leads =
+-- the changes of a commit stand in the history, as its stamp tells
+pub commit_told : (old new : PortsValue) (base : ℕ) (read : List Tag) (changes : List Change) (stamp : ℕ) → CommitLeads base read changes old new (Ok stamp)
+    → new.database.history ≡ commit_in changes stamp old.database.history
+commit_told old new base read changes stamp leads =
     let d = old.database in
-    let changes = change ∷ [] in
     let same : new.database ≡ after_commit d changes = ap (λ (p : PortsValue). p.database) leads.0 in
     ap (λ (e : DatabaseValue). e.history) same
     ∙ committed d (newest_net d changes) (commit_event (newest_state d) changes) stamp (leads.1 ∙ ap newest same)
+
+pub written : (old new : PortsValue) (change : Change) (stamp : ℕ) → WriteLeads change old new (Ok stamp)
+    → new.database.history ≡ keep_in (keeps.Write change) (replies.At stamp) old.database.history
+written old new change stamp leads = commit_told old new (newest old.database) [] (change ∷ []) stamp leads
 
 -- ---- what stays
 
@@ -101,28 +106,31 @@ led_spare old new at leads h = ap (λ (p : PortsValue). stamps_of p.spare) h.is
 
 -- an addition is told so
 pub kept_addition : (old new : PortsValue) (stamp : ℕ) (added : Option (Result (Unit {0}) AddError)) → AddSpareLeads stamp old new added
-    → KeepsRow old new → IsKept (keeps.Add stamp) old new (told_addition added)
-kept_addition old new stamp (Some (Ok added)) leads keeps = record {
+    → KeepsRow old new → KeepsBalance (keeps.Add stamp) old new (told_addition added) → IsKept (keeps.Add stamp) old new (told_addition added)
+kept_addition old new stamp (Some (Ok added)) leads keeps balance = record {
   leads = leads;
   history = ap (λ (p : PortsValue). p.database.history) leads.added.0;
   spare = leads.spare;
   due = due_held (length old.nodes) stamp (stamps_of old.spare) replies.Added _ leads.held tt;
   no_receipt = tt;
   keeps = keeps;
+  balance = balance;
 }
-kept_addition old new stamp (Some (Err e)) leads keeps = record {
+kept_addition old new stamp (Some (Err e)) leads keeps balance = record {
   leads = leads;
   history = ap (λ (p : PortsValue). p.database.history) leads.added.0;
   spare = leads.spare;
   due = due_held (length old.nodes) stamp (stamps_of old.spare) (Refused (refusals.Pincushion e)) _ leads.held tt;
   no_receipt = tt;
   keeps = keeps;
+  balance = balance;
 }
-kept_addition old new stamp None leads keeps = record {
+kept_addition old new stamp None leads keeps balance = record {
   leads = leads;
   history = ap (λ (p : PortsValue). p.database.history) leads.0;
   spare = ap (λ (p : PortsValue). stamps_of p.spare) leads.0;
   due = due_not_held stamp (stamps_of old.spare) _ leads.1;
   no_receipt = tt;
   keeps = keeps;
+  balance = balance;
 }

@@ -7,6 +7,14 @@ pub mod MakingLemmas
 pub mod Explaining
 pub mod Whole
 pub mod Tellings
+pub mod CommitLemmas
+pub mod WritingLemmas
 pub mod Turning
 pub mod Stepping
 pub mod MemberLemmas
+pub mod Times
+pub mod Fairness
+pub mod Balance
+pub mod Balancing
+pub mod WritingCounts
+pub mod Giving

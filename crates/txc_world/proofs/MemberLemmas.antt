@@ -1,5 +1,5 @@
 -- What a world says of the members of a pin set.
-use Rattle.std.proofs.Common.{zero, suc, [], ◌∷◌, ◌≡◌, ℕ, ◌<◌, List, length, map, Option, Some, None, refl, sym, ap, subst, ◌∙◌, slice_get, slice_index_or, All}
+use Rattle.std.proofs.Common.{zero, suc, [], ◌∷◌, ◌≡◌, ℕ, List, Option, Some, sym, ap, subst, ◌∙◌, slice_get, slice_index_or, All}
 use Rattle.std.specs.Prelude.{option_map}
 use Rattle.std.proofs.lemmas.List.Elements.{All-head, All-tail}
 use mathlib.Core.List.{IsPrefix}
@@ -14,7 +14,7 @@ use Rattle.txc_world.specs.declared.actor.OpenTxn.{OpenTxn}
 use Rattle.txc_world.specs.declared.actor.Actor.{Actor}
 use Rattle.txc_world.specs.declared.actor.Actor.TheVariants as actors
 use Rattle.txc_world.specs.declared.settings.WorldSettings.{WorldSettings}
-use Rattle.txc_world.specs.Told.{Reading, Story, reading, Told}
+use Rattle.txc_world.specs.Told.{Reading, reading, Told}
 use Rattle.txc_world.specs.Ports.{PortsValue, whole_of}
 use Rattle.txc_world.specs.Actors.{story_of, IsThere}
 use Rattle.txc_world.specs.Worlds.{told_of, AreMembersOf, IsWorld}
@@ -65,12 +65,12 @@ module _ {A C : Type 0} (next : Next) (o : OpenTxn A C) (kept : IsKept next o.tx
 
 -- the actor at the place is as it is told
 pub members_there : {A C : Type 0} (next : Next) (settings : WorldSettings) (ports : PortsValue) (cast : List (Option (Actor A C))) (place : ℕ)
-    (o : OpenTxn A C) (now : Told) (r : Reading) → IsKept next o.txn → IsWorld settings ports cast
+    (o : OpenTxn A C) (now : Told) (r : Reading) → IsKept next o.txn → IsWorld next settings ports cast
     → slice_get cast place ≡ Some (Some (actors.Reading o)) → told_of settings ports cast ≡ now → slice_get now.actors place ≡ Some (reading r)
     → AreMembersOf next now.history r o.txn.core.pins.has_present o.txn.core.pins.members
 members_there next settings ports cast place o now r kept world is shows at =
-    let open_there : IsThere (whole_of ports) settings.nodes (Some (actors.Reading o)) =
-    all_get (IsThere (whole_of ports) settings.nodes) cast place (Some (actors.Reading o)) world.there is in
+    let open_there : IsThere next (whole_of ports) settings.nodes (Some (actors.Reading o)) =
+    all_get (IsThere next (whole_of ports) settings.nodes) cast place (Some (actors.Reading o)) world.there is in
     let there : slice_get (told_of settings ports cast).actors place ≡ Some (story_of (actors.Reading o)) =
     story_there settings ports cast place (actors.Reading o) is in
     let same : told_reading o ≡ r =

@@ -1,35 +1,32 @@
 -- One step of a world.
-use Rattle.std.proofs.Common.{◌≡◌, ℕ, zero, suc, ◌<◌, ◌≤◌, List, [], ◌∷◌, length, map, Option, Some, None, refl, sym, ap, subst, ◌∙◌, slice_get, slice_set}
-use Rattle.std.specs.Prelude.{All, MatchOption, option_map}
+use Rattle.std.proofs.Common.{◌≡◌, ℕ, zero, suc, List, [], ◌∷◌, length, Option, Some, None, refl, sym, ap, subst, ◌∙◌, slice_get, slice_set}
+use Rattle.std.specs.Prelude.{All, option_map}
 use Rattle.std.proofs.lemmas.Option.{slice_get-map}
 use Rattle.std.proofs.lemmas.List.{map-set}
 use Rattle.std.proofs.lemmas.List.Elements.{All-set, All-weaker}
 use Rattle.txc_shared.specs.Eval.{Next}
-use Rattle.txc_registry.specs.Objects.{Objects}
 use Rattle.txc_ports.specs.declared.request.PortRequest.TheVariants as requests
 use Rattle.txc_ports.specs.declared.turn.Turn.{Turn}
 use Rattle.txc_ports.specs.declared.turn.Turn.TheVariants as turns
 use Rattle.txc_txn.specs.Core.{CoreValue}
+use Rattle.txc_rw.specs.Laws.{HoldsInLonger}
 use Rattle.txc_world.specs.declared.actor.OpenCall.{OpenCall}
-use Rattle.txc_world.specs.declared.actor.OpenTxn.{OpenTxn}
 use Rattle.txc_world.specs.declared.actor.Actor.{Actor}
-use Rattle.txc_world.specs.declared.actor.Actor.TheVariants.{Idle, Reading, Leaving}
+use Rattle.txc_world.specs.declared.actor.Actor.TheVariants.{Idle, Reading, Writing, Leaving}
 use Rattle.txc_world.specs.declared.reply.Reply.{Reply}
-use Rattle.txc_world.specs.declared.reply.Reply.TheVariants.{Refused}
-use Rattle.txc_world.specs.declared.reply.Refusal.TheVariants.{NoActor}
 use Rattle.txc_world.specs.declared.settings.WorldSettings.{WorldSettings}
 use Rattle.txc_world.specs.declared.step.Act.{Act}
 use Rattle.txc_world.specs.declared.step.Step.TheVariants as steps
-use Rattle.txc_world.specs.Told.{Story, Told, act_at, act_in, after, story_after, IsActDue, IsDue, IsExplainedIn, IsNoReceipt, ReplyExplains}
+use Rattle.txc_world.specs.Told.{Told, act_in, after, story_after, IsActDue, IsDue, IsExplainedIn, ReplyExplains}
 use Rattle.txc_world.specs.Ports.{PortsValue, whole_of, KeepsRow}
-use Rattle.txc_world.specs.Actors.{story_at, story_of, AddsPart, HasCall, IsActor, IsOpenCall, IsOpenTxn, IsThere}
+use Rattle.txc_world.specs.Actors.{story_at, story_of, AddsPart, HasCall, IsActor, IsThere}
 use Rattle.txc_world.specs.Worlds.{told_of, IsWorld}
 use Rattle.txc_world.proofs.Whole.{part_kept}
 
 -- ---- places of a list
 
 module _ {X : Type 0} where
-  set_twice : (xs : List X) (i : ℕ) (a b : X) → slice_set (slice_set xs i a) i b ≡ slice_set xs i b
+  pub set_twice : (xs : List X) (i : ℕ) (a b : X) → slice_set (slice_set xs i a) i b ≡ slice_set xs i b
   set_twice [] i a b = refl
   set_twice (x ∷ xs) zero a b = refl
   set_twice (x ∷ xs) (suc i) a b = ap (λ (l : List X). x ∷ l) (set_twice xs i a b)
@@ -63,34 +60,55 @@ module _ (old new : PortsValue) (keeps : KeepsRow old new) where
   call_later c None h = h
   call_later c (Some call) h = record { turn = h.turn; no_value = h.no_value; key = h.key; adds = adds_later call.turn h.adds }
 
-  module _ {A C : Type 0} (count : ℕ) where
-    actor_later : (actor : Actor A C) → IsActor (whole_of old) count actor → IsActor (whole_of new) count actor
+  module _ {A C : Type 0} (longer : HoldsInLonger) (next : Next) (count : ℕ) where
+    actor_later : (actor : Actor A C) → IsActor next (whole_of old) count actor → IsActor next (whole_of new) count actor
     actor_later (Idle objects) h = h
     actor_later (Reading o) h = record {
       seen = part_kept old new o.txn.core.seen keeps h.seen;
       nodes = h.nodes;
       call = call_later o.txn.core o.call h.call;
     }
+    actor_later (Writing o) h = record {
+      fits = h.fits;
+      holds = longer next old.database.history new.database.history o.registry o.core keeps.longer h.holds;
+      call = h.call;
+    }
     actor_later (Leaving objects stamp) h = h
 
-    pub there_later : (slot : Option (Actor A C)) → IsThere (whole_of old) count slot → IsThere (whole_of new) count slot
+    pub there_later : (slot : Option (Actor A C)) → IsThere next (whole_of old) count slot → IsThere next (whole_of new) count slot
     there_later None h = h
     there_later (Some actor) h = actor_later actor h
 
--- ---- an actor steps
+-- ---- a step
 
-module _ {A C : Type 0} (settings : WorldSettings) (ports new : PortsValue) (actors : List (Option (Actor A C))) (place : ℕ) (actor' : Actor A C) where
-  pub world_acts : IsWorld settings ports actors → KeepsRow ports new → IsActor (whole_of new) (length new.nodes) actor'
-      → IsWorld settings new (slice_set (slice_set actors place None) place (Some actor'))
-  world_acts h keeps kept =
+module _ {A C : Type 0} (longer : HoldsInLonger) (next : Next) (settings : WorldSettings) (ports new : PortsValue) (actors : List (Option (Actor A C))) where
+  still_there : IsWorld next settings ports actors → KeepsRow ports new → All (IsThere next (whole_of new) settings.nodes) actors
+  still_there h keeps =
+      All-weaker (IsThere next (whole_of ports) settings.nodes) (IsThere next (whole_of new) settings.nodes) (there_later ports new keeps longer next settings.nodes) actors h.there
+
+  -- the keeper steps
+  pub world_keeps : IsWorld next settings ports actors → KeepsRow ports new → IsWorld next settings new actors
+  world_keeps h keeps = record {
+    nodes = keeps.count ∙ h.nodes;
+    some = h.some;
+    passes = h.passes ∙ sym keeps.actors;
+    there = still_there h keeps;
+  }
+
+  -- an actor steps
+  pub world_acts : (place : ℕ) (actor' : Actor A C) → IsWorld next settings ports actors → KeepsRow ports new → IsActor next (whole_of new) (length new.nodes) actor'
+      → IsWorld next settings new (slice_set (slice_set actors place None) place (Some actor'))
+  world_acts place actor' h keeps kept =
       let same : length new.nodes ≡ settings.nodes = keeps.count ∙ h.nodes in
       rw (set_twice actors place None (Some actor')) (record {
         nodes = same;
         some = h.some;
         passes = set_length actors place (Some actor') ∙ h.passes ∙ sym keeps.actors;
-        there = All-set (IsThere (whole_of new) settings.nodes) actors place (Some actor') (subst (λ (n : ℕ). IsActor (whole_of new) n actor') same kept)
-            (All-weaker (IsThere (whole_of ports) settings.nodes) (IsThere (whole_of new) settings.nodes) (there_later ports new keeps settings.nodes) actors h.there);
+        there = All-set (IsThere next (whole_of new) settings.nodes) actors place (Some actor') (subst (λ (n : ℕ). IsActor next (whole_of new) n actor') same kept)
+            (still_there h keeps);
       })
+
+-- ---- what is told of an actor's step
 
 module _ {A C : Type 0} (settings : WorldSettings) (ports : PortsValue) (actors : List (Option (Actor A C))) (place : ℕ) (actor : Actor A C)
     (is : slice_get actors place ≡ Some (Some actor)) where
@@ -114,8 +132,9 @@ module _ {A C : Type 0} (settings : WorldSettings) (ports : PortsValue) (actors 
       let due : IsDue (told_of settings ports actors) (steps.Actor place act) reply = rw story_there h in
       subst (λ (t : Told). IsDue t (steps.Actor place act) reply) shows due
 
-  pub explained_act : (next : Next) (act : Act) (reply : Reply) (now : Told) → ReplyExplains next ports.database.history (story_of actor) reply
-      → told_of settings ports actors ≡ now → IsExplainedIn next now.history now (steps.Actor place act) reply
-  explained_act next act reply now h shows =
-      let explained : IsExplainedIn next ports.database.history (told_of settings ports actors) (steps.Actor place act) reply = rw story_there h in
-      subst (λ (t : Told). IsExplainedIn next t.history t (steps.Actor place act) reply) shows explained
+  pub explained_act : (next : Next) (new : PortsValue) (act : Act) (reply : Reply) (now : Told)
+      → ReplyExplains next new.database.history (length ports.database.history) (story_of actor) reply
+      → told_of settings ports actors ≡ now → IsExplainedIn next new.database.history now (steps.Actor place act) reply
+  explained_act next new act reply now h shows =
+      let explained : IsExplainedIn next new.database.history (told_of settings ports actors) (steps.Actor place act) reply = rw story_there h in
+      subst (λ (t : Told). IsExplainedIn next new.database.history t (steps.Actor place act) reply) shows explained

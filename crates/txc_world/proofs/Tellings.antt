@@ -1,14 +1,17 @@
 -- What is told of steps one after another.
-use Rattle.std.proofs.Common.{◌≡◌, ℕ, ◌+◌, ◌<◌, ◌≤◌, Bool, true, false, List, [], ◌∷◌, ◌++◌, length, Some, None, Option, refl, sym, subst, ap, ◌∙◌, take, get_or, add-one, arith, length-take-le, length-append, slice_get}
+use Rattle.std.proofs.Common.{◌≡◌, ℕ, ◌+◌, ◌<◌, ◌≤◌, Bool, true, false, List, [], ◌∷◌, ◌++◌, length, Some, None, Option, refl, sym, subst, ap, ◌∙◌, take, get_or, add-one, arith, length-take, length-take-le, length-append, slice_get, ◌⊎◌, inl, inr}
 use Rattle.std.proofs.Math.Seq.{take-suc, take-length}
 use Rattle.std.specs.Prelude.{if◌then◌else◌, nat_lt, MatchOption}
 use mathlib.Core.List.{IsPrefix}
+use Rattle.txc_rows.specs.States.{State}
+use Rattle.txc_rows.specs.declared.query.Change.{Change}
+use Rattle.txc_rw.specs.Answers.{AreRightIn}
+use Rattle.txc_rw.specs.Outcomes.{HasChanged, HasChangedNothing}
 use Rattle.txc_db.specs.History.{History, commit_event, pin_event, state_at}
-use Rattle.txc_db.specs.Facts.{EventValue}
 use Rattle.txc_cushion.specs.declared.pin.Pin.{Pin}
 use Rattle.txc_shared.specs.Eval.{Next}
 use Rattle.txc_world.specs.declared.step.Act.{Act}
-use Rattle.txc_world.specs.declared.step.Act.TheVariants.{BeginRo, Start, Request, Commit, Abort}
+use Rattle.txc_world.specs.declared.step.Act.TheVariants.{BeginRo, BeginRw, Start, Request, Ask, Write, Commit, Abort}
 use Rattle.txc_world.specs.declared.step.Keep.{Keep}
 use Rattle.txc_world.specs.declared.step.Keep.TheVariants as keeps
 use Rattle.txc_world.specs.declared.step.Step.{Step}
@@ -17,9 +20,9 @@ use Rattle.txc_world.specs.declared.did.Did.{Did}
 use Rattle.txc_world.specs.declared.did.Did.TheVariants as dids
 use Rattle.txc_world.specs.declared.reply.Reply.{Reply}
 use Rattle.txc_world.specs.declared.reply.Reply.TheVariants as replies
-use Rattle.txc_world.specs.Told.{Reading, Story, idle, reading, leaving, Told, act_in, act_at, after, did_in, keep_in, told_by, AreDue, AreExplained, AreExplainedIn, IsDue, IsExplainedIn, IsNoReceipt, IsReceiptOf, ReplyExplains}
-use Rattle.txc_stream.proofs.Offered.{prefix_self, prefix_trans}
-use Rattle.txc_world.proofs.Explaining.{explained_later}
+use Rattle.txc_world.specs.Told.{Writing, Story, idle, reading, writing, leaving, Told, act_in, act_at, after, commit_in, did_in, keep_in, told_by, AreDue, AreExplained, AreExplainedIn, CommitExplains, CommitMakes, IsCommitOf, IsDue, IsExplainedIn, IsNoCommit, IsReceiptOf, ReplyExplains}
+use Rattle.txc_stream.proofs.Offered.{prefix_self, prefix_take, prefix_trans}
+use Rattle.txc_world.proofs.Explaining.{explained_later, state_later}
 
 -- ---- one more step and its reply
 
@@ -33,7 +36,7 @@ told_more told (s ∷ steps) (r ∷ replies) step reply e =
 
 pub explained_more : (next : Next) (told : Told) (steps : List Step) (replies : List Reply) (step : Step) (reply : Reply)
     → length replies ≡ length steps → AreExplained next told steps replies
-    → IsExplainedIn next (told_by told steps replies).history (told_by told steps replies) step reply
+    → IsExplainedIn next (after (told_by told steps replies) step reply).history (told_by told steps replies) step reply
     → AreExplained next told (steps ++ step ∷ []) (replies ++ reply ∷ [])
 explained_more next told [] [] step reply e h k = (k, tt)
 explained_more next told [] (r ∷ replies) step reply e h k = absurd (cc)
@@ -67,10 +70,14 @@ did_goes_on (dids.Refused error) now L = prefix_self L
 request_goes_on : (reply : Reply) (story : Story) (L : History) → IsPrefix L (act_in Request reply story L)
 request_goes_on (replies.Asked did end) (reading r) L = did_goes_on did r.bounds.now L
 request_goes_on (replies.Asked did end) idle L = prefix_self L
+request_goes_on (replies.Asked did end) (writing w) L = prefix_self L
 request_goes_on (replies.Asked did end) (leaving stamp) L = prefix_self L
 request_goes_on replies.Begun story L = prefix_self L
+request_goes_on (replies.Based base) story L = prefix_self L
 request_goes_on replies.Started story L = prefix_self L
 request_goes_on (replies.Ended end) story L = prefix_self L
+request_goes_on (replies.Answered rows) story L = prefix_self L
+request_goes_on replies.Kept story L = prefix_self L
 request_goes_on (replies.Receipt pin) story L = prefix_self L
 request_goes_on (replies.Aborted left) story L = prefix_self L
 request_goes_on (replies.At stamp) story L = prefix_self L
@@ -84,23 +91,56 @@ request_goes_on (replies.Advanced advanced) story L = prefix_self L
 request_goes_on (replies.Swept count) story L = prefix_self L
 request_goes_on (replies.Refused refusal) story L = prefix_self L
 
-act_goes_on : (act : Act) (reply : Reply) (story : Story) (L : History) → IsPrefix L (act_in act reply story L)
-act_goes_on Request reply story L = request_goes_on reply story L
-act_goes_on (BeginRo bounds) reply story L = prefix_self L
-act_goes_on (Start key) reply story L = prefix_self L
-act_goes_on Commit reply story L = prefix_self L
-act_goes_on Abort reply story L = prefix_self L
-
 if_goes_on : (L more : History) (b : Bool) → IsPrefix L (if b then L ++ more else L)
 if_goes_on L more true = (more, refl)
 if_goes_on L more false = prefix_self L
 
+changes_go_on : (changes : List Change) (stamp : ℕ) (L : History) → IsPrefix L (commit_in changes stamp L)
+changes_go_on changes stamp L = if_goes_on L (commit_event (state_at L (length L)) changes ∷ []) (nat_lt (length L) stamp)
+
+commit_goes_on : (reply : Reply) (story : Story) (L : History) → IsPrefix L (act_in Commit reply story L)
+commit_goes_on replies.Begun story L = prefix_self L
+commit_goes_on (replies.Based base) story L = prefix_self L
+commit_goes_on replies.Started story L = prefix_self L
+commit_goes_on (replies.Asked did end) story L = prefix_self L
+commit_goes_on (replies.Ended end) story L = prefix_self L
+commit_goes_on (replies.Answered rows) story L = prefix_self L
+commit_goes_on replies.Kept story L = prefix_self L
+commit_goes_on (replies.Receipt pin) story L = prefix_self L
+commit_goes_on (replies.Aborted left) story L = prefix_self L
+commit_goes_on (replies.At stamp) (writing w) L = changes_go_on w.changes stamp L
+commit_goes_on (replies.At stamp) idle L = prefix_self L
+commit_goes_on (replies.At stamp) (reading r) L = prefix_self L
+commit_goes_on (replies.At stamp) (leaving held) L = prefix_self L
+commit_goes_on replies.Added story L = prefix_self L
+commit_goes_on replies.GivenBack story L = prefix_self L
+commit_goes_on (replies.Retired stamps) story L = prefix_self L
+commit_goes_on replies.Unpinned story L = prefix_self L
+commit_goes_on (replies.Vacuumed horizon) story L = prefix_self L
+commit_goes_on (replies.Rows found) story L = prefix_self L
+commit_goes_on (replies.Advanced advanced) story L = prefix_self L
+commit_goes_on (replies.Swept count) story L = prefix_self L
+commit_goes_on (replies.Refused refusal) story L = prefix_self L
+
+act_goes_on : (act : Act) (reply : Reply) (story : Story) (L : History) → IsPrefix L (act_in act reply story L)
+act_goes_on Request reply story L = request_goes_on reply story L
+act_goes_on Commit reply story L = commit_goes_on reply story L
+act_goes_on (BeginRo bounds) reply story L = prefix_self L
+act_goes_on BeginRw reply story L = prefix_self L
+act_goes_on (Start key) reply story L = prefix_self L
+act_goes_on (Ask query) reply story L = prefix_self L
+act_goes_on (Write change) reply story L = prefix_self L
+act_goes_on Abort reply story L = prefix_self L
+
 keep_goes_on : (keep : Keep) (reply : Reply) (L : History) → IsPrefix L (keep_in keep reply L)
-keep_goes_on (keeps.Write change) (replies.At stamp) L = if_goes_on L (commit_event (state_at L (length L)) (change ∷ []) ∷ []) (nat_lt (length L) stamp)
+keep_goes_on (keeps.Write change) (replies.At stamp) L = changes_go_on (change ∷ []) stamp L
 keep_goes_on (keeps.Write change) replies.Begun L = prefix_self L
+keep_goes_on (keeps.Write change) (replies.Based base) L = prefix_self L
 keep_goes_on (keeps.Write change) replies.Started L = prefix_self L
 keep_goes_on (keeps.Write change) (replies.Asked did end) L = prefix_self L
 keep_goes_on (keeps.Write change) (replies.Ended end) L = prefix_self L
+keep_goes_on (keeps.Write change) (replies.Answered rows) L = prefix_self L
+keep_goes_on (keeps.Write change) replies.Kept L = prefix_self L
 keep_goes_on (keeps.Write change) (replies.Receipt pin) L = prefix_self L
 keep_goes_on (keeps.Write change) (replies.Aborted left) L = prefix_self L
 keep_goes_on (keeps.Write change) replies.Added L = prefix_self L
@@ -114,9 +154,12 @@ keep_goes_on (keeps.Write change) (replies.Swept count) L = prefix_self L
 keep_goes_on (keeps.Write change) (replies.Refused refusal) L = prefix_self L
 keep_goes_on (keeps.Pin now) (replies.At stamp) L = (pin_event now ∷ [], refl)
 keep_goes_on (keeps.Pin now) replies.Begun L = prefix_self L
+keep_goes_on (keeps.Pin now) (replies.Based base) L = prefix_self L
 keep_goes_on (keeps.Pin now) replies.Started L = prefix_self L
 keep_goes_on (keeps.Pin now) (replies.Asked did end) L = prefix_self L
 keep_goes_on (keeps.Pin now) (replies.Ended end) L = prefix_self L
+keep_goes_on (keeps.Pin now) (replies.Answered rows) L = prefix_self L
+keep_goes_on (keeps.Pin now) replies.Kept L = prefix_self L
 keep_goes_on (keeps.Pin now) (replies.Receipt pin) L = prefix_self L
 keep_goes_on (keeps.Pin now) (replies.Aborted left) L = prefix_self L
 keep_goes_on (keeps.Pin now) replies.Added L = prefix_self L
@@ -158,33 +201,71 @@ module _ (next : Next) (L M : History) (on : IsPrefix L M) where
   receipt_later : (story : Story) (pin : Option Pin) → IsReceiptOf next L story pin → IsReceiptOf next M story pin
   receipt_later idle pin h = h
   receipt_later (reading r) pin h = explained_later next L M r.bounds pin r.answers on h
+  receipt_later (writing w) pin h = h
   receipt_later (leaving stamp) pin h = h
 
-  reply_later : (story : Story) (reply : Reply) → ReplyExplains next L story reply → ReplyExplains next M story reply
-  reply_later story (replies.Receipt pin) h = receipt_later story pin h
-  reply_later story replies.Begun h = tt
-  reply_later story replies.Started h = tt
-  reply_later story (replies.Asked did end) h = tt
-  reply_later story (replies.Ended end) h = tt
-  reply_later story (replies.Aborted left) h = tt
-  reply_later story (replies.At stamp) h = tt
-  reply_later story replies.Added h = tt
-  reply_later story replies.GivenBack h = tt
-  reply_later story (replies.Retired stamps) h = tt
-  reply_later story replies.Unpinned h = tt
-  reply_later story (replies.Vacuumed horizon) h = tt
-  reply_later story (replies.Rows found) h = tt
-  reply_later story (replies.Advanced advanced) h = tt
-  reply_later story (replies.Swept count) h = tt
-  reply_later story (replies.Refused refusal) h = tt
+  module _ (count : ℕ) where
+    made_within : (w : Writing) (stamp : ℕ) → CommitMakes next L count w stamp → (stamp ≤ length L) × (count ≤ length L)
+    made_within w stamp (inl quiet) =
+        let is = quiet.0 in
+        let newest = quiet.1.newest in
+        let cut = length-take stamp L in
+        let within : stamp ≤ length L = omega (arith, newest, cut) in
+        (within, omega (arith, is, within))
+    made_within w stamp (inr event) =
+        let is = event.0 in
+        let newest = event.1.newest in
+        let cut = length-take stamp L in
+        let within : stamp ≤ length L = omega (arith, newest, cut) in
+        (within, omega (arith, is, within))
 
-  place_later : (reply : Reply) (story : Option Story) → MatchOption story (IsNoReceipt reply) (λ s. ReplyExplains next L s reply)
-      → MatchOption story (IsNoReceipt reply) (λ s. ReplyExplains next M s reply)
-  place_later reply None h = h
-  place_later reply (Some story) h = reply_later story reply h
+    commit_later : (w : Writing) (stamp : ℕ) → CommitExplains next L count w stamp → CommitExplains next M count w stamp
+    commit_later w stamp h =
+        let two = made_within w stamp h.made in
+        let low = h.within in
+        let high = two.1 in
+        let known : w.base ≤ length L = omega (arith, low, high) in
+        record {
+          within = h.within;
+          at_base = subst (λ (s : State). AreRightIn next s w.answers) (sym (state_later L M w.base on known)) h.at_base;
+          made = subst (λ (K : History). ((stamp ≡ count) × HasChangedNothing next K w.changes w.answers stamp) ⊎ ((stamp ≡ count + 1) × HasChanged next K w.changes w.answers stamp))
+              (sym (prefix_take L M stamp on two.0)) h.made;
+        }
+
+    stamp_later : (story : Story) (stamp : ℕ) → IsCommitOf next L count story stamp → IsCommitOf next M count story stamp
+    stamp_later idle stamp h = h
+    stamp_later (reading r) stamp h = h
+    stamp_later (writing w) stamp h = commit_later w stamp h
+    stamp_later (leaving held) stamp h = h
+
+    reply_later : (story : Story) (reply : Reply) → ReplyExplains next L count story reply → ReplyExplains next M count story reply
+    reply_later story (replies.Receipt pin) h = receipt_later story pin h
+    reply_later story (replies.At stamp) h = stamp_later story stamp h
+    reply_later story replies.Begun h = tt
+    reply_later story (replies.Based base) h = tt
+    reply_later story replies.Started h = tt
+    reply_later story (replies.Asked did end) h = tt
+    reply_later story (replies.Ended end) h = tt
+    reply_later story (replies.Answered rows) h = tt
+    reply_later story replies.Kept h = tt
+    reply_later story (replies.Aborted left) h = tt
+    reply_later story replies.Added h = tt
+    reply_later story replies.GivenBack h = tt
+    reply_later story (replies.Retired stamps) h = tt
+    reply_later story replies.Unpinned h = tt
+    reply_later story (replies.Vacuumed horizon) h = tt
+    reply_later story (replies.Rows found) h = tt
+    reply_later story (replies.Advanced advanced) h = tt
+    reply_later story (replies.Swept count) h = tt
+    reply_later story (replies.Refused refusal) h = tt
+
+    place_later : (reply : Reply) (story : Option Story) → MatchOption story (IsNoCommit reply) (λ s. ReplyExplains next L count s reply)
+        → MatchOption story (IsNoCommit reply) (λ s. ReplyExplains next M count s reply)
+    place_later reply None h = h
+    place_later reply (Some story) h = reply_later story reply h
 
   step_later : (told : Told) (step : Step) (reply : Reply) → IsExplainedIn next L told step reply → IsExplainedIn next M told step reply
-  step_later told (Actor place act) reply h = place_later reply (slice_get told.actors place) h
+  step_later told (Actor place act) reply h = place_later (length told.history) reply (slice_get told.actors place) h
   step_later told (Keeper keep) reply h = h
 
 -- what is explained as it is told is explained in the whole history
@@ -195,7 +276,7 @@ whole next told (s ∷ steps) [] h = tt
 whole next told (s ∷ steps) (r ∷ replies) h =
     let now = after told s r in
     let end = (told_by now steps replies).history in (
-      step_later next told.history end (prefix_trans told.history now.history end (after_goes_on told s r) (told_goes_on now steps replies)) told s r h.0,
+      step_later next now.history end (told_goes_on now steps replies) told s r h.0,
       whole next now steps replies h.1,
     )
 
@@ -217,10 +298,12 @@ module _ (next : Next) (start : Told) (steps : List Step) (i : ℕ) (replies : L
       → AreDue start (take (i + 1) steps) (replies ++ reply ∷ [])
   loop_due now h e k = rw next_steps (due_more start (take i steps) replies step reply as_long e (subst (λ (t : Told). IsDue t step reply) h k))
 
-  pub loop_explained : (now : Told) → now ≡ told_by start (take i steps) replies → AreExplained next start (take i steps) replies
-      → IsExplainedIn next now.history now step reply → AreExplained next start (take (i + 1) steps) (replies ++ reply ∷ [])
-  loop_explained now h e k =
-      rw next_steps (explained_more next start (take i steps) replies step reply as_long e (subst (λ (t : Told). IsExplainedIn next t.history t step reply) h k))
+  pub loop_explained : (now new : Told) → now ≡ told_by start (take i steps) replies → new ≡ after now step reply → AreExplained next start (take i steps) replies
+      → IsExplainedIn next new.history now step reply → AreExplained next start (take (i + 1) steps) (replies ++ reply ∷ [])
+  loop_explained now new h k e x =
+      let now_after : IsExplainedIn next (after now step reply).history now step reply = subst (λ (t : Told). IsExplainedIn next t.history now step reply) k x in
+      rw next_steps (explained_more next start (take i steps) replies step reply as_long e
+      (subst (λ (t : Told). IsExplainedIn next (after t step reply).history t step reply) h now_after))
 
 pub length_more : (replies : List Reply) (reply : Reply) (i : ℕ) → length replies ≡ i → length (replies ++ reply ∷ []) ≡ i + 1
 length_more replies reply i e = length-append replies (reply ∷ []) ∙ ap (λ n. n + 1) e

@@ -1,5 +1,5 @@
 -- What a transaction asks, and how its call stands after a reply.
-use Rattle.std.proofs.Common.{◌≡◌, ◌≢◌, ⊎_elim, ℕ, Bool, true, false, List, [], ◌∷◌, Option, Some, None, Result, Ok, Err, refl, sym, ap, subst, ◌∙◌}
+use Rattle.std.proofs.Common.{◌≡◌, ⊎_elim, ℕ, Bool, true, false, List, Option, Some, Ok, Err, refl, sym, subst}
 use Rattle.std.specs.Prelude.{if◌then◌else◌}
 use Rattle.std.specs.Option.{ForSome}
 use Rattle.txc_cushion.specs.declared.pin.Pin.{Pin}
@@ -16,6 +16,7 @@ use Rattle.txc_ports.specs.declared.turn.Turn.TheVariants as turns
 use Rattle.txc_txn.specs.Core.{CoreValue, AddsOnly, IsAsking, IsNoAdding, IsOneOf, IsTurn}
 use Rattle.txc_txn.specs.Kept.{TxnValue}
 use Rattle.txc_txn.specs.Leading.{ReplyLeads}
+use Rattle.txc_rw.specs.Core.{IsOfCall}
 use Rattle.txc_txn.proofs.Offered.{AddsOf}
 use Rattle.txc_world.specs.Parts.{IsPartOf}
 use Rattle.txc_world.specs.Ports.{PortsValue, whole_of, KeepsRow}
@@ -23,7 +24,7 @@ use Rattle.txc_world.specs.Asks.{IsAskedAt, ShowsPart}
 use Rattle.txc_world.specs.declared.did.Did.{Did}
 use Rattle.txc_world.specs.declared.did.Did.TheVariants as dids
 use Rattle.txc_world.specs.Told.{did_in}
-use Rattle.txc_world.specs.Actors.{counted, holds_any, AddsPart, IsCallTurn}
+use Rattle.txc_world.specs.Actors.{counted, holds_any, AddsPart}
 use Rattle.txc_world.proofs.Whole.{part_kept}
 
 -- ---- what is asked
@@ -113,7 +114,7 @@ seen_next old new before now shown keeps was part one =
     one
 
 -- a turn of a core is one of a call
-pub call_turn : (c : CoreValue) (turn : Turn) → IsTurn c turn → IsCallTurn turn
+pub call_turn : (c : CoreValue) (turn : Turn) → IsTurn c turn → IsOfCall turn
 call_turn c (turns.Ask request) is = tt
 call_turn c (turns.Value value) is = tt
 call_turn c (turns.Refused error) is = tt

@@ -1,8 +1,9 @@
 -- What actors keep, and how they are told.
-use Rattle.std.specs.Prelude.{◌≡◌, ℕ, ◌≤◌, Bool, List, [], All, Option, Some, None, Result, Ok, length, option_map, if◌then◌else◌}
+use Rattle.std.specs.Prelude.{◌≡◌, ℕ, ◌-◌, Bool, List, [], Option, Some, None, Result, Ok, IsSome, length, take, option_map, if◌then◌else◌}
 use Rattle.std.specs.List.{list_any}
 use Rattle.txc_stamp.specs.Interval.{Interval}
 use Rattle.txc_tags.specs.Keys.{Call}
+use Rattle.txc_rows.specs.declared.query.Query.{Query}
 use Rattle.txc_db.specs.History.{History}
 use Rattle.txc_db.specs.Seen.{FrontValue}
 use Rattle.txc_cushion.specs.declared.pin.Pin.{Pin}
@@ -17,26 +18,31 @@ use Rattle.txc_cushion.specs.declared.pins.Pins.{Pins}
 use Rattle.txc_txn.specs.Leading.{StartLeads}
 use Rattle.txc_txn.specs.Kept.{HasGoneOn, TxnValue}
 use Rattle.txc_ports.specs.declared.turn.Turn.{Turn}
-use Rattle.txc_ports.specs.declared.turn.Turn.TheVariants.{Ask, Value, Refused}
+use Rattle.txc_ports.specs.declared.turn.Turn.TheVariants.{Ask, Value, Rows, Refused}
 use Rattle.txc_pinset.specs.Members.{is_held_by}
 use Rattle.txc_world.specs.declared.did.Did.{Did}
 use Rattle.txc_world.specs.declared.did.Did.TheVariants.{Hit, Miss}
 use Rattle.txc_world.specs.declared.reply.End.{End}
 use Rattle.txc_world.specs.declared.reply.End.TheVariants as ends
 use Rattle.txc_txn.specs.Core.{CoreValue, begun_core, open_call, IsAsk, IsIdle, IsNoValue, IsTurn}
+use Rattle.txc_rw.specs.declared.given.Given.{Given}
+use Rattle.txc_rw.specs.Core.{answers_after, IsOfCall, RwHolds, RwValue}
+use Rattle.txc_rw.specs.Core.{IsAsk as IsRwAsk, IsIdle as IsRwIdle, IsRw, IsTurn as IsRwTurn}
 use Rattle.txc_world.specs.declared.actor.OpenCall.{OpenCall}
 use Rattle.txc_world.specs.declared.actor.OpenTxn.{OpenTxn}
+use Rattle.txc_world.specs.declared.actor.OpenRw.{OpenRw}
 use Rattle.txc_world.specs.declared.actor.Actor.{Actor}
-use Rattle.txc_world.specs.declared.actor.Actor.TheVariants.{Idle, Reading, Leaving}
+use Rattle.txc_world.specs.declared.actor.Actor.TheVariants.{Idle, Reading, Writing, Leaving}
 use Rattle.txc_world.specs.declared.reply.Reply.{Reply}
 use Rattle.txc_world.specs.declared.reply.Reply.TheVariants as replies
 use Rattle.txc_world.specs.declared.reply.Reply.TheVariants.{Asked, Begun, Ended}
-use Rattle.txc_world.specs.declared.reply.Refusal.TheVariants.{Memory}
+use Rattle.txc_world.specs.declared.reply.Refusal.TheVariants.{Memory, Transaction}
 use Rattle.txc_world.specs.Parts.{IsPartOf}
+use Rattle.txc_world.specs.Books.{KeepsUsers}
 use Rattle.txc_world.specs.Ports.{PortsValue}
 use Rattle.txc_world.specs.Asks.{FreshLeads, IsAsked}
 use Rattle.txc_world.specs.Keeping.{GiveBackLeads}
-use Rattle.txc_world.specs.Told.{Story, idle, reading, leaving}
+use Rattle.txc_world.specs.Told.{Story, idle, reading, writing, leaving}
 
 -- a pin that is to be added is of the whole
 abbrev pub AddsPart : FrontValue → Turn → Type 0
@@ -70,24 +76,69 @@ pub record IsBegun (whole : FrontValue) (count : ℕ) (bounds : Bounds) (c : Cor
   pub asked : c.bounds ≡ bounds
   pub recorded : c.recorded ≡ []
 
-abbrev pub IsActor : {A C : Type 0} → FrontValue → ℕ → Actor A C → Type 0
-IsActor whole count (Idle objects) = AllIdle objects
-IsActor whole count (Reading o) = IsOpenTxn whole count o
-IsActor whole count (Leaving objects stamp) = AllIdle objects
+-- ---- read-write transactions
+
+-- the answers without the last one, where that is the value of a call that has ended and was not told so
+-- yet
+abbrev pub told_by_turn : Turn → List Given → List Given
+told_by_turn (Value value) answers = take (length answers - 1) answers
+told_by_turn turn answers = answers
+
+abbrev pub told_answers : Option OpenCall → List Given → List Given
+told_answers None answers = answers
+told_answers (Some call) answers = told_by_turn call.turn answers
+
+-- the call's next turn is one of the core's, which has it open under its key while it asks; its value comes
+-- after all answers that were told
+pub record IsRwCall (c : RwValue) (call : OpenCall) : Type 0 where
+  pub turn : IsRwTurn c call.turn
+  pub kind : IsOfCall call.turn
+  pub key : IsRwAsk call.turn → c.call.top ≡ call.key
+  pub is_open : IsRwAsk call.turn → IsSome c.call.need
+  pub answers : c.answers ≡ answers_after (told_by_turn call.turn c.answers) call.key None call.turn
+
+abbrev pub HasRwCall : RwValue → Option OpenCall → Type 0
+HasRwCall c None = IsRwIdle c
+HasRwCall c (Some call) = IsRwCall c call
+
+-- What is true of an open read-write transaction: its core is right in the whole history, and its open call
+-- waits for its next turn.
+pub record IsOpenRw {A C : Type 0} (next : Next) (L : History) (o : OpenRw A C) : Type 0 where
+  pub fits : IsRw next o.registry o.core
+  pub holds : RwHolds next L o.registry o.core
+  pub call : HasRwCall o.core o.call
+
+-- ---- actors
+
+abbrev pub IsActor : {A C : Type 0} → Next → FrontValue → ℕ → Actor A C → Type 0
+IsActor next whole count (Idle objects) = AllIdle objects
+IsActor next whole count (Reading o) = IsOpenTxn whole count o
+IsActor next whole count (Writing o) = IsOpenRw next whole.history o
+IsActor next whole count (Leaving objects stamp) = AllIdle objects
 
 -- nobody is in the middle of a step
-abbrev pub IsThere : {A C : Type 0} → FrontValue → ℕ → Option (Actor A C) → Type 0
-IsThere whole count None = ⊥
-IsThere whole count (Some actor) = IsActor whole count actor
+abbrev pub IsThere : {A C : Type 0} → Next → FrontValue → ℕ → Option (Actor A C) → Type 0
+IsThere next whole count None = ⊥
+IsThere next whole count (Some actor) = IsActor next whole count actor
 
 -- ---- turns of a call
 
--- a call asks, is answered, or is refused
-abbrev pub IsCallTurn : Turn → Type 0
-IsCallTurn (Ask request) = Unit {0}
-IsCallTurn (Value value) = Unit {0}
-IsCallTurn (Refused error) = Unit {0}
-IsCallTurn turn = ⊥
+-- the query that the turn asks, if it asks one
+abbrev pub asked_query : Turn → Option Query
+asked_query (Ask (requests.Query query stamp)) = Some query
+asked_query turn = None
+
+-- the call has ended so
+abbrev pub IsEndOf : Turn → End → Type 0
+IsEndOf (Value value) end = end ≡ ends.Value value
+IsEndOf (Refused error) end = end ≡ ends.Refused error
+IsEndOf turn end = ⊥
+
+-- what is told of a query of a read-write transaction's own
+abbrev pub IsToldQuery : Turn → Reply → Type 0
+IsToldQuery (Rows rows) reply = reply ≡ replies.Answered rows
+IsToldQuery (Refused error) reply = reply ≡ replies.Refused (Transaction error)
+IsToldQuery turn reply = ⊥
 
 -- a call that asks is open with its turn; else it has ended so
 abbrev pub IsNoted : Call → Turn → Option OpenCall → Option End → Type 0
@@ -113,12 +164,14 @@ pub record HasBegun (renew_after : ℕ) (bounds : Bounds) (old new : PortsValue)
   pub fresh : FreshLeads {A = Unit {0}} bounds.now bounds.staleness bounds.at_least old new (Ok pins)
   pub core : c ≡ begun_core (length old.nodes) renew_after bounds pins c.call
 
--- a transaction began, with no call; or the actor has nothing open
+-- a transaction began, with no call; or the actor has nothing open, and the pins that it was handed are given
+-- back
 abbrev pub BeginLeads : {A C : Type 0} → ℕ → Bounds → PortsValue → PortsValue → Actor A C → Reply → Type 0
 BeginLeads renew_after bounds old new (Reading o) reply = HasBegun renew_after bounds old new o.txn.core
     × (o.call ≡ None) × (reply ≡ Begun)
-BeginLeads renew_after bounds old new (Idle objects) reply = reply ≡ replies.Refused Memory
-BeginLeads renew_after bounds old new (Leaving objects stamp) reply = ⊥
+BeginLeads renew_after bounds old new (Idle objects) reply = (reply ≡ replies.Refused Memory)
+    × KeepsUsers old new
+BeginLeads renew_after bounds old new actor reply = ⊥
 
 -- a call is open, with the turn that its start came to
 pub record HasStarted {A C : Type 0} (key : Call) (before : TxnValue) (actor : Actor A C) : Type 0 where
@@ -175,6 +228,12 @@ story_of (Reading o) = reading (record {
   bounds = o.txn.core.bounds;
   call = option_map (λ c. c.key) o.call;
   answers = o.txn.core.recorded;
+})
+story_of (Writing o) = writing (record {
+  base = o.core.base;
+  call = option_map (λ c. c.key) o.call;
+  answers = told_answers o.call o.core.answers;
+  changes = o.core.changes;
 })
 story_of (Leaving objects stamp) = leaving stamp
 

@@ -1,5 +1,5 @@
 -- What comes of a transaction's request at the plain ports, and how it is told.
-use Rattle.std.specs.Prelude.{◌≡◌, ◌⊎◌, ℕ, ◌≤◌, Result, Ok, Err, Option, Some, None, List, [], ◌∷◌, map, true}
+use Rattle.std.specs.Prelude.{◌≡◌, ◌⊎◌, ℕ, ◌≤◌, Result, Ok, Err, Option, Some, None, [], ◌∷◌, map, true}
 use Rattle.std.specs.Option.{option_map, ForSome}
 use Rattle.txc_rows.specs.declared.query.Query.{Query}
 use Rattle.txc_rows.specs.RowTags.{query_tag}
@@ -8,10 +8,10 @@ use Rattle.txc_validity.specs.Answers.{IsAnswer}
 use Rattle.txc_db.specs.declared.answered.Answered.{Answered}
 use Rattle.txc_db.specs.declared.error.DbError.{DbError}
 use Rattle.txc_db.specs.declared.pinned.Pinned.{Pinned}
-use Rattle.txc_db.specs.History.{History, moment_at, state_at}
+use Rattle.txc_db.specs.History.{moment_at, state_at}
 use Rattle.txc_db.specs.Seen.{FrontValue}
-use Rattle.txc_db.specs.DatabaseValue.{after_pin, after_unpin, front_of, is_held, newest}
-use Rattle.txc_db.specs.Calls.{IsAnswerable, IsPinnable, IsPinRefused, IsQueryRefused, IsUnpinRefused}
+use Rattle.txc_db.specs.DatabaseValue.{after_hold, after_pin, after_unpin, front_of, is_held, newest}
+use Rattle.txc_db.specs.Calls.{IsAnswerable, IsHoldable, IsHoldRefused, IsPinnable, IsPinRefused, IsQueryRefused, IsUnpinRefused}
 use Rattle.txc_cushion.specs.declared.error.AddError.{AddError}
 use Rattle.txc_cushion.specs.Cushion.{after_add, after_fresh, handed_out}
 use Rattle.txc_cushion.specs.declared.pins.Pins.{Pins}
@@ -71,7 +71,22 @@ FreshLeads now staleness at_least old new (Ok pins) =
     × (pins.pins.items ≡ handed_out old.cushion now staleness at_least)
 FreshLeads now staleness at_least old new (Err e) = new ≡ old
 
+-- of a beginning: the newest stamp has one hold more; or the database refused, and nothing has changed
+abbrev pub HoldLeads : PortsValue → PortsValue → Result ℕ DbError → Type 0
+HoldLeads old new (Ok base) = (new ≡ record old { database = after_hold old.database })
+    × (base ≡ newest old.database) × IsHoldable old.database
+HoldLeads old new (Err e) = (new ≡ old) × IsHoldRefused old.database e
+
 -- ---- queries
+
+-- the answer of the query at the stamp, with its validity and its tag
+pub record IsAnswerOf (query : Query) (stamp : ℕ) (p : PortsValue) (found : Found) : Type 0 where
+  pub answer : IsAnswer (state_at p.database.history) query stamp p.database.horizon (newest p.database) found
+  pub tag : found.tags ≡ query_tag query ∷ []
+
+abbrev pub AnswerLeads : Query → ℕ → PortsValue → Result Found DbError → Type 0
+AnswerLeads query stamp p (Ok found) = IsAnswerOf query stamp p found × IsAnswerable p.database stamp
+AnswerLeads query stamp p (Err e) = IsQueryRefused p.database query stamp e
 
 -- the answer of the query at the stamp, with its validity and its tag, and a front of the whole history
 pub record HasFound (query : Query) (stamp : ℕ) (p : PortsValue) (found : Answered Found) : Type 0 where
@@ -90,6 +105,11 @@ pub record IsToldOf (found : Found) (rows : RowsFound) : Type 0 where
   pub ids : rows.ids.items ≡ map (λ r. r.id) found.rows.items
   pub reach : rows.reach ≡ found.reach
   pub tags : rows.tags ≡ found.tags
+
+-- what was found, or refused, as it is told
+abbrev pub DoesTellFound : Result Found DbError → Did → Type 0
+DoesTellFound (Ok found) did = (rows : RowsFound) × (did ≡ dids.Rows rows) × IsToldOf found rows
+DoesTellFound (Err e) did = did ≡ dids.Refused e
 
 -- ---- requests
 

@@ -2,6 +2,7 @@
 use Rattle.std.specs.Prelude.{◌≡◌, ◌⊎◌, ℕ, Vec, Result, Ok, Err, Option, Some, None, List, [], ◌∷◌, ◌++◌, map, slice_get, true, false}
 use Rattle.std.specs.List.{remove}
 use Rattle.std.specs.declared.alloc.Global.{Global}
+use Rattle.txc_tags.specs.declared.tag.Tag.{Tag}
 use Rattle.txc_rows.specs.declared.query.Change.{Change}
 use Rattle.txc_rows.specs.declared.query.Query.{Query}
 use Rattle.txc_rows.specs.RowTags.{query_tag}
@@ -23,14 +24,18 @@ use Rattle.txc_world.specs.Asks.{AddLeads, HasPinned, IsToldOf}
 
 -- ---- the database
 
--- of a change: it is committed at the newest stamp, with nothing read; or the database refused
-abbrev pub WriteLeads : Change → PortsValue → PortsValue → Result ℕ DbError → Type 0
-WriteLeads change old new (Ok stamp) =
-    (new ≡ record old { database = after_commit old.database (change ∷ []) })
+-- of changes: they are committed at the base, with so many tags read; or the database refused
+abbrev pub CommitLeads : ℕ → List Tag → List Change → PortsValue → PortsValue → Result ℕ DbError → Type 0
+CommitLeads base read changes old new (Ok stamp) =
+    (new ≡ record old { database = after_commit old.database changes })
     × (stamp ≡ newest new.database)
-    × IsCommittable old.database (newest old.database) [] (change ∷ [])
-WriteLeads change old new (Err e) = HasRefused old new e
-    × IsCommitRefused old.database (newest old.database) [] (change ∷ []) e
+    × IsCommittable old.database base read changes
+CommitLeads base read changes old new (Err e) = HasRefused old new e
+    × IsCommitRefused old.database base read changes e
+
+-- of a change: it is committed at the newest stamp, with nothing read
+abbrev pub WriteLeads : Change → PortsValue → PortsValue → Result ℕ DbError → Type 0
+WriteLeads change old new result = CommitLeads (newest old.database) [] (change ∷ []) old new result
 
 -- of a vacuum: the horizon is the least held stamp, or the newest where none is held; or the database refused
 abbrev pub VacuumLeads : PortsValue → PortsValue → Result ℕ DbError → Type 0

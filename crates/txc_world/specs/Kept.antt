@@ -14,6 +14,7 @@ use Rattle.txc_world.specs.Ports.{PortsValue, whole_of, HasLedNode, KeepsRow}
 use Rattle.txc_world.specs.Asks.{AddLeads, UnpinLeads}
 use Rattle.txc_world.specs.Keeping.{stamps_of, AddSpareLeads, GiveBackLeads, IsToldAnswer, PinSpareLeads, RetireLeads, VacuumLeads, WriteLeads}
 use Rattle.txc_world.specs.Told.{keep_in, spare_after, IsKeepDue, IsNoReceipt}
+use Rattle.txc_world.specs.Tidy.{KeepsBalance}
 
 -- what each step leaves of the ports, by its reply
 abbrev pub KeepLeads : Keep → PortsValue → PortsValue → Reply → Type 0
@@ -68,3 +69,4 @@ pub record IsKept (keep : Keep) (old new : PortsValue) (reply : Reply) : Type 0 
   pub due : IsKeepDue (length old.nodes) (stamps_of old.spare) keep reply
   pub no_receipt : IsNoReceipt reply
   pub keeps : KeepsRow old new
+  pub balance : KeepsBalance keep old new reply

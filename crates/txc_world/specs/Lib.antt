@@ -7,4 +7,7 @@ pub mod Kept
 pub mod Making
 pub mod Told
 pub mod Actors
+pub mod Books
+pub mod Tidy
+pub mod Writing
 pub mod Worlds

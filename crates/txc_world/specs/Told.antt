@@ -1,7 +1,7 @@
 -- What a list of steps and replies tells of a world.
-use Rattle.std.specs.Prelude.{◌≡◌, ◌⊎◌, ℕ, ◌≤◌, nat_lt, if◌then◌else◌, List, [], ◌∷◌, ◌++◌, length, Option, Some, None, slice_get, slice_set, MatchOption, Contains}
-use Rattle.std.specs.Bool.{OnTrue, OnFalse}
+use Rattle.std.specs.Prelude.{◌≡◌, ◌⊎◌, ℕ, ◌+◌, ◌<◌, ◌≤◌, nat_lt, if◌then◌else◌, List, [], ◌∷◌, ◌++◌, length, take, Option, Some, None, slice_get, slice_set, MatchOption}
 use Rattle.txc_tags.specs.Keys.{Call}
+use Rattle.txc_rows.specs.declared.query.Change.{Change}
 use Rattle.txc_db.specs.History.{History, commit_event, pin_event, state_at}
 use Rattle.txc_db.specs.DatabaseValue.{is_held, without}
 use Rattle.txc_cushion.specs.declared.pin.Pin.{Pin}
@@ -9,9 +9,15 @@ use Rattle.txc_shared.specs.Eval.{Next}
 use Rattle.txc_ports.specs.declared.bounds.Bounds.{Bounds}
 use Rattle.txc_ports.specs.declared.recorded.Recorded.{Recorded}
 use Rattle.txc_txn.specs.Core.{Explains}
+use Rattle.txc_rw.specs.declared.given.Given.{Given}
+use Rattle.txc_rw.specs.declared.given.Given.TheVariants as given
+use Rattle.txc_rw.specs.declared.rw_core.TheConstants.{MAX_CHANGES}
+use Rattle.txc_rw.specs.Answers.{AreRightIn}
+use Rattle.txc_rw.specs.Core.{IsWriteRefused}
+use Rattle.txc_rw.specs.Outcomes.{HasChanged, HasChangedNothing}
 use Rattle.txc_world.specs.declared.settings.WorldSettings.{WorldSettings}
 use Rattle.txc_world.specs.declared.step.Act.{Act}
-use Rattle.txc_world.specs.declared.step.Act.TheVariants.{BeginRo, Start, Request, Commit, Abort}
+use Rattle.txc_world.specs.declared.step.Act.TheVariants.{BeginRo, BeginRw, Start, Request, Ask, Write, Commit, Abort}
 use Rattle.txc_world.specs.declared.step.Keep.{Keep}
 use Rattle.txc_world.specs.declared.step.Keep.TheVariants as keeps
 use Rattle.txc_world.specs.declared.step.Step.{Step}
@@ -22,7 +28,7 @@ use Rattle.txc_world.specs.declared.reply.End.{End}
 use Rattle.txc_world.specs.declared.reply.End.TheVariants as ends
 use Rattle.txc_world.specs.declared.reply.Reply.{Reply}
 use Rattle.txc_world.specs.declared.reply.Reply.TheVariants as replies
-use Rattle.txc_world.specs.declared.reply.Reply.TheVariants.{Begun, Started, Asked, Ended, Receipt, Aborted, Refused}
+use Rattle.txc_world.specs.declared.reply.Reply.TheVariants.{Begun, Based, Started, Asked, Ended, Answered, Kept, Receipt, Aborted, At, Refused}
 use Rattle.txc_world.specs.declared.reply.Refusal.{Refusal}
 use Rattle.txc_world.specs.declared.reply.Refusal.TheVariants as refusals
 use Rattle.txc_world.specs.declared.reply.Refusal.TheVariants.{NoActor, NoNode, AlreadyOpen, NotOpen, MidCall, NoRequest}
@@ -35,11 +41,19 @@ pub record Reading : Type 0 where
   pub call : Option Call
   pub answers : List Recorded
 
--- an actor has nothing open; or a read-only transaction; or it has given one up, and has the hold of a stamp
--- still to take away
+-- an open read-write transaction: its base, its open call, what it was answered, and its changes
+pub record Writing : Type 0 where
+  pub base : ℕ
+  pub call : Option Call
+  pub answers : List Given
+  pub changes : List Change
+
+-- an actor has nothing open; or a read-only or a read-write transaction; or that has ended, and it has the hold
+-- of a stamp still to take away
 pub data Story : Type 0 where
   idle : Story
   reading : Reading → Story
+  writing : Writing → Story
   leaving : ℕ → Story
 
 -- a world: its settings, its history, the stamps of the pins that the keeper has and did not add, and what
@@ -63,6 +77,17 @@ after_end None r = r
 after_end (Some (ends.Value value)) r = record r { call = None; answers = answered r.call value r.answers }
 after_end (Some (ends.Refused error)) r = record r { call = None }
 
+-- the same of a read-write transaction
+abbrev pub given_of : Option Call → List ℕ → List Given → List Given
+given_of None value answers = answers
+given_of (Some key) value answers = answers ++ given.Value key value ∷ []
+
+abbrev pub writing_on : Option End → Writing → Writing
+writing_on None w = w
+writing_on (Some (ends.Value value)) w =
+    record w { call = None; answers = given_of w.call value w.answers }
+writing_on (Some (ends.Refused error)) w = record w { call = None }
+
 -- given up, with this hold to take away
 abbrev pub given_up : Option ℕ → Story
 given_up None = idle
@@ -71,11 +96,20 @@ given_up (Some stamp) = leaving stamp
 -- what the actor has open after what it did and was replied
 abbrev pub story_after : Act → Reply → Story → Story
 story_after (BeginRo bounds) Begun story = reading (record { bounds = bounds; call = None; answers = [] })
+story_after BeginRw (Based base) story =
+    writing (record { base = base; call = None; answers = []; changes = [] })
 story_after (Start key) Started (reading r) = reading (record r { call = Some key })
+story_after (Start key) Started (writing w) = writing (record w { call = Some key })
 story_after Request (Asked did end) (reading r) = reading (after_end end r)
 story_after Request (Ended end) (reading r) = reading (after_end (Some end) r)
+story_after Request (Asked did end) (writing w) = writing (writing_on end w)
+story_after Request (Ended end) (writing w) = writing (writing_on (Some end) w)
 story_after Request (Asked did end) (leaving stamp) = idle
+story_after (Ask query) (Answered rows) (writing w) =
+    writing (record w { answers = w.answers ++ given.Rows query rows.items ∷ [] })
+story_after (Write change) Kept (writing w) = writing (record w { changes = w.changes ++ change ∷ [] })
 story_after Commit (Receipt pin) story = idle
+story_after Commit (At stamp) (writing w) = leaving w.base
 story_after Abort (Aborted left) story = given_up left
 story_after act reply story = story
 
@@ -84,22 +118,26 @@ abbrev pub did_in : Did → ℕ → History → History
 did_in (Pinned stamp) now L = L ++ pin_event now ∷ []
 did_in did now L = L
 
+-- a commit of the changes stands in the history where it was replied with a stamp above its length
+abbrev pub commit_in : List Change → ℕ → History → History
+commit_in changes stamp L =
+    if nat_lt (length L) stamp then L ++ commit_event (state_at L (length L)) changes ∷ [] else L
+
 abbrev pub act_in : Act → Reply → Story → History → History
 act_in Request (Asked did end) (reading r) L = did_in did r.bounds.now L
+act_in Commit (At stamp) (writing w) L = commit_in w.changes stamp L
 act_in act reply story L = L
 
 -- ---- what a step of the keeper tells
 
--- a pin stands in the history, and so does a commit that was replied with a stamp above its length
 abbrev pub keep_in : Keep → Reply → History → History
-keep_in (keeps.Write change) (replies.At stamp) L =
-    if nat_lt (length L) stamp then L ++ commit_event (state_at L (length L)) (change ∷ []) ∷ [] else L
-keep_in (keeps.Pin now) (replies.At stamp) L = L ++ pin_event now ∷ []
+keep_in (keeps.Write change) (At stamp) L = commit_in (change ∷ []) stamp L
+keep_in (keeps.Pin now) (At stamp) L = L ++ pin_event now ∷ []
 keep_in keep reply L = L
 
 -- it has a pin more to add, or has spent one, on a pincushion that may have refused it
 abbrev pub spare_after : Keep → Reply → List ℕ → List ℕ
-spare_after (keeps.Pin now) (replies.At stamp) spare = spare ++ stamp ∷ []
+spare_after (keeps.Pin now) (At stamp) spare = spare ++ stamp ∷ []
 spare_after (keeps.Add stamp) replies.Added spare = without stamp spare
 spare_after (keeps.Add stamp) (Refused (refusals.Pincushion error)) spare = without stamp spare
 spare_after keep reply spare = spare
@@ -128,40 +166,69 @@ told_by told [] replies = told
 told_by told (step ∷ steps) [] = told
 told_by told (step ∷ steps) (reply ∷ replies) = told_by (after told step reply) steps replies
 
--- ---- receipts
+-- ---- receipts and commits
 
 abbrev pub IsNoReceipt : Reply → Type 0
 IsNoReceipt (Receipt pin) = ⊥
 IsNoReceipt reply = Unit {0}
+
+-- the reply is neither a receipt nor the stamp of a commit
+abbrev pub IsNoCommit : Reply → Type 0
+IsNoCommit (Receipt pin) = ⊥
+IsNoCommit (At stamp) = ⊥
+IsNoCommit reply = Unit {0}
 
 -- the receipt explains the answers of the actor's transaction within its bounds
 abbrev pub IsReceiptOf : Next → History → Story → Option Pin → Type 0
 IsReceiptOf next L (reading r) pin = Explains next L r.bounds pin r.answers
 IsReceiptOf next L story pin = ⊥
 
-abbrev pub ReplyExplains : Next → History → Story → Reply → Type 0
-ReplyExplains next L story (Receipt pin) = IsReceiptOf next L story pin
-ReplyExplains next L story reply = Unit {0}
+-- What a commit that was replied this stamp made of a history of so many events, up to the stamp: no event
+-- was added, nothing changes in the newest state, and each answer is right there; or the event of the net
+-- changes was added, and each answer is right before it.
+abbrev pub CommitMakes : Next → History → ℕ → Writing → ℕ → Type 0
+CommitMakes next L count w stamp =
+    ((stamp ≡ count) × HasChangedNothing next (take stamp L) w.changes w.answers stamp)
+    ⊎ ((stamp ≡ count + 1) × HasChanged next (take stamp L) w.changes w.answers stamp)
 
--- a receipt is given to nobody but an actor, and explains its answers in the history
+-- the stamp of a commit explains the answers: each is right at the base, and where the commit was made
+pub record CommitExplains (next : Next) (L : History) (count : ℕ) (w : Writing) (stamp : ℕ) : Type 0 where
+  pub within : w.base ≤ count
+  pub at_base : AreRightIn next (state_at L w.base) w.answers
+  pub made : CommitMakes next L count w stamp
+
+abbrev pub IsCommitOf : Next → History → ℕ → Story → ℕ → Type 0
+IsCommitOf next L count (writing w) stamp = CommitExplains next L count w stamp
+IsCommitOf next L count story stamp = ⊥
+
+-- what is replied explains what was told of the actor, when the history had so many events
+abbrev pub ReplyExplains : Next → History → ℕ → Story → Reply → Type 0
+ReplyExplains next L count story (Receipt pin) = IsReceiptOf next L story pin
+ReplyExplains next L count story (At stamp) = IsCommitOf next L count story stamp
+ReplyExplains next L count story reply = Unit {0}
+
+-- a receipt, or the stamp of a commit, is given to nobody but an actor, and explains its answers in the
+-- history
 abbrev pub IsExplainedIn : Next → History → Told → Step → Reply → Type 0
 IsExplainedIn next L told (Actor place act) reply =
-    MatchOption (slice_get told.actors place) (IsNoReceipt reply) (λ story. ReplyExplains next L story reply)
+    MatchOption (slice_get told.actors place) (IsNoCommit reply)
+    (λ story. ReplyExplains next L (length told.history) story reply)
 IsExplainedIn next L told (Keeper keep) reply = IsNoReceipt reply
 
--- each receipt explains in the history what was told before it
+-- each receipt and each commit explains in the history what was told before it
 abbrev pub AreExplainedIn : Next → History → Told → List Step → List Reply → Type 0
 AreExplainedIn next L told [] replies = Unit {0}
 AreExplainedIn next L told (step ∷ steps) [] = Unit {0}
 AreExplainedIn next L told (step ∷ steps) (reply ∷ replies) =
     IsExplainedIn next L told step reply × AreExplainedIn next L (after told step reply) steps replies
 
--- each receipt explains it in the history as it was told until then
+-- each explains it in the history as it was told by then
 abbrev pub AreExplained : Next → Told → List Step → List Reply → Type 0
 AreExplained next told [] replies = Unit {0}
 AreExplained next told (step ∷ steps) [] = Unit {0}
 AreExplained next told (step ∷ steps) (reply ∷ replies) =
-    IsExplainedIn next told.history told step reply × AreExplained next (after told step reply) steps replies
+    IsExplainedIn next (after told step reply).history told step reply
+    × AreExplained next (after told step reply) steps replies
 
 -- ---- what is replied
 
@@ -173,26 +240,43 @@ due_by_call None with_call without_call = without_call
 -- the refusal of the world's own that is due to an actor, if one is
 abbrev pub due_refusal : Act → Story → Option Refusal
 due_refusal (BeginRo bounds) idle = None
-due_refusal (BeginRo bounds) (reading r) = Some AlreadyOpen
-due_refusal (BeginRo bounds) (leaving stamp) = Some AlreadyOpen
+due_refusal (BeginRo bounds) story = Some AlreadyOpen
+due_refusal BeginRw idle = None
+due_refusal BeginRw story = Some AlreadyOpen
 due_refusal Request (leaving stamp) = None
 due_refusal act idle = Some NotOpen
 due_refusal act (leaving stamp) = Some NotOpen
 due_refusal (Start key) (reading r) = due_by_call r.call (Some MidCall) None
+due_refusal (Start key) (writing w) = due_by_call w.call (Some MidCall) None
 due_refusal Request (reading r) = due_by_call r.call None (Some NoRequest)
+due_refusal Request (writing w) = due_by_call w.call None (Some NoRequest)
+due_refusal (Ask query) (reading r) = Some NotOpen
+due_refusal (Ask query) (writing w) = due_by_call w.call (Some MidCall) None
+due_refusal (Write change) (reading r) = Some NotOpen
+due_refusal (Write change) (writing w) = due_by_call w.call (Some MidCall) None
 due_refusal Commit (reading r) = due_by_call r.call (Some MidCall) None
-due_refusal Abort (reading r) = None
+due_refusal Commit (writing w) = due_by_call w.call (Some MidCall) None
+due_refusal Abort story = None
 
--- What an actor's step is replied where no such refusal is due: it is done, and to begin alone may be out of
--- memory.
-abbrev pub IsActReply : Act → Reply → Type 0
-IsActReply (BeginRo bounds) reply = (reply ≡ Begun) ⊎ (reply ≡ Refused refusals.Memory)
-IsActReply (Start key) reply = reply ≡ Started
-IsActReply Request (Asked did end) = Unit {0}
-IsActReply Request (Ended end) = Unit {0}
-IsActReply Commit (Receipt pin) = Unit {0}
-IsActReply Abort (Aborted left) = Unit {0}
-IsActReply act reply = ⊥
+-- What an actor's step is replied where no such refusal is due: what was asked for, or the refusal of what was
+-- asked.
+abbrev pub IsActReply : Act → Story → Reply → Type 0
+IsActReply (BeginRo bounds) story reply = (reply ≡ Begun) ⊎ (reply ≡ Refused refusals.Memory)
+IsActReply BeginRw story (Based base) = Unit {0}
+IsActReply BeginRw story (Refused (refusals.Database error)) = Unit {0}
+IsActReply (Start key) story reply = reply ≡ Started
+IsActReply Request story (Asked did end) = Unit {0}
+IsActReply Request story (Ended end) = Unit {0}
+IsActReply (Ask query) story (Answered rows) = Unit {0}
+IsActReply (Ask query) story (Refused (refusals.Transaction error)) = Unit {0}
+IsActReply (Write change) (writing w) Kept = length w.changes < MAX_CHANGES
+IsActReply (Write change) (writing w) (Refused (refusals.Transaction error)) =
+    IsWriteRefused (length w.changes) error
+IsActReply Commit (reading r) (Receipt pin) = Unit {0}
+IsActReply Commit (writing w) (At stamp) = Unit {0}
+IsActReply Commit (writing w) (Refused (refusals.Database error)) = Unit {0}
+IsActReply Abort story (Aborted left) = Unit {0}
+IsActReply act story reply = ⊥
 
 -- the refusal that is due, and no other reply; or one that suits
 abbrev pub IsDueOr : Option Refusal → Type 0 → Reply → Type 0
@@ -200,7 +284,7 @@ IsDueOr (Some refusal) Suits reply = reply ≡ Refused refusal
 IsDueOr None Suits reply = Suits
 
 abbrev pub IsActDue : Story → Act → Reply → Type 0
-IsActDue story act reply = IsDueOr (due_refusal act story) (IsActReply act reply) reply
+IsActDue story act reply = IsDueOr (due_refusal act story) (IsActReply act story reply) reply
 
 -- no such node; or no pin of the stamp to add
 abbrev pub due_keep : ℕ → List ℕ → Keep → Option Refusal
@@ -212,9 +296,9 @@ due_keep nodes spare keep = None
 -- what a step of the keeper is replied where no refusal of the world's own is due: what was asked for, or the
 -- refusal of what was asked
 abbrev pub IsKeepReply : Keep → Reply → Type 0
-IsKeepReply (keeps.Write change) (replies.At stamp) = Unit {0}
+IsKeepReply (keeps.Write change) (At stamp) = Unit {0}
 IsKeepReply (keeps.Write change) (Refused (refusals.Database error)) = Unit {0}
-IsKeepReply (keeps.Pin now) (replies.At stamp) = Unit {0}
+IsKeepReply (keeps.Pin now) (At stamp) = Unit {0}
 IsKeepReply (keeps.Pin now) (Refused (refusals.Database error)) = Unit {0}
 IsKeepReply (keeps.Add stamp) replies.Added = Unit {0}
 IsKeepReply (keeps.Add stamp) (Refused (refusals.Pincushion error)) = Unit {0}

@@ -1,5 +1,5 @@
 -- What a world keeps, and how it is told.
-use Rattle.std.specs.Prelude.{◌≡◌, ℕ, ◌≤◌, Bool, true, List, [], All, Option, None, Some, length, map}
+use Rattle.std.specs.Prelude.{◌≡◌, ◌≤◌, Bool, true, List, [], All, Option, None, Some, length, map}
 use Rattle.txc_db.specs.History.{History, state_at}
 use Rattle.txc_cushion.specs.declared.pin.Pin.{Pin}
 use Rattle.txc_shared.specs.Eval.{Next}
@@ -8,9 +8,11 @@ use Rattle.txc_world.specs.declared.actor.Actor.{Actor}
 use Rattle.txc_world.specs.declared.settings.WorldSettings.{WorldSettings}
 use Rattle.txc_world.specs.declared.reply.Refusal.{Refusal}
 use Rattle.txc_world.specs.declared.reply.Refusal.TheVariants.{NoActor, NotOpen}
-use Rattle.txc_world.specs.Told.{Reading, Story, idle, reading, leaving, Told}
+use Rattle.txc_world.specs.Told.{Reading, Story, idle, reading, writing, leaving, Told}
 use Rattle.txc_world.specs.Ports.{PortsValue, whole_of}
 use Rattle.txc_world.specs.Actors.{story_at, IsThere}
+use Rattle.txc_world.specs.Books.{account_at, books_of, Books}
+use Rattle.txc_world.specs.Tidy.{AreBalanced, Purse}
 
 -- its settings, its history, the stamps of the pins that its keeper has yet to add, and what each actor has
 -- open
@@ -22,22 +24,39 @@ told_of settings ports actors = record {
   actors = map story_at actors;
 }
 
+-- what callers see of a world: what is told of it, and its books
+pub record WorldValue : Type 0 where
+  pub told : Told
+  pub books : Books
+
+abbrev pub value_of : {A C : Type 0} → WorldSettings → PortsValue → List (Option (Actor A C)) → WorldValue
+value_of settings ports actors = record {
+  told = told_of settings ports actors;
+  books = books_of ports (map account_at actors);
+}
+
+-- each has what is its own, the keeper by its purse
+abbrev pub IsBalanced : WorldValue → Purse → Type 0
+IsBalanced world purse = AreBalanced world.told.spare world.books purse
+
 -- what is true of every world: it has the nodes of its settings, at least one; each actor has its pass
 -- through each; and no actor is in the middle of a step
-pub record IsWorld {A C : Type 0} (settings : WorldSettings) (ports : PortsValue)
+pub record IsWorld {A C : Type 0} (next : Next) (settings : WorldSettings) (ports : PortsValue)
     (actors : List (Option (Actor A C))) : Type 0 where
   pub nodes : length ports.nodes ≡ settings.nodes
   pub some : 1 ≤ settings.nodes
   pub passes : length actors ≡ ports.actors
-  pub there : All (IsThere (whole_of ports) settings.nodes) actors
+  pub there : All (IsThere next (whole_of ports) settings.nodes) actors
 
 -- ---- pin sets
 
--- the refusal of the pins of an actor, if one is due: there is no such actor, or it has no transaction open
+-- the refusal of the pins of an actor, if one is due: there is no such actor, or it has no read-only
+-- transaction open
 abbrev pub due_of_pins : Option Story → Option Refusal
 due_of_pins None = Some NoActor
 due_of_pins (Some idle) = Some NotOpen
 due_of_pins (Some (reading r)) = None
+due_of_pins (Some (writing w)) = Some NotOpen
 due_of_pins (Some (leaving stamp)) = Some NotOpen
 
 -- Where a transaction may still be serialised: at the present or at a member; and each member is a pin that

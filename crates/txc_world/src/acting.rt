@@ -1,13 +1,15 @@
 //! What an actor does, each kind of step by itself.
-ghost use Rattle.std.specs.Prelude.{◌≡◌, ◌≤◌, ◌<◌, All, IfOk, None, Some, length, map};
+ghost use Rattle.std.specs.Prelude.{◌≡◌, ◌≤◌, ◌<◌, ◌∷◌, [], All, IfOk, None, OnErr, Some, length, map};
 ghost use Rattle.std.specs.Option.{ForSome};
 ghost use Rattle.txc_registry.specs.Objects.{AllIdle, Objects};
 ghost use Rattle.txc_shared.specs.Eval.{Next};
+ghost use Rattle.txc_rw.specs.Core.{IsOfCall};
 ghost use Rattle.txc_txn.specs.Core.{left_pin, open_call, recorded_after, value_of, CoreHolds, IsAsk, IsAsking, IsCore, IsTurn};
-ghost use Rattle.txc_world.specs.Actors.{counted, holds_any, story_of, AddsPart, BeginLeads, HasAsked, HasBegun, HasGivenBack, HasStarted, IsActor, IsBegun, IsCallTurn, IsNoted, IsOpenTxn, RequestLeads};
+ghost use Rattle.txc_world.specs.Actors.{counted, holds_any, story_of, AddsPart, BeginLeads, HasAsked, HasBegun, HasGivenBack, HasStarted, IsActor, IsBegun, IsNoted, IsOpenTxn, RequestLeads};
+ghost use Rattle.txc_world.specs.Books.{account_of, account_of_core, nothing, ActCounts, IsFair, IsLossOf, KeepsUsers};
 ghost use Rattle.txc_world.specs.Parts.{IsPartOf};
 ghost use Rattle.txc_world.specs.Ports.{whole_of, KeepsRow};
-ghost use Rattle.txc_world.specs.Told.{act_in, did_in, idle, leaving, story_after, IsActDue, IsActReply, IsNoReceipt, ReplyExplains};
+ghost use Rattle.txc_world.specs.Told.{act_in, did_in, idle, leaving, story_after, IsActDue, IsActReply, IsNoCommit, ReplyExplains};
 
 use crate::actor::{Actor, OpenCall, OpenTxn};
 use crate::asked::Asked;
@@ -15,8 +17,10 @@ use crate::did::Did;
 use crate::ports::Ports;
 use crate::reply::{End, Refusal, Reply};
 use crate::step::Act;
+use crate::writing::{act_writing, begin_rw};
 use std::alloc::{AllocError, Global};
 use txc_cushion::Pin;
+use txc_cushion::laws::give_back_counts_users;
 use txc_ports::{Bounds, PortRequest, Turn};
 use txc_registry::{Cacheable, Registry};
 use txc_shared::App;
@@ -39,8 +43,12 @@ fn begun<A: App>(
     ensures core { IfOk result (λ core. IsBegun (whole_of ports.new) (length ports.new.nodes) bounds
         (value_of core)) }
     ensures begins { IfOk result (λ core. HasBegun renew_after bounds ports.old ports.new (value_of core)) }
+    ensures fair { IfOk result (λ core. IsFair ports.old ports.new nothing (account_of_core (value_of core))) }
+    ensures fair_again { OnErr result (IsFair ports.old ports.new nothing nothing) }
+    ensures given_back { OnErr result (KeepsUsers ports.old ports.new) }
     ensures same { ports.new ≡ record ports.old { cushion = ports.new.cushion } }
 {
+    ports.count_right();
     let nodes = ports.len();
     let pins = ports.fresh(alloc, bounds.now, bounds.staleness, bounds.at_least)?;
     match TxnCore::begin(alloc, nodes, renew_after, bounds, pins) {
@@ -62,11 +70,12 @@ fn begin_ro<A: App, C: Cacheable>(
 ) -> (Actor<A, C>, Reply)
     requires idle { AllIdle registry }
     requires nodes { 1 ≤ length ports.old.nodes }
-    ensures fits { IsActor (whole_of ports.new) (length ports.new.nodes) result.0 }
+    ensures fits { IsActor A.next (whole_of ports.new) (length ports.new.nodes) result.0 }
     ensures told { story_of result.0 ≡ story_after (Act.BeginRo bounds) result.1 idle }
-    ensures due { IsActReply (Act.BeginRo bounds) result.1 }
+    ensures due { IsActReply (Act.BeginRo bounds) idle result.1 }
     ensures leads { BeginLeads renew_after bounds ports.old ports.new result.0 result.1 }
     ensures same { ports.new ≡ record ports.old { cushion = ports.new.cushion } }
+    ensures counts { ActCounts ports.old ports.new nothing (account_of result.0) result.1 }
 {
     match begun(alloc, ports, renew_after, bounds) {
         Ok(core) => {
@@ -85,11 +94,12 @@ fn start<A: App, C: Cacheable>(
     key: &Key,
 ) -> (Actor<A, C>, Reply)
     requires { IsOpenTxn (whole_of whole.now) (length whole.now.nodes) current }
-    ensures fits { IsActor (whole_of whole.now) (length whole.now.nodes) result.0 }
+    ensures fits { IsActor A.next (whole_of whole.now) (length whole.now.nodes) result.0 }
     ensures told { story_of result.0
         ≡ story_after (Act.Start key.now) result.1 (story_of (Actor.Reading current)) }
     ensures due { IsActDue (story_of (Actor.Reading current)) (Act.Start key.now) result.1 }
     ensures leads { current.call ≡ None → HasStarted key.now current.txn result.0 }
+    ensures counts { ActCounts whole.now whole.now (account_of (Actor.Reading current)) (account_of result.0) result.1 }
 {
     let mut current = current;
     if current.call.is_some() {
@@ -153,6 +163,8 @@ fn go_on<A: App, C: Cacheable>(
         ≡ did_in result.did txn.old.core.bounds.now ports.old.database.history }
     ensures keeps { KeepsRow ports.old ports.new }
     ensures spare { ports.new.spare ≡ ports.old.spare }
+    ensures fair { IsFair ports.old ports.new (account_of_core txn.old.core) (account_of_core txn.new.core) }
+    ensures loss { IsLossOf ports.old (account_of_core txn.old.core) result.did }
 {
     txn.is_kept();
     let Asked { did, reply } = ports.ask(alloc, pass, txn.core().seen(), request);
@@ -161,9 +173,9 @@ fn go_on<A: App, C: Cacheable>(
     Went { did, turn }
 }
 
-// How the call stands at this turn: it is open still, or has ended.
-fn note(key: Key, turn: Turn) -> (Option<OpenCall>, Option<End>)
-    requires { IsCallTurn turn }
+/// How the call stands at this turn: it is open still, or has ended.
+pub(crate) fn note(key: Key, turn: Turn) -> (Option<OpenCall>, Option<End>)
+    requires { IsOfCall turn }
     ensures { IsNoted key turn result.0 result.1 }
 {
     match turn {
@@ -186,14 +198,15 @@ fn request_call<A: App, C: Cacheable>(
 ) -> (Actor<A, C>, Reply)
     requires own { pass < ports.old.actors }
     requires fits { IsOpenTxn (whole_of ports.old) (length ports.old.nodes) current }
-    ensures fits { IsActor (whole_of ports.new) (length ports.new.nodes) result.0 }
+    ensures fits { IsActor A.next (whole_of ports.new) (length ports.new.nodes) result.0 }
     ensures told { story_of result.0 ≡ story_after Act.Request result.1 (story_of (Actor.Reading current)) }
     ensures due { IsActDue (story_of (Actor.Reading current)) Act.Request result.1 }
     ensures history { ports.new.database.history
         ≡ act_in Act.Request result.1 (story_of (Actor.Reading current)) ports.old.database.history }
     ensures keeps { KeepsRow ports.old ports.new }
     ensures spare { ports.new.spare ≡ ports.old.spare }
-    ensures no_receipt { IsNoReceipt result.1 }
+    ensures no_commit { IsNoCommit result.1 }
+    ensures counts { ActCounts ports.old ports.new (account_of (Actor.Reading current)) (account_of result.0) result.1 }
     ensures leads { ForSome current.call (λ call.
         RequestLeads A.next call.key call.turn ports.old ports.new current.txn result.0 result.1) }
 {
@@ -232,19 +245,23 @@ fn leave<A: App, C: Cacheable>(
     stamp: Stamp,
 ) -> (Actor<A, C>, Reply)
     requires { AllIdle registry }
-    ensures fits { IsActor (whole_of ports.new) (length ports.new.nodes) result.0 }
+    ensures fits { IsActor A.next (whole_of ports.new) (length ports.new.nodes) result.0 }
     ensures told { story_of result.0 ≡ story_after Act.Request result.1 (leaving stamp) }
     ensures due { IsActDue (leaving stamp) Act.Request result.1 }
     ensures history { ports.new.database.history ≡ ports.old.database.history }
     ensures keeps { KeepsRow ports.old ports.new }
     ensures spare { ports.new.spare ≡ ports.old.spare }
-    ensures no_receipt { IsNoReceipt result.1 }
+    ensures no_commit { IsNoCommit result.1 }
+    ensures counts { ActCounts ports.old ports.new (record { taken = []; own = stamp ∷ [] }) (account_of result.0) result.1 }
 {
-    let did = match ports.unpin(stamp) {
-        Ok(()) => Did::Unpinned,
-        Err(error) => Did::Refused(error),
-    };
-    (Actor::Idle(registry), Reply::Asked(did, None))
+    ports.count_right();
+    match ports.unpin(stamp) {
+        Ok(()) => (Actor::Idle(registry), Reply::Asked(Did::Unpinned, None)),
+        Err(error) => (
+            Actor::Idle(registry),
+            Reply::Asked(Did::Refused(error), None),
+        ),
+    }
 }
 
 // Ends the transaction with its receipt, and gives its pins back.
@@ -253,14 +270,16 @@ fn commit<A: App, C: Cacheable>(
     current: OpenTxn<A, C>,
 ) -> (Actor<A, C>, Reply)
     requires { IsOpenTxn (whole_of ports.old) (length ports.old.nodes) current }
-    ensures fits { IsActor (whole_of ports.new) (length ports.new.nodes) result.0 }
+    ensures fits { IsActor A.next (whole_of ports.new) (length ports.new.nodes) result.0 }
     ensures told { story_of result.0 ≡ story_after Act.Commit result.1 (story_of (Actor.Reading current)) }
     ensures due { IsActDue (story_of (Actor.Reading current)) Act.Commit result.1 }
-    ensures explained { ReplyExplains A.next ports.old.database.history (story_of (Actor.Reading current))
-        result.1 }
+    ensures explained { ReplyExplains A.next ports.new.database.history
+        (length ports.old.database.history) (story_of (Actor.Reading current)) result.1 }
     ensures same { ports.new ≡ record ports.old { cushion = ports.new.cushion } }
     ensures gives_back { current.call ≡ None → HasGivenBack current.txn.core.taken ports.old ports.new }
+    ensures counts { ActCounts ports.old ports.new (account_of (Actor.Reading current)) (account_of result.0) result.1 }
 {
+    give_back_counts_users();
     let OpenTxn { txn, call } = current;
     if call.is_some() {
         return (
@@ -275,21 +294,25 @@ fn commit<A: App, C: Cacheable>(
 
 // Gives the transaction up, in the middle of a call too, and its pins back.
 fn abort<A: App, C: Cacheable>(ports: &mut Ports<A>, current: OpenTxn<A, C>) -> (Actor<A, C>, Reply)
-    ensures fits { IsActor (whole_of ports.new) (length ports.new.nodes) result.0 }
+    ensures fits { IsActor A.next (whole_of ports.new) (length ports.new.nodes) result.0 }
     ensures told { story_of result.0 ≡ story_after Act.Abort result.1 (story_of (Actor.Reading current)) }
     ensures due { IsActDue (story_of (Actor.Reading current)) Act.Abort result.1 }
     ensures left { result.1 ≡ Reply.Aborted (left_pin current.txn.core.pinning) }
     ensures same { ports.new ≡ record ports.old { cushion = ports.new.cushion } }
     ensures gives_back { HasGivenBack current.txn.core.taken ports.old ports.new }
-    ensures no_receipt { IsNoReceipt result.1 }
+    ensures no_commit { IsNoCommit result.1 }
+    ensures counts { ActCounts ports.old ports.new (account_of (Actor.Reading current)) (account_of result.0) result.1 }
 {
+    give_back_counts_users();
     let (left, registry) = current.txn.cancel();
     let _ = ports.give_back(&left.give_back);
-    let actor = match left.unpin {
-        Some(stamp) => Actor::Leaving(registry, stamp),
-        None => Actor::Idle(registry),
-    };
-    (actor, Reply::Aborted(left.unpin))
+    match left.unpin {
+        Some(stamp) => (
+            Actor::Leaving(registry, stamp),
+            Reply::Aborted(Some(stamp)),
+        ),
+        None => (Actor::Idle(registry), Reply::Aborted(None)),
+    }
 }
 
 // What an actor does that has nothing open.
@@ -302,19 +325,23 @@ fn act_idle<A: App, C: Cacheable>(
 ) -> (Actor<A, C>, Reply)
     requires idle { AllIdle registry }
     requires nodes { 1 ≤ length ports.old.nodes }
-    ensures fits { IsActor (whole_of ports.new) (length ports.new.nodes) result.0 }
+    ensures fits { IsActor A.next (whole_of ports.new) (length ports.new.nodes) result.0 }
     ensures told { story_of result.0 ≡ story_after act.now result.1 idle }
     ensures due { IsActDue idle act.now result.1 }
-    ensures same { ports.new ≡ record ports.old { cushion = ports.new.cushion } }
-    ensures no_receipt { IsNoReceipt result.1 }
+    ensures history { ports.new.database.history ≡ ports.old.database.history }
+    ensures keeps { KeepsRow ports.old ports.new }
+    ensures spare { ports.new.spare ≡ ports.old.spare }
+    ensures no_commit { IsNoCommit result.1 }
+    ensures counts { ActCounts ports.old ports.new nothing (account_of result.0) result.1 }
 {
     match act {
         Act::BeginRo(bounds) => begin_ro(alloc, ports, renew_after, registry, *bounds),
+        Act::BeginRw => begin_rw(alloc, ports, registry),
         _ => (Actor::Idle(registry), Reply::Refused(Refusal::NotOpen)),
     }
 }
 
-// What an actor does that has a transaction open.
+// What an actor does that has a read-only transaction open.
 fn act_open<A: App, C: Cacheable>(
     alloc: Global,
     ports: &mut Ports<A>,
@@ -324,21 +351,23 @@ fn act_open<A: App, C: Cacheable>(
 ) -> (Actor<A, C>, Reply)
     requires own { pass < ports.old.actors }
     requires fits { IsOpenTxn (whole_of ports.old) (length ports.old.nodes) current }
-    ensures fits { IsActor (whole_of ports.new) (length ports.new.nodes) result.0 }
+    ensures fits { IsActor A.next (whole_of ports.new) (length ports.new.nodes) result.0 }
     ensures told { story_of result.0 ≡ story_after act.now result.1 (story_of (Actor.Reading current)) }
     ensures due { IsActDue (story_of (Actor.Reading current)) act.now result.1 }
     ensures history { ports.new.database.history
         ≡ act_in act.now result.1 (story_of (Actor.Reading current)) ports.old.database.history }
-    ensures explained { ReplyExplains A.next ports.old.database.history (story_of (Actor.Reading current))
-        result.1 }
+    ensures explained { ReplyExplains A.next ports.new.database.history
+        (length ports.old.database.history) (story_of (Actor.Reading current)) result.1 }
     ensures keeps { KeepsRow ports.old ports.new }
     ensures spare { ports.new.spare ≡ ports.old.spare }
+    ensures counts { ActCounts ports.old ports.new (account_of (Actor.Reading current)) (account_of result.0) result.1 }
 {
     match act {
-        Act::BeginRo(_) => (
+        Act::BeginRo(_) | Act::BeginRw => (
             Actor::Reading(current),
             Reply::Refused(Refusal::AlreadyOpen),
         ),
+        Act::Ask(_) | Act::Write(_) => (Actor::Reading(current), Reply::Refused(Refusal::NotOpen)),
         Act::Start(key) => start(alloc, ports, current, key),
         Act::Request => request_call(alloc, ports, pass, current),
         Act::Commit => commit(ports, current),
@@ -354,17 +383,18 @@ fn act_leaving<A: App, C: Cacheable>(
     act: &Act,
 ) -> (Actor<A, C>, Reply)
     requires { AllIdle registry }
-    ensures fits { IsActor (whole_of ports.new) (length ports.new.nodes) result.0 }
+    ensures fits { IsActor A.next (whole_of ports.new) (length ports.new.nodes) result.0 }
     ensures told { story_of result.0 ≡ story_after act.now result.1 (leaving stamp) }
     ensures due { IsActDue (leaving stamp) act.now result.1 }
     ensures history { ports.new.database.history ≡ ports.old.database.history }
     ensures keeps { KeepsRow ports.old ports.new }
     ensures spare { ports.new.spare ≡ ports.old.spare }
-    ensures no_receipt { IsNoReceipt result.1 }
+    ensures no_commit { IsNoCommit result.1 }
+    ensures counts { ActCounts ports.old ports.new (record { taken = []; own = stamp ∷ [] }) (account_of result.0) result.1 }
 {
     match act {
         Act::Request => leave(ports, registry, stamp),
-        Act::BeginRo(_) => (
+        Act::BeginRo(_) | Act::BeginRw => (
             Actor::Leaving(registry, stamp),
             Reply::Refused(Refusal::AlreadyOpen),
         ),
@@ -386,19 +416,22 @@ pub(crate) fn act<A: App, C: Cacheable>(
 ) -> (Actor<A, C>, Reply)
     requires own { pass < ports.old.actors }
     requires nodes { 1 ≤ length ports.old.nodes }
-    requires fits { IsActor (whole_of ports.old) (length ports.old.nodes) actor }
-    ensures fits { IsActor (whole_of ports.new) (length ports.new.nodes) result.0 }
+    requires fits { IsActor A.next (whole_of ports.old) (length ports.old.nodes) actor }
+    ensures fits { IsActor A.next (whole_of ports.new) (length ports.new.nodes) result.0 }
     ensures told { story_of result.0 ≡ story_after act.now result.1 (story_of actor) }
     ensures due { IsActDue (story_of actor) act.now result.1 }
     ensures history { ports.new.database.history
         ≡ act_in act.now result.1 (story_of actor) ports.old.database.history }
-    ensures explained { ReplyExplains A.next ports.old.database.history (story_of actor) result.1 }
+    ensures explained { ReplyExplains A.next ports.new.database.history
+        (length ports.old.database.history) (story_of actor) result.1 }
     ensures keeps { KeepsRow ports.old ports.new }
     ensures spare { ports.new.spare ≡ ports.old.spare }
+    ensures counts { ActCounts ports.old ports.new (account_of actor) (account_of result.0) result.1 }
 {
     match actor {
         Actor::Idle(registry) => act_idle(alloc, ports, renew_after, registry, act),
         Actor::Reading(current) => act_open(alloc, ports, pass, current, act),
+        Actor::Writing(current) => act_writing(alloc, ports, current, act),
         Actor::Leaving(registry, stamp) => act_leaving(ports, registry, stamp, act),
     }
 }

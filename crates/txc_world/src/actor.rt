@@ -5,6 +5,7 @@ use std::alloc::{AllocError, Global};
 use std::mem;
 use txc_ports::Turn;
 use txc_registry::{Cacheable, Registry};
+use txc_rw::RwCore;
 use txc_shared::App;
 use txc_stamp::Stamp;
 use txc_tags::Key;
@@ -24,13 +25,22 @@ pub(crate) struct OpenTxn<A: App, C: Cacheable> {
     pub call: Option<OpenCall>,
 }
 
+/// A read-write transaction with the registry of its functions, and its call, where one is open.
+#[derive(Drop)]
+pub(crate) struct OpenRw<A: App, C: Cacheable> {
+    pub core: RwCore,
+    pub registry: Registry<A, C>,
+    pub call: Option<OpenCall>,
+}
+
 /// An actor, with the registry of its functions.
 #[derive(Drop)]
 pub(crate) enum Actor<A: App, C: Cacheable> {
     /// It has nothing open.
     Idle(Registry<A, C>),
     Reading(OpenTxn<A, C>),
-    /// It gave a transaction up, and has the hold of the stamp still to take away.
+    Writing(OpenRw<A, C>),
+    /// Its transaction has ended, and it has the hold of the stamp still to take away.
     Leaving(Registry<A, C>, Stamp),
 }
 

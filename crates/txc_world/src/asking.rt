@@ -116,6 +116,7 @@ impl<A: App> Ports<A> {
     ghost use Rattle.txc_ports.specs.Asking.{IsOfRow, IsReplyTo, MayAsk};
     ghost use Rattle.txc_db.specs.Calls.{IsAnswerable, IsQueryRefused};
     ghost use Rattle.txc_world.specs.Asks.{AskLeads, HasFound, IsAsked, IsAskedAt, ShowsPart};
+    ghost use Rattle.txc_world.specs.Books.{AskCounts};
     ghost use Rattle.txc_world.specs.Parts.{IsPartOf};
     ghost use Rattle.txc_world.specs.Ports.{whole_of, KeepsRow};
     ghost use Rattle.txc_world.specs.Told.{did_in};
@@ -124,6 +125,7 @@ impl<A: App> Ports<A> {
         ensures asked { IsAsked A.next (PortRequest.Pin now at_least) self.old self.new result }
         ensures leads { (seen : FrontValue) → AskLeads pass seen (PortRequest.Pin now at_least)
             self.old self.new result.did result.reply }
+        ensures counts { AskCounts (PortRequest.Pin now at_least) self.old self.new result.did result.reply }
     {
         let pinned = self.pin(alloc, now, at_least);
         let did = Did::of_pin(&pinned);
@@ -136,7 +138,9 @@ impl<A: App> Ports<A> {
         ensures asked { IsAsked A.next (PortRequest.AddPin pinned) self.old self.new result }
         ensures leads { (seen : FrontValue) → AskLeads pass seen (PortRequest.AddPin pinned)
             self.old self.new result.did result.reply }
+        ensures counts { AskCounts (PortRequest.AddPin pinned) self.old self.new result.did result.reply }
     {
+        self.count_right();
         let added = self.add(&pinned);
         let did = Did::of_addition(&added);
         let reply = PortReply::AddPin(pinned, added);
@@ -147,7 +151,9 @@ impl<A: App> Ports<A> {
         ensures asked { IsAsked A.next (PortRequest.Unpin stamp) self.old self.new result }
         ensures leads { (seen : FrontValue) → AskLeads pass seen (PortRequest.Unpin stamp)
             self.old self.new result.did result.reply }
+        ensures counts { AskCounts (PortRequest.Unpin stamp) self.old self.new result.did result.reply }
     {
+        self.count_right();
         match self.unpin(stamp) {
             Ok(()) => Asked {
                 did: Did::Unpinned,
@@ -174,6 +180,7 @@ impl<A: App> Ports<A> {
         ensures asked { IsAsked A.next (PortRequest.Lookup node key.now lo hi) self.old self.new result }
         ensures leads { (seen : FrontValue) → AskLeads pass seen (PortRequest.Lookup node key.now lo hi)
             self.old self.new result.did result.reply }
+        ensures counts { AskCounts (PortRequest.Lookup node key.now lo hi) self.old self.new result.did result.reply }
     {
         let hit = self.look_up(alloc, pass, node, key, lo, hi);
         let did = Did::of_lookup(&hit);
@@ -203,7 +210,9 @@ impl<A: App> Ports<A> {
         ensures asked { IsAsked A.next (PortRequest.Query query.now stamp) self.old self.new result }
         ensures leads { (seen : FrontValue) → AskLeads pass seen (PortRequest.Query query.now stamp)
             self.old self.new result.did result.reply }
+        ensures counts { AskCounts (PortRequest.Query query.now stamp) self.old self.new result.did result.reply }
     {
+        self.count_right();
         match self.find_told(alloc, query, stamp) {
             Ok((found, rows)) => asked_rows(found, rows),
             Err(refusal) => asked_refusal(&refusal),
@@ -225,6 +234,7 @@ impl<A: App> Ports<A> {
         ensures asked { IsAsked A.next (PortRequest.Insert node entry) self.old self.new result }
         ensures leads { AskLeads pass seen.now (PortRequest.Insert node entry)
             self.old self.new result.did result.reply }
+        ensures counts { AskCounts (PortRequest.Insert node entry) self.old self.new result.did result.reply }
     {
         let made = self.insert(alloc, pass, node, entry, seen);
         Asked {
@@ -255,6 +265,7 @@ impl<A: App> Ports<A> {
             → self.new.database.history ≡ did_in result.did now self.old.database.history }
         ensures keeps { KeepsRow self.old self.new }
         ensures spare { self.new.spare ≡ self.old.spare }
+        ensures counts { AskCounts request self.old self.new result.did result.reply }
     {
         match request {
             PortRequest::Pin { now, at_least } => self.ask_pin(alloc, pass, now, at_least),

@@ -1,11 +1,11 @@
 //! The steps of the keeper at the plain ports.
-ghost use Rattle.std.specs.Prelude.{◌≡◌, ◌<◌, false, true, length, slice_index, IfErr, IfNone, IfOk, IfSome};
+ghost use Rattle.std.specs.Prelude.{◌≡◌, ◌<◌, Err, false, true, length, slice_index, IfErr, IfNone, IfOk, IfSome};
 ghost use Rattle.std.specs.List.{remove};
 ghost use Rattle.txc_db.specs.DatabaseValue.{is_held, without};
 ghost use Rattle.txc_world.specs.Keeping.{stamps_of};
 
 use crate::asking::rows_found;
-use crate::did::RowsFound;
+use crate::did::{Did, RowsFound};
 use crate::nodes;
 use crate::ports::Ports;
 use std::alloc::{AllocError, Global};
@@ -16,6 +16,7 @@ use txc_rows::{Change, Query};
 use txc_shared::{Advanced, App, NodeError};
 use txc_stamp::Stamp;
 use txc_tags::TagSet;
+use txc_validity::Found;
 
 // The place of the first pin of the stamp.
 fn place_of(spare: &[Pinned], stamp: Stamp) -> Option<usize>
@@ -34,12 +35,37 @@ fn place_of(spare: &[Pinned], stamp: Stamp) -> Option<usize>
     None
 }
 
+// A refusal, as it is told and as it is handed over.
+fn told_refusal(refusal: &DbError) -> (Did, Result<Found, DbError>)
+    ensures { result ≡ (Did.Refused refusal.now, Err refusal.now) }
+{
+    let did = Did::Refused(*refusal);
+    (did, Err(*refusal))
+}
+
 impl<A: App> Ports<A> {
-    ghost use Rattle.txc_db.specs.Calls.{IsQueryRefused};
-    ghost use Rattle.txc_world.specs.Keeping.{AddSpareLeads, GiveBackLeads, IsToldAnswer, PinSpareLeads};
+    ghost use Rattle.txc_db.specs.Calls.{IsAnswerable, IsQueryRefused};
+    ghost use Rattle.txc_world.specs.Asks.{AnswerLeads, DoesTellFound, IsAnswerOf, IsToldOf};
+    ghost use Rattle.txc_world.specs.Keeping.{AddSpareLeads, CommitLeads, GiveBackLeads, IsToldAnswer, PinSpareLeads};
     ghost use Rattle.txc_world.specs.Keeping.{RetireLeads, VacuumLeads, WriteLeads};
     ghost use Rattle.txc_world.specs.NodeSteps.{AdvanceLeads, SweepLeads};
     ghost use Rattle.txc_world.specs.Ports.{whole_of, HasLedNode, KeepsRow};
+
+    /// Commits the changes, where no event after the base matches what was read.
+    pub(crate) fn commit(
+        &mut self,
+        alloc: Global,
+        base: Stamp,
+        read: &TagSet,
+        changes: &[Change],
+    ) -> Result<Stamp, DbError>
+        ensures leads { CommitLeads base read.now changes.now self.old self.new result }
+        ensures keeps { KeepsRow self.old self.new }
+    {
+        let stamp = self.database.commit(alloc, base, read, changes)?;
+        self.newest = stamp;
+        Ok(stamp)
+    }
 
     /// Commits the change at the newest stamp, with nothing read.
     pub(crate) fn write(&mut self, alloc: Global, change: &Change) -> Result<Stamp, DbError>
@@ -49,9 +75,7 @@ impl<A: App> Ports<A> {
         let read = TagSet::new(alloc);
         let base = self.newest;
         let changes = slice::from_ref(change);
-        let stamp = self.database.commit(alloc, base, &read, changes)?;
-        self.newest = stamp;
-        Ok(stamp)
+        self.commit(alloc, base, &read, changes)
     }
 
     /// Pins the present, and has its pin to add.
@@ -112,6 +136,57 @@ impl<A: App> Ports<A> {
         Ok(horizon)
     }
 
+    /// The answer of the query at the stamp.
+    pub(crate) fn answer(
+        &mut self,
+        alloc: Global,
+        query: &Query,
+        stamp: Stamp,
+    ) -> Result<Found, DbError>
+        ensures same { self.new ≡ self.old }
+        ensures leads { AnswerLeads query.now stamp self.old result }
+    {
+        match self.database.query(alloc, query, stamp) {
+            Ok(found) => Ok(found),
+            Err(refusal) => Err(refusal),
+        }
+    }
+
+    /// The answer of the query at the stamp, and what is told of it.
+    pub(crate) fn answer_told(
+        &mut self,
+        alloc: Global,
+        query: &Query,
+        stamp: Stamp,
+    ) -> (Did, Result<Found, DbError>)
+        ensures same { self.new ≡ self.old }
+        ensures leads { AnswerLeads query.now stamp self.old result.1 }
+        ensures tells { DoesTellFound result.1 result.0 }
+    {
+        match self.found_told(alloc, query, stamp) {
+            Ok((found, rows)) => (Did::Rows(rows), Ok(found)),
+            Err(refusal) => told_refusal(&refusal),
+        }
+    }
+
+    // The answer of the query, with its ids, its reach and its tags.
+    fn found_told(
+        &mut self,
+        alloc: Global,
+        query: &Query,
+        stamp: Stamp,
+    ) -> Result<(Found, RowsFound), DbError>
+        ensures same { self.new ≡ self.old }
+        ensures found { IfOk result (λ both. IsAnswerOf query.now stamp self.old both.0) }
+        ensures rows { IfOk result (λ both. IsToldOf both.0 both.1) }
+        ensures only_if { IfOk result (λ both. IsAnswerable self.old.database stamp) }
+        ensures refused { IfErr result (IsQueryRefused self.old.database query.now stamp) }
+    {
+        let found = self.database.query(alloc, query, stamp)?;
+        let rows = rows_found(alloc, &found)?;
+        Ok((found, rows))
+    }
+
     /// What is told of the answer of the query at the stamp.
     pub(crate) fn query(
         &mut self,
@@ -123,8 +198,7 @@ impl<A: App> Ports<A> {
         ensures answer { IfOk result (IsToldAnswer query.now stamp self.old) }
         ensures refused { IfErr result (IsQueryRefused self.old.database query.now stamp) }
     {
-        let found = self.database.query(alloc, query, stamp)?;
-        let rows = rows_found(alloc, &found)?;
+        let (_found, rows) = self.found_told(alloc, query, stamp)?;
         Ok(rows)
     }
 

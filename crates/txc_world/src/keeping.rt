@@ -3,6 +3,7 @@ ghost use Rattle.std.specs.Prelude.{◌≡◌, length};
 ghost use Rattle.txc_world.specs.Keeping.{stamps_of};
 ghost use Rattle.txc_world.specs.Kept.{told_addition, IsKept, KeepLeads};
 ghost use Rattle.txc_world.specs.Ports.{KeepsRow};
+ghost use Rattle.txc_world.specs.Tidy.{KeepsBalance};
 ghost use Rattle.txc_world.specs.Told.{keep_in, spare_after, IsKeepDue, IsNoReceipt};
 
 use crate::ports::Ports;
@@ -46,6 +47,7 @@ fn told_addition(added: Option<Result<(), AddError>>) -> Reply
 fn add<A: App>(ports: &mut Ports<A>, stamp: Stamp) -> Reply
     ensures { IsKept (Keep.Add stamp) ports.old ports.new result }
 {
+    ports.count_right();
     let added = ports.add_spare(stamp);
     told_addition(added)
 }
@@ -53,6 +55,7 @@ fn add<A: App>(ports: &mut Ports<A>, stamp: Stamp) -> Reply
 fn give_back<A: App>(ports: &mut Ports<A>, stamp: Stamp) -> Reply
     ensures { IsKept (Keep.GiveBack stamp) ports.old ports.new result }
 {
+    ports.count_right();
     match ports.give_back(&[stamp]) {
         Ok(()) => Reply::GivenBack,
         Err(unknown) => Reply::Refused(Refusal::GiveBack(unknown)),
@@ -62,6 +65,7 @@ fn give_back<A: App>(ports: &mut Ports<A>, stamp: Stamp) -> Reply
 fn retire<A: App>(alloc: Global, ports: &mut Ports<A>, now: u64, age: u64) -> Reply
     ensures { IsKept (Keep.Retire now age) ports.old ports.new result }
 {
+    ports.count_right();
     match ports.retire(alloc, now, age) {
         Ok(stamps) => Reply::Retired(stamps),
         Err(_) => Reply::Refused(Refusal::Memory),
@@ -71,6 +75,7 @@ fn retire<A: App>(alloc: Global, ports: &mut Ports<A>, now: u64, age: u64) -> Re
 fn unpin<A: App>(ports: &mut Ports<A>, stamp: Stamp) -> Reply
     ensures { IsKept (Keep.Unpin stamp) ports.old ports.new result }
 {
+    ports.count_right();
     match ports.unpin(stamp) {
         Ok(()) => Reply::Unpinned,
         Err(refusal) => Reply::Refused(Refusal::Database(refusal)),
@@ -127,6 +132,7 @@ pub(crate) fn keep<A: App>(alloc: Global, ports: &mut Ports<A>, keep: &Keep) -> 
     ensures due { IsKeepDue (length ports.old.nodes) (stamps_of ports.old.spare) keep.now result }
     ensures no_receipt { IsNoReceipt result }
     ensures keeps { KeepsRow ports.old ports.new }
+    ensures balance { KeepsBalance keep.now ports.old ports.new result }
 {
     match keep {
         Keep::Write(change) => write(alloc, ports, change),

@@ -10,6 +10,7 @@ mod acting;
 mod actor;
 mod asked;
 mod asking;
+mod counting;
 mod did;
 mod keeper;
 mod keeping;
@@ -20,6 +21,7 @@ mod reply;
 mod settings;
 mod step;
 mod world;
+mod writing;
 
 pub use did::{Did, RowsFound};
 pub use reply::{End, Refusal, Reply};

@@ -7,6 +7,7 @@ ghost use Rattle.txc_shared.specs.Nodes.{entry_shown};
 use crate::nodes;
 use std::alloc::{AllocError, Global};
 use std::marker::Model;
+use txc_cushion::laws::give_back_counts_users;
 use txc_cushion::{AddError, CushionCore, Pins};
 use txc_db::{Answered, DbCore, DbError, HistoryFront, Pinned};
 use txc_node::{Entry, Shown};
@@ -58,7 +59,8 @@ impl<A: App> Model for Ports<A> {
 
 impl<A: App> Ports<A> {
     ghost use Rattle.txc_ports.specs.Answers.{IsFresh};
-    ghost use Rattle.txc_world.specs.Asks.{AddLeads, FindLeads, FreshLeads, PinLeads, UnpinLeads};
+    ghost use Rattle.txc_world.specs.Asks.{AddLeads, FindLeads, FreshLeads, HoldLeads, PinLeads, UnpinLeads};
+    ghost use Rattle.txc_world.specs.Books.{handed, nothing, GivesBack, IsFair};
     ghost use Rattle.txc_world.specs.NodeSteps.{InsertLeads, LookupLeads};
     ghost use Rattle.txc_world.specs.Parts.{IsPartOf};
     ghost use Rattle.txc_world.specs.Ports.{whole_of, HasLedNode, KeepsRow};
@@ -115,6 +117,19 @@ impl<A: App> Ports<A> {
     {
         match self.database.unpin(stamp) {
             Ok(()) => Ok(()),
+            Err(refusal) => Err(refusal),
+        }
+    }
+
+    /// Holds the newest stamp.
+    pub(crate) fn hold(&mut self, alloc: Global) -> Result<Stamp, DbError>
+        ensures leads { HoldLeads self.old self.new result }
+        ensures same { self.new ≡ record self.old { database = self.new.database } }
+        ensures history { self.new.database.history ≡ self.old.database.history }
+        ensures keeps { KeepsRow self.old self.new }
+    {
+        match self.database.hold(alloc) {
+            Ok(base) => Ok(base),
             Err(refusal) => Err(refusal),
         }
     }
@@ -202,8 +217,11 @@ impl<A: App> Ports<A> {
 
     /// Gives one user of each of the pins back. It takes no memory.
     pub(crate) fn give_back_pins(&mut self, pins: &Pins)
-        ensures { self.new ≡ record self.old { cushion = self.new.cushion } }
+        ensures same { self.new ≡ record self.old { cushion = self.new.cushion } }
+        ensures fair { IsFair self.old self.new (handed pins.now.pins.items) nothing }
+        ensures users { GivesBack self.old self.new pins.now.pins.items }
     {
+        give_back_counts_users();
         for pin in &pins.pins {
             let _ = self.give_back(&[pin.stamp]);
         }

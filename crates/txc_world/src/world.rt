@@ -6,7 +6,8 @@ ghost use Rattle.txc_shared.specs.declared.log.TheConstants.{MAX_PASSES};
 ghost use Rattle.txc_shared.specs.Nodes.{start_of};
 ghost use Rattle.txc_shared.specs.Runs.{IsNode};
 ghost use Rattle.txc_registry.specs.Objects.{AllIdle};
-ghost use Rattle.txc_world.specs.Worlds.{due_of_pins, AreMembersOf};
+ghost use Rattle.txc_world.specs.Worlds.{due_of_pins, AreMembersOf, IsBalanced};
+ghost use Rattle.txc_world.specs.Tidy.{empty_purse, purse_after, purse_by, AreTidy, IsTidy, LoseNoSnapshot, LosesNoSnapshot, LosesNothing, Purse};
 ghost use Rattle.txc_world.specs.Told.{after, idle, reading, told_by, AreDue, AreExplained, AreExplainedIn, IsDue, IsExplainedIn, Reading};
 
 use crate::acting::act;
@@ -21,6 +22,7 @@ use std::marker::Model;
 use txc_cushion::Pin;
 use txc_db::DbError;
 use txc_registry::{Cacheable, Registry};
+use txc_rw::laws::transactions_stay_right;
 use txc_shared::laws::nodes_go_on;
 use txc_shared::{App, StoredNode};
 
@@ -37,7 +39,8 @@ pub struct Members<'a> {
 /// database, one pincushion and the nodes.
 ///
 /// Contracts see what is told of it: its settings; its history; the stamps of the pins that the keeper has
-/// and did not add yet; and what each actor has open.
+/// and did not add yet; and what each actor has open. They see its books too: the holds of the database, the
+/// pins of the pincushion with their users, and what each actor has of both.
 #[derive(Drop)]
 pub struct World<A: App, C: Cacheable> {
     settings: WorldSettings,
@@ -47,14 +50,13 @@ pub struct World<A: App, C: Cacheable> {
 }
 
 impl<A: App, C: Cacheable> Model for World<A, C> {
-    ghost use Rattle.txc_world.specs.Told.{Told};
-    ghost use Rattle.txc_world.specs.Worlds.{told_of, IsWorld};
+    ghost use Rattle.txc_world.specs.Worlds.{value_of, IsWorld, WorldValue};
 
-    ghost Value = { Told };
+    ghost Value = { WorldValue };
 
-    ghost view = { λ w. told_of w.settings w.ports w.actors.items };
+    ghost view = { λ w. value_of w.settings w.ports w.actors.items };
 
-    ghost invariant = { λ w. IsWorld w.settings w.ports w.actors.items };
+    ghost invariant = { λ w. IsWorld A.next w.settings w.ports w.actors.items };
 }
 
 impl<A: App, C: Cacheable> World<A, C> {
@@ -71,10 +73,11 @@ impl<A: App, C: Cacheable> World<A, C> {
         requires row_cap { (1 ≤ settings.row_cap) × (settings.row_cap ≤ MAX_ROW) }
         requires actors { vec_len registries < MAX_PASSES }
         requires all_idle { All AllIdle registries.items }
-        ensures settings { IfOk result (λ world. world.settings ≡ settings) }
-        ensures history { IfOk result (λ world. world.history ≡ []) }
-        ensures spare { IfOk result (λ world. world.spare ≡ []) }
-        ensures actors { IfOk result (λ world. world.actors ≡ map (λ registry. idle) registries.items) }
+        ensures settings { IfOk result (λ world. world.told.settings ≡ settings) }
+        ensures history { IfOk result (λ world. world.told.history ≡ []) }
+        ensures spare { IfOk result (λ world. world.told.spare ≡ []) }
+        ensures actors { IfOk result (λ world. world.told.actors ≡ map (λ registry. idle) registries.items) }
+        ensures balanced { IfOk result (λ world. IsBalanced world empty_purse) }
     {
         let ports = Ports::new(alloc, &settings, registries.len())?;
         let actors = idle_actors(alloc, registries)?;
@@ -87,11 +90,11 @@ impl<A: App, C: Cacheable> World<A, C> {
 
     /// The members of the actor's read-only transaction, and whether the present is there.
     pub fn pins(&self, place: usize) -> Result<Members<'_>, Refusal>
-        ensures due { MatchOption (due_of_pins (slice_get self.now.actors place)) (IsOk result)
+        ensures due { MatchOption (due_of_pins (slice_get self.now.told.actors place)) (IsOk result)
             (λ refusal. result ≡ Err refusal) }
         ensures members { IfOk result (λ members. (r : Reading)
-            → slice_get self.now.actors place ≡ Some (reading r)
-            → AreMembersOf A.next self.now.history r members.has_present members.pins.now) }
+            → slice_get self.now.told.actors place ≡ Some (reading r)
+            → AreMembersOf A.next self.now.told.history r members.has_present members.pins.now) }
     {
         let Some(Some(actor)) = self.actors.get(place) else {
             return Err(Refusal::NoActor);
@@ -110,8 +113,8 @@ impl<A: App, C: Cacheable> World<A, C> {
     /// A node, as it is between two steps. Unless it is broken, each result that it holds is true in the
     /// history, and it is what a legal history of records leaves, whose events are those of the history.
     pub fn node(&self, at: usize) -> &StoredNode<A>
-        requires { at < self.now.settings.nodes }
-        ensures { result.now.broken ≡ false → IsNode A.next self.now.history (start_of result.now.settings)
+        requires { at < self.now.told.settings.nodes }
+        ensures { result.now.broken ≡ false → IsNode A.next self.now.told.history (start_of result.now.settings)
             result.now.records result.now.cache false }
     {
         nodes_go_on();
@@ -122,16 +125,20 @@ impl<A: App, C: Cacheable> World<A, C> {
 
     // One step of an actor.
     fn act(&mut self, alloc: Global, place: usize, doing: &Act) -> Reply
-        ensures told { self.new ≡ after self.old (Step.Actor place doing.now) result }
-        ensures due { IsDue self.old (Step.Actor place doing.now) result }
-        ensures explained { IsExplainedIn A.next self.old.history self.old (Step.Actor place doing.now) result }
+        ensures told { self.new.told ≡ after self.old.told (Step.Actor place doing.now) result }
+        ensures due { IsDue self.old.told (Step.Actor place doing.now) result }
+        ensures explained { IsExplainedIn A.next self.new.told.history self.old.told (Step.Actor place doing.now) result }
+        ensures balanced { (purse : Purse) → IsBalanced self.old purse
+            → IsBalanced self.new purse × LosesNothing result }
     {
         if place >= self.actors.len() {
             return Reply::Refused(Refusal::NoActor);
         }
+        transactions_stay_right();
         let Some(actor) = take_out(&mut self.actors, place) else {
             unreachable!();
         };
+        self.ports.count_right();
         let renew_after = self.settings.renew_after;
         let (actor, reply) = act(alloc, &mut self.ports, renew_after, place, actor, doing);
         put_back(&mut self.actors, place, actor);
@@ -140,10 +147,13 @@ impl<A: App, C: Cacheable> World<A, C> {
 
     // One step.
     fn step(&mut self, alloc: Global, step: &Step) -> Reply
-        ensures told { self.new ≡ after self.old step.now result }
-        ensures due { IsDue self.old step.now result }
-        ensures explained { IsExplainedIn A.next self.old.history self.old step.now result }
+        ensures told { self.new.told ≡ after self.old.told step.now result }
+        ensures due { IsDue self.old.told step.now result }
+        ensures explained { IsExplainedIn A.next self.new.told.history self.old.told step.now result }
+        ensures balanced { (purse : Purse) → IsBalanced self.old purse → IsTidy step.now result purse
+            → IsBalanced self.new (purse_after step.now result purse) × LosesNoSnapshot step.now result }
     {
+        transactions_stay_right();
         match step {
             Step::Actor(place, doing) => self.act(alloc, *place, doing),
             Step::Keeper(doing) => keep(alloc, &mut self.ports, doing),
@@ -154,14 +164,24 @@ impl<A: App, C: Cacheable> World<A, C> {
     /// before the first step; out of memory later on is a reply.
     ///
     /// What it leaves is what the steps and their replies tell. A receipt is given to nobody but an actor
-    /// with a read-only transaction open, and explains the answers told of it: in the history as it was told
-    /// until then, and in that of the whole run.
+    /// with a read-only transaction open, and explains the answers told of it. Nobody but an actor with a
+    /// read-write transaction open has that committed; each answer told of it is right at its base, and at
+    /// the stamp before the event of the commit, or, where there is none, at the newest stamp. Both hold in
+    /// the history as it was told by then, and in that of the whole run.
+    ///
+    /// Where each has what is its own, as in a new world, and the list is tidy, each has so after it, and no
+    /// query of an open transaction is refused for a snapshot that is gone.
     pub fn run(&mut self, alloc: Global, steps: &[Step]) -> Result<Vec<Reply>, AllocError>
-        ensures told { IfOk result (λ replies. self.new ≡ told_by self.old steps.now replies.items) }
-        ensures explained { IfOk result (λ replies. AreExplained A.next self.old steps.now replies.items) }
+        ensures told { IfOk result (λ replies. self.new.told ≡ told_by self.old.told steps.now replies.items) }
+        ensures explained { IfOk result (λ replies. AreExplained A.next self.old.told steps.now replies.items) }
         ensures explained_in_the_end { IfOk result (λ replies.
-            AreExplainedIn A.next self.new.history self.old steps.now replies.items) }
-        ensures due { IfOk result (λ replies. AreDue self.old steps.now replies.items) }
+            AreExplainedIn A.next self.new.told.history self.old.told steps.now replies.items) }
+        ensures due { IfOk result (λ replies. AreDue self.old.told steps.now replies.items) }
+        ensures balanced { IfOk result (λ replies. (purse : Purse) → IsBalanced self.old purse
+            → AreTidy purse steps.now replies.items
+            → IsBalanced self.new (purse_by purse steps.now replies.items)) }
+        ensures tidy { IfOk result (λ replies. (purse : Purse) → IsBalanced self.old purse
+            → AreTidy purse steps.now replies.items → LoseNoSnapshot steps.now replies.items) }
         ensures each { IfOk result (λ replies. length replies.items ≡ length steps.now) }
         ensures unchanged { OnErr result (self.new ≡ self.old) }
     {

@@ -3,6 +3,7 @@ use Rattle.txc_ports.specs.Fronts.{front_of}
 use Rattle.txc_txn.proofs.Offered.{is_answered, is_right, may_ask}
 use Rattle.txc_world.proofs.Turning.{adds_next, adds_of, asked_at, counted_in, seen_next, shows_part}
 use Rattle.txc_world.specs.Ports.{whole_of}
+use Rattle.txc_world.proofs.Fairness.{fair_gone_on, loss_counted}
 use Rattle.txc_world.proofs.acting.go_on.Goals as goal
 
 pub next-turn-requires-clause-reply : goal.next-turn-requires-clause-reply
@@ -23,3 +24,17 @@ pub returns-clause-history : goal.returns-clause-history
 returns-clause-history g c =
     c.ask-did.ensures.history c.args.txn.now.core.bounds.now (asked_at c.args.txn.now.core c.args.request c.requires.asks)
     ∙ sym (rw c.counted-did.ensures (counted_in _ c.ask-did.result.did c.args.txn.now.core.bounds.now c.args.ports.now.database.history))
+
+pub returns-clause-fair : goal.returns-clause-fair
+returns-clause-fair g c =
+    fair_gone_on c.args.ports.now c.ask-did.new.self c.args.txn.now.core c.next-turn.new.self.core c.args.request c.ask-did.result.reply c.requires.asks
+    c.ask-did.ensures.counts.fair c.next-turn.ensures.taken c.next-turn.ensures.left
+
+pub returns-clause-loss : goal.returns-clause-loss
+returns-clause-loss g c =
+    rw c.counted-did.ensures
+    (loss_counted g.A.App.next c.args.txn.now.objects c.args.ports.now c.args.txn.now.core c.is_kept.ensures.fits _ c.args.request c.ask-did.result.did c.requires.asks c.ask-did.ensures.counts.gone)
+
+pub next-turn-requires-clause-right : goal.next-turn-requires-clause-right
+next-turn-requires-clause-right g c =
+    is_right g.A.App.next c.args.txn.now c.args.request c.ask-did.result.reply c.requires.asks c.ask-did.ensures.reply

@@ -3,6 +3,7 @@ use Rattle.txc_world.specs.Ports.{PortsValue, KeepsRow}
 use Rattle.txc_world.specs.Keeping.{stamps_of}
 use Rattle.txc_world.proofs.PortsLemmas.{keeps_itself}
 use Rattle.txc_world.proofs.KeptLemmas.{due_node, due_no_node, led_history, led_spare}
+use Rattle.txc_world.proofs.Balance.{balance_led}
 use Rattle.txc_world.proofs.keeping.advance.Goals as goal
 
 pub returns-in-Ok : goal.returns-in-Ok
@@ -13,6 +14,7 @@ returns-in-Ok g c = record {
   due = due_node c.args.node (length c.args.ports.now.nodes) _ _ (subst (λ n. c.args.node < n) c.len.ensures c.if-node-len.false) tt;
   no_receipt = tt;
   keeps = c.advance.ensures.keeps;
+  balance = λ purse accounts tidy h. balance_led c.args.ports.now c.advance.new.self c.args.node _ c.in-Ok.ensures.leads purse accounts h;
 }
 
 pub returns-in-Err : goal.returns-in-Err
@@ -23,6 +25,7 @@ returns-in-Err g c = record {
   due = due_node c.args.node (length c.args.ports.now.nodes) _ _ (subst (λ n. c.args.node < n) c.len.ensures c.if-node-len.false) tt;
   no_receipt = tt;
   keeps = c.advance.ensures.keeps;
+  balance = λ purse accounts tidy h. balance_led c.args.ports.now c.advance.new.self c.args.node _ c.in-Err.ensures.leads purse accounts h;
 }
 
 pub returns-then-node-len : goal.returns-then-node-len
@@ -33,4 +36,5 @@ returns-then-node-len g c = record {
   due = due_no_node c.args.node (length c.args.ports.now.nodes) _ (subst (λ n. n ≤ c.args.node) c.len.ensures c.if-node-len.true);
   no_receipt = tt;
   keeps = keeps_itself c.args.ports.now;
+  balance = λ purse accounts tidy h. h;
 }

@@ -2,6 +2,7 @@ use Rattle.std.proofs.Common.{ap, sym, subst}
 use Rattle.txc_world.specs.Ports.{PortsValue, KeepsRow}
 use Rattle.txc_world.specs.Keeping.{stamps_of}
 use Rattle.txc_world.proofs.PortsLemmas.{keeps_itself}
+use Rattle.txc_world.proofs.Balance.{balance_nothing}
 use Rattle.txc_world.proofs.keeping.query.Goals as goal
 
 pub returns-in-Ok : goal.returns-in-Ok
@@ -12,6 +13,7 @@ returns-in-Ok g c = record {
   due = tt;
   no_receipt = tt;
   keeps = subst (λ (p : PortsValue). KeepsRow c.args.ports.now p) (sym c.query.ensures.same) (keeps_itself c.args.ports.now);
+  balance = λ purse accounts tidy h. balance_nothing c.args.ports.now c.query.new.self purse accounts c.query.ensures.same h;
 }
 
 pub returns-in-Err : goal.returns-in-Err
@@ -22,4 +24,5 @@ returns-in-Err g c = record {
   due = tt;
   no_receipt = tt;
   keeps = subst (λ (p : PortsValue). KeepsRow c.args.ports.now p) (sym c.query.ensures.same) (keeps_itself c.args.ports.now);
+  balance = λ purse accounts tidy h. balance_nothing c.args.ports.now c.query.new.self purse accounts c.query.ensures.same h;
 }

@@ -1,6 +1,7 @@
 use Rattle.std.proofs.Common.{ap}
 use Rattle.txc_world.specs.Ports.{PortsValue}
 use Rattle.txc_world.specs.Keeping.{stamps_of}
+use Rattle.txc_world.proofs.Balance.{balance_nothing, keeps_unpinned}
 use Rattle.txc_world.proofs.keeping.unpin.Goals as goal
 
 pub returns-in-Ok : goal.returns-in-Ok
@@ -11,6 +12,7 @@ returns-in-Ok g c = record {
   due = tt;
   no_receipt = tt;
   keeps = c.unpin.ensures.keeps;
+  balance = keeps_unpinned c.args.ports.now c.unpin.new.self c.args.stamp c.count_right.ensures c.in-Ok.ensures.leads;
 }
 
 pub returns-in-Err : goal.returns-in-Err
@@ -21,4 +23,5 @@ returns-in-Err g c = record {
   due = tt;
   no_receipt = tt;
   keeps = c.unpin.ensures.keeps;
+  balance = λ purse accounts tidy h. balance_nothing c.args.ports.now c.unpin.new.self purse accounts c.in-Err.ensures.leads.0 h;
 }

@@ -2,6 +2,7 @@ use Rattle.std.proofs.Common.{ap}
 use Rattle.txc_world.specs.Ports.{PortsValue}
 use Rattle.txc_world.specs.Keeping.{stamps_of}
 use Rattle.txc_world.proofs.KeptLemmas.{refused_history, refused_spare, written}
+use Rattle.txc_world.proofs.Balance.{keeps_not_written, keeps_written}
 use Rattle.txc_world.proofs.keeping.write.Goals as goal
 
 pub returns-in-Ok : goal.returns-in-Ok
@@ -12,6 +13,7 @@ returns-in-Ok g c = record {
   due = tt;
   no_receipt = tt;
   keeps = c.write.ensures.keeps;
+  balance = keeps_written c.args.ports.now c.write.new.self c.args.change.now c.in-Ok.stamp c.in-Ok.ensures.leads;
 }
 
 pub returns-in-Err : goal.returns-in-Err
@@ -22,4 +24,5 @@ returns-in-Err g c = record {
   due = tt;
   no_receipt = tt;
   keeps = c.write.ensures.keeps;
+  balance = keeps_not_written c.args.ports.now c.write.new.self c.args.change.now c.in-Err.refusal c.in-Err.ensures.leads;
 }

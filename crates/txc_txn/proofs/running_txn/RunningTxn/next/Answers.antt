@@ -23,6 +23,7 @@ returns g c =
       adds = c.next.ensures.adds;
       pins = c.next.ensures.pins;
       taken = c.next.ensures.taken;
+      left = c.next.ensures.left;
       recorded = c.next.ensures.recorded;
       goes_on = c.next.ensures.goes_on;
       settings = c.next.ensures.settings;

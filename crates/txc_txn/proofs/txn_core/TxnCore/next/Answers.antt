@@ -1,5 +1,6 @@
-use Rattle.std.proofs.Common.{sym, subst}
-use Rattle.txc_txn.specs.Core.{CoreValue, CoreHolds, IsRight, value_of}
+use Rattle.std.proofs.Common.{ap, sym, subst}
+use Rattle.txc_pinset.specs.Members.{PinSetValue}
+use Rattle.txc_txn.specs.Core.{CoreValue, CoreHolds, IsRight, PinsAfter, value_of}
 use Rattle.txc_txn.specs.Leading.{ReplyLeads}
 use Rattle.txc_txn.proofs.Cores.{core_seen, holds_seen, leads_seen}
 use Rattle.txc_txn.proofs.txn_core.TxnCore.next.Goals as goal
@@ -19,3 +20,8 @@ returns-clause-leads g c =
     let next = g.A.App.next in
     leads_seen next (value_of c.args.self.now) c.see.new.self.seen c.args.registry.now c.args.reply (value_of c.answer.new.self) c.answer.new.registry c.answer.result
     (subst (λ (v : CoreValue). ReplyLeads next v c.args.registry.now c.args.reply (value_of c.answer.new.self) c.answer.new.registry c.answer.result) c.see.ensures.same c.answer.ensures.leads)
+
+pub returns-clause-pins : goal.returns-clause-pins
+returns-clause-pins g c =
+    subst (λ (p : PinSetValue). PinsAfter (record (value_of c.args.self.now) { pins = p }) c.args.reply c.answer.new.self.pins)
+    (ap (λ (v : CoreValue). v.pins) c.see.ensures.same) c.answer.ensures.pins

@@ -2,7 +2,7 @@ use Rattle.std.proofs.Common.{◌≡◌, ◌<◌, Bool, List, Some, ap, subst, s
 use Rattle.std.specs.Prelude.{slice_get}
 use Rattle.std.proofs.lemmas.Option.{slice_get-get_or}
 use Rattle.txc_cushion.specs.declared.pin.Pin.{Pin}
-use Rattle.txc_world.specs.Worlds.{AreMembersOf}
+use Rattle.txc_world.specs.Worlds.{AreMembersOf, WorldValue}
 use Rattle.txc_world.proofs.MemberLemmas.{members_there}
 use Rattle.txc_world.specs.declared.actor.Actor.TheVariants.{Reading}
 use Rattle.txc_world.proofs.world.World.pins.Goals as goal
@@ -14,9 +14,9 @@ returns-clause-members g c = λ r at.
     rw (sym c.deref.ensures.value)
     (slice_get-get_or c.deref.result.now c.args.place c.in-Some-Some.field-0.now c.in-Some-Some.ensures.lookup.3.0
     ∙ ap Some (sym c.in-Some-Some.ensures.lookup.1 ∙ held)) in
-    subst (λ (b : Bool). AreMembersOf g.A.App.next c.args.self.now.history r b c.members.result.now)
+    subst (λ (b : Bool). AreMembersOf g.A.App.next c.args.self.now.told.history r b c.members.result.now)
     (sym (c.has_present.ensures ∙ ap (λ v. v.pins.has_present) c.core-core.ensures))
-    (subst (λ (ms : List Pin). AreMembersOf g.A.App.next c.args.self.now.history r c.in-Reading.current.txn.core.pins.has_present ms)
+    (subst (λ (ms : List Pin). AreMembersOf g.A.App.next c.args.self.now.told.history r c.in-Reading.current.txn.core.pins.has_present ms)
     (sym (c.members.ensures ∙ ap (λ v. v.pins.members) c.core-core.ensures))
-    (members_there g.A.App.next c.self.inside.settings c.self.inside.ports c.self.inside.actors.items c.args.place c.in-Reading.current c.args.self.now r
-    c.is_kept.ensures c.self.invariant lies c.self.view_is at))
+    (members_there g.A.App.next c.self.inside.settings c.self.inside.ports c.self.inside.actors.items c.args.place c.in-Reading.current c.args.self.now.told r
+    c.is_kept.ensures c.self.invariant lies (ap (λ (w : WorldValue). w.told) c.self.view_is) at))

@@ -1,0 +1,172 @@
+-- Each step leaves to each what is its own.
+use Rattle.std.proofs.Common.{◌≡◌, ◌∙◌, ℕ, ◌+◌, ◌<◌, ◌≤◌, true, false, List, [], ◌∷◌, ◌++◌, length, map, Result, Ok, Err, Option, Some, None, Vec, refl, ap, sym, subst, arith, slice_get, slice_set}
+use Rattle.std.specs.declared.alloc.Global.{Global}
+use Rattle.std.proofs.lemmas.List.{map-append}
+use Rattle.txc_rows.specs.declared.query.Change.{Change}
+use Rattle.txc_db.specs.declared.error.DbError.{DbError}
+use Rattle.txc_db.specs.declared.pinned.Pinned.{Pinned}
+use Rattle.txc_db.specs.Facts.{EventValue}
+use Rattle.txc_db.specs.History.{commit_event}
+use Rattle.txc_db.specs.DatabaseValue.{after_commit, after_event_of, newest_net, newest_state, where_some, DatabaseValue}
+use Rattle.txc_cushion.specs.declared.error.AddError.{AddError}
+use Rattle.txc_cushion.specs.declared.error.UnknownPin.{UnknownPin}
+use Rattle.txc_cushion.specs.Cushion.{retired}
+use Rattle.txc_cushion.specs.Entries.{stamps_of, times, users_of}
+use Rattle.txc_world.specs.declared.step.Keep.{Keep}
+use Rattle.txc_world.specs.declared.step.Keep.TheVariants as keeps
+use Rattle.txc_world.specs.declared.reply.Reply.{Reply}
+use Rattle.txc_world.specs.declared.reply.Reply.TheVariants as replies
+use Rattle.txc_world.specs.declared.reply.Reply.TheVariants.{Refused}
+use Rattle.txc_world.specs.declared.reply.Refusal.TheVariants as refusals
+use Rattle.txc_shared.specs.Nodes.{NodeValue}
+use Rattle.txc_world.specs.Ports.{PortsValue, HasLedNode, HasRefused}
+use Rattle.txc_world.specs.Asks.{UnpinLeads}
+use Rattle.txc_world.specs.Keeping.{stamps_of as stamps_of_pins, GiveBackLeads, HasAddedSpare, AddSpareLeads, PinSpareLeads, RetireLeads, WriteLeads}
+use Rattle.txc_world.specs.Books.{books_of, times_own, times_taken, Account, CountRight}
+use Rattle.txc_world.specs.Tidy.{purse_kept, AreBalanced, IsTidyKeep, KeepsBalance, Purse}
+use Rattle.txc_world.specs.Kept.{told_addition}
+use Rattle.txc_world.proofs.KeptLemmas.{pinned_spare_stamps}
+use Rattle.txc_world.proofs.Times.{held_there, times_append, times_cons, times_one, times_without}
+use Rattle.txc_world.proofs.Fairness.{left_holds, pin_holds}
+
+module _ (old new : PortsValue) where
+  -- a step that leaves holds and pins, and the keeper's pins
+  pub balance_same : (purse : Purse) (accounts : List Account) → new.database.holds ≡ old.database.holds → new.cushion ≡ old.cushion
+      → stamps_of_pins new.spare ≡ stamps_of_pins old.spare → AreBalanced (stamps_of_pins old.spare) (books_of old accounts) purse
+      → AreBalanced (stamps_of_pins new.spare) (books_of new accounts) purse
+  balance_same purse accounts holds cushion spare h = rw (holds, cushion, spare) (record { held = h.held; used = h.used })
+
+  pub balance_nothing : (purse : Purse) (accounts : List Account) → new ≡ old → AreBalanced (stamps_of_pins old.spare) (books_of old accounts) purse
+      → AreBalanced (stamps_of_pins new.spare) (books_of new accounts) purse
+  balance_nothing purse accounts same h = rw same h
+
+  pub balance_led : (at : ℕ) (leads : NodeValue → NodeValue → Type 0) → HasLedNode at leads old new → (purse : Purse) (accounts : List Account)
+      → AreBalanced (stamps_of_pins old.spare) (books_of old accounts) purse → AreBalanced (stamps_of_pins new.spare) (books_of new accounts) purse
+  balance_led at leads led purse accounts h = rw led.is (record { held = h.held; used = h.used })
+
+  balance_refused : (e : DbError) → HasRefused old new e → (purse : Purse) (accounts : List Account)
+      → AreBalanced (stamps_of_pins old.spare) (books_of old accounts) purse → AreBalanced (stamps_of_pins new.spare) (books_of new accounts) purse
+  balance_refused e h purse accounts b = balance_same purse accounts (left_holds old.database new.database e h.left)
+      (ap (λ (p : PortsValue). p.cushion) h.is) (ap (λ (p : PortsValue). stamps_of_pins p.spare) h.is) b
+
+pub committed_holds : (d : DatabaseValue) (net : List Change) (other : DatabaseValue) → other.holds ≡ d.holds → (where_some net d other).holds ≡ d.holds
+committed_holds d [] other same = refl
+committed_holds d (c ∷ cs) other same = same
+
+-- ---- the database
+
+module _ (old new : PortsValue) where
+  pub keeps_written : (change : Change) (stamp : ℕ) → WriteLeads change old new (Ok stamp) → KeepsBalance (keeps.Write change) old new (replies.At stamp)
+  keeps_written change stamp leads = λ purse accounts tidy h.
+      let d = old.database in
+      let holds : new.database.holds ≡ old.database.holds =
+          ap (λ (p : PortsValue). p.database.holds) leads.0
+          ∙ committed_holds d (newest_net d (change ∷ [])) (after_event_of d (commit_event (newest_state d) (change ∷ [])) (newest_net d (change ∷ []))) refl in
+      balance_same old new purse accounts holds (ap (λ (p : PortsValue). p.cushion) leads.0) (ap (λ (p : PortsValue). stamps_of_pins p.spare) leads.0) h
+
+  pub keeps_not_written : (change : Change) (e : DbError) → WriteLeads change old new (Err e) → KeepsBalance (keeps.Write change) old new (Refused (refusals.Database e))
+  keeps_not_written change e leads = λ purse accounts tidy h. balance_refused old new e leads.0 purse accounts h
+
+  pub keeps_not_pinned : (now : ℕ) (e : DbError) → PinSpareLeads now old new (Err e) → KeepsBalance (keeps.Pin now) old new (Refused (refusals.Database e))
+  keeps_not_pinned now e leads = λ purse accounts tidy h. balance_refused old new e leads.0 purse accounts h
+
+  pub keeps_pinned : (now stamp : ℕ) → PinSpareLeads now old new (Ok stamp) → KeepsBalance (keeps.Pin now) old new (replies.At stamp)
+  keeps_pinned now stamp leads = λ purse accounts tidy h.
+      let pinned = leads.pinned in
+      let holds : new.database.holds ≡ old.database.holds ++ pinned.stamp ∷ [] =
+          pin_holds old (record new { spare = old.spare }) now pinned.stamp (ap (λ (p : PortsValue). p.database) leads.made.after) leads.made.stamp in
+      let cushion : new.cushion ≡ old.cushion = ap (λ (p : PortsValue). p.cushion) leads.made.after in
+      rw (holds, cushion, pinned_spare_stamps old new now stamp leads, leads.stamp_is) (record {
+        held = λ t.
+            let a = h.held t in
+            let b = times_append t (stamps_of_pins old.spare) (pinned.stamp ∷ []) in
+            let c = times_append t old.database.holds (pinned.stamp ∷ []) in
+            omega (arith, a, b, c);
+        used = h.used;
+      })
+
+  pub keeps_unpinned : (stamp : ℕ) → CountRight old → UnpinLeads {A = Unit {0}} stamp old new (Ok tt) → KeepsBalance (keeps.Unpin stamp) old new replies.Unpinned
+  keeps_unpinned stamp right leads = λ purse accounts tidy h. rw leads.0 (record {
+    held = λ t.
+        let a = h.held t in
+        let b = times_without right.unpin t stamp old.database.holds leads.1 in
+        let c = times_without right.unpin t stamp purse.owed (held_there stamp purse.owed tidy) in
+        omega (arith, a, b, c);
+    used = h.used;
+  })
+
+  -- ---- the pincushion
+
+  keeps_added : (stamp : ℕ) → CountRight old → HasAddedSpare {A = Unit {0}} stamp old new (Ok tt) → KeepsBalance (keeps.Add stamp) old new replies.Added
+  keeps_added stamp right leads = λ purse accounts tidy h.
+      let pinned = leads.pinned in
+      let holds : new.database.holds ≡ old.database.holds = ap (λ (p : PortsValue). p.database.holds) leads.added.0 in
+      rw (holds, ap (λ (p : PortsValue). p.cushion) leads.added.0, leads.spare) (record {
+        held = λ t.
+            let a = h.held t in
+            let one = right.add old.cushion pinned t right.cushion leads.added.1 in
+            let b = one.stamps in
+            let c = times_without right.unpin t stamp (stamps_of_pins old.spare) leads.held in
+            let d = ap (λ (s : ℕ). times t (s ∷ [])) leads.stamp_is in
+            let e = times_one t pinned.stamp in
+            let f = times_one t stamp in
+            omega (arith, a, b, c, d, e, f);
+        used = λ t.
+            let a = h.used t in
+            let one = right.add old.cushion pinned t right.cushion leads.added.1 in
+            let b = one.users in
+            let c = times_cons t stamp purse.lent in
+            let d = ap (λ (s : ℕ). times t (s ∷ [])) leads.stamp_is in
+            let e = times_one t pinned.stamp in
+            let f = times_one t stamp in
+            omega (arith, a, b, c, d, e, f);
+      })
+
+  keeps_not_added : (stamp : ℕ) (e : AddError) → CountRight old → HasAddedSpare {A = Unit {0}} stamp old new (Err e) → KeepsBalance (keeps.Add stamp) old new (Refused (refusals.Pincushion e))
+  keeps_not_added stamp e right leads = λ purse accounts tidy h.
+      let holds : new.database.holds ≡ old.database.holds = ap (λ (p : PortsValue). p.database.holds) leads.added.0 in
+      rw (holds, ap (λ (p : PortsValue). p.cushion) leads.added.0, leads.spare) (record {
+        held = λ t.
+            let a = h.held t in
+            let b = times_without right.unpin t stamp (stamps_of_pins old.spare) leads.held in
+            let c = times_cons t stamp purse.owed in
+            let d = times_one t stamp in
+            omega (arith, a, b, c, d);
+        used = h.used;
+      })
+
+  pub keeps_addition : (stamp : ℕ) (added : Option (Result (Unit {0}) AddError)) → CountRight old → AddSpareLeads stamp old new added → KeepsBalance (keeps.Add stamp) old new (told_addition added)
+  keeps_addition stamp (Some (Ok tt)) right leads = keeps_added stamp right leads
+  keeps_addition stamp (Some (Err e)) right leads = keeps_not_added stamp e right leads
+  keeps_addition stamp None right leads = λ purse accounts tidy h. balance_nothing old new purse accounts leads.0 h
+
+  pub keeps_given_back : (stamp : ℕ) → CountRight old → GiveBackLeads {A = Unit {0}} (stamp ∷ []) old new (Ok tt) → KeepsBalance (keeps.GiveBack stamp) old new replies.GivenBack
+  keeps_given_back stamp right leads = λ purse accounts tidy h. rw leads.0 (record {
+    held = λ t.
+        let a = h.held t in
+        let one = right.give_back old.cushion (stamp ∷ []) t leads.1 in
+        let b = ap (times t) one.stamps in
+        omega (arith, a, b);
+    used = λ t.
+        let a = h.used t in
+        let one = right.give_back old.cushion (stamp ∷ []) t leads.1 in
+        let b = one.users in
+        let c = times_without right.unpin t stamp purse.lent (held_there stamp purse.lent tidy) in
+        omega (arith, a, b, c);
+  })
+
+  pub keeps_retired : (now age : ℕ) (stamps : Vec ℕ Global) → CountRight old → RetireLeads {A = Unit {0}} now age old new (Ok stamps)
+      → KeepsBalance (keeps.Retire now age) old new (replies.Retired stamps)
+  keeps_retired now age stamps right leads = λ purse accounts tidy h. rw (leads.0, leads.1) (record {
+    held = λ t.
+        let a = h.held t in
+        let one = right.retire old.cushion now age t right.cushion in
+        let b = one.stamps in
+        let c = times_append t (retired old.cushion now age) purse.owed in
+        omega (arith, a, b, c);
+    used = λ t.
+        let a = h.used t in
+        let one = right.retire old.cushion now age t right.cushion in
+        let b = one.users in
+        omega (arith, a, b);
+  })

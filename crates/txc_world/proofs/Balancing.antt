@@ -1,0 +1,215 @@
+-- What stays in balance over a world and over a list of steps.
+use Rattle.std.proofs.Common.{◌≡◌, ◌∙◌, ℕ, ◌+◌, ◌<◌, ◌≤◌, true, false, List, [], ◌∷◌, ◌++◌, length, map, Result, Ok, Err, Option, Some, None, refl, ap, sym, subst, arith, slice_get, slice_set, take, get_or, add-one, length-take-le}
+use Rattle.std.proofs.Math.Seq.{take-length, take-suc}
+use Rattle.std.specs.Prelude.{sum_by}
+use Rattle.std.proofs.lemmas.List.Sums.{sum_by-cons}
+use Rattle.std.proofs.lemmas.Option.{slice_get-map}
+use Rattle.std.proofs.lemmas.List.{map-set}
+use Rattle.std.specs.Option.{option_map}
+use Rattle.txc_db.specs.declared.error.DbError.TheVariants as errors
+use Rattle.txc_cushion.specs.Entries.{stamps_of, times, users_of}
+use Rattle.txc_world.specs.declared.actor.Actor.{Actor}
+use Rattle.txc_world.specs.declared.did.Did.{Did}
+use Rattle.txc_world.specs.declared.did.Did.TheVariants as dids
+use Rattle.txc_world.specs.declared.reply.Reply.{Reply}
+use Rattle.txc_world.specs.declared.reply.Reply.TheVariants as replies
+use Rattle.txc_world.specs.declared.reply.End.{End}
+use Rattle.txc_world.specs.declared.reply.Refusal.TheVariants as refusals
+use Rattle.txc_ports.specs.declared.error.TxnError.TheVariants as txns
+use Rattle.txc_world.specs.declared.settings.WorldSettings.{WorldSettings}
+use Rattle.txc_world.specs.declared.step.Step.{Step}
+use Rattle.txc_world.specs.Ports.{PortsValue}
+use Rattle.txc_world.specs.Keeping.{stamps_of as stamps_of_pins}
+use Rattle.txc_world.specs.Books.{account_at, account_of, books_of, nothing, times_own, times_taken, Account, ActCounts, CountRight, HasLost, IsFair, IsLossOf}
+use Rattle.txc_world.specs.Tidy.{empty_purse, purse_after, purse_by, AreBalanced, AreTidy, IsTidy, LoseNoSnapshot, LosesNoSnapshot, LosesNothing, Purse}
+use Rattle.txc_world.specs.Worlds.{value_of, IsBalanced, WorldValue}
+use Rattle.txc_world.proofs.Times.{sum_at, sum_set}
+use Rattle.txc_world.proofs.Stepping.{set_twice}
+
+-- ---- a new world
+
+module _ {A C X : Type 0} (start : X → Option (Actor A C)) (starts : (x : X) → account_at (start x) ≡ nothing) where
+  none_have : (count : Account → ℕ) → count nothing ≡ 0 → (xs : List X) → sum_by count (map account_at (map start xs)) ≡ 0
+  none_have count none [] = refl
+  none_have count none (x ∷ xs) =
+      let all = sum_by-cons count (account_at (start x)) (map account_at (map start xs)) in
+      let first = ap count (starts x) in
+      let rest = none_have count none xs in
+      omega (arith, all, first, rest, none)
+
+  pub new_balanced : (settings : WorldSettings) (ports : PortsValue) (actors : List (Option (Actor A C))) (xs : List X)
+      → ports.database.holds ≡ [] → ports.cushion.entries ≡ [] → ports.spare ≡ [] → actors ≡ map start xs → IsBalanced (value_of settings ports actors) empty_purse
+  new_balanced settings ports actors xs holds entries spare is = rw (holds, entries, spare, is) (record {
+    held = λ t. let none = none_have (λ (a : Account). times t a.own) refl xs in omega (arith, none);
+    used = λ t. let none = none_have (λ (a : Account). times t a.taken) refl xs in omega (arith, none);
+  })
+
+-- ---- an actor steps
+
+module _ (old new : PortsValue) (accounts : List Account) (place : ℕ) (before after : Account) (there : slice_get accounts place ≡ Some before) (spare : List ℕ) (purse : Purse) where
+  acts_balanced : IsFair old new before after → AreBalanced spare (books_of old accounts) purse → AreBalanced spare (books_of new (slice_set accounts place after)) purse
+  acts_balanced fair h = record {
+    held = λ t.
+        let a = h.held t in
+        let b = fair.holds t in
+        let c = sum_set (λ (x : Account). times t x.own) accounts place before after there in
+        omega (arith, a, b, c);
+    used = λ t.
+        let a = h.used t in
+        let b = fair.users t in
+        let c = sum_set (λ (x : Account). times t x.taken) accounts place before after there in
+        omega (arith, a, b, c);
+  }
+
+  -- what an actor has is held
+  none_lost : CountRight old → AreBalanced spare (books_of old accounts) purse → HasLost old before → ⊥
+  none_lost right h lost =
+      let t = lost.stamp in
+      let a = h.held t in
+      let b = h.used t in
+      let c = sum_at (λ (x : Account). times t x.own) accounts place before there in
+      let d = sum_at (λ (x : Account). times t x.taken) accounts place before there in
+      let e = lost.had in
+      let gone = lost.lost in
+      let once = right.once old.cushion t right.cushion in
+      let pins : times t (stamps_of old.cushion.entries) ≡ 0 = omega (arith, a, gone) in
+      let users = once.1 pins in
+      absurd (omega (arith, a, b, c, d, e, gone, users))
+
+  did_not_lose : (did : Did) (end : Option End) → CountRight old → AreBalanced spare (books_of old accounts) purse → IsLossOf old before did → LosesNothing (replies.Asked did end)
+  did_not_lose (dids.Refused (errors.SnapshotGone horizon)) end right h lost = none_lost right h lost
+  did_not_lose (dids.Refused (errors.Conflict first)) end right h lost = tt
+  did_not_lose (dids.Refused errors.Full) end right h lost = tt
+  did_not_lose (dids.Refused (errors.Store cause)) end right h lost = tt
+  did_not_lose (dids.Refused errors.Broken) end right h lost = tt
+  did_not_lose (dids.Refused (errors.NotPinned named)) end right h lost = tt
+  did_not_lose (dids.Refused (errors.FutureStamp last)) end right h lost = tt
+  did_not_lose (dids.Refused errors.HoldsFull) end right h lost = tt
+  did_not_lose (dids.Refused errors.Memory) end right h lost = tt
+  did_not_lose (dids.Pinned stamp) end right h lost = tt
+  did_not_lose dids.Added end right h lost = tt
+  did_not_lose (dids.NotAdded e) end right h lost = tt
+  did_not_lose dids.Unpinned end right h lost = tt
+  did_not_lose (dids.Hit reach) end right h lost = tt
+  did_not_lose dids.Miss end right h lost = tt
+  did_not_lose (dids.Rows rows) end right h lost = tt
+  did_not_lose (dids.Stored reach) end right h lost = tt
+  did_not_lose dids.Kept end right h lost = tt
+  did_not_lose dids.Dropped end right h lost = tt
+
+  loses_nothing : (reply : Reply) → CountRight old → AreBalanced spare (books_of old accounts) purse → ActCounts old new before after reply → LosesNothing reply
+  loses_nothing (replies.Asked did end) right h counts = did_not_lose did end right h counts.loss
+  loses_nothing replies.Begun right h counts = tt
+  loses_nothing replies.Started right h counts = tt
+  loses_nothing (replies.Ended end) right h counts = tt
+  loses_nothing (replies.Receipt pin) right h counts = tt
+  loses_nothing (replies.Aborted left) right h counts = tt
+  loses_nothing (replies.At stamp) right h counts = tt
+  loses_nothing replies.Added right h counts = tt
+  loses_nothing replies.GivenBack right h counts = tt
+  loses_nothing (replies.Retired stamps) right h counts = tt
+  loses_nothing replies.Unpinned right h counts = tt
+  loses_nothing (replies.Vacuumed horizon) right h counts = tt
+  loses_nothing (replies.Rows found) right h counts = tt
+  loses_nothing (replies.Advanced advanced) right h counts = tt
+  loses_nothing (replies.Swept count) right h counts = tt
+  loses_nothing (replies.Based base) right h counts = tt
+  loses_nothing (replies.Answered rows) right h counts = tt
+  loses_nothing replies.Kept right h counts = tt
+  loses_nothing (replies.Refused refusals.NoActor) right h counts = tt
+  loses_nothing (replies.Refused refusals.NoNode) right h counts = tt
+  loses_nothing (replies.Refused refusals.AlreadyOpen) right h counts = tt
+  loses_nothing (replies.Refused refusals.NotOpen) right h counts = tt
+  loses_nothing (replies.Refused refusals.MidCall) right h counts = tt
+  loses_nothing (replies.Refused refusals.NoRequest) right h counts = tt
+  loses_nothing (replies.Refused (refusals.Database e)) right h counts = tt
+  loses_nothing (replies.Refused (refusals.Pincushion e)) right h counts = tt
+  loses_nothing (replies.Refused (refusals.GiveBack e)) right h counts = tt
+  loses_nothing (replies.Refused (refusals.Node e)) right h counts = tt
+  loses_nothing (replies.Refused refusals.Memory) right h counts = tt
+  loses_nothing (replies.Refused (refusals.Transaction (txns.SnapshotLost horizon))) right h counts = none_lost right h counts.loss
+  loses_nothing (replies.Refused (refusals.Transaction (txns.Call cause))) right h counts = tt
+  loses_nothing (replies.Refused (refusals.Transaction (txns.Database cause))) right h counts = tt
+  loses_nothing (replies.Refused (refusals.Transaction txns.PinsFull)) right h counts = tt
+  loses_nothing (replies.Refused (refusals.Transaction txns.BufferFull)) right h counts = tt
+  loses_nothing (replies.Refused (refusals.Transaction txns.Memory)) right h counts = tt
+
+module _ {A C : Type 0} (settings : WorldSettings) (old new : PortsValue) (actors : List (Option (Actor A C))) (place : ℕ) (actor actor' : Actor A C)
+    (is : slice_get actors place ≡ Some (Some actor)) where
+  account_there : slice_get (map account_at actors) place ≡ Some (account_of actor)
+  account_there = slice_get-map account_at actors place ∙ ap (λ (o : Option (Option (Actor A C))). option_map account_at o) is
+
+  pub world_balanced : (actors' : List (Option (Actor A C))) (was now : WorldValue) (reply : Reply) (purse : Purse)
+      → actors' ≡ slice_set (slice_set actors place None) place (Some actor') → new.spare ≡ old.spare → CountRight old
+      → ActCounts old new (account_of actor) (account_of actor') reply
+      → value_of settings old actors ≡ was → value_of settings new actors' ≡ now → IsBalanced was purse → IsBalanced now purse × LosesNothing reply
+  world_balanced actors' was now reply purse put spare right counts shows shows' h =
+      let h' = subst (λ (w : WorldValue). IsBalanced w purse) (sym shows) h in
+      let b = acts_balanced old new (map account_at actors) place (account_of actor) (account_of actor') account_there (stamps_of_pins old.spare) purse counts.fair h' in
+      (
+        subst (λ (w : WorldValue). IsBalanced w purse) shows' (rw (put, set_twice actors place None (Some actor'), spare, map-set account_at actors place (Some actor')) b),
+        loses_nothing old new (map account_at actors) place (account_of actor) (account_of actor') account_there (stamps_of_pins old.spare) purse reply right h' counts,
+      )
+
+-- ---- one more step and its reply
+
+pub tidy_first : (purse : Purse) (steps : List Step) (replies : List Reply) (step : Step) (reply : Reply) → length replies ≡ length steps
+    → AreTidy purse (steps ++ step ∷ []) (replies ++ reply ∷ []) → AreTidy purse steps replies × IsTidy step reply (purse_by purse steps replies)
+tidy_first purse [] [] step reply e h = (tt, h.0)
+tidy_first purse [] (r ∷ rs) step reply e h = absurd (cc e)
+tidy_first purse (s ∷ ss) [] step reply e h = absurd (cc e)
+tidy_first purse (s ∷ ss) (r ∷ rs) step reply e h =
+    let e' : length rs ≡ length ss = cc in
+    let rest = tidy_first (purse_after s r purse) ss rs step reply e' h.1 in
+    ((h.0, rest.0), rest.1)
+
+pub purse_more : (purse : Purse) (steps : List Step) (replies : List Reply) (step : Step) (reply : Reply) → length replies ≡ length steps
+    → purse_by purse (steps ++ step ∷ []) (replies ++ reply ∷ []) ≡ purse_after step reply (purse_by purse steps replies)
+purse_more purse [] [] step reply e = refl
+purse_more purse [] (r ∷ rs) step reply e = absurd (cc e)
+purse_more purse (s ∷ ss) [] step reply e = absurd (cc e)
+purse_more purse (s ∷ ss) (r ∷ rs) step reply e =
+    let e' : length rs ≡ length ss = cc in purse_more (purse_after s r purse) ss rs step reply e'
+
+pub lose_more : (steps : List Step) (replies : List Reply) (step : Step) (reply : Reply) → length replies ≡ length steps
+    → LoseNoSnapshot steps replies → LosesNoSnapshot step reply → LoseNoSnapshot (steps ++ step ∷ []) (replies ++ reply ∷ [])
+lose_more [] [] step reply e h k = (k, tt)
+lose_more [] (r ∷ rs) step reply e h k = absurd (cc e)
+lose_more (s ∷ ss) [] step reply e h k = absurd (cc e)
+lose_more (s ∷ ss) (r ∷ rs) step reply e h k =
+    let e' : length rs ≡ length ss = cc in (h.0, lose_more ss rs step reply e' h.1 k)
+
+-- ---- the loop over the steps
+
+-- each list that is tidy leaves each what is its own, and loses no snapshot
+abbrev pub StaysBalanced : WorldValue → WorldValue → List Step → List Reply → Type 0
+StaysBalanced start now steps replies = (purse : Purse) → IsBalanced start purse → AreTidy purse steps replies
+    → IsBalanced now (purse_by purse steps replies) × LoseNoSnapshot steps replies
+
+module _ (steps : List Step) (i : ℕ) (step : Step) (within : i < length steps) where
+  one_more : step ≡ get_or steps i step → take (i + 1) steps ≡ take i steps ++ step ∷ []
+  one_more is = ap (λ n. take n steps) (add-one i) ∙ take-suc steps i step within ∙ ap (λ s. take i steps ++ s ∷ []) (sym is)
+
+  as_many : (replies : List Reply) → length replies ≡ i → length replies ≡ length (take i steps)
+  as_many replies even = let less : i ≤ length steps = omega (arith, within) in let long = length-take-le i steps less in even ∙ sym long
+
+  pub loop_tidy : (replies : List Reply) (reply : Reply) → step ≡ get_or steps i step → length replies ≡ i
+      → (start now new : WorldValue) → StaysBalanced start now (take i steps) replies
+      → ((purse : Purse) → IsBalanced now purse → IsTidy step reply purse → IsBalanced new (purse_after step reply purse) × LosesNoSnapshot step reply)
+      → StaysBalanced start new (take (i + 1) steps) (replies ++ reply ∷ [])
+  loop_tidy replies reply is even start now new h k = rw (one_more is) (λ purse b tidy.
+      let long = as_many replies even in
+      let parts = tidy_first purse (take i steps) replies step reply long tidy in
+      let before = h purse b parts.0 in
+      let last = k (purse_by purse (take i steps) replies) before.0 parts.1 in
+      (
+        subst (IsBalanced new) (sym (purse_more purse (take i steps) replies step reply long)) last.0,
+        lose_more (take i steps) replies step reply long before.1 last.1,
+      ))
+
+pub loop_tidy_end : (steps : List Step) (i : ℕ) (replies : List Reply) → length steps ≤ i → i ≤ length steps
+    → (start now : WorldValue) → StaysBalanced start now (take i steps) replies → StaysBalanced start now steps replies
+loop_tidy_end steps i replies past within start now h =
+    let at : i ≡ length steps = omega (arith, past, within) in
+    let all : take i steps ≡ steps = ap (λ n. take n steps) at ∙ take-length steps in
+    subst (λ (ss : List Step). StaysBalanced start now ss replies) all h

@@ -1,0 +1,373 @@
+-- What a transaction's requests do to holds and users.
+use Rattle.std.proofs.Common.{◌≡◌, ◌∙◌, ℕ, zero, suc, ◌+◌, ◌<◌, ◌≤◌, ◌==◌, Bool, true, false, cond, List, [], ◌∷◌, ◌++◌, length, map, ◌&&◌, All, Contains, Result, Ok, Err, Option, Some, None, refl, ap, sym, subst, inl, inr, arith, eqb-true, length-append, get_or, drop, add-one}
+use Rattle.std.proofs.Math.Seq.{drop-cons}
+use Rattle.std.proofs.lemmas.List.{drop_all}
+use Rattle.std.proofs.lemmas.List.Elements.{All-head}
+use Rattle.std.specs.Prelude.{if◌then◌else◌}
+use Rattle.std.specs.List.{AllByRecursion}
+use Rattle.txc_stamp.specs.Interval.{Interval}
+use Rattle.txc_tags.specs.Keys.{Call}
+use Rattle.txc_rows.specs.declared.query.Query.{Query}
+use Rattle.txc_validity.specs.declared.answer.Found.{Found}
+use Rattle.txc_node.specs.declared.entry.Entry.{Entry}
+use Rattle.txc_node.specs.declared.hit.Shown.{Shown}
+use Rattle.txc_db.specs.declared.answered.Answered.{Answered}
+use Rattle.txc_db.specs.declared.error.DbError.{DbError}
+use Rattle.txc_db.specs.declared.error.DbError.TheVariants as errors
+use Rattle.txc_db.specs.declared.pinned.Pinned.{Pinned}
+use Rattle.txc_db.specs.History.{History, pin_event}
+use Rattle.txc_db.specs.DatabaseValue.{after_pin, after_unpin, is_held, newest, DatabaseValue, IsReadable, IsSound}
+use Rattle.txc_db.specs.Calls.{IsLeft, IsPinRefused, IsQueryRefused, IsUnpinRefused}
+use Rattle.txc_cushion.specs.declared.error.AddError.{AddError}
+use Rattle.txc_cushion.specs.declared.entry.PinEntry.{PinEntry}
+use Rattle.txc_cushion.specs.declared.pin.Pin.{Pin}
+use Rattle.txc_cushion.specs.Entries.{stamps_of, times, users_of}
+use Rattle.txc_cushion.specs.Cushion.{after_add, CushionValue}
+use Rattle.txc_cushion.specs.declared.error.UnknownPin.{UnknownPin}
+use Rattle.txc_cushion.specs.declared.pins.Pins.{Pins}
+use Rattle.txc_cushion.specs.Laws.{GiveBackCountsUsers}
+use Rattle.txc_cushion.specs.Pinning.{is_older}
+use Rattle.txc_pinset.specs.declared.choice.Choice.TheVariants.{Present, At}
+use Rattle.txc_pinset.specs.Members.{choice_among}
+use Rattle.txc_shared.specs.declared.insertion.Insertion.{Insertion}
+use Rattle.txc_shared.specs.declared.insertion.Insertion.TheVariants as insertions
+use Rattle.txc_shared.specs.Eval.{Next}
+use Rattle.txc_shared.specs.Nodes.{NodeValue}
+use Rattle.txc_registry.specs.Objects.{Objects}
+use Rattle.txc_ports.specs.declared.request.PortRequest.{PortRequest}
+use Rattle.txc_ports.specs.declared.request.PortRequest.TheVariants as requests
+use Rattle.txc_ports.specs.declared.reply.PortReply.{PortReply}
+use Rattle.txc_ports.specs.declared.reply.PortReply.TheVariants as replies
+use Rattle.txc_txn.specs.Core.{left_after, left_pin, taken_after, CoreValue, IsAsking, IsCore}
+use Rattle.txc_world.specs.declared.did.Did.{Did}
+use Rattle.txc_world.specs.declared.did.Did.TheVariants as dids
+use Rattle.txc_world.specs.Ports.{PortsValue, HasLedNode}
+use Rattle.txc_world.specs.Asks.{did_insert, AddLeads, DoesTell, FreshLeads, PinLeads, UnpinLeads}
+use Rattle.txc_world.specs.Keeping.{GiveBackLeads}
+use Rattle.txc_world.specs.declared.did.RowsFound.{RowsFound}
+use Rattle.txc_world.specs.declared.reply.Reply.{Reply}
+use Rattle.txc_world.specs.Actors.{counted, holds_any}
+use Rattle.txc_world.specs.Books.{account_of_core, gained, handed, listed, nothing, spent, Account, ActCounts, AskCounts, CountRight, HasLost, IsFair, IsGone, IsLossOf, ReplyIsLossOf}
+use Rattle.txc_world.proofs.Times.{times_append, times_cons, times_off, times_one, times_there, times_without}
+
+-- ---- what is fair
+
+-- as many holds, and the same pins, with the same users
+pub fair_same : (old new : PortsValue) (before after : Account) → new.database.holds ≡ old.database.holds → new.cushion ≡ old.cushion
+    → ((stamp : ℕ) → times stamp after.own ≤ times stamp before.own) → ((stamp : ℕ) → times stamp after.taken ≤ times stamp before.taken)
+    → IsFair old new before after
+fair_same old new before after holds cushion own taken = record {
+  holds = λ t. rw (holds, cushion) (let less = own t in omega (arith, less));
+  users = λ t. rw cushion (let less = taken t in omega (arith, less));
+}
+
+pub fair_itself : (p : PortsValue) (a : Account) → IsFair p p a a
+fair_itself p a = fair_same p p a a refl refl (λ t. omega arith) (λ t. omega arith)
+
+-- the database holds one stamp more, which is the actor's
+pub fair_hold : (old new : PortsValue) (taken : List ℕ) (stamp : ℕ) → new.database.holds ≡ old.database.holds ++ stamp ∷ [] → new.cushion ≡ old.cushion
+    → IsFair old new (record { taken = taken; own = [] }) (record { taken = taken; own = stamp ∷ [] })
+fair_hold old new taken stamp holds cushion = record {
+  holds = λ t. rw (holds, cushion) (let all = times_append t old.database.holds (stamp ∷ []) in omega (arith, all));
+  users = λ t. rw cushion (omega arith);
+}
+
+-- one hold of the actor's is taken away, or the database refuses, which lets it go
+pub fair_unpin : {A : Type 0} → (old new : PortsValue) (taken : List ℕ) (stamp : ℕ) (done : Result A DbError) → CountRight old → UnpinLeads stamp old new done
+    → IsFair old new (record { taken = taken; own = stamp ∷ [] }) (record { taken = taken; own = [] })
+fair_unpin old new taken stamp (Ok done) right leads = rw leads.0 (record {
+  holds = λ t. let less = times_without right.unpin t stamp old.database.holds leads.1 in omega (arith, less);
+  users = λ t. omega arith;
+})
+fair_unpin old new taken stamp (Err e) right leads = rw leads.0 (record {
+  holds = λ t. omega arith;
+  users = λ t. omega arith;
+})
+
+-- one step after another
+pub fair_then : (old between new : PortsValue) (a b c : Account) → IsFair old between a b → IsFair between new b c → IsFair old new a c
+fair_then old between new a b c first second = record {
+  holds = λ t. let x = first.holds t in let y = second.holds t in omega (arith, x, y);
+  users = λ t. let x = first.users t in let y = second.users t in omega (arith, x, y);
+}
+
+-- pins are handed out, each with one user more
+pub fair_fresh : (old new : PortsValue) (now staleness at_least : ℕ) (pins : Pins) → CountRight old → FreshLeads {A = Unit {0}} now staleness at_least old new (Ok pins)
+    → IsFair old new nothing (handed pins.pins.items)
+fair_fresh old new now staleness at_least pins right leads = rw (leads.0, leads.1) (record {
+  holds = λ t. let one = right.fresh old.cushion now staleness at_least t right.cushion in let same = ap (times t) one.stamps in omega (arith, same);
+  users = λ t. let one = right.fresh old.cushion now staleness at_least t right.cushion in let more = one.users in omega (arith, more);
+})
+
+-- users are given back, or the pincushion refuses
+pub fair_give_back : {A : Type 0} → (old new : PortsValue) (stamps : List ℕ) (given : Result A UnknownPin) → GiveBackCountsUsers → GiveBackLeads stamps old new given
+    → (taken left own rest : List ℕ) → ((t : ℕ) → times t left + times t stamps ≤ times t taken) → ((t : ℕ) → times t rest ≤ times t own)
+    → IsFair old new (record { taken = taken; own = own }) (record { taken = left; own = rest })
+fair_give_back old new stamps (Ok given) law leads taken left own rest less fewer_own = rw leads.0 (record {
+  holds = λ t. let one = law old.cushion stamps t leads.1 in let same = ap (times t) one.stamps in let o = fewer_own t in omega (arith, same, o);
+  users = λ t. let one = law old.cushion stamps t leads.1 in let fewer = one.users in let l = less t in omega (arith, fewer, l);
+})
+fair_give_back old new stamps (Err unknown) law leads taken left own rest less fewer_own = rw leads.0 (record {
+  holds = λ t. let o = fewer_own t in omega (arith, o);
+  users = λ t. let l = less t in omega (arith, l);
+})
+
+-- ---- what is gone
+
+none_held : (stamp horizon last : ℕ) (holds : List ℕ) → stamp < horizon → AllByRecursion (IsReadable horizon last) holds → times stamp holds ≡ 0
+none_held stamp horizon last [] below all = refl
+none_held stamp horizon last (h ∷ hs) below all = go (h == stamp) refl (none_held stamp horizon last hs below all.1)
+  where
+    go : (b : Bool) → (h == stamp) ≡ b → times stamp hs ≡ 0 → times stamp (h ∷ hs) ≡ 0
+    go true is none = let same : h ≡ stamp = eqb-true h stamp is in let low = all.0.low in absurd (omega (arith, low, same, below))
+    go false is none = times_off stamp h hs is ∙ none
+
+module _ (p : PortsValue) (right : CountRight p) where
+  pub gone_query : (query : Query) (stamp : ℕ) (e : DbError) → IsQueryRefused p.database query stamp e → IsGone (requests.Query query stamp) p (dids.Refused e)
+  gone_query query stamp (errors.SnapshotGone horizon) h =
+      none_held stamp p.database.horizon (newest p.database) p.database.holds h.1 (right.sound h.0).held
+  gone_query query stamp (errors.Conflict first) h = tt
+  gone_query query stamp errors.Full h = tt
+  gone_query query stamp (errors.Store cause) h = tt
+  gone_query query stamp errors.Broken h = tt
+  gone_query query stamp (errors.NotPinned named) h = tt
+  gone_query query stamp (errors.FutureStamp last) h = tt
+  gone_query query stamp errors.HoldsFull h = tt
+  gone_query query stamp errors.Memory h = tt
+
+gone_pin : (p : PortsValue) (now at_least : ℕ) (e : DbError) → IsPinRefused p.database at_least e → IsGone (requests.Pin now at_least) p (dids.Refused e)
+gone_pin p now at_least (errors.SnapshotGone horizon) h = h
+gone_pin p now at_least (errors.Conflict first) h = tt
+gone_pin p now at_least errors.Full h = tt
+gone_pin p now at_least (errors.Store cause) h = tt
+gone_pin p now at_least errors.Broken h = tt
+gone_pin p now at_least (errors.NotPinned named) h = tt
+gone_pin p now at_least (errors.FutureStamp last) h = tt
+gone_pin p now at_least errors.HoldsFull h = tt
+gone_pin p now at_least errors.Memory h = tt
+
+gone_unpin : (p : PortsValue) (stamp : ℕ) (e : DbError) → IsUnpinRefused p.database stamp e → IsGone (requests.Unpin stamp) p (dids.Refused e)
+gone_unpin p stamp (errors.SnapshotGone horizon) h = h
+gone_unpin p stamp (errors.Conflict first) h = tt
+gone_unpin p stamp errors.Full h = tt
+gone_unpin p stamp (errors.Store cause) h = tt
+gone_unpin p stamp errors.Broken h = tt
+gone_unpin p stamp (errors.NotPinned named) h = tt
+gone_unpin p stamp (errors.FutureStamp last) h = tt
+gone_unpin p stamp errors.HoldsFull h = tt
+gone_unpin p stamp errors.Memory h = tt
+
+-- ---- requests
+
+pub left_holds : (old new : DatabaseValue) (e : DbError) → IsLeft old new e → new.holds ≡ old.holds
+left_holds old new (errors.SnapshotGone horizon) left = ap (λ (d : DatabaseValue). d.holds) left
+left_holds old new (errors.Conflict first) left = ap (λ (d : DatabaseValue). d.holds) left
+left_holds old new errors.Full left = ap (λ (d : DatabaseValue). d.holds) left
+left_holds old new (errors.Store cause) left = ap (λ (d : DatabaseValue). d.holds) left
+left_holds old new errors.Broken (inl same) = ap (λ (d : DatabaseValue). d.holds) same.0
+left_holds old new errors.Broken (inr broke) = broke.holds
+left_holds old new (errors.NotPinned stamp) left = ap (λ (d : DatabaseValue). d.holds) left
+left_holds old new (errors.FutureStamp last) left = ap (λ (d : DatabaseValue). d.holds) left
+left_holds old new errors.HoldsFull left = ap (λ (d : DatabaseValue). d.holds) left
+left_holds old new errors.Memory left = ap (λ (d : DatabaseValue). d.holds) left
+
+-- a pin holds the stamp of its event
+pub pin_holds : (old new : PortsValue) (now stamp : ℕ) → new.database ≡ after_pin old.database now → stamp ≡ newest new.database
+    → new.database.holds ≡ old.database.holds ++ stamp ∷ []
+pin_holds old new now stamp is at =
+    let next : newest new.database ≡ newest old.database + 1 = ap newest is ∙ length-append old.database.history (pin_event now ∷ []) in
+    ap (λ (d : DatabaseValue). d.holds) is ∙ ap (λ (s : ℕ). old.database.holds ++ s ∷ []) (sym (at ∙ next))
+
+module _ (old new : PortsValue) where
+  pub counts_pin : (now at_least : ℕ) (pinned : Result Pinned DbError) (did : Did) → PinLeads now at_least old new pinned → DoesTell (replies.Pin pinned) did
+      → AskCounts (requests.Pin now at_least) old new did (replies.Pin pinned)
+  counts_pin now at_least (Ok pinned) did h told = rw told (record {
+    fair = fair_hold old new [] pinned.stamp (pin_holds old new now pinned.stamp (ap (λ (p : PortsValue). p.database) h.after) h.stamp) (ap (λ (p : PortsValue). p.cushion) h.after);
+    gone = tt;
+  })
+  counts_pin now at_least (Err e) did h told = rw told (record {
+    fair = fair_same old new nothing nothing (left_holds old.database new.database e h.0.left) (ap (λ (p : PortsValue). p.cushion) h.0.is) (λ t. omega arith) (λ t. omega arith);
+    gone = gone_pin old now at_least e h.1;
+  })
+
+  pub counts_add : (pinned : Pinned) (added : Result (Unit {0}) AddError) (did : Did) → CountRight old → AddLeads pinned old new added → DoesTell (replies.AddPin pinned added) did
+      → AskCounts (requests.AddPin pinned) old new did (replies.AddPin pinned added)
+  counts_add pinned (Ok added) did right h told = rw (told, h.0) (record {
+    fair = record {
+      holds = λ t. let one = right.add old.cushion pinned t right.cushion h.1 in let a = one.stamps in let b = times_one t pinned.stamp in omega (arith, a, b);
+      users = λ t. let one = right.add old.cushion pinned t right.cushion h.1 in let a = one.users in let b = times_one t pinned.stamp in omega (arith, a, b);
+    };
+    gone = tt;
+  })
+  counts_add pinned (Err e) did right h told = rw (told, h.0) (record { fair = fair_itself old (spent (requests.AddPin pinned)); gone = tt })
+
+  pub counts_unpin : (stamp : ℕ) → CountRight old → UnpinLeads {A = Unit {0}} stamp old new (Ok tt) → AskCounts (requests.Unpin stamp) old new dids.Unpinned replies.Unpin
+  counts_unpin stamp right h = record { fair = fair_unpin {A = Unit {0}} old new [] stamp (Ok tt) right h; gone = tt }
+
+  pub counts_not_unpinned : (stamp : ℕ) (e : DbError) → CountRight old → UnpinLeads {A = Unit {0}} stamp old new (Err e)
+      → AskCounts (requests.Unpin stamp) old new (dids.Refused e) replies.Unpin
+  counts_not_unpinned stamp e right h = record { fair = fair_unpin {A = Unit {0}} old new [] stamp (Err e) right h; gone = gone_unpin old stamp e h.1 }
+
+  -- a node led on leaves holds and users
+  fair_led : (at : ℕ) (leads : NodeValue → NodeValue → Type 0) → HasLedNode at leads old new → IsFair old new nothing nothing
+  fair_led at leads led =
+      fair_same old new nothing nothing (ap (λ (p : PortsValue). p.database.holds) led.is) (ap (λ (p : PortsValue). p.cushion) led.is) (λ t. omega arith) (λ t. omega arith)
+
+  pub counts_lookup : (at : ℕ) (key : Call) (lo hi : ℕ) (leads : NodeValue → NodeValue → Type 0) (hit : Option (Answered Shown)) (did : Did)
+      → HasLedNode at leads old new → DoesTell (replies.Lookup hit) did → AskCounts (requests.Lookup at key lo hi) old new did (replies.Lookup hit)
+  counts_lookup at key lo hi leads (Some hit) did led told = rw told (record { fair = fair_led at leads led; gone = tt })
+  counts_lookup at key lo hi leads None did led told = rw told (record { fair = fair_led at leads led; gone = tt })
+
+  not_gone : (at : ℕ) (entry : Entry) (made : Option Insertion) → IsGone (requests.Insert at entry) old (did_insert made)
+  not_gone at entry (Some (insertions.Stored reach)) = tt
+  not_gone at entry (Some insertions.Kept) = tt
+  not_gone at entry None = tt
+
+  pub counts_insert : (at : ℕ) (entry : Entry) (leads : NodeValue → NodeValue → Type 0) (made : Option Insertion) (did : Did)
+      → HasLedNode at leads old new → did ≡ did_insert made → AskCounts (requests.Insert at entry) old new did replies.Insert
+  counts_insert at entry leads made did led is = rw is (record { fair = fair_led at leads led; gone = not_gone at entry made })
+
+-- a query changes nothing
+module _ (old new : PortsValue) (same : new ≡ old) (query : Query) (stamp : ℕ) where
+  fair_query : IsFair old new nothing nothing
+  fair_query = rw same (fair_itself old nothing)
+
+  pub counts_rows : (found : Answered Found) (rows : RowsFound) → AskCounts (requests.Query query stamp) old new (dids.Rows rows) (replies.Query (Ok found))
+  counts_rows found rows = record { fair = fair_query; gone = tt }
+
+  pub counts_refusal : (e : DbError) → CountRight old → IsQueryRefused old.database query stamp e
+      → AskCounts (requests.Query query stamp) old new (dids.Refused e) (replies.Query (Err e))
+  counts_refusal e right refused = record { fair = fair_query; gone = gone_query old right query stamp e refused }
+
+-- ---- a transaction goes on
+
+-- what a request spends is all that the transaction has of its own
+spends : (c : CoreValue) (request : PortRequest) → IsAsking c request → spent request ≡ record { taken = []; own = listed (left_pin c.pinning) }
+spends c (requests.Fresh bounds) asking = absurd asking
+spends c (requests.Pin now at_least) asking = rw asking.0.1 refl
+spends c (requests.AddPin pinned) asking = rw asking.1 refl
+spends c (requests.Unpin stamp) asking = rw asking.1.1 refl
+spends c (requests.Lookup node key lo hi) asking = rw asking.0.0 refl
+spends c (requests.Query query stamp) asking = rw asking.0.0 refl
+spends c (requests.Insert node entry) asking = rw asking.0.0 refl
+spends c (requests.GiveBack stamps) asking = absurd asking
+spends c requests.Hold asking = absurd asking
+spends c (requests.Commit base read changes) asking = absurd asking
+
+-- what a reply brings comes to what was taken before
+brings : (t : ℕ) (taken : List ℕ) (reply : PortReply) → times t (taken_after taken reply) ≡ times t taken + times t (taken_after [] reply)
+brings t taken (replies.AddPin pinned (Ok added)) = times_append t taken (pinned.stamp ∷ [])
+brings t taken (replies.AddPin pinned (Err e)) = omega arith
+brings t taken (replies.Fresh pins) = omega arith
+brings t taken (replies.Pin pinned) = omega arith
+brings t taken replies.Unpin = omega arith
+brings t taken (replies.Lookup hit) = omega arith
+brings t taken (replies.Query found) = omega arith
+brings t taken replies.Insert = omega arith
+brings t taken replies.GiveBack = omega arith
+brings t taken (replies.Hold held) = omega arith
+brings t taken (replies.Commit committed) = omega arith
+
+pub fair_gone_on : (old new : PortsValue) (c c' : CoreValue) (request : PortRequest) (reply : PortReply) → IsAsking c request → IsFair old new (spent request) (gained reply)
+    → c'.taken ≡ taken_after c.taken reply → left_pin c'.pinning ≡ left_after reply → IsFair old new (account_of_core c) (account_of_core c')
+fair_gone_on old new c c' request reply asking fair taken left =
+    let fair' : IsFair old new (record { taken = []; own = listed (left_pin c.pinning) }) (gained reply) = subst (λ (a : Account). IsFair old new a (gained reply)) (spends c request asking) fair in
+    rw (taken, left) (record {
+      holds = fair'.holds;
+      users = λ t. let all = brings t c.taken reply in let less = fair'.users t in omega (arith, all, less);
+    })
+
+-- where the next query runs at a stamp, that is a member's, which was taken
+newest_taken : (now renew_after : ℕ) (present : Bool) (members : List Pin) (taken : List ℕ) (stamp : ℕ)
+    → choice_among now renew_after present members ≡ At stamp → All (λ m. Contains taken m.stamp) members → 0 < times stamp taken
+newest_taken now renew_after present [] taken stamp is all = absurd (cc is)
+newest_taken now renew_after present (newest ∷ older) taken stamp is all = go (present && is_older renew_after now newest) refl
+  where
+    first : 0 < times newest.stamp taken
+    first = times_there newest.stamp taken (All-head (λ (m : Pin). Contains taken m.stamp) newest older all)
+    go : (b : Bool) → (present && is_older renew_after now newest) ≡ b → 0 < times stamp taken
+    go true due = let no : Present ≡ At stamp = rw due at is in absurd (cc no)
+    go false due = let same : At newest.stamp ≡ At stamp = rw due at is in let at : newest.stamp ≡ stamp = cc in subst (λ (s : ℕ). 0 < times s taken) at first
+
+module _ (next : Next) (objects : Objects) (p : PortsValue) (c : CoreValue) (fits : IsCore next objects c) where
+  lost : (request : PortRequest) (horizon : ℕ) → IsAsking c request → IsGone request p (dids.Refused (errors.SnapshotGone horizon)) → HasLost p (account_of_core c)
+  lost (requests.Query query stamp) horizon asking gone = record {
+    stamp = stamp;
+    had = let some = newest_taken c.bounds.now c.renew_after c.pins.has_present c.pins.members c.taken stamp asking.1 fits.taken in omega (arith, some);
+    lost = gone;
+  }
+  lost (requests.Fresh bounds) horizon asking gone = absurd asking
+  lost (requests.Pin now at_least) horizon asking gone = absurd gone
+  lost (requests.AddPin pinned) horizon asking gone = absurd gone
+  lost (requests.Unpin stamp) horizon asking gone = absurd gone
+  lost (requests.Lookup node key lo hi) horizon asking gone = absurd gone
+  lost (requests.Insert node entry) horizon asking gone = absurd gone
+  lost (requests.GiveBack stamps) horizon asking gone = absurd asking
+  lost requests.Hold horizon asking gone = absurd asking
+  lost (requests.Commit base read changes) horizon asking gone = absurd asking
+
+  lost_refused : (request : PortRequest) (e : DbError) → IsAsking c request → IsGone request p (dids.Refused e) → IsLossOf p (account_of_core c) (dids.Refused e)
+  lost_refused request (errors.SnapshotGone horizon) asking gone = lost request horizon asking gone
+  lost_refused request (errors.Conflict first) asking gone = tt
+  lost_refused request errors.Full asking gone = tt
+  lost_refused request (errors.Store cause) asking gone = tt
+  lost_refused request errors.Broken asking gone = tt
+  lost_refused request (errors.NotPinned named) asking gone = tt
+  lost_refused request (errors.FutureStamp last) asking gone = tt
+  lost_refused request errors.HoldsFull asking gone = tt
+  lost_refused request errors.Memory asking gone = tt
+
+  lost_hit : (members : List Pin) (reach : Interval) (b : Bool) → IsLossOf p (account_of_core c) (if b then dids.Hit reach else dids.Miss)
+  lost_hit members reach true = tt
+  lost_hit members reach false = tt
+
+  pub loss_counted : (members : List Pin) (request : PortRequest) (did : Did) → IsAsking c request → IsGone request p did → IsLossOf p (account_of_core c) (counted members did)
+  loss_counted members request (dids.Refused e) asking gone = lost_refused request e asking gone
+  loss_counted members request (dids.Hit reach) asking gone = lost_hit members reach (holds_any reach members)
+  loss_counted members request (dids.Pinned stamp) asking gone = tt
+  loss_counted members request dids.Added asking gone = tt
+  loss_counted members request (dids.NotAdded e) asking gone = tt
+  loss_counted members request dids.Unpinned asking gone = tt
+  loss_counted members request dids.Miss asking gone = tt
+  loss_counted members request (dids.Rows rows) asking gone = tt
+  loss_counted members request (dids.Stored reach) asking gone = tt
+  loss_counted members request dids.Kept asking gone = tt
+  loss_counted members request dids.Dropped asking gone = tt
+
+-- ---- the ends of a transaction
+
+-- all that was taken is given back; a hold is left, if one was there
+pub fair_ended : {A : Type 0} → (old new : PortsValue) (c : CoreValue) (stamps : List ℕ) (given : Result A UnknownPin) → GiveBackCountsUsers → GiveBackLeads stamps old new given
+    → stamps ≡ c.taken → (rest : List ℕ) → ((t : ℕ) → times t rest ≤ times t (listed (left_pin c.pinning))) → IsFair old new (account_of_core c) (record { taken = []; own = rest })
+fair_ended old new c stamps given law leads same rest fewer =
+    fair_give_back old new stamps given law leads c.taken [] (listed (left_pin c.pinning)) rest (λ t. rw same (omega arith)) fewer
+
+pub loss_unpin : (p : PortsValue) (a : Account) (stamp : ℕ) (e : DbError) → IsUnpinRefused p.database stamp e → IsLossOf p a (dids.Refused e)
+loss_unpin p a stamp (errors.SnapshotGone horizon) h = absurd h
+loss_unpin p a stamp (errors.Conflict first) h = tt
+loss_unpin p a stamp errors.Full h = tt
+loss_unpin p a stamp (errors.Store cause) h = tt
+loss_unpin p a stamp errors.Broken h = tt
+loss_unpin p a stamp (errors.NotPinned named) h = tt
+loss_unpin p a stamp (errors.FutureStamp last) h = tt
+loss_unpin p a stamp errors.HoldsFull h = tt
+loss_unpin p a stamp errors.Memory h = tt
+
+-- a step that leaves the ports and the account
+pub counts_itself : (p : PortsValue) (a : Account) (reply : Reply) → ReplyIsLossOf p a reply → ActCounts p p a a reply
+counts_itself p a reply loss = record { fair = fair_itself p a; loss = loss }
+
+-- one pin after another is given back
+pub fair_rest : {A : Type 0} → (old between new : PortsValue) (pins : List Pin) (i : ℕ) (pin : Pin) (given : Result A UnknownPin) → GiveBackCountsUsers
+    → GiveBackLeads (pin.stamp ∷ []) between new given → i < length pins → pin ≡ get_or pins i pin → IsFair old between (handed pins) (handed (drop i pins))
+    → IsFair old new (handed pins) (handed (drop (i + 1) pins))
+fair_rest old between new pins i pin given law leads within is fair =
+    let rest = drop (i + 1) pins in
+    let first : drop i pins ≡ pin ∷ rest = drop-cons pins i pin within ∙ (ap (λ (p : Pin). p ∷ drop (suc i) pins) (sym is) ∙ ap (λ (n : ℕ). pin ∷ drop n pins) (sym (add-one i))) in
+    let one : (t : ℕ) → times t (map (λ p. p.stamp) rest) + times t (pin.stamp ∷ []) ≤ times t (map (λ p. p.stamp) (drop i pins)) =
+    λ t. rw first (let all = times_cons t pin.stamp (map (λ (p : Pin). p.stamp) rest) in let own = times_one t pin.stamp in omega (arith, all, own)) in
+    fair_then old between new (handed pins) (handed (drop i pins)) (handed rest) fair
+    (fair_give_back between new (pin.stamp ∷ []) given law leads (map (λ (p : Pin). p.stamp) (drop i pins)) (map (λ (p : Pin). p.stamp) rest) [] [] one (λ t. omega arith))
+
+pub fair_all : (old new : PortsValue) (pins : List Pin) (i : ℕ) → length pins ≤ i → IsFair old new (handed pins) (handed (drop i pins)) → IsFair old new (handed pins) nothing
+fair_all old new pins i past fair = rw (drop_all i pins past) at fair

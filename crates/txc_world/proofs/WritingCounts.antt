@@ -1,0 +1,154 @@
+-- What read-write transactions do to holds.
+use Rattle.std.proofs.Common.{◌≡◌, ◌∙◌, ℕ, zero, ◌+◌, ◌<◌, ◌≤◌, List, [], ◌∷◌, ◌++◌, length, Result, Ok, Err, Option, Some, None, refl, ap, sym, subst, arith}
+use Rattle.txc_tags.specs.declared.tag.Tag.{Tag}
+use Rattle.txc_rows.specs.declared.query.Change.{Change}
+use Rattle.txc_rows.specs.declared.query.Query.{Query}
+use Rattle.txc_validity.specs.declared.answer.Found.{Found}
+use Rattle.txc_db.specs.declared.error.DbError.{DbError}
+use Rattle.txc_db.specs.declared.error.DbError.TheVariants as errors
+use Rattle.txc_db.specs.History.{commit_event}
+use Rattle.txc_db.specs.DatabaseValue.{after_event_of, newest_net, newest_state, DatabaseValue}
+use Rattle.txc_db.specs.Calls.{IsQueryRefused}
+use Rattle.txc_cushion.specs.Entries.{times}
+use Rattle.txc_ports.specs.declared.error.TxnError.{TxnError}
+use Rattle.txc_ports.specs.declared.error.TxnError.TheVariants as txns
+use Rattle.txc_ports.specs.declared.request.PortRequest.TheVariants as requests
+use Rattle.txc_ports.specs.declared.turn.Turn.{Turn}
+use Rattle.txc_ports.specs.declared.turn.Turn.TheVariants as turns
+use Rattle.txc_ports.specs.Refusals.{refused_request}
+use Rattle.txc_rw.specs.Core.{IsAsked, IsWriteRefused}
+use Rattle.txc_rw.specs.Leading.{RowsLead}
+use Rattle.txc_world.specs.declared.did.Did.{Did}
+use Rattle.txc_world.specs.declared.did.Did.TheVariants as dids
+use Rattle.txc_world.specs.declared.reply.Reply.{Reply}
+use Rattle.txc_world.specs.declared.reply.Reply.TheVariants as replies
+use Rattle.txc_world.specs.declared.reply.Refusal.TheVariants as refusals
+use Rattle.txc_world.specs.Ports.{PortsValue}
+use Rattle.txc_world.specs.Actors.{IsToldQuery}
+use Rattle.txc_world.specs.Asks.{AnswerLeads, DoesTellFound, HoldLeads}
+use Rattle.txc_world.specs.Books.{nothing, Account, ActCounts, CountRight, HasLost, IsFair, IsGone, IsLossOf, ReplyIsLossOf, TurnIsLossOf}
+use Rattle.txc_world.specs.Keeping.{CommitLeads}
+use Rattle.txc_world.proofs.Balance.{committed_holds}
+use Rattle.txc_world.proofs.Fairness.{counts_itself, fair_hold, fair_itself, fair_same, gone_query, left_holds}
+use Rattle.txc_world.proofs.Times.{times_there}
+
+-- the account of a transaction with the hold of its base
+abbrev pub based : ℕ → Account
+based base = record { taken = []; own = base ∷ [] }
+
+-- ---- queries at the base
+
+base_lost : (p : PortsValue) (base : ℕ) → times base p.database.holds ≡ 0 → HasLost p (based base)
+base_lost p base gone = record {
+  stamp = base;
+  had = let some = times_there base (base ∷ []) (zero, omega arith, refl) in omega (arith, some);
+  lost = gone;
+}
+
+module _ (p : PortsValue) (base : ℕ) where
+  gone_lost : (query : Query) (e : DbError) → IsGone (requests.Query query base) p (dids.Refused e) → IsLossOf p (based base) (dids.Refused e)
+  gone_lost query (errors.SnapshotGone horizon) gone = base_lost p base gone
+  gone_lost query (errors.Conflict first) gone = tt
+  gone_lost query errors.Full gone = tt
+  gone_lost query (errors.Store cause) gone = tt
+  gone_lost query errors.Broken gone = tt
+  gone_lost query (errors.NotPinned stamp) gone = tt
+  gone_lost query (errors.FutureStamp last) gone = tt
+  gone_lost query errors.HoldsFull gone = tt
+  gone_lost query errors.Memory gone = tt
+
+  turn_lost : (query : Query) (e : DbError) → IsGone (requests.Query query base) p (dids.Refused e) → TurnIsLossOf p (based base) (turns.Refused (refused_request e))
+  turn_lost query (errors.SnapshotGone horizon) gone = base_lost p base gone
+  turn_lost query (errors.Conflict first) gone = tt
+  turn_lost query errors.Full gone = tt
+  turn_lost query (errors.Store cause) gone = tt
+  turn_lost query errors.Broken gone = tt
+  turn_lost query (errors.NotPinned stamp) gone = tt
+  turn_lost query (errors.FutureStamp last) gone = tt
+  turn_lost query errors.HoldsFull gone = tt
+  turn_lost query errors.Memory gone = tt
+
+  -- of a query of the open call
+  pub loss_told : (query : Query) (found : Result Found DbError) (did : Did) → CountRight p → AnswerLeads query base p found → DoesTellFound found did → IsLossOf p (based base) did
+  loss_told query (Ok found) did right leads told = rw told.1 tt
+  loss_told query (Err e) did right leads told = rw told (gone_lost query e (gone_query p right query base e leads))
+
+  -- of a query of its own
+  pub loss_asked : (a : Account) (query : Query) (stamp : ℕ) (turn : Turn) → IsAsked query stamp turn → TurnIsLossOf p a turn
+  loss_asked a query stamp (turns.Ask request) asked = tt
+  loss_asked a query stamp (turns.Refused error) asked = rw asked tt
+  loss_asked a query stamp turns.Begun asked = tt
+  loss_asked a query stamp (turns.Value value) asked = tt
+  loss_asked a query stamp (turns.Rows rows) asked = tt
+  loss_asked a query stamp (turns.At at) asked = tt
+
+  found_lost : (found : Found) (turn : Turn) → RowsLead found.rows.items turn → TurnIsLossOf p (based base) turn
+  found_lost found (turns.Refused error) leads = rw leads tt
+  found_lost found (turns.Ask request) leads = tt
+  found_lost found turns.Begun leads = tt
+  found_lost found (turns.Value value) leads = tt
+  found_lost found (turns.Rows rows) leads = tt
+  found_lost found (turns.At at) leads = tt
+
+  pub loss_found : (query : Query) (answer : Result Found DbError) (turn : Turn) → CountRight p → AnswerLeads query base p answer
+      → ((found : Found) → answer ≡ Ok found → RowsLead found.rows.items turn) → ((e : DbError) → answer ≡ Err e → turn ≡ turns.Refused (refused_request e))
+      → TurnIsLossOf p (based base) turn
+  loss_found query (Ok found) turn right leads rows refused = found_lost found turn (rows found refl)
+  loss_found query (Err e) turn right leads rows refused = rw (refused e refl) (turn_lost query e (gone_query p right query base e leads))
+
+  pub loss_rows : (a : Account) (turn : Turn) (reply : Reply) → IsToldQuery turn reply → TurnIsLossOf p a turn → ReplyIsLossOf p a reply
+  loss_rows a (turns.Rows rows) reply told loss = rw told tt
+  loss_rows a (turns.Refused error) reply told loss = rw told (told_lost a error loss)
+    where
+      told_lost : (b : Account) (e : TxnError) → TurnIsLossOf p b (turns.Refused e) → ReplyIsLossOf p b (replies.Refused (refusals.Transaction e))
+      told_lost b (txns.Call cause) l = tt
+      told_lost b (txns.Database cause) l = tt
+      told_lost b (txns.SnapshotLost horizon) l = l
+      told_lost b txns.PinsFull l = tt
+      told_lost b txns.BufferFull l = tt
+      told_lost b txns.Memory l = tt
+  loss_rows a (turns.Ask request) reply told loss = absurd told
+  loss_rows a turns.Begun reply told loss = absurd told
+  loss_rows a (turns.Value value) reply told loss = absurd told
+  loss_rows a (turns.At at) reply told loss = absurd told
+
+-- a write is not refused so
+pub loss_write : (p : PortsValue) (a : Account) (count : ℕ) (e : TxnError) → IsWriteRefused count e → ReplyIsLossOf p a (replies.Refused (refusals.Transaction e))
+loss_write p a count (txns.SnapshotLost horizon) refused = absurd refused
+loss_write p a count (txns.Call cause) refused = tt
+loss_write p a count (txns.Database cause) refused = tt
+loss_write p a count txns.PinsFull refused = tt
+loss_write p a count txns.BufferFull refused = tt
+loss_write p a count txns.Memory refused = tt
+
+-- ---- steps
+
+-- the base stays, and so do the ports
+pub counts_based : (old new : PortsValue) (base base' : ℕ) (reply : Reply) → new ≡ old → base' ≡ base → ReplyIsLossOf old (based base) reply
+    → ActCounts old new (based base) (based base') reply
+counts_based old new base base' reply same is loss = rw (same, is) (counts_itself old (based base) reply loss)
+
+pub counts_unchanged : (old new : PortsValue) (a : Account) (reply : Reply) → new ≡ old → ReplyIsLossOf old a reply → ActCounts old new a a reply
+counts_unchanged old new a reply same loss = rw same (counts_itself old a reply loss)
+
+-- the newest stamp is held
+pub counts_begun : (old new : PortsValue) (base : ℕ) → HoldLeads old new (Ok base) → ActCounts old new nothing (based base) (replies.Based base)
+counts_begun old new base leads = record {
+  fair = fair_hold old new [] base (ap (λ (p : PortsValue). p.database.holds) leads.0 ∙ ap (λ (s : ℕ). old.database.holds ++ s ∷ []) (sym leads.1))
+      (ap (λ (p : PortsValue). p.cushion) leads.0);
+  loss = tt;
+}
+
+-- a commit leaves the holds
+pub fair_commit : (old new : PortsValue) (at base base' stamp : ℕ) (read : List Tag) (changes : List Change) → CommitLeads at read changes old new (Ok stamp) → base' ≡ base
+    → IsFair old new (based base) (based base')
+fair_commit old new at base base' stamp read changes leads is = rw is
+    (fair_same old new (based base) (based base)
+    (ap (λ (p : PortsValue). p.database.holds) leads.0
+    ∙ committed_holds old.database (newest_net old.database changes) (after_event_of old.database (commit_event (newest_state old.database) changes) (newest_net old.database changes)) refl)
+    (ap (λ (p : PortsValue). p.cushion) leads.0) (λ t. omega arith) (λ t. omega arith))
+
+pub fair_not_committed : (old new : PortsValue) (at base : ℕ) (read : List Tag) (changes : List Change) (e : DbError) → CommitLeads at read changes old new (Err e)
+    → IsFair old new (based base) (based base)
+fair_not_committed old new at base read changes e leads =
+    fair_same old new (based base) (based base) (left_holds old.database new.database e leads.0.left) (ap (λ (p : PortsValue). p.cushion) leads.0.is) (λ t. omega arith) (λ t. omega arith)

@@ -1,0 +1,54 @@
+use Rattle.std.proofs.Common.{ap, subst, sym, ◌∙◌}
+use Rattle.txc_rows.specs.declared.query.Query.{Query}
+use Rattle.txc_rw.specs.Core.{RwValue}
+use Rattle.txc_world.specs.Writing.{FindLeadsRw}
+use Rattle.txc_world.proofs.WritingLemmas.{answered_at, asks_it, asks_query, found_leads, idle_after, is_ask, of_query, right_answer}
+use Rattle.std.proofs.Common.{ℕ}
+use Rattle.txc_world.specs.Books.{TurnIsLossOf}
+use Rattle.txc_world.proofs.WritingCounts.{based, loss_asked, loss_found}
+use Rattle.txc_world.proofs.writing.find.Goals as goal
+
+pub returns-clause-holds : goal.returns-clause-holds
+returns-clause-holds g c =
+    let asks = asks_query c.ask-turn.new.self c.ask-turn.result c.in-Some.query c.ask-turn.ensures.turn (sym c.asked.ensures ∙ c.in-Some.is) in
+    c.reply.ensures.holds c.args.ports.now.database.history
+    (right_answer c.args.ports.now c.ask-turn.new.self c.in-Some.query c.base-base.result c.answer-found.result c.answer-found.ensures.leads c.base-base.ensures asks.2)
+    (c.ask-turn.ensures.holds c.args.ports.now.database.history c.requires.holds)
+
+pub returns-clause-idle : goal.returns-clause-idle
+returns-clause-idle g c =
+    let asks = asks_query c.ask-turn.new.self c.ask-turn.result c.in-Some.query c.ask-turn.ensures.turn (sym c.asked.ensures ∙ c.in-Some.is) in
+    let same = c.ask-turn.ensures.after (is_ask c.ask-turn.result asks.0 asks.1) in
+    idle_after c.reply.new.self c.reply.result c.reply.ensures.turn
+    (of_query c.ask-turn.new.self.call.need c.reply.result (ap (λ (v : RwValue). v.call.need) same ∙ c.requires.idle.0) c.reply.ensures.kind)
+
+pub returns-clause-base : goal.returns-clause-base
+returns-clause-base g c =
+    let asks = asks_query c.ask-turn.new.self c.ask-turn.result c.in-Some.query c.ask-turn.ensures.turn (sym c.asked.ensures ∙ c.in-Some.is) in
+    ap (λ (v : RwValue). v.base) c.reply.ensures.same
+    ∙ ap (λ (v : RwValue). v.base) (c.ask-turn.ensures.after (is_ask c.ask-turn.result asks.0 asks.1))
+
+pub returns-in_default-clause-loss : goal.returns-in_default-clause-loss
+returns-in_default-clause-loss g c =
+    loss_asked c.args.ports.now c.args.core.now.base (based c.args.core.now.base) c.args.query.now _ c.ask-turn.result c.ask-turn.ensures.answer
+
+pub returns-clause-loss : goal.returns-clause-loss
+returns-clause-loss g c =
+    let asks = asks_query c.ask-turn.new.self c.ask-turn.result c.in-Some.query c.ask-turn.ensures.turn (sym c.asked.ensures ∙ c.in-Some.is) in
+    let same = c.ask-turn.ensures.after (is_ask c.ask-turn.result asks.0 asks.1) in
+    let none = ap (λ (v : RwValue). v.call.need) same ∙ c.requires.idle.0 in
+    subst (λ (b : ℕ). TurnIsLossOf c.args.ports.now (based b) c.reply.result) (c.base-base.ensures ∙ ap (λ (v : RwValue). v.base) same)
+    (loss_found c.args.ports.now c.base-base.result c.in-Some.query c.answer-found.result c.reply.result c.count_right.ensures c.answer-found.ensures.leads
+    (λ found is. c.reply.ensures.rows found none is) c.reply.ensures.refused)
+
+pub returns-clause-leads : goal.returns-clause-leads
+returns-clause-leads g c =
+    let is = sym c.asked.ensures ∙ c.in-Some.is in
+    let asks = asks_query c.ask-turn.new.self c.ask-turn.result c.in-Some.query c.ask-turn.ensures.turn is in
+    let same = c.ask-turn.ensures.after (is_ask c.ask-turn.result asks.0 asks.1) in
+    let none = ap (λ (v : RwValue). v.call.need) same ∙ c.requires.idle.0 in
+    subst (λ (q : Query). FindLeadsRw q c.args.core.now.base c.args.ports.now c.reply.result) (sym (asks_it c.args.query.now c.in-Some.query _ c.ask-turn.result c.ask-turn.ensures.answer is))
+    (found_leads c.in-Some.query c.args.core.now.base c.args.ports.now c.answer-found.result c.reply.result
+    (answered_at c.in-Some.query c.base-base.result c.args.core.now.base c.args.ports.now c.answer-found.result
+    (c.base-base.ensures ∙ ap (λ (v : RwValue). v.base) same) c.answer-found.ensures.leads)
+    (λ f found. c.reply.ensures.rows f none found) c.reply.ensures.refused)

@@ -1,0 +1,164 @@
+-- The books of a world: who has each hold of a stamp, and who uses each pin.
+use Rattle.std.specs.Prelude.{◌≡◌, ℕ, ◌+◌, ◌<◌, ◌≤◌, List, [], ◌∷◌, Option, Some, None, map, sum_by, false}
+use Rattle.txc_db.specs.declared.error.DbError.TheVariants.{SnapshotGone}
+use Rattle.txc_db.specs.DatabaseValue.{IsSound}
+use Rattle.txc_db.specs.Laws.{OneHoldLess}
+use Rattle.txc_cushion.specs.declared.entry.PinEntry.{PinEntry}
+use Rattle.txc_cushion.specs.declared.pin.Pin.{Pin}
+use Rattle.txc_cushion.specs.Entries.{stamps_of, times, users_of}
+use Rattle.txc_cushion.specs.Cushion.{IsCushion}
+use Rattle.txc_cushion.specs.Refusals.{HaveUsers}
+use Rattle.txc_cushion.specs.Laws.{AddCountsOnePin, FreshCountsUsers, GiveBackCountsUsers, PinsEachStampOnce, RetireCountsTheUnused}
+use Rattle.txc_ports.specs.declared.request.PortRequest.{PortRequest}
+use Rattle.txc_ports.specs.declared.request.PortRequest.TheVariants as requests
+use Rattle.txc_ports.specs.declared.reply.PortReply.{PortReply}
+use Rattle.txc_ports.specs.declared.error.TxnError.TheVariants.{SnapshotLost}
+use Rattle.txc_ports.specs.declared.turn.Turn.{Turn}
+use Rattle.txc_ports.specs.declared.turn.Turn.TheVariants as turns
+use Rattle.txc_txn.specs.Core.{left_after, left_pin, taken_after, CoreValue}
+use Rattle.txc_world.specs.declared.actor.Actor.{Actor}
+use Rattle.txc_world.specs.declared.actor.Actor.TheVariants.{Idle, Reading, Writing, Leaving}
+use Rattle.txc_world.specs.declared.did.Did.{Did}
+use Rattle.txc_world.specs.declared.did.Did.TheVariants as dids
+use Rattle.txc_world.specs.declared.reply.Reply.{Reply}
+use Rattle.txc_world.specs.declared.reply.Reply.TheVariants.{Asked, Refused}
+use Rattle.txc_world.specs.declared.reply.Refusal.TheVariants.{Transaction}
+use Rattle.txc_world.specs.Ports.{PortsValue}
+
+-- what an actor has: the stamps of the pins that it was handed or added, of each of which it is a user; and
+-- the stamps whose holds are its own to take away
+pub record Account : Type 0 where
+  pub taken : List ℕ
+  pub own : List ℕ
+
+abbrev pub nothing : Account
+nothing = record { taken = []; own = [] }
+
+-- these pins were handed out
+abbrev pub handed : List Pin → Account
+handed pins = record { taken = map (λ p. p.stamp) pins; own = [] }
+
+-- the stamp, if there is one
+abbrev pub listed : Option ℕ → List ℕ
+listed None = []
+listed (Some stamp) = stamp ∷ []
+
+-- a read-only transaction has what it took, and the hold of a pin that is not added yet; a read-write one has
+-- that of its base; and one that has ended has the hold that is left
+abbrev pub account_of_core : CoreValue → Account
+account_of_core c = record { taken = c.taken; own = listed (left_pin c.pinning) }
+
+abbrev pub account_of : {A C : Type 0} → Actor A C → Account
+account_of (Idle objects) = nothing
+account_of (Reading o) = account_of_core o.txn.core
+account_of (Writing o) = record { taken = []; own = o.core.base ∷ [] }
+account_of (Leaving objects stamp) = record { taken = []; own = stamp ∷ [] }
+
+abbrev pub account_at : {A C : Type 0} → Option (Actor A C) → Account
+account_at None = nothing
+account_at (Some actor) = account_of actor
+
+-- the stamps that the database holds, one for each hold; the pins of the pincushion, with their users; and
+-- what each actor has
+pub record Books : Type 0 where
+  pub holds : List ℕ
+  pub entries : List PinEntry
+  pub accounts : List Account
+
+abbrev pub books_of : PortsValue → List Account → Books
+books_of ports accounts = record {
+  holds = ports.database.holds;
+  entries = ports.cushion.entries;
+  accounts = accounts;
+}
+
+-- how often the actors took the stamp
+abbrev pub times_taken : ℕ → List Account → ℕ
+times_taken stamp accounts = sum_by (λ a. times stamp a.taken) accounts
+
+-- how many holds of the stamp are the actors' own
+abbrev pub times_own : ℕ → List Account → ℕ
+times_own stamp accounts = sum_by (λ a. times stamp a.own) accounts
+
+-- each pin has the users that it had
+abbrev pub KeepsUsers : PortsValue → PortsValue → Type 0
+KeepsUsers old new =
+    (stamp : ℕ) → users_of stamp new.cushion.entries ≡ users_of stamp old.cushion.entries
+
+-- each of these pins has one user fewer, where they have that many
+abbrev pub GivesBack : PortsValue → PortsValue → List Pin → Type 0
+GivesBack old new pins = HaveUsers old.cushion.entries (map (λ p. p.stamp) pins)
+    → (stamp : ℕ) → users_of stamp new.cushion.entries + times stamp (map (λ p. p.stamp) pins)
+    ≡ users_of stamp old.cushion.entries
+
+-- ---- what a step of an actor does to them
+
+-- Nobody else has less after it: of each stamp there came no fewer holds than the actor and the pincushion
+-- have more, and no fewer users than the actor took more.
+pub record IsFair (old new : PortsValue) (before after : Account) : Type 0 where
+  pub holds : (stamp : ℕ)
+      → times stamp after.own + times stamp (stamps_of new.cushion.entries) + times stamp old.database.holds
+      ≤ times stamp before.own + times stamp (stamps_of old.cushion.entries) + times stamp new.database.holds
+  pub users : (stamp : ℕ) → times stamp after.taken + users_of stamp old.cushion.entries
+      ≤ times stamp before.taken + users_of stamp new.cushion.entries
+
+-- what a request spends of the account: the hold of the pin that is to be added or unpinned
+abbrev pub spent : PortRequest → Account
+spent (requests.AddPin pinned) = record { taken = []; own = pinned.stamp ∷ [] }
+spent (requests.Unpin stamp) = record { taken = []; own = stamp ∷ [] }
+spent request = nothing
+
+-- what a reply brings: a user of a pin that was added, or the hold of one that is not
+abbrev pub gained : PortReply → Account
+gained reply = record { taken = taken_after [] reply; own = listed (left_after reply) }
+
+-- what is asked at the stamp is gone only where it is held no more; and nothing else is refused so
+abbrev pub IsGone : PortRequest → PortsValue → Did → Type 0
+IsGone (requests.Query query stamp) p (dids.Refused (SnapshotGone horizon)) =
+    times stamp p.database.holds ≡ 0
+IsGone request p (dids.Refused (SnapshotGone horizon)) = ⊥
+IsGone request p did = Unit {0}
+
+-- a stamp of the account is held no more
+pub record HasLost (p : PortsValue) (account : Account) : Type 0 where
+  pub stamp : ℕ
+  pub had : 0 < times stamp account.taken + times stamp account.own
+  pub lost : times stamp p.database.holds ≡ 0
+
+-- a query is refused for a snapshot that is gone only where a stamp of the account is held no more
+abbrev pub IsLossOf : PortsValue → Account → Did → Type 0
+IsLossOf p account (dids.Refused (SnapshotGone horizon)) = HasLost p account
+IsLossOf p account did = Unit {0}
+
+abbrev pub ReplyIsLossOf : PortsValue → Account → Reply → Type 0
+ReplyIsLossOf p account (Asked did end) = IsLossOf p account did
+ReplyIsLossOf p account (Refused (Transaction (SnapshotLost horizon))) = HasLost p account
+ReplyIsLossOf p account reply = Unit {0}
+
+abbrev pub TurnIsLossOf : PortsValue → Account → Turn → Type 0
+TurnIsLossOf p account (turns.Refused (SnapshotLost horizon)) = HasLost p account
+TurnIsLossOf p account turn = Unit {0}
+
+-- one request of a transaction: it is fair, and is refused as gone only where that is so
+pub record AskCounts (request : PortRequest) (old new : PortsValue) (did : Did) (reply : PortReply)
+    : Type 0 where
+  pub fair : IsFair old new (spent request) (gained reply)
+  pub gone : IsGone request old did
+
+-- one step of an actor
+pub record ActCounts (old new : PortsValue) (before after : Account) (reply : Reply) : Type 0 where
+  pub fair : IsFair old new before after
+  pub loss : ReplyIsLossOf old before reply
+
+-- ---- why
+
+-- What the ports keep by themselves, and what their calls come to, stamp by stamp.
+pub record CountRight (p : PortsValue) : Type 0 where
+  pub sound : p.database.broken ≡ false → IsSound p.database
+  pub cushion : IsCushion p.cushion
+  pub once : PinsEachStampOnce
+  pub fresh : FreshCountsUsers
+  pub add : AddCountsOnePin
+  pub give_back : GiveBackCountsUsers
+  pub retire : RetireCountsTheUnused
+  pub unpin : OneHoldLess

@@ -1,0 +1,431 @@
+//! What an actor does with a read-write transaction, each kind of step by itself.
+ghost use Rattle.std.specs.Prelude.{◌≡◌, ◌++◌, ◌∷◌, ◌<◌, [], IfErr, IsSome, None, OnErr, OnOk, Some, length};
+ghost use Rattle.std.specs.Option.{ForSome};
+ghost use Rattle.txc_rows.specs.declared.query.Change.{Change};
+ghost use Rattle.txc_ports.specs.declared.turn.Turn.{Turn};
+ghost use Rattle.txc_registry.specs.Objects.{AllIdle};
+ghost use Rattle.txc_rw.specs.declared.rw_core.TheConstants.{MAX_CHANGES};
+ghost use Rattle.txc_rw.specs.Core.{answers_after, IsAsk, IsCallEnd, IsIdle, IsOfCall, IsOfQuery, IsRw, IsTurn, IsWriteRefused, RwHolds};
+ghost use Rattle.txc_world.specs.Actors.{asked_query, story_of, IsActor, IsEndOf, IsOpenRw, IsToldQuery};
+ghost use Rattle.txc_world.specs.Books.{account_of, nothing, ActCounts, IsLossOf, TurnIsLossOf};
+ghost use Rattle.txc_world.specs.Ports.{whole_of, KeepsRow};
+ghost use Rattle.txc_world.specs.Writing.{BeginRwLeads, CommitLeadsRw, FindLeadsRw, HasAskedRw, HasRequestedRw, HasStartedRw};
+ghost use Rattle.txc_world.specs.Told.{act_in, idle, story_after, IsActDue, IsActReply, IsNoCommit, ReplyExplains};
+
+use crate::acting::note;
+use crate::actor::{Actor, OpenCall, OpenRw};
+use crate::did::Did;
+use crate::ports::Ports;
+use crate::reply::{End, Refusal, Reply};
+use crate::step::Act;
+use std::alloc::Global;
+use txc_db::states_stay;
+use txc_ports::{PortRequest, Turn, TxnError};
+use txc_registry::{Cacheable, Registry};
+use txc_rows::{Change, Query};
+use txc_rw::laws::{answers_are_right, transactions_stay_right};
+use txc_rw::{MAX_CHANGES, RwCore};
+use txc_shared::App;
+use txc_tags::Key;
+
+/// Begins a transaction at the newest stamp, which is held, or leaves nothing open.
+pub(crate) fn begin_rw<A: App, C: Cacheable>(
+    alloc: Global,
+    ports: &mut Ports<A>,
+    registry: Registry<A, C>,
+) -> (Actor<A, C>, Reply)
+    requires { AllIdle registry }
+    ensures fits { IsActor A.next (whole_of ports.new) (length ports.new.nodes) result.0 }
+    ensures told { story_of result.0 ≡ story_after Act.BeginRw result.1 idle }
+    ensures due { IsActReply Act.BeginRw idle result.1 }
+    ensures history { ports.new.database.history ≡ ports.old.database.history }
+    ensures keeps { KeepsRow ports.old ports.new }
+    ensures spare { ports.new.spare ≡ ports.old.spare }
+    ensures no_commit { IsNoCommit result.1 }
+    ensures leads { BeginRwLeads ports.old ports.new result.0 result.1 }
+    ensures counts { ActCounts ports.old ports.new nothing (account_of result.0) result.1 }
+{
+    transactions_stay_right();
+    match ports.hold(alloc) {
+        Ok(base) => {
+            let core = RwCore::begin(alloc, base);
+            let current = OpenRw {
+                core,
+                registry,
+                call: None,
+            };
+            (Actor::Writing(current), Reply::Based(base))
+        }
+        Err(refusal) => (
+            Actor::Idle(registry),
+            Reply::Refused(Refusal::Database(refusal)),
+        ),
+    }
+}
+
+// Starts a call. It asks for nothing yet, and is open even where it has ended at once.
+fn start<A: App, C: Cacheable>(
+    alloc: Global,
+    whole: &Ports<A>,
+    current: OpenRw<A, C>,
+    key: &Key,
+) -> (Actor<A, C>, Reply)
+    requires { IsOpenRw A.next whole.now.database.history current }
+    ensures fits { IsActor A.next (whole_of whole.now) (length whole.now.nodes) result.0 }
+    ensures told { story_of result.0
+        ≡ story_after (Act.Start key.now) result.1 (story_of (Actor.Writing current)) }
+    ensures due { IsActDue (story_of (Actor.Writing current)) (Act.Start key.now) result.1 }
+    ensures leads { current.call ≡ None → HasStartedRw A.next key.now current result.0 }
+    ensures counts { ActCounts whole.now whole.now (account_of (Actor.Writing current)) (account_of result.0) result.1 }
+{
+    let mut current = current;
+    if current.call.is_some() {
+        return (Actor::Writing(current), Reply::Refused(Refusal::MidCall));
+    }
+    let turn = current.core.start(alloc, &mut current.registry, key.copy());
+    current.call = Some(OpenCall {
+        key: key.copy(),
+        turn,
+    });
+    (Actor::Writing(current), Reply::Started)
+}
+
+// The query that the turn asks, if it asks one.
+fn asked(turn: &Turn) -> Option<Query>
+    ensures { result ≡ asked_query turn.now }
+{
+    match turn {
+        Turn::Ask(PortRequest::Query { query, stamp: _ }) => Some(*query),
+        _ => None,
+    }
+}
+
+// How the call has ended.
+fn end_of(turn: Turn) -> End
+    requires { IsCallEnd turn }
+    ensures { IsEndOf turn result }
+{
+    match turn {
+        Turn::Value(value) => End::Value(value),
+        Turn::Refused(error) => End::Refused(error),
+        _ => unreachable!(),
+    }
+}
+
+/// What a request did, and what the transaction does next.
+#[derive(Drop)]
+struct Went {
+    did: Did,
+    turn: Turn,
+}
+
+// Asks the query of the open call at the base, and goes on with what was found.
+fn go_on<A: App, C: Cacheable>(
+    alloc: Global,
+    ports: &mut Ports<A>,
+    core: &mut RwCore,
+    registry: &mut Registry<A, C>,
+    query: &Query,
+) -> Went
+    requires fits { IsRw A.next registry.old core.old }
+    requires holds { RwHolds A.next ports.old.database.history registry.old core.old }
+    requires asked { core.old.reading ≡ Some query.now }
+    requires open { IsSome core.old.call.need }
+    ensures same_ports { ports.new ≡ ports.old }
+    ensures fits { IsRw A.next registry.new core.new }
+    ensures holds { RwHolds A.next ports.old.database.history registry.new core.new }
+    ensures turn { IsTurn core.new result.turn }
+    ensures kind { IsOfCall result.turn }
+    ensures goes_on { IsAsk result.turn → core.new.call.top ≡ core.old.call.top }
+    ensures open { IsAsk result.turn → IsSome core.new.call.need }
+    ensures answers { core.new.answers
+        ≡ answers_after core.old.answers core.old.call.top None result.turn }
+    ensures base { core.new.base ≡ core.old.base }
+    ensures changes { core.new.changes ≡ core.old.changes }
+    ensures asks { HasAskedRw A.next query.now ports.old core.old core.new registry.old registry.new
+        result.did result.turn }
+    ensures loss { IsLossOf ports.old (record { taken = []; own = core.old.base ∷ [] }) result.did }
+{
+    ports.count_right();
+    let base = core.base();
+    let (did, found) = ports.answer_told(alloc, query, base);
+    let turn = core.reply(alloc, registry, found);
+    Went { did, turn }
+}
+
+// The call has ended so before any request.
+fn end_call<A: App, C: Cacheable>(
+    core: RwCore,
+    registry: Registry<A, C>,
+    end: End,
+) -> (Actor<A, C>, Reply)
+    ensures actor { result.0
+        ≡ Actor.Writing (record { core = core; registry = registry; call = None }) }
+    ensures reply { result.1 ≡ Reply.Ended end }
+{
+    let current = OpenRw {
+        core,
+        registry,
+        call: None,
+    };
+    (Actor::Writing(current), Reply::Ended(end))
+}
+
+// Makes the next request of the open call. A call that ended before any is told so by its first request.
+fn request<A: App, C: Cacheable>(
+    alloc: Global,
+    ports: &mut Ports<A>,
+    current: OpenRw<A, C>,
+) -> (Actor<A, C>, Reply)
+    requires { IsOpenRw A.next ports.old.database.history current }
+    ensures fits { IsActor A.next (whole_of ports.new) (length ports.new.nodes) result.0 }
+    ensures told { story_of result.0 ≡ story_after Act.Request result.1 (story_of (Actor.Writing current)) }
+    ensures due { IsActDue (story_of (Actor.Writing current)) Act.Request result.1 }
+    ensures same { ports.new ≡ ports.old }
+    ensures no_commit { IsNoCommit result.1 }
+    ensures leads { ForSome current.call (λ call. ForSome (asked_query call.turn) (λ query.
+        HasRequestedRw A.next call.key query ports.old current result.0 result.1)) }
+    ensures counts { ActCounts ports.old ports.new (account_of (Actor.Writing current)) (account_of result.0) result.1 }
+{
+    let OpenRw {
+        mut core,
+        mut registry,
+        call,
+    } = current;
+    let Some(OpenCall { key, turn }) = call else {
+        let call = None;
+        let current = OpenRw {
+            core,
+            registry,
+            call,
+        };
+        return (Actor::Writing(current), Reply::Refused(Refusal::NoRequest));
+    };
+    let Some(query) = asked(&turn) else {
+        return end_call(core, registry, end_of(turn));
+    };
+    let Went { did, turn } = go_on(alloc, ports, &mut core, &mut registry, &query);
+    let (call, end) = note(key, turn);
+    let current = OpenRw {
+        core,
+        registry,
+        call,
+    };
+    (Actor::Writing(current), Reply::Asked(did, end))
+}
+
+// Asks a query of its own at the base, and goes on with what was found.
+fn find<A: App, C: Cacheable>(
+    alloc: Global,
+    ports: &mut Ports<A>,
+    core: &mut RwCore,
+    registry: &mut Registry<A, C>,
+    query: &Query,
+) -> Turn
+    requires fits { IsRw A.next registry.old core.old }
+    requires holds { RwHolds A.next ports.old.database.history registry.old core.old }
+    requires idle { IsIdle core.old }
+    ensures same_ports { ports.new ≡ ports.old }
+    ensures fits { IsRw A.next registry.new core.new }
+    ensures holds { RwHolds A.next ports.old.database.history registry.new core.new }
+    ensures idle { IsIdle core.new }
+    ensures kind { IsOfQuery result }
+    ensures answers { core.new.answers
+        ≡ answers_after core.old.answers core.old.call.top (Some query.now) result }
+    ensures base { core.new.base ≡ core.old.base }
+    ensures changes { core.new.changes ≡ core.old.changes }
+    ensures leads { FindLeadsRw query.now core.old.base ports.old result }
+    ensures loss { TurnIsLossOf ports.old (record { taken = []; own = core.old.base ∷ [] }) result }
+{
+    ports.count_right();
+    let turn = core.ask(alloc, registry, *query);
+    let Some(query) = asked(&turn) else {
+        return turn;
+    };
+    let base = core.base();
+    let found = ports.answer(alloc, &query, base);
+    core.reply(alloc, registry, found)
+}
+
+// What is told of a query of its own that has ended.
+fn told_rows(turn: Turn) -> Reply
+    requires { IsOfQuery turn }
+    ensures { IsToldQuery turn result }
+{
+    match turn {
+        Turn::Rows(rows) => Reply::Answered(rows),
+        Turn::Refused(error) => Reply::Refused(Refusal::Transaction(error)),
+        _ => unreachable!(),
+    }
+}
+
+// Asks the database at the base.
+fn ask<A: App, C: Cacheable>(
+    alloc: Global,
+    ports: &mut Ports<A>,
+    current: OpenRw<A, C>,
+    query: &Query,
+) -> (Actor<A, C>, Reply)
+    requires { IsOpenRw A.next ports.old.database.history current }
+    ensures fits { IsActor A.next (whole_of ports.new) (length ports.new.nodes) result.0 }
+    ensures told { story_of result.0
+        ≡ story_after (Act.Ask query.now) result.1 (story_of (Actor.Writing current)) }
+    ensures due { IsActDue (story_of (Actor.Writing current)) (Act.Ask query.now) result.1 }
+    ensures same { ports.new ≡ ports.old }
+    ensures no_commit { IsNoCommit result.1 }
+    ensures leads { current.call ≡ None → (turn : Turn) × IsToldQuery turn result.1
+        × FindLeadsRw query.now current.core.base ports.old turn }
+    ensures counts { ActCounts ports.old ports.new (account_of (Actor.Writing current)) (account_of result.0) result.1 }
+{
+    if current.call.is_some() {
+        return (Actor::Writing(current), Reply::Refused(Refusal::MidCall));
+    }
+    let OpenRw {
+        mut core,
+        mut registry,
+        call: _,
+    } = current;
+    let turn = find(alloc, ports, &mut core, &mut registry, query);
+    let current = OpenRw {
+        core,
+        registry,
+        call: None,
+    };
+    (Actor::Writing(current), told_rows(turn))
+}
+
+// Keeps a copy of the change.
+fn keep_change(alloc: Global, core: &mut RwCore, change: &Change) -> Result<(), TxnError>
+    ensures after { OnOk result (core.new
+        ≡ record core.old { changes = core.old.changes ++ change.now ∷ [] }) }
+    ensures only_if { OnOk result (length core.old.changes < MAX_CHANGES) }
+    ensures refused { IfErr result (IsWriteRefused (length core.old.changes)) }
+    ensures unchanged { OnErr result (core.new ≡ core.old) }
+{
+    if core.changes().len() >= MAX_CHANGES {
+        return Err(TxnError::BufferFull);
+    }
+    let copy = change.copy(alloc)?;
+    core.write(copy)
+}
+
+// Keeps a change until the transaction commits.
+fn write<A: App, C: Cacheable>(
+    alloc: Global,
+    whole: &Ports<A>,
+    current: OpenRw<A, C>,
+    change: &Change,
+) -> (Actor<A, C>, Reply)
+    requires { IsOpenRw A.next whole.now.database.history current }
+    ensures fits { IsActor A.next (whole_of whole.now) (length whole.now.nodes) result.0 }
+    ensures told { story_of result.0
+        ≡ story_after (Act.Write change.now) result.1 (story_of (Actor.Writing current)) }
+    ensures due { IsActDue (story_of (Actor.Writing current)) (Act.Write change.now) result.1 }
+    ensures counts { ActCounts whole.now whole.now (account_of (Actor.Writing current)) (account_of result.0) result.1 }
+{
+    let mut current = current;
+    if current.call.is_some() {
+        return (Actor::Writing(current), Reply::Refused(Refusal::MidCall));
+    }
+    match keep_change(alloc, &mut current.core, change) {
+        Ok(()) => (Actor::Writing(current), Reply::Kept),
+        Err(error) => (
+            Actor::Writing(current),
+            Reply::Refused(Refusal::Transaction(error)),
+        ),
+    }
+}
+
+// Commits the changes, where nothing that was read has changed. A refusal leaves the transaction open, as it
+// was.
+fn commit<A: App, C: Cacheable>(
+    alloc: Global,
+    ports: &mut Ports<A>,
+    current: OpenRw<A, C>,
+) -> (Actor<A, C>, Reply)
+    requires { IsOpenRw A.next ports.old.database.history current }
+    ensures fits { IsActor A.next (whole_of ports.new) (length ports.new.nodes) result.0 }
+    ensures told { story_of result.0 ≡ story_after Act.Commit result.1 (story_of (Actor.Writing current)) }
+    ensures due { IsActDue (story_of (Actor.Writing current)) Act.Commit result.1 }
+    ensures history { ports.new.database.history
+        ≡ act_in Act.Commit result.1 (story_of (Actor.Writing current)) ports.old.database.history }
+    ensures explained { ReplyExplains A.next ports.new.database.history
+        (length ports.old.database.history) (story_of (Actor.Writing current)) result.1 }
+    ensures keeps { KeepsRow ports.old ports.new }
+    ensures spare { ports.new.spare ≡ ports.old.spare }
+    ensures leads { current.call ≡ None
+        → CommitLeadsRw ports.old ports.new current result.0 result.1 }
+    ensures counts { ActCounts ports.old ports.new (account_of (Actor.Writing current)) (account_of result.0) result.1 }
+{
+    answers_are_right();
+    transactions_stay_right();
+    states_stay();
+    let mut current = current;
+    if current.call.is_some() {
+        return (Actor::Writing(current), Reply::Refused(Refusal::MidCall));
+    }
+    let base = current.core.base();
+    let read = current.core.tags();
+    let changes = current.core.changes();
+    match ports.commit(alloc, base, read, changes) {
+        Ok(stamp) => {
+            let _unpin = current.core.cancel(&mut current.registry);
+            (Actor::Leaving(current.registry, base), Reply::At(stamp))
+        }
+        Err(refusal) => (
+            Actor::Writing(current),
+            Reply::Refused(Refusal::Database(refusal)),
+        ),
+    }
+}
+
+// Gives the transaction up, in the middle of a call too.
+fn abort<A: App, C: Cacheable>(whole: &Ports<A>, current: OpenRw<A, C>) -> (Actor<A, C>, Reply)
+    requires { IsOpenRw A.next whole.now.database.history current }
+    ensures fits { IsActor A.next (whole_of whole.now) (length whole.now.nodes) result.0 }
+    ensures told { story_of result.0 ≡ story_after Act.Abort result.1 (story_of (Actor.Writing current)) }
+    ensures due { IsActDue (story_of (Actor.Writing current)) Act.Abort result.1 }
+    ensures left { result.1 ≡ Reply.Aborted (Some current.core.base) }
+    ensures counts { ActCounts whole.now whole.now (account_of (Actor.Writing current)) (account_of result.0) result.1 }
+{
+    let mut current = current;
+    let base = current.core.base();
+    let _unpin = current.core.cancel(&mut current.registry);
+    (
+        Actor::Leaving(current.registry, base),
+        Reply::Aborted(Some(base)),
+    )
+}
+
+/// What an actor does that has a read-write transaction open.
+pub(crate) fn act_writing<A: App, C: Cacheable>(
+    alloc: Global,
+    ports: &mut Ports<A>,
+    current: OpenRw<A, C>,
+    act: &Act,
+) -> (Actor<A, C>, Reply)
+    requires { IsOpenRw A.next ports.old.database.history current }
+    ensures fits { IsActor A.next (whole_of ports.new) (length ports.new.nodes) result.0 }
+    ensures told { story_of result.0 ≡ story_after act.now result.1 (story_of (Actor.Writing current)) }
+    ensures due { IsActDue (story_of (Actor.Writing current)) act.now result.1 }
+    ensures history { ports.new.database.history
+        ≡ act_in act.now result.1 (story_of (Actor.Writing current)) ports.old.database.history }
+    ensures explained { ReplyExplains A.next ports.new.database.history
+        (length ports.old.database.history) (story_of (Actor.Writing current)) result.1 }
+    ensures keeps { KeepsRow ports.old ports.new }
+    ensures spare { ports.new.spare ≡ ports.old.spare }
+    ensures counts { ActCounts ports.old ports.new (account_of (Actor.Writing current)) (account_of result.0) result.1 }
+{
+    match act {
+        Act::BeginRo(_) | Act::BeginRw => (
+            Actor::Writing(current),
+            Reply::Refused(Refusal::AlreadyOpen),
+        ),
+        Act::Start(key) => start(alloc, ports, current, key),
+        Act::Request => request(alloc, ports, current),
+        Act::Ask(query) => ask(alloc, ports, current, query),
+        Act::Write(change) => write(alloc, ports, current, change),
+        Act::Commit => commit(alloc, ports, current),
+        Act::Abort => abort(ports, current),
+    }
+}
