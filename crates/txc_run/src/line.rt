@@ -33,7 +33,7 @@ fn are_plain(bytes: &[u8]) -> bool
 }
 
 /// Whether the bytes are few enough, and each is one that a script may have, which may be known of them.
-fn is_plain(bytes: &[u8], known_plain: bool) -> bool
+pub fn is_plain(bytes: &[u8], known_plain: bool) -> bool
     requires { known_plain ≡ true → ArePlain bytes.now }
     ensures { IsTrue result ↔ IsPlain bytes.now }
 {
@@ -44,7 +44,7 @@ fn is_plain(bytes: &[u8], known_plain: bool) -> bool
 }
 
 /// Whether the line is empty or a comment.
-fn is_quiet(bytes: &[u8]) -> bool
+pub fn is_quiet(bytes: &[u8]) -> bool
     ensures { IsTrue result ↔ IsBlankOrComment bytes.now }
 {
     match bytes.split_first() {

@@ -1,0 +1,163 @@
+//! Parts of the lines of a world's script.
+ghost use Rattle.std.specs.Prelude.{◌≡◌, ◌≢◌, ◌≤◌, ℕ, List, [], ◌∷◌, IfOk, IfErr};
+ghost use Rattle.std.specs.Fmt.{decimal};
+ghost use Rattle.txc_tags.specs.TextGrammar.{IsTextOf};
+ghost use Rattle.txc_tags.specs.TextKey.{key_text, IsKeyInRange};
+ghost use Rattle.txc_tags.specs.Keys.{Call};
+ghost use Rattle.txc_rows.specs.Values.{RowValue, IsRow};
+ghost use Rattle.txc_rows.specs.declared.query.Query.{Query};
+ghost use Rattle.txc_rows.specs.declared.query.Change.{Change};
+ghost use Rattle.txc_ports.specs.declared.bounds.Bounds.{Bounds};
+ghost use Rattle.txc_run.specs.Words.{words_of};
+ghost use Rattle.txc_run.specs.Tasks.{IsNumberWord, IsTableWord, AreQueryWords, AreRowWords, AreChangeWords, AreBoundsWords};
+ghost use Rattle.txc_run.specs.TaskReading.{IsNoText};
+ghost use Rattle.txc_tags.specs.declared.text.number.TheConstants.{LAST_NUMBER};
+ghost use Rattle.txc_run.specs.declared.world.parts.TheConstants.{LAST_MOMENT};
+
+use crate::reading::read_stamp;
+use crate::unread::Malformed;
+use crate::words::{first_word, one_word, three_words, two_words};
+use crate::world::unread::NoTask;
+use std::alloc::Global;
+use txc_ports::Bounds;
+use txc_rows::{Change, Query, Row};
+use txc_tags::{LAST_NUMBER, LAST_TABLE, Table, read_number};
+
+/// The greatest moment and the longest time, in milliseconds.
+pub const LAST_MOMENT: u64 = u64::MAX;
+
+/// A number of an actor or a node.
+pub fn read_place(word: &[u8]) -> Result<usize, Malformed>
+    ensures answer { IfOk result (IsNumberWord LAST_NUMBER word.now) }
+    ensures refused { IfErr result (λ _. (n : ℕ) → IsNumberWord LAST_NUMBER word.now n → ⊥) }
+{
+    match read_number(word, LAST_NUMBER) {
+        Some(number) => Ok(number as usize),
+        None => Err(Malformed),
+    }
+}
+
+/// A moment, or a time, in milliseconds.
+pub fn read_moment(word: &[u8]) -> Result<u64, Malformed>
+    ensures answer { IfOk result (IsNumberWord LAST_MOMENT word.now) }
+    ensures refused { IfErr result (λ _. (n : ℕ) → IsNumberWord LAST_MOMENT word.now n → ⊥) }
+{
+    match read_number(word, LAST_MOMENT) {
+        Some(number) => Ok(number),
+        None => Err(Malformed),
+    }
+}
+
+/// An id or a group.
+fn read_id(word: &[u8]) -> Result<u32, Malformed>
+    ensures answer { IfOk result (IsNumberWord LAST_NUMBER word.now) }
+    ensures refused { IfErr result (λ _. (n : ℕ) → IsNumberWord LAST_NUMBER word.now n → ⊥) }
+{
+    match read_number(word, LAST_NUMBER) {
+        Some(number) => Ok(number as u32),
+        None => Err(Malformed),
+    }
+}
+
+fn read_table(word: &[u8]) -> Result<Table, Malformed>
+    ensures answer { IfOk result (IsTableWord word.now) }
+    ensures refused { IfErr result (λ _. (n : ℕ) → IsTableWord word.now n → ⊥) }
+{
+    match read_number(word, u64::from(LAST_TABLE)) {
+        Some(number) => match Table::new(number as u8) {
+            Some(table) => Ok(table),
+            None => Err(Malformed),
+        },
+        None => Err(Malformed),
+    }
+}
+
+/// A table and an id or a group.
+fn read_pair(text: &[u8]) -> Result<(Table, u32), Malformed>
+    ensures answer { IfOk result (λ r. (table_word : List ℕ) × (word : List ℕ)
+        × (words_of text.now ≡ table_word ∷ word ∷ []) × IsTableWord table_word r.0
+        × IsNumberWord LAST_NUMBER word r.1) }
+    ensures refused { IfErr result (λ _. (table_word word : List ℕ) (table n : ℕ)
+        → words_of text.now ≡ table_word ∷ word ∷ [] → IsTableWord table_word table
+        → IsNumberWord LAST_NUMBER word n → ⊥) }
+{
+    let (table, number) = two_words(text)?;
+    let table = read_table(table)?;
+    let number = read_id(number)?;
+    Ok((table, number))
+}
+
+/// A query.
+pub fn read_query(text: &[u8]) -> Result<Query, Malformed>
+    ensures answer { IfOk result (AreQueryWords (words_of text.now)) }
+    ensures refused { IfErr result (λ _. (q : Query) → AreQueryWords (words_of text.now) q → ⊥) }
+{
+    let Some((name, text)) = first_word(text) else {
+        return Err(Malformed);
+    };
+    match name {
+        b"by-id" => {
+            let (table, id) = read_pair(text)?;
+            Ok(Query::ById(table, id))
+        }
+        b"by-group" => {
+            let (table, group) = read_pair(text)?;
+            Ok(Query::ByGroup(table, group))
+        }
+        b"all" => {
+            let table = one_word(text)?;
+            Ok(Query::All(read_table(table)?))
+        }
+        _ => Err(Malformed),
+    }
+}
+
+/// A row, by its four words.
+pub fn read_row(alloc: Global, text: &[u8]) -> Result<Row, NoTask>
+    ensures answer { IfOk result (AreRowWords (words_of text.now)) }
+    ensures refused { IfErr result (IsNoText (AreRowWords (words_of text.now))) }
+{
+    let Some((table, text)) = first_word(text) else {
+        return Err(NoTask::Malformed);
+    };
+    let (id, group, body) = three_words(text)?;
+    let table = read_table(table)?;
+    let id = read_id(id)?;
+    let group = read_id(group)?;
+    let body = Vec::from_slice(alloc, body)?;
+    match Row::new(table, id, group, body) {
+        Ok(row) => Ok(row),
+        Err(_) => Err(NoTask::Malformed),
+    }
+}
+
+/// A change, with its name.
+pub fn read_change(alloc: Global, text: &[u8]) -> Result<Change, NoTask>
+    ensures answer { IfOk result (AreChangeWords (words_of text.now)) }
+    ensures refused { IfErr result (IsNoText (AreChangeWords (words_of text.now))) }
+{
+    let Some((name, text)) = first_word(text) else {
+        return Err(NoTask::Malformed);
+    };
+    match name {
+        b"put" => Ok(Change::Put(read_row(alloc, text)?)),
+        b"remove" => {
+            let (table, id) = read_pair(text)?;
+            Ok(Change::Remove(table, id))
+        }
+        _ => Err(NoTask::Malformed),
+    }
+}
+
+/// The bounds of a read-only transaction.
+pub fn read_bounds(text: &[u8]) -> Result<Bounds, Malformed>
+    ensures answer { IfOk result (AreBoundsWords (words_of text.now)) }
+    ensures refused { IfErr result (λ _. (b : Bounds) → AreBoundsWords (words_of text.now) b → ⊥) }
+{
+    let (now, staleness, at_least) = three_words(text)?;
+    Ok(Bounds {
+        now: read_moment(now)?,
+        staleness: read_moment(staleness)?,
+        at_least: read_stamp(at_least)?,
+    })
+}
