@@ -1,17 +1,15 @@
 //! Parts of the lines of a world's script.
-ghost use Rattle.std.specs.Prelude.{◌≡◌, ◌≢◌, ◌≤◌, ℕ, List, [], ◌∷◌, IfOk, IfErr};
+ghost use Rattle.std.specs.Prelude.{◌≡◌, ◌≤◌, ℕ, List, [], ◌∷◌, IfOk, IfErr};
 ghost use Rattle.std.specs.Fmt.{decimal};
 ghost use Rattle.txc_tags.specs.TextGrammar.{IsTextOf};
-ghost use Rattle.txc_tags.specs.TextKey.{key_text, IsKeyInRange};
-ghost use Rattle.txc_tags.specs.Keys.{Call};
+ghost use Rattle.txc_tags.specs.declared.text.number.TheConstants.{LAST_NUMBER};
+ghost use Rattle.txc_tags.specs.declared.tag.TheConstants.{LAST_TABLE};
 ghost use Rattle.txc_rows.specs.Values.{RowValue, IsRow};
 ghost use Rattle.txc_rows.specs.declared.query.Query.{Query};
-ghost use Rattle.txc_rows.specs.declared.query.Change.{Change};
 ghost use Rattle.txc_ports.specs.declared.bounds.Bounds.{Bounds};
 ghost use Rattle.txc_run.specs.Words.{words_of};
-ghost use Rattle.txc_run.specs.Tasks.{IsNumberWord, IsTableWord, AreQueryWords, AreRowWords, AreChangeWords, AreBoundsWords};
-ghost use Rattle.txc_run.specs.TaskReading.{IsNoText};
-ghost use Rattle.txc_tags.specs.declared.text.number.TheConstants.{LAST_NUMBER};
+ghost use Rattle.txc_run.specs.Tasks.{row_words, AreBoundsWords, AreChangeWords, AreQueryWords, IsPair};
+ghost use Rattle.txc_run.specs.TaskReading.{IsNone, IsNumberWord, ArePairWords};
 ghost use Rattle.txc_run.specs.declared.world.parts.TheConstants.{LAST_MOMENT};
 
 use crate::reading::read_stamp;
@@ -60,8 +58,8 @@ fn read_id(word: &[u8]) -> Result<u32, Malformed>
 }
 
 fn read_table(word: &[u8]) -> Result<Table, Malformed>
-    ensures answer { IfOk result (IsTableWord word.now) }
-    ensures refused { IfErr result (λ _. (n : ℕ) → IsTableWord word.now n → ⊥) }
+    ensures answer { IfOk result (IsNumberWord LAST_TABLE word.now) }
+    ensures refused { IfErr result (λ _. (n : ℕ) → IsNumberWord LAST_TABLE word.now n → ⊥) }
 {
     match read_number(word, u64::from(LAST_TABLE)) {
         Some(number) => match Table::new(number as u8) {
@@ -74,12 +72,9 @@ fn read_table(word: &[u8]) -> Result<Table, Malformed>
 
 /// A table and an id or a group.
 fn read_pair(text: &[u8]) -> Result<(Table, u32), Malformed>
-    ensures answer { IfOk result (λ r. (table_word : List ℕ) × (word : List ℕ)
-        × (words_of text.now ≡ table_word ∷ word ∷ []) × IsTableWord table_word r.0
-        × IsNumberWord LAST_NUMBER word r.1) }
-    ensures refused { IfErr result (λ _. (table_word word : List ℕ) (table n : ℕ)
-        → words_of text.now ≡ table_word ∷ word ∷ [] → IsTableWord table_word table
-        → IsNumberWord LAST_NUMBER word n → ⊥) }
+    ensures answer { IfOk result (λ r. ArePairWords (words_of text.now) r.0 r.1) }
+    ensures refused { IfErr result (λ _. (table number : ℕ) → ArePairWords (words_of text.now) table number
+        → ⊥) }
 {
     let (table, number) = two_words(text)?;
     let table = read_table(table)?;
@@ -114,8 +109,8 @@ pub fn read_query(text: &[u8]) -> Result<Query, Malformed>
 
 /// A row, by its four words.
 pub fn read_row(alloc: Global, text: &[u8]) -> Result<Row, NoTask>
-    ensures answer { IfOk result (AreRowWords (words_of text.now)) }
-    ensures refused { IfErr result (IsNoText (AreRowWords (words_of text.now))) }
+    ensures answer { IfOk result (λ row. (words_of text.now ≡ row_words row) × IsRow row) }
+    ensures refused { IfErr result (IsNone (λ row. (words_of text.now ≡ row_words row) × IsRow row)) }
 {
     let Some((table, text)) = first_word(text) else {
         return Err(NoTask::Malformed);
@@ -134,7 +129,7 @@ pub fn read_row(alloc: Global, text: &[u8]) -> Result<Row, NoTask>
 /// A change, with its name.
 pub fn read_change(alloc: Global, text: &[u8]) -> Result<Change, NoTask>
     ensures answer { IfOk result (AreChangeWords (words_of text.now)) }
-    ensures refused { IfErr result (IsNoText (AreChangeWords (words_of text.now))) }
+    ensures refused { IfErr result (IsNone (AreChangeWords (words_of text.now))) }
 {
     let Some((name, text)) = first_word(text) else {
         return Err(NoTask::Malformed);
