@@ -1,5 +1,5 @@
 -- What a run does with the lines of a world's script.
-use Rattle.std.specs.Prelude.{◌≡◌, ℕ, ◌<◌, true, false, List, [], ◌∷◌, ◌++◌, Option, Result, Ok, Err, length, map, take, ◌⊎◌}
+use Rattle.std.specs.Prelude.{◌≡◌, ℕ, true, false, List, [], ◌∷◌, ◌++◌, Option, Result, Ok, Err, length, map, take, ◌⊎◌}
 use Rattle.std.specs.List.{list_any}
 use Rattle.std.specs.Io.KnownBytes.{Appends, Consumes, IsAtEnd}
 use Rattle.txc_settings.specs.declared.settings.Settings.{Settings}
@@ -24,7 +24,12 @@ world_settings s = record {
   row_cap = s.row_cap;
 }
 
--- a new world: nothing has happened, and no actor has a transaction open
+-- how a run begins: what the functions of the application compute, and the world that the first line finds
+pub record WorldStart : Type 0 where
+  pub next : Next
+  pub world : Told
+
+-- a new world: nothing has happened, and each registry's actor has nothing open
 abbrev pub new_world : {R : Type 0} → Settings → List R → Told
 new_world settings registries = record {
   settings = world_settings settings;
@@ -33,6 +38,9 @@ new_world settings registries = record {
   actors = map (λ registry. idle) registries;
 }
 
+abbrev pub world_start : {R : Type 0} → Next → Settings → List R → WorldStart
+world_start next settings registries = record { next = next; world = new_world settings registries }
+
 -- no refusal was written; or one was, and no line was malformed; or the last one was malformed, for this fault
 abbrev pub IsStatusOf : List (List ℕ) → List WorldGiven → Status → Type 0
 IsStatusOf lines given Done = list_any is_refused given ≡ false
@@ -40,10 +48,10 @@ IsStatusOf lines given Refused = (list_any is_refused given ≡ true) × (list_a
 IsStatusOf lines given (Malformed malformed) = (list_any is_malformed given ≡ true)
     × EndInWorldFault lines malformed
 
--- lines of a script, counted from 1, and what they give in a world that begins so
-pub record Answers (next : Next) (told : Told) (lines : List (List ℕ)) (given : List WorldGiven) : Type 0 where
+-- lines of a script, counted from 1, and what they give
+pub record Answers (start : WorldStart) (lines : List (List ℕ)) (given : List WorldGiven) : Type 0 where
   pub end : Told
-  pub are_given : AreGiven next told 1 lines given end
+  pub are_given : AreGiven start.next start.world 1 lines given end
 
 -- the lines of a whole script; or those up to a malformed one, and what comes after it was not answered
 abbrev pub IsWhole : List ℕ → Type 0 → List (List ℕ) → List WorldGiven → Type 0
@@ -60,28 +68,28 @@ AreFirstLines read lines =
 -- the reader these are all lines that had ended; out of memory, those before the line that could not be
 -- answered, or all of them; after a fault of the writer, a prefix of their text was written. After a fault of
 -- the reader no line was malformed.
-abbrev pub HasWritten : Next → Told → List ℕ → Type 0 → List ℕ → Result Status RunFault → Type 0
-HasWritten next told read at_end written (Ok status) =
+abbrev pub HasWritten : WorldStart → List ℕ → Type 0 → List ℕ → Result Status RunFault → Type 0
+HasWritten start read at_end written (Ok status) =
     (lines : List (List ℕ)) × (given : List WorldGiven)
-    × Answers next told lines given × IsWhole read at_end lines given
+    × Answers start lines given × IsWhole read at_end lines given
     × (written ≡ world_text given) × IsStatusOf lines given status
-HasWritten next told read at_end written (Err Read) =
+HasWritten start read at_end written (Err Read) =
     (lines : List (List ℕ)) × (given : List WorldGiven) × (rest : List ℕ)
-    × Answers next told lines given × BeginsWithLines read lines rest × HasNoEnd rest
+    × Answers start lines given × BeginsWithLines read lines rest × HasNoEnd rest
     × (written ≡ world_text given) × (list_any is_malformed given ≡ false)
-HasWritten next told read at_end written (Err Write) =
+HasWritten start read at_end written (Err Write) =
     (lines : List (List ℕ)) × (given : List WorldGiven) × (n : ℕ)
-    × Answers next told lines given × AreFirstLines read lines
+    × Answers start lines given × AreFirstLines read lines
     × (written ≡ take n (world_text given))
-HasWritten next told read at_end written (Err Memory) =
+HasWritten start read at_end written (Err Memory) =
     (lines : List (List ℕ)) × (given : List WorldGiven)
-    × Answers next told lines given × AreFirstLines read lines × (written ≡ world_text given)
+    × Answers start lines given × AreFirstLines read lines × (written ≡ world_text given)
 
 -- A run that begins so: what it read of the reader's bytes, what it wrote after the writer's, and how it
 -- ended.
-abbrev pub HasPlayed : Next → Told → Option (List ℕ) → Option (List ℕ) → Option (List ℕ) → Option (List ℕ)
+abbrev pub HasPlayed : WorldStart → Option (List ℕ) → Option (List ℕ) → Option (List ℕ) → Option (List ℕ)
     → Result Status RunFault → Type 0
-HasPlayed next told remaining_old remaining_new contents_old contents_new result =
+HasPlayed start remaining_old remaining_new contents_old contents_new result =
     (read : List ℕ) × (written : List ℕ)
     × Consumes remaining_old remaining_new read × Appends contents_old contents_new written
-    × HasWritten next told read (IsAtEnd remaining_new) written result
+    × HasWritten start read (IsAtEnd remaining_new) written result

@@ -335,13 +335,9 @@ fn act_open<A: App, C: Cacheable>(
     ensures spare { ports.new.spare ≡ ports.old.spare }
 {
     match act {
-        Act::BeginRo(_) | Act::BeginRw => (
+        Act::BeginRo(_) => (
             Actor::Reading(current),
             Reply::Refused(Refusal::AlreadyOpen),
-        ),
-        Act::Ask(_) | Act::Write(_) => (
-            Actor::Reading(current),
-            Reply::Refused(Refusal::NotOpen),
         ),
         Act::Start(key) => start(alloc, ports, current, key),
         Act::Request => request_call(alloc, ports, pass, current),
@@ -368,7 +364,7 @@ fn act_leaving<A: App, C: Cacheable>(
 {
     match act {
         Act::Request => leave(ports, registry, stamp),
-        Act::BeginRo(_) | Act::BeginRw => (
+        Act::BeginRo(_) => (
             Actor::Leaving(registry, stamp),
             Reply::Refused(Refusal::AlreadyOpen),
         ),

@@ -1,4 +1,7 @@
 //! Finding what is wrong with a malformed line of a world's script.
+ghost use Rattle.txc_run.specs.Tasks.{IsMalformedLine};
+ghost use Rattle.txc_run.specs.WorldFaults.{IsWorldFaultOf};
+
 use crate::excerpt::Excerpt;
 use crate::finding::{foreign_at, has_empty_word};
 use crate::line::MAX_LINE_LEN;
@@ -8,6 +11,8 @@ use crate::world::name::name_of;
 
 /// What is wrong with a malformed line. It takes no memory.
 pub fn find_world_fault(line: &[u8]) -> LineFault
+    requires { IsMalformedLine line.now }
+    ensures { IsWorldFaultOf line.now result }
 {
     if line.len() > MAX_LINE_LEN {
         return LineFault::TooLong;

@@ -1,4 +1,8 @@
 //! Lines of a world's script.
+ghost use Rattle.std.specs.Prelude.{◌≡◌, true, IfOk};
+ghost use Rattle.txc_run.specs.Lines.{ArePlain};
+ghost use Rattle.txc_run.specs.TaskReading.{IsWorldLine};
+
 use crate::line::{is_plain, is_quiet};
 use crate::world::reading::read_task;
 use crate::world::task::Task;
@@ -21,6 +25,8 @@ pub fn read_world_line(
     bytes: &[u8],
     known_plain: bool,
 ) -> Result<WorldLine, AllocError>
+    requires { known_plain ≡ true → ArePlain bytes.now }
+    ensures { IfOk result (IsWorldLine bytes.now) }
 {
     if !is_plain(bytes, known_plain) {
         return Ok(WorldLine::Malformed);

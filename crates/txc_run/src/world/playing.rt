@@ -1,4 +1,9 @@
 //! The steps that a line of a world's script stands for.
+ghost use Rattle.std.specs.Prelude.{◌≡◌, [], map, IfOk};
+ghost use Rattle.txc_world.specs.Told.{after, IsDue, IsExplainedIn};
+ghost use Rattle.txc_run.specs.TaskSteps.{leaves_hold, DoesPins, IsDone};
+ghost use Rattle.txc_run.specs.WorldSessions.{HasAdded, HasEndedTxn, HasUnpinned};
+
 use crate::world::printed::Printed;
 use crate::world::task::Task;
 use std::alloc::{AllocError, Global};
@@ -14,6 +19,10 @@ fn take<A: App, C: Cacheable>(
     world: &mut World<A, C>,
     step: Step,
 ) -> Result<Reply, AllocError>
+    ensures told { IfOk result (λ reply. world.new ≡ after world.old step reply) }
+    ensures due { IfOk result (λ reply. IsDue world.old step reply) }
+    ensures explained { IfOk result (λ reply.
+        IsExplainedIn A.next world.old.history world.old step reply) }
 {
     let steps = [step];
     let mut replies = world.run(alloc, &steps)?;
@@ -30,20 +39,34 @@ fn pin_present<A: App, C: Cacheable>(
     world: &mut World<A, C>,
     now: u64,
 ) -> Result<Reply, AllocError>
+    ensures { IfOk result (λ reply.
+        IsDone A.next world.old (Task.Pin now) (Printed.Replied reply) world.new) }
 {
-    let stamp = match take(alloc, world, Step::Keeper(Keep::Pin(now)))? {
-        Reply::At(stamp) => stamp,
-        reply => return Ok(reply),
-    };
+    match take(alloc, world, Step::Keeper(Keep::Pin(now)))? {
+        Reply::At(stamp) => add_pin(alloc, world, stamp),
+        Reply::Refused(refusal) => Ok(Reply::Refused(refusal)),
+        _ => unreachable!(),
+    }
+}
+
+/// The keeper adds the pin of a stamp that it pinned.
+fn add_pin<A: App, C: Cacheable>(
+    alloc: Global,
+    world: &mut World<A, C>,
+    stamp: Stamp,
+) -> Result<Reply, AllocError>
+    ensures { IfOk result (λ reply. HasAdded A.next world.old stamp reply world.new) }
+{
     match take(alloc, world, Step::Keeper(Keep::Add(stamp)))? {
         Reply::Added => {
             let _ = take(alloc, world, Step::Keeper(Keep::GiveBack(stamp)))?;
             Ok(Reply::At(stamp))
         }
-        reply => {
+        Reply::Refused(refusal) => {
             let _ = take(alloc, world, Step::Keeper(Keep::Unpin(stamp)))?;
-            Ok(reply)
+            Ok(Reply::Refused(refusal))
         }
+        _ => unreachable!(),
     }
 }
 
@@ -53,20 +76,24 @@ fn finish_call<A: App, C: Cacheable>(
     world: &mut World<A, C>,
     actor: usize,
 ) -> Result<Printed, AllocError>
+    ensures { IfOk result (λ printed. IsDone A.next world.old (Task.Finish actor) printed world.new) }
 {
     for _ in 0..u64::MAX {
         match take(alloc, world, Step::Actor(actor, Act::Request))? {
             Reply::Asked(_, None) => {}
             Reply::Asked(_, Some(end)) => return Ok(Printed::Ended(end)),
             Reply::Ended(end) => return Ok(Printed::Ended(end)),
-            reply => return Ok(Printed::Replied(reply)),
+            Reply::Refused(refusal) => return Ok(Printed::Replied(Reply::Refused(refusal))),
+            _ => unreachable!(),
         }
     }
     Err(AllocError) // no call makes so many requests
 }
 
-/// Whether the actor has a request left after the end of its transaction.
-fn leaves_request(reply: &Reply) -> bool {
+/// Whether a hold is left after the end of a transaction.
+fn leaves_hold(reply: &Reply) -> bool
+    ensures { result ≡ leaves_hold reply.now }
+{
     match reply {
         Reply::At(_) => true,
         Reply::Aborted(Some(_)) => true,
@@ -74,19 +101,54 @@ fn leaves_request(reply: &Reply) -> bool {
     }
 }
 
-/// The actor ends its transaction so, and makes the request that is left then.
+/// The actor ends its transaction so, and takes the hold away that is left then.
 fn end_txn<A: App, C: Cacheable>(
     alloc: Global,
     world: &mut World<A, C>,
     actor: usize,
     act: Act,
 ) -> Result<Reply, AllocError>
+    ensures { IfOk result (λ reply. HasEndedTxn A.next world.old actor act reply world.new) }
 {
     let reply = take(alloc, world, Step::Actor(actor, act))?;
-    if leaves_request(&reply) {
+    if leaves_hold(&reply) {
         let _ = take(alloc, world, Step::Actor(actor, Act::Request))?;
     }
     Ok(reply)
+}
+
+/// The keeper drops the versions that nothing holds, after it has taken so many pins out.
+fn vacuum<A: App, C: Cacheable>(
+    alloc: Global,
+    world: &mut World<A, C>,
+    count: usize,
+) -> Result<Printed, AllocError>
+    ensures { IfOk result (λ printed. HasUnpinned A.next world.old [] count printed world.new) }
+{
+    match take(alloc, world, Step::Keeper(Keep::Vacuum))? {
+        Reply::Vacuumed(horizon) => Ok(Printed::Tidied(count, horizon)),
+        Reply::Refused(refusal) => Ok(Printed::Replied(Reply::Refused(refusal))),
+        _ => unreachable!(),
+    }
+}
+
+/// The keeper takes the holds of these stamps away, and then drops the versions that nothing holds.
+fn unpin_all<A: App, C: Cacheable>(
+    alloc: Global,
+    world: &mut World<A, C>,
+    stamps: &[Stamp],
+    count: usize,
+) -> Result<Printed, AllocError>
+    ensures { IfOk result (λ printed. HasUnpinned A.next world.old stamps.now count printed world.new) }
+{
+    let Some((stamp, others)) = stamps.split_first() else {
+        return vacuum(alloc, world, count);
+    };
+    match take(alloc, world, Step::Keeper(Keep::Unpin(*stamp)))? {
+        Reply::Unpinned => unpin_all(alloc, world, others, count),
+        Reply::Refused(refusal) => Ok(Printed::Replied(Reply::Refused(refusal))),
+        _ => unreachable!(),
+    }
 }
 
 /// The keeper takes the old pins out and their holds away, and drops the versions that nothing holds.
@@ -96,30 +158,20 @@ fn tidy_up<A: App, C: Cacheable>(
     now: u64,
     age: u64,
 ) -> Result<Printed, AllocError>
+    ensures { IfOk result (λ printed. IsDone A.next world.old (Task.Tidy now age) printed world.new) }
 {
-    let stamps = match take(alloc, world, Step::Keeper(Keep::Retire { now, age }))? {
-        Reply::Retired(stamps) => stamps,
-        reply => return Ok(Printed::Replied(reply)),
-    };
-    for stamp in &stamps {
-        match take(alloc, world, Step::Keeper(Keep::Unpin(*stamp)))? {
-            Reply::Unpinned => {}
-            reply => return Ok(Printed::Replied(reply)),
-        }
-    }
-    match take(alloc, world, Step::Keeper(Keep::Vacuum))? {
-        Reply::Vacuumed(horizon) => Ok(Printed::Tidied(stamps.len(), horizon)),
-        reply => Ok(Printed::Replied(reply)),
+    match take(alloc, world, Step::Keeper(Keep::Retire { now, age }))? {
+        Reply::Retired(stamps) => unpin_all(alloc, world, stamps.as_slice(), stamps.len()),
+        Reply::Refused(refusal) => Ok(Printed::Replied(Reply::Refused(refusal))),
+        _ => unreachable!(),
     }
 }
 
 /// The stamps of the pins.
-fn stamps_of(alloc: Global, pins: &[Pin]) -> Result<Vec<Stamp>, AllocError> {
-    let mut stamps = Vec::with_capacity(alloc, pins.len())?;
-    for pin in pins {
-        stamps.push(pin.stamp)?;
-    }
-    Ok(stamps)
+fn stamps_of(alloc: Global, pins: &[Pin]) -> Result<Vec<Stamp>, AllocError>
+    ensures { IfOk result (λ stamps. stamps.items ≡ map (λ p. p.stamp) pins.now) }
+{
+    pins.iter().map(|pin| pin.stamp).collect(alloc)
 }
 
 /// Where the actor's transaction may be serialised.
@@ -128,6 +180,7 @@ fn members_of<A: App, C: Cacheable>(
     world: &World<A, C>,
     actor: usize,
 ) -> Result<Printed, AllocError>
+    ensures { IfOk result (λ printed. DoesPins A.next world.now actor printed) }
 {
     match world.pins(actor) {
         Ok(members) => {
@@ -144,6 +197,7 @@ pub fn play<A: App, C: Cacheable>(
     world: &mut World<A, C>,
     task: Task,
 ) -> Result<Printed, AllocError>
+    ensures { IfOk result (λ printed. IsDone A.next world.old task printed world.new) }
 {
     match task {
         Task::One(step) => Ok(Printed::Replied(take(alloc, world, step)?)),
@@ -157,7 +211,7 @@ pub fn play<A: App, C: Cacheable>(
 }
 
 /// Gives up what the actors have open, by their numbers.
-pub fn close<A: App, C: Cacheable>(
+pub fn close_all<A: App, C: Cacheable>(
     alloc: Global,
     world: &mut World<A, C>,
     actors: usize,

@@ -1,8 +1,12 @@
 //! Whether what is written of a line holds a refusal.
+ghost use Rattle.std.specs.Prelude.{◌≡◌};
+ghost use Rattle.txc_run.specs.TaskTexts.{is_refused_did, is_refused_end, is_refused_line, is_refused_reply};
+
 use crate::world::printed::Printed;
 use txc_world::{Did, End, Reply};
 
 fn is_refused_end(end: &End) -> bool
+    ensures { result ≡ is_refused_end end.now }
 {
     match end {
         End::Value(_) => false,
@@ -11,6 +15,7 @@ fn is_refused_end(end: &End) -> bool
 }
 
 fn is_refused_did(did: &Did) -> bool
+    ensures { result ≡ is_refused_did did.now }
 {
     match did {
         Did::NotAdded(_) | Did::Refused(_) => true,
@@ -19,6 +24,7 @@ fn is_refused_did(did: &Did) -> bool
 }
 
 fn is_refused_reply(reply: &Reply) -> bool
+    ensures { result ≡ is_refused_reply reply.now }
 {
     match reply {
         Reply::Asked(did, None) => is_refused_did(did),
@@ -30,7 +36,8 @@ fn is_refused_reply(reply: &Reply) -> bool
 }
 
 /// Whether it holds a refusal.
-pub fn is_refused(printed: &Printed) -> bool
+pub fn is_refused_line(printed: &Printed) -> bool
+    ensures { result ≡ is_refused_line printed.now }
 {
     match printed {
         Printed::Replied(reply) => is_refused_reply(reply),

@@ -1,4 +1,12 @@
 //! Runs of a world's scripts.
+ghost use Rattle.std.specs.Prelude.{◌≡◌, ◌≢◌, ℕ, ◌+◌, ◌^◌, ◌<◌, ◌≤◌, List, None, Err, ◌++◌, length, vec_len, All, IfOk};
+ghost use Rattle.txc_shared.specs.declared.log.TheConstants.{MAX_PASSES};
+ghost use Rattle.txc_registry.specs.Objects.{AllIdle};
+ghost use Rattle.txc_world.specs.Told.{Told};
+ghost use Rattle.txc_run.specs.Reads.{IsOver};
+ghost use Rattle.txc_run.specs.WorldRuns.{new_world, world_settings, world_start, HasPlayed};
+ghost use Rattle.txc_run.specs.WorldSessions.{EndsWith, HasAnswered, TurnsTo};
+
 use crate::fault::{RunFault, Status};
 use crate::reads::Reads;
 use crate::script::{PIECE_LEN, flush};
@@ -13,6 +21,7 @@ use txc_world::{World, WorldSettings};
 
 /// The settings of the world.
 fn world_settings(settings: Settings) -> WorldSettings
+    ensures { result ≡ world_settings settings }
 {
     WorldSettings {
         capacity: settings.capacity,
@@ -23,62 +32,117 @@ fn world_settings(settings: Settings) -> WorldSettings
     }
 }
 
-/// A session with an actor for each registry.
+/// A session over a new world, with an actor for each registry.
 fn begin<A: App, C: Cacheable>(
     alloc: Global,
     settings: Settings,
     registries: Vec<Registry<A, C>>,
 ) -> Result<WorldSession<A, C>, AllocError>
+    requires actors { vec_len registries < MAX_PASSES }
+    requires all_idle { All AllIdle registries.items }
+    ensures answered { IfOk result (λ s. HasAnswered (world_start A.next settings registries.items) [] [] s) }
+    ensures no_output { IfOk result (λ s. s.text ≡ []) }
+    ensures no_line { IfOk result (λ s. s.lines ≡ 0) }
 {
-    let actors = registries.len();
     match World::new(alloc, world_settings(settings), registries) {
-        Ok(world) => WorldSession::new(alloc, world, actors),
+        Ok(world) => WorldSession::new(alloc, world),
         Err(_) => Err(AllocError),
     }
 }
 
-/// Ends the run: what the actors have open is given up, and what is left is written.
-fn end<A: App, C: Cacheable, W: Write>(
+/// Answers the lines that end in the bytes of a read, and writes the replies.
+fn turn<A: App, C: Cacheable, W: Write>(
     alloc: Global,
     session: &mut WorldSession<A, C>,
-    answered: Result<Flow, AllocError>,
+    bytes: &[u8],
     writer: &mut W,
-) -> Result<Status, RunFault>
+) -> Result<Flow, RunFault>
+    requires { session.old.lines + length bytes.now < 2 ^ 64 }
+    ensures counted { session.new.lines ≤ session.old.lines + length bytes.now }
+    ensures turned { (world : Told) (read written : List ℕ)
+        → HasAnswered (record { next = A.next; world = world }) read written session.old
+        → TurnsTo (record { next = A.next; world = world }) (read ++ bytes.now) written session.new
+        (W.contents writer.old) (W.contents writer.new) result }
+    ensures refused { result ≢ Err RunFault.Read }
 {
-    let closed = session.close(alloc);
-    session.write_out(writer)?;
-    match (answered, closed) {
-        (Ok(flow), Ok(())) => Ok(session.status(flow)),
-        _ => Err(RunFault::Memory),
+    let answered = session.answer_lines(alloc, bytes);
+    match session.write_out(writer) {
+        Ok(()) => match answered {
+            Ok(flow) => Ok(flow),
+            Err(_) => Err(RunFault::Memory),
+        },
+        Err(_) => Err(RunFault::Write),
     }
 }
 
-fn run_session<A: App, C: Cacheable, R: Read, W: Write>(
+/// Answers the last line, and writes its reply.
+fn finish<A: App, C: Cacheable, W: Write>(
     alloc: Global,
     session: &mut WorldSession<A, C>,
+    writer: &mut W,
+) -> Result<Status, RunFault>
+    requires { session.old.lines + 1 < 2 ^ 64 }
+    ensures ended { (world : Told) (read written : List ℕ)
+        → HasAnswered (record { next = A.next; world = world }) read written session.old
+        → EndsWith (record { next = A.next; world = world }) read (Unit {0}) written
+        (W.contents writer.old) (W.contents writer.new) result }
+    ensures refused { result ≢ Err RunFault.Read }
+{
+    let answered = session.answer_last(alloc);
+    match session.write_out(writer) {
+        Ok(()) => match answered {
+            Ok(end) => Ok(session.status(end)),
+            Err(_) => Err(RunFault::Memory),
+        },
+        Err(_) => Err(RunFault::Write),
+    }
+}
+
+/// Runs a script, and gives up what is open then.
+fn run_session<A: App, C: Cacheable, R: Read, W: Write>(
+    alloc: Global,
+    settings: Settings,
+    registries: Vec<Registry<A, C>>,
     reader: &mut R,
     writer: &mut W,
     reads: &mut Reads,
 ) -> Result<Status, RunFault>
+    requires reads { reads.old ≡ record { left = 1048576; failure = None } }
+    requires actors { vec_len registries < MAX_PASSES }
+    requires all_idle { All AllIdle registries.items }
+    ensures after { HasPlayed (world_start A.next settings registries.items)
+        (R.remaining reader.old) (R.remaining reader.new)
+        (W.contents writer.old) (W.contents writer.new) result }
+    ensures refused { result ≡ Err RunFault.Read → IsOver reads.new }
 {
+    let actors = registries.len();
+    let mut session = match begin(alloc, settings, registries) {
+        Ok(session) => session,
+        Err(_) => return Err(RunFault::Memory),
+    };
     let mut piece = [0u8; PIECE_LEN];
     'reads: loop {
         let n = reads.read(reader, &mut piece)?;
         if n == 0 {
-            let answered = session.answer_last(alloc);
-            return end(alloc, session, answered, writer);
+            let ended = finish(alloc, &mut session, writer);
+            session.close(alloc, actors);
+            return ended;
         }
-        match session.answer_lines(alloc, &piece[..n]) {
-            Ok(Flow::GoesOn) => session.write_out(writer)?,
-            answered => return end(alloc, session, answered, writer),
+        match turn(alloc, &mut session, &piece[..n], writer)? {
+            Flow::GoesOn => {}
+            Flow::Stopped(line) => {
+                session.close(alloc, actors);
+                return Ok(Status::Malformed(line));
+            }
         }
     }
 }
 
-/// Reads a script, and writes the replies to its lines: each has an actor, by the number of its registry, or
-/// the keeper take the steps of a world. The status says what is wrong with a malformed line. A reader is
-/// read at most [`crate::MAX_READS`] times, where a read that was interrupted counts and is made again: one
-/// that has not come to its end by then is a read fault. The writer is flushed at the end.
+/// Reads a script, and writes the replies to its lines: the keeper and an actor for each registry, by its
+/// number, take the steps of a world. The status says what is wrong with a malformed line. What is open at
+/// the end is given up. A reader is read at most [`crate::MAX_READS`] times, where a read that was
+/// interrupted counts and is made again: one that has not come to its end by then is a read fault. The writer
+/// is flushed at the end.
 pub fn run_world<A: App, C: Cacheable, R: Read, W: Write>(
     alloc: Global,
     settings: Settings,
@@ -86,14 +150,13 @@ pub fn run_world<A: App, C: Cacheable, R: Read, W: Write>(
     reader: &mut R,
     writer: &mut W,
 ) -> Result<Status, RunFault>
+    requires actors { vec_len registries < MAX_PASSES }
+    requires all_idle { All AllIdle registries.items }
+    ensures { HasPlayed (world_start A.next settings registries.items)
+        (R.remaining reader.old) (R.remaining reader.new)
+        (W.contents writer.old) (W.contents writer.new) result }
 {
-    let ended = match begin(alloc, settings, registries) {
-        Ok(session) => {
-            let mut session = session;
-            let mut reads = Reads::new();
-            run_session(alloc, &mut session, reader, writer, &mut reads)
-        }
-        Err(_) => Err(RunFault::Memory),
-    };
+    let mut reads = Reads::new();
+    let ended = run_session(alloc, settings, registries, reader, writer, &mut reads);
     flush(writer, ended)
 }
