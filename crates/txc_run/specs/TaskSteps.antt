@@ -1,5 +1,5 @@
 -- The steps that a line of a world's script stands for, and what is written of their replies.
-use Rattle.std.specs.Prelude.{◌≡◌, ◌≢◌, ℕ, Bool, true, false, List, [], ◌∷◌, ◌++◌, map, length, All, Some, None, slice_get, MatchOption}
+use Rattle.std.specs.Prelude.{◌≡◌, ℕ, Bool, true, false, List, [], ◌∷◌, ◌++◌, map, length, All, Option, Some, None, if◌then◌else◌, slice_get, MatchBool, MatchOption}
 use Rattle.txc_cushion.specs.declared.pin.Pin.{Pin}
 use Rattle.txc_shared.specs.Eval.{Next}
 use Rattle.txc_world.specs.declared.step.Act.{Act}
@@ -9,7 +9,7 @@ use Rattle.txc_world.specs.declared.step.Step.{Step}
 use Rattle.txc_world.specs.declared.step.Step.TheVariants.{Actor, Keeper}
 use Rattle.txc_world.specs.declared.reply.Reply.{Reply}
 use Rattle.txc_world.specs.declared.reply.Reply.TheVariants as replies
-use Rattle.txc_world.specs.Told.{Told, Reading, reading, told_by, AreDue, AreExplained}
+use Rattle.txc_world.specs.Told.{Told, Reading, reading, after, told_by, IsDue, IsExplainedIn, AreDue, AreExplained}
 use Rattle.txc_world.specs.Worlds.{due_of_pins, AreMembersOf}
 use Rattle.txc_run.specs.declared.world.printed.Printed.{Printed}
 use Rattle.txc_run.specs.declared.world.printed.Printed.TheVariants.{Replied, Ended, Members, Tidied}
@@ -17,6 +17,13 @@ use Rattle.txc_run.specs.declared.world.task.Task.{Task}
 use Rattle.txc_run.specs.declared.world.task.Task.TheVariants as tasks
 
 -- ---- steps and replies of a world
+
+-- the step was taken: it is replied what is due, a receipt explains what was told before it, and what is told
+-- of the world after it is what it and its reply tell
+pub record IsTaken (next : Next) (told : Told) (step : Step) (reply : Reply) (end : Told) : Type 0 where
+  pub told_is : end ≡ after told step reply
+  pub explained : IsExplainedIn next told.history told step reply
+  pub due : IsDue told step reply
 
 -- The steps were taken one after another: each is replied what is due, each receipt explains what was told
 -- before it, and what is told of the world after them is what they and their replies tell.
@@ -28,30 +35,33 @@ pub record AreTaken (next : Next) (told : Told) (steps : List Step) (replied : L
 
 -- ---- the steps of each line
 
+-- the stamp of the pin that was made, if one was
+abbrev pub stamp_in : Reply → Option ℕ
+stamp_in (replies.At stamp) = Some stamp
+stamp_in reply = None
+
+abbrev pub is_added : Reply → Bool
+is_added replies.Added = true
+is_added reply = false
+
 -- the keeper pins, adds the pin and gives its user back; where the pin is not added its hold is taken away,
 -- and why it was not is written
 abbrev pub DoesPin : ℕ → List Step → List Reply → Printed → Type 0
-DoesPin now steps (replies.At stamp ∷ replies.Added ∷ last ∷ []) printed =
-    (steps ≡ Keeper (keeps.Pin now) ∷ Keeper (keeps.Add stamp) ∷ Keeper (keeps.GiveBack stamp) ∷ [])
-    × (printed ≡ Replied (replies.At stamp))
-DoesPin now steps (replies.At stamp ∷ replies.Refused refusal ∷ last ∷ []) printed =
-    (steps ≡ Keeper (keeps.Pin now) ∷ Keeper (keeps.Add stamp) ∷ Keeper (keeps.Unpin stamp) ∷ [])
-    × (printed ≡ Replied (replies.Refused refusal))
-DoesPin now steps (replies.Refused refusal ∷ []) printed =
-    (steps ≡ Keeper (keeps.Pin now) ∷ []) × (printed ≡ Replied (replies.Refused refusal))
+DoesPin now steps (pinned ∷ []) printed =
+    (stamp_in pinned ≡ None) × (steps ≡ Keeper (keeps.Pin now) ∷ []) × (printed ≡ Replied pinned)
+DoesPin now steps (pinned ∷ added ∷ last ∷ []) printed =
+    (stamp : ℕ) × (stamp_in pinned ≡ Some stamp)
+    × (steps ≡ Keeper (keeps.Pin now) ∷ Keeper (keeps.Add stamp)
+    ∷ Keeper (if is_added added then keeps.GiveBack stamp else keeps.Unpin stamp) ∷ [])
+    × (printed ≡ Replied (if is_added added then pinned else added))
 DoesPin now steps replied printed = ⊥
 
--- the call goes on after its request
-abbrev pub GoesOn : Reply → Type 0
-GoesOn (replies.Asked did None) = Unit {0}
-GoesOn reply = ⊥
-
--- the call has ended, so; or the request was refused, since there is no call
-abbrev pub EndsCall : Reply → Printed → Type 0
-EndsCall (replies.Asked did (Some end)) printed = printed ≡ Ended end
-EndsCall (replies.Ended end) printed = printed ≡ Ended end
-EndsCall (replies.Refused refusal) printed = printed ≡ Replied (replies.Refused refusal)
-EndsCall reply printed = ⊥
+-- how a call has ended by a request, as it is written, or that there is no call; none where it goes on
+abbrev pub ending_of : Reply → Option Printed
+ending_of (replies.Asked did None) = None
+ending_of (replies.Asked did (Some end)) = Some (Ended end)
+ending_of (replies.Ended end) = Some (Ended end)
+ending_of reply = Some (Replied reply)
 
 -- the actor makes requests, and the call goes on after each but the last, which ends it
 pub record DoesFinish (actor : ℕ) (steps : List Step) (replied : List Reply) (printed : Printed) : Type 0 where
@@ -59,8 +69,8 @@ pub record DoesFinish (actor : ℕ) (steps : List Step) (replied : List Reply) (
   pub last : Reply
   pub requests : All (λ s. s ≡ Actor actor acts.Request) steps
   pub replied_are : replied ≡ before ++ last ∷ []
-  pub go_on : All GoesOn before
-  pub ends : EndsCall last printed
+  pub go_on : All (λ r. ending_of r ≡ None) before
+  pub ends : ending_of last ≡ Some printed
 
 -- after the end of a transaction that was replied so a hold is left, which one request takes away
 abbrev pub leaves_hold : Reply → Bool
@@ -71,33 +81,42 @@ leaves_hold reply = false
 -- the actor ends its transaction, and takes the hold away that is left, if one is
 abbrev pub DoesEnd : ℕ → Act → List Step → List Reply → Printed → Type 0
 DoesEnd actor act steps (reply ∷ []) printed =
-    (steps ≡ Actor actor act ∷ []) × (leaves_hold reply ≡ false) × (printed ≡ Replied reply)
+    (leaves_hold reply ≡ false) × (steps ≡ Actor actor act ∷ []) × (printed ≡ Replied reply)
 DoesEnd actor act steps (reply ∷ last ∷ []) printed =
-    (steps ≡ Actor actor act ∷ Actor actor acts.Request ∷ []) × (leaves_hold reply ≡ true)
+    (leaves_hold reply ≡ true) × (steps ≡ Actor actor act ∷ Actor actor acts.Request ∷ [])
     × (printed ≡ Replied reply)
 DoesEnd actor act steps replied printed = ⊥
 
--- the keeper takes the hold of each of the stamps away and then drops old versions, until it is refused; so
--- many pins were taken out
+-- the stamps of the pins that were taken out, if they were
+abbrev pub taken_out : Reply → Option (List ℕ)
+taken_out (replies.Retired stamps) = Some stamps.items
+taken_out reply = None
+
+abbrev pub is_unpinned : Reply → Bool
+is_unpinned replies.Unpinned = true
+is_unpinned reply = false
+
+-- what is written at the end of a tidy in which so many pins were taken out
+abbrev pub tidied : ℕ → Reply → Printed
+tidied count (replies.Vacuumed horizon) = Tidied count horizon
+tidied count reply = Replied reply
+
+-- the keeper takes the hold of each of the stamps away and then drops old versions; the first refusal ends it
 abbrev pub DoesUnpin : List ℕ → ℕ → List Step → List Reply → Printed → Type 0
-DoesUnpin [] count steps (replies.Vacuumed horizon ∷ []) printed =
-    (steps ≡ Keeper keeps.Vacuum ∷ []) × (printed ≡ Tidied count horizon)
-DoesUnpin [] count steps (replies.Refused refusal ∷ []) printed =
-    (steps ≡ Keeper keeps.Vacuum ∷ []) × (printed ≡ Replied (replies.Refused refusal))
-DoesUnpin (stamp ∷ stamps) count steps (replies.Unpinned ∷ replied) printed =
-    (others : List Step) × (steps ≡ Keeper (keeps.Unpin stamp) ∷ others)
-    × DoesUnpin stamps count others replied printed
-DoesUnpin (stamp ∷ stamps) count steps (replies.Refused refusal ∷ []) printed =
-    (steps ≡ Keeper (keeps.Unpin stamp) ∷ []) × (printed ≡ Replied (replies.Refused refusal))
+DoesUnpin [] count steps (reply ∷ []) printed =
+    (steps ≡ Keeper keeps.Vacuum ∷ []) × (printed ≡ tidied count reply)
+DoesUnpin (stamp ∷ stamps) count (step ∷ steps) (reply ∷ replied) printed =
+    (step ≡ Keeper (keeps.Unpin stamp))
+    × MatchBool (is_unpinned reply) (DoesUnpin stamps count steps replied printed)
+    ((steps ≡ []) × (replied ≡ []) × (printed ≡ Replied reply))
 DoesUnpin stamps count steps replied printed = ⊥
 
 -- the keeper takes old pins out, and then their holds away
 abbrev pub DoesTidy : ℕ → ℕ → List Step → List Reply → Printed → Type 0
-DoesTidy now age steps (replies.Retired stamps ∷ replied) printed =
-    (others : List Step) × (steps ≡ Keeper (keeps.Retire now age) ∷ others)
-    × DoesUnpin stamps.items (length stamps.items) others replied printed
-DoesTidy now age steps (replies.Refused refusal ∷ []) printed =
-    (steps ≡ Keeper (keeps.Retire now age) ∷ []) × (printed ≡ Replied (replies.Refused refusal))
+DoesTidy now age (step ∷ steps) (reply ∷ replied) printed =
+    (step ≡ Keeper (keeps.Retire now age))
+    × MatchOption (taken_out reply) ((steps ≡ []) × (replied ≡ []) × (printed ≡ Replied reply))
+    (λ stamps. DoesUnpin stamps (length stamps) steps replied printed)
 DoesTidy now age steps replied printed = ⊥
 
 -- the stamps of the members are written, and whether the present is there

@@ -5,15 +5,12 @@ use Rattle.std.specs.Io.KnownBytes.{Appends}
 use Rattle.std.specs.declared.alloc.AllocError.{AllocError}
 use Rattle.txc_shared.specs.Eval.{Next}
 use Rattle.txc_world.specs.declared.step.Act.{Act}
-use Rattle.txc_world.specs.declared.step.Keep.TheVariants as keeps
 use Rattle.txc_world.specs.declared.step.Step.{Step}
-use Rattle.txc_world.specs.declared.step.Step.TheVariants.{Keeper}
-use Rattle.txc_world.specs.declared.reply.Reply.TheVariants as replies
 use Rattle.txc_world.specs.declared.reply.Reply.{Reply}
 use Rattle.txc_world.specs.Told.{Told}
 use Rattle.txc_run.specs.Script.{BeginsWithLines, HasNoEnd, AreLinesOf}
 use Rattle.txc_run.specs.Sessions.{kept_of}
-use Rattle.txc_run.specs.TaskSteps.{AreTaken, DoesPin, DoesEnd, DoesUnpin}
+use Rattle.txc_run.specs.TaskSteps.{AreTaken, DoesEnd, DoesUnpin}
 use Rattle.txc_run.specs.WorldFaults.{IsWorldFaultOf, EndInWorldFault}
 use Rattle.txc_run.specs.WorldGiven.{WorldGiven, Gives, AreGiven, given_text, world_text, is_malformed, is_refused}
 use Rattle.txc_run.specs.WorldRuns.{WorldStart, Answers, HasWritten}
@@ -27,13 +24,6 @@ use Rattle.txc_run.specs.declared.world.printed.Printed.{Printed}
 use Rattle.txc_run.specs.declared.world.printed.Printed.TheVariants.{Replied}
 
 -- ---- parts of what a line asks for
-
--- the keeper, which had pinned the stamp, added its pin, or took its hold away
-pub record HasAdded (next : Next) (told : Told) (stamp : ℕ) (reply : Reply) (end : Told) : Type 0 where
-  pub steps : List Step
-  pub replied : List Reply
-  pub taken : AreTaken next told steps replied end
-  pub does : (now : ℕ) → DoesPin now (Keeper (keeps.Pin now) ∷ steps) (replies.At stamp ∷ replied) (Replied reply)
 
 -- an actor ended its transaction so
 pub record HasEndedTxn (next : Next) (told : Told) (actor : ℕ) (act : Act) (reply : Reply) (end : Told) : Type 0 where

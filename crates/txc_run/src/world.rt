@@ -2,6 +2,7 @@
 mod finding;
 mod line;
 pub mod name;
+mod outcome;
 mod parts;
 mod playing;
 mod printed;

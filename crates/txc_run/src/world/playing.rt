@@ -1,9 +1,9 @@
 //! The steps that a line of a world's script stands for.
-ghost use Rattle.std.specs.Prelude.{◌≡◌, [], map, IfOk};
-ghost use Rattle.txc_world.specs.Told.{after, IsDue, IsExplainedIn};
-ghost use Rattle.txc_run.specs.TaskSteps.{leaves_hold, DoesPins, IsDone};
-ghost use Rattle.txc_run.specs.WorldSessions.{HasAdded, HasEndedTxn, HasUnpinned};
+ghost use Rattle.std.specs.Prelude.{◌≡◌, map, IfOk};
+ghost use Rattle.txc_run.specs.TaskSteps.{DoesPins, IsDone, IsTaken};
+ghost use Rattle.txc_run.specs.WorldSessions.{HasEndedTxn, HasUnpinned};
 
+use crate::world::outcome::{ending_of, is_added, is_unpinned, leaves_hold, stamp_in, taken_out, tidied};
 use crate::world::printed::Printed;
 use crate::world::task::Task;
 use std::alloc::{AllocError, Global};
@@ -19,10 +19,7 @@ fn take<A: App, C: Cacheable>(
     world: &mut World<A, C>,
     step: Step,
 ) -> Result<Reply, AllocError>
-    ensures told { IfOk result (λ reply. world.new ≡ after world.old step reply) }
-    ensures due { IfOk result (λ reply. IsDue world.old step reply) }
-    ensures explained { IfOk result (λ reply.
-        IsExplainedIn A.next world.old.history world.old step reply) }
+    ensures { IfOk result (λ reply. IsTaken A.next world.old step reply world.new) }
 {
     let steps = [step];
     let mut replies = world.run(alloc, &steps)?;
@@ -42,32 +39,17 @@ fn pin_present<A: App, C: Cacheable>(
     ensures { IfOk result (λ reply.
         IsDone A.next world.old (Task.Pin now) (Printed.Replied reply) world.new) }
 {
-    match take(alloc, world, Step::Keeper(Keep::Pin(now)))? {
-        Reply::At(stamp) => add_pin(alloc, world, stamp),
-        Reply::Refused(refusal) => Ok(Reply::Refused(refusal)),
-        _ => unreachable!(),
+    let pinned = take(alloc, world, Step::Keeper(Keep::Pin(now)))?;
+    let Some(stamp) = stamp_in(&pinned) else {
+        return Ok(pinned);
+    };
+    let added = take(alloc, world, Step::Keeper(Keep::Add(stamp)))?;
+    if is_added(&added) {
+        let _ = take(alloc, world, Step::Keeper(Keep::GiveBack(stamp)))?;
+        return Ok(pinned);
     }
-}
-
-/// The keeper adds the pin of a stamp that it pinned.
-fn add_pin<A: App, C: Cacheable>(
-    alloc: Global,
-    world: &mut World<A, C>,
-    stamp: Stamp,
-) -> Result<Reply, AllocError>
-    ensures { IfOk result (λ reply. HasAdded A.next world.old stamp reply world.new) }
-{
-    match take(alloc, world, Step::Keeper(Keep::Add(stamp)))? {
-        Reply::Added => {
-            let _ = take(alloc, world, Step::Keeper(Keep::GiveBack(stamp)))?;
-            Ok(Reply::At(stamp))
-        }
-        Reply::Refused(refusal) => {
-            let _ = take(alloc, world, Step::Keeper(Keep::Unpin(stamp)))?;
-            Ok(Reply::Refused(refusal))
-        }
-        _ => unreachable!(),
-    }
+    let _ = take(alloc, world, Step::Keeper(Keep::Unpin(stamp)))?;
+    Ok(added)
 }
 
 /// The actor makes requests until its call has ended.
@@ -79,26 +61,12 @@ fn finish_call<A: App, C: Cacheable>(
     ensures { IfOk result (λ printed. IsDone A.next world.old (Task.Finish actor) printed world.new) }
 {
     for _ in 0..u64::MAX {
-        match take(alloc, world, Step::Actor(actor, Act::Request))? {
-            Reply::Asked(_, None) => {}
-            Reply::Asked(_, Some(end)) => return Ok(Printed::Ended(end)),
-            Reply::Ended(end) => return Ok(Printed::Ended(end)),
-            Reply::Refused(refusal) => return Ok(Printed::Replied(Reply::Refused(refusal))),
-            _ => unreachable!(),
+        let reply = take(alloc, world, Step::Actor(actor, Act::Request))?;
+        if let Some(printed) = ending_of(reply) {
+            return Ok(printed);
         }
     }
     Err(AllocError) // no call makes so many requests
-}
-
-/// Whether a hold is left after the end of a transaction.
-fn leaves_hold(reply: &Reply) -> bool
-    ensures { result ≡ leaves_hold reply.now }
-{
-    match reply {
-        Reply::At(_) => true,
-        Reply::Aborted(Some(_)) => true,
-        _ => false,
-    }
 }
 
 /// The actor ends its transaction so, and takes the hold away that is left then.
@@ -113,23 +81,9 @@ fn end_txn<A: App, C: Cacheable>(
     let reply = take(alloc, world, Step::Actor(actor, act))?;
     if leaves_hold(&reply) {
         let _ = take(alloc, world, Step::Actor(actor, Act::Request))?;
+        return Ok(reply);
     }
     Ok(reply)
-}
-
-/// The keeper drops the versions that nothing holds, after it has taken so many pins out.
-fn vacuum<A: App, C: Cacheable>(
-    alloc: Global,
-    world: &mut World<A, C>,
-    count: usize,
-) -> Result<Printed, AllocError>
-    ensures { IfOk result (λ printed. HasUnpinned A.next world.old [] count printed world.new) }
-{
-    match take(alloc, world, Step::Keeper(Keep::Vacuum))? {
-        Reply::Vacuumed(horizon) => Ok(Printed::Tidied(count, horizon)),
-        Reply::Refused(refusal) => Ok(Printed::Replied(Reply::Refused(refusal))),
-        _ => unreachable!(),
-    }
 }
 
 /// The keeper takes the holds of these stamps away, and then drops the versions that nothing holds.
@@ -142,13 +96,14 @@ fn unpin_all<A: App, C: Cacheable>(
     ensures { IfOk result (λ printed. HasUnpinned A.next world.old stamps.now count printed world.new) }
 {
     let Some((stamp, others)) = stamps.split_first() else {
-        return vacuum(alloc, world, count);
+        let reply = take(alloc, world, Step::Keeper(Keep::Vacuum))?;
+        return Ok(tidied(count, reply));
     };
-    match take(alloc, world, Step::Keeper(Keep::Unpin(*stamp)))? {
-        Reply::Unpinned => unpin_all(alloc, world, others, count),
-        Reply::Refused(refusal) => Ok(Printed::Replied(Reply::Refused(refusal))),
-        _ => unreachable!(),
+    let reply = take(alloc, world, Step::Keeper(Keep::Unpin(*stamp)))?;
+    if is_unpinned(&reply) {
+        return unpin_all(alloc, world, others, count);
     }
+    Ok(Printed::Replied(reply))
 }
 
 /// The keeper takes the old pins out and their holds away, and drops the versions that nothing holds.
@@ -160,10 +115,10 @@ fn tidy_up<A: App, C: Cacheable>(
 ) -> Result<Printed, AllocError>
     ensures { IfOk result (λ printed. IsDone A.next world.old (Task.Tidy now age) printed world.new) }
 {
-    match take(alloc, world, Step::Keeper(Keep::Retire { now, age }))? {
-        Reply::Retired(stamps) => unpin_all(alloc, world, stamps.as_slice(), stamps.len()),
-        Reply::Refused(refusal) => Ok(Printed::Replied(Reply::Refused(refusal))),
-        _ => unreachable!(),
+    let reply = take(alloc, world, Step::Keeper(Keep::Retire { now, age }))?;
+    match taken_out(reply) {
+        Ok(stamps) => unpin_all(alloc, world, stamps.as_slice(), stamps.len()),
+        Err(reply) => Ok(Printed::Replied(reply)),
     }
 }
 
