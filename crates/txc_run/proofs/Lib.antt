@@ -21,3 +21,5 @@ pub mod WorldLines
 pub mod WorldTurning
 pub mod WorldSteps
 pub mod TaskNames
+pub mod TasksDone
+pub mod TaskParts

@@ -19,15 +19,18 @@ read_name text =
     else (if bytes_eq text (codes "pin") then Some names.Pin
     else (if bytes_eq text (codes "query") then Some names.Query
     else (if bytes_eq text (codes "ro") then Some names.Ro
+    else (if bytes_eq text (codes "rw") then Some names.Rw
     else (if bytes_eq text (codes "call") then Some names.Call
     else (if bytes_eq text (codes "step") then Some names.Step
     else (if bytes_eq text (codes "finish") then Some names.Finish
+    else (if bytes_eq text (codes "ask") then Some names.Ask
+    else (if bytes_eq text (codes "write") then Some names.Write
     else (if bytes_eq text (codes "pins") then Some names.Pins
     else (if bytes_eq text (codes "commit") then Some names.Commit
     else (if bytes_eq text (codes "abort") then Some names.Abort
     else (if bytes_eq text (codes "advance") then Some names.Advance
     else (if bytes_eq text (codes "sweep") then Some names.Sweep
-    else (if bytes_eq text (codes "tidy") then Some names.Tidy else None)))))))))))))
+    else (if bytes_eq text (codes "tidy") then Some names.Tidy else None))))))))))))))))
 
 read_back : (name : LineName) → read_name (name_text name) ≡ Some name
 read_back names.Put = refl
@@ -35,9 +38,12 @@ read_back names.Remove = refl
 read_back names.Pin = refl
 read_back names.Query = refl
 read_back names.Ro = refl
+read_back names.Rw = refl
 read_back names.Call = refl
 read_back names.Step = refl
 read_back names.Finish = refl
+read_back names.Ask = refl
+read_back names.Write = refl
 read_back names.Pins = refl
 read_back names.Commit = refl
 read_back names.Abort = refl
@@ -68,9 +74,12 @@ some_words names.Remove task h = no_change (codes "remove") h.0 h.1.0
 some_words names.Pin task h = let e = h.1 in cc
 some_words names.Query task h = let e = h.2 in cc
 some_words names.Ro task h = let e = h.2.0 in cc
+some_words names.Rw task h = let e = h.1.0 in cc
 some_words names.Call task h = let e = h.2.0 in cc
 some_words names.Step task h = let e = h.1.0 in cc
 some_words names.Finish task h = let e = h.1.0 in cc
+some_words names.Ask task h = let e = h.2.0 in cc
+some_words names.Write task h = let e = h.2.0 in cc
 some_words names.Pins task h = let e = h.1.0 in cc
 some_words names.Commit task h = let e = h.1.0 in cc
 some_words names.Abort task h = let e = h.1.0 in cc

@@ -1,5 +1,5 @@
 -- Steps of a world that are taken one after another.
-use Rattle.std.proofs.Common.{◌≡◌, ℕ, suc, List, [], ◌∷◌, ◌++◌, length, refl, ap, subst, ◌∙◌, arith}
+use Rattle.std.proofs.Common.{◌≡◌, ℕ, ◌+◌, suc, List, [], ◌∷◌, ◌++◌, length, refl, ap, subst, ◌∙◌, arith}
 use Rattle.std.proofs.lemmas.List.{length-append}
 use Rattle.txc_shared.specs.Eval.{Next}
 use Rattle.txc_world.specs.declared.step.Step.{Step}
@@ -18,23 +18,21 @@ taken_first next told mid end step reply steps replied one rest =
     record {
       each = ap suc others.each;
       told_is = others.told_is;
-      explained = (one.explained, others.explained);
-      due = (one.due, others.due);
+      explained = (one.explained.0, others.explained);
+      due = (one.due.0, others.due);
     }
-
-pub taken_one : (next : Next) (told end : Told) (step : Step) (reply : Reply) → IsTaken next told step reply end → AreTaken next told (step ∷ []) (reply ∷ []) end
-taken_one next told end step reply one = taken_first next told end end step reply [] [] one (none_taken next end)
 
 -- a step after others
 pub taken_more : (next : Next) (told mid end : Told) (steps : List Step) (replied : List Reply) (step : Step) (reply : Reply)
     → AreTaken next told steps replied mid → IsTaken next mid step reply end → AreTaken next told (steps ++ step ∷ []) (replied ++ reply ∷ []) end
-taken_more next told mid end [] [] step reply all one = subst (λ (t : Told). AreTaken next t (step ∷ []) (reply ∷ []) end) all.told_is (taken_one next mid end step reply one)
+taken_more next told mid end [] [] step reply all one = subst (λ (t : Told). AreTaken next t (step ∷ []) (reply ∷ []) end) all.told_is one
 taken_more next told mid end [] (r ∷ replied) step reply all one = let each = all.each in absurd (omega (arith, each))
 taken_more next told mid end (s ∷ steps) [] step reply all one = let each = all.each in absurd (omega (arith, each))
 taken_more next told mid end (s ∷ steps) (r ∷ replied) step reply all one =
     let each : length replied ≡ length steps = omega (arith, all.each) in
+    let first : IsTaken next told s r (after told s r) = record { each = refl; told_is = refl; explained = (all.explained.0, tt); due = (all.due.0, tt) } in
     let rest : AreTaken next (after told s r) steps replied mid = record { each = each; told_is = all.told_is; explained = all.explained.1; due = all.due.1 } in
-    taken_first next told (after told s r) end s r (steps ++ step ∷ []) (replied ++ reply ∷ []) (record { told_is = refl; due = all.due.0; explained = all.explained.0 })
+    taken_first next told (after told s r) end s r (steps ++ step ∷ []) (replied ++ reply ∷ []) first
     (taken_more next (after told s r) mid end steps replied step reply rest one)
 
 -- ---- a list of one step
@@ -47,10 +45,9 @@ pub taken_alone : (next : Next) (told end : Told) (step : Step) (reply : Reply) 
     → AreDue told (step ∷ []) replied → length replied ≡ 1 → replied ≡ init ++ reply ∷ [] → IsTaken next told step reply end
 taken_alone next told end step reply replied init told_is explained due each last =
     let one : replied ≡ reply ∷ [] = only_one replied init reply each last in
-    let shown : AreExplained next told (step ∷ []) (reply ∷ []) = subst (λ (rs : List Reply). AreExplained next told (step ∷ []) rs) one explained in
-    let owed : AreDue told (step ∷ []) (reply ∷ []) = subst (λ (rs : List Reply). AreDue told (step ∷ []) rs) one due in
     record {
+      each = refl;
       told_is = told_is ∙ ap (λ (rs : List Reply). told_by told (step ∷ []) rs) one;
-      explained = shown.0;
-      due = owed.0;
+      explained = subst (λ (rs : List Reply). AreExplained next told (step ∷ []) rs) one explained;
+      due = subst (λ (rs : List Reply). AreDue told (step ∷ []) rs) one due;
     }

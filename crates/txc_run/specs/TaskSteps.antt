@@ -9,7 +9,7 @@ use Rattle.txc_world.specs.declared.step.Step.{Step}
 use Rattle.txc_world.specs.declared.step.Step.TheVariants.{Actor, Keeper}
 use Rattle.txc_world.specs.declared.reply.Reply.{Reply}
 use Rattle.txc_world.specs.declared.reply.Reply.TheVariants as replies
-use Rattle.txc_world.specs.Told.{Told, Reading, reading, after, told_by, IsDue, IsExplainedIn, AreDue, AreExplained}
+use Rattle.txc_world.specs.Told.{Told, Reading, reading, told_by, AreDue, AreExplained}
 use Rattle.txc_world.specs.Worlds.{due_of_pins, AreMembersOf}
 use Rattle.txc_run.specs.declared.world.printed.Printed.{Printed}
 use Rattle.txc_run.specs.declared.world.printed.Printed.TheVariants.{Replied, Ended, Members, Tidied}
@@ -18,20 +18,17 @@ use Rattle.txc_run.specs.declared.world.task.Task.TheVariants as tasks
 
 -- ---- steps and replies of a world
 
--- the step was taken: it is replied what is due, a receipt explains what was told before it, and what is told
--- of the world after it is what it and its reply tell
-pub record IsTaken (next : Next) (told : Told) (step : Step) (reply : Reply) (end : Told) : Type 0 where
-  pub told_is : end ≡ after told step reply
-  pub explained : IsExplainedIn next told.history told step reply
-  pub due : IsDue told step reply
-
--- The steps were taken one after another: each is replied what is due, each receipt explains what was told
--- before it, and what is told of the world after them is what they and their replies tell.
+-- The steps were taken one after another: each is replied what is due, each receipt and each commit explains
+-- what was told before it, and what is told of the world after them is what they and their replies tell.
 pub record AreTaken (next : Next) (told : Told) (steps : List Step) (replied : List Reply) (end : Told) : Type 0 where
   pub each : length replied ≡ length steps
   pub told_is : end ≡ told_by told steps replied
   pub explained : AreExplained next told steps replied
   pub due : AreDue told steps replied
+
+-- the step was taken
+abbrev pub IsTaken : Next → Told → Step → Reply → Told → Type 0
+IsTaken next told step reply end = AreTaken next told (step ∷ []) (reply ∷ []) end
 
 -- ---- the steps of each line
 

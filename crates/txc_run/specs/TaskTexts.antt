@@ -92,6 +92,7 @@ refusal_text (refusals.Database cause) = database_text cause
 refusal_text (refusals.Pincushion cause) = add_text cause
 refusal_text (refusals.GiveBack unknown) = codes "C1 " ++ decimal unknown.stamp
 refusal_text (refusals.Node cause) = node_text cause
+refusal_text (refusals.Transaction cause) = transaction_text cause
 refusal_text refusals.Memory = codes "memory"
 
 -- ---- rows
@@ -139,9 +140,12 @@ advanced_text advances.Idle = codes "idle"
 
 abbrev pub reply_text : Reply → List ℕ
 reply_text replies.Begun = codes "open"
+reply_text (replies.Based base) = codes "open " ++ decimal base
 reply_text replies.Started = codes "started"
 reply_text (replies.Asked did end) = asked_text did end
 reply_text (replies.Ended end) = end_text end
+reply_text (replies.Answered rows) = codes "rows " ++ ids_text (map (λ r. r.id) rows.items)
+reply_text replies.Kept = codes "kept"
 reply_text (replies.Receipt None) = codes "receipt none"
 reply_text (replies.Receipt (Some pin)) =
     codes "receipt " ++ (decimal pin.stamp ++ (codes " " ++ decimal pin.moment))

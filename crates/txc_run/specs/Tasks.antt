@@ -27,8 +27,8 @@ use Rattle.txc_run.specs.declared.world.task.Task.TheVariants as tasks
 
 -- a table, and an id or a group
 pub record IsPair (table number : ℕ) : Type 0 where
-  pub table : table ≤ LAST_TABLE
-  pub number : number ≤ LAST_NUMBER
+  pub is_table : table ≤ LAST_TABLE
+  pub is_number : number ≤ LAST_NUMBER
 
 abbrev pub query_words : Query → List (List ℕ)
 query_words (queries.ById table id) = codes "by-id" ∷ decimal table ∷ decimal id ∷ []
@@ -68,9 +68,12 @@ name_text names.Remove = codes "remove"
 name_text names.Pin = codes "pin"
 name_text names.Query = codes "query"
 name_text names.Ro = codes "ro"
+name_text names.Rw = codes "rw"
 name_text names.Call = codes "call"
 name_text names.Step = codes "step"
 name_text names.Finish = codes "finish"
+name_text names.Ask = codes "ask"
+name_text names.Write = codes "write"
 name_text names.Pins = codes "pins"
 name_text names.Commit = codes "commit"
 name_text names.Abort = codes "abort"
@@ -107,12 +110,20 @@ Says names.Query words task =
 Says names.Ro words task =
     (actor : ℕ) × (b : Bounds) × AreAfterPlace words actor (bounds_words b) × AreBoundsInRange b
     × (task ≡ tasks.One (Actor actor (acts.BeginRo b)))
+Says names.Rw words task =
+    (actor : ℕ) × AreAfterPlace words actor [] × (task ≡ tasks.One (Actor actor acts.BeginRw))
 Says names.Call words task =
     (actor : ℕ) × (key : Call) × AreAfterPlace words actor (key_text key ∷ []) × IsKeyInRange key
     × (task ≡ tasks.One (Actor actor (acts.Start key)))
 Says names.Step words task =
     (actor : ℕ) × AreAfterPlace words actor [] × (task ≡ tasks.One (Actor actor acts.Request))
 Says names.Finish words task = (actor : ℕ) × AreAfterPlace words actor [] × (task ≡ tasks.Finish actor)
+Says names.Ask words task =
+    (actor : ℕ) × (query : Query) × AreAfterPlace words actor (query_words query) × IsQueryInRange query
+    × (task ≡ tasks.One (Actor actor (acts.Ask query)))
+Says names.Write words task =
+    (actor : ℕ) × (change : Change) × AreAfterPlace words actor (change_words change) × IsChangeInRange change
+    × (task ≡ tasks.One (Actor actor (acts.Write change)))
 Says names.Pins words task = (actor : ℕ) × AreAfterPlace words actor [] × (task ≡ tasks.Pins actor)
 Says names.Commit words task = (actor : ℕ) × AreAfterPlace words actor [] × (task ≡ tasks.Commit actor)
 Says names.Abort words task = (actor : ℕ) × AreAfterPlace words actor [] × (task ≡ tasks.Abort actor)

@@ -335,9 +335,13 @@ fn act_open<A: App, C: Cacheable>(
     ensures spare { ports.new.spare ≡ ports.old.spare }
 {
     match act {
-        Act::BeginRo(_) => (
+        Act::BeginRo(_) | Act::BeginRw => (
             Actor::Reading(current),
             Reply::Refused(Refusal::AlreadyOpen),
+        ),
+        Act::Ask(_) | Act::Write(_) => (
+            Actor::Reading(current),
+            Reply::Refused(Refusal::NotOpen),
         ),
         Act::Start(key) => start(alloc, ports, current, key),
         Act::Request => request_call(alloc, ports, pass, current),
@@ -364,7 +368,7 @@ fn act_leaving<A: App, C: Cacheable>(
 {
     match act {
         Act::Request => leave(ports, registry, stamp),
-        Act::BeginRo(_) => (
+        Act::BeginRo(_) | Act::BeginRw => (
             Actor::Leaving(registry, stamp),
             Reply::Refused(Refusal::AlreadyOpen),
         ),

@@ -6,6 +6,7 @@ use txc_cushion::{AddError, Pin, UnknownPin};
 use txc_db::DbError;
 use txc_node::Value;
 use txc_ports::TxnError;
+use txc_rows::Row;
 use txc_shared::{Advanced, NodeError};
 use txc_stamp::Stamp;
 
@@ -42,6 +43,9 @@ pub enum Refusal {
     GiveBack(UnknownPin),
     #[error("{0}")]
     Node(NodeError),
+    /// A read-write transaction refused a query or a change.
+    #[error("{0}")]
+    Transaction(TxnError),
     /// A growth was refused.
     #[error("out of memory")]
     Memory,
@@ -61,21 +65,27 @@ impl From<AllocError> for Refusal {
 /// What a step did.
 #[derive(Drop)]
 pub enum Reply {
-    /// A transaction is open.
+    /// A read-only transaction is open.
     Begun,
+    /// A read-write transaction is open, which reads at this stamp.
+    Based(Stamp),
     /// A call is open.
     Started,
     /// What the port did that was asked, and how the call ended, where it ended with this.
     Asked(Did, Option<End>),
     /// How the call ended, where it ended before any request.
     Ended(End),
+    /// The rows of a query of a read-write transaction, as they were found.
+    Answered(Vec<Row>),
+    /// The change is kept until the transaction commits.
+    Kept,
     /// The pin of the stamp at which every answer of the transaction is right; none where no call was
     /// answered.
     Receipt(Option<Pin>),
     /// The transaction was given up. The hold of this stamp, if there is one, is still to be taken away by
     /// one request.
     Aborted(Option<Stamp>),
-    /// The newest stamp, after a commit or a pin of the keeper.
+    /// The newest stamp, after the commit of a read-write transaction, or a commit or a pin of the keeper.
     At(Stamp),
     Added,
     GivenBack,

@@ -9,11 +9,17 @@ use txc_tags::Key;
 pub enum Act {
     /// Begins a read-only transaction.
     BeginRo(Bounds),
+    /// Begins a read-write transaction at the newest stamp, its base, which is held until it has ended.
+    BeginRw,
     /// Starts a call of its open transaction. It makes no request.
     Start(Key),
-    /// Makes the next request of its open call, or the one that is left after its transaction was given up.
+    /// Makes the next request of its open call, or the one that is left after its transaction has ended.
     Request,
-    /// Ends its transaction, with a receipt.
+    /// Asks the database at the base of its read-write transaction.
+    Ask(Query),
+    /// Keeps a change of its read-write transaction until that commits. It makes no request.
+    Write(Change),
+    /// Ends its transaction: a read-only one with a receipt; a read-write one where the database commits it.
     Commit,
     /// Gives its transaction up, in the middle of a call too.
     Abort,

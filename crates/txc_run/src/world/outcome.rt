@@ -32,8 +32,10 @@ pub fn ending_of(reply: Reply) -> Option<Printed>
     ensures { result ≡ ending_of reply }
 {
     match reply {
-        Reply::Asked(_, None) => None,
-        Reply::Asked(_, Some(end)) => Some(Printed::Ended(end)),
+        Reply::Asked(_did, end) => match end {
+            None => None,
+            Some(end) => Some(Printed::Ended(end)),
+        },
         Reply::Ended(end) => Some(Printed::Ended(end)),
         reply => Some(Printed::Replied(reply)),
     }

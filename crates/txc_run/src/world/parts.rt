@@ -90,21 +90,19 @@ pub fn read_query(text: &[u8]) -> Result<Query, Malformed>
     let Some((name, text)) = first_word(text) else {
         return Err(Malformed);
     };
-    match name {
-        b"by-id" => {
-            let (table, id) = read_pair(text)?;
-            Ok(Query::ById(table, id))
-        }
-        b"by-group" => {
-            let (table, group) = read_pair(text)?;
-            Ok(Query::ByGroup(table, group))
-        }
-        b"all" => {
-            let table = one_word(text)?;
-            Ok(Query::All(read_table(table)?))
-        }
-        _ => Err(Malformed),
+    if name == b"by-id".as_slice() {
+        let (table, id) = read_pair(text)?;
+        return Ok(Query::ById(table, id));
     }
+    if name == b"by-group".as_slice() {
+        let (table, group) = read_pair(text)?;
+        return Ok(Query::ByGroup(table, group));
+    }
+    if name == b"all".as_slice() {
+        let table = one_word(text)?;
+        return Ok(Query::All(read_table(table)?));
+    }
+    Err(Malformed)
 }
 
 /// A row, by its four words.
@@ -134,14 +132,14 @@ pub fn read_change(alloc: Global, text: &[u8]) -> Result<Change, NoTask>
     let Some((name, text)) = first_word(text) else {
         return Err(NoTask::Malformed);
     };
-    match name {
-        b"put" => Ok(Change::Put(read_row(alloc, text)?)),
-        b"remove" => {
-            let (table, id) = read_pair(text)?;
-            Ok(Change::Remove(table, id))
-        }
-        _ => Err(NoTask::Malformed),
+    if name == b"put".as_slice() {
+        return Ok(Change::Put(read_row(alloc, text)?));
     }
+    if name == b"remove".as_slice() {
+        let (table, id) = read_pair(text)?;
+        return Ok(Change::Remove(table, id));
+    }
+    Err(NoTask::Malformed)
 }
 
 /// The bounds of a read-only transaction.

@@ -74,6 +74,26 @@ fn read_call(text: &[u8]) -> Result<Task, Malformed>
     Ok(Task::One(Step::Actor(actor, Act::Start(key))))
 }
 
+/// `ask`, by what comes after its name.
+fn read_ask(text: &[u8]) -> Result<Task, Malformed>
+    ensures answer { IfOk result (Says LineName.Ask (words_of text.now)) }
+    ensures refused { IfErr result (λ _. (task : Task) → Says LineName.Ask (words_of text.now) task → ⊥) }
+{
+    let (actor, text) = read_actor(text)?;
+    let query = read_query(text)?;
+    Ok(Task::One(Step::Actor(actor, Act::Ask(query))))
+}
+
+/// `write`, by what comes after its name.
+fn read_write(alloc: Global, text: &[u8]) -> Result<Task, NoTask>
+    ensures answer { IfOk result (Says LineName.Write (words_of text.now)) }
+    ensures refused { IfErr result (IsNone (Says LineName.Write (words_of text.now))) }
+{
+    let (actor, text) = read_actor(text)?;
+    let change = read_change(alloc, text)?;
+    Ok(Task::One(Step::Actor(actor, Act::Write(change))))
+}
+
 /// `sweep`, by what comes after its name.
 fn read_sweep(text: &[u8]) -> Result<Task, Malformed>
     ensures answer { IfOk result (Says LineName.Sweep (words_of text.now)) }
@@ -116,9 +136,12 @@ fn read_named(alloc: Global, name: LineName, line: &[u8], text: &[u8]) -> Result
         LineName::Pin => Ok(Task::Pin(read_moment(one_word(text)?)?)),
         LineName::Query => Ok(read_keeper_query(text)?),
         LineName::Ro => Ok(read_ro(text)?),
+        LineName::Rw => Ok(Task::One(Step::Actor(read_only_place(text)?, Act::BeginRw))),
         LineName::Call => Ok(read_call(text)?),
         LineName::Step => Ok(Task::One(Step::Actor(read_only_place(text)?, Act::Request))),
         LineName::Finish => Ok(Task::Finish(read_only_place(text)?)),
+        LineName::Ask => Ok(read_ask(text)?),
+        LineName::Write => read_write(alloc, text),
         LineName::Pins => Ok(Task::Pins(read_only_place(text)?)),
         LineName::Commit => Ok(Task::Commit(read_only_place(text)?)),
         LineName::Abort => Ok(Task::Abort(read_only_place(text)?)),

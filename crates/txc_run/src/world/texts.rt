@@ -5,7 +5,7 @@ use txc_call::CallError;
 use txc_cushion::{AddError, Pin, UnknownPin};
 use txc_db::DbError;
 use txc_ports::TxnError;
-use txc_rows::StoreError;
+use txc_rows::{Row, StoreError};
 use txc_shared::{Advanced, NodeError};
 use txc_stamp::Stamp;
 use txc_world::{Did, End, Refusal, Reply, RowsFound};
@@ -176,6 +176,10 @@ impl fmt::Display for OfRefusal<'_> {
                 let cause = OfNode(cause);
                 write!(f, "{cause}")
             }
+            Refusal::Transaction(cause) => {
+                let cause = OfTransaction(cause);
+                write!(f, "{cause}")
+            }
             Refusal::Memory => write!(f, "memory"),
         }
     }
@@ -199,6 +203,30 @@ impl fmt::Display for Ids<'_> {
         };
         write!(f, "{first}")?;
         for id in others {
+            write!(f, ",{id}")?;
+        }
+        Ok(())
+    }
+}
+
+/// The ids of the rows, joined by commas, or a dash for none.
+#[derive(Drop)]
+struct IdsOf<'a>(&'a [Row]);
+
+impl fmt::Display for IdsOf<'_> {
+    ghost use Rattle.std.specs.Prelude.{Some, map};
+    ghost use Rattle.txc_run.specs.TaskTexts.{ids_text};
+
+    ghost output = { λ i. Some (ids_text (map (λ r. r.id) i.0.now)) };
+
+    fn fmt<W: fmt::Write>(&self, f: &mut fmt::Formatter<W>) -> fmt::Result {
+        let Some((first, others)) = self.0.split_first() else {
+            return write!(f, "-");
+        };
+        let first = first.id();
+        write!(f, "{first}")?;
+        for row in others {
+            let id = row.id();
             write!(f, ",{id}")?;
         }
         Ok(())
@@ -319,6 +347,7 @@ impl fmt::Display for Replying<'_> {
     fn fmt<W: fmt::Write>(&self, f: &mut fmt::Formatter<W>) -> fmt::Result {
         match self.0 {
             Reply::Begun => write!(f, "open"),
+            Reply::Based(base) => write!(f, "open {base}"),
             Reply::Started => write!(f, "started"),
             Reply::Asked(did, end) => {
                 let asked = AskedFor(did, end);
@@ -328,6 +357,11 @@ impl fmt::Display for Replying<'_> {
                 let ending = Ending(end);
                 write!(f, "{ending}")
             }
+            Reply::Answered(rows) => {
+                let ids = IdsOf(rows.as_slice());
+                write!(f, "rows {ids}")
+            }
+            Reply::Kept => write!(f, "kept"),
             Reply::Receipt(None) => write!(f, "receipt none"),
             Reply::Receipt(Some(Pin { stamp, moment })) => write!(f, "receipt {stamp} {moment}"),
             Reply::Aborted(_) => write!(f, "aborted"),
