@@ -23,3 +23,4 @@ pub mod WorldSteps
 pub mod TaskNames
 pub mod TasksDone
 pub mod TaskParts
+pub mod WorldTexts

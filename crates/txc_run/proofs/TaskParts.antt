@@ -1,6 +1,6 @@
 -- The parts of the lines of a world's script, word by word.
 use Rattle.std.proofs.Common.{◌≡◌, ℕ, ◌≤◌, Bool, true, false, List, [], ◌∷◌, ◌++◌, Result, Ok, Err, IfOk, IfErr, length, refl, sym, ap, subst, ◌∙◌}
-use Rattle.std.specs.Prelude.{codes}
+use Rattle.std.specs.Prelude.{codes, IsErr, IsErrAnd}
 use Rattle.std.specs.Fmt.{decimal}
 use Rattle.std.specs.Str.{bytes_eq}
 use Rattle.std.proofs.lemmas.Slice.Eq.{bytes_eq-Decides}
@@ -141,3 +141,19 @@ no_change words rest name (changes.Remove t n) e p r h = r (first_is name (codes
 pub no_lone_change : (words : List (List ℕ)) (word : List ℕ) (change : Change) → words ≡ word ∷ [] → AreChangeWords words change → ⊥
 no_lone_change words word (changes.Put row) e h = let same : word ∷ [] ≡ codes "put" ∷ row_words row = sym e ∙ h.0 in cc
 no_lone_change words word (changes.Remove t n) e h = let same : word ∷ [] ≡ codes "remove" ∷ decimal t ∷ decimal n ∷ [] = sym e ∙ h.0 in cc
+
+-- no row is one word
+pub row_alone : (words : List (List ℕ)) (word : List ℕ) (row : RowValue) → words ≡ word ∷ [] → words ≡ row_words row → ⊥
+row_alone words word row e h = let same : word ∷ [] ≡ row_words row = sym e ∙ h in cc
+
+-- nor has it another number of words
+pub row_short : (words rest : List (List ℕ)) (word : List ℕ) (row : RowValue) → words ≡ word ∷ rest → (length rest ≡ 3 → ⊥) → words ≡ row_words row → ⊥
+row_short words rest word row e other h =
+    let same : word ∷ rest ≡ row_words row = sym e ∙ h in
+    let three : rest ≡ decimal row.id ∷ decimal row.group ∷ row.body ∷ [] = cc in
+    other (ap length three)
+
+-- what was refused as malformed is no such value
+pub none_of : {T V : Type 0} (r : Result T NoTask) (Is : V → Type 0) → IsErr r × IsErrAnd r (λ reason. reason ≡ reasons.Malformed) → ((v : V) → Is v → ⊥) → IfErr r (IsNone Is)
+none_of (Ok x) Is h none = tt
+none_of (Err reason) Is h none = subst (IsNone Is) (sym h.1) none

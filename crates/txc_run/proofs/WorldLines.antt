@@ -111,21 +111,21 @@ answered_line start read written before x s next (Stopped bad) h bare reads a =
     }
 
 -- a line goes on
-pub extended_line : (start : WorldStart) (read written before : List ℕ) (s next : Progress) → HasAnswered start read written s → HasNoEnd before
-    → next ≡ record s { line = take MAX_KEPT (s.line ++ before) } → HasAnswered start (read ++ before) written next
-extended_line start read written before s next h bare is = subst (HasAnswered start (read ++ before) written) (sym is) (record {
+pub extended_line : (start : WorldStart) (read written before x : List ℕ) (s : Progress) → HasAnswered start read written s → HasNoEnd before → x ≡ take MAX_KEPT (s.line ++ before)
+    → HasAnswered start (read ++ before) written (record s { line = x })
+extended_line start read written before x s h bare is = record {
   lines = h.lines;
   given = h.given;
   rest = h.rest ++ before;
   are_given = h.are_given;
   begins = begins_longer read h.lines h.rest before h.begins;
   not_ended = All-append (λ b. b ≢ 10) h.rest before h.not_ended bare;
-  kept = ap (λ (l : List ℕ). take MAX_KEPT (l ++ before)) h.kept ∙ kept_append MAX_KEPT h.rest before;
+  kept = is ∙ ap (λ (l : List ℕ). take MAX_KEPT (l ++ before)) h.kept ∙ kept_append MAX_KEPT h.rest before;
   text = h.text;
   count = h.count;
   refused = h.refused;
   well_formed = h.well_formed;
-})
+}
 
 -- memory ran out after what was answered
 pub halted : (start : WorldStart) (read written more : List ℕ) (s next : Progress) → HasAnswered start read written s → next.text ≡ s.text

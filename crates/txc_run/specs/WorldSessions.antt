@@ -21,6 +21,7 @@ use Rattle.txc_run.specs.declared.line_fault.MalformedLine.{MalformedLine}
 use Rattle.txc_run.specs.declared.session.Flow.{Flow}
 use Rattle.txc_run.specs.declared.session.Flow.TheVariants.{GoesOn, Stopped}
 use Rattle.txc_run.specs.declared.world.printed.Printed.{Printed}
+use Rattle.txc_run.specs.declared.world.session.WorldSession.{WorldSession}
 use Rattle.txc_run.specs.declared.world.printed.Printed.TheVariants.{Replied}
 
 -- ---- parts of what a line asks for
@@ -50,6 +51,15 @@ pub record Progress : Type 0 where
   pub line : List ℕ
   pub text : List ℕ
   pub refused : Bool
+
+abbrev pub progress_of : {A C : Type 0} → WorldSession A C → Progress
+progress_of s = record {
+  world = s.world;
+  lines = s.lines;
+  line = s.line;
+  text = s.replied.text.items;
+  refused = s.replied.is_refused;
+}
 
 -- the run goes on after a line that is not malformed, and stops at a malformed one, for its number and its
 -- fault

@@ -1,11 +1,11 @@
 //! Runs of a world's scripts.
-ghost use Rattle.std.specs.Prelude.{◌≡◌, ◌≢◌, ℕ, ◌+◌, ◌^◌, ◌<◌, ◌≤◌, List, None, Err, ◌++◌, length, vec_len, All, IfOk};
+ghost use Rattle.std.specs.Prelude.{◌≡◌, ◌≢◌, ℕ, ◌+◌, ◌^◌, ◌<◌, ◌≤◌, List, [], None, Err, ◌++◌, length, vec_len, All, IfOk};
 ghost use Rattle.txc_shared.specs.declared.log.TheConstants.{MAX_PASSES};
 ghost use Rattle.txc_registry.specs.Objects.{AllIdle};
 ghost use Rattle.txc_world.specs.Told.{Told};
 ghost use Rattle.txc_run.specs.Reads.{IsOver};
 ghost use Rattle.txc_run.specs.WorldRuns.{new_world, world_settings, world_start, HasPlayed};
-ghost use Rattle.txc_run.specs.WorldSessions.{EndsWith, HasAnswered, TurnsTo};
+ghost use Rattle.txc_run.specs.WorldSessions.{progress_of, EndsWith, HasAnswered, TurnsTo};
 
 use crate::fault::{RunFault, Status};
 use crate::reads::Reads;
@@ -40,8 +40,9 @@ fn begin<A: App, C: Cacheable>(
 ) -> Result<WorldSession<A, C>, AllocError>
     requires actors { vec_len registries < MAX_PASSES }
     requires all_idle { All AllIdle registries.items }
-    ensures answered { IfOk result (λ s. HasAnswered (world_start A.next settings registries.items) [] [] s) }
-    ensures no_output { IfOk result (λ s. s.text ≡ []) }
+    ensures answered { IfOk result (λ s. HasAnswered (world_start A.next settings registries.items) [] []
+        (progress_of s)) }
+    ensures no_output { IfOk result (λ s. s.replied.text.items ≡ []) }
     ensures no_line { IfOk result (λ s. s.lines ≡ 0) }
 {
     match World::new(alloc, world_settings(settings), registries) {
@@ -60,8 +61,9 @@ fn turn<A: App, C: Cacheable, W: Write>(
     requires { session.old.lines + length bytes.now < 2 ^ 64 }
     ensures counted { session.new.lines ≤ session.old.lines + length bytes.now }
     ensures turned { (world : Told) (read written : List ℕ)
-        → HasAnswered (record { next = A.next; world = world }) read written session.old
-        → TurnsTo (record { next = A.next; world = world }) (read ++ bytes.now) written session.new
+        → HasAnswered (record { next = A.next; world = world }) read written (progress_of session.old)
+        → TurnsTo (record { next = A.next; world = world }) (read ++ bytes.now) written
+        (progress_of session.new)
         (W.contents writer.old) (W.contents writer.new) result }
     ensures refused { result ≢ Err RunFault.Read }
 {
@@ -83,7 +85,7 @@ fn finish<A: App, C: Cacheable, W: Write>(
 ) -> Result<Status, RunFault>
     requires { session.old.lines + 1 < 2 ^ 64 }
     ensures ended { (world : Told) (read written : List ℕ)
-        → HasAnswered (record { next = A.next; world = world }) read written session.old
+        → HasAnswered (record { next = A.next; world = world }) read written (progress_of session.old)
         → EndsWith (record { next = A.next; world = world }) read (Unit {0}) written
         (W.contents writer.old) (W.contents writer.new) result }
     ensures refused { result ≢ Err RunFault.Read }

@@ -8,7 +8,7 @@ ghost use Rattle.txc_run.specs.Tasks.{IsMalformedLine};
 ghost use Rattle.txc_run.specs.TaskSteps.{IsDone};
 ghost use Rattle.txc_run.specs.WorldGiven.{Done, Malformed};
 ghost use Rattle.txc_run.specs.WorldRuns.{WorldStart};
-ghost use Rattle.txc_run.specs.WorldSessions.{status_after, AnswersAs, AnswersLast, AnswersLine, HasAnswered, IsFlowAfter, IsKeptBeside, Takes};
+ghost use Rattle.txc_run.specs.WorldSessions.{progress_of, status_after, AnswersAs, AnswersLast, AnswersLine, HasAnswered, IsFlowAfter, IsKeptBeside, Takes};
 ghost use Rattle.txc_world.specs.Told.{Told};
 ghost use Rattle.txc_run.specs.declared.world.printed.Printed.{Printed};
 
@@ -25,7 +25,6 @@ use crate::world::task::Task;
 use crate::writer::write_text;
 use std::alloc::{AllocError, Global};
 use std::io::Write;
-use std::marker::Model;
 use txc_registry::Cacheable;
 use txc_shared::App;
 use txc_world::World;
@@ -74,20 +73,6 @@ pub struct WorldSession<A: App, C: Cacheable> {
     /// The line that has not ended.
     line: LineStart,
     replied: Replied,
-}
-
-impl<A: App, C: Cacheable> Model for WorldSession<A, C> {
-    ghost use Rattle.txc_run.specs.WorldSessions.{Progress};
-
-    ghost Value = { Progress };
-
-    ghost view = { λ s. record {
-        world = s.world;
-        lines = s.lines;
-        line = s.line;
-        text = s.replied.text.items;
-        refused = s.replied.is_refused;
-    } };
 }
 
 /// Does what a line asks for, and takes what is written of it.
@@ -152,8 +137,8 @@ fn answer<A: App, C: Cacheable>(
 impl<A: App, C: Cacheable> WorldSession<A, C> {
     /// No line was read.
     pub fn new(alloc: Global, world: World<A, C>) -> Result<WorldSession<A, C>, AllocError>
-        ensures answered { IfOk result (λ s. HasAnswered (record { next = A.next; world = world }) [] [] s) }
-        ensures no_output { IfOk result (λ s. s.text ≡ []) }
+        ensures answered { IfOk result (λ s. HasAnswered (record { next = A.next; world = world }) [] [] (progress_of s)) }
+        ensures no_output { IfOk result (λ s. s.replied.text.items ≡ []) }
         ensures no_line { IfOk result (λ s. s.lines ≡ 0) }
     {
         let line = LineStart::new(alloc)?;
@@ -171,7 +156,7 @@ impl<A: App, C: Cacheable> WorldSession<A, C> {
 
     /// The status of a run that ends so.
     pub fn status(&self, end: Flow) -> Status
-        ensures { result ≡ status_after self.now.refused end }
+        ensures { result ≡ status_after self.now.replied.is_refused end }
     {
         if let Flow::Stopped(line) = end {
             return Status::Malformed(line);
@@ -192,9 +177,9 @@ impl<A: App, C: Cacheable> WorldSession<A, C> {
     ) -> Result<Flow, AllocError>
         requires count { self.old.lines + 1 < 2 ^ 64 }
         requires plain { known_plain ≡ true → ArePlain line.now }
-        ensures answered { IfOk result (AnswersLine A.next self.old.world self.new.world self.old.text
-            self.new.text self.old.refused self.new.refused (self.old.lines + 1) line.now) }
-        ensures unchanged { OnErr result (self.new.text ≡ self.old.text) }
+        ensures answered { IfOk result (AnswersLine A.next self.old.world self.new.world self.old.replied.text.items
+            self.new.replied.text.items self.old.replied.is_refused self.new.replied.is_refused (self.old.lines + 1) line.now) }
+        ensures unchanged { OnErr result (self.new.replied.text.items ≡ self.old.replied.text.items) }
         ensures counted { self.new.lines ≡ self.old.lines + 1 }
         ensures same_line { self.new.line ≡ self.old.line }
     {
@@ -212,9 +197,9 @@ impl<A: App, C: Cacheable> WorldSession<A, C> {
     /// Answers the line that is kept.
     fn answer_kept(&mut self, alloc: Global) -> Result<Flow, AllocError>
         requires { self.old.lines + 1 < 2 ^ 64 }
-        ensures answered { IfOk result (AnswersLine A.next self.old.world self.new.world self.old.text
-            self.new.text self.old.refused self.new.refused (self.old.lines + 1) self.old.line) }
-        ensures unchanged { OnErr result (self.new.text ≡ self.old.text) }
+        ensures answered { IfOk result (AnswersLine A.next self.old.world self.new.world self.old.replied.text.items
+            self.new.replied.text.items self.old.replied.is_refused self.new.replied.is_refused (self.old.lines + 1) self.old.line) }
+        ensures unchanged { OnErr result (self.new.replied.text.items ≡ self.old.replied.text.items) }
         ensures counted { self.new.lines ≡ self.old.lines + 1 }
         ensures emptied { self.new.line ≡ [] }
     {
@@ -244,9 +229,9 @@ impl<A: App, C: Cacheable> WorldSession<A, C> {
         requires plain { known_plain ≡ true → ArePlain bytes.now }
         ensures counted { self.new.lines ≤ self.old.lines + 1 }
         ensures answered { (world : Told) (read written : List ℕ)
-            → HasAnswered (record { next = A.next; world = world }) read written self.old
+            → HasAnswered (record { next = A.next; world = world }) read written (progress_of self.old)
             → AnswersAs (record { next = A.next; world = world }) (read ++ (bytes.now ++ 10 ∷ [])) written
-            self.new result }
+            (progress_of self.new) result }
     {
         if self.line.is_empty() {
             return self.answer_line(alloc, bytes, known_plain);
@@ -262,8 +247,9 @@ impl<A: App, C: Cacheable> WorldSession<A, C> {
         requires { HasNoEnd rest.now }
         ensures counted { self.new.lines ≡ self.old.lines }
         ensures answered { (world : Told) (read written : List ℕ)
-            → HasAnswered (record { next = A.next; world = world }) read written self.old
-            → AnswersAs (record { next = A.next; world = world }) (read ++ rest.now) written self.new result }
+            → HasAnswered (record { next = A.next; world = world }) read written (progress_of self.old)
+            → AnswersAs (record { next = A.next; world = world }) (read ++ rest.now) written
+            (progress_of self.new) result }
     {
         match self.line.add(rest) {
             Ok(()) => Ok(Flow::GoesOn),
@@ -276,8 +262,9 @@ impl<A: App, C: Cacheable> WorldSession<A, C> {
         requires { self.old.lines + length bytes.now < 2 ^ 64 }
         ensures counted { self.new.lines ≤ self.old.lines + length bytes.now }
         ensures answered { (world : Told) (read written : List ℕ)
-            → HasAnswered (record { next = A.next; world = world }) read written self.old
-            → AnswersAs (record { next = A.next; world = world }) (read ++ bytes.now) written self.new result }
+            → HasAnswered (record { next = A.next; world = world }) read written (progress_of self.old)
+            → AnswersAs (record { next = A.next; world = world }) (read ++ bytes.now) written
+            (progress_of self.new) result }
     {
         let mut rest = bytes;
         'lines: loop {
@@ -296,8 +283,8 @@ impl<A: App, C: Cacheable> WorldSession<A, C> {
     pub fn answer_last(&mut self, alloc: Global) -> Result<Flow, AllocError>
         requires { self.old.lines + 1 < 2 ^ 64 }
         ensures { (world : Told) (read written : List ℕ)
-            → HasAnswered (record { next = A.next; world = world }) read written self.old
-            → AnswersLast (record { next = A.next; world = world }) read written self.new result }
+            → HasAnswered (record { next = A.next; world = world }) read written (progress_of self.old)
+            → AnswersLast (record { next = A.next; world = world }) read written (progress_of self.new) result }
     {
         if self.line.is_empty() {
             return Ok(Flow::GoesOn);
@@ -313,12 +300,14 @@ impl<A: App, C: Cacheable> WorldSession<A, C> {
     /// Writes the replies that are not written yet.
     pub fn write_out<W: Write>(&mut self, writer: &mut W) -> Result<(), RunFault>
         ensures after { OnOk result
-            (Appends (W.contents writer.old) (W.contents writer.new) self.old.text) }
-        ensures emptied { OnOk result (self.new.text ≡ []) }
+            (Appends (W.contents writer.old) (W.contents writer.new)
+            self.old.replied.text.items) }
+        ensures emptied { OnOk result (self.new.replied.text.items ≡ []) }
         ensures prefix { OnErr result
-            (AppendsPrefix (W.contents writer.old) (W.contents writer.new) self.old.text) }
+            (AppendsPrefix (W.contents writer.old) (W.contents writer.new)
+            self.old.replied.text.items) }
         ensures refused { OnErr result (result ≡ Err RunFault.Write) }
-        ensures same { IsKeptBeside self.old self.new }
+        ensures same { IsKeptBeside (progress_of self.old) (progress_of self.new) }
     {
         write_text(writer, self.replied.text.as_slice())?;
         self.replied.text.clear();

@@ -4,6 +4,7 @@ use Rattle.txc_run.specs.WorldRuns.{HasPlayed, WorldStart, world_start}
 use Rattle.txc_run.specs.declared.fault.Status.TheVariants.{Malformed}
 use Rattle.txc_run.specs.declared.fault.Status.{Status}
 use Rattle.txc_run.specs.declared.fault.RunFault.{RunFault}
+use Rattle.txc_run.specs.WorldSessions.{progress_of}
 use Rattle.txc_run.proofs.Turning.{err_is, read_fault, nothing_more}
 use Rattle.txc_run.proofs.WorldTurning.{reader_failed, run_ends, run_out_of_memory, stopped_ends, goes_on_at}
 use Rattle.txc_run.proofs.world.script.run_session.Goals as goal
@@ -24,7 +25,7 @@ returns-in-Stopped-clause-after g c =
     let start : WorldStart = world_start g.A.App.next c.args.settings c.args.registries.items in
     let read = i.read ++ take c.in_ok-n.n c.read.new.piece in
     (run_ends ⊥ start _ _ _ _ _ read i.written (Ok (Malformed c.in-Stopped.line)) (Consumes-trans _ _ _ i.read (take c.in_ok-n.n c.read.new.piece) i.consumed c.in_ok-n.ensures.bytes.0) i.appended (λ h. absurd h)
-    (stopped_ends start read i.written c.turn.new.session _ c.in-Stopped.line _ _ c.in-Stopped.is (c.in_ok-turn.ensures.turned start.world i.read i.written i.answered)))
+    (stopped_ends start read i.written (progress_of c.turn.new.session) _ c.in-Stopped.line _ _ c.in-Stopped.is (c.in_ok-turn.ensures.turned start.world i.read i.written i.answered)))
 
 pub returns-in_err-turn-clause-after : goal.returns-in_err-turn-clause-after
 returns-in_err-turn-clause-after g c =
@@ -42,7 +43,7 @@ reads-preserved g c =
     let i = c.reads.invariant in
     let start : WorldStart = world_start g.A.App.next c.args.settings c.args.registries.items in
     let read = i.read ++ take c.in_ok-n.n c.read.new.piece in
-    let turned = goes_on_at start read i.written c.turn.new.session _ _ _ c.in-GoesOn.is (c.in_ok-turn.ensures.turned start.world i.read i.written i.answered) in
+    let turned = goes_on_at start read i.written (progress_of c.turn.new.session) _ _ _ c.in-GoesOn.is (c.in_ok-turn.ensures.turned start.world i.read i.written i.answered) in
     record {
       counted = search rules;
       read = read;
@@ -56,6 +57,6 @@ reads-preserved g c =
 pub returns-in_err-n-clause-after : goal.returns-in_err-n-clause-after
 returns-in_err-n-clause-after g c =
     let i = c.reads.invariant in
-    reader_failed (world_start g.A.App.next c.args.settings c.args.registries.items) _ _ _ _ i.read i.written c.reads.session c.from_residual.result
+    reader_failed (world_start g.A.App.next c.args.settings c.args.registries.items) _ _ _ _ i.read i.written (progress_of c.reads.session) c.from_residual.result
     (Consumes-kept _ _ _ i.read i.consumed c.in_err-n.ensures.bytes) i.appended i.answered i.none
     (read_fault c.from_residual.result (Err c.in_err-n.field-0.0) c.in_err-n.field-0.0 refl c.in_err-n.ensures.fault (err_is c.from_residual.result c.in_err-n.field-0.0 c.from_residual.ensures))

@@ -1,7 +1,7 @@
 use Rattle.std.proofs.Common.{◌≡◌, ◌+◌, ◌*◌, ◌≤◌, List, ℕ, []}
 use Rattle.std.specs.Io.KnownBytes.{Appends, Consumes}
 use Rattle.txc_run.specs.WorldRuns.{world_start}
-use Rattle.txc_run.specs.WorldSessions.{HasAnswered}
+use Rattle.txc_run.specs.WorldSessions.{progress_of, HasAnswered}
 use Rattle.txc_run.proofs.world.script.run_session.Given as goal
 
 abbrev pub invariant-reads : goal.invariant-reads
@@ -11,8 +11,8 @@ invariant-reads g l = record {
   written : List ℕ;
   consumed : Consumes (g.R.Read.remaining l.fn.reader) (g.R.Read.remaining l.reader) read;
   appended : Appends (g.W.Write.contents l.fn.writer) (g.W.Write.contents l.writer) written;
-  answered : HasAnswered (world_start g.A.App.next l.fn.settings l.fn.registries.items) read written l.session;
-  none : l.session.text ≡ [];
+  answered : HasAnswered (world_start g.A.App.next l.fn.settings l.fn.registries.items) read written (progress_of l.session);
+  none : l.session.replied.text.items ≡ [];
 }
 
 abbrev pub decreases-reads : goal.decreases-reads
