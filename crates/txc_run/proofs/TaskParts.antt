@@ -13,7 +13,7 @@ use Rattle.txc_rows.specs.declared.query.Query.TheVariants as queries
 use Rattle.txc_rows.specs.declared.query.Change.{Change}
 use Rattle.txc_rows.specs.declared.query.Change.TheVariants as changes
 use Rattle.txc_ports.specs.declared.bounds.Bounds.{Bounds}
-use Rattle.txc_run.specs.Tasks.{row_words, AreBoundsWords, AreChangeWords, AreQueryWords, IsPair}
+use Rattle.txc_run.specs.Tasks.{query_words, row_words, AreBoundsWords, AreChangeWords, AreQueryWords, IsPair}
 use Rattle.txc_run.specs.TaskReading.{IsNone, IsNumberWord, ArePairWords}
 use Rattle.txc_run.specs.declared.world.parts.TheConstants.{LAST_MOMENT}
 use Rattle.txc_run.specs.declared.world.unread.NoTask.{NoTask}
@@ -157,3 +157,23 @@ row_short words rest word row e other h =
 pub none_of : {T V : Type 0} (r : Result T NoTask) (Is : V → Type 0) → IsErr r × IsErrAnd r (λ reason. reason ≡ reasons.Malformed) → ((v : V) → Is v → ⊥) → IfErr r (IsNone Is)
 none_of (Ok x) Is h none = tt
 none_of (Err reason) Is h none = subst (IsNone Is) (sym h.1) none
+
+-- a clause of a refusal that holds anyhow
+pub refused_anyhow : {T E : Type 0} (r : Result T E) (P : Type 0) → P → IfErr r (λ _. P)
+refused_anyhow (Ok x) P h = tt
+refused_anyhow (Err e) P h = h
+
+-- where there is no such value there is none of a narrower kind
+pub none_as : {T V : Type 0} (r : Result T NoTask) (Is Js : V → Type 0) → IfErr r (IsNone Is) → ((v : V) → Js v → Is v) → IfErr r (IsNone Js)
+none_as (Ok x) Is Js h there = tt
+none_as (Err reasons.Malformed) Is Js h there = λ v js. h v (there v js)
+none_as (Err reasons.Memory) Is Js h there = tt
+
+no_words : (q : Query) → [] ≡ query_words q → ⊥
+no_words (queries.ById t n) e = cc
+no_words (queries.ByGroup t n) e = cc
+no_words (queries.All t) e = cc
+
+-- a query has words after a stamp
+pub query_alone : (words : List (List ℕ)) (word stamp : List ℕ) (q : Query) → words ≡ word ∷ [] → words ≡ stamp ∷ query_words q → ⊥
+query_alone words word stamp q e h = no_words q (others_are word stamp [] (query_words q) (sym e ∙ h))

@@ -132,7 +132,8 @@ fn read_named(alloc: Global, name: LineName, line: &[u8], text: &[u8]) -> Result
     ensures refused { IfErr result (IsNone (Says name (words_of text.now))) }
 {
     match name {
-        LineName::Put | LineName::Remove => read_keeper_change(alloc, line),
+        LineName::Put => read_keeper_change(alloc, line),
+        LineName::Remove => read_keeper_change(alloc, line),
         LineName::Pin => Ok(Task::Pin(read_moment(one_word(text)?)?)),
         LineName::Query => Ok(read_keeper_query(text)?),
         LineName::Ro => Ok(read_ro(text)?),
