@@ -1,7 +1,9 @@
 //! The program: `txcache node` reads a script on standard input and prints the replies; `txcache report`
 //! prints counts of them; `txcache world` runs transactions and prints their replies.
 #![tactic(auto)]
-ghost use Rattle.std.specs.Prelude.{All};
+ghost use Rattle.std.specs.Prelude.{◌≡◌, ◌+◌, vec_len, All, OnOk};
+ghost use Rattle.txc_functions.specs.Program.{program};
+ghost use Rattle.txc_registry.specs.Activity.{idle};
 ghost use Rattle.txc_registry.specs.Objects.{AllIdle};
 
 use clap::error::ErrorKind;
@@ -22,11 +24,16 @@ type Boxed = Box<dyn Cacheable + Send>;
 /// How many actors a world has.
 const ACTORS: usize = 8;
 
-/// Adds the registry of these functions to others. None where memory was refused.
+/// Adds a registry of these functions to others.
 fn enroll<C: Cacheable>(
     registries: &mut Vec<Registry<Program, C>>,
     objects: Vec<C>,
 ) -> Result<(), AllocError>
+    requires idle { All (λ c. C.activity c ≡ idle) objects.items }
+    requires means { All (λ c. C.says c ≡ program (C.number c)) objects.items }
+    requires all_idle { All AllIdle registries.old.items }
+    ensures all_idle { All AllIdle registries.new.items }
+    ensures after { OnOk result (vec_len registries.new ≡ vec_len registries.old + 1) }
 {
     match Registry::<Program, C>::new(objects) {
         Ok(registry) => {
