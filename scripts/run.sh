@@ -16,9 +16,9 @@ fi
 script=$(realpath "$script")
 cd "$(dirname "$0")/.."
 
-# The sources of the program and of the libraries that it stands on.
+# The sources of the program and of all libraries.
 sources() {
-    find crates.txt crates/{txc_stamp,txc_tags,txc_node,txc_settings,txc_run,txc_arguments,txcache} -path '*/out' -prune -o -type f \
+    find crates.txt crates -path '*/out' -prune -o -type f \
         \( -name crates.txt -o -name '*.rt' -o -name '*.antt' \) -newer "$program" -print
 }
 

@@ -1,6 +1,6 @@
 #!/usr/bin/env bash
 # Runs the built program over each script of examples/, and compares its replies, its report where there is one, and its
-# status. It prints only what differs.
+# status. A script that ends in .txw is one of mode world. It prints only what differs.
 set -euo pipefail
 cd "$(dirname "$0")/.."
 program=crates/txcache/out/txcache
@@ -21,4 +21,15 @@ for script in examples/*.txc; do
             exit 1
         fi
     done
+done
+
+for script in examples/*.txw; do
+    wanted=0
+    if grep -qE '(^|[a-z0-9] )refused |^line [0-9]+: malformed$' "${script%.txw}.out"; then wanted=1; fi
+    status=0
+    "$program" world <"$script" >"$replies" || status=$?
+    if [ "$status" != "$wanted" ] || ! diff "$replies" "${script%.txw}.out"; then
+        echo "run_examples.sh: world of $script: status $status, or other output than ${script%.txw}.out has" >&2
+        exit 1
+    fi
 done

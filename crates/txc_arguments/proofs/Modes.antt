@@ -20,8 +20,9 @@ use Rattle.clap.specs.declared.builder.value_parser.ValueParser.TheVariants.{Nam
 use Rattle.clap.specs.declared.parser.matches.ArgMatches.{ArgMatches}
 use Rattle.clap.specs.declared.parser.matches.Found.{Found}
 use Rattle.clap.specs.declared.parser.matches.MatchedArg.{MatchedArg}
-use Rattle.txc_settings.specs.declared.mode.Mode.{Mode}
-use Rattle.txc_settings.specs.declared.mode.Mode.TheVariants.{Node, Report}
+use Rattle.txc_settings.specs.declared.mode.Mode.TheVariants as modes
+use Rattle.txc_settings.specs.declared.script.Script.{Script}
+use Rattle.txc_settings.specs.declared.script.Script.TheVariants.{Node, World}
 use Rattle.txc_arguments.specs.Program.{AsksForMode, IsModeArg, IsSettingsArg, mode_text}
 
 -- ---- the program asks for it
@@ -121,26 +122,32 @@ not_auto id is (inr h) = apart (slice_index (codes "version") 0) 109 118 (first_
 has_name : (id : List ℕ) → id ≡ codes "mode" → id ≡ [] → ⊥
 has_name id is none = apart (slice_index [] 0) 0 109 refl (first_byte [] (sym is ∙ none)) (omega arith)
 
-either_true : (x y : Bool) → (x || (y || false)) ≡ true → (x ≡ true) ⊎ (y ≡ true)
-either_true true y h = inl refl
-either_true false true h = inr refl
-either_true false false h = cc
+one_true : (x y z : Bool) → (x || (y || (z || false))) ≡ true → (x ≡ true) ⊎ ((y ≡ true) ⊎ (z ≡ true))
+one_true true y z h = inl refl
+one_true false true z h = inr (inl refl)
+one_true false false true h = inr (inr refl)
+one_true false false false h = cc
 
-listed : (names : List (Bor (List ℕ))) (t : List ℕ) → map (λ name. name.now) names ≡ mode_text Node ∷ mode_text Report ∷ []
-    → list_any (λ name. same_text false name.now t) names ≡ true → (t ≡ mode_text Node) ⊎ (t ≡ mode_text Report)
+by_each : {P Q R S : Type 0} → (P → S) → (Q → S) → (R → S) → P ⊎ (Q ⊎ R) → S
+by_each f g h (inl p) = f p
+by_each f g h (inr (inl q)) = g q
+by_each f g h (inr (inr r)) = h r
+
+listed : (names : List (Bor (List ℕ))) (t : List ℕ) → map (λ name. name.now) names ≡ mode_text (Node modes.Node) ∷ mode_text (Node modes.Report) ∷ mode_text World ∷ []
+    → list_any (λ name. same_text false name.now t) names ≡ true → (t ≡ mode_text (Node modes.Node)) ⊎ ((t ≡ mode_text (Node modes.Report)) ⊎ (t ≡ mode_text World))
 listed [] t e h = cc
 listed (a ∷ []) t e h = cc
-listed (a ∷ b ∷ []) t e h =
-    let node : a.now ≡ mode_text Node = cc in
-    let report : b.now ≡ mode_text Report = cc in
-    elim (either_true (bytes_eq a.now t) (bytes_eq b.now t) h) [
-      | inl k ↦ inl (sym ((bytes_eq-Decides a.now t).0 k) ∙ node)
-      | inr k ↦ inr (sym ((bytes_eq-Decides b.now t).0 k) ∙ report)
-    ]
-listed (a ∷ b ∷ c ∷ more) t e h = cc
+listed (a ∷ b ∷ []) t e h = cc
+listed (a ∷ b ∷ d ∷ []) t e h =
+    let node : a.now ≡ mode_text (Node modes.Node) = cc in
+    let report : b.now ≡ mode_text (Node modes.Report) = cc in
+    let world : d.now ≡ mode_text World = cc in
+    by_each (λ k. inl (sym ((bytes_eq-Decides a.now t).0 k) ∙ node)) (λ k. inr (inl (sym ((bytes_eq-Decides b.now t).0 k) ∙ report))) (λ k. inr (inr (sym ((bytes_eq-Decides d.now t).0 k) ∙ world)))
+    (one_true (bytes_eq a.now t) (bytes_eq b.now t) (bytes_eq d.now t) h)
+listed (a ∷ b ∷ d ∷ c ∷ more) t e h = cc
 
 pub mode_given : (cmd : Command) (m : ArgMatches) → AsksForMode cmd → IsParsedFrom cmd m
-    → (t : List ℕ) × (first_value (found_of m) (codes "mode") ≡ Some t) × ((t ≡ mode_text Node) ⊎ (t ≡ mode_text Report))
+    → (t : List ℕ) × (first_value (found_of m) (codes "mode") ≡ Some t) × ((t ≡ mode_text (Node modes.Node)) ⊎ ((t ≡ mode_text (Node modes.Report)) ⊎ (t ≡ mode_text World)))
 mode_given cmd m a p =
     let xs = a.mode ∷ a.other ∷ [] in
     let d = a.mode in
@@ -176,12 +183,9 @@ has_mode cmd m got a p is none =
     cc
 
 pub is_mode : (cmd : Command) (m : ArgMatches) (got : Option (Bor (List ℕ))) (name : Bor (List ℕ)) → AsksForMode cmd → IsParsedFrom cmd m → option_map (λ s. s.now) got ≡ first_value (found_of m) (codes "mode") → got ≡ Some name
-    → ((mode : Mode) → name.now ≡ mode_text mode → ⊥) → ⊥
+    → ((script : Script) → name.now ≡ mode_text script → ⊥) → ⊥
 is_mode cmd m got name a p is some none =
     let given = mode_given cmd m a p in
     let same : Some name.now ≡ Some given.0 = sym (ap (option_map (λ (s : Bor (List ℕ)). s.now)) some) ∙ is ∙ given.1 in
     let text : name.now ≡ given.0 = cc in
-    elim given.2 [
-      | inl h ↦ none Node (text ∙ h)
-      | inr h ↦ none Report (text ∙ h)
-    ]
+    by_each (λ h. none (Node modes.Node) (text ∙ h)) (λ h. none (Node modes.Report) (text ∙ h)) (λ h. none World (text ∙ h)) given.2

@@ -12,19 +12,21 @@ use Rattle.clap.specs.declared.builder.value_parser.ValueParser.{ValueParser}
 use Rattle.clap.specs.declared.builder.value_parser.ValueParser.TheVariants.{Names}
 use Rattle.clap.specs.declared.error.Error.{Error}
 use Rattle.clap.specs.declared.error.kind.ErrorKind.TheVariants.{OutOfMemory}
-use Rattle.txc_settings.specs.declared.mode.Mode.{Mode}
-use Rattle.txc_settings.specs.declared.mode.Mode.TheVariants.{Node, Report}
+use Rattle.txc_settings.specs.declared.mode.Mode.TheVariants as modes
+use Rattle.txc_settings.specs.declared.script.Script.{Script}
+use Rattle.txc_settings.specs.declared.script.Script.TheVariants.{Node, World}
 
--- the word of a mode
-abbrev pub mode_text : Mode → Text
-mode_text Node = codes "node"
-mode_text Report = codes "report"
+-- the word of a mode, by the script that it runs
+abbrev pub mode_text : Script → Text
+mode_text (Node modes.Node) = codes "node"
+mode_text (Node modes.Report) = codes "report"
+mode_text World = codes "world"
 
 -- a value is the word of a mode
 abbrev pub ReadsModes : Option ValueParser → Type 0
 ReadsModes parser =
     (names : Bor (List (Bor Text))) × (parser ≡ Some (Names names))
-    × (map (λ name. name.now) names.now ≡ mode_text Node ∷ mode_text Report ∷ [])
+    × (map (λ name. name.now) names.now ≡ mode_text (Node modes.Node) ∷ mode_text (Node modes.Report) ∷ mode_text World ∷ [])
 
 -- the mode, which has to be there
 abbrev pub mode_rule : Option ValueParser → Rule
@@ -39,11 +41,11 @@ settings_rule = record (new_rule (codes "settings")) { long = Some (codes "setti
 abbrev pub program : Option ValueParser → App
 program modes = with_rule (with_rule (new_app (codes "txcache")) (mode_rule modes)) settings_rule
 
--- the words give this mode
-abbrev pub HasMode : List Text → Mode → Type 0
-HasMode words mode =
+-- the words give the mode of this script
+abbrev pub HasMode : List Text → Script → Type 0
+HasMode words script =
     (modes : Option ValueParser) × ReadsModes modes
-    × (first_of (codes "mode") (matches_of (program modes) words) ≡ Some (mode_text mode))
+    × (first_of (codes "mode") (matches_of (program modes) words) ≡ Some (mode_text script))
 
 -- the words give this text of settings, or none
 abbrev pub HasSettings : List Text → Option Text → Type 0

@@ -3,22 +3,22 @@ ghost use Rattle.std.specs.Prelude.{◌≡◌, IfOk, IfErr, IfSome, IfNone, map,
 ghost use Rattle.clap.specs.Words.{app_of, kind_of};
 ghost use Rattle.clap.specs.declared.builder.value_parser.ValueParser.{ValueParser};
 ghost use Rattle.txc_arguments.specs.Program.{AsksForMode, HasMode, HasSettings, IsModeArg, IsRefusedAs, IsSettingsArg, ReadsModes, mode_text, program};
-ghost use Rattle.txc_settings.specs.declared.mode.Mode.{Mode};
+ghost use Rattle.txc_settings.specs.declared.script.Script.{Script};
 
 use clap::error::ErrorKind;
 use clap::{Arg, ArgAction, Command, Error};
 use std::alloc::Global;
-use txc_settings::Mode;
+use txc_settings::{Mode, Script};
 
 /// What a command line names.
 #[derive(Clone, Copy, Debug, PartialEq, Eq)]
 pub struct Arguments<'a> {
-    pub mode: Mode,
+    pub script: Script,
     /// The text of the settings, where there is one.
     pub settings: Option<&'a str>,
 }
 
-static MODES: [&str; 2] = ["node", "report"];
+static MODES: [&str; 3] = ["node", "report", "world"];
 
 /// The argument of the mode.
 fn mode_argument<'a>(alloc: Global) -> Arg<'a>
@@ -28,7 +28,7 @@ fn mode_argument<'a>(alloc: Global) -> Arg<'a>
         .required(true)
         .action(ArgAction::Set)
         .value_name("MODE")
-        .help("What is written: the reply to each line (node), or counts of the replies (report)")
+        .help("The replies of a node (node), counts of them (report), or transactions of a world (world)")
         .value_parser(MODES.as_slice())
 }
 
@@ -52,28 +52,29 @@ fn program<'a>(alloc: Global) -> Result<Command<'a>, Error>
     Ok(
         Command::new(alloc, "txcache")
             .bin_name("txcache")?
-            .about("Runs the script on standard input over a cache node")
+            .about("Runs the script on standard input")
             .arg(mode_argument(alloc))?
             .arg(settings_argument(alloc))?,
     )
 }
 
 /// The mode of this name.
-fn mode_named(name: &str) -> Option<Mode>
-    ensures answer { IfSome result (λ mode. name.now ≡ mode_text mode) }
-    ensures refused { IfNone result ((mode : Mode) → name.now ≡ mode_text mode → ⊥) }
+fn mode_named(name: &str) -> Option<Script>
+    ensures answer { IfSome result (λ script. name.now ≡ mode_text script) }
+    ensures refused { IfNone result ((script : Script) → name.now ≡ mode_text script → ⊥) }
 {
     match name {
-        "node" => Some(Mode::Node),
-        "report" => Some(Mode::Report),
+        "node" => Some(Script::Node(Mode::Node)),
+        "report" => Some(Script::Node(Mode::Report)),
+        "world" => Some(Script::World),
         _ => None,
     }
 }
 
-/// Reads the words of a command line, the first of which is the program's name: `node` or `report`, and at
-/// most once `--settings` with a text. A request for help is an error too, of its own kind and with status 0.
+/// Reads the words of a command line, the first of which is the program's name: `node`, `report` or
+/// `world`, and at most once `--settings` with a text. A request for help is an error too, of its own kind and with status 0.
 pub fn read_arguments<'a>(alloc: Global, words: &'a [String]) -> Result<Arguments<'a>, Error>
-    ensures mode { IfOk result (λ a. HasMode (map string_bytes words.entry.now) a.mode) }
+    ensures mode { IfOk result (λ a. HasMode (map string_bytes words.entry.now) a.script) }
     ensures settings { IfOk result (λ a. HasSettings (map string_bytes words.entry.now)
         (option_map (λ s. s.now) a.settings)) }
     ensures refused { IfErr result (IsRefusedAs (map string_bytes words.entry.now)) }
@@ -86,7 +87,7 @@ pub fn read_arguments<'a>(alloc: Global, words: &'a [String]) -> Result<Argument
         unreachable!();
     };
     match mode_named(name) {
-        Some(mode) => Ok(Arguments { mode, settings }),
+        Some(script) => Ok(Arguments { script, settings }),
         None => unreachable!(),
     }
 }

@@ -18,7 +18,7 @@ use Rattle.txc_run.specs.Sessions.{kept_of}
 use Rattle.txc_run.specs.LineFaults.{IsFaultOf}
 use Rattle.txc_run.specs.declared.line.TheConstants.{MAX_LINE_LEN}
 use Rattle.txc_run.specs.declared.line_fault.LineFault.{LineFault}
-use Rattle.txc_run.specs.declared.line_fault.LineFault.TheVariants.{TooLong, Byte, Blanks, Command, Count, Word}
+use Rattle.txc_run.specs.declared.line_fault.LineFault.TheVariants.{TooLong, Byte, Blanks, Command, Count, Word, Usage}
 use Rattle.txc_run.specs.declared.piece.TheConstants.{MAX_KEPT}
 
 goes_on : (g : Given) (lines : List (List ℕ)) → is_malformed g ≡ false → GoesOn g lines
@@ -104,6 +104,7 @@ fault_whole line Blanks h = subst (λ (l : List ℕ). IsFaultOf l Blanks) (plain
 fault_whole line (Command text) h = subst (λ (l : List ℕ). IsFaultOf l (Command text)) (plain_kept line h.0.plain) h
 fault_whole line (Count wanted given) h = subst (λ (l : List ℕ). IsFaultOf l (Count wanted given)) (plain_kept line h.2.whole.plain) h
 fault_whole line (Word fault) h = subst (λ (l : List ℕ). IsFaultOf l (Word fault)) (plain_kept line h.2.whole.plain) h
+fault_whole line (Usage name) h = absurd h
 
 -- ---- the text, and tests of what lines give
 

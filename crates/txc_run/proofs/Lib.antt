@@ -16,3 +16,11 @@ pub mod Reporting
 pub mod Taking
 pub mod OneThing
 pub mod OneWay
+pub mod WorldAnswered
+pub mod WorldLines
+pub mod WorldTurning
+pub mod WorldSteps
+pub mod TaskNames
+pub mod TasksDone
+pub mod TaskParts
+pub mod WorldTexts

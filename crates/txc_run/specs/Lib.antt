@@ -15,3 +15,11 @@ pub mod Reading
 pub mod Sessions
 pub mod Turns
 pub mod Laws
+pub mod Tasks
+pub mod TaskReading
+pub mod TaskSteps
+pub mod TaskTexts
+pub mod WorldGiven
+pub mod WorldFaults
+pub mod WorldRuns
+pub mod WorldSessions

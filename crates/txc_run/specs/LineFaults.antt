@@ -17,7 +17,7 @@ use Rattle.txc_run.specs.declared.line_fault.WordKind.{WordKind}
 use Rattle.txc_run.specs.declared.line_fault.WordKind.TheVariants.{Key, Stamp, Reach, Tags, Bytes}
 use Rattle.txc_run.specs.declared.line_fault.WordFault.{WordFault}
 use Rattle.txc_run.specs.declared.line_fault.LineFault.{LineFault}
-use Rattle.txc_run.specs.declared.line_fault.LineFault.TheVariants.{TooLong, Byte, Blanks, Command, Count, Word}
+use Rattle.txc_run.specs.declared.line_fault.LineFault.TheVariants.{TooLong, Byte, Blanks, Command, Count, Word, Usage}
 
 -- ---- words
 
@@ -122,6 +122,7 @@ IsFaultOf line (Count wanted given) =
 IsFaultOf line (Word fault) =
     (words : List (List ℕ)) × (kinds : List WordKind) × IsCommand line words kinds
     × (length words ≡ length kinds) × IsBadWord kinds words fault
+IsFaultOf line (Usage name) = ⊥
 
 -- ---- only private functions need these
 

@@ -185,14 +185,14 @@ fn bad_word(alloc: Global, kinds: &[WordKind], words: WordsLeft<'_>) -> Option<W
 }
 
 /// The place of the first byte that no line may have.
-fn foreign_at(line: &[u8]) -> Option<usize>
+pub fn foreign_at(line: &[u8]) -> Option<usize>
     ensures { result ≡ position is_foreign line.now }
 {
     line.iter().position(|b| *b < 0x20 || *b > 0x7e)
 }
 
 /// Whether a word of the line is empty.
-fn has_empty_word(line: &[u8]) -> bool
+pub fn has_empty_word(line: &[u8]) -> bool
     ensures { result ≡ list_any is_empty (words_of line.now) }
 {
     let mut words = all_words(line);

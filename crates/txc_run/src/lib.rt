@@ -21,6 +21,7 @@ mod session;
 mod step;
 mod unread;
 mod words;
+mod world;
 mod writer;
 
 pub use excerpt::{Excerpt, MAX_SHOWN};
@@ -29,3 +30,5 @@ pub use laws::{a_line_is_one_thing, lines_are_answered_one_way};
 pub use line_fault::{LineFault, MalformedLine, WordFault, WordKind};
 pub use reads::MAX_READS;
 pub use script::run;
+pub use world::name::LineName;
+pub use world::script::run_world;

@@ -1,6 +1,7 @@
 //! What is wrong with a malformed line.
 use crate::excerpt::Excerpt;
 use crate::line::MAX_LINE_LEN;
+use crate::world::name::LineName;
 use std::fmt;
 use txc_stamp::LAST_STAMP;
 
@@ -53,6 +54,8 @@ pub enum LineFault {
         given: usize,
     },
     Word(WordFault),
+    /// Of a world's script: its words are not those of a line of this name.
+    Usage(LineName),
 }
 
 /// A malformed line of a script.
@@ -112,6 +115,7 @@ impl fmt::Display for LineFault {
                 write!(f, "{wanted} {words} must follow the command, not {given}")
             }
             LineFault::Word(fault) => write!(f, "{fault}"),
+            LineFault::Usage(name) => write!(f, "expected `{name}`"),
         }
     }
 }

@@ -13,7 +13,7 @@ use std::io::{Read, Write};
 use txc_settings::{Mode, Settings};
 
 /// How many bytes a read is asked for.
-const PIECE_LEN: usize = 16_384;
+pub const PIECE_LEN: usize = 16_384;
 
 /// Reads a script, and writes the replies to its lines or a report of them, as the mode says. The status says
 /// what is wrong with a malformed line. A reader is read at most [`crate::MAX_READS`] times, where a read
@@ -35,7 +35,7 @@ pub fn run<R: Read, W: Write>(
 }
 
 /// Flushes the writer at the end of a run. A fault of the run stays the one that is reported.
-fn flush<W: Write>(writer: &mut W, ended: Result<Status, RunFault>) -> Result<Status, RunFault>
+pub fn flush<W: Write>(writer: &mut W, ended: Result<Status, RunFault>) -> Result<Status, RunFault>
     ensures { EndsFlushed (W.contents writer.old) (W.contents writer.new) ended result }
 {
     let flushed = writer.flush();

@@ -1,0 +1,15 @@
+//! Scripts of a world.
+mod finding;
+mod line;
+pub mod name;
+mod outcome;
+mod parts;
+mod playing;
+mod printed;
+mod reading;
+mod refusing;
+pub mod script;
+mod session;
+mod task;
+mod texts;
+mod unread;

@@ -1,0 +1,16 @@
+//! What a line of a world's script is answered.
+use txc_stamp::Stamp;
+use txc_world::{End, Reply};
+
+/// What a line is answered, as it is written.
+#[derive(Drop)]
+pub enum Printed {
+    /// What a step was replied.
+    Replied(Reply),
+    /// How a call ended.
+    Ended(End),
+    /// Where a transaction may be serialised: whether at the present, and at these stamps.
+    Members(bool, Vec<Stamp>),
+    /// So many pins were taken out, and the horizon is this.
+    Tidied(usize, Stamp),
+}

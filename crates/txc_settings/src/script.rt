@@ -1,0 +1,11 @@
+//! Kinds of scripts.
+use crate::mode::Mode;
+
+/// What a script is of.
+#[derive(Clone, Copy, Debug, PartialEq, Eq)]
+pub enum Script {
+    /// One node, in this mode.
+    Node(Mode),
+    /// A world: transactions of eight actors, and the keeper's work.
+    World,
+}
