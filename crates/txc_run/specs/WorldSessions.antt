@@ -54,7 +54,7 @@ pub record Progress : Type 0 where
 
 abbrev pub progress_of : {A C : Type 0} → WorldSession A C → Progress
 progress_of s = record {
-  world = s.world;
+  world = s.world.told;
   lines = s.lines;
   line = s.line;
   text = s.replied.text.items;

@@ -19,7 +19,7 @@ fn take<A: App, C: Cacheable>(
     world: &mut World<A, C>,
     step: Step,
 ) -> Result<Reply, AllocError>
-    ensures { IfOk result (λ reply. IsTaken A.next world.old step reply world.new) }
+    ensures { IfOk result (λ reply. IsTaken A.next world.old.told step reply world.new.told) }
 {
     let steps = [step];
     let mut replies = world.run(alloc, &steps)?;
@@ -37,7 +37,7 @@ fn pin_present<A: App, C: Cacheable>(
     now: u64,
 ) -> Result<Reply, AllocError>
     ensures { IfOk result (λ reply.
-        IsDone A.next world.old (Task.Pin now) (Printed.Replied reply) world.new) }
+        IsDone A.next world.old.told (Task.Pin now) (Printed.Replied reply) world.new.told) }
 {
     let pinned = take(alloc, world, Step::Keeper(Keep::Pin(now)))?;
     let Some(stamp) = stamp_in(&pinned) else {
@@ -58,7 +58,7 @@ fn finish_call<A: App, C: Cacheable>(
     world: &mut World<A, C>,
     actor: usize,
 ) -> Result<Printed, AllocError>
-    ensures { IfOk result (λ printed. IsDone A.next world.old (Task.Finish actor) printed world.new) }
+    ensures { IfOk result (λ printed. IsDone A.next world.old.told (Task.Finish actor) printed world.new.told) }
 {
     for _ in 0..u64::MAX {
         let reply = take(alloc, world, Step::Actor(actor, Act::Request))?;
@@ -76,7 +76,7 @@ fn end_txn<A: App, C: Cacheable>(
     actor: usize,
     act: Act,
 ) -> Result<Reply, AllocError>
-    ensures { IfOk result (λ reply. HasEndedTxn A.next world.old actor act reply world.new) }
+    ensures { IfOk result (λ reply. HasEndedTxn A.next world.old.told actor act reply world.new.told) }
 {
     let reply = take(alloc, world, Step::Actor(actor, act))?;
     if leaves_hold(&reply) {
@@ -93,7 +93,7 @@ fn unpin_all<A: App, C: Cacheable>(
     stamps: &[Stamp],
     count: usize,
 ) -> Result<Printed, AllocError>
-    ensures { IfOk result (λ printed. HasUnpinned A.next world.old stamps.now count printed world.new) }
+    ensures { IfOk result (λ printed. HasUnpinned A.next world.old.told stamps.now count printed world.new.told) }
 {
     let Some((stamp, others)) = stamps.split_first() else {
         let reply = take(alloc, world, Step::Keeper(Keep::Vacuum))?;
@@ -113,7 +113,7 @@ fn tidy_up<A: App, C: Cacheable>(
     now: u64,
     age: u64,
 ) -> Result<Printed, AllocError>
-    ensures { IfOk result (λ printed. IsDone A.next world.old (Task.Tidy now age) printed world.new) }
+    ensures { IfOk result (λ printed. IsDone A.next world.old.told (Task.Tidy now age) printed world.new.told) }
 {
     let reply = take(alloc, world, Step::Keeper(Keep::Retire { now, age }))?;
     match taken_out(reply) {
@@ -135,7 +135,7 @@ fn members_of<A: App, C: Cacheable>(
     world: &World<A, C>,
     actor: usize,
 ) -> Result<Printed, AllocError>
-    ensures { IfOk result (λ printed. DoesPins A.next world.now actor printed) }
+    ensures { IfOk result (λ printed. DoesPins A.next world.now.told actor printed) }
 {
     match world.pins(actor) {
         Ok(members) => {
@@ -152,7 +152,7 @@ pub fn play<A: App, C: Cacheable>(
     world: &mut World<A, C>,
     task: Task,
 ) -> Result<Printed, AllocError>
-    ensures { IfOk result (λ printed. IsDone A.next world.old task printed world.new) }
+    ensures { IfOk result (λ printed. IsDone A.next world.old.told task printed world.new.told) }
 {
     match task {
         Task::One(step) => Ok(Printed::Replied(take(alloc, world, step)?)),

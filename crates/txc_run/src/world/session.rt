@@ -82,7 +82,7 @@ fn do_task<A: App, C: Cacheable>(
     replied: &mut Replied,
     task: Task,
 ) -> Result<(), AllocError>
-    ensures after { OnOk result ((printed : Printed) × IsDone A.next world.old task printed world.new
+    ensures after { OnOk result ((printed : Printed) × IsDone A.next world.old.told task printed world.new.told
         × Takes replied.old.text.items replied.new.text.items replied.old.is_refused
         replied.new.is_refused (Done printed)) }
     ensures unchanged { OnErr result (replied.new.text.items ≡ replied.old.text.items) }
@@ -119,7 +119,7 @@ fn answer<A: App, C: Cacheable>(
     known_plain: bool,
 ) -> Result<Flow, AllocError>
     requires plain { known_plain ≡ true → ArePlain line.now }
-    ensures answered { IfOk result (AnswersLine A.next world.old world.new replied.old.text.items
+    ensures answered { IfOk result (AnswersLine A.next world.old.told world.new.told replied.old.text.items
         replied.new.text.items replied.old.is_refused replied.new.is_refused number line.now) }
     ensures unchanged { OnErr result (replied.new.text.items ≡ replied.old.text.items) }
 {
@@ -137,7 +137,7 @@ fn answer<A: App, C: Cacheable>(
 impl<A: App, C: Cacheable> WorldSession<A, C> {
     /// No line was read.
     pub fn new(alloc: Global, world: World<A, C>) -> Result<WorldSession<A, C>, AllocError>
-        ensures answered { IfOk result (λ s. HasAnswered (record { next = A.next; world = world }) [] [] (progress_of s)) }
+        ensures answered { IfOk result (λ s. HasAnswered (record { next = A.next; world = world.told }) [] [] (progress_of s)) }
         ensures no_output { IfOk result (λ s. s.replied.text.items ≡ []) }
         ensures no_line { IfOk result (λ s. s.lines ≡ 0) }
     {
