@@ -28,7 +28,9 @@ fn mode_argument<'a>(alloc: Global) -> Arg<'a>
         .required(true)
         .action(ArgAction::Set)
         .value_name("MODE")
-        .help("The replies of a node (node), counts of them (report), or transactions of a world (world)")
+        .help(
+            "The replies of a node (node), counts of them (report), or transactions of a world (world)",
+        )
         .value_parser(MODES.as_slice())
 }
 

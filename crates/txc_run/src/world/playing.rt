@@ -3,7 +3,9 @@ ghost use Rattle.std.specs.Prelude.{◌≡◌, map, IfOk};
 ghost use Rattle.txc_run.specs.TaskSteps.{DoesPins, IsDone, IsTaken};
 ghost use Rattle.txc_run.specs.WorldSessions.{HasEndedTxn, HasUnpinned};
 
-use crate::world::outcome::{ending_of, is_added, is_unpinned, leaves_hold, stamp_in, taken_out, tidied};
+use crate::world::outcome::{
+    ending_of, is_added, is_unpinned, leaves_hold, stamp_in, taken_out, tidied,
+};
 use crate::world::printed::Printed;
 use crate::world::task::Task;
 use std::alloc::{AllocError, Global};
@@ -170,8 +172,7 @@ pub fn close_all<A: App, C: Cacheable>(
     alloc: Global,
     world: &mut World<A, C>,
     actors: usize,
-) -> Result<(), AllocError>
-{
+) -> Result<(), AllocError> {
     for actor in 0..actors {
         let _ = end_txn(alloc, world, actor, Act::Abort)?;
     }

@@ -10,7 +10,9 @@ use crate::reading::read_stamp;
 use crate::unread::Malformed;
 use crate::words::{first_word, one_word, two_words};
 use crate::world::name::{LineName, name_of};
-use crate::world::parts::{read_bounds, read_change, read_moment, read_place, read_query, read_row};
+use crate::world::parts::{
+    read_bounds, read_change, read_moment, read_place, read_query, read_row,
+};
 use crate::world::task::Task;
 use crate::world::unread::NoTask;
 use std::alloc::Global;

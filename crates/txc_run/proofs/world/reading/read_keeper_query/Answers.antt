@@ -23,8 +23,7 @@ returns-in_err-query-clause-refused c =
 
 pub returns-clause-answer : goal.returns-clause-answer
 returns-clause-answer c =
-    let cut = words_cut c.args.text.now c.in-Some.stamp.now c.in-Some.text.now c.in-Some.ensures.answer.0 c.in-Some.ensures.answer.1 in
-    (
+    let cut = words_cut c.args.text.now c.in-Some.stamp.now c.in-Some.text.now c.in-Some.ensures.answer.0 c.in-Some.ensures.answer.1 in (
       c.in_ok-stamp.stamp,
       c.in_ok-query.query,
       cut ∙ ap (λ (w : List ℕ). w ∷ words_of c.in-Some.text.now) c.in_ok-stamp.ensures.answer.1 ∙ ap (λ (ws : List (List ℕ)). decimal c.in_ok-stamp.stamp ∷ ws) c.in_ok-query.ensures.answer.0,
