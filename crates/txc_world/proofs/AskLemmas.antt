@@ -1,7 +1,7 @@
 -- What comes of a transaction's requests at the plain ports.
-use Rattle.std.proofs.Common.{◌≡◌, ◌∙◌, ℕ, ◌+◌, ◌≤◌, List, [], ◌∷◌, ◌++◌, Result, Ok, Err, Option, Some, None, refl, ap, sym, subst}
+use Rattle.std.proofs.Common.{◌≡◌, ◌∙◌, ℕ, [], ◌∷◌, ◌++◌, Result, Ok, Err, Option, Some, None, refl, ap, sym, subst}
 use Rattle.std.specs.Prelude.{IfSome}
-use Rattle.std.specs.Option.{option_map, ForSome}
+use Rattle.std.specs.Option.{ForSome}
 use Rattle.txc_tags.specs.Keys.{Call}
 use Rattle.txc_rows.specs.declared.query.Query.{Query}
 use Rattle.txc_validity.specs.declared.answer.Found.{Found}
@@ -10,7 +10,6 @@ use Rattle.txc_db.specs.declared.error.DbError.{DbError}
 use Rattle.txc_db.specs.declared.pinned.Pinned.{Pinned}
 use Rattle.txc_db.specs.History.{History, pin_event}
 use Rattle.txc_db.specs.Seen.{FrontValue}
-use Rattle.txc_db.specs.DatabaseValue.{front_of}
 use Rattle.txc_node.specs.declared.entry.Entry.{Entry}
 use Rattle.txc_node.specs.declared.hit.Shown.{Shown}
 use Rattle.txc_cushion.specs.declared.error.AddError.{AddError}
@@ -21,11 +20,9 @@ use Rattle.txc_shared.specs.Eval.{Next}
 use Rattle.txc_shared.specs.Nodes.{NodeValue, entry_shown}
 use Rattle.txc_ports.specs.declared.request.PortRequest.TheVariants as requests
 use Rattle.txc_ports.specs.declared.reply.PortReply.TheVariants as replies
-use Rattle.txc_world.specs.declared.asked.Asked.{Asked}
 use Rattle.txc_world.specs.declared.did.Did.{Did}
 use Rattle.txc_world.specs.declared.did.Did.TheVariants as dids
 use Rattle.txc_world.specs.declared.did.RowsFound.{RowsFound}
-use Rattle.txc_world.specs.NodeSteps.{LookupLeads, InsertLeads}
 use Rattle.txc_world.specs.Parts.{IsPartOf}
 use Rattle.txc_world.specs.Ports.{PortsValue, whole_of, KeepsRow, HasLedNode}
 use Rattle.txc_world.specs.Asks.{did_insert, AddLeads, DoesTell, HasFound, IsAsked, IsToldOf, PinLeads}

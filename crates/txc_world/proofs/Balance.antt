@@ -1,20 +1,14 @@
 -- Each step leaves to each what is its own.
-use Rattle.std.proofs.Common.{◌≡◌, ◌∙◌, ℕ, ◌+◌, ◌<◌, ◌≤◌, true, false, List, [], ◌∷◌, ◌++◌, length, map, Result, Ok, Err, Option, Some, None, Vec, refl, ap, sym, subst, arith, slice_get, slice_set}
+use Rattle.std.proofs.Common.{◌≡◌, ◌∙◌, ℕ, List, [], ◌∷◌, ◌++◌, Result, Ok, Err, Option, Some, None, Vec, refl, ap, arith}
 use Rattle.std.specs.declared.alloc.Global.{Global}
-use Rattle.std.proofs.lemmas.List.{map-append}
 use Rattle.txc_rows.specs.declared.query.Change.{Change}
 use Rattle.txc_db.specs.declared.error.DbError.{DbError}
-use Rattle.txc_db.specs.declared.pinned.Pinned.{Pinned}
-use Rattle.txc_db.specs.Facts.{EventValue}
 use Rattle.txc_db.specs.History.{commit_event}
-use Rattle.txc_db.specs.DatabaseValue.{after_commit, after_event_of, newest_net, newest_state, where_some, DatabaseValue}
+use Rattle.txc_db.specs.DatabaseValue.{after_event_of, newest_net, newest_state, where_some, DatabaseValue}
 use Rattle.txc_cushion.specs.declared.error.AddError.{AddError}
-use Rattle.txc_cushion.specs.declared.error.UnknownPin.{UnknownPin}
 use Rattle.txc_cushion.specs.Cushion.{retired}
-use Rattle.txc_cushion.specs.Entries.{stamps_of, times, users_of}
-use Rattle.txc_world.specs.declared.step.Keep.{Keep}
+use Rattle.txc_cushion.specs.Entries.{times}
 use Rattle.txc_world.specs.declared.step.Keep.TheVariants as keeps
-use Rattle.txc_world.specs.declared.reply.Reply.{Reply}
 use Rattle.txc_world.specs.declared.reply.Reply.TheVariants as replies
 use Rattle.txc_world.specs.declared.reply.Reply.TheVariants.{Refused}
 use Rattle.txc_world.specs.declared.reply.Refusal.TheVariants as refusals
@@ -22,8 +16,8 @@ use Rattle.txc_shared.specs.Nodes.{NodeValue}
 use Rattle.txc_world.specs.Ports.{PortsValue, HasLedNode, HasRefused}
 use Rattle.txc_world.specs.Asks.{UnpinLeads}
 use Rattle.txc_world.specs.Keeping.{stamps_of as stamps_of_pins, GiveBackLeads, HasAddedSpare, AddSpareLeads, PinSpareLeads, RetireLeads, WriteLeads}
-use Rattle.txc_world.specs.Books.{books_of, times_own, times_taken, Account, CountRight}
-use Rattle.txc_world.specs.Tidy.{purse_kept, AreBalanced, IsTidyKeep, KeepsBalance, Purse}
+use Rattle.txc_world.specs.Books.{books_of, Account, CountRight}
+use Rattle.txc_world.specs.Tidy.{AreBalanced, KeepsBalance, Purse}
 use Rattle.txc_world.specs.Kept.{told_addition}
 use Rattle.txc_world.proofs.KeptLemmas.{pinned_spare_stamps}
 use Rattle.txc_world.proofs.Times.{held_there, times_append, times_cons, times_one, times_without}
@@ -60,8 +54,8 @@ module _ (old new : PortsValue) where
   keeps_written change stamp leads = λ purse accounts tidy h.
       let d = old.database in
       let holds : new.database.holds ≡ old.database.holds =
-          ap (λ (p : PortsValue). p.database.holds) leads.0
-          ∙ committed_holds d (newest_net d (change ∷ [])) (after_event_of d (commit_event (newest_state d) (change ∷ [])) (newest_net d (change ∷ []))) refl in
+      ap (λ (p : PortsValue). p.database.holds) leads.0
+      ∙ committed_holds d (newest_net d (change ∷ [])) (after_event_of d (commit_event (newest_state d) (change ∷ [])) (newest_net d (change ∷ []))) refl in
       balance_same old new purse accounts holds (ap (λ (p : PortsValue). p.cushion) leads.0) (ap (λ (p : PortsValue). stamps_of_pins p.spare) leads.0) h
 
   pub keeps_not_written : (change : Change) (e : DbError) → WriteLeads change old new (Err e) → KeepsBalance (keeps.Write change) old new (Refused (refusals.Database e))
@@ -74,7 +68,7 @@ module _ (old new : PortsValue) where
   keeps_pinned now stamp leads = λ purse accounts tidy h.
       let pinned = leads.pinned in
       let holds : new.database.holds ≡ old.database.holds ++ pinned.stamp ∷ [] =
-          pin_holds old (record new { spare = old.spare }) now pinned.stamp (ap (λ (p : PortsValue). p.database) leads.made.after) leads.made.stamp in
+      pin_holds old (record new { spare = old.spare }) now pinned.stamp (ap (λ (p : PortsValue). p.database) leads.made.after) leads.made.stamp in
       let cushion : new.cushion ≡ old.cushion = ap (λ (p : PortsValue). p.cushion) leads.made.after in
       rw (holds, cushion, pinned_spare_stamps old new now stamp leads, leads.stamp_is) (record {
         held = λ t.

@@ -1,5 +1,5 @@
 -- What stays in balance over a world and over a list of steps.
-use Rattle.std.proofs.Common.{◌≡◌, ◌∙◌, ℕ, ◌+◌, ◌<◌, ◌≤◌, true, false, List, [], ◌∷◌, ◌++◌, length, map, Result, Ok, Err, Option, Some, None, refl, ap, sym, subst, arith, slice_get, slice_set, take, get_or, add-one, length-take-le}
+use Rattle.std.proofs.Common.{◌≡◌, ◌∙◌, ℕ, ◌+◌, ◌<◌, ◌≤◌, List, [], ◌∷◌, ◌++◌, length, map, Option, Some, None, refl, ap, sym, subst, arith, slice_get, slice_set, take, get_or, add-one, length-take-le}
 use Rattle.std.proofs.Math.Seq.{take-length, take-suc}
 use Rattle.std.specs.Prelude.{sum_by}
 use Rattle.std.proofs.lemmas.List.Sums.{sum_by-cons}
@@ -7,7 +7,7 @@ use Rattle.std.proofs.lemmas.Option.{slice_get-map}
 use Rattle.std.proofs.lemmas.List.{map-set}
 use Rattle.std.specs.Option.{option_map}
 use Rattle.txc_db.specs.declared.error.DbError.TheVariants as errors
-use Rattle.txc_cushion.specs.Entries.{stamps_of, times, users_of}
+use Rattle.txc_cushion.specs.Entries.{stamps_of, times}
 use Rattle.txc_world.specs.declared.actor.Actor.{Actor}
 use Rattle.txc_world.specs.declared.did.Did.{Did}
 use Rattle.txc_world.specs.declared.did.Did.TheVariants as dids
@@ -20,7 +20,7 @@ use Rattle.txc_world.specs.declared.settings.WorldSettings.{WorldSettings}
 use Rattle.txc_world.specs.declared.step.Step.{Step}
 use Rattle.txc_world.specs.Ports.{PortsValue}
 use Rattle.txc_world.specs.Keeping.{stamps_of as stamps_of_pins}
-use Rattle.txc_world.specs.Books.{account_at, account_of, books_of, nothing, times_own, times_taken, Account, ActCounts, CountRight, HasLost, IsFair, IsLossOf}
+use Rattle.txc_world.specs.Books.{account_at, account_of, books_of, nothing, Account, ActCounts, CountRight, HasLost, IsFair, IsLossOf}
 use Rattle.txc_world.specs.Tidy.{empty_purse, purse_after, purse_by, AreBalanced, AreTidy, IsTidy, LoseNoSnapshot, LosesNoSnapshot, LosesNothing, Purse}
 use Rattle.txc_world.specs.Worlds.{value_of, IsBalanced, WorldValue}
 use Rattle.txc_world.proofs.Times.{sum_at, sum_set}
@@ -145,8 +145,7 @@ module _ {A C : Type 0} (settings : WorldSettings) (old new : PortsValue) (actor
       → value_of settings old actors ≡ was → value_of settings new actors' ≡ now → IsBalanced was purse → IsBalanced now purse × LosesNothing reply
   world_balanced actors' was now reply purse put spare right counts shows shows' h =
       let h' = subst (λ (w : WorldValue). IsBalanced w purse) (sym shows) h in
-      let b = acts_balanced old new (map account_at actors) place (account_of actor) (account_of actor') account_there (stamps_of_pins old.spare) purse counts.fair h' in
-      (
+      let b = acts_balanced old new (map account_at actors) place (account_of actor) (account_of actor') account_there (stamps_of_pins old.spare) purse counts.fair h' in (
         subst (λ (w : WorldValue). IsBalanced w purse) shows' (rw (put, set_twice actors place None (Some actor'), spare, map-set account_at actors place (Some actor')) b),
         loses_nothing old new (map account_at actors) place (account_of actor) (account_of actor') account_there (stamps_of_pins old.spare) purse reply right h' counts,
       )
@@ -201,8 +200,7 @@ module _ (steps : List Step) (i : ℕ) (step : Step) (within : i < length steps)
       let long = as_many replies even in
       let parts = tidy_first purse (take i steps) replies step reply long tidy in
       let before = h purse b parts.0 in
-      let last = k (purse_by purse (take i steps) replies) before.0 parts.1 in
-      (
+      let last = k (purse_by purse (take i steps) replies) before.0 parts.1 in (
         subst (IsBalanced new) (sym (purse_more purse (take i steps) replies step reply long)) last.0,
         lose_more (take i steps) replies step reply long before.1 last.1,
       ))

@@ -1,16 +1,15 @@
 -- What is explained in a history.
-use Rattle.std.proofs.Common.{◌≡◌, ◌∙◌, ◌≢◌, ℕ, zero, suc, ◌<◌, ◌≤◌, List, [], All, Option, Some, None, fold, take, length, slice_get, refl, ap, sym, subst, arith}
+use Rattle.std.proofs.Common.{◌≡◌, ◌∙◌, ℕ, zero, suc, ◌≤◌, List, [], Option, Some, None, fold, length, slice_get, refl, ap, sym, subst, arith}
 use Rattle.std.proofs.lemmas.Option.{slice_get_within}
 use mathlib.Core.List.{IsPrefix}
 use Rattle.txc_stream.proofs.Offered.{prefix_get, prefix_take}
-use Rattle.txc_rows.specs.States.{State}
 use Rattle.txc_db.specs.Facts.{EventValue}
-use Rattle.txc_db.specs.History.{History, after_event, event_at, moment_at, pinned_moment, state_at, IsAllowed}
+use Rattle.txc_db.specs.History.{History, after_event, moment_at, pinned_moment, state_at}
 use Rattle.txc_cushion.specs.declared.pin.Pin.{Pin}
 use Rattle.txc_shared.specs.Eval.{Next}
 use Rattle.txc_ports.specs.declared.bounds.Bounds.{Bounds}
 use Rattle.txc_ports.specs.declared.recorded.Recorded.{Recorded}
-use Rattle.txc_ports.specs.Answers.{AreConsistent, IsFresh}
+use Rattle.txc_ports.specs.Answers.{AreConsistent}
 use Rattle.txc_txn.specs.Core.{Explains}
 
 -- a pin of a history is one of a longer one, and lies within it

@@ -1,5 +1,5 @@
 -- What a transaction's requests do to holds and users.
-use Rattle.std.proofs.Common.{◌≡◌, ◌∙◌, ℕ, zero, suc, ◌+◌, ◌<◌, ◌≤◌, ◌==◌, Bool, true, false, cond, List, [], ◌∷◌, ◌++◌, length, map, ◌&&◌, All, Contains, Result, Ok, Err, Option, Some, None, refl, ap, sym, subst, inl, inr, arith, eqb-true, length-append, get_or, drop, add-one}
+use Rattle.std.proofs.Common.{◌≡◌, ◌∙◌, ℕ, suc, ◌+◌, ◌<◌, ◌≤◌, ◌==◌, Bool, true, false, List, [], ◌∷◌, ◌++◌, length, map, ◌&&◌, All, Contains, Result, Ok, Err, Option, Some, None, refl, ap, sym, subst, inl, inr, arith, eqb-true, length-append, get_or, drop, add-one}
 use Rattle.std.proofs.Math.Seq.{drop-cons}
 use Rattle.std.proofs.lemmas.List.{drop_all}
 use Rattle.std.proofs.lemmas.List.Elements.{All-head}
@@ -15,14 +15,12 @@ use Rattle.txc_db.specs.declared.answered.Answered.{Answered}
 use Rattle.txc_db.specs.declared.error.DbError.{DbError}
 use Rattle.txc_db.specs.declared.error.DbError.TheVariants as errors
 use Rattle.txc_db.specs.declared.pinned.Pinned.{Pinned}
-use Rattle.txc_db.specs.History.{History, pin_event}
-use Rattle.txc_db.specs.DatabaseValue.{after_pin, after_unpin, is_held, newest, DatabaseValue, IsReadable, IsSound}
+use Rattle.txc_db.specs.History.{pin_event}
+use Rattle.txc_db.specs.DatabaseValue.{after_pin, newest, DatabaseValue, IsReadable}
 use Rattle.txc_db.specs.Calls.{IsLeft, IsPinRefused, IsQueryRefused, IsUnpinRefused}
 use Rattle.txc_cushion.specs.declared.error.AddError.{AddError}
-use Rattle.txc_cushion.specs.declared.entry.PinEntry.{PinEntry}
 use Rattle.txc_cushion.specs.declared.pin.Pin.{Pin}
-use Rattle.txc_cushion.specs.Entries.{stamps_of, times, users_of}
-use Rattle.txc_cushion.specs.Cushion.{after_add, CushionValue}
+use Rattle.txc_cushion.specs.Entries.{times}
 use Rattle.txc_cushion.specs.declared.error.UnknownPin.{UnknownPin}
 use Rattle.txc_cushion.specs.declared.pins.Pins.{Pins}
 use Rattle.txc_cushion.specs.Laws.{GiveBackCountsUsers}
@@ -285,6 +283,7 @@ newest_taken now renew_after present (newest ∷ older) taken stamp is all = go 
   where
     first : 0 < times newest.stamp taken
     first = times_there newest.stamp taken (All-head (λ (m : Pin). Contains taken m.stamp) newest older all)
+
     go : (b : Bool) → (present && is_older renew_after now newest) ≡ b → 0 < times stamp taken
     go true due = let no : Present ≡ At stamp = rw due at is in absurd (cc no)
     go false due = let same : At newest.stamp ≡ At stamp = rw due at is in let at : newest.stamp ≡ stamp = cc in subst (λ (s : ℕ). 0 < times s taken) at first

@@ -1,5 +1,5 @@
 -- Pins that are given back one by one.
-use Rattle.std.proofs.Common.{◌≡◌, ◌∙◌, ℕ, zero, suc, ◌+◌, ◌<◌, ◌≤◌, List, [], ◌∷◌, length, map, Result, Ok, Err, Some, refl, ap, sym, subst, arith, get_or, take, drop, add-one, eq-eqb, slice_get}
+use Rattle.std.proofs.Common.{◌≡◌, ◌∙◌, ℕ, zero, suc, ◌+◌, ◌<◌, ◌≤◌, List, [], ◌∷◌, length, map, Result, Ok, Err, Some, refl, ap, sym, arith, get_or, take, drop, add-one, eq-eqb, slice_get}
 use Rattle.std.proofs.Math.Seq.{drop-cons}
 use Rattle.std.proofs.lemmas.List.{drop_all}
 use Rattle.txc_cushion.specs.declared.error.UnknownPin.{UnknownPin}

@@ -1,5 +1,5 @@
 -- What the steps at a node keep of it.
-use Rattle.std.proofs.Common.{◌≡◌, ◌∙◌, ◌⊎◌, inl, inr, ℕ, ◌+◌, Bool, true, false, List, Option, Some, None, Result, Ok, Err, refl, ap, sym, subst}
+use Rattle.std.proofs.Common.{◌≡◌, ◌∙◌, inl, inr, ℕ, true, false, Option, Some, None, Result, Ok, Err, refl, ap, sym, subst}
 use mathlib.Core.List.{IsPrefix}
 use Rattle.txc_tags.specs.Keys.{Call}
 use Rattle.txc_db.specs.History.{History}
@@ -7,18 +7,17 @@ use Rattle.txc_db.specs.Seen.{FrontValue}
 use Rattle.txc_node.specs.declared.entry.Entry.{Entry}
 use Rattle.txc_node.specs.declared.hit.Shown.{Shown}
 use Rattle.txc_node.specs.declared.op.Op.{Op}
-use Rattle.txc_node.specs.declared.op.Op.TheVariants.{Insert, Lookup, Sweep}
+use Rattle.txc_node.specs.declared.op.Op.TheVariants.{Lookup, Sweep}
 use Rattle.txc_shared.specs.declared.advanced.Advanced.{Advanced}
 use Rattle.txc_shared.specs.declared.advanced.Advanced.TheVariants.{Taken, Idle}
 use Rattle.txc_shared.specs.declared.error.NodeError.{NodeError}
 use Rattle.txc_shared.specs.declared.error.NodeError.TheVariants as errors
 use Rattle.txc_shared.specs.declared.insertion.Insertion.{Insertion}
-use Rattle.txc_shared.specs.declared.settings.NodeSettings.{NodeSettings}
-use Rattle.txc_shared.specs.Nodes.{NodeValue, after_call, next_event, seeing, IsLonger, HasAdvanced}
+use Rattle.txc_shared.specs.Nodes.{NodeValue, after_call, seeing, IsLonger}
 use Rattle.txc_shared.specs.Refusals.{IsLeft, IsBroken}
 use Rattle.txc_stream.proofs.Offered.{longer_is}
 use Rattle.txc_world.specs.Parts.{IsPartOf}
-use Rattle.txc_world.specs.NodeSteps.{LookupLeads, HasInserted, InsertLeads, AdvanceLeads, SweepLeads}
+use Rattle.txc_world.specs.NodeSteps.{LookupLeads, InsertLeads, AdvanceLeads, SweepLeads}
 use Rattle.txc_world.specs.Ports.{IsNodeOf}
 use Rattle.txc_world.proofs.PartLemmas.{part_itself}
 

@@ -1,6 +1,5 @@
 -- Fronts that are part of others.
-use Rattle.std.proofs.Common.{◌≡◌, ◌∙◌, List, ◌++◌, ◌∷◌, []}
-use mathlib.Core.List.{IsPrefix}
+use Rattle.std.proofs.Common.{◌≡◌, ◌∙◌}
 use Rattle.txc_stream.proofs.Offered.{prefix_self, prefix_trans}
 use Rattle.txc_db.specs.Seen.{FrontValue}
 use Rattle.txc_world.specs.Parts.{IsPartOf}

@@ -1,11 +1,11 @@
 -- What the steps of a world keep of its ports.
-use Rattle.std.proofs.Common.{◌≡◌, ◌∙◌, ◌⊎◌, inl, inr, ℕ, zero, suc, ◌+◌, ◌<◌, arith, ◌==◌, ◌||◌, eq-eqb, ne_eqb, remove, Bool, true, false, List, [], ◌∷◌, ◌++◌, length, map, get_or, set, slice_get, Some, All, Result, Ok, Err, refl, ap, sym, subst}
+use Rattle.std.proofs.Common.{◌≡◌, ◌∙◌, ◌⊎◌, inl, inr, ℕ, zero, suc, ◌+◌, ◌<◌, arith, ◌==◌, ◌||◌, eq-eqb, ne_eqb, remove, Bool, true, false, List, [], ◌∷◌, ◌++◌, length, get_or, set, slice_get, Some, All, Result, Ok, Err, refl, ap, sym, subst}
 use Rattle.std.proofs.lemmas.List.{length-set}
 use Rattle.std.proofs.lemmas.Option.{slice_get-get_or}
 use Rattle.std.proofs.Math.Seq.{map-set_same}
 use Rattle.std.proofs.lemmas.List.Elements.{All-set, All-get_or, All-from_get_or, All-append}
 use mathlib.Core.List.{IsPrefix}
-use Rattle.txc_stream.proofs.Offered.{prefix_self, prefix_append, prefix_push}
+use Rattle.txc_stream.proofs.Offered.{prefix_self, prefix_push}
 use Rattle.txc_rows.specs.declared.query.Change.{Change}
 use Rattle.txc_db.specs.declared.error.DbError.{DbError}
 use Rattle.txc_db.specs.declared.error.DbError.TheVariants as errors
@@ -16,15 +16,13 @@ use Rattle.txc_db.specs.History.{History, commit_event, moment_at, pin_event}
 use Rattle.txc_db.specs.Calls.{IsLeft, IsPinnable}
 use Rattle.std.specs.List.{AllByRecursion}
 use Rattle.txc_cushion.specs.declared.error.AddError.{AddError}
-use Rattle.txc_cushion.specs.Cushion.{CushionValue}
 use Rattle.txc_cushion.specs.Cushion.{front_of as cushion_front}
 use Rattle.txc_shared.specs.Nodes.{NodeValue}
 use Rattle.txc_shared.specs.declared.advanced.Advanced.{Advanced}
 use Rattle.txc_shared.specs.declared.error.NodeError.{NodeError}
-use Rattle.txc_shared.specs.declared.settings.NodeSettings.{NodeSettings}
 use Rattle.txc_world.specs.NodeSteps.{AdvanceLeads}
 use Rattle.txc_world.specs.Parts.{IsPartOf}
-use Rattle.txc_world.specs.Ports.{PortsValue, whole_of, IsNodeOf, ArePorts, KeepsRow, HasLedNode, HasRefused}
+use Rattle.txc_world.specs.Ports.{PortsValue, whole_of, IsNodeOf, ArePorts, KeepsRow, HasLedNode}
 use Rattle.txc_world.specs.Asks.{AddLeads}
 use Rattle.txc_world.specs.Keeping.{stamps_of, HasAddedSpare, HasPinnedSpare}
 use Rattle.txc_world.proofs.PartLemmas.{part_itself, part_then}

@@ -1,6 +1,5 @@
 -- Parts of a whole that grows.
 use Rattle.std.proofs.Common.{◌≡◌, refl, sym, subst, ◌∙◌}
-use mathlib.Core.List.{IsPrefix}
 use Rattle.txc_db.specs.Seen.{FrontValue}
 use Rattle.txc_world.specs.Parts.{IsPartOf}
 use Rattle.txc_world.specs.Ports.{PortsValue, whole_of, KeepsRow}

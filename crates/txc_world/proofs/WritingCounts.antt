@@ -1,5 +1,5 @@
 -- What read-write transactions do to holds.
-use Rattle.std.proofs.Common.{◌≡◌, ◌∙◌, ℕ, zero, ◌+◌, ◌<◌, ◌≤◌, List, [], ◌∷◌, ◌++◌, length, Result, Ok, Err, Option, Some, None, refl, ap, sym, subst, arith}
+use Rattle.std.proofs.Common.{◌≡◌, ◌∙◌, ℕ, zero, List, [], ◌∷◌, ◌++◌, Result, Ok, Err, refl, ap, sym, arith}
 use Rattle.txc_tags.specs.declared.tag.Tag.{Tag}
 use Rattle.txc_rows.specs.declared.query.Change.{Change}
 use Rattle.txc_rows.specs.declared.query.Query.{Query}
@@ -7,8 +7,7 @@ use Rattle.txc_validity.specs.declared.answer.Found.{Found}
 use Rattle.txc_db.specs.declared.error.DbError.{DbError}
 use Rattle.txc_db.specs.declared.error.DbError.TheVariants as errors
 use Rattle.txc_db.specs.History.{commit_event}
-use Rattle.txc_db.specs.DatabaseValue.{after_event_of, newest_net, newest_state, DatabaseValue}
-use Rattle.txc_db.specs.Calls.{IsQueryRefused}
+use Rattle.txc_db.specs.DatabaseValue.{after_event_of, newest_net, newest_state}
 use Rattle.txc_cushion.specs.Entries.{times}
 use Rattle.txc_ports.specs.declared.error.TxnError.{TxnError}
 use Rattle.txc_ports.specs.declared.error.TxnError.TheVariants as txns
@@ -29,7 +28,7 @@ use Rattle.txc_world.specs.Asks.{AnswerLeads, DoesTellFound, HoldLeads}
 use Rattle.txc_world.specs.Books.{nothing, Account, ActCounts, CountRight, HasLost, IsFair, IsGone, IsLossOf, ReplyIsLossOf, TurnIsLossOf}
 use Rattle.txc_world.specs.Keeping.{CommitLeads}
 use Rattle.txc_world.proofs.Balance.{committed_holds}
-use Rattle.txc_world.proofs.Fairness.{counts_itself, fair_hold, fair_itself, fair_same, gone_query, left_holds}
+use Rattle.txc_world.proofs.Fairness.{counts_itself, fair_hold, fair_same, gone_query, left_holds}
 use Rattle.txc_world.proofs.Times.{times_there}
 
 -- the account of a transaction with the hold of its base

@@ -1,7 +1,6 @@
 -- What a step of the keeper comes to: what is told of it, and what it leaves of the ports.
-use Rattle.std.specs.Prelude.{◌≡◌, ℕ, ◌<◌, Result, Ok, Err, Option, Some, None, List, [], ◌∷◌, length}
-use Rattle.txc_db.specs.DatabaseValue.{after_unpin, is_held}
-use Rattle.txc_db.specs.Calls.{IsQueryRefused, IsUnpinRefused}
+use Rattle.std.specs.Prelude.{◌≡◌, Result, Ok, Err, Option, Some, None, [], ◌∷◌, length}
+use Rattle.txc_db.specs.Calls.{IsQueryRefused}
 use Rattle.txc_cushion.specs.declared.error.AddError.{AddError}
 use Rattle.txc_world.specs.declared.step.Keep.{Keep}
 use Rattle.txc_world.specs.declared.step.Keep.TheVariants as keeps
@@ -11,7 +10,7 @@ use Rattle.txc_world.specs.declared.reply.Reply.TheVariants.{Refused}
 use Rattle.txc_world.specs.declared.reply.Refusal.TheVariants as refusals
 use Rattle.txc_world.specs.NodeSteps.{AdvanceLeads, SweepLeads}
 use Rattle.txc_world.specs.Ports.{PortsValue, whole_of, HasLedNode, KeepsRow}
-use Rattle.txc_world.specs.Asks.{AddLeads, UnpinLeads}
+use Rattle.txc_world.specs.Asks.{UnpinLeads}
 use Rattle.txc_world.specs.Keeping.{stamps_of, AddSpareLeads, GiveBackLeads, IsToldAnswer, PinSpareLeads, RetireLeads, VacuumLeads, WriteLeads}
 use Rattle.txc_world.specs.Told.{keep_in, spare_after, IsKeepDue, IsNoReceipt}
 use Rattle.txc_world.specs.Tidy.{KeepsBalance}

@@ -307,10 +307,7 @@ fn abort<A: App, C: Cacheable>(ports: &mut Ports<A>, current: OpenTxn<A, C>) -> 
     let (left, registry) = current.txn.cancel();
     let _ = ports.give_back(&left.give_back);
     match left.unpin {
-        Some(stamp) => (
-            Actor::Leaving(registry, stamp),
-            Reply::Aborted(Some(stamp)),
-        ),
+        Some(stamp) => (Actor::Leaving(registry, stamp), Reply::Aborted(Some(stamp))),
         None => (Actor::Idle(registry), Reply::Aborted(None)),
     }
 }

@@ -1,7 +1,5 @@
-use Rattle.std.proofs.Common.{◌≡◌, ◌∙◌, ℕ, ◌≤◌, Some, [], ◌∷◌, Option, arith, sym, subst}
-use Rattle.txc_cushion.specs.Entries.{times}
+use Rattle.std.proofs.Common.{◌≡◌, ◌∙◌, Some, [], ◌∷◌, arith, sym}
 use Rattle.txc_txn.specs.Core.{left_pin}
-use Rattle.txc_world.specs.Books.{listed}
 use Rattle.txc_world.proofs.Fairness.{fair_ended}
 use Rattle.txc_world.proofs.acting.abort.Goals as goal
 

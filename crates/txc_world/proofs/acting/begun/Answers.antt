@@ -1,4 +1,4 @@
-use Rattle.std.proofs.Common.{◌≡◌, sym, subst, ap, ◌∙◌}
+use Rattle.std.proofs.Common.{◌≡◌, sym, subst, ap}
 use Rattle.txc_db.specs.History.{History}
 use Rattle.txc_cushion.specs.declared.pins.Pins.{Pins}
 use Rattle.txc_txn.specs.Core.{value_of, CoreHolds, CoreValue}

@@ -1,7 +1,7 @@
-use Rattle.std.proofs.Common.{sym, ap, ◌∙◌}
+use Rattle.std.proofs.Common.{sym, ◌∙◌}
 use Rattle.txc_ports.specs.Fronts.{front_of}
-use Rattle.txc_txn.proofs.Offered.{is_answered, is_right, may_ask}
-use Rattle.txc_world.proofs.Turning.{adds_next, adds_of, asked_at, counted_in, seen_next, shows_part}
+use Rattle.txc_txn.proofs.Offered.{is_answered, is_right}
+use Rattle.txc_world.proofs.Turning.{adds_next, asked_at, counted_in, seen_next}
 use Rattle.txc_world.specs.Ports.{whole_of}
 use Rattle.txc_world.proofs.Fairness.{fair_gone_on, loss_counted}
 use Rattle.txc_world.proofs.acting.go_on.Goals as goal

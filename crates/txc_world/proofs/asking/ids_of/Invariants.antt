@@ -1,4 +1,4 @@
-use Rattle.std.proofs.Common.{◌≡◌, ℕ, map, take}
+use Rattle.std.proofs.Common.{◌≡◌, map, take}
 use Rattle.txc_rows.specs.Values.{RowValue}
 use Rattle.txc_world.proofs.asking.ids_of.Given as goal
 

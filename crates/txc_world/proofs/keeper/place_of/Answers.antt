@@ -1,6 +1,5 @@
-use Rattle.std.proofs.Common.{◌≡◌, ◌∙◌, ℕ, ◌<◌, get_or, sym, eqb-true, arith}
+use Rattle.std.proofs.Common.{◌≡◌, ◌∙◌, ℕ, ◌<◌, sym, eqb-true, arith}
 use Rattle.std.proofs.lemmas.Bool.{eqb-false}
-use Rattle.txc_world.specs.Keeping.{stamps_of}
 use Rattle.txc_world.proofs.PortsLemmas.{first_is_held, none_is_held, none_more, stamp_at, without_first}
 use Rattle.txc_world.proofs.keeper.place_of.Goals as goal
 

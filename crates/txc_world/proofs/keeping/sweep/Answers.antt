@@ -1,6 +1,4 @@
-use Rattle.std.proofs.Common.{◌≡◌, ◌<◌, ◌≤◌, length, ap, refl, subst}
-use Rattle.txc_world.specs.Ports.{PortsValue, KeepsRow}
-use Rattle.txc_world.specs.Keeping.{stamps_of}
+use Rattle.std.proofs.Common.{◌<◌, ◌≤◌, length, refl, subst}
 use Rattle.txc_world.proofs.PortsLemmas.{keeps_itself}
 use Rattle.txc_world.proofs.KeptLemmas.{due_node, due_no_node, led_history, led_spare}
 use Rattle.txc_world.proofs.Balance.{balance_led}

@@ -1,5 +1,4 @@
 use Rattle.std.proofs.Common.{◌≡◌}
-use Rattle.txc_shared.specs.Nodes.{NodeValue}
 use Rattle.txc_world.proofs.making.new_node.Given as goal
 
 abbrev pub invariant-loop-pass : goal.invariant-loop-pass

@@ -1,4 +1,4 @@
-use Rattle.std.proofs.Common.{◌≡◌, ◌∙◌, sym, subst}
+use Rattle.std.proofs.Common.{◌≡◌, subst}
 use Rattle.txc_db.specs.DatabaseValue.{front_of}
 use Rattle.txc_db.specs.Seen.{FrontValue}
 use Rattle.txc_shared.specs.Nodes.{seeing, IsLonger, HasAdvanced}

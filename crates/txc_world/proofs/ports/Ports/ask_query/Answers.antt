@@ -1,5 +1,4 @@
 use Rattle.std.proofs.Common.{sym, subst}
-use Rattle.txc_db.specs.Seen.{FrontValue}
 use Rattle.txc_ports.specs.declared.request.PortRequest.TheVariants as requests
 use Rattle.txc_world.specs.declared.asked.Asked.{Asked}
 use Rattle.txc_world.specs.Asks.{AskLeads, IsAsked}

@@ -1,4 +1,3 @@
-use Rattle.std.proofs.Common.{◌≡◌}
 use Rattle.txc_world.specs.Ports.{PortsValue}
 use Rattle.txc_world.proofs.NodeLemmas.{stays_looked_up}
 use Rattle.txc_world.proofs.PortsLemmas.{ports_node_from, keeps_node_from, led_from}

@@ -1,4 +1,4 @@
-use Rattle.std.proofs.Common.{◌≡◌, Bool, false, subst}
+use Rattle.std.proofs.Common.{Bool, false, subst}
 use Rattle.txc_shared.specs.Nodes.{start_of}
 use Rattle.txc_shared.specs.Runs.{IsNode}
 use Rattle.txc_world.specs.Worlds.{WorldValue}
