@@ -1,11 +1,11 @@
 -- The names of the lines of a world's script, and what their words ask for.
-use Rattle.std.proofs.Common.{◌≡◌, ℕ, ◌≤◌, List, [], ◌∷◌, ◌++◌, Option, Some, None, refl, sym, ap, subst, ◌∙◌}
+use Rattle.std.proofs.Common.{◌≡◌, ℕ, List, [], ◌∷◌, Option, Some, None, refl, sym, ap, subst, ◌∙◌}
 use Rattle.std.specs.Prelude.{codes, if◌then◌else◌}
 use Rattle.std.specs.Str.{bytes_eq}
 use Rattle.txc_rows.specs.declared.query.Change.{Change}
 use Rattle.txc_rows.specs.declared.query.Change.TheVariants as changes
 use Rattle.txc_run.specs.Words.{HasNoBlank, words_of}
-use Rattle.txc_run.specs.Tasks.{name_text, change_words, Says, SpellsTask, AreChangeWords}
+use Rattle.txc_run.specs.Tasks.{name_text, change_words, Says, SpellsTask}
 use Rattle.txc_run.specs.declared.world.name.LineName.{LineName}
 use Rattle.txc_run.specs.declared.world.name.LineName.TheVariants as names
 use Rattle.txc_run.specs.declared.world.task.Task.{Task}

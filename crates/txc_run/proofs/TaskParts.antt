@@ -1,10 +1,9 @@
 -- The parts of the lines of a world's script, word by word.
-use Rattle.std.proofs.Common.{◌≡◌, ℕ, ◌≤◌, Bool, true, false, List, [], ◌∷◌, ◌++◌, Result, Ok, Err, IfOk, IfErr, length, refl, sym, ap, subst, ◌∙◌}
+use Rattle.std.proofs.Common.{◌≡◌, ℕ, ◌≤◌, true, false, List, [], ◌∷◌, Result, Ok, Err, IfErr, length, refl, sym, ap, subst, ◌∙◌}
 use Rattle.std.specs.Prelude.{codes, IsErr, IsErrAnd}
 use Rattle.std.specs.Fmt.{decimal}
 use Rattle.std.specs.Str.{bytes_eq}
 use Rattle.std.proofs.lemmas.Slice.Eq.{bytes_eq-Decides}
-use Rattle.txc_stamp.specs.declared.stamp.TheConstants.{LAST_STAMP}
 use Rattle.txc_tags.specs.declared.tag.TheConstants.{LAST_TABLE}
 use Rattle.txc_tags.specs.declared.text.number.TheConstants.{LAST_NUMBER}
 use Rattle.txc_rows.specs.Values.{RowValue, IsBody, IsRow}
@@ -12,10 +11,8 @@ use Rattle.txc_rows.specs.declared.query.Query.{Query}
 use Rattle.txc_rows.specs.declared.query.Query.TheVariants as queries
 use Rattle.txc_rows.specs.declared.query.Change.{Change}
 use Rattle.txc_rows.specs.declared.query.Change.TheVariants as changes
-use Rattle.txc_ports.specs.declared.bounds.Bounds.{Bounds}
-use Rattle.txc_run.specs.Tasks.{query_words, row_words, AreBoundsWords, AreChangeWords, AreQueryWords, IsPair}
+use Rattle.txc_run.specs.Tasks.{query_words, row_words, AreChangeWords, AreQueryWords}
 use Rattle.txc_run.specs.TaskReading.{IsNone, IsNumberWord, ArePairWords}
-use Rattle.txc_run.specs.declared.world.parts.TheConstants.{LAST_MOMENT}
 use Rattle.txc_run.specs.declared.world.unread.NoTask.{NoTask}
 use Rattle.txc_run.specs.declared.world.unread.NoTask.TheVariants as reasons
 

@@ -1,6 +1,6 @@
 -- What lines of a world's script ask for is done, step by step.
-use Rattle.std.proofs.Common.{◌≡◌, ℕ, Bool, true, false, List, [], ◌∷◌, ◌++◌, Option, Some, None, Result, Ok, Err, IfOk, length, refl, sym, ap, subst, ◌∙◌}
-use Rattle.std.specs.Prelude.{if◌then◌else◌, MatchBool, MatchOption}
+use Rattle.std.proofs.Common.{◌≡◌, ℕ, Bool, true, false, List, [], ◌∷◌, ◌++◌, Some, None, Result, Ok, Err, IfOk, length, refl, sym, ap, subst}
+use Rattle.std.specs.Prelude.{if◌then◌else◌}
 use Rattle.std.specs.List.{All}
 use Rattle.std.specs.declared.alloc.AllocError.{AllocError}
 use Rattle.std.proofs.lemmas.List.Elements.{All-append, All-cons, All-nil}
@@ -17,7 +17,6 @@ use Rattle.txc_run.specs.TaskSteps.{AreTaken, IsTaken, IsDone, DoesPins, DoesUnp
 use Rattle.txc_run.specs.WorldSessions.{HasEndedTxn, HasUnpinned}
 use Rattle.txc_run.specs.declared.world.printed.Printed.{Printed}
 use Rattle.txc_run.specs.declared.world.printed.Printed.TheVariants.{Replied}
-use Rattle.txc_run.specs.declared.world.task.Task.{Task}
 use Rattle.txc_run.specs.declared.world.task.Task.TheVariants as tasks
 use Rattle.txc_run.proofs.WorldSteps.{none_taken, taken_first, taken_more}
 

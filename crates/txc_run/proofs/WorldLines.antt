@@ -1,5 +1,5 @@
 -- A run of a world's script answers its lines.
-use Rattle.std.proofs.Common.{◌≡◌, ◌≢◌, ℕ, ◌+◌, Bool, true, false, ◌||◌, suc, ◌≤◌, List, [], ◌∷◌, ◌++◌, length, take, Ok, Err, Result, IfOk, OnErr, refl, sym, ap, subst, ◌∙◌, arith, append_assoc}
+use Rattle.std.proofs.Common.{◌≡◌, ◌≢◌, ℕ, ◌+◌, Bool, false, ◌||◌, suc, List, [], ◌∷◌, ◌++◌, length, take, Ok, Err, Result, IfOk, OnErr, refl, sym, ap, subst, ◌∙◌, arith}
 use Rattle.std.specs.List.{list_any}
 use Rattle.std.specs.declared.alloc.AllocError.{AllocError}
 use Rattle.std.proofs.lemmas.List.{append-nil, length-append}
@@ -9,7 +9,7 @@ use Rattle.txc_run.specs.Script.{BeginsWithLines, HasNoEnd, AreLinesOf, last_lin
 use Rattle.txc_run.specs.WorldFaults.{IsWorldFaultOf}
 use Rattle.txc_run.specs.WorldGiven.{WorldGiven, Gives, AreGiven, is_malformed, is_refused, world_text}
 use Rattle.txc_run.specs.WorldRuns.{WorldStart}
-use Rattle.txc_run.specs.WorldSessions.{Progress, AnswersLine, HasAnswered, IsStopped, IsHalted, HasEnded, AnswersAs, AnswersLast}
+use Rattle.txc_run.specs.WorldSessions.{Progress, AnswersLine, HasAnswered, IsStopped, IsHalted, AnswersAs, AnswersLast}
 use Rattle.txc_run.specs.Sessions.{kept_of}
 use Rattle.txc_run.specs.declared.line_fault.LineFault.{LineFault}
 use Rattle.txc_run.specs.declared.line_fault.MalformedLine.{MalformedLine}

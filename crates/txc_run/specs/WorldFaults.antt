@@ -4,7 +4,7 @@ use Rattle.std.specs.List.{list_any}
 use Rattle.txc_run.specs.Excerpts.{excerpt_of}
 use Rattle.txc_run.specs.Lines.{IsPlain}
 use Rattle.txc_run.specs.LineFaults.{HasWholeWords, is_empty, is_foreign}
-use Rattle.txc_run.specs.Tasks.{name_text, IsMalformedLine}
+use Rattle.txc_run.specs.Tasks.{name_text}
 use Rattle.txc_run.specs.Words.{words_of}
 use Rattle.txc_run.specs.declared.line.TheConstants.{MAX_LINE_LEN}
 use Rattle.txc_run.specs.declared.line_fault.LineFault.{LineFault}

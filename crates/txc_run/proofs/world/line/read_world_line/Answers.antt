@@ -1,4 +1,4 @@
-use Rattle.std.proofs.Common.{◌≡◌, ℕ, List, subst}
+use Rattle.std.proofs.Common.{subst}
 use Rattle.txc_run.specs.Lines.{IsBlankOrComment}
 use Rattle.txc_run.specs.Tasks.{SpellsTask}
 use Rattle.txc_run.specs.TaskReading.{IsNone}

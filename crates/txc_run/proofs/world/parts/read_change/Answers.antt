@@ -1,4 +1,3 @@
-use Rattle.std.proofs.Common.{◌≡◌, ℕ, List, sym, ap, ◌∙◌}
 use Rattle.std.specs.Prelude.{codes}
 use Rattle.txc_run.proofs.Blanks.{words_alone, words_cut}
 use Rattle.txc_run.proofs.Named.{other_text}

@@ -1,6 +1,5 @@
-use Rattle.std.proofs.Common.{◌≡◌, ℕ, List, [], ◌∷◌, length, refl, sym, ap, subst, ◌∙◌}
-use Rattle.txc_rows.specs.Values.{RowValue, IsBody}
-use Rattle.txc_run.specs.Tasks.{row_words}
+use Rattle.std.proofs.Common.{ℕ, List, ◌∷◌, refl, sym, ap, subst, ◌∙◌}
+use Rattle.txc_rows.specs.Values.{IsBody}
 use Rattle.txc_run.proofs.Blanks.{words_alone, words_cut}
 use Rattle.txc_run.proofs.TaskParts.{none_of, row_alone, row_in, row_of, row_short}
 use Rattle.txc_run.proofs.world.parts.read_row.Goals as goal

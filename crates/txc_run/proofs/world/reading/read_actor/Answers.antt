@@ -1,4 +1,4 @@
-use Rattle.std.proofs.Common.{◌≡◌, ℕ, List, [], ◌∷◌, sym, ap, ◌∙◌}
+use Rattle.std.proofs.Common.{ℕ, List, ◌∷◌, sym, ap, ◌∙◌}
 use Rattle.txc_run.specs.Words.{words_of}
 use Rattle.txc_run.specs.Tasks.{AreAfterPlace}
 use Rattle.txc_run.proofs.Blanks.{words_alone, words_cut}

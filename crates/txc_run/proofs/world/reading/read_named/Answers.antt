@@ -1,4 +1,4 @@
-use Rattle.std.proofs.Common.{◌≡◌, ℕ, List, [], ◌∷◌, sym, ap, subst, ◌∙◌}
+use Rattle.std.proofs.Common.{◌≡◌, ℕ, List, ◌∷◌, sym, ap, subst, ◌∙◌}
 use Rattle.txc_run.specs.Words.{words_of}
 use Rattle.txc_run.specs.Tasks.{name_text, AreChangeWords, Says}
 use Rattle.txc_run.specs.TaskReading.{IsKeeperChange}

@@ -1,6 +1,5 @@
 use Rattle.std.proofs.Common.{refl}
 use Rattle.txc_run.specs.WorldRuns.{WorldStart}
-use Rattle.txc_run.specs.WorldSessions.{Progress}
 use Rattle.txc_run.proofs.WorldLines.{nothing_answered}
 use Rattle.txc_run.proofs.world.session.WorldSession.new.Goals as goal
 
