@@ -4,3 +4,4 @@ pub mod Counting
 pub mod Turns
 pub mod Values
 pub mod Crosses
+pub mod Runs

@@ -1,6 +1,7 @@
 use Rattle.std.proofs.Common.{◌≡◌, ◌∙◌, Some, IfOk, sym, subst}
 use Rattle.txc_ports.specs.declared.turn.Turn.{Turn}
 use Rattle.txc_txn.specs.Core.{recorded_after}
+use Rattle.txc_client.specs.Run.{turn_of, HasRun}
 use Rattle.txc_client.specs.Txn.{IsValueOf}
 use Rattle.txc_client.proofs.Grown.{as_many}
 use Rattle.txc_client.proofs.Values.{value_of_last}
@@ -27,3 +28,12 @@ returns-clause-answer g c = elim c.match-turn.branch [
       (subst (λ (t : Turn). c.call_at-turn.new.txn.core.recorded ≡ recorded_after c.self.inside.txn.core.recorded t (Some c.args.key)) w.in-Value.is c.call_at-turn.ensures.recorded))
   | in-Refused w ↦ subst (λ r. IfOk r (IsValueOf g.A.App.next c.call_at-turn.new.txn.core c.args.key)) (sym w.result-is) tt
 ]
+
+-- the last turn is that of the result
+pub returns-clause-run : goal.returns-clause-run
+returns-clause-run g c =
+    let ran = λ (t : Turn). HasRun g.A.App.next g.J.Naming.database_row c.self.inside.txn c.args.key c.call_at-turn.new.txn t in
+    elim c.match-turn.branch [
+      | in-Value w ↦ subst (λ r. ran (turn_of r)) (sym w.result-is) (subst ran w.in-Value.is c.call_at-turn.ensures.run)
+      | in-Refused w ↦ subst (λ r. ran (turn_of r)) (sym w.result-is) (subst ran w.in-Refused.is c.call_at-turn.ensures.run)
+    ]
