@@ -5,3 +5,4 @@ pub mod Turns
 pub mod Values
 pub mod Crosses
 pub mod Runs
+pub mod Idle

@@ -15,8 +15,7 @@ module _ (next : Next) (row : List ℕ) where
     new,
     turn,
     subst (λ (v : TxnValue). IsStep next row v asking reply new turn) led.0 (subst (λ (t : Turn). IsStep next row mid t reply new turn) led.1 step),
-    refl,
-    refl,
+    (refl, refl),
   )
   led_more old mid new asking then turn (first ∷ replies) reply led step =
       (led.0, led.1, led.2, led_more led.0 mid new led.1 then turn replies reply led.3 step)
