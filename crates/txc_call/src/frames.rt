@@ -4,7 +4,7 @@ ghost use Rattle.std.specs.Result.{result_err};
 ghost use Rattle.txc_shared.specs.declared.app.TheConstants.{MAX_ASKS};
 ghost use Rattle.txc_shared.specs.declared.ask.Ask.{Ask};
 ghost use Rattle.txc_registry.specs.Activity.{idle, WantsAnswer};
-ghost use Rattle.txc_registry.specs.Objects.{activity_of, with_activity, AllIdle};
+ghost use Rattle.txc_registry.specs.Objects.{activity_of, numbers_of, with_activity, AllIdle};
 ghost use Rattle.txc_call.specs.declared.frame.Frame.{Frame};
 ghost use Rattle.txc_call.specs.declared.frames.TheConstants.{MAX_CALL_ASKS};
 ghost use Rattle.txc_call.specs.Reaches.{Meets};
@@ -67,6 +67,7 @@ impl Frames {
     }
 
     /// Begins the function of a call that no node has, and opens a frame for it.
+    #[tactic(auto, using(txc_registry::proofs::Offered::numbers_stay))]
     pub(crate) fn begin<A: App, C: Cacheable>(
         &mut self,
         registry: &mut Registry<A, C>,
@@ -85,6 +86,7 @@ impl Frames {
         ensures same_stack { OnErr result (self.new.stack ≡ self.old.stack) }
         ensures same_top { self.new.top ≡ self.old.top }
         ensures same_count { self.new.asked ≡ self.old.asked }
+        ensures functions { numbers_of registry.new ≡ numbers_of registry.old }
     {
         let function = key.function();
         let ask = match registry.begin(function, key.args()) {
@@ -105,6 +107,7 @@ impl Frames {
     }
 
     /// The innermost frame is given an answer, and its object goes on.
+    #[tactic(auto, using(txc_registry::proofs::Offered::numbers_stay))]
     pub(crate) fn resume<A: App, C: Cacheable>(
         &mut self,
         registry: &mut Registry<A, C>,
@@ -128,6 +131,7 @@ impl Frames {
         ensures released { OnErr result (AllIdle (released self.new.stack registry.new)) }
         ensures same_top { self.new.top ≡ self.old.top }
         ensures same_count { self.new.asked ≡ self.old.asked }
+        ensures functions { numbers_of registry.new ≡ numbers_of registry.old }
     {
         let Some(frame) = self.stack.top() else {
             unreachable!()
@@ -143,6 +147,7 @@ impl Frames {
     }
 
     /// The innermost frame is done: its object is released.
+    #[tactic(auto, using(txc_registry::proofs::Offered::numbers_stay))]
     pub(crate) fn close<A: App, C: Cacheable>(&mut self, registry: &mut Registry<A, C>) -> Frame
         requires open { (ask : Ask) × IsOpen A.next registry.old self.old.top ask self.old.stack }
         requires some { self.old.stack ≢ [] }
@@ -151,6 +156,7 @@ impl Frames {
         ensures open { IsOpen A.next registry.new self.new.top (Ask.Call result.key) self.new.stack }
         ensures same_top { self.new.top ≡ self.old.top }
         ensures same_count { self.new.asked ≡ self.old.asked }
+        ensures functions { numbers_of registry.new ≡ numbers_of registry.old }
     {
         let Some(frame) = self.stack.pop() else {
             unreachable!()
@@ -160,11 +166,13 @@ impl Frames {
     }
 
     /// Releases the object of every open frame, the innermost first.
+    #[tactic(auto, using(txc_registry::proofs::Offered::numbers_stay))]
     pub(crate) fn cancel<A: App, C: Cacheable>(&mut self, registry: &mut Registry<A, C>)
         requires { AllIdle (released self.old.stack registry.old) }
         ensures idle { AllIdle registry.new }
         ensures after { self.new.stack ≡ [] }
         ensures same_top { self.new.top ≡ self.old.top }
+        ensures functions { numbers_of registry.new ≡ numbers_of registry.old }
     {
         while let Some(frame) = self.stack.pop() {
             registry.release(frame.key.function());

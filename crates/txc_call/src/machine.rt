@@ -4,7 +4,7 @@ ghost use Rattle.txc_rows.specs.declared.query.Query.{Query};
 ghost use Rattle.txc_call.specs.declared.need.Need.{Need};
 ghost use Rattle.txc_db.specs.History.{History};
 ghost use Rattle.txc_shared.specs.declared.ask.Ask.TheVariants as asks;
-ghost use Rattle.txc_registry.specs.Objects.{activity_of, AllIdle};
+ghost use Rattle.txc_registry.specs.Objects.{activity_of, numbers_of, AllIdle};
 ghost use Rattle.txc_call.specs.declared.frames.TheConstants.{MAX_CALL_ASKS};
 ghost use Rattle.txc_call.specs.Reaches.{InReach};
 ghost use Rattle.txc_call.specs.Frames.{released, InAll, IsRising};
@@ -63,6 +63,7 @@ fn deliver<A: App, C: Cacheable>(
         (turn_of result frames.new.stack frames.new.asked registry.new) }
     ensures released { OnErr result (AllIdle (released frames.new.stack registry.new)) }
     ensures same_top { frames.new.top ≡ frames.old.top }
+    ensures functions { numbers_of registry.new ≡ numbers_of registry.old }
 {
     if frames.stack.is_empty() {
         return Ok(Need::Value(outcome));
@@ -89,6 +90,7 @@ fn miss<A: App, C: Cacheable>(
         (turn_of result frames.new.stack frames.new.asked registry.new) }
     ensures released { OnErr result (AllIdle (released frames.new.stack registry.new)) }
     ensures same_top { frames.new.top ≡ frames.old.top }
+    ensures functions { numbers_of registry.new ≡ numbers_of registry.old }
 {
     let ask = frames.begin(registry, alloc, key)?;
     settle(frames, registry, ask)
@@ -107,6 +109,7 @@ fn find<A: App, C: Cacheable>(
         (turn_of result frames.new.stack frames.new.asked registry.new) }
     ensures released { OnErr result (AllIdle (released frames.new.stack registry.new)) }
     ensures same_top { frames.new.top ≡ frames.old.top }
+    ensures functions { numbers_of registry.new ≡ numbers_of registry.old }
 {
     let Found { rows, reach, tags } = found;
     let rows = Answer::Rows(Rows::new(rows));
@@ -129,6 +132,7 @@ fn take<A: App, C: Cacheable>(
         (turn_of result frames.new.stack frames.new.asked registry.new) }
     ensures released { OnErr result (AllIdle (released frames.new.stack registry.new)) }
     ensures same_top { frames.new.top ≡ frames.old.top }
+    ensures functions { numbers_of registry.new ≡ numbers_of registry.old }
 {
     match (need, reply) {
         (Need::Lookup(key), Reply::Miss) => miss(frames, registry, alloc, key),
@@ -246,6 +250,7 @@ impl CallMachine {
             → CallIsUnreached self.new) }
         ensures counted { OnOk result (GoesOn self.old.asked self.new) }
         ensures same_top { self.new.top ≡ self.old.top }
+        ensures functions { numbers_of registry.new ≡ numbers_of registry.old }
     {
         right_answers_give_the_value();
         let Some(need) = mem::replace(&mut self.need, None) else {
@@ -285,6 +290,7 @@ impl CallMachine {
         requires { IsCalling A.next registry.old self.old }
         ensures rest { IsAtRest registry.new self.new }
         ensures need { self.new.need ≡ None }
+        ensures functions { numbers_of registry.new ≡ numbers_of registry.old }
     {
         self.need = None;
         self.frames.cancel(registry);

@@ -1,7 +1,7 @@
 //! From what is asked to what is needed next.
 ghost use Rattle.std.specs.Prelude.{◌≡◌, ◌≢◌, List, [], ◌∷◌, drop, OnErr};
 ghost use Rattle.std.specs.Result.{result_err};
-ghost use Rattle.txc_registry.specs.Objects.{AllIdle};
+ghost use Rattle.txc_registry.specs.Objects.{numbers_of, AllIdle};
 ghost use Rattle.txc_call.specs.declared.frame.Frame.{Frame};
 ghost use Rattle.txc_call.specs.Frames.{released, AreFew, IsOpen};
 ghost use Rattle.txc_call.specs.Turns.{call_refusal, turn_of, AfterAsk};
@@ -54,6 +54,7 @@ pub(crate) fn settle<A: App, C: Cacheable>(
         (turn_of result frames.new.stack frames.new.asked registry.new) }
     ensures released { OnErr result (AllIdle (released frames.new.stack registry.new)) }
     ensures same_top { frames.new.top ≡ frames.old.top }
+    ensures functions { numbers_of registry.new ≡ numbers_of registry.old }
 {
     frames.count()?;
     match ask {

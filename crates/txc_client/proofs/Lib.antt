@@ -4,3 +4,5 @@ pub mod Counting
 pub mod Turns
 pub mod Values
 pub mod Crosses
+pub mod Runs
+pub mod Idle

@@ -4,13 +4,16 @@ use Rattle.txc_tags.specs.Keys.{Call}
 use Rattle.txc_db.specs.History.{state_at}
 use Rattle.txc_shared.specs.Eval.{Next, eval}
 use Rattle.txc_shared.specs.Passes.{PassValue}
+use Rattle.txc_registry.specs.Objects.{Objects}
 use Rattle.txc_txn.specs.Core.{CoreValue, IsIdle}
 use Rattle.txc_txn.specs.Kept.{TxnValue}
 
--- a client: its passes, one through each node in order, and after how long it renews the newest pin
+-- a client: its passes, one through each node in order, after how long it renews the newest pin, and what the
+-- objects of its functions do
 pub record ClientValue : Type 0 where
   pub passes : List PassValue
   pub renew_after : ℕ
+  pub objects : Objects
 
 -- a transaction: its core and what its objects do, and the passes of its client
 pub record RoTxnValue : Type 0 where
@@ -25,7 +28,8 @@ pub record IsResting (row : List ℕ) (t : RoTxnValue) : Type 0 where
 
 -- the client of a transaction
 abbrev pub client_of : RoTxnValue → ClientValue
-client_of t = record { passes = t.passes; renew_after = t.txn.core.renew_after }
+client_of t =
+    record { passes = t.passes; renew_after = t.txn.core.renew_after; objects = t.txn.objects }
 
 -- at every member, this is what the call comes to without a cache
 abbrev pub IsValueOf : Next → CoreValue → Call → List ℕ → Type 0

@@ -1,10 +1,11 @@
 //! A call of a transaction, led to its end at the locked ports.
 ghost use Rattle.std.specs.Prelude.{◌≡◌, ◌≢◌, [], IsNone, Some, length};
 ghost use mathlib.Core.List.{IsPrefix};
-ghost use Rattle.txc_registry.specs.Objects.{activity_of};
+ghost use Rattle.txc_registry.specs.Objects.{activity_of, numbers_of};
 ghost use Rattle.txc_call.specs.declared.error.CallError.TheVariants.{NoFunction};
 ghost use Rattle.txc_txn.specs.Core.{recorded_after, IsEnd, IsIdle, KeepsSettings};
 ghost use Rattle.txc_client.specs.Ports.{HaveGrown};
+ghost use Rattle.txc_client.specs.Run.{HasRun};
 
 use crate::ports::Ports;
 use std::alloc::Global;
@@ -35,6 +36,8 @@ pub(crate) fn call_at<A: App, C: Cacheable, J: Naming>(
     ensures settings { KeepsSettings txn.old.core txn.new.core }
     ensures events { txn.new.core.seen.events ≡ J.database_row }
     ensures longer { IsPrefix txn.old.core.seen.history txn.new.core.seen.history }
+    ensures functions { numbers_of txn.new.objects ≡ numbers_of txn.old.objects }
+    ensures run { HasRun A.next J.database_row txn.old key txn.new result }
     ensures missing { txn.old.core.pins.members ≢ [] → IsNone (activity_of txn.old.objects key.function)
         → result ≡ Turn.Refused (TxnError.Call (NoFunction key.function)) }
 {

@@ -38,7 +38,11 @@ impl<'a, A: App, C: Cacheable, J: Naming> Model for Client<'a, A, C, J> {
 
     ghost Value = { ClientValue };
 
-    ghost view = { λ c. record { passes = c.ports; renew_after = c.renew_after } };
+    ghost view = { λ c. record {
+      passes = c.ports;
+      renew_after = c.renew_after;
+      objects = c.registry;
+    } };
 
     ghost invariant = { λ c. AllIdle c.registry };
 }
@@ -63,6 +67,7 @@ impl<'a, A: App, C: Cacheable, J: Naming> Client<'a, A, C, J> {
         ensures nodes { IfOk result (λ client. map (λ pass. pass.settings) client.passes ≡ nodes.now) }
         ensures records { IfOk result (λ client. All (λ pass. pass.records ≡ []) client.passes) }
         ensures renew_after { IfOk result (λ client. client.renew_after ≡ renew_after) }
+        ensures functions { IfOk result (λ client. client.objects ≡ registry) }
         ensures refused { IfErr result (λ e. (e ≡ NodeError.Memory)
             ⊎ Any (λ node. MayRefuse J.node_rows (IsNewPassRefused node) e) nodes.now) }
     {

@@ -6,6 +6,7 @@
 
 mod calling;
 mod client;
+mod finding;
 mod ports;
 mod ro_txn;
 

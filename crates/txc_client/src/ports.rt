@@ -2,19 +2,17 @@
 ghost use Rattle.std.specs.Prelude.{◌≡◌, ◌≤◌, ◌<◌, ◌⊎◌, [], get_or, map, All, Any, IfErr, IfOk, IfSome, length};
 ghost use Rattle.txc_shared.specs.Refusals.{IsNewPassRefused, MayRefuse};
 
+use crate::finding::find;
 use std::alloc::Global;
 use std::marker::Model;
 use std::sync::Wait;
 use txc_cushion::Pincushion;
-use txc_db::{Answered, Database, DbError, HistoryFront, Naming};
+use txc_db::{Answered, Database, HistoryFront, Naming};
 use txc_node::{Entry, Shown};
 use txc_ports::{PortReply, PortRequest};
-use txc_rows::Query;
-use txc_shared::laws::found_rows_give_true_entries;
 use txc_shared::{App, Finding, NodeError, NodePass, SharedNode};
 use txc_stamp::Stamp;
 use txc_tags::Key;
-use txc_validity::Found;
 
 /// A database, its pincushion, and nodes that take its events, with a pass through each node. Contracts see
 /// the passes.
@@ -43,6 +41,7 @@ impl<'a, A: App, J: Naming> Ports<'a, A, J> {
     ghost use Rattle.txc_shared.specs.Claims.{IsTrueIn};
     ghost use Rattle.txc_shared.specs.Nodes.{entry_shown};
     ghost use Rattle.txc_client.specs.Ports.{HaveGrown};
+    ghost use Rattle.txc_client.specs.Run.{IsRefusedSo};
     ghost use Rattle.txc_ports.specs.Asking.{IsOfRow, IsReplyTo, MayAsk};
 
     /// Draws a pass through each node. It is refused as a pass is.
@@ -143,6 +142,7 @@ impl<'a, A: App, J: Naming> Ports<'a, A, J> {
         requires may { MayAsk A.next J.database_row (length self.old) seen.now.history request }
         ensures answer { IsReplyTo A.next request result }
         ensures row { IsOfRow J.database_row result }
+        ensures refused { IsRefusedSo J.database_row request result }
         ensures passes { HaveGrown self.old self.new }
     {
         match request {
@@ -174,7 +174,6 @@ impl<'a, A: App, J: Naming> Ports<'a, A, J> {
 
 ghost use Rattle.txc_shared.specs.Claims.{IsTrueIn};
 ghost use Rattle.txc_shared.specs.Passes.{shown_of_entry};
-ghost use Rattle.txc_ports.specs.Asking.{IsFoundOver};
 
 // A pass through each of the nodes, in order.
 fn draw_passes<A: App, J: Naming>(
@@ -211,19 +210,4 @@ fn shown_by<A: App>(finding: Finding<A>) -> Answered<Shown>
         answer: Shown { reach, value, tags },
         front,
     }
-}
-
-// The answer of the query at the stamp, with the history in which it holds.
-fn find<J: Naming>(
-    rt: &impl Wait,
-    alloc: Global,
-    database: &Database<J>,
-    query: &Query,
-    stamp: Stamp,
-) -> Result<Answered<Found>, DbError>
-    ensures answer { IfOk result (λ found. IsFoundOver found.front.history query.now stamp found.answer) }
-    ensures row { IfOk result (λ found. found.front.events ≡ J.database_row) }
-{
-    found_rows_give_true_entries();
-    database.query(rt, alloc, query, stamp)
 }

@@ -6,6 +6,7 @@ ghost use Rattle.txc_call.specs.declared.error.CallError.TheVariants.{NoFunction
 ghost use Rattle.txc_txn.specs.Core.{receipt_pin, Explains, KeepsSettings};
 ghost use Rattle.txc_txn.specs.Kept.{IsKept};
 ghost use Rattle.txc_client.specs.Ports.{HaveGrown};
+ghost use Rattle.txc_client.specs.Run.{turn_of, HasRun};
 ghost use Rattle.txc_client.specs.Txn.{client_of, IsValueOf};
 
 use crate::calling::call_at;
@@ -58,12 +59,15 @@ impl<'a, A: App, C: Cacheable, J: Naming> RoTxn<'a, A, C, J> {
         ensures unchanged { OnErr result (self.new.txn.core.recorded ≡ self.old.txn.core.recorded) }
         ensures meant { IsKept A.next self.new.txn }
         ensures idle { AllIdle self.new.txn.objects }
+        ensures functions { self.new.txn.objects ≡ self.old.txn.objects }
+        ensures run { HasRun A.next J.database_row self.old.txn key self.new.txn (turn_of result) }
         ensures settings { KeepsSettings self.old.txn.core self.new.txn.core }
         ensures longer { IsPrefix self.old.txn.core.seen.history self.new.txn.core.seen.history }
         ensures missing { self.old.txn.core.pins.members ≢ []
             → IsNone (activity_of self.old.txn.objects key.function)
             → result ≡ Err (TxnError.Call (NoFunction key.function)) }
     {
+        self.txn.is_kept();
         let turn = call_at(rt, alloc, &mut self.ports, &mut self.txn, key);
         self.txn.is_kept();
         match turn {
@@ -146,6 +150,7 @@ impl<'a, A: App, C: Cacheable, J: Naming> RoTxn<'a, A, C, J> {
             renew_after,
             txn,
         } = self;
+        txn.is_kept();
         let (left, registry) = txn.cancel();
         let _ = ports.cushion.give_back(rt, &left.give_back);
         if let Some(stamp) = left.unpin {

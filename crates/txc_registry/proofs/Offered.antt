@@ -1,11 +1,11 @@
 -- What crates above may use of the proofs: how what a registry holds changes.
-use Rattle.std.proofs.Common.{◌≡◌, ◌≢◌, ℕ, suc, Bool, true, false, eqb, Option, Some, IsSome, [], ◌∷◌, sym, refl, ap, ◌∙◌, subst, cond, arith, ne_eqb}
+use Rattle.std.proofs.Common.{◌≡◌, ◌≢◌, ℕ, suc, Bool, true, false, eqb, Option, Some, IsSome, List, [], ◌∷◌, sym, refl, ap, ◌∙◌, subst, cond, arith, ne_eqb}
 use Rattle.std.specs.Prelude.{unwrap_or}
 use Rattle.std.proofs.lemmas.Map.Steps.{set_value_same}
 use Rattle.std.proofs.lemmas.Bool.{eqb-true}
 use Rattle.txc_shared.specs.Eval.{Next}
 use Rattle.txc_registry.specs.Activity.{Activation, Activity, activation_in, idle, next_of, running, WantsAnswer}
-use Rattle.txc_registry.specs.Objects.{Objects, activity_of, with_activity, AllIdle, IsAskingAt}
+use Rattle.txc_registry.specs.Objects.{Objects, activity_of, numbers_of, with_activity, AllIdle, IsAskingAt}
 
 module _ (f : ℕ) where
   here_by_head : (o : ℕ × Activity) (os : Objects) (m n : Activity) (b : Bool)
@@ -75,3 +75,27 @@ asking_there next objects f a here wants =
     let run : Option Activity → Activation = λ (o : Option Activity). activation_in (unwrap_or o idle) in
     subst (λ (o : Option Activity). (o ≡ Some (running (run o))) × WantsAnswer (next_of (next f) (run o)))
     (sym here) (refl, wants)
+
+numbers_by_head : (f : ℕ) (n : Activity) (o : ℕ × Activity) (os : Objects) (b : Bool)
+    → eqb o.0 f ≡ b → numbers_of (with_activity os f n) ≡ numbers_of os
+    → numbers_of (with_activity (o ∷ os) f n) ≡ numbers_of (o ∷ os)
+numbers_by_head f n o os true is next = rw is refl
+numbers_by_head f n o os false is next = rw is (ap (λ (ns : List ℕ). o.0 ∷ ns) next)
+
+-- what an object does changes no number
+pub numbers_stay : (os : Objects) (f : ℕ) (n : Activity) → numbers_of (with_activity os f n) ≡ numbers_of os
+numbers_stay [] f n = refl
+numbers_stay (o ∷ os) f n = numbers_by_head f n o os (eqb o.0 f) refl (numbers_stay os f n)
+
+-- idle objects of the same numbers are the same
+pub idle_same : (os us : Objects) → AllIdle os → AllIdle us → numbers_of os ≡ numbers_of us → os ≡ us
+idle_same [] [] free free' same = refl
+idle_same [] (u ∷ us) free free' same = absurd (cc)
+idle_same (o ∷ os) [] free free' same = absurd (cc)
+idle_same ((f, m) ∷ os) ((g, n) ∷ us) free free' same =
+    let one : m ≡ idle = free 0 (f, m) (omega arith) in
+    let other : n ≡ idle = free' 0 (g, n) (omega arith) in
+    let number : f ≡ g = cc in
+    let rest : numbers_of os ≡ numbers_of us = cc in
+    let more : os ≡ us = idle_same os us (λ k d h. free (suc k) d (omega arith)) (λ k d h. free' (suc k) d (omega arith)) rest in
+    cc

@@ -3,7 +3,7 @@ ghost use Rattle.std.specs.Prelude.{◌≡◌, ◌≤◌, [], None, OnErr, OnOk,
 ghost use Rattle.txc_rows.specs.States.{State};
 ghost use Rattle.txc_db.specs.History.{History};
 ghost use Rattle.txc_shared.specs.Eval.{Next};
-ghost use Rattle.txc_registry.specs.Objects.{activity_of, Objects};
+ghost use Rattle.txc_registry.specs.Objects.{activity_of, numbers_of, Objects};
 ghost use Rattle.txc_call.specs.declared.error.CallError.TheVariants.{NoFunction};
 ghost use Rattle.txc_call.specs.declared.need.Need.{Need};
 ghost use Rattle.txc_call.specs.declared.need.Outcome.{Outcome};
@@ -100,6 +100,7 @@ impl RwCore {
             → (¬ (IsDone self.old.call.need)) × (self.old.call.asked ≤ self.new.call.asked) }
         ensures leads { (s : State) → CallLeads A.next s (standing_of self.old.call registry.old) []
             self.new registry.new result }
+        ensures functions { numbers_of registry.new ≡ numbers_of registry.old }
         ensures same { self.new ≡ record self.old {
           answers = self.new.answers;
           call = self.new.call;
@@ -138,6 +139,7 @@ impl RwCore {
         ensures no_value { self.old.answers ≡ answers_after self.old.answers self.old.call.top None result }
         ensures after { IsAsk result → self.new ≡ record self.old { reading = Some query } }
         ensures leads { StandingLeads (standing_of self.old.call registry.old) self.new registry.new result }
+        ensures functions { numbers_of registry.new ≡ numbers_of registry.old }
         ensures same { self.new ≡ record self.old { call = self.new.call; reading = self.new.reading } }
     {
         let Ok(()) = self.make_ready(alloc, &query) else {
@@ -176,6 +178,7 @@ impl RwCore {
         ensures missing_left { IsNone (activity_of registry.old key.function) → self.new ≡ self.old }
         ensures missing_same { IsNone (activity_of registry.old key.function)
             → registry.new ≡ registry.old }
+        ensures functions { numbers_of registry.new ≡ numbers_of registry.old }
         ensures same { self.new ≡ record self.old {
           answers = self.new.answers;
           call = self.new.call;

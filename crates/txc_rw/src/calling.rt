@@ -1,7 +1,7 @@
 //! Calls and queries of a transaction, led to their end at the locked database.
 ghost use Rattle.std.specs.Prelude.{◌≡◌, ◌≤◌, ◌++◌, ◌∷◌, [], length, IfErr, IfOk, IsNone, IsSome, None, Err, OnErr, Some};
 ghost use Rattle.txc_db.specs.History.{state_at};
-ghost use Rattle.txc_registry.specs.Objects.{activity_of};
+ghost use Rattle.txc_registry.specs.Objects.{activity_of, numbers_of};
 ghost use Rattle.txc_call.specs.declared.error.CallError.TheVariants.{NoFunction};
 ghost use Rattle.txc_call.specs.Calling.{started};
 ghost use Rattle.txc_rw.specs.Core.{asked_of, IsCallEnd, IsIdle, IsOfQuery, IsRw, RwHolds};
@@ -85,6 +85,7 @@ pub(crate) fn call_at<J: Naming, A: App, C: Cacheable>(
         → result ≡ Err (TxnError.Call (NoFunction key.function)) }
     ensures missing_left { IsNone (activity_of registry.old key.function) → core.new ≡ core.old }
     ensures missing_same { IsNone (activity_of registry.old key.function) → registry.new ≡ registry.old }
+    ensures functions { numbers_of registry.new ≡ numbers_of registry.old }
     ensures same { core.new ≡ record core.old {
       queried = core.new.queried;
       answers = core.new.answers;

@@ -5,6 +5,7 @@ ghost use Rattle.txc_validity.specs.declared.answer.Found.{Found};
 ghost use Rattle.txc_db.specs.declared.error.DbError.{DbError};
 ghost use Rattle.txc_db.specs.History.{History};
 ghost use Rattle.txc_rows.specs.declared.query.Query.{Query};
+ghost use Rattle.txc_registry.specs.Objects.{numbers_of};
 ghost use Rattle.txc_call.specs.declared.need.Need.{Need};
 ghost use Rattle.txc_call.specs.Calling.{IsAtRest, IsCalling};
 ghost use Rattle.txc_rw.specs.Core.{only_one};
@@ -56,6 +57,7 @@ fn give_up<A: App, C: Cacheable>(machine: &mut CallMachine, registry: &mut Regis
     requires { IsCalling A.next registry.old machine.old }
     ensures rest { IsAtRest registry.new machine.new }
     ensures need { machine.new.need ≡ None }
+    ensures functions { numbers_of registry.new ≡ numbers_of registry.old }
     ensures same_call { machine.old.need ≡ None → machine.new ≡ machine.old }
     ensures same_objects { machine.old.need ≡ None → registry.new ≡ registry.old }
 {
@@ -118,6 +120,7 @@ impl RwCore {
             self.new registry.new result }
         ensures rows { (found : Found) → self.old.call.need ≡ None → reply ≡ Ok found
             → RowsLead found.rows.items result }
+        ensures functions { numbers_of registry.new ≡ numbers_of registry.old }
         ensures same_call { self.old.call.need ≡ None → self.new.call ≡ self.old.call }
         ensures same_objects { self.old.call.need ≡ None → registry.new ≡ registry.old }
         ensures refused { (error : DbError) → reply ≡ Err error

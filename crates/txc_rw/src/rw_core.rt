@@ -50,7 +50,7 @@ impl Model for RwCore {
 }
 
 impl RwCore {
-    ghost use Rattle.txc_registry.specs.Objects.{AllIdle};
+    ghost use Rattle.txc_registry.specs.Objects.{numbers_of, AllIdle};
     ghost use Rattle.txc_rw.specs.Core.{tags_read, IsBegun, IsRw, IsWriteRefused};
 
     /// A transaction whose base is the stamp that is held for it.
@@ -142,6 +142,7 @@ impl RwCore {
     pub fn cancel<A: App, C: Cacheable>(self, registry: &mut Registry<A, C>) -> PortRequest
         requires { IsRw A.next registry.old self }
         ensures idle { AllIdle registry.new }
+        ensures functions { numbers_of registry.new ≡ numbers_of registry.old }
         ensures unpins { result ≡ PortRequest.Unpin self.base }
     {
         let RwCore {

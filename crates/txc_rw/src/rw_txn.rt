@@ -142,7 +142,6 @@ impl<'a, J: Naming, A: App, C: Cacheable> RwTxn<'a, J, A, C> {
             answers = self.new.core.answers;
             call = self.new.core.call;
           };
-          objects = self.new.objects;
         } }
         ensures idle { AllIdle self.new.objects }
     {

@@ -2,6 +2,7 @@
 ghost use Rattle.std.specs.Prelude.{◌≡◌, [], IsSome, MatchOption, None, OnErr, OnOk, Some};
 ghost use Rattle.txc_rows.specs.States.{State};
 ghost use Rattle.txc_db.specs.History.{History};
+ghost use Rattle.txc_registry.specs.Objects.{numbers_of};
 ghost use Rattle.txc_call.specs.declared.need.Need.{Need};
 ghost use Rattle.txc_call.specs.Calling.{turn_after, CallHolds, InCall, IsAtRest, IsCalling};
 ghost use Rattle.txc_call.specs.Needs.{reply_reach, ReplyFits};
@@ -46,6 +47,7 @@ pub(crate) fn go_on_uncached<A: App, C: Cacheable>(
     ensures counted { OnOk result (HasCounted machine.old machine.new) }
     ensures led { (s : State) → IsLedTo A.next s (standing_of machine.old registry.old) []
         (turn_after result machine.new registry.new) }
+    ensures functions { numbers_of registry.new ≡ numbers_of registry.old }
     ensures same_top { machine.new.top ≡ machine.old.top }
 {
     while let Some(reply) = reply_of_no_cache(machine) {

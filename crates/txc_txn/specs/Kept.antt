@@ -3,7 +3,7 @@ use Rattle.std.specs.Prelude.{◌≡◌}
 use Rattle.std.specs.Option.{ForSome}
 use mathlib.Core.List.{IsPrefix}
 use Rattle.txc_shared.specs.Eval.{Next}
-use Rattle.txc_registry.specs.Objects.{Objects}
+use Rattle.txc_registry.specs.Objects.{Objects, numbers_of}
 use Rattle.txc_ports.specs.declared.reply.PortReply.{PortReply}
 use Rattle.txc_ports.specs.declared.turn.Turn.{Turn}
 use Rattle.txc_ports.specs.Fronts.{front_of}
@@ -26,8 +26,8 @@ abbrev pub IsShownRight : Next → TxnValue → PortReply → Type 0
 IsShownRight next t reply =
     ForSome (front_of reply) (λ front. IsRight next front.history t.core.call.need reply)
 
--- what comes of a reply: a turn, and what it leaves; more was seen of the history, and what the reply shows
--- of it too
+-- what comes of a reply: a turn, and what it leaves; the functions stay; more was seen of the history, and what
+-- the reply shows of it too
 pub record HasGoneOn (next : Next) (old : TxnValue) (reply : PortReply) (new : TxnValue)
     (turn : Turn) : Type 0 where
   pub turn_fits : IsTurn new.core turn
@@ -39,6 +39,7 @@ pub record HasGoneOn (next : Next) (old : TxnValue) (reply : PortReply) (new : T
   pub recorded : new.core.recorded ≡ recorded_after old.core.recorded turn (open_call old.core)
   pub goes_on : IsAsk turn → open_call new.core ≡ open_call old.core
   pub settings : KeepsSettings old.core new.core
+  pub functions : numbers_of new.objects ≡ numbers_of old.objects
   pub events : new.core.seen.events ≡ old.core.seen.events
   pub longer : IsPrefix old.core.seen.history new.core.seen.history
   pub shown : ForSome (front_of reply) (λ front. IsPrefix front.history new.core.seen.history)

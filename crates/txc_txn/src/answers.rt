@@ -3,6 +3,7 @@ ghost use Rattle.std.specs.Prelude.{◌≡◌, None, Ok, Some};
 ghost use Rattle.std.specs.Option.{ForSome};
 ghost use mathlib.Core.List.{IsPrefix};
 ghost use Rattle.txc_db.specs.History.{History};
+ghost use Rattle.txc_registry.specs.Objects.{numbers_of};
 ghost use Rattle.txc_ports.specs.Fronts.{front_of};
 
 use crate::pinning::{PinStep, Pinning};
@@ -58,6 +59,7 @@ impl TxnCore {
         ensures leads { ReplyLeads A.next (value_of self.old) registry.old (PortReply.Pin pinned)
             (value_of self.new) registry.new result }
         ensures left { left_pin self.new.pinning ≡ left_after (PortReply.Pin pinned) }
+        ensures functions { numbers_of registry.new ≡ numbers_of registry.old }
         ensures same { value_of self.new
             ≡ record (value_of self.old) { call = self.new.machine; pinning = self.new.pinning } }
     {
@@ -99,6 +101,7 @@ impl TxnCore {
             (value_of self.new) registry.new result }
         ensures no_add { IsNoAdding result }
         ensures left { left_pin self.new.pinning ≡ left_after (PortReply.AddPin pinned.now added) }
+        ensures functions { numbers_of registry.new ≡ numbers_of registry.old }
         ensures same { value_of self.new ≡ record (value_of self.old) {
           pins = self.new.pins;
           taken = self.new.taken.items;
@@ -141,6 +144,7 @@ impl TxnCore {
         ensures leads { ReplyLeads A.next (value_of self.old) registry.old PortReply.Unpin
             (value_of self.new) registry.new result }
         ensures no_add { IsNoAdding result }
+        ensures functions { numbers_of registry.new ≡ numbers_of registry.old }
         ensures same { value_of self.new
             ≡ record (value_of self.old) { call = self.new.machine; pinning = None } }
     {
@@ -179,6 +183,7 @@ impl TxnCore {
             (value_of self.new) registry.new result }
         ensures no_add { IsNoAdding result }
         ensures left { left_pin self.new.pinning ≡ None }
+        ensures functions { numbers_of registry.new ≡ numbers_of registry.old }
         ensures same { value_of self.new ≡ record (value_of self.old) {
           pins = self.new.pins;
           recorded = self.new.recorded.items;
@@ -218,6 +223,7 @@ impl TxnCore {
             (value_of self.new) registry.new result }
         ensures no_add { IsNoAdding result }
         ensures left { left_pin self.new.pinning ≡ None }
+        ensures functions { numbers_of registry.new ≡ numbers_of registry.old }
         ensures same { value_of self.new ≡ record (value_of self.old) {
           pins = self.new.pins;
           recorded = self.new.recorded.items;
@@ -259,6 +265,7 @@ impl TxnCore {
             (value_of self.new) registry.new result }
         ensures adds { AddsOnly reply result }
         ensures left { left_pin self.new.pinning ≡ left_after reply }
+        ensures functions { numbers_of registry.new ≡ numbers_of registry.old }
         ensures same { value_of self.new ≡ record (value_of self.old) {
           pins = self.new.pins;
           taken = self.new.taken.items;

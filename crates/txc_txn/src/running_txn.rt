@@ -1,7 +1,7 @@
 //! A core with the registry of its functions, which keeps what its pin set means.
 ghost use Rattle.std.specs.Prelude.{◌≡◌, ◌≢◌, [], None};
 ghost use Rattle.std.specs.Option.{ForSome};
-ghost use Rattle.txc_registry.specs.Objects.{AllIdle};
+ghost use Rattle.txc_registry.specs.Objects.{numbers_of, AllIdle};
 ghost use Rattle.txc_ports.specs.Fronts.{front_of};
 
 use crate::receipt::{Left, Receipt};
@@ -71,6 +71,7 @@ impl<A: App, C: Cacheable> RunningTxn<A, C> {
         ensures no_add { IsNoAdding result }
         ensures left { left_pin self.new.core.pinning ≡ None }
         ensures leads { StartLeads self.old.core self.old.objects key result }
+        ensures functions { numbers_of self.new.objects ≡ numbers_of self.old.objects }
         ensures same { self.new.core
             ≡ record self.old.core { call = self.new.core.call; pinning = self.new.core.pinning } }
     {
@@ -98,6 +99,7 @@ impl<A: App, C: Cacheable> RunningTxn<A, C> {
             result.0.answers.items }
         ensures seen { result.0.seen ≡ self.core.seen }
         ensures give_back { result.1.items ≡ self.core.taken }
+        ensures registry { result.2 ≡ self.objects }
         ensures idle { AllIdle result.2 }
     {
         let (receipt, give_back) = self.core.finish();
@@ -109,6 +111,7 @@ impl<A: App, C: Cacheable> RunningTxn<A, C> {
     pub fn cancel(self) -> (Left, Registry<A, C>)
         ensures give_back { result.0.give_back.items ≡ self.core.taken }
         ensures unpin { result.0.unpin ≡ left_pin self.core.pinning }
+        ensures functions { numbers_of result.1 ≡ numbers_of self.objects }
         ensures idle { AllIdle result.1 }
     {
         let mut registry = self.registry;

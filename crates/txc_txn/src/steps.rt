@@ -12,7 +12,7 @@ ghost use Rattle.txc_call.specs.declared.need.Outcome.{Outcome};
 ghost use Rattle.txc_call.specs.Needs.{reply_reach, ReplyFits, ReplyHolds};
 ghost use Rattle.txc_call.specs.Reaches.{InReach};
 ghost use Rattle.txc_shared.specs.Eval.{Next};
-ghost use Rattle.txc_registry.specs.Objects.{Objects};
+ghost use Rattle.txc_registry.specs.Objects.{numbers_of, Objects};
 ghost use Rattle.txc_ports.specs.Answers.{IsFresh};
 
 use crate::pinning::{PinStep, Pinning};
@@ -62,6 +62,7 @@ impl TxnCore {
             → CoreHolds A.next L registry.new (value_of self.new) }
         ensures idle { IsIdle (value_of self.new) }
         ensures answer { result ≡ Turn.Refused error }
+        ensures functions { numbers_of registry.new ≡ numbers_of registry.old }
         ensures same { value_of self.new
             ≡ record (value_of self.old) { call = self.new.machine; pinning = None } }
     {
@@ -95,6 +96,7 @@ impl TxnCore {
             × (result ≡ Turn.Refused (TxnError.Database DbError.Full)) }
         ensures no_add { IsNoAdding result }
         ensures left { left_pin self.new.pinning ≡ None }
+        ensures functions { numbers_of registry.new ≡ numbers_of registry.old }
         ensures same { value_of self.new
             ≡ record (value_of self.old) { call = self.new.machine; pinning = self.new.pinning } }
     {
@@ -173,6 +175,7 @@ impl TxnCore {
             → self.old.pins.has_present ≡ false → IsAsk result }
         ensures no_add { IsNoAdding result }
         ensures left { left_pin self.new.pinning ≡ None }
+        ensures functions { numbers_of registry.new ≡ numbers_of registry.old }
         ensures same { value_of self.new ≡ record (value_of self.old) {
           recorded = self.new.recorded.items;
           call = self.new.machine;
@@ -230,6 +233,7 @@ impl TxnCore {
         ensures leads { BeginLeads registry.old key result }
         ensures no_add { IsNoAdding result }
         ensures left { left_pin self.new.pinning ≡ None }
+        ensures functions { numbers_of registry.new ≡ numbers_of registry.old }
         ensures same { value_of self.new
             ≡ record (value_of self.old) { call = self.new.machine; pinning = self.new.pinning } }
     {
@@ -265,6 +269,7 @@ impl TxnCore {
             (value_of self.new) registry.new result }
         ensures no_add { IsNoAdding result }
         ensures left { left_pin self.new.pinning ≡ None }
+        ensures functions { numbers_of registry.new ≡ numbers_of registry.old }
         ensures same { value_of self.new ≡ record (value_of self.old) {
           recorded = self.new.recorded.items;
           call = self.new.machine;

@@ -4,7 +4,7 @@ ghost use Rattle.std.specs.Option.{ForSome};
 ghost use mathlib.Core.List.{IsPrefix};
 ghost use Rattle.txc_db.specs.History.{History};
 ghost use Rattle.txc_shared.specs.Eval.{Next};
-ghost use Rattle.txc_registry.specs.Objects.{AllIdle, Objects};
+ghost use Rattle.txc_registry.specs.Objects.{numbers_of, AllIdle, Objects};
 ghost use Rattle.txc_ports.specs.Answers.{IsFresh};
 ghost use Rattle.txc_ports.specs.Fronts.{front_of};
 ghost use Rattle.txc_txn.specs.Core.{receipt_pin};
@@ -108,6 +108,7 @@ impl TxnCore {
         ensures no_add { IsNoAdding result }
         ensures left { left_pin (value_of self.new).pinning ≡ None }
         ensures leads { StartLeads (value_of self.old) registry.old key result }
+        ensures functions { numbers_of registry.new ≡ numbers_of registry.old }
         ensures same { value_of self.new ≡ record (value_of self.old) {
           call = (value_of self.new).call;
           pinning = (value_of self.new).pinning;
@@ -143,6 +144,7 @@ impl TxnCore {
             (value_of self.new) registry.new result }
         ensures adds { AddsOnly reply result }
         ensures left { left_pin (value_of self.new).pinning ≡ left_after reply }
+        ensures functions { numbers_of registry.new ≡ numbers_of registry.old }
         ensures settings { KeepsSettings (value_of self.old) (value_of self.new) }
         ensures events { (value_of self.new).seen.events ≡ (value_of self.old).seen.events }
         ensures longer { IsPrefix (value_of self.old).seen.history (value_of self.new).seen.history }
@@ -182,6 +184,7 @@ impl TxnCore {
     pub fn cancel<A: App, C: Cacheable>(self, registry: &mut Registry<A, C>) -> Left
         requires { IsCore A.next registry.old (value_of self) }
         ensures idle { AllIdle registry.new }
+        ensures functions { numbers_of registry.new ≡ numbers_of registry.old }
         ensures give_back { result.give_back.items ≡ (value_of self).taken }
         ensures unpin { result.unpin ≡ left_pin (value_of self).pinning }
     {

@@ -5,6 +5,7 @@ use Rattle.txc_txn.specs.Core.{CoreValue, IsAsk, IsTurn}
 use Rattle.txc_txn.proofs.Offered.{adds_at_first, adds_next, is_answered, is_right, may_ask, AddsOf}
 use Rattle.txc_client.proofs.Counting.{goes_down}
 use Rattle.txc_client.proofs.Grown.{as_many, have_grown_self, have_grown_then, prefix_then}
+use Rattle.txc_client.proofs.Runs.{run_begun, run_on}
 use Rattle.txc_client.proofs.Turns.{history_stays, none_recorded, recorded_on, recorded_stays, row_stays, settings_stay, settings_then}
 use Rattle.txc_client.proofs.calling.call_at.Goals as goal
 
@@ -22,6 +23,16 @@ loop-turn-init g c =
       recorded = recorded_stays old new same ∙ sym (none_recorded old.recorded c.start-turn.result _ c.start-turn.ensures.no_value);
       settings = settings_stay old new same;
       longer = history_stays old new same;
+      functions = c.start-turn.ensures.functions;
+      run = run_begun g.A.App.next g.J.Naming.database_row c.args.txn.now c.args.key c.start-turn.new.self c.start-turn.result (
+        record {
+          turn_fits = c.start-turn.ensures.turn;
+          leads = c.start-turn.ensures.leads;
+          begins = c.start-turn.ensures.begins;
+          functions = c.start-turn.ensures.functions;
+          same = same;
+        }
+      );
       missing = λ members none. (c.start-turn.ensures.leads.begins members).absent none;
     }
 
@@ -39,6 +50,15 @@ loop-turn-preserved g c =
       recorded = on.recorded ∙ recorded_on c.args.txn.now.core.recorded c.loop-turn.txn.core.recorded c.in-Ask.request c.loop-turn.turn c.next-turn.result c.args.key _ c.in-Ask.is inv.recorded (inv.begins asks);
       settings = settings_then c.args.txn.now.core c.loop-turn.txn.core c.next-turn.new.self.core inv.settings on.settings;
       longer = prefix_then c.args.txn.now.core.seen.history c.loop-turn.txn.core.seen.history c.next-turn.new.self.core.seen.history inv.longer on.longer;
+      functions = on.functions ∙ inv.functions;
+      run = run_on g.A.App.next g.J.Naming.database_row c.args.txn.now c.args.key c.loop-turn.txn c.next-turn.new.self c.loop-turn.turn c.next-turn.result c.ask-reply.result inv.run (
+        record {
+          request = c.in-Ask.request;
+          asks = c.in-Ask.is;
+          given = record { to = c.ask-reply.ensures.answer; of_row = c.ask-reply.ensures.row; refused = c.ask-reply.ensures.refused };
+          goes_on = on;
+        }
+      );
       missing = λ members none. absurd (cc (inv.missing members none, c.in-Ask.is));
     }
 

@@ -1,11 +1,12 @@
 use Rattle.std.proofs.Common.{◌≡◌, ◌≢◌, [], Some, IsNone}
 use mathlib.Core.List.{IsPrefix}
-use Rattle.txc_registry.specs.Objects.{activity_of}
+use Rattle.txc_registry.specs.Objects.{activity_of, numbers_of}
 use Rattle.txc_call.specs.declared.error.CallError.TheVariants.{NoFunction}
 use Rattle.txc_ports.specs.declared.error.TxnError.TheVariants as errors
 use Rattle.txc_ports.specs.declared.turn.Turn.TheVariants.{Refused}
 use Rattle.txc_txn.specs.Core.{open_call, recorded_after, IsAsk, IsTurn, KeepsSettings}
 use Rattle.txc_client.specs.Ports.{HaveGrown}
+use Rattle.txc_client.specs.Run.{HasRun}
 use Rattle.txc_txn.proofs.Offered.{AddsOf}
 use Rattle.txc_client.proofs.Counting.{requests_left}
 use Rattle.txc_client.proofs.calling.call_at.Given as goal
@@ -20,6 +21,8 @@ invariant-loop-turn g l = record {
   recorded : l.txn.core.recorded ≡ recorded_after l.fn.txn.core.recorded l.turn (Some l.fn.key);
   settings : KeepsSettings l.fn.txn.core l.txn.core;
   longer : IsPrefix l.fn.txn.core.seen.history l.txn.core.seen.history;
+  functions : numbers_of l.txn.objects ≡ numbers_of l.fn.txn.objects;
+  run : HasRun g.A.App.next g.J.Naming.database_row l.fn.txn l.fn.key l.txn l.turn;
   missing : l.fn.txn.core.pins.members ≢ [] → IsNone (activity_of l.fn.txn.objects l.fn.key.function)
       → l.turn ≡ Refused (errors.Call (NoFunction l.fn.key.function));
 }

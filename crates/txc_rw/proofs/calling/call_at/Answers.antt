@@ -48,6 +48,7 @@ loop-query-preserved g c =
       changes = ap (λ (w : RwValue). w.changes) c.reply-turn.ensures.same ∙ inv.changes;
       missing = λ none. absurd (no_refusal c.loop-query.turn _ three.2 (inv.missing none));
       missing_left = λ none. absurd (no_refusal c.loop-query.turn _ three.2 (inv.missing none));
+      functions = c.reply-turn.ensures.functions ∙ inv.functions;
       missing_same = λ none. absurd (no_refusal c.loop-query.turn _ three.2 (inv.missing none));
     }
 
@@ -68,6 +69,7 @@ loop-query-init g c = record {
   changes = ap (λ (w : RwValue). w.changes) c.start-turn.ensures.same;
   missing = c.start-turn.ensures.missing;
   missing_left = c.start-turn.ensures.missing_left;
+  functions = c.start-turn.ensures.functions;
   missing_same = c.start-turn.ensures.missing_same;
 }
 

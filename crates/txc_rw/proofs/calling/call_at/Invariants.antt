@@ -1,6 +1,6 @@
 use Rattle.std.proofs.Common.{◌≡◌, IsNone, IsSome, None}
 use Rattle.txc_db.specs.History.{state_at}
-use Rattle.txc_registry.specs.Objects.{activity_of}
+use Rattle.txc_registry.specs.Objects.{activity_of, numbers_of}
 use Rattle.txc_call.specs.declared.error.CallError.TheVariants.{NoFunction}
 use Rattle.txc_call.specs.Calling.{started}
 use Rattle.txc_ports.specs.declared.error.TxnError.TheVariants as errors
@@ -26,6 +26,7 @@ invariant-loop-query g l = record {
   changes : l.core.changes ≡ l.fn.core.changes;
   missing : IsNone (activity_of l.fn.registry l.fn.key.function) → l.turn ≡ Refused (errors.Call (NoFunction l.fn.key.function));
   missing_left : IsNone (activity_of l.fn.registry l.fn.key.function) → l.core ≡ l.fn.core;
+  functions : numbers_of l.registry ≡ numbers_of l.fn.registry;
   missing_same : IsNone (activity_of l.fn.registry l.fn.key.function) → l.registry ≡ l.fn.registry;
 }
 

@@ -28,6 +28,7 @@ loop-reply-preserved g c = record {
       led_by_none g.A.App.next s (standing_of c.args.machine.now c.args.registry.now) c.loop-reply.machine c.loop-reply.registry (standing_of c.reply.new.self c.reply.new.registry)
       c.in-Some.ensures.0 c.in-Some.reply c.in-Some.ensures.1 c.in-Some.ensures.2 c.in-Some.ensures.3
       c.in_ok-reply.ensures.answer (c.loop-reply.invariant.led s);
+  functions = c.reply.ensures.functions ∙ c.loop-reply.invariant.functions;
   same_top = c.reply.ensures.same_top ∙ c.loop-reply.invariant.same_top;
 }
 
@@ -39,6 +40,7 @@ loop-reply-init g c = record {
   holds = λ L h. h;
   counted = counted_first c.args.machine.now;
   led = λ s. not_led g.A.App.next s (standing_of c.args.machine.now c.args.registry.now);
+  functions = refl;
   same_top = refl;
 }
 

@@ -1,6 +1,7 @@
 use Rattle.std.proofs.Common.{◌≡◌, [], IsSome}
 use Rattle.txc_rows.specs.States.{State}
 use Rattle.txc_db.specs.History.{History}
+use Rattle.txc_registry.specs.Objects.{numbers_of}
 use Rattle.txc_call.specs.Calling.{CallHolds, InCall, IsCalling}
 use Rattle.txc_rw.specs.Core.{HasCounted}
 use Rattle.txc_rw.specs.Leading.{standing_of, IsLedTo}
@@ -15,6 +16,7 @@ invariant-loop-reply g l = record {
   holds : (L : History) → CallHolds g.A.App.next L l.initial.registry l.initial.machine → CallHolds g.A.App.next L l.registry l.machine;
   counted : HasCounted l.initial.machine l.machine;
   led : (s : State) → IsLedTo g.A.App.next s (standing_of l.initial.machine l.initial.registry) [] (standing_of l.machine l.registry);
+  functions : numbers_of l.registry ≡ numbers_of l.initial.registry;
   same_top : l.machine.top ≡ l.initial.machine.top;
 }
 

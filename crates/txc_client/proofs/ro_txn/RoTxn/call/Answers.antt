@@ -1,8 +1,10 @@
 use Rattle.std.proofs.Common.{◌≡◌, ◌∙◌, Some, IfOk, sym, subst}
 use Rattle.txc_ports.specs.declared.turn.Turn.{Turn}
 use Rattle.txc_txn.specs.Core.{recorded_after}
-use Rattle.txc_client.specs.Txn.{IsValueOf}
+use Rattle.txc_client.specs.Run.{turn_of, HasRun}
+use Rattle.txc_client.specs.Txn.{IsValueOf, RoTxnValue}
 use Rattle.txc_client.proofs.Grown.{as_many}
+use Rattle.txc_client.proofs.Idle.{all_idle, objects_stay}
 use Rattle.txc_client.proofs.Values.{value_of_last}
 use Rattle.txc_client.proofs.ro_txn.RoTxn.call.Goals as goal
 use Rattle.txc_client.proofs.ro_txn.RoTxn.call.Goals.{in-Value, in-Refused}
@@ -23,7 +25,24 @@ pub returns-clause-answer : goal.returns-clause-answer
 returns-clause-answer g c = elim c.match-turn.branch [
   | in-Value w ↦
       subst (λ r. IfOk r (IsValueOf g.A.App.next c.call_at-turn.new.txn.core c.args.key)) (sym w.result-is)
-      (value_of_last g.A.App.next c.call_at-turn.new.txn.core c.self.inside.txn.core.recorded c.args.key w.in-Value.value c.is_kept.ensures.holds.meant.consistent
+      (value_of_last g.A.App.next c.call_at-turn.new.txn.core c.self.inside.txn.core.recorded c.args.key w.in-Value.value c.is_kept-2.ensures.holds.meant.consistent
       (subst (λ (t : Turn). c.call_at-turn.new.txn.core.recorded ≡ recorded_after c.self.inside.txn.core.recorded t (Some c.args.key)) w.in-Value.is c.call_at-turn.ensures.recorded))
   | in-Refused w ↦ subst (λ r. IfOk r (IsValueOf g.A.App.next c.call_at-turn.new.txn.core c.args.key)) (sym w.result-is) tt
 ]
+
+-- the last turn is that of the result
+pub returns-clause-run : goal.returns-clause-run
+returns-clause-run g c =
+    let ran = λ (t : Turn). HasRun g.A.App.next g.J.Naming.database_row c.self.inside.txn c.args.key c.call_at-turn.new.txn t in
+    subst (λ (v : RoTxnValue). HasRun g.A.App.next g.J.Naming.database_row v.txn c.args.key c.call_at-turn.new.txn (turn_of c.match-turn.result)) c.self.view_is
+    (elim c.match-turn.branch [
+      | in-Value w ↦ subst (λ r. ran (turn_of r)) (sym w.result-is) (subst ran w.in-Value.is c.call_at-turn.ensures.run)
+      | in-Refused w ↦ subst (λ r. ran (turn_of r)) (sym w.result-is) (subst ran w.in-Refused.is c.call_at-turn.ensures.run)
+    ])
+
+pub returns-clause-functions : goal.returns-clause-functions
+returns-clause-functions g c =
+    let next = g.A.App.next in
+    subst (λ (v : RoTxnValue). c.call_at-turn.new.txn.objects ≡ v.txn.objects) c.self.view_is
+    (objects_stay next c.self.inside.txn c.is_kept.ensures c.self.invariant.0.idle c.call_at-turn.new.txn.objects
+    (all_idle next c.call_at-turn.new.txn c.is_kept-2.ensures c.call_at-turn.ensures.idle) c.call_at-turn.ensures.functions)

@@ -1,4 +1,4 @@
-use Rattle.std.proofs.Common.{◌≡◌, ℕ, List, [], ◌∷◌, ◌++◌, Some, ap, subst}
+use Rattle.std.proofs.Common.{◌≡◌, ℕ, List, [], ◌∷◌, ◌++◌, Some, None, ap, subst}
 use Rattle.std.specs.Prelude.{IfOk}
 use Rattle.txc_db.specs.History.{History}
 use Rattle.txc_rw.specs.declared.given.Given.TheVariants as given
@@ -6,6 +6,7 @@ use Rattle.txc_rw.specs.Core.{RwValue}
 use Rattle.txc_rw.specs.Txn.{TxnValue}
 use Rattle.txc_db.specs.History.{state_at}
 use Rattle.txc_shared.specs.Eval.{eval}
+use Rattle.txc_registry.proofs.Offered.{idle_same}
 use Rattle.txc_rw.proofs.Resting.{if_ok, last_right, rested}
 use Rattle.txc_rw.proofs.rw_txn.RwTxn.call.Goals as goal
 
@@ -30,3 +31,14 @@ returns-clause-answer g c =
     subst (λ (n : ℕ). eval g.A.App.next c.args.key (state_at L n) ≡ Some v) base
     (last_right g.A.App.next (state_at L core'.base) c.self.inside.core.answers core'.answers (given.Value c.args.key v) is right))
     c.call_at.ensures.after)
+
+-- all objects are idle before and after, and of the same numbers
+pub returns-clause-same : goal.returns-clause-same
+returns-clause-same g c =
+    let two = rested g.A.App.next c.self.inside.seen.history c.call_at.new.registry c.call_at.new.core c.call_at.ensures.fits c.call_at.ensures.idle
+    (c.call_at.ensures.holds (c.self.invariant.2.holds c.self.inside.registry)) in
+    let objects : c.call_at.new.registry ≡ c.self.inside.registry = idle_same c.call_at.new.registry c.self.inside.registry two.0 c.self.invariant.1 c.call_at.ensures.functions in
+    let reading : c.self.inside.core.reading ≡ None = c.self.invariant.2.reading in
+    let core = c.call_at.ensures.same in
+    let view = c.self.view_is in
+    cc

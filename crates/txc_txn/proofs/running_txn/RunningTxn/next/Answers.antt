@@ -27,6 +27,7 @@ returns g c =
       recorded = c.next.ensures.recorded;
       goes_on = c.next.ensures.goes_on;
       settings = c.next.ensures.settings;
+      functions = c.next.ensures.functions;
       events = c.next.ensures.events;
       longer = c.next.ensures.longer;
       shown = c.next.ensures.shown;

@@ -1,0 +1,29 @@
+//! Queries of transactions, asked at the locked database.
+ghost use Rattle.std.specs.Prelude.{◌≡◌, IfErr, IfOk};
+ghost use Rattle.txc_db.specs.Calls.{IsQueryRefused};
+ghost use Rattle.txc_db.specs.Shared.{MayRefuse};
+ghost use Rattle.txc_ports.specs.Asking.{IsFoundOver};
+
+use std::alloc::Global;
+use std::sync::Wait;
+use txc_db::{Answered, Database, DbError, Naming};
+use txc_rows::Query;
+use txc_shared::laws::found_rows_give_true_entries;
+use txc_stamp::Stamp;
+use txc_validity::Found;
+
+// The answer of the query at the stamp, with the history in which it holds.
+pub(crate) fn find<J: Naming>(
+    rt: &impl Wait,
+    alloc: Global,
+    database: &Database<J>,
+    query: &Query,
+    stamp: Stamp,
+) -> Result<Answered<Found>, DbError>
+    ensures answer { IfOk result (λ found. IsFoundOver found.front.history query.now stamp found.answer) }
+    ensures row { IfOk result (λ found. found.front.events ≡ J.database_row) }
+    ensures refused { IfErr result (MayRefuse J.database_row (λ d. IsQueryRefused d query.now stamp)) }
+{
+    found_rows_give_true_entries();
+    database.query(rt, alloc, query, stamp)
+}
