@@ -1,8 +1,9 @@
 -- A transaction between two calls.
-use Rattle.std.proofs.Common.{◌≡◌, List, [], ◌∷◌, ◌++◌, Option, None, Ok, Err, sym, subst, Contains}
+use Rattle.std.proofs.Common.{◌≡◌, List, [], ◌∷◌, ◌++◌, Option, None, Ok, Err, sym, ap, subst, Contains}
 use Rattle.std.specs.Prelude.{Result, IfErr, IfOk, OnErr, OnOk}
 use Rattle.std.proofs.lemmas.List.Elements.{All-contains, Contains-push}
 use Rattle.txc_rows.specs.declared.query.Change.{Change}
+use Rattle.txc_rows.specs.declared.query.Query.{Query}
 use Rattle.txc_rows.specs.States.{State}
 use Rattle.txc_db.specs.History.{History}
 use Rattle.txc_shared.specs.Eval.{Next}
@@ -12,7 +13,7 @@ use Rattle.txc_call.specs.Needs.{NeedFits}
 use Rattle.txc_rw.specs.declared.given.Given.{Given}
 use Rattle.txc_rw.specs.Answers.{AreRightIn, IsRightIn}
 use Rattle.txc_rw.specs.Core.{RwValue, RwHolds, IsIdle, IsRw}
-use Rattle.txc_rw.specs.Txn.{IsResting}
+use Rattle.txc_rw.specs.Txn.{IsResting, TxnValue}
 use Rattle.txc_rw.proofs.Holding.{at_rest_holds}
 
 -- at rest, whatever the objects do
@@ -27,6 +28,19 @@ pub rested : (next : Next) (L : History) (os : Objects) (c : RwValue) → IsRw n
 rested next L os c fits idle h =
     let at_rest : (c.call.frames ≡ []) × AllIdle os = subst (λ (n : Option Need). NeedFits next os c.call.top n c.call.frames) idle.0 fits.call in
     (at_rest.1, record { frames = at_rest.0; need = idle.0; reading = idle.1; holds = λ os'. holds_at_rest next L os os' c at_rest.0 idle.0 h })
+
+abbrev pub txn_of : RwValue → History → Objects → TxnValue
+txn_of c L objects = record { core = c; history = L; objects = objects }
+
+-- what a call changes of a transaction
+pub called : (old new : RwValue) (L : History) (os os' : Objects)
+    → new ≡ record old { queried = new.queried; answers = new.answers; call = new.call; reading = None }
+    → old.reading ≡ None → os' ≡ os
+    → txn_of new L os' ≡ txn_of (record old { queried = new.queried; answers = new.answers; call = new.call }) L os
+called old new L os os' is none same =
+    let core : new ≡ record old { queried = new.queried; answers = new.answers; call = new.call } = subst (λ (r : Option Query). new ≡ record old { queried = new.queried; answers = new.answers; call = new.call; reading = r }) (sym none) is in
+    subst (λ (o : Objects). txn_of new L o ≡ txn_of (record old { queried = new.queried; answers = new.answers; call = new.call }) L os) (sym same)
+    (ap (λ (w : RwValue). txn_of w L os) core)
 
 -- a change more
 pub written : (next : Next) (L : History) (c c' : RwValue) (changes : List Change) → c' ≡ record c { changes = changes } → IsResting next L c → IsResting next L c'

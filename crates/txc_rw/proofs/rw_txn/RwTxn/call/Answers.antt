@@ -1,4 +1,4 @@
-use Rattle.std.proofs.Common.{◌≡◌, ℕ, List, [], ◌∷◌, ◌++◌, Some, None, ap, subst}
+use Rattle.std.proofs.Common.{◌≡◌, ℕ, List, [], ◌∷◌, ◌++◌, Some, ap, subst}
 use Rattle.std.specs.Prelude.{IfOk}
 use Rattle.txc_db.specs.History.{History}
 use Rattle.txc_rw.specs.declared.given.Given.TheVariants as given
@@ -7,7 +7,7 @@ use Rattle.txc_rw.specs.Txn.{TxnValue}
 use Rattle.txc_db.specs.History.{state_at}
 use Rattle.txc_shared.specs.Eval.{eval}
 use Rattle.txc_registry.proofs.Offered.{idle_same}
-use Rattle.txc_rw.proofs.Resting.{if_ok, last_right, rested}
+use Rattle.txc_rw.proofs.Resting.{called, if_ok, last_right, rested}
 use Rattle.txc_rw.proofs.rw_txn.RwTxn.call.Goals as goal
 
 pub call_at-requires-clause-shown : goal.call_at-requires-clause-shown
@@ -38,7 +38,7 @@ returns-clause-same g c =
     let two = rested g.A.App.next c.self.inside.seen.history c.call_at.new.registry c.call_at.new.core c.call_at.ensures.fits c.call_at.ensures.idle
     (c.call_at.ensures.holds (c.self.invariant.2.holds c.self.inside.registry)) in
     let objects : c.call_at.new.registry ≡ c.self.inside.registry = idle_same c.call_at.new.registry c.self.inside.registry two.0 c.self.invariant.1 c.call_at.ensures.functions in
-    let reading : c.self.inside.core.reading ≡ None = c.self.invariant.2.reading in
-    let core = c.call_at.ensures.same in
-    let view = c.self.view_is in
-    cc
+    let core' : RwValue = c.call_at.new.core in
+    let now : TxnValue = record { core = core'; history = c.self.inside.seen.history; objects = c.call_at.new.registry } in
+    subst (λ (t : TxnValue). now ≡ record t { core = record t.core { queried = core'.queried; answers = core'.answers; call = core'.call } }) c.self.view_is
+    (called c.self.inside.core core' c.self.inside.seen.history c.self.inside.registry c.call_at.new.registry c.call_at.ensures.same c.self.invariant.2.reading objects)
