@@ -1,6 +1,7 @@
 //! The program: `txcache node` reads a script on standard input and prints the replies; `txcache report`
 //! prints counts of them; `txcache world` runs transactions and prints their replies.
 #![tactic(auto)]
+
 ghost use Rattle.std.specs.Prelude.{◌≡◌, ◌+◌, vec_len, All, OnOk};
 ghost use Rattle.txc_functions.specs.Program.{program};
 ghost use Rattle.txc_registry.specs.Activity.{idle};
