@@ -1,0 +1,19 @@
+-- The program's functions, as objects of one type.
+use Rattle.std.specs.Prelude.{ℕ}
+use Rattle.txc_registry.specs.Activity.{Says}
+use Rattle.txc_functions.specs.Program.{program}
+use Rattle.txcache.specs.declared.functions.AnyFunction.{AnyFunction}
+use Rattle.txcache.specs.declared.functions.AnyFunction.TheVariants as functions
+
+-- the number of the function
+abbrev pub number_of : AnyFunction → ℕ
+number_of (functions.BodyAt f) = 0
+number_of (functions.BodiesIn f) = 1
+number_of (functions.BodiesAndBody f) = 2
+number_of (functions.RowCount f) = 3
+number_of (functions.Itself f) = 4
+number_of (functions.Again f) = 5
+
+-- what it asks, and gives
+abbrev pub says_of : AnyFunction → Says
+says_of f = program (number_of f)
