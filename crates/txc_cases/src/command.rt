@@ -5,7 +5,7 @@ use clap::error::ErrorKind;
 use std::alloc::{AllocError, Global};
 use std::fmt::Write;
 use txc_arguments::read_arguments;
-use txc_settings::{Mode, Settings, SettingsError};
+use txc_settings::{Mode, Script, Settings, SettingsError};
 
 /// The text with another character in the place of one, which a line of a script cannot hold.
 fn with_instead(alloc: Global, text: &str, old: char, new: char) -> Result<String, AllocError> {
@@ -31,10 +31,11 @@ fn show_settings(alloc: Global, document: &str, out: &mut String) -> Result<(), 
     }
 }
 
-fn mode_name(mode: Mode) -> &'static str {
-    match mode {
-        Mode::Node => "node",
-        Mode::Report => "report",
+fn script_name(script: Script) -> &'static str {
+    match script {
+        Script::Node(Mode::Node) => "node",
+        Script::Node(Mode::Report) => "report",
+        Script::World => "world",
     }
 }
 
@@ -63,7 +64,7 @@ fn show_arguments(alloc: Global, line: &str, out: &mut String) -> Result<(), All
     let words = words(alloc, line)?;
     match read_arguments(alloc, words.as_slice()) {
         Ok(arguments) => {
-            out.push_str(mode_name(arguments.mode))?;
+            out.push_str(script_name(arguments.script))?;
             match arguments.settings {
                 Some(settings) => write!(out, " with {settings}"),
                 None => Ok(()),
@@ -135,18 +136,19 @@ settings nodes=99999999999999999999 = settings: not TOML
 const ARGUMENTS: &str = "a mode, and settings once
 txcache node = node
 txcache report = report
+txcache world = world
 txcache node --settings capacity=1 = node with capacity=1
 txcache --settings=recent=2 report = report with recent=2
 a request for help
-txcache --help = 0 Runs the script on standard input over a cache node;;Usage: txcache [OPTIONS] <MODE>;;\
-Arguments:;  <MODE>  What is written: the reply to each line (node), or counts of the replies (report) [possible values: node, report];;\
+txcache --help = 0 Runs the script on standard input;;Usage: txcache [OPTIONS] <MODE>;;\
+Arguments:;  <MODE>  The replies of a node (node), counts of them (report), or transactions of a world (world) [possible values: node, report, world];;\
 Options:;      --settings <TEXT>  The settings, a TOML document such as 'capacity = 4';  -h, --help             Print help;
 no mode
 txcache = 2 error: the following required arguments were not provided:;  <MODE>;;Usage: txcache <MODE>;;For more information, try '--help'.;
 txcache --settings capacity=1 = 2 error: the following required arguments were not provided:;  <MODE>;;Usage: txcache --settings <TEXT> <MODE>;;For more information, try '--help'.;
 another mode
-txcache nodes = 2 error: invalid value 'nodes' for '<MODE>';  [possible values: node, report];;  tip: a similar value exists: 'node';;For more information, try '--help'.;
-txcache world = 2 error: invalid value 'world' for '<MODE>';  [possible values: node, report];;For more information, try '--help'.;
+txcache nodes = 2 error: invalid value 'nodes' for '<MODE>';  [possible values: node, report, world];;  tip: a similar value exists: 'node';;For more information, try '--help'.;
+txcache batch = 2 error: invalid value 'batch' for '<MODE>';  [possible values: node, report, world];;For more information, try '--help'.;
 two modes
 txcache node report = 2 error: unexpected argument 'report' found;;Usage: txcache [OPTIONS] <MODE>;;For more information, try '--help'.;
 settings twice, or without a text, or with one that is taken for an option

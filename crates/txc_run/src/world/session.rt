@@ -177,7 +177,7 @@ impl<A: App, C: Cacheable> WorldSession<A, C> {
     ) -> Result<Flow, AllocError>
         requires count { self.old.lines + 1 < 2 ^ 64 }
         requires plain { known_plain ≡ true → ArePlain line.now }
-        ensures answered { IfOk result (AnswersLine A.next self.old.world self.new.world self.old.replied.text.items
+        ensures answered { IfOk result (AnswersLine A.next self.old.world.told self.new.world.told self.old.replied.text.items
             self.new.replied.text.items self.old.replied.is_refused self.new.replied.is_refused (self.old.lines + 1) line.now) }
         ensures unchanged { OnErr result (self.new.replied.text.items ≡ self.old.replied.text.items) }
         ensures counted { self.new.lines ≡ self.old.lines + 1 }
@@ -197,7 +197,7 @@ impl<A: App, C: Cacheable> WorldSession<A, C> {
     /// Answers the line that is kept.
     fn answer_kept(&mut self, alloc: Global) -> Result<Flow, AllocError>
         requires { self.old.lines + 1 < 2 ^ 64 }
-        ensures answered { IfOk result (AnswersLine A.next self.old.world self.new.world self.old.replied.text.items
+        ensures answered { IfOk result (AnswersLine A.next self.old.world.told self.new.world.told self.old.replied.text.items
             self.new.replied.text.items self.old.replied.is_refused self.new.replied.is_refused (self.old.lines + 1) self.old.line) }
         ensures unchanged { OnErr result (self.new.replied.text.items ≡ self.old.replied.text.items) }
         ensures counted { self.new.lines ≡ self.old.lines + 1 }
