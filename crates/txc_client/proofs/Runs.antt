@@ -1,5 +1,5 @@
 -- A run of a call, reply by reply.
-use Rattle.std.proofs.Common.{◌≡◌, ℕ, List, [], ◌∷◌, ◌++◌, refl, subst}
+use Rattle.std.proofs.Common.{ℕ, List, [], ◌∷◌, ◌++◌, refl, subst}
 use Rattle.txc_tags.specs.Keys.{Call}
 use Rattle.txc_shared.specs.Eval.{Next}
 use Rattle.txc_ports.specs.declared.reply.PortReply.{PortReply}

@@ -1,5 +1,5 @@
 -- How a call of a transaction goes: by what it is replied, and what comes of each reply.
-use Rattle.std.specs.Prelude.{◌≡◌, ◌≢◌, ℕ, List, [], ◌∷◌, Some, Result, Ok, Err}
+use Rattle.std.specs.Prelude.{◌≡◌, ℕ, List, [], ◌∷◌, Some, Result, Ok, Err}
 use Rattle.txc_tags.specs.Keys.{Call}
 use Rattle.txc_db.specs.Calls.{IsPinRefused, IsQueryRefused}
 use Rattle.txc_db.specs.Shared.{MayRefuse}
