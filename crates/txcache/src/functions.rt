@@ -3,7 +3,9 @@ ghost use Rattle.std.specs.Prelude.{◌≡◌, vec_len, All, IfOk};
 ghost use Rattle.txc_registry.specs.Objects.{AllIdle};
 
 use std::alloc::{AllocError, Global};
-use txc_functions::{Again, BodiesAndBody, BodiesIn, BodyAt, Definition, Function, Itself, Program, RowCount};
+use txc_functions::{
+    Again, BodiesAndBody, BodiesIn, BodyAt, Definition, Function, Itself, Program, RowCount,
+};
 use txc_permits::PermitPool;
 use txc_registry::{Registry, enlist};
 use txc_shared::{Answer, Ask};
@@ -65,8 +67,7 @@ impl Definition for AnyFunction {
         args: &[u32],
         answers: &[Answer],
         answer: &Answer,
-    ) -> Result<Ask, AllocError>
-    {
+    ) -> Result<Ask, AllocError> {
         match self {
             AnyFunction::BodyAt(function) => function.next(alloc, args, answers, answer),
             AnyFunction::BodiesIn(function) => function.next(alloc, args, answers, answer),
@@ -90,7 +91,11 @@ fn registry(alloc: Global, pool: &mut PermitPool) -> Result<Registry<Program, Ob
     enlist::<Program, Object>(&mut objects, body_at)?;
     let bodies_in = Function::new(alloc, pool.share()?, AnyFunction::BodiesIn(BodiesIn));
     enlist::<Program, Object>(&mut objects, bodies_in)?;
-    let bodies_and_body = Function::new(alloc, pool.share()?, AnyFunction::BodiesAndBody(BodiesAndBody));
+    let bodies_and_body = Function::new(
+        alloc,
+        pool.share()?,
+        AnyFunction::BodiesAndBody(BodiesAndBody),
+    );
     enlist::<Program, Object>(&mut objects, bodies_and_body)?;
     let row_count = Function::new(alloc, pool.share()?, AnyFunction::RowCount(RowCount));
     enlist::<Program, Object>(&mut objects, row_count)?;
