@@ -106,7 +106,8 @@ def definitions():
         found = words(crate)
         if not found:
             continue
-        head = re.match(r"((?://! .*\n)+)", (crate / "src/lib.rt").read_text())[1]
+        root = next(it for it in (crate / "src/lib.rt", crate / "src/main.rt") if it.exists())
+        head = re.match(r"((?://! .*\n)+)", root.read_text())[1]
         text += f"\n## `{name}`\n\n" + " ".join(line[4:] for line in head.strip().split("\n")).split(". ")[0].rstrip(".") + ".\n"
         public = in_order(found, names(public_clauses(crate)))
         if public:
