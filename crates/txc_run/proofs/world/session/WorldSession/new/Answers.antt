@@ -5,5 +5,5 @@ use Rattle.txc_run.proofs.world.session.WorldSession.new.Goals as goal
 
 pub returns-clause-answered : goal.returns-clause-answered
 returns-clause-answered g c =
-    let start : WorldStart = record { next = g.A.App.next; world = c.args.world } in
+    let start : WorldStart = record { next = g.A.App.next; world = c.args.world.told } in
     nothing_answered start _ refl refl c.in_ok-line.ensures refl c.new-2.ensures.items
