@@ -39,3 +39,5 @@ mod transactions;
 mod updates;
 #[cfg(test)]
 mod validity;
+#[cfg(test)]
+mod world;

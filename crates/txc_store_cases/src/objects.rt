@@ -3,17 +3,20 @@ ghost use Rattle.std.specs.Prelude.{IfSome};
 ghost use Rattle.txc_registry.specs.Objects.{AllIdle};
 
 use std::alloc::{AllocError, Global};
-use txc_functions::{Again, BodiesAndBody, BodiesIn, BodyAt, Definition, Function, Program};
+use txc_functions::{
+    Again, BodiesAndBody, BodiesIn, BodyAt, Definition, Function, Itself, Program,
+};
 use txc_permits::PermitPool;
 use txc_registry::{Registry, enlist};
 use txc_shared::{Answer, Ask};
 
-/// One of the functions 0, 1, 2 and 5.
+/// One of the functions 0, 1, 2, 4 and 5.
 #[derive(Drop)]
 pub(crate) enum Worked {
     First(BodyAt),
     Bodies(BodiesIn),
     Both(BodiesAndBody),
+    Itself(Itself),
     Again(Again),
 }
 
@@ -29,6 +32,7 @@ impl Definition for Worked {
             Worked::First(_) => 0,
             Worked::Bodies(_) => 1,
             Worked::Both(_) => 2,
+            Worked::Itself(_) => 4,
             Worked::Again(_) => 5,
         }
     }
@@ -38,6 +42,7 @@ impl Definition for Worked {
             Worked::First(function) => function.accepts(args),
             Worked::Bodies(function) => function.accepts(args),
             Worked::Both(function) => function.accepts(args),
+            Worked::Itself(function) => function.accepts(args),
             Worked::Again(function) => function.accepts(args),
         }
     }
@@ -47,6 +52,7 @@ impl Definition for Worked {
             Worked::First(function) => function.first(alloc, args),
             Worked::Bodies(function) => function.first(alloc, args),
             Worked::Both(function) => function.first(alloc, args),
+            Worked::Itself(function) => function.first(alloc, args),
             Worked::Again(function) => function.first(alloc, args),
         }
     }
@@ -62,6 +68,7 @@ impl Definition for Worked {
             Worked::First(function) => function.next(alloc, args, answers, answer),
             Worked::Bodies(function) => function.next(alloc, args, answers, answer),
             Worked::Both(function) => function.next(alloc, args, answers, answer),
+            Worked::Itself(function) => function.next(alloc, args, answers, answer),
             Worked::Again(function) => function.next(alloc, args, answers, answer),
         }
     }
@@ -80,6 +87,8 @@ pub(crate) fn registry(alloc: Global, pool: &mut PermitPool) -> Option<Registry<
     enlist::<Program, Object>(&mut objects, bodies).ok()?;
     let both = Function::new(alloc, pool.share().ok()?, Worked::Both(BodiesAndBody));
     enlist::<Program, Object>(&mut objects, both).ok()?;
+    let itself = Function::new(alloc, pool.share().ok()?, Worked::Itself(Itself));
+    enlist::<Program, Object>(&mut objects, itself).ok()?;
     let again = Function::new(alloc, pool.share().ok()?, Worked::Again(Again));
     enlist::<Program, Object>(&mut objects, again).ok()?;
     Registry::<Program, Object>::new(objects).ok()
