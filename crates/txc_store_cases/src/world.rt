@@ -15,7 +15,13 @@ use txc_registry::Registry;
 use txc_run::run_world;
 
 /// What is shown, the settings, the script, the replies, and the status of the program.
-type Row = (&'static str, &'static str, &'static str, &'static str, &'static str);
+type Row = (
+    &'static str,
+    &'static str,
+    &'static str,
+    &'static str,
+    &'static str,
+);
 
 /// The registries of two actors, which share the permits. None where memory was refused.
 fn registries(alloc: Global, pool: &mut PermitPool) -> Option<Vec<Registry<Program, Object>>>
