@@ -6,6 +6,7 @@ ghost use Rattle.txc_shared.specs.declared.log.TheConstants.{MAX_PASSES};
 ghost use Rattle.txc_shared.specs.Nodes.{start_of};
 ghost use Rattle.txc_shared.specs.Runs.{IsNode};
 ghost use Rattle.txc_registry.specs.Objects.{AllIdle};
+ghost use Rattle.txc_world.specs.Acts.{AreLed, StepLeads};
 ghost use Rattle.txc_world.specs.Worlds.{due_of_pins, AreMembersOf, IsBalanced};
 ghost use Rattle.txc_world.specs.Tidy.{empty_purse, purse_after, purse_by, AreTidy, IsTidy, LoseNoSnapshot, LosesNoSnapshot, LosesNothing, Purse};
 ghost use Rattle.txc_world.specs.Told.{after, idle, reading, told_by, AreDue, AreExplained, AreExplainedIn, IsDue, IsExplainedIn, Reading};
@@ -133,6 +134,7 @@ impl<A: App, C: Cacheable> World<A, C> {
     // One step of an actor.
     fn act(&mut self, alloc: Global, place: usize, doing: &Act) -> Reply
         ensures told { self.new.told ≡ after self.old.told (Step.Actor place doing.now) result }
+        ensures leads { StepLeads A.next self.old (Step.Actor place doing.now) result self.new }
         ensures due { IsDue self.old.told (Step.Actor place doing.now) result }
         ensures explained { IsExplainedIn A.next self.new.told.history self.old.told (Step.Actor place doing.now) result }
         ensures balanced { (purse : Purse) → IsBalanced self.old purse
@@ -155,6 +157,7 @@ impl<A: App, C: Cacheable> World<A, C> {
     /// Takes one step, as `run` does, and returns what it was replied.
     pub fn step(&mut self, alloc: Global, step: &Step) -> Reply
         ensures told { self.new.told ≡ after self.old.told step.now result }
+        ensures leads { StepLeads A.next self.old step.now result self.new }
         ensures due { IsDue self.old.told step.now result }
         ensures explained { IsExplainedIn A.next self.new.told.history self.old.told step.now result }
         ensures balanced { (purse : Purse) → IsBalanced self.old purse → IsTidy step.now result purse
@@ -180,6 +183,7 @@ impl<A: App, C: Cacheable> World<A, C> {
     /// query of an open transaction is refused for a snapshot that is gone.
     pub fn run(&mut self, alloc: Global, steps: &[Step]) -> Result<Vec<Reply>, AllocError>
         ensures told { IfOk result (λ replies. self.new.told ≡ told_by self.old.told steps.now replies.items) }
+        ensures leads { IfOk result (λ replies. AreLed A.next self.old steps.now replies.items self.new) }
         ensures explained { IfOk result (λ replies. AreExplained A.next self.old.told steps.now replies.items) }
         ensures explained_in_the_end { IfOk result (λ replies.
             AreExplainedIn A.next self.new.told.history self.old.told steps.now replies.items) }
