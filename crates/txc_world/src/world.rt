@@ -1,5 +1,5 @@
 //! Every interleaving of the steps of actors and of the keeper.
-ghost use Rattle.std.specs.Prelude.{◌≡◌, ◌<◌, ◌≤◌, [], false, length, map, slice_get, vec_len, All, Err, IfOk, IsOk, MatchOption, OnErr, Some};
+ghost use Rattle.std.specs.Prelude.{◌≡◌, ◌<◌, ◌≤◌, ◌+◌, [], false, length, map, slice_get, vec_len, All, Err, IfErr, IfOk, IsOk, MatchOption, OnErr, Some};
 ghost use Rattle.txc_node.specs.declared.node.TheConstants.{MAX_CAPACITY, MAX_RECENT};
 ghost use Rattle.txc_stream.specs.declared.row.TheConstants.{MAX_CAPACITY as MAX_ROW};
 ghost use Rattle.txc_shared.specs.declared.log.TheConstants.{MAX_PASSES};
@@ -8,6 +8,9 @@ ghost use Rattle.txc_shared.specs.Runs.{IsNode};
 ghost use Rattle.txc_registry.specs.Objects.{AllIdle};
 ghost use Rattle.txc_world.specs.Acts.{AreLed, StepLeads};
 ghost use Rattle.txc_world.specs.Worlds.{due_of_pins, AreMembersOf, IsBalanced};
+ghost use Rattle.txc_world.specs.Cast.{reads, resting, ReadingValue};
+ghost use Rattle.txc_world.specs.Making.{AreNewPorts};
+ghost use Rattle.txc_db.specs.Refusals.{IsWant};
 ghost use Rattle.txc_world.specs.Tidy.{empty_purse, purse_after, purse_by, AreTidy, IsTidy, LoseNoSnapshot, LosesNoSnapshot, LosesNothing, Purse};
 ghost use Rattle.txc_world.specs.Told.{after, idle, reading, told_by, AreDue, AreExplained, AreExplainedIn, IsDue, IsExplainedIn, Reading};
 
@@ -79,6 +82,9 @@ impl<A: App, C: Cacheable> World<A, C> {
         ensures spare { IfOk result (λ world. world.told.spare ≡ []) }
         ensures actors { IfOk result (λ world. world.told.actors ≡ map (λ registry. idle) registries.items) }
         ensures balanced { IfOk result (λ world. IsBalanced world empty_purse) }
+        ensures ports { IfOk result (λ world. AreNewPorts settings (vec_len registries) world.ports) }
+        ensures idle { IfOk result (λ world. world.actors ≡ map (λ registry. resting registry) registries.items) }
+        ensures refused { IfErr result IsWant }
     {
         let ports = Ports::new(alloc, &settings, registries.len())?;
         let actors = idle_actors(alloc, registries)?;
@@ -103,6 +109,9 @@ impl<A: App, C: Cacheable> World<A, C> {
         ensures members { IfOk result (λ members. (r : Reading)
             → slice_get self.now.told.actors place ≡ Some (reading r)
             → AreMembersOf A.next self.now.told.history r members.has_present members.pins.now) }
+        ensures pin_set { IfOk result (λ members. (r : ReadingValue)
+            → slice_get self.now.actors place ≡ Some (reads r)
+            → r.txn.core.pins ≡ record { members = members.pins.now; has_present = members.has_present }) }
     {
         let Some(Some(actor)) = self.actors.get(place) else {
             return Err(Refusal::NoActor);
@@ -122,7 +131,9 @@ impl<A: App, C: Cacheable> World<A, C> {
     /// history, and it is what a legal history of records leaves, whose events are those of the history.
     pub fn node(&self, at: usize) -> &StoredNode<A>
         requires { at < self.now.told.settings.nodes }
-        ensures { result.now.broken ≡ false → IsNode A.next self.now.told.history (start_of result.now.settings)
+        ensures there { slice_get self.now.ports.nodes at ≡ Some result.now }
+        ensures passes { result.now.passes ≡ self.now.ports.actors + 1 }
+        ensures right { result.now.broken ≡ false → IsNode A.next self.now.told.history (start_of result.now.settings)
             result.now.records result.now.cache false }
     {
         nodes_go_on();
