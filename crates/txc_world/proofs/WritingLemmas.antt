@@ -12,6 +12,7 @@ use Rattle.txc_db.specs.declared.error.DbError.{DbError}
 use Rattle.txc_db.specs.History.{History, state_at}
 use Rattle.txc_shared.specs.Eval.{Next}
 use Rattle.txc_registry.specs.Objects.{Objects}
+use Rattle.txc_call.specs.Calling.{Calling}
 use Rattle.txc_call.specs.declared.need.Need.{Need}
 use Rattle.txc_call.specs.declared.need.Need.TheVariants as needs
 use Rattle.txc_ports.specs.declared.request.PortRequest.{PortRequest}
@@ -167,3 +168,18 @@ asks_it query q stamp turns.Begun asked is = absurd asked
 asks_it query q stamp (turns.Value value) asked is = absurd asked
 asks_it query q stamp (turns.Rows rows) asked is = absurd asked
 asks_it query q stamp (turns.At at) asked is = absurd asked
+
+-- ---- what is left as it was
+
+rw_same : (b b' : ℕ) (q : List Query) (a : List Given) (c c' : List Change) (k k' : Calling) (r r' : Option Query) → b ≡ b' → c ≡ c' → k ≡ k' → r ≡ r'
+    → (let before : RwValue = record { base = b; queried = q; answers = a; changes = c; call = k; reading = r } in before)
+    ≡ record { base = b'; queried = q; answers = a; changes = c'; call = k'; reading = r' }
+rw_same b b' q a c c' k k' r r' e f g h = rw (e, f, g, h) refl
+
+-- a query of its own was asked, and has ended
+pub found_same : (old asked new : RwValue) (query : Query) → asked ≡ record old { reading = Some query }
+    → new ≡ record asked { queried = new.queried; answers = new.answers; call = new.call; reading = new.reading }
+    → new.call ≡ asked.call → new.reading ≡ None → old.reading ≡ None → new ≡ record old { queried = new.queried; answers = new.answers }
+found_same old asked new query asks same call none idle =
+    same ∙ rw_same asked.base old.base new.queried new.answers asked.changes old.changes new.call old.call new.reading old.reading
+    (ap (λ (v : RwValue). v.base) asks) (ap (λ (v : RwValue). v.changes) asks) (call ∙ ap (λ (v : RwValue). v.call) asks) (none ∙ sym idle)
