@@ -8,7 +8,9 @@ use Rattle.std.proofs.lemmas.List.{map-set}
 use Rattle.txc_ports.specs.declared.turn.Turn.{Turn}
 use Rattle.txc_ports.specs.declared.turn.Turn.TheVariants as turns
 use Rattle.txc_shared.specs.Eval.{Next}
+use Rattle.txc_world.specs.declared.actor.OpenTxn.{OpenTxn}
 use Rattle.txc_world.specs.declared.actor.Actor.{Actor}
+use Rattle.txc_world.specs.declared.actor.Actor.TheVariants.{Reading}
 use Rattle.txc_world.specs.declared.reply.End.{End}
 use Rattle.txc_world.specs.declared.reply.Reply.{Reply}
 use Rattle.txc_world.specs.declared.settings.WorldSettings.{WorldSettings}
@@ -16,7 +18,7 @@ use Rattle.txc_world.specs.declared.step.Act.{Act}
 use Rattle.txc_world.specs.declared.step.Step.{Step}
 use Rattle.txc_world.specs.declared.step.Step.TheVariants as steps
 use Rattle.txc_world.specs.Ports.{PortsValue}
-use Rattle.txc_world.specs.Cast.{actor_at, actor_value}
+use Rattle.txc_world.specs.Cast.{actor_at, actor_value, reading_value, reads, ReadingValue}
 use Rattle.txc_world.specs.Actors.{IsNoted}
 use Rattle.txc_world.specs.Acts.{ActLeads, AreLed, HasStepped, StepLeads}
 use Rattle.txc_world.specs.Worlds.{value_of, WorldValue}
@@ -61,6 +63,14 @@ module _ {A C : Type 0} (next : Next) (settings : WorldSettings) (old new : Port
       })
       in subst (λ (w : WorldValue). StepLeads next was (steps.Actor place act) reply w) shows'
       (subst (λ (w : WorldValue). StepLeads next w (steps.Actor place act) reply (value_of settings new actors')) shows led)
+
+-- what is seen of an actor with a read-only transaction open
+pub seen_there : {A C : Type 0} → (actors : List (Option (Actor A C))) (place : ℕ) (o : OpenTxn A C) (r : ReadingValue) → slice_get actors place ≡ Some (Some (Reading o))
+    → slice_get (map actor_at actors) place ≡ Some (reads r) → r ≡ reading_value o
+seen_there actors place o r is at =
+    let both : Some (reads r) ≡ Some (reads (reading_value o)) =
+    sym at ∙ slice_get-map actor_at actors place ∙ ap (λ slot. option_map actor_at slot) is in
+    cc both
 
 -- ---- one more step and its reply
 
