@@ -23,7 +23,7 @@ use Rattle.txc_rw.specs.declared.given.Given.TheVariants as given
 use Rattle.txc_rw.specs.Core.{answers_after, queried_after, IsAsk, IsAsked, IsIdle, IsOfCall, IsOfNeed, IsOfQuery, IsRightReply, IsRw, IsTurn, ReadingFits, RwHolds, RwValue}
 use Rattle.txc_rw.specs.Leading.{RowsLead}
 use Rattle.txc_ports.specs.Refusals.{refused_request}
-use Rattle.txc_world.specs.Writing.{FindLeadsRw}
+use Rattle.txc_world.specs.Writing.{FindLeadsRw, IsRead}
 use Rattle.txc_world.specs.declared.actor.OpenCall.{OpenCall}
 use Rattle.txc_world.specs.Told.{writing}
 use Rattle.txc_world.specs.Ports.{PortsValue}
@@ -183,3 +183,14 @@ pub found_same : (old asked new : RwValue) (query : Query) → asked ≡ record 
 found_same old asked new query asks same call none idle =
     same ∙ rw_same asked.base old.base new.queried new.answers asked.changes old.changes new.call old.call new.reading old.reading
     (ap (λ (v : RwValue). v.base) asks) (ap (λ (v : RwValue). v.changes) asks) (call ∙ ap (λ (v : RwValue). v.call) asks) (none ∙ sym idle)
+
+-- whether its query was read
+pub found_read : (query : Query) (found : Result Found DbError) (old new : List Query) (turn : Turn) → new ≡ queried_after old (Some query) found
+    → ((e : DbError) → found ≡ Err e → turn ≡ turns.Refused (refused_request e)) → IsRead query old new turn
+found_read query (Ok f) old new (turns.Rows rows) is off = is
+found_read query (Ok f) old new (turns.Ask request) is off = inl is
+found_read query (Ok f) old new turns.Begun is off = inl is
+found_read query (Ok f) old new (turns.Value value) is off = inl is
+found_read query (Ok f) old new (turns.At stamp) is off = inl is
+found_read query (Ok f) old new (turns.Refused error) is off = inl is
+found_read query (Err e) old new turn is off = rw (off e refl) (inr is)

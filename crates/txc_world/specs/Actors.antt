@@ -173,7 +173,7 @@ BeginLeads renew_after bounds old new objects (reads r) reply =
     HasBegun renew_after bounds old new r.txn.core × (r.txn.objects ≡ objects) × (r.call ≡ None)
     × (reply ≡ Begun)
 BeginLeads renew_after bounds old new objects (resting left) reply = (reply ≡ replies.Refused Memory)
-    × KeepsUsers old new × (left ≡ objects)
+    × (new ≡ record old { cushion = new.cushion }) × KeepsUsers old new × (left ≡ objects)
 BeginLeads renew_after bounds old new objects actor reply = ⊥
 
 -- a call is open, with the turn that its start came to

@@ -1,5 +1,5 @@
 -- What comes of a step of a read-write transaction.
-use Rattle.std.specs.Prelude.{◌≡◌, ◌⊎◌, ℕ, [], ◌∷◌, ◌++◌, Result, Ok, Err, Option, Some, None, IsNone, IsSome, MatchOption}
+use Rattle.std.specs.Prelude.{◌≡◌, ◌⊎◌, ℕ, List, [], ◌∷◌, ◌++◌, Result, Ok, Err, Option, Some, None, IsNone, IsSome, MatchOption}
 use Rattle.txc_tags.specs.Keys.{Call}
 use Rattle.txc_rows.specs.declared.query.Query.{Query}
 use Rattle.txc_rows.specs.declared.query.Change.{Change}
@@ -48,6 +48,7 @@ pub record HasStartedRw (next : Next) (key : Call) (before : WritingValue) (acto
       → (s : State) → CallLeads next s (standing_of (started key) before.objects) [] core objects turn
   pub missing : IsNone (activity_of before.objects key.function)
       → turn ≡ turns.Refused (CallRefused (NoFunction key.function))
+  pub same : core ≡ record before.core { answers = core.answers; call = core.call; reading = core.reading }
 
 -- One request of a call: its query was asked at the base, and counts as read where it was answered; the call
 -- went on with the rows, or was refused as the database refused.
@@ -61,6 +62,12 @@ pub record HasAskedRw (next : Next) (query : Query) (p : PortsValue) (before aft
       → CallLeads next (state_at p.database.history before.base) (standing_of before.call was) (query ∷ [])
       after is turn
   pub refused : (e : DbError) → found ≡ Err e → turn ≡ turns.Refused (refused_request e)
+  pub same : after ≡ record before {
+    queried = after.queried;
+    answers = after.answers;
+    call = after.call;
+    reading = after.reading;
+  }
 
 -- the open call made the request, and is open still or has ended at the turn that came of it
 pub record HasRequestedRw (next : Next) (key : Call) (query : Query) (p : PortsValue) (before : WritingValue)
@@ -98,6 +105,11 @@ FindLeadsRw query base p (turns.Refused e) = (e ≡ Memory)
     ⊎ ((cause : DbError) × AnswerLeads query base p (Err cause) × (e ≡ refused_request cause))
 FindLeadsRw query base p turn = ⊥
 
+-- a query whose rows are the turn's was read, beside those before it; one that is refused may have been
+abbrev pub IsRead : Query → List Query → List Query → Turn → Type 0
+IsRead query old new (turns.Rows rows) = new ≡ old ++ query ∷ []
+IsRead query old new turn = (new ≡ old ++ query ∷ []) ⊎ (new ≡ old)
+
 -- a query of its own came to this, and no call is open
 pub record HasFoundRw (query : Query) (p : PortsValue) (before : WritingValue) (actor : ActorValue)
     (reply : Reply) : Type 0 where
@@ -106,6 +118,7 @@ pub record HasFoundRw (query : Query) (p : PortsValue) (before : WritingValue) (
   pub told : IsToldQuery turn reply
   pub found : FindLeadsRw query before.core.base p turn
   pub actor_is : actor ≡ writes (record { core = core; objects = before.objects; call = None })
+  pub read : IsRead query before.core.queried core.queried turn
   pub same : core ≡ record before.core { queried = core.queried; answers = core.answers }
 
 -- the change stands after those before it; or nothing has changed

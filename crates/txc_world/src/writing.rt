@@ -9,7 +9,7 @@ ghost use Rattle.txc_world.specs.Books.{account_of, nothing, ActCounts, IsLossOf
 ghost use Rattle.txc_world.specs.Ports.{whole_of, KeepsRow};
 ghost use Rattle.txc_world.specs.Acts.{RestingLeads, WritingLeads};
 ghost use Rattle.txc_world.specs.Cast.{actor_value, writing_value};
-ghost use Rattle.txc_world.specs.Writing.{FindLeadsRw, HasAskedRw};
+ghost use Rattle.txc_world.specs.Writing.{FindLeadsRw, HasAskedRw, IsRead};
 ghost use Rattle.txc_world.specs.Told.{act_in, idle, story_after, IsActDue, IsActReply, IsNoCommit, ReplyExplains};
 
 use crate::acting::note;
@@ -237,6 +237,7 @@ fn find<A: App, C: Cacheable>(
     ensures base { core.new.base ≡ core.old.base }
     ensures changes { core.new.changes ≡ core.old.changes }
     ensures objects { registry.new ≡ registry.old }
+    ensures read { IsRead query.now core.old.queried core.new.queried result }
     ensures same { core.new ≡ record core.old { queried = core.new.queried; answers = core.new.answers } }
     ensures leads { FindLeadsRw query.now core.old.base ports.old result }
     ensures loss { TurnIsLossOf ports.old (record { taken = []; own = core.old.base ∷ [] }) result }

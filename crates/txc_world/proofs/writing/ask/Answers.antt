@@ -24,5 +24,6 @@ returns-clause-leads g c = without_call call_value _ _ c.args.current.call (sym 
   told = c.told_rows.ensures;
   found = c.find-turn.ensures.leads;
   actor_is = ap (λ (objects : Objects). writes (record { core = c.find-turn.new.core; objects = objects; call = None })) c.find-turn.ensures.objects;
+  read = c.find-turn.ensures.read;
   same = c.find-turn.ensures.same;
 })

@@ -61,4 +61,5 @@ returns-clause-leads g c = without_call call_value _ _ c.args.current.call (sym 
   missing = λ gone.
       subst (λ (k : Call). c.start-turn.result ≡ turns.Refused (CallRefused (NoFunction k.function))) c.copy.ensures
       (c.start-turn.ensures.missing (subst (λ (k : Call). IsNone (activity_of c.args.current.registry k.function)) (sym c.copy.ensures) gone));
+  same = c.start-turn.ensures.same;
 })
