@@ -6,3 +6,4 @@ pub mod Values
 pub mod Crosses
 pub mod Runs
 pub mod Idle
+pub mod Standing

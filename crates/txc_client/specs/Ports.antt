@@ -1,5 +1,5 @@
 -- What the passes of a client show, and what each request leaves of them.
-use Rattle.std.specs.Prelude.{◌≡◌, ◌⊎◌, ℕ, ◌<◌, List, [], ◌∷◌, length, get_or, set, Option, Some, None}
+use Rattle.std.specs.Prelude.{◌≡◌, ◌⊎◌, ℕ, List, [], ◌∷◌, slice_get, set, Option, Some, None}
 use Rattle.txc_tags.specs.Keys.{Call}
 use Rattle.txc_db.specs.declared.answered.Answered.{Answered}
 use Rattle.txc_node.specs.declared.entry.Entry.{Entry}
@@ -26,10 +26,9 @@ HaveGrown olds news = ⊥
 
 -- one call was made through the pass of this node; every other pass is as it was
 pub record IsCallAt (node : ℕ) (call : PassValue → PassValue → Type 0) (olds news : List PassValue) : Type 0 where
-  pub there : node < length olds
   pub old : PassValue
   pub new : PassValue
-  pub pass : old ≡ get_or olds node old
+  pub pass : slice_get olds node ≡ Some old
   pub grown : HasGrown old new
   pub called : call old new
   pub others : news ≡ set olds node new
