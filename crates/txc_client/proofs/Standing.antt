@@ -160,7 +160,8 @@ module _ (next : Next) (row : List ℕ) (node_rows : ℕ → List ℕ) (olds new
       adds_at at node (ops.Insert entry) (InsertLeaves node_rows entry) olds news p
       (λ old new grown called. elim called [
         | inl made ↦ adds_made old new grown (ops.Insert entry) (replies.Inserted made.1.inserted) made.1.made
-        | inr refused ↦ adds_refused old new grown (ops.Insert entry) (node_rows old.settings.number) refused.error refused.left
+        | inr (inl refused) ↦ adds_refused old new grown (ops.Insert entry) (node_rows old.settings.number) refused.error refused.left
+        | inr (inr same) ↦ adds_refused old new grown (ops.Insert entry) (node_rows old.settings.number) Memory same
       ]) h is
 
   request_adds : (request : PortRequest) (reply : PortReply) → IsReplyTo next request reply → PassesAfter node_rows olds request reply news

@@ -8,7 +8,6 @@ use Rattle.txc_node.specs.declared.op.Op.TheVariants.{Lookup}
 use Rattle.txc_node.specs.declared.reply.Reply.{Reply}
 use Rattle.txc_node.specs.declared.reply.Reply.TheVariants.{Hit, Miss}
 use Rattle.txc_shared.specs.declared.error.NodeError.{NodeError}
-use Rattle.txc_shared.specs.declared.error.NodeError.TheVariants.{Memory}
 use Rattle.txc_shared.specs.declared.insertion.Insertion.{Insertion}
 use Rattle.txc_shared.specs.Nodes.{NodeValue}
 use Rattle.txc_shared.specs.Passes.{PassValue, HasGrown, HasInserted, HasMade, IsPassLeft}
@@ -33,12 +32,11 @@ pub record IsCallAt (node : ℕ) (call : PassValue → PassValue → Type 0) (ol
   pub called : call old new
   pub others : news ≡ set olds node new
 
--- a call through the pass was refused, as out of memory or as some node of the named row refuses it, and left
--- the pass so
+-- a call through the pass was refused as some node of the named row refuses it, and left the pass so
 pub record IsCallRefused (node_rows : ℕ → List ℕ) (refused : NodeValue → NodeError → Type 0)
     (old new : PassValue) : Type 0 where
   pub error : NodeError
-  pub reason : (error ≡ Memory) ⊎ MayRefuse node_rows (λ n. IsRefusedThrough refused n old) error
+  pub reason : MayRefuse node_rows (λ n. IsRefusedThrough refused n old) error
   pub left : IsPassLeft (node_rows old.settings.number) old new error
 
 -- what a node replied to a lookup that found so much
@@ -51,10 +49,10 @@ abbrev pub LookupLeaves : (ℕ → List ℕ) → Call → ℕ → ℕ → Option
 LookupLeaves node_rows key lo hi found old new = HasMade old new (Lookup key lo hi) (found_reply found)
     ⊎ ((found ≡ None) × IsCallRefused node_rows (λ n. IsLookupRefused n lo hi) old new)
 
--- one insertion of the entry; or it was refused
+-- one insertion of the entry; or it was refused, or, out of memory, not begun
 abbrev pub InsertLeaves : (ℕ → List ℕ) → Entry → PassValue → PassValue → Type 0
 InsertLeaves node_rows entry old new = ((insertion : Insertion) × HasInserted old new entry insertion)
-    ⊎ IsCallRefused node_rows IsStepRefused old new
+    ⊎ (IsCallRefused node_rows IsStepRefused old new ⊎ (new ≡ old))
 
 -- What a request leaves of the passes, by its reply. A lookup is one lookup at the node that is named, of this call
 -- at these stamps; an insertion is one insertion of this entry there; and any other request leaves every pass
