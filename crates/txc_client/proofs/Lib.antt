@@ -7,3 +7,4 @@ pub mod Crosses
 pub mod Runs
 pub mod Idle
 pub mod Standing
+pub mod Called

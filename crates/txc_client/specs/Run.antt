@@ -41,7 +41,7 @@ pub record IsGiven (next : Next) (row : List ℕ) (request : PortRequest) (reply
 -- the call has begun, with this turn, and no pass was used
 pub record HasBegun (old : RoTxnValue) (k : Call) (new : RoTxnValue) (turn : Turn) : Type 0 where
   pub turn_fits : IsTurn new.txn.core turn
-  pub leads : StartLeads old.txn.core old.txn.objects k turn
+  pub leads : StartLeads old.txn.core old.txn.objects k new.txn.core new.txn.objects turn
   pub begins : IsAsk turn → open_call new.txn.core ≡ Some k
   pub functions : numbers_of new.txn.objects ≡ numbers_of old.txn.objects
   pub same : new.txn.core ≡ record old.txn.core { call = new.txn.core.call; pinning = new.txn.core.pinning }

@@ -104,7 +104,8 @@ impl<'a, A: App, J: Naming> Ports<'a, A, J> {
         let pass = &mut self.passes[node];
         match pass.lookup(rt, alloc, &nodes[node], key, lo, hi) {
             Ok(Some(finding)) => Some(shown_by(finding)),
-            Ok(None) | Err(_) => None,
+            Ok(None) => None,
+            Err(_) => None,
         }
     }
 

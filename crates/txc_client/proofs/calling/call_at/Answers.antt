@@ -37,7 +37,7 @@ loop-turn-init g c =
       longer = history_stays old new same;
       functions = c.start-turn.ensures.functions;
       run = run_begun g.A.App.next g.J.Naming.database_row g.J.Naming.node_rows before c.args.key after c.start-turn.result begun;
-      missing = λ members none. (c.start-turn.ensures.leads.begins members).absent none;
+      missing = λ members none. ((c.start-turn.ensures.leads.begins members).absent none).1;
     }
 
 pub loop-turn-preserved : goal.loop-turn-preserved
