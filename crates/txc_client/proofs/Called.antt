@@ -36,7 +36,7 @@ not_called ps node call within idle =
 
 module _ (node_rows : ℕ → List ℕ) (old new : PassValue) where
   -- a lookup, by what it returns
-  module _ {F : Type 0} (entry_of : F → Entry) (key : Call) (lo hi : ℕ) (r : Result (Option F) NodeError)
+  module _ {F : Type 0} (r : Result (Option F) NodeError) (entry_of : F → Entry) (key : Call) (lo hi : ℕ)
       (found : IfOk r (λ o. HasFound old new (Lookup key lo hi) (option_map entry_of o)))
       (left : IfErr r (IsPassLeft (node_rows old.settings.number) old new))
       (refused : IfErr r (MayRefuse node_rows (λ n. IsRefusedThrough (λ m. IsLookupRefused m lo hi) n old))) where

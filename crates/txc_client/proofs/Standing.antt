@@ -33,7 +33,7 @@ use Rattle.txc_client.specs.Txn.{RoTxnValue}
 
 -- ---- the steps of a pass among records
 
-steps_in : ℕ → List Record → List Op
+abbrev steps_in : ℕ → List Record → List Op
 steps_in pass rs = map (λ (r : Record). r.op) (filter (λ (r : Record). r.pass == pass) rs)
 
 module _ (pass : ℕ) where
@@ -51,12 +51,12 @@ module _ (pass : ℕ) where
 
   steps_more : (old new : List Record) (op : Op) (reply : Reply Shown) → Follows pass old new op reply → steps_in pass new ≡ steps_in pass old ++ op ∷ []
   steps_more old new op reply h =
+      let own = next_record pass old op reply ∷ [] in
       ap (steps_in pass) h.is
-      ∙ steps-append old (h.others ++ next_record pass old op reply ∷ [])
-      ∙ ap (λ (l : List Op). steps_in pass old ++ l)
-      (steps-append h.others (next_record pass old op reply ∷ [])
-      ∙ ap (λ (l : List Op). l ++ steps_in pass (next_record pass old op reply ∷ [])) (steps_of_others h.others h.none)
-      ∙ own_step old op reply)
+      ∙ steps-append (old ++ h.others) own
+      ∙ ap (λ (l : List Op). l ++ steps_in pass own)
+      (steps-append old h.others ∙ ap (λ (l : List Op). steps_in pass old ++ l) (steps_of_others h.others h.none) ∙ append-nil (steps_in pass old))
+      ∙ ap (λ (l : List Op). steps_in pass old ++ l) (own_step old op reply)
 
   steps_stay : (old new : List Record) → GrowsByOthers pass old new → steps_in pass new ≡ steps_in pass old
   steps_stay old new h =
@@ -125,8 +125,8 @@ module _ (at node : ℕ) (op : Op) (call : PassValue → PassValue → Type 0) (
   adds_at h is = go (at == node) refl
     where
       go : (b : Bool) → (at == node) ≡ b → AddsAt node p (if b then op ∷ [] else []) news
-      go true yes =
-          let same : at ≡ node = eqb-true at node yes in
+      go true equal =
+          let same : at ≡ node = eqb-true at node equal in
           let own : Some h.old ≡ Some p = sym h.pass ∙ ap (slice_get olds) same ∙ is in
           let own' : h.old ≡ p = cc own in
           (
@@ -134,9 +134,9 @@ module _ (at node : ℕ) (op : Op) (call : PassValue → PassValue → Type 0) (
             ap (λ (l : List PassValue). slice_get l node) h.others ∙ ap (slice_get (set olds at h.new)) (sym same) ∙ get_set_same olds at h.old h.new h.pass,
             subst (λ (w : PassValue). Adds w (op ∷ []) h.new) own' (does h.old h.new h.grown h.called),
           )
-      go false no = (
+      go false apart = (
         p,
-        ap (λ (l : List PassValue). slice_get l node) h.others ∙ get_set_other olds at node h.new (eqb-false at node no) ∙ is,
+        ap (λ (l : List PassValue). slice_get l node) h.others ∙ get_set_other olds at node h.new (eqb-false at node apart) ∙ is,
         adds_none p,
       )
 
