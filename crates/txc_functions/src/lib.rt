@@ -14,8 +14,8 @@ mod endless;
 mod function;
 mod held;
 pub mod laws;
+mod objects;
 mod program;
-mod registries;
 mod row_count;
 
 pub use any_function::AnyFunction;
@@ -25,6 +25,6 @@ pub use body_at::BodyAt;
 pub use definition::Definition;
 pub use endless::{Again, Itself};
 pub use function::Function;
+pub use objects::{Object, registries, registry};
 pub use program::Program;
-pub use registries::{Object, registries, registry};
 pub use row_count::RowCount;

@@ -1,7 +1,7 @@
 use Rattle.std.proofs.Common.{◌≡◌, All, vec_len}
 use Rattle.txc_registry.specs.Objects.{numbers_of, AllIdle}
 use Rattle.txc_functions.specs.AnyFunction.{ALL_NUMBERS}
-use Rattle.txc_functions.proofs.registries.registries.Given as goal
+use Rattle.txc_functions.proofs.objects.registries.Given as goal
 
 abbrev pub invariant-loop : goal.invariant-loop
 invariant-loop l = record {
