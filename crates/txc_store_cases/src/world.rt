@@ -67,9 +67,7 @@ fn ran(alloc: Global, case: &Case) -> Result<(Vec<u8>, &'static str), &'static s
 
 /// Whether that line may stand in place of the wanted one where memory was refused.
 fn is_other(line: &str, wanted: &str) -> bool {
-    OTHERS
-        .iter()
-        .any(|(is, other)| wanted.starts_with(is) && line.starts_with(other))
+    OTHERS.iter().any(|(is, other)| wanted.starts_with(is) && line.starts_with(other))
 }
 
 /// Whether a run that was refused memory wrote what is wanted up to there.

@@ -5,9 +5,7 @@ mod scripts;
 
 ghost use Rattle.std.specs.Prelude.{◌≡◌, ◌<◌, length};
 
-use crate::common::{
-    Obeys, Player, change_in, is_played, number, query, room, say_unknown, stamp,
-};
+use crate::common::{Obeys, Player, change_in, is_played, number, query, room, say_unknown, stamp};
 use replies::{say_members, say_node, say_replies};
 use scripts::{HISTORY, SCRIPTS};
 use std::alloc::Global;

@@ -5,6 +5,7 @@ use Rattle.txc_functions.proofs.objects.registries.Given as goal
 
 abbrev pub invariant-loop : goal.invariant-loop
 invariant-loop l = record {
-    all : All (λ r. numbers_of r ≡ ALL_NUMBERS) l.registries.items;
-    idle : All AllIdle l.registries.items;
-    few : vec_len l.registries ≡ l.counter }
+  all : All (λ r. numbers_of r ≡ ALL_NUMBERS) l.registries.items;
+  idle : All AllIdle l.registries.items;
+  few : vec_len l.registries ≡ l.counter;
+}
