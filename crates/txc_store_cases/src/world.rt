@@ -16,9 +16,12 @@ use txc_settings::Settings;
 /// How many actors a world has.
 const ACTORS: usize = 8;
 
-/// What may stand in place of the start of a line where memory was refused: a node has nothing and keeps
-/// nothing then, so that a call is computed at another stamp and fewer entries are closed.
-const OTHERS: [(&str, &str); 9] = [
+/// How a line ends where memory was refused, also to a function and to the store.
+const REFUSED_MEMORY: [&str; 3] = ["refused memory", "refused K6", "refused R3"];
+
+/// How a line begins, and how another may in its place where memory was refused to a node: it has nothing and
+/// keeps nothing then, so that a call is computed at another stamp, and fewer entries are closed.
+const OTHERS: [(&str, &str); 7] = [
     ("hit ", "miss"),
     ("stored ", "dropped"),
     ("kept", "dropped"),
@@ -26,8 +29,6 @@ const OTHERS: [(&str, &str); 9] = [
     ("pins ", "pins "),
     ("receipt ", "receipt "),
     ("advanced ", "advanced "),
-    ("", "refused memory"),
-    ("", "refused K6"),
 ];
 
 /// A script, and what its run is to write and how it is to end.
@@ -67,7 +68,8 @@ fn ran(alloc: Global, case: &Case) -> Result<(Vec<u8>, &'static str), &'static s
 
 /// Whether that line may stand in place of the wanted one where memory was refused.
 fn is_other(line: &str, wanted: &str) -> bool {
-    OTHERS.iter().any(|(is, other)| wanted.starts_with(is) && line.starts_with(other))
+    REFUSED_MEMORY.iter().any(|end| line.ends_with(end))
+        || OTHERS.iter().any(|(start, other)| wanted.starts_with(start) && line.starts_with(other))
 }
 
 /// Whether a run that was refused memory wrote what is wanted up to there.

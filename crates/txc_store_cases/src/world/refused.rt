@@ -273,7 +273,7 @@ abort 0 => aborted
 step 0 => refused O2
 rw 1 => open 4
 call 1 f0(7) => started
-step 1 => rows 7 [1,5) still t1:id=7 value 61
+step 1 => rows 7 [2,5) still t1:id=7 value 61
 tidy 10000 0 => retired 2 horizon 4
 abort 1 => aborted
 ",
