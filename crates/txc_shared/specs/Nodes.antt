@@ -89,6 +89,11 @@ next_stamp n = n.cache.processed + 1
 abbrev pub next_event : NodeValue → Op
 next_event n = Event (next_stamp n) (tags_at n.seen.history (next_stamp n))
 
+-- each event that it has seen or that the history has was taken
+pub record HasTakenAll (n : NodeValue) (other : History) : Type 0 where
+  pub own : length n.seen.history ≤ n.cache.processed
+  pub other : length other ≤ n.cache.processed
+
 -- It took the next event that it has seen, which closed so many entries; or it has taken all.
 abbrev pub HasAdvanced : NodeValue → ℕ → NodeValue → Advanced → Type 0
 HasAdvanced n pass new (Taken stamp closed) =
