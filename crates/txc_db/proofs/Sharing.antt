@@ -1,5 +1,5 @@
 -- What is done under the lock, as the caller of a shared database gets it.
-use Rattle.std.proofs.Common.{◌≡◌, ◌≤◌, ℕ, List, refl}
+use Rattle.std.proofs.Common.{◌≡◌, ◌≤◌, ℕ, List, length, refl, sym, subst}
 use Rattle.std.specs.Prelude.{Result, Ok, Err, IfOk, IfErr, IsOk}
 use Rattle.std.proofs.lemmas.Result.{IfErr-weaker}
 use Rattle.txc_rows.specs.declared.query.Query.{Query}
@@ -7,6 +7,7 @@ use Rattle.txc_validity.specs.declared.answer.Found.{Found}
 use Rattle.txc_validity.specs.Answers.{IsAnswer}
 use Rattle.txc_db.specs.declared.answered.Answered.{Answered}
 use Rattle.txc_db.specs.declared.error.DbError.{DbError}
+use Rattle.txc_db.specs.Seen.{FrontValue}
 use Rattle.txc_db.specs.History.{state_at}
 use Rattle.txc_db.specs.DatabaseValue.{DatabaseValue, newest, front_of}
 use Rattle.txc_db.specs.Calls.{IsAnswerable, matching_of}
@@ -24,5 +25,14 @@ pub query_result : (d : DatabaseValue) (events : List ℕ) (q : Query) (stamp : 
     → (IsOk r → IsAnswerable d stamp)
     → (IsOk r → matching_of d q ≤ MAX_MATCHING)
     → IfOk r (MayAnswer events (λ v. IsQueryAnswer v q stamp))
-query_result d events q stamp (Ok answered) one answer front known few = (d, one, record { known = known refl; few = few refl; answer = answer; front = front })
+query_result d events q stamp (Ok answered) one answer front known few = (
+  d,
+  one,
+  record {
+    known = known refl;
+    few = few refl;
+    front = front;
+    answer = subst (λ (f : FrontValue). IsAnswer (state_at f.history) q stamp d.horizon (length f.history) answered.answer) (sym front) answer;
+  },
+)
 query_result d events q stamp (Err e) one answer front known few = tt

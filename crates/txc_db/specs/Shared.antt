@@ -12,7 +12,7 @@ use Rattle.txc_db.specs.declared.answered.Answered.{Answered}
 use Rattle.txc_db.specs.declared.answered.CommitError.{CommitError}
 use Rattle.txc_db.specs.declared.answered.CommitError.TheVariants as commits
 use Rattle.txc_db.specs.History.{History, state_at, event_at, commit_event}
-use Rattle.txc_db.specs.DatabaseValue.{DatabaseValue, IsSound, front_of, newest}
+use Rattle.txc_db.specs.DatabaseValue.{DatabaseValue, IsSound, front_of}
 use Rattle.txc_db.specs.Refusals.{NoneMatches, IsConflict}
 use Rattle.txc_db.specs.Calls.{IsAnswerable, matching_of, IsBase, IsCommitRefused}
 
@@ -29,13 +29,14 @@ MayAnswer events answers a = (d : DatabaseValue) × IsDatabaseOf events d × ans
 
 -- ---- answers of a query
 
--- the database can answer at the stamp: this is the answer there, valid as far as the database's horizon and
--- its newest stamp tell, beside a front of the whole history
+-- the front shows the whole history of the database, which can answer at the stamp; and this is the answer in
+-- that history, valid as far as the database's horizon and its newest stamp tell
 pub record IsQueryAnswer (d : DatabaseValue) (q : Query) (stamp : ℕ) (answered : Answered Found) : Type 0 where
   pub known : IsAnswerable d stamp
   pub few : matching_of d q ≤ MAX_MATCHING
-  pub answer : IsAnswer (state_at d.history) q stamp d.horizon (newest d) answered.answer
   pub front : answered.front ≡ front_of d
+  pub answer : let L = answered.front.history
+      in IsAnswer (state_at L) q stamp d.horizon (length L) answered.answer
 
 -- ---- answers of a commit
 
