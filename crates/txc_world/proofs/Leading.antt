@@ -35,6 +35,10 @@ module _ {X Y : Type 0} (see : X → Y) (Closed : Type 0) (Opened : Y → Type 0
   without_call None is h = h
   without_call (Some x) is h = absurd (cc is)
 
+-- what is there is led so
+pub some_there : {X : Type 0} (Absent : Type 0) (There : X → Type 0) (o : Option X) (x : X) → o ≡ Some x → There x → MatchOption o Absent There
+some_there Absent There o x is h = rw is h
+
 pub noted_seen : {X Y : Type 0} (see : X → Y) (opened : Turn → X) (turn : Turn) (call : Option X) (end : Option End) → IsNoted opened turn call end
     → IsNoted (λ (t : Turn). see (opened t)) turn (option_map see call) end
 noted_seen see opened (turns.Ask request) call end h = (ap (option_map see) h.0, h.1)

@@ -38,7 +38,7 @@ returns-then-is_some-clause-leads g c = with_call call_value _ _ c.args.current.
 pub returns-in-Ok-clause-leads : goal.returns-in-Ok-clause-leads
 returns-in-Ok-clause-leads g c = without_call call_value _ _ c.args.current.call (sym c.is_some.ensures ∙ c.if-is_some.false) (
   rw (sym c.base-base.ensures, sym c.tags-read.ensures, sym c.changes-changes.ensures.answer) c.in-Ok.ensures.leads,
-  (c.cancel.ensures.idle, c.cancel.ensures.functions, c.base-base.ensures),
+  (c.cancel-unpin.ensures.idle, c.cancel-unpin.ensures.functions, c.base-base.ensures),
 )
 
 pub returns-in-Err-clause-leads : goal.returns-in-Err-clause-leads
