@@ -1,5 +1,5 @@
 -- A client's own steps in the history of a node.
-use Rattle.std.proofs.Common.{◌≡◌, ◌≢◌, ◌⊎◌, ℕ, zero, suc, ◌<◌, Bool, true, false, List, [], ◌∷◌, ◌++◌, map, length, get_or, set, slice_get, Option, Some, None, if◌then◌else◌, refl, sym, ap, subst, ◌∙◌, append-nil, append_assoc, inl, inr}
+use Rattle.std.proofs.Common.{◌≡◌, ◌≢◌, ℕ, zero, suc, Bool, true, false, List, [], ◌∷◌, ◌++◌, map, set, slice_get, Option, Some, if◌then◌else◌, refl, sym, ap, subst, ◌∙◌, append-nil, append_assoc, inl, inr}
 use Rattle.std.specs.List.{filter}
 use Rattle.std.specs.Prelude.{◌==◌}
 use Rattle.std.proofs.lemmas.Bool.{eq-eqb, eqb-true, eqb-false}
@@ -128,8 +128,7 @@ module _ (at node : ℕ) (op : Op) (call : PassValue → PassValue → Type 0) (
       go true equal =
           let same : at ≡ node = eqb-true at node equal in
           let own : Some h.old ≡ Some p = sym h.pass ∙ ap (slice_get olds) same ∙ is in
-          let own' : h.old ≡ p = cc own in
-          (
+          let own' : h.old ≡ p = cc own in (
             h.new,
             ap (λ (l : List PassValue). slice_get l node) h.others ∙ ap (slice_get (set olds at h.new)) (sym same) ∙ get_set_same olds at h.old h.new h.pass,
             subst (λ (w : PassValue). Adds w (op ∷ []) h.new) own' (does h.old h.new h.grown h.called),

@@ -1,7 +1,7 @@
 use Rattle.std.proofs.Common.{◌<◌, List, ap, inr, length, refl, subst, sym, ◌∙◌}
 use Rattle.std.specs.Prelude.{slice_set}
 use Rattle.txc_node.specs.declared.entry.Entry.{Entry}
-use Rattle.txc_shared.specs.Passes.{PassValue, HasInserted}
+use Rattle.txc_shared.specs.Passes.{PassValue}
 use Rattle.txc_client.specs.Ports.{HaveGrown, InsertLeaves, IsCallAt}
 use Rattle.txc_client.proofs.Called.{called_at, inserted, not_called}
 use Rattle.txc_client.proofs.Grown.{have_grown_self, one_has_grown, settings_stay}
