@@ -145,7 +145,7 @@ one_gave_up next told t m e i r q h lt one two =
     let all = taken_more next told m e (give_up_steps i ++ Actor i acts.Abort ∷ []) (h.replied ++ r ∷ []) (Actor i acts.Request) q (taken_more next told t m (give_up_steps i) h.replied (Actor i acts.Abort) r h.taken one) two in
     let suc_is : suc i ≡ i + 1 = omega arith in
     let steps : (give_up_steps i ++ Actor i acts.Abort ∷ []) ++ Actor i acts.Request ∷ [] ≡ give_up_steps (i + 1) =
-        append_assoc (give_up_steps i) (Actor i acts.Abort ∷ []) (Actor i acts.Request ∷ []) ∙ ap give_up_steps suc_is in
+    append_assoc (give_up_steps i) (Actor i acts.Abort ∷ []) (Actor i acts.Request ∷ []) ∙ ap give_up_steps suc_is in
     record {
       replied = (h.replied ++ r ∷ []) ++ q ∷ [];
       taken = subst (λ ss. AreTaken next told ss ((h.replied ++ r ∷ []) ++ q ∷ []) e) steps all;

@@ -214,7 +214,7 @@ done_begun next told end task printed h = record {
   later_replied = [];
   printed = printed;
   does = subst (λ (steps : List Step). Does next told task steps (h.replied ++ []) printed) (sym (append-nil h.steps))
-  (subst (λ (replied : List Reply). Does next told task h.steps replied printed) (sym (append-nil h.replied)) h.does);
+      (subst (λ (replied : List Reply). Does next told task h.steps replied printed) (sym (append-nil h.replied)) h.does);
 }
 
 -- a call that goes on may end at the next request

@@ -1,6 +1,7 @@
 //! The program: `txcache node` reads a script on standard input and prints the replies; `txcache report`
 //! prints counts of them; `txcache world` runs transactions and prints their replies.
 #![tactic(auto)]
+
 ghost use Rattle.std.specs.Prelude.{◌≡◌, vec_len, All, IfOk};
 ghost use Rattle.txc_registry.specs.Objects.{AllIdle};
 
@@ -66,10 +67,7 @@ fn run_functions<R: Read, W: Write>(
 }
 
 /// The registries of the actors, which share the permits: each has one object of each function.
-fn actors(
-    alloc: Global,
-    settings: Settings,
-) -> Result<Vec<Registry<Program, Object>>, AllocError>
+fn actors(alloc: Global, settings: Settings) -> Result<Vec<Registry<Program, Object>>, AllocError>
     ensures all_idle { IfOk result (λ registries. All AllIdle registries.items) }
     ensures each { IfOk result (λ registries. vec_len registries ≡ 8) }
 {

@@ -24,11 +24,7 @@ fn take<A: App, C: Cacheable>(alloc: Global, world: &mut World<A, C>, step: Step
 
 /// The keeper pins the present and adds the pin, which no transaction uses then; where it is not added, its
 /// hold is taken away.
-fn pin_present<A: App, C: Cacheable>(
-    alloc: Global,
-    world: &mut World<A, C>,
-    now: u64,
-) -> Reply
+fn pin_present<A: App, C: Cacheable>(alloc: Global, world: &mut World<A, C>, now: u64) -> Reply
     ensures { IsDone A.next world.old.told (Task.Pin now) (Printed.Replied result) world.new.told }
 {
     let pinned = take(alloc, world, Step::Keeper(Keep::Pin(now)));
