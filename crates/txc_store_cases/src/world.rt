@@ -32,6 +32,7 @@ const OTHERS: [(&str, &str); 7] = [
 ];
 
 /// A script, and what its run is to write and how it is to end.
+#[derive(Clone, Copy)]
 struct Case<'a> {
     settings: &'a str,
     script: &'a str,
@@ -53,7 +54,7 @@ fn run(
 }
 
 /// What the run of a script writes, and how it ends.
-fn ran(alloc: Global, case: &Case) -> Result<(Vec<u8>, &'static str), &'static str> {
+fn ran(alloc: Global, case: Case) -> Result<(Vec<u8>, &'static str), &'static str> {
     let settings = settings_of(alloc, case.settings)?;
     let mut written = match Vec::with_capacity(alloc, ROOM) {
         Ok(written) => written,
@@ -91,7 +92,7 @@ fn is_left(written: &[u8], replies: &str, end: &str) -> bool {
 }
 
 /// Whether a run gives what is wanted; `Some(false)` where it was refused memory, and wrote what it may then.
-fn is_given(alloc: Global, case: &Case) -> Option<bool> {
+fn is_given(alloc: Global, case: Case) -> Option<bool> {
     let (written, end) = ran(alloc, case).ok()?;
     if written.as_slice() == case.replies.as_bytes() && end == case.end {
         return Some(true);
@@ -100,7 +101,7 @@ fn is_given(alloc: Global, case: &Case) -> Option<bool> {
 }
 
 /// A run, once more where it was refused memory; the name, where it does not give what is wanted.
-fn play(alloc: Global, case: &Case, name: &'static str) -> Result<(), &'static str> {
+fn play(alloc: Global, case: Case, name: &'static str) -> Result<(), &'static str> {
     match is_given(alloc, case) {
         Some(true) => Ok(()),
         Some(false) if is_given(alloc, case) == Some(true) => Ok(()),
@@ -117,7 +118,7 @@ fn play_examples(alloc: Global) -> Result<(), &'static str> {
             replies,
             end,
         };
-        play(alloc, &case, name)?;
+        play(alloc, case, name)?;
     }
     Ok(())
 }
@@ -155,7 +156,7 @@ fn play_refused(alloc: Global) -> Result<(), &'static str> {
             replies: replies.as_str(),
             end: status_of(replies.as_str().contains("refused ")),
         };
-        play(alloc, &case, name)?;
+        play(alloc, case, name)?;
     }
     Ok(())
 }
