@@ -6,7 +6,7 @@ mod scripts;
 ghost use Rattle.std.specs.Prelude.{◌≡◌, ◌<◌, length};
 
 use crate::common::{Obeys, Player, change_in, is_played, number, query, room, say_unknown, stamp};
-use replies::{say_members, say_node, say_replies};
+use replies::{say_members, say_node, say_refusal, say_replies};
 use scripts::{HISTORY, SCRIPTS};
 use std::alloc::Global;
 use std::marker::Model;
@@ -125,7 +125,7 @@ impl Stage {
         Some(Stage { world })
     }
 
-    #[tactic(auto, using(txc_store_cases::proofs::Stages::settings_stay))]
+    #[tactic(auto, using(crate::proofs::Stages::settings_stay))]
     fn run(&mut self, alloc: Global, steps: &[Step], answer: &mut String) {
         match self.world.run(alloc, steps) {
             Ok(replies) => say_replies(answer, &replies),
@@ -136,7 +136,10 @@ impl Stage {
     }
 
     fn show_pins(&self, words: &mut SplitWhitespace<'_>, answer: &mut String) {
-        say_members(answer, self.world.pins(number(words) as usize));
+        match self.world.pins(number(words) as usize) {
+            Ok(members) => say_members(answer, members.has_present, members.pins),
+            Err(refusal) => say_refusal(answer, &refusal),
+        }
     }
 
     fn show_node(&self, answer: &mut String) {

@@ -5,9 +5,9 @@ use txc_cushion::Pin;
 use txc_rows::Row;
 use txc_shared::{Advanced, App, StoredNode};
 use txc_stamp::Stamp;
-use txc_world::{Did, End, Members, Refusal, Reply, RowsFound};
+use txc_world::{Did, End, Refusal, Reply, RowsFound};
 
-fn say_refusal(answer: &mut String, refusal: &Refusal) {
+pub(super) fn say_refusal(answer: &mut String, refusal: &Refusal) {
     let _ = write!(answer, "refused: {refusal}");
 }
 
@@ -157,18 +157,13 @@ pub(super) fn say_replies(answer: &mut String, replies: &[Reply]) {
 }
 
 /// Where the transaction may still be serialised: a star for the present, and the stamps of its members.
-pub(super) fn say_members(answer: &mut String, members: Result<Members<'_>, Refusal>) {
-    match members {
-        Ok(members) => {
-            if members.has_present {
-                let _ = answer.push_str(" *");
-            }
-            for pin in members.pins {
-                let stamp = pin.stamp;
-                let _ = write!(answer, " {stamp}");
-            }
-        }
-        Err(refusal) => say_refusal(answer, &refusal),
+pub(super) fn say_members(answer: &mut String, has_present: bool, pins: &[Pin]) {
+    if has_present {
+        let _ = answer.push_str(" *");
+    }
+    for pin in pins {
+        let stamp = pin.stamp;
+        let _ = write!(answer, " {stamp}");
     }
 }
 
