@@ -12,16 +12,20 @@ use Rattle.txc_cushion.specs.Laws.{AddCountsOnePin, FreshCountsUsers, GiveBackCo
 use Rattle.txc_ports.specs.declared.request.PortRequest.{PortRequest}
 use Rattle.txc_ports.specs.declared.request.PortRequest.TheVariants as requests
 use Rattle.txc_ports.specs.declared.reply.PortReply.{PortReply}
+use Rattle.txc_ports.specs.declared.error.TxnError.{TxnError}
 use Rattle.txc_ports.specs.declared.error.TxnError.TheVariants.{SnapshotLost}
+use Rattle.txc_txn.specs.declared.pinning.PinStep.TheVariants.{Dropping}
+use Rattle.txc_world.specs.declared.reply.End.{End}
+use Rattle.txc_world.specs.declared.reply.End.TheVariants as ends
 use Rattle.txc_ports.specs.declared.turn.Turn.{Turn}
 use Rattle.txc_ports.specs.declared.turn.Turn.TheVariants as turns
-use Rattle.txc_txn.specs.Core.{left_after, left_pin, taken_after, CoreValue}
+use Rattle.txc_txn.specs.Core.{left_after, left_pin, taken_after, CoreValue, IsAt}
 use Rattle.txc_world.specs.declared.actor.Actor.{Actor}
 use Rattle.txc_world.specs.declared.actor.Actor.TheVariants.{Idle, Reading, Writing, Leaving}
 use Rattle.txc_world.specs.declared.did.Did.{Did}
 use Rattle.txc_world.specs.declared.did.Did.TheVariants as dids
 use Rattle.txc_world.specs.declared.reply.Reply.{Reply}
-use Rattle.txc_world.specs.declared.reply.Reply.TheVariants.{Asked, Refused}
+use Rattle.txc_world.specs.declared.reply.Reply.TheVariants.{Asked, Ended, Refused}
 use Rattle.txc_world.specs.declared.reply.Refusal.TheVariants.{Transaction}
 use Rattle.txc_world.specs.Ports.{PortsValue}
 
@@ -130,14 +134,29 @@ abbrev pub IsLossOf : PortsValue → Account → Did → Type 0
 IsLossOf p account (dids.Refused (SnapshotGone horizon)) = HasLost p account
 IsLossOf p account did = Unit {0}
 
+-- nor has the call ended so
+abbrev pub EndIsLossOf : PortsValue → Account → Option End → Type 0
+EndIsLossOf p account (Some (ends.Refused (SnapshotLost horizon))) = HasLost p account
+EndIsLossOf p account end = Unit {0}
+
 abbrev pub ReplyIsLossOf : PortsValue → Account → Reply → Type 0
-ReplyIsLossOf p account (Asked did end) = IsLossOf p account did
+ReplyIsLossOf p account (Asked did end) = IsLossOf p account did × EndIsLossOf p account end
+ReplyIsLossOf p account (Ended end) = EndIsLossOf p account (Some end)
 ReplyIsLossOf p account (Refused (Transaction (SnapshotLost horizon))) = HasLost p account
 ReplyIsLossOf p account reply = Unit {0}
 
 abbrev pub TurnIsLossOf : PortsValue → Account → Turn → Type 0
 TurnIsLossOf p account (turns.Refused (SnapshotLost horizon)) = HasLost p account
 TurnIsLossOf p account turn = Unit {0}
+
+-- the turn is no refusal of a snapshot that is lost
+abbrev pub IsQuiet : Turn → Type 0
+IsQuiet (turns.Refused (SnapshotLost horizon)) = ⊥
+IsQuiet turn = Unit {0}
+
+-- nor is that why the pin of the present was not added
+abbrev pub IsQuietAt : CoreValue → Type 0
+IsQuietAt c = (stamp : ℕ) (error : TxnError) → IsAt c (Dropping stamp error) → IsQuiet (turns.Refused error)
 
 -- one request of a transaction: it is fair, and is refused as gone only where that is so
 pub record AskCounts (request : PortRequest) (old new : PortsValue) (did : Did) (reply : PortReply)

@@ -9,9 +9,11 @@ use Rattle.txc_world.specs.declared.step.Keep.TheVariants as keeps
 use Rattle.txc_world.specs.declared.step.Step.{Step}
 use Rattle.txc_world.specs.declared.step.Step.TheVariants.{Actor, Keeper}
 use Rattle.txc_world.specs.declared.did.Did.TheVariants as dids
+use Rattle.txc_world.specs.declared.reply.End.{End}
+use Rattle.txc_world.specs.declared.reply.End.TheVariants as ends
 use Rattle.txc_world.specs.declared.reply.Reply.{Reply}
 use Rattle.txc_world.specs.declared.reply.Reply.TheVariants as replies
-use Rattle.txc_world.specs.declared.reply.Reply.TheVariants.{Asked, Refused}
+use Rattle.txc_world.specs.declared.reply.Reply.TheVariants.{Asked, Ended, Refused}
 use Rattle.txc_world.specs.declared.reply.Refusal.TheVariants as refusals
 use Rattle.txc_world.specs.Books.{books_of, times_own, times_taken, Account, Books}
 use Rattle.txc_world.specs.Keeping.{stamps_of as stamps_of_pins}
@@ -70,9 +72,16 @@ AreTidy purse (step ∷ steps) (reply ∷ replies) =
 
 -- ---- what comes of it
 
--- no query is refused for a snapshot that is gone
+-- the call has not ended as one whose snapshot is lost
+abbrev pub EndLosesNothing : Option End → Type 0
+EndLosesNothing (Some (ends.Refused (SnapshotLost horizon))) = ⊥
+EndLosesNothing end = Unit {0}
+
+-- no query is refused for a snapshot that is gone, and no call for one that is lost
 abbrev pub LosesNothing : Reply → Type 0
 LosesNothing (Asked (dids.Refused (SnapshotGone horizon)) end) = ⊥
+LosesNothing (Asked did end) = EndLosesNothing end
+LosesNothing (Ended end) = EndLosesNothing (Some end)
 LosesNothing (Refused (refusals.Transaction (SnapshotLost horizon))) = ⊥
 LosesNothing reply = Unit {0}
 
