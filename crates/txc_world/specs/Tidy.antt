@@ -1,5 +1,5 @@
 -- Tidy lists of steps: the keeper takes nothing away that it doesn't have.
-use Rattle.std.specs.Prelude.{ℕ, ◌+◌, ◌≤◌, List, [], ◌∷◌, ◌++◌, Contains}
+use Rattle.std.specs.Prelude.{ℕ, ◌+◌, ◌≤◌, List, [], ◌∷◌, ◌++◌, Contains, Option, Some}
 use Rattle.txc_db.specs.declared.error.DbError.TheVariants.{SnapshotGone}
 use Rattle.txc_db.specs.DatabaseValue.{without}
 use Rattle.txc_ports.specs.declared.error.TxnError.TheVariants.{SnapshotLost}
