@@ -88,6 +88,13 @@ impl<A: App, C: Cacheable> World<A, C> {
         })
     }
 
+    /// How many actors there are.
+    pub fn actor_count(&self) -> usize
+        ensures { result ≡ length self.now.told.actors }
+    {
+        self.actors.len()
+    }
+
     /// The members of the actor's read-only transaction, and whether the present is there.
     pub fn pins(&self, place: usize) -> Result<Members<'_>, Refusal>
         ensures due { MatchOption (due_of_pins (slice_get self.now.told.actors place)) (IsOk result)
@@ -145,8 +152,8 @@ impl<A: App, C: Cacheable> World<A, C> {
         reply
     }
 
-    // One step.
-    fn step(&mut self, alloc: Global, step: &Step) -> Reply
+    /// Takes one step, as `run` does, and returns what it was replied.
+    pub fn step(&mut self, alloc: Global, step: &Step) -> Reply
         ensures told { self.new.told ≡ after self.old.told step.now result }
         ensures due { IsDue self.old.told step.now result }
         ensures explained { IsExplainedIn A.next self.new.told.history self.old.told step.now result }
