@@ -181,7 +181,7 @@ pub record HasStarted (key : Call) (before : TxnValue) (actor : ActorValue) : Ty
   pub txn : TxnValue
   pub turn : Turn
   pub actor_is : actor ≡ reads (record { txn = txn; call = Some (called key turn) })
-  pub leads : StartLeads before.core before.objects key turn
+  pub leads : StartLeads before.core before.objects key txn.core txn.objects turn
   pub same : txn.core ≡ record before.core { call = txn.core.call; pinning = txn.core.pinning }
 
 -- One request of a transaction, as a step of the pass: the port that was asked did this, and the transaction
