@@ -23,11 +23,25 @@ returns-clause-counts g c = record {
 pub returns-in-Some-clause-leads : goal.returns-in-Some-clause-leads
 returns-in-Some-clause-leads g c = λ next pass.
     let is : left_pin c.args.current.txn.core.pinning ≡ Some c.in-Some.stamp = sym c.cancel-left.ensures.unpin ∙ c.in-Some.is in
-    rw is ((c.give_back.result, subst (λ (l : List ℕ). GiveBackLeads l c.args.ports.now c.give_back.new.self c.give_back.result)
-        (c.deref.ensures.value ∙ c.cancel-left.ensures.give_back) c.give_back.ensures.leads), (c.cancel-left.ensures.idle, c.cancel-left.ensures.functions, refl), refl)
+    rw is (
+      (
+        c.give_back.result,
+        subst (λ (l : List ℕ). GiveBackLeads l c.args.ports.now c.give_back.new.self c.give_back.result)
+            (c.deref.ensures.value ∙ c.cancel-left.ensures.give_back) c.give_back.ensures.leads,
+      ),
+      (c.cancel-left.ensures.idle, c.cancel-left.ensures.functions, refl),
+      refl,
+    )
 
 pub returns-clause-leads : goal.returns-clause-leads
 returns-clause-leads g c = λ next pass.
     let is : left_pin c.args.current.txn.core.pinning ≡ None = sym c.cancel-left.ensures.unpin ∙ c.in-None.is in
-    rw is ((c.give_back.result, subst (λ (l : List ℕ). GiveBackLeads l c.args.ports.now c.give_back.new.self c.give_back.result)
-        (c.deref.ensures.value ∙ c.cancel-left.ensures.give_back) c.give_back.ensures.leads), (c.cancel-left.ensures.idle, c.cancel-left.ensures.functions), refl)
+    rw is (
+      (
+        c.give_back.result,
+        subst (λ (l : List ℕ). GiveBackLeads l c.args.ports.now c.give_back.new.self c.give_back.result)
+            (c.deref.ensures.value ∙ c.cancel-left.ensures.give_back) c.give_back.ensures.leads,
+      ),
+      (c.cancel-left.ensures.idle, c.cancel-left.ensures.functions),
+      refl,
+    )

@@ -34,8 +34,11 @@ returns-then-is_some-clause-leads g c = λ next pass. with_call call_value _ _ c
 
 pub returns-clause-leads : goal.returns-clause-leads
 returns-clause-leads g c = λ next pass. without_call call_value _ _ c.args.current.call (sym c.is_some.ensures ∙ c.if-is_some.false) (
-  (c.give_back.result, subst (λ (l : List ℕ). GiveBackLeads l c.args.ports.now c.give_back.new.self c.give_back.result)
-      (c.deref.ensures.value ∙ c.finish-receipt.ensures.give_back) c.give_back.ensures.leads),
+  (
+    c.give_back.result,
+    subst (λ (l : List ℕ). GiveBackLeads l c.args.ports.now c.give_back.new.self c.give_back.result)
+        (c.deref.ensures.value ∙ c.finish-receipt.ensures.give_back) c.give_back.ensures.leads,
+  ),
   ap resting c.finish-receipt.ensures.registry,
   ap Receipt c.finish-receipt.ensures.pin,
 )

@@ -18,12 +18,15 @@ pub returns-then-is_some-clause-leads : goal.returns-then-is_some-clause-leads
 returns-then-is_some-clause-leads g c = with_call call_value _ _ c.args.current.call (sym c.is_some.ensures ∙ c.if-is_some.true) (λ call. (refl, refl))
 
 pub returns-clause-leads : goal.returns-clause-leads
-returns-clause-leads g c = without_call call_value _ _ c.args.current.call (sym c.is_some.ensures ∙ c.if-is_some.false) (c.find-turn.ensures.same_ports, record {
-  core = c.find-turn.new.core;
-  turn = c.find-turn.result;
-  told = c.told_rows.ensures;
-  found = c.find-turn.ensures.leads;
-  actor_is = ap (λ (objects : Objects). writes (record { core = c.find-turn.new.core; objects = objects; call = None })) c.find-turn.ensures.objects;
-  read = c.find-turn.ensures.read;
-  same = c.find-turn.ensures.same;
-})
+returns-clause-leads g c = without_call call_value _ _ c.args.current.call (sym c.is_some.ensures ∙ c.if-is_some.false) (
+  c.find-turn.ensures.same_ports,
+  record {
+    core = c.find-turn.new.core;
+    turn = c.find-turn.result;
+    told = c.told_rows.ensures;
+    found = c.find-turn.ensures.leads;
+    actor_is = ap (λ (objects : Objects). writes (record { core = c.find-turn.new.core; objects = objects; call = None })) c.find-turn.ensures.objects;
+    read = c.find-turn.ensures.read;
+    same = c.find-turn.ensures.same;
+  },
+)

@@ -7,17 +7,20 @@ use Rattle.txc_world.proofs.writing.request.Goals as goal
 
 pub returns-clause-leads : goal.returns-clause-leads
 returns-clause-leads g c =
-    let is : c.args.current.call ≡ Some (opened c.in-Some.key c.in-Some.turn) = c.in-Some.is ∙ ap (λ (x : OpenCall). Some x) c.in-Some.field-0-is in
-    some_there _ _ (option_map call_value c.args.current.call) (called c.in-Some.key c.in-Some.turn) (ap (λ (o : Option OpenCall). option_map call_value o) is)
-    (c.go_on-did.ensures.same_ports, some_there _ _ _ c.in-Some-asked.query (sym c.asked.ensures ∙ c.in-Some-asked.is) (record {
-      core = c.go_on-did.new.core;
-      objects = c.go_on-did.new.registry;
-      call = option_map call_value c.note-call.result.0;
-      did = c.go_on-did.result.did;
-      end = c.note-call.result.1;
-      turn = c.go_on-did.result.turn;
-      actor_is = refl;
-      reply_is = refl;
-      asks = c.go_on-did.ensures.asks;
-      noted = noted_seen call_value (opened c.in-Some.key) c.go_on-did.result.turn c.note-call.result.0 c.note-call.result.1 c.note-call.ensures;
-    }))
+    let is : c.args.current.call ≡ Some (opened c.in-Some.key c.in-Some.turn) =
+    c.in-Some.is ∙ ap (λ (x : OpenCall). Some x) (rw (sym c.in-Some.key-is, sym c.in-Some.turn-is) refl) in
+    some_there _ _ (option_map call_value c.args.current.call) (called c.in-Some.key c.in-Some.turn) (ap (λ (o : Option OpenCall). option_map call_value o) is) (
+      c.go_on-did.ensures.same_ports,
+      some_there _ _ _ c.in-Some-asked.query (sym c.asked.ensures ∙ c.in-Some-asked.is) (record {
+        core = c.go_on-did.new.core;
+        objects = c.go_on-did.new.registry;
+        call = option_map call_value c.note-call.result.0;
+        did = c.go_on-did.result.did;
+        end = c.note-call.result.1;
+        turn = c.go_on-did.result.turn;
+        actor_is = refl;
+        reply_is = refl;
+        asks = c.go_on-did.ensures.asks;
+        noted = noted_seen call_value (opened c.in-Some.key) c.go_on-did.result.turn c.note-call.result.0 c.note-call.result.1 c.note-call.ensures;
+      }),
+    )

@@ -49,17 +49,20 @@ pub returns-then-is_some-clause-leads : goal.returns-then-is_some-clause-leads
 returns-then-is_some-clause-leads g c = with_call call_value _ _ c.args.current.call (sym c.is_some.ensures ∙ c.if-is_some.true) (λ call. (refl, refl))
 
 pub returns-clause-leads : goal.returns-clause-leads
-returns-clause-leads g c = without_call call_value _ _ c.args.current.call (sym c.is_some.ensures ∙ c.if-is_some.false) (refl, record {
-  core = c.start-turn.new.self;
-  objects = c.start-turn.new.registry;
-  turn = c.start-turn.result;
-  actor_is = ap (λ (k : Call). writes (record { core = c.start-turn.new.self; objects = c.start-turn.new.registry; call = Some (called k c.start-turn.result) })) c.copy-2.ensures;
-  leads = λ there s.
-      subst (λ (k : Call). CallLeads g.A.App.next s (standing_of (started k) c.args.current.registry) [] c.start-turn.new.self c.start-turn.new.registry c.start-turn.result)
-      c.copy.ensures
-      (c.start-turn.ensures.leads (subst (λ (k : Call). IsSome (activity_of c.args.current.registry k.function)) (sym c.copy.ensures) there) s);
-  missing = λ gone.
-      subst (λ (k : Call). c.start-turn.result ≡ turns.Refused (CallRefused (NoFunction k.function))) c.copy.ensures
-      (c.start-turn.ensures.missing (subst (λ (k : Call). IsNone (activity_of c.args.current.registry k.function)) (sym c.copy.ensures) gone));
-  same = c.start-turn.ensures.same;
-})
+returns-clause-leads g c = without_call call_value _ _ c.args.current.call (sym c.is_some.ensures ∙ c.if-is_some.false) (
+  refl,
+  record {
+    core = c.start-turn.new.self;
+    objects = c.start-turn.new.registry;
+    turn = c.start-turn.result;
+    actor_is = ap (λ (k : Call). writes (record { core = c.start-turn.new.self; objects = c.start-turn.new.registry; call = Some (called k c.start-turn.result) })) c.copy-2.ensures;
+    leads = λ there s.
+        subst (λ (k : Call). CallLeads g.A.App.next s (standing_of (started k) c.args.current.registry) [] c.start-turn.new.self c.start-turn.new.registry c.start-turn.result)
+        c.copy.ensures
+        (c.start-turn.ensures.leads (subst (λ (k : Call). IsSome (activity_of c.args.current.registry k.function)) (sym c.copy.ensures) there) s);
+    missing = λ gone.
+        subst (λ (k : Call). c.start-turn.result ≡ turns.Refused (CallRefused (NoFunction k.function))) c.copy.ensures
+        (c.start-turn.ensures.missing (subst (λ (k : Call). IsNone (activity_of c.args.current.registry k.function)) (sym c.copy.ensures) gone));
+    same = c.start-turn.ensures.same;
+  },
+)
