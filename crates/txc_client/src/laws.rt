@@ -2,7 +2,7 @@
 ghost use Rattle.txc_client.specs.Laws.{CallsStandOnce};
 
 /// What a call of a transaction asked of a node stands in that node's history under the client's pass, each
-/// once, in the order in which it was asked.
+/// once, in the order in which it was asked, but for what was refused.
 pub fn calls_stand_once()
     ensures { CallsStandOnce }
 {}
