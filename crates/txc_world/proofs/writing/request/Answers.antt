@@ -1,4 +1,4 @@
-use Rattle.std.proofs.Common.{◌≡◌, Option, Some, refl, ap, sym, ◌∙◌}
+use Rattle.std.proofs.Common.{Option, refl, ap, sym, ◌∙◌}
 use Rattle.std.specs.Option.{option_map}
 use Rattle.txc_world.specs.declared.actor.OpenCall.{OpenCall}
 use Rattle.txc_world.specs.Cast.{call_value, called, opened}
@@ -7,9 +7,7 @@ use Rattle.txc_world.proofs.writing.request.Goals as goal
 
 pub returns-clause-leads : goal.returns-clause-leads
 returns-clause-leads g c =
-    let is : c.args.current.call ≡ Some (opened c.in-Some.key c.in-Some.turn) =
-    c.in-Some.is ∙ ap (λ (x : OpenCall). Some x) (rw (sym c.in-Some.key-is, sym c.in-Some.turn-is) refl) in
-    some_there _ _ (option_map call_value c.args.current.call) (called c.in-Some.key c.in-Some.turn) (ap (λ (o : Option OpenCall). option_map call_value o) is) (
+    some_there _ _ (option_map call_value c.args.current.call) (called c.in-Some.field-0.key c.in-Some.field-0.turn) (ap (λ (o : Option OpenCall). option_map call_value o) c.in-Some.is) (
       c.go_on-did.ensures.same_ports,
       some_there _ _ _ c.in-Some-asked.query (sym c.asked.ensures ∙ c.in-Some-asked.is) (record {
         core = c.go_on-did.new.core;
@@ -21,6 +19,6 @@ returns-clause-leads g c =
         actor_is = refl;
         reply_is = refl;
         asks = c.go_on-did.ensures.asks;
-        noted = noted_seen call_value (opened c.in-Some.key) c.go_on-did.result.turn c.note-call.result.0 c.note-call.result.1 c.note-call.ensures;
+        noted = noted_seen call_value (opened c.in-Some.field-0.key) c.go_on-did.result.turn c.note-call.result.0 c.note-call.result.1 c.note-call.ensures;
       }),
     )
