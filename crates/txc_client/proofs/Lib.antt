@@ -6,3 +6,5 @@ pub mod Values
 pub mod Crosses
 pub mod Runs
 pub mod Idle
+pub mod Standing
+pub mod Called

@@ -1,3 +1,4 @@
 pub mod Ports
-pub mod Run
 pub mod Txn
+pub mod Run
+pub mod Laws

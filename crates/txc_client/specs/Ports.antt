@@ -1,9 +1,65 @@
--- What the passes of a client show.
-use Rattle.std.specs.Prelude.{List, [], ◌∷◌}
-use Rattle.txc_shared.specs.Passes.{PassValue, HasGrown}
+-- What the passes of a client show, and what each request leaves of them.
+use Rattle.std.specs.Prelude.{◌≡◌, ◌⊎◌, ℕ, List, [], ◌∷◌, slice_get, set, Option, Some, None}
+use Rattle.txc_tags.specs.Keys.{Call}
+use Rattle.txc_db.specs.declared.answered.Answered.{Answered}
+use Rattle.txc_node.specs.declared.entry.Entry.{Entry}
+use Rattle.txc_node.specs.declared.hit.Shown.{Shown}
+use Rattle.txc_node.specs.declared.op.Op.TheVariants.{Lookup}
+use Rattle.txc_node.specs.declared.reply.Reply.{Reply}
+use Rattle.txc_node.specs.declared.reply.Reply.TheVariants.{Hit, Miss}
+use Rattle.txc_shared.specs.declared.error.NodeError.{NodeError}
+use Rattle.txc_shared.specs.declared.insertion.Insertion.{Insertion}
+use Rattle.txc_shared.specs.Nodes.{NodeValue}
+use Rattle.txc_shared.specs.Passes.{PassValue, HasGrown, HasInserted, HasMade, IsPassLeft}
+use Rattle.txc_shared.specs.Refusals.{IsLookupRefused, IsRefusedThrough, IsStepRefused, MayRefuse}
+use Rattle.txc_ports.specs.declared.request.PortRequest.{PortRequest}
+use Rattle.txc_ports.specs.declared.request.PortRequest.TheVariants as requests
+use Rattle.txc_ports.specs.declared.reply.PortReply.{PortReply}
+use Rattle.txc_ports.specs.declared.reply.PortReply.TheVariants as answers
 
 -- each pass has seen no less of its node than before
 abbrev pub HaveGrown : List PassValue → List PassValue → Type 0
 HaveGrown [] [] = Unit {0}
 HaveGrown (old ∷ olds) (new ∷ news) = HasGrown old new × HaveGrown olds news
 HaveGrown olds news = ⊥
+
+-- one call was made through the pass of this node; every other pass is as it was
+pub record IsCallAt (node : ℕ) (call : PassValue → PassValue → Type 0) (olds news : List PassValue) : Type 0 where
+  pub old : PassValue
+  pub new : PassValue
+  pub pass : slice_get olds node ≡ Some old
+  pub grown : HasGrown old new
+  pub called : call old new
+  pub others : news ≡ set olds node new
+
+-- a call through the pass was refused as some node of the named row refuses it, and left the pass so
+pub record IsCallRefused (node_rows : ℕ → List ℕ) (refused : NodeValue → NodeError → Type 0)
+    (old new : PassValue) : Type 0 where
+  pub error : NodeError
+  pub reason : MayRefuse node_rows (λ n. IsRefusedThrough refused n old) error
+  pub left : IsPassLeft (node_rows old.settings.number) old new error
+
+-- what a node replied to a lookup that found so much
+abbrev pub found_reply : Option (Answered Shown) → Reply Shown
+found_reply None = Miss
+found_reply (Some hit) = Hit hit.answer
+
+-- one lookup, whose record shows what was found; or it was refused, and nothing was found
+abbrev pub LookupLeaves : (ℕ → List ℕ) → Call → ℕ → ℕ → Option (Answered Shown) → PassValue → PassValue → Type 0
+LookupLeaves node_rows key lo hi found old new = HasMade old new (Lookup key lo hi) (found_reply found)
+    ⊎ ((found ≡ None) × IsCallRefused node_rows (λ n. IsLookupRefused n lo hi) old new)
+
+-- one insertion of the entry; or it was refused, or, out of memory, not begun
+abbrev pub InsertLeaves : (ℕ → List ℕ) → Entry → PassValue → PassValue → Type 0
+InsertLeaves node_rows entry old new = ((insertion : Insertion) × HasInserted old new entry insertion)
+    ⊎ (IsCallRefused node_rows IsStepRefused old new ⊎ (new ≡ old))
+
+-- What a request leaves of the passes, by its reply. A lookup is one lookup at the node that is named, of this call
+-- at these stamps; an insertion is one insertion of this entry there; and any other request leaves every pass
+-- as it was.
+abbrev pub PassesAfter : (ℕ → List ℕ) → List PassValue → PortRequest → PortReply → List PassValue → Type 0
+PassesAfter node_rows olds (requests.Lookup node key lo hi) (answers.Lookup found) news =
+    IsCallAt node (LookupLeaves node_rows key lo hi found) olds news
+PassesAfter node_rows olds (requests.Insert node entry) answers.Insert news =
+    IsCallAt node (InsertLeaves node_rows entry) olds news
+PassesAfter node_rows olds request reply news = news ≡ olds

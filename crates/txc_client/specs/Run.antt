@@ -1,4 +1,5 @@
--- How a call of a transaction goes: by what it is replied, and what comes of each reply.
+-- How a call of a transaction goes: what it asks and is replied, what each request leaves of the passes, and what
+-- comes of each reply.
 use Rattle.std.specs.Prelude.{◌≡◌, ℕ, List, [], ◌∷◌, Some, Result, Ok, Err}
 use Rattle.txc_tags.specs.Keys.{Call}
 use Rattle.txc_db.specs.Calls.{IsPinRefused, IsQueryRefused}
@@ -16,8 +17,10 @@ use Rattle.txc_ports.specs.declared.turn.Turn.{Turn}
 use Rattle.txc_ports.specs.declared.turn.Turn.TheVariants.{Ask, Value, Refused}
 use Rattle.txc_ports.specs.Asking.{IsOfRow, IsReplyTo}
 use Rattle.txc_txn.specs.Core.{open_call, IsAsk, IsTurn}
-use Rattle.txc_txn.specs.Kept.{TxnValue, HasGoneOn}
+use Rattle.txc_txn.specs.Kept.{HasGoneOn}
 use Rattle.txc_txn.specs.Leading.{StartLeads}
+use Rattle.txc_client.specs.Ports.{PassesAfter}
+use Rattle.txc_client.specs.Txn.{RoTxnValue}
 
 -- what the database or the pincushion refuses, some database or some pincushion of the row refuses so
 abbrev pub IsRefusedSo : List ℕ → PortRequest → PortReply → Type 0
@@ -35,36 +38,42 @@ pub record IsGiven (next : Next) (row : List ℕ) (request : PortRequest) (reply
   pub of_row : IsOfRow row reply
   pub refused : IsRefusedSo row request reply
 
--- the call has begun, with this turn
-pub record HasBegun (old : TxnValue) (k : Call) (new : TxnValue) (turn : Turn) : Type 0 where
-  pub turn_fits : IsTurn new.core turn
-  pub leads : StartLeads old.core old.objects k turn
-  pub begins : IsAsk turn → open_call new.core ≡ Some k
-  pub functions : numbers_of new.objects ≡ numbers_of old.objects
-  pub same : new.core ≡ record old.core { call = new.core.call; pinning = new.core.pinning }
+-- the call has begun, with this turn, and no pass was used
+pub record HasBegun (old : RoTxnValue) (k : Call) (new : RoTxnValue) (turn : Turn) : Type 0 where
+  pub turn_fits : IsTurn new.txn.core turn
+  pub leads : StartLeads old.txn.core old.txn.objects k new.txn.core new.txn.objects turn
+  pub begins : IsAsk turn → open_call new.txn.core ≡ Some k
+  pub functions : numbers_of new.txn.objects ≡ numbers_of old.txn.objects
+  pub same : new.txn.core ≡ record old.txn.core { call = new.txn.core.call; pinning = new.txn.core.pinning }
+  pub passes : new.passes ≡ old.passes
 
--- the turn asks, and the reply to what it asks leads on to the next turn
-pub record IsStep (next : Next) (row : List ℕ) (old : TxnValue) (asking : Turn) (reply : PortReply)
-    (new : TxnValue) (turn : Turn) : Type 0 where
+-- a request of a call, and the reply to it
+pub record Exchange : Type 0 where
   pub request : PortRequest
-  pub asks : asking ≡ Ask request
-  pub given : IsGiven next row request reply
-  pub goes_on : HasGoneOn next old reply new turn
+  pub reply : PortReply
 
--- the replies lead on, one after the other, to the last turn
-abbrev pub IsLed : Next → List ℕ → TxnValue → Turn → List PortReply → TxnValue → Turn → Type 0
-IsLed next row old asking [] new turn = (new ≡ old) × (turn ≡ asking)
-IsLed next row old asking (reply ∷ replies) new turn = (after : TxnValue) × (then : Turn)
-    × IsStep next row old asking reply after then × IsLed next row after then replies new turn
+-- the turn asks, the request leaves the passes so, and the reply to it leads on to the next turn
+pub record IsStep (next : Next) (row : List ℕ) (node_rows : ℕ → List ℕ) (old : RoTxnValue) (asking : Turn)
+    (x : Exchange) (new : RoTxnValue) (turn : Turn) : Type 0 where
+  pub asks : asking ≡ Ask x.request
+  pub given : IsGiven next row x.request x.reply
+  pub passes : PassesAfter node_rows old.passes x.request x.reply new.passes
+  pub goes_on : HasGoneOn next old.txn x.reply new.txn turn
 
--- the call of a transaction ran from its beginning, by such replies, to this turn
-pub record HasRun (next : Next) (row : List ℕ) (old : TxnValue) (k : Call) (new : TxnValue)
-    (turn : Turn) : Type 0 where
-  pub first : TxnValue
+-- the exchanges lead on, one after the other, to the last turn
+abbrev pub IsLed : Next → List ℕ → (ℕ → List ℕ) → RoTxnValue → Turn → List Exchange → RoTxnValue → Turn → Type 0
+IsLed next row node_rows old asking [] new turn = (new ≡ old) × (turn ≡ asking)
+IsLed next row node_rows old asking (x ∷ exchanges) new turn = (after : RoTxnValue) × (then : Turn)
+    × IsStep next row node_rows old asking x after then × IsLed next row node_rows after then exchanges new turn
+
+-- the call of a transaction ran from its beginning, by such exchanges, to this turn
+pub record HasRun (next : Next) (row : List ℕ) (node_rows : ℕ → List ℕ) (old : RoTxnValue) (k : Call)
+    (new : RoTxnValue) (turn : Turn) : Type 0 where
+  pub first : RoTxnValue
   pub first_turn : Turn
-  pub replies : List PortReply
+  pub exchanges : List Exchange
   pub begun : HasBegun old k first first_turn
-  pub led : IsLed next row first first_turn replies new turn
+  pub led : IsLed next row node_rows first first_turn exchanges new turn
 
 -- the turn that ends a call with this result
 abbrev pub turn_of : Result (List ℕ) TxnError → Turn

@@ -79,8 +79,8 @@ impl<'a, A: App, C: Cacheable, J: Naming> Client<'a, A, C, J> {
         })
     }
 
-    /// Begins a transaction with the newest of the pins that its bounds allow, and the present. Out of
-    /// memory, it returns the client.
+    /// Begins a transaction with the newest of the pins that its bounds allow, and the present. It is to give
+    /// each of these pins back. Out of memory, they are given back at once, and the client is returned.
     pub fn begin_ro(
         self,
         rt: &impl Wait,
@@ -92,6 +92,8 @@ impl<'a, A: App, C: Cacheable, J: Naming> Client<'a, A, C, J> {
         ensures meant { IfOk result (λ txn. IsKept A.next txn.txn) }
         ensures members { IfOk result (MayAnswer J.database_row (λ c txn. (txn.txn.core.seen ≡ front_of c)
             × (txn.txn.core.pins.members ≡ handed_out c bounds.now bounds.staleness bounds.at_least))) }
+        ensures taken { IfOk result (λ txn. txn.txn.core.taken
+            ≡ map (λ pin. pin.stamp) txn.txn.core.pins.members) }
         ensures present { IfOk result (λ txn. txn.txn.core.pins.has_present ≡ true) }
         ensures row { IfOk result (λ txn. txn.txn.core.seen.events ≡ J.database_row) }
         ensures client { IfOk result (λ txn. client_of txn ≡ self.entry) }
@@ -160,6 +162,8 @@ fn begun<J: Naming>(
     ensures recorded { IfOk result (λ core. (value_of core).recorded ≡ []) }
     ensures members { IfOk result (MayAnswer J.database_row (λ c core. ((value_of core).seen ≡ front_of c)
         × ((value_of core).pins.members ≡ handed_out c bounds.now bounds.staleness bounds.at_least))) }
+    ensures taken { IfOk result (λ core. (value_of core).taken
+        ≡ map (λ pin. pin.stamp) (value_of core).pins.members) }
     ensures present { IfOk result (λ core. (value_of core).pins.has_present ≡ true) }
 {
     let Bounds {

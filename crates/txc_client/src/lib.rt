@@ -7,6 +7,7 @@
 mod calling;
 mod client;
 mod finding;
+pub mod laws;
 mod ports;
 mod ro_txn;
 

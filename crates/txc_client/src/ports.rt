@@ -40,7 +40,7 @@ impl<'a, A: App, J: Naming> Model for Ports<'a, A, J> {
 impl<'a, A: App, J: Naming> Ports<'a, A, J> {
     ghost use Rattle.txc_shared.specs.Claims.{IsTrueIn};
     ghost use Rattle.txc_shared.specs.Nodes.{entry_shown};
-    ghost use Rattle.txc_client.specs.Ports.{HaveGrown};
+    ghost use Rattle.txc_client.specs.Ports.{HaveGrown, InsertLeaves, IsCallAt, LookupLeaves, PassesAfter};
     ghost use Rattle.txc_client.specs.Run.{IsRefusedSo};
     ghost use Rattle.txc_ports.specs.Asking.{IsOfRow, IsReplyTo, MayAsk};
 
@@ -98,13 +98,15 @@ impl<'a, A: App, J: Naming> Ports<'a, A, J> {
             IsTrueIn A.next hit.front.history (entry_shown key.now hit.answer)) }
         ensures row { IfSome result (λ hit. hit.front.events ≡ J.database_row) }
         ensures passes { HaveGrown self.old self.new }
+        ensures left { IsCallAt node (LookupLeaves J.node_rows key.now lo hi result) self.old self.new }
     {
         let nodes = self.nodes;
         let pass = &mut self.passes[node];
-        let Ok(Some(finding)) = pass.lookup(rt, alloc, &nodes[node], key, lo, hi) else {
-            return None;
-        };
-        Some(shown_by(finding))
+        match pass.lookup(rt, alloc, &nodes[node], key, lo, hi) {
+            Ok(Some(finding)) => Some(shown_by(finding)),
+            Ok(None) => None,
+            Err(_) => None,
+        }
     }
 
     // Gives the node an entry to keep. A node that refuses keeps nothing.
@@ -119,7 +121,8 @@ impl<'a, A: App, J: Naming> Ports<'a, A, J> {
         requires node { node < length self.old }
         requires row { seen.now.events ≡ J.database_row }
         requires is_true { IsTrueIn A.next seen.now.history entry }
-        ensures { HaveGrown self.old self.new }
+        ensures passes { HaveGrown self.old self.new }
+        ensures left { IsCallAt node (InsertLeaves J.node_rows entry) self.old self.new }
     {
         let Ok(front) = seen.again(alloc) else {
             return;
@@ -144,6 +147,7 @@ impl<'a, A: App, J: Naming> Ports<'a, A, J> {
         ensures row { IsOfRow J.database_row result }
         ensures refused { IsRefusedSo J.database_row request result }
         ensures passes { HaveGrown self.old self.new }
+        ensures left { PassesAfter J.node_rows self.old request result self.new }
     {
         match request {
             PortRequest::Pin { now, at_least } => PortReply::Pin(

@@ -1,16 +1,42 @@
 -- What a call of the shared database answers, by its numbers and by the front beside its answer.
-use Rattle.std.specs.Prelude.{◌≡◌, ◌≢◌, ℕ, ◌+◌, ◌≤◌, List, [], length, Some}
+use Rattle.std.specs.Prelude.{◌≡◌, ◌≢◌, ℕ, ◌+◌, ◌≤◌, false, List, [], length, Some}
 use Rattle.txc_tags.specs.declared.tag.Tag.{Tag}
 use Rattle.txc_rows.specs.declared.query.Change.{Change}
+use Rattle.txc_rows.specs.declared.query.Query.{Query}
+use Rattle.txc_rows.specs.declared.store_error.TheConstants.{MAX_MATCHING}
 use Rattle.txc_rows.specs.Net.{net_changes}
+use Rattle.txc_validity.specs.declared.answer.Found.{Found}
+use Rattle.txc_validity.specs.Answers.{IsAnswer}
 use Rattle.txc_db.specs.declared.error.DbError.TheVariants.{Conflict, Memory}
 use Rattle.txc_db.specs.declared.answered.Answered.{Answered}
 use Rattle.txc_db.specs.declared.answered.CommitError.{CommitError}
 use Rattle.txc_db.specs.declared.answered.CommitError.TheVariants as commits
 use Rattle.txc_db.specs.History.{History, state_at, event_at, commit_event}
-use Rattle.txc_db.specs.DatabaseValue.{DatabaseValue, front_of}
+use Rattle.txc_db.specs.DatabaseValue.{DatabaseValue, IsSound, front_of}
 use Rattle.txc_db.specs.Refusals.{NoneMatches, IsConflict}
-use Rattle.txc_db.specs.Calls.{IsBase, IsCommitRefused}
+use Rattle.txc_db.specs.Calls.{IsAnswerable, matching_of, IsBase, IsCommitRefused}
+
+-- a database of this row of events: it has no more events than the row has cells, and unless it is broken, it
+-- is sound
+pub record IsDatabaseOf (events : List ℕ) (d : DatabaseValue) : Type 0 where
+  pub named : d.events ≡ events
+  pub fits : length d.history ≤ length d.events
+  pub sound : d.broken ≡ false → IsSound d
+
+-- some database of this row of events answers so
+abbrev pub MayAnswer : {A : Type 0} → List ℕ → (DatabaseValue → A → Type 0) → A → Type 0
+MayAnswer events answers a = (d : DatabaseValue) × IsDatabaseOf events d × answers d a
+
+-- ---- answers of a query
+
+-- the front shows the whole history of the database, which can answer at the stamp; and this is the answer in
+-- that history, valid as far as the database's horizon and its newest stamp tell
+pub record IsQueryAnswer (d : DatabaseValue) (q : Query) (stamp : ℕ) (answered : Answered Found) : Type 0 where
+  pub known : IsAnswerable d stamp
+  pub few : matching_of d q ≤ MAX_MATCHING
+  pub front : answered.front ≡ front_of d
+  pub answer : let L = answered.front.history
+      in IsAnswer (state_at L) q stamp d.horizon (length L) answered.answer
 
 -- ---- answers of a commit
 
@@ -38,7 +64,7 @@ pub record IsEventIn (L : History) (base : ℕ) (read : List Tag) (changes : Lis
 
 -- some database of this row of events refuses so
 abbrev pub MayRefuse : {E : Type 0} → List ℕ → (DatabaseValue → E → Type 0) → E → Type 0
-MayRefuse events refused e = (d : DatabaseValue) × (d.events ≡ events) × refused d e
+MayRefuse events refused e = MayAnswer events refused e
 
 -- the first event after the base that matches what was read, and a front of the whole history in which it is
 pub record IsConflictShown (d : DatabaseValue) (base : ℕ) (read : List Tag) (conflict : Answered ℕ)

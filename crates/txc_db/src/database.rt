@@ -1,11 +1,10 @@
 //! The database under its lock: each call answers with a front that proves what it says.
-ghost use Rattle.std.specs.Prelude.{◌≡◌, ◌+◌, ◌≤◌, ◌⊎◌, ◌∷◌, [], ℕ, length, Some, IfOk, IfErr};
+ghost use Rattle.std.specs.Prelude.{◌≡◌, ◌+◌, ◌≤◌, ◌⊎◌, ◌∷◌, [], length, Some, IfOk, IfErr};
 ghost use Rattle.std.specs.Arc.{arc_value};
 ghost use Rattle.txc_rows.specs.RowTags.{query_tag};
-ghost use Rattle.txc_validity.specs.Answers.{IsAnswer};
-ghost use Rattle.txc_db.specs.History.{state_at, event_at, pin_event};
+ghost use Rattle.txc_db.specs.History.{event_at, pin_event};
 ghost use Rattle.txc_db.specs.Calls.{IsHoldRefused, IsUnpinRefused, IsVacuumRefused, IsQueryRefused, IsPinRefused};
-ghost use Rattle.txc_db.specs.Shared.{IsQuietIn, IsEventIn, MayRefuse, IsSharedCommitRefused};
+ghost use Rattle.txc_db.specs.Shared.{MayAnswer, IsQueryAnswer, IsQuietIn, IsEventIn, MayRefuse, IsSharedCommitRefused};
 
 use crate::answered::{Answered, CommitError};
 use crate::db_core::DbCore;
@@ -67,8 +66,8 @@ impl<J: Naming> Database<J> {
         stamp: Stamp,
     ) -> Result<Answered<Found>, DbError>
         ensures named { IfOk result (λ answered. answered.front.events ≡ J.database_row) }
-        ensures answer { IfOk result (λ answered. (horizon : ℕ) × (let L = answered.front.history
-            in IsAnswer (state_at L) query.now stamp horizon (length L) answered.answer)) }
+        ensures answer { IfOk result
+            (MayAnswer J.database_row (λ d. IsQueryAnswer d query.now stamp)) }
         ensures tag { IfOk result (λ answered. answered.answer.tags ≡ query_tag query.now ∷ []) }
         ensures refused { IfErr result (MayRefuse J.database_row (λ d. IsQueryRefused d query.now stamp)) }
     {

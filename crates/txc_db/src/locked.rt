@@ -9,7 +9,7 @@ ghost use Rattle.txc_db.specs.Seen.{last_mark};
 ghost use Rattle.txc_db.specs.DatabaseValue.{DatabaseValue, front_of, after_hold, after_unpin, after_vacuum, after_pin, after_commit, newest, next_horizon, is_held};
 ghost use Rattle.txc_db.specs.Calls.{IsHoldable, IsHoldRefused, IsUnpinRefused, IsVacuumRefused, IsAnswerable, matching_of, IsQueryRefused, IsPinnable, IsPinRefused, IsCommittable};
 ghost use Rattle.txc_rows.specs.declared.store_error.TheConstants.{MAX_MATCHING};
-ghost use Rattle.txc_db.specs.Shared.{IsSharedCommitRefused};
+ghost use Rattle.txc_db.specs.Shared.{IsDatabaseOf, IsSharedCommitRefused};
 ghost use Rattle.txc_db.specs.Locked.{IsLockedLeft, IsCommitLeft, IsRefusalWith};
 
 use crate::answered::{Answered, CommitError};
@@ -75,13 +75,21 @@ impl<J: Naming> Locked<J> {
         })
     }
 
+    // It is a database of the named row. It does nothing when it runs.
+    fn is_named(&self)
+        ensures { IsDatabaseOf J.database_row self.now }
+    {
+        self.core.is_sound();
+        let _events = self.core.history().len();
+    }
+
     pub(crate) fn query(
         &mut self,
         alloc: Global,
         query: &Query,
         stamp: Stamp,
     ) -> Result<Answered<Found>, DbError>
-        ensures named { self.old.events ≡ J.database_row }
+        ensures database { IsDatabaseOf J.database_row self.old }
         ensures same { self.new ≡ self.old }
         ensures answer { IfOk result (λ answered. IsAnswer (state_at self.old.history) query.now stamp
             self.old.horizon (newest self.old) answered.answer) }
@@ -91,13 +99,14 @@ impl<J: Naming> Locked<J> {
         ensures few { IsOk result → matching_of self.old query.now ≤ MAX_MATCHING }
         ensures refused { IfErr result (IsQueryRefused self.old query.now stamp) }
     {
+        self.is_named();
         let answer = self.core.query(alloc, query, stamp)?;
         let front = self.core.front(alloc)?;
         Ok(Answered { answer, front })
     }
 
     pub(crate) fn hold(&mut self, alloc: Global) -> Result<Answered<Stamp>, DbError>
-        ensures named { self.old.events ≡ J.database_row }
+        ensures database { IsDatabaseOf J.database_row self.old }
         ensures after { OnOk result (self.new ≡ after_hold self.old) }
         ensures answer { IfOk result (λ answered. answered.answer ≡ newest self.old) }
         ensures front { IfOk result (λ answered. answered.front ≡ front_of self.new) }
@@ -108,6 +117,7 @@ impl<J: Naming> Locked<J> {
         ensures full { self.old.broken ≡ false → MAX_HOLDS ≤ length self.old.holds
             → result ≡ Err DbError.HoldsFull }
     {
+        self.is_named();
         self.core.check_hold()?;
         let front = self.core.front(alloc)?;
         let answer = self.core.hold(alloc)?;
@@ -115,22 +125,24 @@ impl<J: Naming> Locked<J> {
     }
 
     pub(crate) fn unpin(&mut self, stamp: Stamp) -> Result<(), DbError>
-        ensures named { self.old.events ≡ J.database_row }
+        ensures database { IsDatabaseOf J.database_row self.old }
         ensures after { OnOk result (self.new ≡ after_unpin self.old stamp) }
         ensures only_if { IsOk result → is_held stamp self.old.holds ≡ true }
         ensures unchanged { OnErr result (self.new ≡ self.old) }
         ensures refused { IfErr result (IsUnpinRefused self.old stamp) }
     {
+        self.is_named();
         self.core.unpin(stamp)
     }
 
     pub(crate) fn vacuum(&mut self) -> Result<Stamp, DbError>
-        ensures named { self.old.events ≡ J.database_row }
+        ensures database { IsDatabaseOf J.database_row self.old }
         ensures after { OnOk result (self.new ≡ after_vacuum self.old) }
         ensures answer { IfOk result (λ horizon. horizon ≡ next_horizon self.old) }
         ensures unchanged { OnErr result (self.new ≡ self.old) }
         ensures refused { IfErr result (IsVacuumRefused self.old) }
     {
+        self.is_named();
         self.core.vacuum()
     }
 
@@ -140,7 +152,7 @@ impl<J: Naming> Locked<J> {
         now: u64,
         at_least: Stamp,
     ) -> Result<Pinned, DbError>
-        ensures named { self.old.events ≡ J.database_row }
+        ensures database { IsDatabaseOf J.database_row self.old }
         ensures after { OnOk result (self.new ≡ after_pin self.old now) }
         ensures answer { IfOk result (λ pinned. pinned.stamp ≡ newest self.new) }
         ensures moment { IfOk result (λ pinned. pinned.moment ≡ now) }
@@ -149,6 +161,7 @@ impl<J: Naming> Locked<J> {
         ensures unchanged { IfErr result (IsLockedLeft self.old self.new) }
         ensures refused { IfErr result (IsPinRefused self.old at_least) }
     {
+        self.is_named();
         self.core.check_pin(at_least)?;
         let mark = self.mark(alloc)?;
         let pinned = self.core.pin(alloc, now, at_least)?;
@@ -166,7 +179,7 @@ impl<J: Naming> Locked<J> {
         read: &TagSet,
         changes: &[Change],
     ) -> Result<Answered<Stamp>, CommitError>
-        ensures named { self.old.events ≡ J.database_row }
+        ensures database { IsDatabaseOf J.database_row self.old }
         ensures after { OnOk result (self.new ≡ after_commit self.old changes.now) }
         ensures answer { IfOk result (λ answered. answered.answer ≡ newest self.new) }
         ensures front { IfOk result (λ answered. answered.front ≡ front_of self.new) }
@@ -174,6 +187,7 @@ impl<J: Naming> Locked<J> {
         ensures unchanged { IfErr result (IsCommitLeft self.old self.new) }
         ensures refused { IfErr result (IsSharedCommitRefused self.old base read.now changes.now) }
     {
+        self.is_named();
         let newest = self.core.check_base(base)?;
         let mut front = self.core.front(alloc)?;
         let mark = self.mark(alloc)?;

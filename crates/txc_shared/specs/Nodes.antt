@@ -89,6 +89,11 @@ next_stamp n = n.cache.processed + 1
 abbrev pub next_event : NodeValue → Op
 next_event n = Event (next_stamp n) (tags_at n.seen.history (next_stamp n))
 
+-- it took each event that it has seen, and each of the history that it is shown
+pub record HasTakenAll (n : NodeValue) (shown : History) : Type 0 where
+  pub of_its_own : length n.seen.history ≤ n.cache.processed
+  pub of_the_shown : length shown ≤ n.cache.processed
+
 -- It took the next event that it has seen, which closed so many entries; or it has taken all.
 abbrev pub HasAdvanced : NodeValue → ℕ → NodeValue → Advanced → Type 0
 HasAdvanced n pass new (Taken stamp closed) =

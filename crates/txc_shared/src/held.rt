@@ -1,5 +1,5 @@
 //! What is done to a node under its lock.
-ghost use Rattle.std.specs.Prelude.{◌≡◌, ◌+◌, ◌⊎◌, ◌↔◌, [], true, false, length, Some, None, Ok, Err, IfOk, OnOk, OnErr, IfErr, IfSome};
+ghost use Rattle.std.specs.Prelude.{◌≡◌, ◌+◌, ◌<◌, ◌⊎◌, ◌↔◌, [], true, false, length, Some, None, Ok, Err, IfOk, OnOk, OnErr, IfErr, IfSome};
 ghost use Rattle.std.specs.Option.{option_map};
 ghost use mathlib.Core.List.{IsPrefix};
 ghost use Rattle.txc_node.specs.declared.op.Op.TheVariants.{Lookup, Insert, Sweep};
@@ -15,6 +15,7 @@ use crate::error::NodeError;
 use crate::finding::Finding;
 use crate::insertion::Insertion;
 use crate::laws::legal_histories;
+use crate::log::MAX_PASSES;
 use crate::node_front::NodeFront;
 use crate::node_pass::NodePass;
 use crate::settings::NodeSettings;
@@ -133,6 +134,7 @@ impl<A: App, J: Naming> Held<A, J> {
           history = self.old.seen.history;
         }) }
         ensures after { OnOk result (self.new ≡ record self.old { passes = self.old.passes + 1 }) }
+        ensures only_if { OnOk result (self.old.passes < MAX_PASSES) }
         ensures left { IfErr result (IsLeft self.old self.new) }
         ensures refused { IfErr result (IsNewPassRefused settings self.old) }
     {

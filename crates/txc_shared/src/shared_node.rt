@@ -1,5 +1,5 @@
 //! The node under its lock, and the steps of passes through it.
-ghost use Rattle.std.specs.Prelude.{◌≡◌, ◌≤◌, [], Ok, Err, IfOk, OnOk, IfErr, IfSome};
+ghost use Rattle.std.specs.Prelude.{◌≡◌, ◌<◌, ◌≤◌, [], Ok, Err, IfOk, OnOk, IfErr, IfSome};
 ghost use Rattle.std.specs.Option.{option_map};
 ghost use Rattle.std.specs.Arc.{arc_value};
 ghost use mathlib.Core.List.{IsPrefix};
@@ -16,6 +16,7 @@ use crate::error::NodeError;
 use crate::finding::Finding;
 use crate::held::Held;
 use crate::insertion::Insertion;
+use crate::log::MAX_PASSES;
 use crate::node_pass::NodePass;
 use crate::settings::NodeSettings;
 use crate::stored_node::StoredNode;
@@ -76,9 +77,10 @@ impl<A: App, J: Naming> SharedNode<A, J> {
         })
     }
 
-    /// A pass of its own for a caller, which has seen no record. At most [`crate::MAX_PASSES`] are given.
+    /// A pass of its own for a caller, which has seen no record. At most [`MAX_PASSES`] are given.
     pub fn pass(&self, rt: &impl Wait, alloc: Global) -> Result<NodePass<J>, NodeError>
         ensures settings { IfOk result (λ pass. pass.settings ≡ self.now) }
+        ensures number { IfOk result (λ pass. pass.pass < MAX_PASSES) }
         ensures records { IfOk result (λ pass. pass.records ≡ []) }
         ensures refused { IfErr result (MayRefuse J.node_rows (IsNewPassRefused self.now)) }
     {

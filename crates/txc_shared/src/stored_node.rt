@@ -1,10 +1,10 @@
 //! The node for one thread, which its lock holds too.
-ghost use Rattle.std.specs.Prelude.{◌≡◌, ◌+◌, ◌<◌, ◌≤◌, ◌⊎◌, ◌↔◌, ◌++◌, ◌∷◌, [], true, false, length, Some, None, Err, IsOk, IfOk, OnOk, OnErr, IfErr, IfSome, IsTrue};
+ghost use Rattle.std.specs.Prelude.{◌≡◌, ◌+◌, ◌<◌, ◌≤◌, ◌⊎◌, ◌↔◌, ◌++◌, ◌∷◌, [], true, false, length, Some, None, Ok, Err, IsOk, IfOk, OnOk, OnErr, IfErr, IfSome, IsTrue};
 ghost use Rattle.std.specs.Option.{option_map};
 ghost use Rattle.txc_node.specs.Cache.{answer, outcome, swept_count};
 ghost use Rattle.txc_node.specs.Steps.{found_reply};
 ghost use Rattle.txc_node.specs.declared.op.Op.TheVariants.{Insert, Lookup, Sweep};
-ghost use Rattle.txc_shared.specs.Nodes.{NodeValue, start_of, after_call, seeing, IsLonger, HasTags, entry_shown, insertion_of, HasAdvanced};
+ghost use Rattle.txc_shared.specs.Nodes.{NodeValue, start_of, after_call, seeing, IsLonger, HasTags, entry_shown, insertion_of, HasAdvanced, HasTakenAll};
 ghost use Rattle.txc_shared.specs.Histories.{records_of};
 ghost use Rattle.txc_shared.specs.Runs.{IsNode};
 ghost use Rattle.txc_shared.specs.Refusals.{IsOpen, IsStepRefused, IsLookupRefused, IsPassRefused, IsLeft};
@@ -360,6 +360,8 @@ impl<A: App> StoredNode<A> {
         ensures only_if { OnOk result (self.old.broken ≡ false) }
         ensures left { IfErr result (IsLeft self.old self.new) }
         ensures refused { IfErr result (IsStepRefused self.old) }
+        ensures idle { self.old.broken ≡ false → HasTakenAll self.old front.now.history
+            → result ≡ Ok Advanced.Idle }
     {
         states_stay();
         nodes_go_on();

@@ -1,7 +1,6 @@
 //! How a crate calls a shared database: the callers that docs/CALLING.md shows.
-ghost use Rattle.std.specs.Prelude.{ℕ, ◌≡◌, length, IfOk};
-ghost use Rattle.txc_validity.specs.Answers.{IsAnswer};
-ghost use Rattle.txc_db.specs.History.{state_at};
+ghost use Rattle.std.specs.Prelude.{◌≡◌, IfOk};
+ghost use Rattle.txc_db.specs.Shared.{MayAnswer, IsQueryAnswer};
 
 use std::alloc::Global;
 use std::marker::Brand;
@@ -20,8 +19,8 @@ fn read_now<J: Naming>(
     database: &Database<J>,
     query: &Query,
 ) -> Result<(Stamp, Answered<Found>), DbError>
-    ensures { IfOk result (λ read. (horizon : ℕ) × (let L = read.1.front.history
-        in IsAnswer (state_at L) query.now read.0 horizon (length L) read.1.answer)) }
+    ensures { IfOk result (λ read.
+        MayAnswer J.database_row (λ d. IsQueryAnswer d query.now read.0) read.1) }
 {
     let held = database.hold(rt, alloc)?;
     let found = database.query(rt, alloc, query, held.answer);

@@ -1,5 +1,5 @@
 -- What is true of a core, step by step.
-use Rattle.std.proofs.Common.{◌≡◌, ◌≢◌, ℕ, zero, suc, ◌<◌, ◌≤◌, true, length, List, [], ◌∷◌, ◌++◌, Option, Some, None, Ok, Err, map, refl, sym, ap, subst, ◌∙◌, arith, All, Contains}
+use Rattle.std.proofs.Common.{◌≡◌, ◌≢◌, ℕ, zero, suc, ◌<◌, ◌≤◌, true, false, length, List, [], ◌∷◌, ◌++◌, Option, Some, None, Ok, Err, map, refl, sym, ap, subst, ◌∙◌, arith, All, Contains}
 use Rattle.std.specs.List.{slice_index_or}
 use Rattle.std.proofs.lemmas.List.Elements.{All-nil, All-cons, All-head, All-weaker, Contains-append_left, Contains-append_right, Contains-push, Contains-get_or}
 use Rattle.txc_stamp.specs.Interval.{Interval, Holds}
@@ -35,9 +35,10 @@ use Rattle.txc_txn.specs.declared.pinning.PinStep.TheVariants.{Asked, Adding, Dr
 use Rattle.txc_txn.specs.declared.pinning.PinStep.{PinStep}
 use Rattle.txc_ports.specs.Answers.{IsFresh, AreConsistent}
 use Rattle.txc_txn.specs.Meaning.{IsMeant, LieWithin}
-use Rattle.txc_txn.specs.Core.{CoreValue, CoreHolds, IsCore, IsFreshPinning, IsFreshStep, IsRight, PinningFits, Explains, begun_core, least_present, receipt_pin}
-use Rattle.txc_txn.specs.Leading.{NeedLeads, ReplyLeads, StandingLeads}
+use Rattle.txc_txn.specs.Core.{CoreValue, CoreHolds, IsCore, IsFreshPinning, IsFreshStep, IsRight, PinningFits, Explains, begun_core, first_call, least_present, receipt_pin}
+use Rattle.txc_txn.specs.Leading.{NeedLeads, PinLeads, ReplyLeads, StandingLeads, StandsStill}
 use Rattle.std.specs.Option.{ForSome}
+use Rattle.std.specs.Prelude.{IsNone, IsSome}
 use Rattle.txc_ports.specs.Fronts.{front_of}
 use Rattle.txc_txn.proofs.Longer.{fresh_later, right_later}
 use Rattle.txc_txn.proofs.Meanings.{meaning_stays, fewer_members_mean_the_same, in_unreached, kept_all, no_frames_unreached, no_frames_within, present_joins, value_is_recorded, call_begins, call_goes_on}
@@ -210,6 +211,10 @@ module _ (next : Next) (objects : Objects) (c : CoreValue) (reach : Option Inter
 
 -- ---- a call begins
 
+-- what is there is not absent
+pub not_absent : {X : Type 0} (o : Option X) → IsSome o → IsNone o → ⊥
+not_absent o some none = let no : true ≡ false = sym some ∙ none in cc no
+
 pub holds_begun : (next : Next) (L : History) (objects : Objects) (c : CoreValue) (k : Call) (call' : Calling) → call' ≡ record { top = k; asked = 0; frames = []; need = Some (needs.Lookup k) }
     → CoreHolds next L objects c → CoreHolds next L objects (record c { call = call' })
 holds_begun next L objects c k call' is h = record {
@@ -300,13 +305,26 @@ need_stands old new objects objects' (turns.Rows rows) h = absurd h
 need_stands old new objects objects' (turns.At stamp) h = absurd h
 need_stands old new objects objects' (turns.Refused error) h = h
 
--- what comes of a reply does not depend on what was seen of the history
+-- what comes of a pin does not depend on what was seen of the history
+still_seen : (c : CoreValue) (seen : FrontValue) (objects : Objects) (new : CoreValue) (objects' : Objects)
+    → StandsStill (record c { seen = seen }) objects new objects' → StandsStill c objects new objects'
+still_seen c seen objects new objects' h = record { same_call = h.same_call; same_objects = h.same_objects; none = h.none }
+
+pin_seen : (c : CoreValue) (seen : FrontValue) (objects : Objects) (first : Option Call) (new : CoreValue) (objects' : Objects) (turn : Turn)
+    → PinLeads first (record c { seen = seen }) objects new objects' turn → PinLeads first c objects new objects' turn
+pin_seen c seen objects None new objects' turn h = (still_seen c seen objects new objects' h.0, h.1)
+pin_seen c seen objects (Some k) new objects' turn h = record {
+  there = h.there;
+  absent = λ none. (still_seen c seen objects new objects' (h.absent none).0, (h.absent none).1);
+}
+
+-- nor does what comes of any reply
 pub leads_seen : (next : Next) (c : CoreValue) (seen : FrontValue) (objects : Objects) (reply : PortReply) (new : CoreValue) (objects' : Objects) (turn : Turn)
     → ReplyLeads next (record c { seen = seen }) objects reply new objects' turn → ReplyLeads next c objects reply new objects' turn
 leads_seen next c seen objects (ports.Fresh pins) new objects' turn h = h
 leads_seen next c seen objects (ports.Pin (Ok pinned)) new objects' turn h = h
 leads_seen next c seen objects (ports.Pin (Err error)) new objects' turn h = h
-leads_seen next c seen objects (ports.AddPin pinned (Ok added)) new objects' turn h = h
+leads_seen next c seen objects (ports.AddPin pinned (Ok added)) new objects' turn h = pin_seen c seen objects (first_call c.pinning) new objects' turn h
 leads_seen next c seen objects (ports.AddPin pinned (Err error)) new objects' turn h = h
 leads_seen next c seen objects ports.Unpin new objects' turn h = h
 leads_seen next c seen objects (ports.Lookup None) new objects' turn h = h

@@ -1,5 +1,5 @@
 -- The steps of the meaning of a pin set.
-use Rattle.std.proofs.Common.{◌≡◌, ℕ, zero, suc, true, slice_get, take, append-nil, append_assoc, List, [], ◌∷◌, ◌++◌, Option, Some, None, refl, sym, ap, subst, ◌∙◌, arith, All, Contains}
+use Rattle.std.proofs.Common.{◌≡◌, ℕ, suc, true, slice_get, take, append-nil, append_assoc, List, [], ◌∷◌, ◌++◌, Option, Some, None, refl, sym, ap, subst, ◌∙◌, arith, All, Contains}
 use Rattle.std.proofs.lemmas.List.Elements.{All-cons, All-push, All-weaker, All-contains, All-nil, All-head, Contains-get_or}
 use Rattle.txc_stamp.specs.Interval.{Interval, Holds}
 use Rattle.txc_tags.specs.Keys.{Call}

@@ -1,20 +1,16 @@
 -- What a running transaction asks, at the ports: it may be asked, and a reply to it answers the core, and is
 -- right in the history that it shows.
-use Rattle.std.proofs.Common.{◌≡◌, ◌≢◌, ℕ, ◌+◌, ◌<◌, ◌≤◌, Bool, true, false, List, [], ◌∷◌, length, Option, Some, None, Ok, Err, refl, sym, ap, subst, ◌∙◌, arith}
+use Rattle.std.proofs.Common.{◌≡◌, ℕ, ◌+◌, ◌<◌, ◌≤◌, Bool, true, false, List, [], ◌∷◌, Option, Some, None, Ok, Err, refl, sym, subst, ◌∙◌}
 use Rattle.std.proofs.lemmas.Nat.{mod_below}
 use Rattle.std.specs.Prelude.{◌&&◌, sum}
-use Rattle.std.specs.Option.{ForSome}
 use Rattle.txc_stamp.specs.Interval.{Interval, Holds}
 use Rattle.txc_tags.specs.Keys.{Call, node_of}
-use Rattle.txc_rows.specs.declared.query.Query.{Query}
-use Rattle.txc_node.specs.declared.entry.Entry.{Entry}
-use Rattle.txc_db.specs.History.{History, moment_at}
+use Rattle.txc_db.specs.History.{moment_at}
 use Rattle.txc_db.specs.Seen.{FrontValue}
 use Rattle.txc_cushion.specs.declared.pin.Pin.{Pin}
 use Rattle.txc_cushion.specs.Pinning.{is_older}
-use Rattle.txc_pinset.specs.declared.choice.Choice.{Choice}
 use Rattle.txc_pinset.specs.declared.choice.Choice.TheVariants.{Present, At}
-use Rattle.txc_pinset.specs.Members.{PinSetValue, choice_among, choice_of}
+use Rattle.txc_pinset.specs.Members.{choice_among}
 use Rattle.txc_shared.specs.Eval.{Next}
 use Rattle.txc_call.specs.declared.need.Need.{Need}
 use Rattle.txc_call.specs.declared.need.Need.TheVariants as needs
@@ -26,11 +22,10 @@ use Rattle.txc_ports.specs.declared.reply.PortReply.{PortReply}
 use Rattle.txc_ports.specs.declared.reply.PortReply.TheVariants as replies
 use Rattle.txc_ports.specs.declared.turn.Turn.{Turn}
 use Rattle.txc_ports.specs.declared.turn.Turn.TheVariants as turns
-use Rattle.txc_txn.specs.declared.pinning.PinStep.TheVariants.{Asked, Adding, Dropping}
-use Rattle.txc_txn.specs.Core.{CoreValue, AddsOnly, HoldsNewest, IsAnswered, IsAsking, IsAt, IsNeeding, IsNoAdding, least_present}
+use Rattle.txc_txn.specs.Core.{CoreValue, AddsOnly, HoldsNewest, IsAnswered, IsAsking, IsNoAdding}
 use Rattle.txc_txn.specs.Leading.{ReplyLeads}
 use Rattle.txc_txn.specs.Kept.{TxnValue, IsKept, IsShownRight}
-use Rattle.txc_ports.specs.Asking.{IsFoundOver, IsOfRow, IsReplyTo, MayAsk}
+use Rattle.txc_ports.specs.Asking.{IsOfRow, IsReplyTo, MayAsk}
 
 -- ---- a pin that is to be added is of the row
 

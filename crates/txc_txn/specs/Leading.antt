@@ -16,6 +16,7 @@ use Rattle.txc_call.specs.declared.need.Need.TheVariants as needs
 use Rattle.txc_call.specs.declared.need.Outcome.{Outcome}
 use Rattle.txc_call.specs.declared.reply.Reply.{Reply}
 use Rattle.txc_call.specs.declared.reply.Reply.TheVariants as replies
+use Rattle.txc_call.specs.Calling.{started}
 use Rattle.txc_call.specs.Turns.{Turn as CallTurn, AfterReply}
 use Rattle.txc_ports.specs.declared.error.TxnError.{TxnError}
 use Rattle.txc_ports.specs.declared.error.TxnError.TheVariants as errors
@@ -25,7 +26,7 @@ use Rattle.txc_ports.specs.declared.reply.PortReply.TheVariants as ports
 use Rattle.txc_ports.specs.declared.turn.Turn.{Turn}
 use Rattle.txc_ports.specs.declared.turn.Turn.TheVariants.{Ask, Value, Refused}
 use Rattle.txc_ports.specs.Refusals.{refused_call, refused_request, refused_pin}
-use Rattle.txc_txn.specs.declared.pinning.PinStep.TheVariants.{Dropping}
+use Rattle.txc_txn.specs.declared.pinning.PinStep.TheVariants.{Asked, Dropping}
 use Rattle.txc_txn.specs.Core.{CoreValue, IsAsk, IsAt, first_call, least_present}
 
 -- ---- the call goes on
@@ -68,15 +69,41 @@ CallLeads next old objects need reply new objects' turn =
 
 -- ---- a call begins
 
--- it is refused where there is no such function, and nowhere else
-pub record BeginLeads (objects : Objects) (k : Call) (turn : Turn) : Type 0 where
-  pub there : IsSome (activity_of objects k.function) → IsAsk turn
-  pub absent : IsNone (activity_of objects k.function) → turn ≡ Refused (errors.Call (NoFunction k.function))
+-- the turn asks what a node has of the call
+abbrev pub AsksLookup : Call → Turn → Type 0
+AsksLookup k (Ask (requests.Lookup node key lo hi)) = key ≡ k
+AsksLookup k turn = ⊥
 
--- what comes of the pin of the present: the call that waited for it begins, or the open one asks its query
-abbrev pub PinLeads : Option Call → Objects → Turn → Type 0
-PinLeads (Some k) objects turn = BeginLeads objects k turn
-PinLeads None objects turn = IsAsk turn
+-- the turn asks for a pin of the present
+abbrev pub AsksPin : Turn → Type 0
+AsksPin (Ask (requests.Pin now at_least)) = Unit {0}
+AsksPin turn = ⊥
+
+-- the call of the machine and the objects stand as they were, and no pin is under way
+pub record StandsStill (old : CoreValue) (objects : Objects) (new : CoreValue) (objects' : Objects) : Type 0 where
+  pub same_call : new.call ≡ old.call
+  pub same_objects : objects' ≡ objects
+  pub none : new.pinning ≡ None
+
+-- the call stands at its start, the objects as they were, and no pin is under way
+pub record StandsAtStart (objects : Objects) (k : Call) (new : CoreValue) (objects' : Objects) : Type 0 where
+  pub call : new.call ≡ started k
+  pub same_objects : objects' ≡ objects
+  pub none : new.pinning ≡ None
+
+-- where its function is there, the call stands at its start, and is looked up first; where there is none, it is
+-- refused, and all stands still
+pub record BeginLeads (old : CoreValue) (objects : Objects) (k : Call) (new : CoreValue) (objects' : Objects)
+    (turn : Turn) : Type 0 where
+  pub there : IsSome (activity_of objects k.function) → StandsAtStart objects k new objects' × AsksLookup k turn
+  pub absent : IsNone (activity_of objects k.function) → StandsStill old objects new objects'
+      × (turn ≡ Refused (errors.Call (NoFunction k.function)))
+
+-- what comes of the pin of the present: the call that waited for it begins; or the open one stands as it did,
+-- and asks its query
+abbrev pub PinLeads : Option Call → CoreValue → Objects → CoreValue → Objects → Turn → Type 0
+PinLeads (Some k) old objects new objects' turn = BeginLeads old objects k new objects' turn
+PinLeads None old objects new objects' turn = StandsStill old objects new objects' × IsAsk turn
 
 -- ---- replies
 
@@ -95,7 +122,7 @@ abbrev pub ReplyLeads : Next → CoreValue → Objects → PortReply → CoreVal
 ReplyLeads next old objects (ports.Pin (Ok pinned)) new objects' turn = turn ≡ Ask (requests.AddPin pinned)
 ReplyLeads next old objects (ports.Pin (Err error)) new objects' turn = turn ≡ Refused (refused_request error)
 ReplyLeads next old objects (ports.AddPin pinned (Ok added)) new objects' turn =
-    PinLeads (first_call old.pinning) objects turn
+    PinLeads (first_call old.pinning) old objects new objects' turn
 ReplyLeads next old objects (ports.AddPin pinned (Err error)) new objects' turn =
     (turn ≡ Ask (requests.Unpin pinned.stamp)) × IsAt new (Dropping pinned.stamp (refused_pin error))
 ReplyLeads next old objects ports.Unpin new objects' turn =
@@ -116,7 +143,17 @@ ReplyLeads next old objects ports.Insert new objects' turn =
     → CallLeads next old objects (needs.Insert entry) replies.Inserted new objects' turn
 ReplyLeads next old objects reply new objects' turn = ⊥
 
+-- a pin of the present is asked for, after which the call is to begin; the machine and the objects stand as they
+-- were
+pub record WaitsForPresent (old : CoreValue) (objects : Objects) (k : Call) (new : CoreValue) (objects' : Objects)
+    (turn : Turn) : Type 0 where
+  pub asks : AsksPin turn
+  pub waits : new.pinning ≡ Some (record { step = Asked; first = Some k })
+  pub same_call : new.call ≡ old.call
+  pub same_objects : objects' ≡ objects
+
 -- what comes of a call that is to begin: where there is no member, a pin of the present is asked for first
-pub record StartLeads (c : CoreValue) (objects : Objects) (k : Call) (turn : Turn) : Type 0 where
-  pub pins : c.pins.members ≡ [] → IsAsk turn
-  pub begins : c.pins.members ≢ [] → BeginLeads objects k turn
+pub record StartLeads (old : CoreValue) (objects : Objects) (k : Call) (new : CoreValue) (objects' : Objects)
+    (turn : Turn) : Type 0 where
+  pub pins : old.pins.members ≡ [] → WaitsForPresent old objects k new objects' turn
+  pub begins : old.pins.members ≢ [] → BeginLeads old objects k new objects' turn

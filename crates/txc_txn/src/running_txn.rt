@@ -70,7 +70,8 @@ impl<A: App, C: Cacheable> RunningTxn<A, C> {
         ensures no_value { IsNoValue result }
         ensures no_add { IsNoAdding result }
         ensures left { left_pin self.new.core.pinning ≡ None }
-        ensures leads { StartLeads self.old.core self.old.objects key result }
+        ensures leads { StartLeads self.old.core self.old.objects key
+            self.new.core self.new.objects result }
         ensures functions { numbers_of self.new.objects ≡ numbers_of self.old.objects }
         ensures same { self.new.core
             ≡ record self.old.core { call = self.new.core.call; pinning = self.new.core.pinning } }

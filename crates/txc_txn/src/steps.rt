@@ -33,7 +33,7 @@ impl TxnCore {
     ghost use Rattle.txc_txn.specs.Core.{least_present, left_pin, open_call, recorded_after, value_of, CoreHolds};
     ghost use Rattle.txc_txn.specs.Core.{IsAsk, IsCore, IsEnd, IsIdle, IsNarrowed, IsNoAdding, IsNoValue, IsTurn};
     ghost use Rattle.txc_txn.specs.Core.{WaitsForPin};
-    ghost use Rattle.txc_txn.specs.Leading.{BeginLeads, CallLeads, IsBeyond, NeedLeads};
+    ghost use Rattle.txc_txn.specs.Leading.{AsksLookup, AsksPin, BeginLeads, CallLeads, IsBeyond, NeedLeads, StandsStill};
 
     // The least stamp that a pin of the present may have; none beyond the last stamp.
     fn least_present(&self) -> Option<Stamp>
@@ -92,6 +92,9 @@ impl TxnCore {
         ensures same_call { IsAsk result → self.new.machine ≡ self.old.machine }
         ensures same_objects { IsAsk result → registry.new ≡ registry.old }
         ensures asks { self.old.pins.members ≡ [] → IsAsk result }
+        ensures pins { IsAsk result → AsksPin result }
+        ensures waits { IsAsk result
+            → self.new.pinning ≡ Some (record { step = PinStep.Asked; first = first }) }
         ensures refused { ¬ (IsAsk result) → IsBeyond (value_of self.new)
             × (result ≡ Turn.Refused (TxnError.Database DbError.Full)) }
         ensures no_add { IsNoAdding result }
@@ -170,9 +173,12 @@ impl TxnCore {
         ensures goes_on { IsAsk result → open_call (value_of self.new) ≡ Some self.old.machine.top }
         ensures no_value { (k : Call) → self.old.machine.need ≡ Some (Need.Lookup k) → IsNoValue result }
         ensures leads { NeedLeads (value_of self.old) registry.old (value_of self.new) registry.new result }
-        ensures lookup { (k : Call) → self.old.machine.need ≡ Some (Need.Lookup k) → IsAsk result }
+        ensures lookup { (k : Call) → self.old.machine.need ≡ Some (Need.Lookup k)
+            → StandsStill (value_of self.old) registry.old (value_of self.new) registry.new
+            × AsksLookup k result }
         ensures query { (query : Query) → self.old.machine.need ≡ Some (Need.Query query)
-            → self.old.pins.has_present ≡ false → IsAsk result }
+            → self.old.pins.has_present ≡ false
+            → StandsStill (value_of self.old) registry.old (value_of self.new) registry.new × IsAsk result }
         ensures no_add { IsNoAdding result }
         ensures left { left_pin self.new.pinning ≡ None }
         ensures functions { numbers_of registry.new ≡ numbers_of registry.old }
@@ -230,7 +236,8 @@ impl TxnCore {
         ensures turn { IsTurn (value_of self.new) result }
         ensures no_value { IsNoValue result }
         ensures begins { IsAsk result → open_call (value_of self.new) ≡ Some key }
-        ensures leads { BeginLeads registry.old key result }
+        ensures leads { BeginLeads (value_of self.old) registry.old key
+            (value_of self.new) registry.new result }
         ensures no_add { IsNoAdding result }
         ensures left { left_pin self.new.pinning ≡ None }
         ensures functions { numbers_of registry.new ≡ numbers_of registry.old }

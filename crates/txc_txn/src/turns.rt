@@ -107,7 +107,8 @@ impl TxnCore {
         ensures no_value { IsNoValue result }
         ensures no_add { IsNoAdding result }
         ensures left { left_pin (value_of self.new).pinning ≡ None }
-        ensures leads { StartLeads (value_of self.old) registry.old key result }
+        ensures leads { StartLeads (value_of self.old) registry.old key
+            (value_of self.new) registry.new result }
         ensures functions { numbers_of registry.new ≡ numbers_of registry.old }
         ensures same { value_of self.new ≡ record (value_of self.old) {
           call = (value_of self.new).call;

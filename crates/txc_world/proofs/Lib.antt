@@ -18,3 +18,4 @@ pub mod Balance
 pub mod Balancing
 pub mod WritingCounts
 pub mod Giving
+pub mod Leading

@@ -12,6 +12,7 @@ use Rattle.txc_db.specs.declared.error.DbError.{DbError}
 use Rattle.txc_db.specs.History.{History, state_at}
 use Rattle.txc_shared.specs.Eval.{Next}
 use Rattle.txc_registry.specs.Objects.{Objects}
+use Rattle.txc_call.specs.Calling.{Calling}
 use Rattle.txc_call.specs.declared.need.Need.{Need}
 use Rattle.txc_call.specs.declared.need.Need.TheVariants as needs
 use Rattle.txc_ports.specs.declared.request.PortRequest.{PortRequest}
@@ -22,7 +23,7 @@ use Rattle.txc_rw.specs.declared.given.Given.TheVariants as given
 use Rattle.txc_rw.specs.Core.{answers_after, queried_after, IsAsk, IsAsked, IsIdle, IsOfCall, IsOfNeed, IsOfQuery, IsRightReply, IsRw, IsTurn, ReadingFits, RwHolds, RwValue}
 use Rattle.txc_rw.specs.Leading.{RowsLead}
 use Rattle.txc_ports.specs.Refusals.{refused_request}
-use Rattle.txc_world.specs.Writing.{FindLeadsRw}
+use Rattle.txc_world.specs.Writing.{FindLeadsRw, IsRead}
 use Rattle.txc_world.specs.declared.actor.OpenCall.{OpenCall}
 use Rattle.txc_world.specs.Told.{writing}
 use Rattle.txc_world.specs.Ports.{PortsValue}
@@ -167,3 +168,29 @@ asks_it query q stamp turns.Begun asked is = absurd asked
 asks_it query q stamp (turns.Value value) asked is = absurd asked
 asks_it query q stamp (turns.Rows rows) asked is = absurd asked
 asks_it query q stamp (turns.At at) asked is = absurd asked
+
+-- ---- what is left as it was
+
+rw_same : (b b' : ℕ) (q : List Query) (a : List Given) (c c' : List Change) (k k' : Calling) (r r' : Option Query) → b ≡ b' → c ≡ c' → k ≡ k' → r ≡ r'
+    → (let before : RwValue = record { base = b; queried = q; answers = a; changes = c; call = k; reading = r } in before)
+    ≡ record { base = b'; queried = q; answers = a; changes = c'; call = k'; reading = r' }
+rw_same b b' q a c c' k k' r r' e f g h = rw (e, f, g, h) refl
+
+-- a query of its own was asked, and has ended
+pub found_same : (old asked new : RwValue) (query : Query) → asked ≡ record old { reading = Some query }
+    → new ≡ record asked { queried = new.queried; answers = new.answers; call = new.call; reading = new.reading }
+    → new.call ≡ asked.call → new.reading ≡ None → old.reading ≡ None → new ≡ record old { queried = new.queried; answers = new.answers }
+found_same old asked new query asks same call none idle =
+    same ∙ rw_same asked.base old.base new.queried new.answers asked.changes old.changes new.call old.call new.reading old.reading
+    (ap (λ (v : RwValue). v.base) asks) (ap (λ (v : RwValue). v.changes) asks) (call ∙ ap (λ (v : RwValue). v.call) asks) (none ∙ sym idle)
+
+-- whether its query was read
+pub found_read : (query : Query) (found : Result Found DbError) (old new : List Query) (turn : Turn) → new ≡ queried_after old (Some query) found
+    → ((e : DbError) → found ≡ Err e → turn ≡ turns.Refused (refused_request e)) → IsRead query old new turn
+found_read query (Ok f) old new (turns.Rows rows) is off = is
+found_read query (Ok f) old new (turns.Ask request) is off = inl is
+found_read query (Ok f) old new turns.Begun is off = inl is
+found_read query (Ok f) old new (turns.Value value) is off = inl is
+found_read query (Ok f) old new (turns.At stamp) is off = inl is
+found_read query (Ok f) old new (turns.Refused error) is off = inl is
+found_read query (Err e) old new turn is off = rw (off e refl) (inr is)

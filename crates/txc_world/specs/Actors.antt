@@ -7,7 +7,7 @@ use Rattle.txc_rows.specs.declared.query.Query.{Query}
 use Rattle.txc_db.specs.History.{History}
 use Rattle.txc_db.specs.Seen.{FrontValue}
 use Rattle.txc_cushion.specs.declared.pin.Pin.{Pin}
-use Rattle.txc_registry.specs.Objects.{AllIdle}
+use Rattle.txc_registry.specs.Objects.{numbers_of, AllIdle, Objects}
 use Rattle.txc_ports.specs.declared.bounds.Bounds.{Bounds}
 use Rattle.txc_cushion.specs.declared.error.UnknownPin.{UnknownPin}
 use Rattle.txc_shared.specs.Eval.{Next}
@@ -40,7 +40,9 @@ use Rattle.txc_world.specs.declared.reply.Refusal.TheVariants.{Memory, Transacti
 use Rattle.txc_world.specs.Parts.{IsPartOf}
 use Rattle.txc_world.specs.Books.{KeepsUsers}
 use Rattle.txc_world.specs.Ports.{PortsValue}
-use Rattle.txc_world.specs.Asks.{FreshLeads, IsAsked}
+use Rattle.txc_ports.specs.Asking.{IsReplyTo}
+use Rattle.txc_world.specs.Asks.{AskLeads, DoesTell, FreshLeads}
+use Rattle.txc_world.specs.Cast.{called, ActorValue, CallValue, reads, resting, leaves}
 use Rattle.txc_world.specs.Keeping.{GiveBackLeads}
 use Rattle.txc_world.specs.Told.{Story, idle, reading, writing, leaving}
 
@@ -141,11 +143,11 @@ IsToldQuery (Refused error) reply = reply ≡ replies.Refused (Transaction error
 IsToldQuery turn reply = ⊥
 
 -- a call that asks is open with its turn; else it has ended so
-abbrev pub IsNoted : Call → Turn → Option OpenCall → Option End → Type 0
-IsNoted key (Ask request) call end = (call ≡ Some (record { key = key; turn = Ask request })) × (end ≡ None)
-IsNoted key (Value value) call end = (call ≡ None) × (end ≡ Some (ends.Value value))
-IsNoted key (Refused error) call end = (call ≡ None) × (end ≡ Some (ends.Refused error))
-IsNoted key turn call end = ⊥
+abbrev pub IsNoted : {X : Type 0} → (Turn → X) → Turn → Option X → Option End → Type 0
+IsNoted opened (Ask request) call end = (call ≡ Some (opened (Ask request))) × (end ≡ None)
+IsNoted opened (Value value) call end = (call ≡ None) × (end ≡ Some (ends.Value value))
+IsNoted opened (Refused error) call end = (call ≡ None) × (end ≡ Some (ends.Refused error))
+IsNoted opened turn call end = ⊥
 
 -- the reach holds one of the members
 abbrev pub holds_any : Interval → List Pin → Bool
@@ -164,57 +166,65 @@ pub record HasBegun (renew_after : ℕ) (bounds : Bounds) (old new : PortsValue)
   pub fresh : FreshLeads {A = Unit {0}} bounds.now bounds.staleness bounds.at_least old new (Ok pins)
   pub core : c ≡ begun_core (length old.nodes) renew_after bounds pins c.call
 
--- a transaction began, with no call; or the actor has nothing open, and the pins that it was handed are given
--- back
-abbrev pub BeginLeads : {A C : Type 0} → ℕ → Bounds → PortsValue → PortsValue → Actor A C → Reply → Type 0
-BeginLeads renew_after bounds old new (Reading o) reply = HasBegun renew_after bounds old new o.txn.core
-    × (o.call ≡ None) × (reply ≡ Begun)
-BeginLeads renew_after bounds old new (Idle objects) reply = (reply ≡ replies.Refused Memory)
-    × KeepsUsers old new
-BeginLeads renew_after bounds old new actor reply = ⊥
+-- a transaction began, with no call and with the functions as they are; or the actor has nothing open, as
+-- before, and the pins that it was handed are given back
+abbrev pub BeginLeads : ℕ → Bounds → PortsValue → PortsValue → Objects → ActorValue → Reply → Type 0
+BeginLeads renew_after bounds old new objects (reads r) reply =
+    HasBegun renew_after bounds old new r.txn.core × (r.txn.objects ≡ objects) × (r.call ≡ None)
+    × (reply ≡ Begun)
+BeginLeads renew_after bounds old new objects (resting left) reply = (reply ≡ replies.Refused Memory)
+    × (new ≡ record old { cushion = new.cushion }) × KeepsUsers old new × (left ≡ objects)
+BeginLeads renew_after bounds old new objects actor reply = ⊥
 
 -- a call is open, with the turn that its start came to
-pub record HasStarted {A C : Type 0} (key : Call) (before : TxnValue) (actor : Actor A C) : Type 0 where
-  pub current : OpenTxn A C
+pub record HasStarted (key : Call) (before : TxnValue) (actor : ActorValue) : Type 0 where
+  pub txn : TxnValue
   pub turn : Turn
-  pub actor_is : actor ≡ Reading current
-  pub call : current.call ≡ Some (record { key = key; turn = turn })
-  pub leads : StartLeads before.core before.objects key turn
-  pub same : current.txn.core ≡ record before.core {
-    call = current.txn.core.call;
-    pinning = current.txn.core.pinning;
-  }
+  pub actor_is : actor ≡ reads (record { txn = txn; call = Some (called key turn) })
+  pub leads : StartLeads before.core before.objects key txn.core txn.objects turn
+  pub same : txn.core ≡ record before.core { call = txn.core.call; pinning = txn.core.pinning }
 
--- One request of a transaction: the port that was asked did this, and the transaction went on with its reply.
-pub record HasAsked (next : Next) (request : PortRequest) (old new : PortsValue) (before after : TxnValue)
-    (did : Did) (turn : Turn) : Type 0 where
+-- One request of a transaction, as a step of the pass: the port that was asked did this, and the transaction
+-- went on with its reply.
+pub record HasAsked (next : Next) (pass : ℕ) (request : PortRequest) (old new : PortsValue)
+    (before after : TxnValue) (did : Did) (turn : Turn) : Type 0 where
   pub reply : PortReply
   pub port : Did
-  pub asked : IsAsked next request old new (record { did = port; reply = reply })
+  pub right : IsReplyTo next request reply
+  pub tells : DoesTell reply port
+  pub leads : AskLeads pass before.core.seen request old new port reply
   pub counts : did ≡ counted before.core.pins.members port
   pub went : HasGoneOn next before reply after turn
 
 -- the open call made the request, and is open still or has ended at the turn that came of it
-pub record HasRequested {A C : Type 0} (next : Next) (key : Call) (request : PortRequest)
-    (old new : PortsValue) (before : TxnValue) (actor : Actor A C) (reply : Reply) : Type 0 where
-  pub current : OpenTxn A C
+pub record HasRequested (next : Next) (pass : ℕ) (key : Call) (request : PortRequest) (old new : PortsValue)
+    (before : TxnValue) (actor : ActorValue) (reply : Reply) : Type 0 where
+  pub txn : TxnValue
+  pub call : Option CallValue
   pub did : Did
   pub end : Option End
   pub turn : Turn
-  pub actor_is : actor ≡ Reading current
+  pub actor_is : actor ≡ reads (record { txn = txn; call = call })
   pub reply_is : reply ≡ Asked did end
-  pub asks : HasAsked next request old new before current.txn did turn
-  pub noted : IsNoted key turn current.call end
+  pub asks : HasAsked next pass request old new before txn did turn
+  pub noted : IsNoted (called key) turn call end
 
 -- a request at a turn of the open call: it is made; or the call had ended, which is told, and no port was
 -- asked
-abbrev pub RequestLeads : {A C : Type 0} → Next → Call → Turn → PortsValue → PortsValue → TxnValue → Actor A C → Reply
+abbrev pub RequestLeads : Next → ℕ → Call → Turn → PortsValue → PortsValue → TxnValue → ActorValue → Reply
     → Type 0
-RequestLeads next key (Ask request) old new before actor reply =
-    HasRequested next key request old new before actor reply
-RequestLeads next key (Refused error) old new before actor reply = (new ≡ old)
-    × (actor ≡ Reading (record { txn = before; call = None })) × (reply ≡ Ended (ends.Refused error))
-RequestLeads next key turn old new before actor reply = ⊥
+RequestLeads next pass key (Ask request) old new before actor reply =
+    HasRequested next pass key request old new before actor reply
+RequestLeads next pass key (Refused error) old new before actor reply = (new ≡ old)
+    × (actor ≡ reads (record { txn = before; call = None })) × (reply ≡ Ended (ends.Refused error))
+RequestLeads next pass key turn old new before actor reply = ⊥
+
+-- given up: every function is there still and idle, and the hold of the stamp, if there is one, is left
+abbrev pub IsGivenUp : Option ℕ → Objects → ActorValue → Type 0
+IsGivenUp None objects (resting left) = AllIdle left × (numbers_of left ≡ numbers_of objects)
+IsGivenUp (Some stamp) objects (leaves left held) =
+    AllIdle left × (numbers_of left ≡ numbers_of objects) × (held ≡ stamp)
+IsGivenUp held objects actor = ⊥
 
 -- users of these stamps were given back to the pincushion, or it refused, and nothing has changed
 abbrev pub HasGivenBack : List ℕ → PortsValue → PortsValue → Type 0

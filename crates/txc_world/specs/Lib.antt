@@ -6,8 +6,10 @@ pub mod Keeping
 pub mod Kept
 pub mod Making
 pub mod Told
+pub mod Cast
 pub mod Actors
 pub mod Books
 pub mod Tidy
 pub mod Writing
 pub mod Worlds
+pub mod Acts

@@ -10,6 +10,7 @@ use Rattle.txc_world.specs.declared.reply.Refusal.{Refusal}
 use Rattle.txc_world.specs.declared.reply.Refusal.TheVariants.{NoActor, NotOpen}
 use Rattle.txc_world.specs.Told.{Reading, Story, idle, reading, writing, leaving, Told}
 use Rattle.txc_world.specs.Ports.{PortsValue, whole_of}
+use Rattle.txc_world.specs.Cast.{actor_at, ActorValue}
 use Rattle.txc_world.specs.Actors.{story_at, IsThere}
 use Rattle.txc_world.specs.Books.{account_at, books_of, Books}
 use Rattle.txc_world.specs.Tidy.{AreBalanced, Purse}
@@ -24,15 +25,19 @@ told_of settings ports actors = record {
   actors = map story_at actors;
 }
 
--- what callers see of a world: what is told of it, and its books
+-- what callers see of a world: what is told of it, its books, its ports, and its actors
 pub record WorldValue : Type 0 where
   pub told : Told
   pub books : Books
+  pub ports : PortsValue
+  pub actors : List ActorValue
 
 abbrev pub value_of : {A C : Type 0} → WorldSettings → PortsValue → List (Option (Actor A C)) → WorldValue
 value_of settings ports actors = record {
   told = told_of settings ports actors;
   books = books_of ports (map account_at actors);
+  ports = ports;
+  actors = map actor_at actors;
 }
 
 -- each has what is its own, the keeper by its purse

@@ -1,7 +1,8 @@
 -- What comes of a step of a read-write transaction.
-use Rattle.std.specs.Prelude.{◌≡◌, ◌⊎◌, ℕ, [], ◌∷◌, Result, Ok, Err, Option, Some, None, IsNone, IsSome}
+use Rattle.std.specs.Prelude.{◌≡◌, ◌⊎◌, ℕ, List, [], ◌∷◌, ◌++◌, Result, Ok, Err, Option, Some, None, IsNone, IsSome, MatchOption}
 use Rattle.txc_tags.specs.Keys.{Call}
 use Rattle.txc_rows.specs.declared.query.Query.{Query}
+use Rattle.txc_rows.specs.declared.query.Change.{Change}
 use Rattle.txc_rows.specs.States.{State}
 use Rattle.txc_validity.specs.declared.answer.Found.{Found}
 use Rattle.txc_db.specs.declared.error.DbError.{DbError}
@@ -16,40 +17,38 @@ use Rattle.txc_ports.specs.declared.turn.Turn.TheVariants as turns
 use Rattle.txc_ports.specs.Refusals.{refused_request}
 use Rattle.txc_rw.specs.Core.{queried_after, tags_read, IsBegun, RwValue}
 use Rattle.txc_rw.specs.Leading.{standing_of, CallLeads}
-use Rattle.txc_world.specs.declared.actor.Actor.{Actor}
-use Rattle.txc_world.specs.declared.actor.Actor.TheVariants.{Idle, Writing, Leaving}
-use Rattle.txc_world.specs.declared.actor.OpenRw.{OpenRw}
 use Rattle.txc_world.specs.declared.did.Did.{Did}
 use Rattle.txc_world.specs.declared.reply.End.{End}
 use Rattle.txc_world.specs.declared.reply.Reply.{Reply}
-use Rattle.txc_world.specs.declared.reply.Reply.TheVariants.{Asked, At, Based, Refused}
+use Rattle.txc_world.specs.declared.reply.Reply.TheVariants.{Asked, At, Based, Ended, Kept, Refused}
 use Rattle.txc_world.specs.declared.reply.Refusal.TheVariants.{Database}
 use Rattle.txc_world.specs.Ports.{PortsValue}
 use Rattle.txc_world.specs.Asks.{AnswerLeads, DoesTellFound, HoldLeads}
 use Rattle.txc_world.specs.Keeping.{CommitLeads}
-use Rattle.txc_world.specs.Actors.{IsNoted}
+use Rattle.txc_world.specs.Cast.{called, ActorValue, CallValue, WritingValue, resting, writes}
+use Rattle.txc_world.specs.Actors.{asked_query, IsEndOf, IsGivenUp, IsNoted, IsToldQuery}
 
--- a transaction began at the newest stamp, which is held; or the database refused that, and nothing is open
-abbrev pub BeginRwLeads : {A C : Type 0} → PortsValue → PortsValue → Actor A C → Reply → Type 0
-BeginRwLeads old new (Writing o) reply = (base : ℕ) × HoldLeads old new (Ok base) × IsBegun base o.core
-    × (o.call ≡ None) × (reply ≡ Based base)
-BeginRwLeads old new (Idle objects) reply = (e : DbError) × HoldLeads old new (Err e)
-    × (reply ≡ Refused (Database e))
-BeginRwLeads old new actor reply = ⊥
+-- a transaction began at the newest stamp, which is held, with the functions as they are; or the database
+-- refused that, and nothing is open, as before
+abbrev pub BeginRwLeads : PortsValue → PortsValue → Objects → ActorValue → Reply → Type 0
+BeginRwLeads old new objects (writes w) reply = (base : ℕ) × HoldLeads old new (Ok base)
+    × IsBegun base w.core × (w.objects ≡ objects) × (w.call ≡ None) × (reply ≡ Based base)
+BeginRwLeads old new objects (resting left) reply = (e : DbError) × HoldLeads old new (Err e)
+    × (left ≡ objects) × (reply ≡ Refused (Database e))
+BeginRwLeads old new objects actor reply = ⊥
 
 -- a call is open, with the turn that its start came to, before any query; a function that is not there is
 -- refused
-pub record HasStartedRw {A C : Type 0} (next : Next) (key : Call) (before : OpenRw A C) (actor : Actor A C)
-    : Type 0 where
-  pub current : OpenRw A C
+pub record HasStartedRw (next : Next) (key : Call) (before : WritingValue) (actor : ActorValue) : Type 0 where
+  pub core : RwValue
+  pub objects : Objects
   pub turn : Turn
-  pub actor_is : actor ≡ Writing current
-  pub call : current.call ≡ Some (record { key = key; turn = turn })
-  pub leads : IsSome (activity_of before.registry key.function)
-      → (s : State) → CallLeads next s (standing_of (started key) before.registry) [] current.core
-      current.registry turn
-  pub missing : IsNone (activity_of before.registry key.function)
+  pub actor_is : actor ≡ writes (record { core = core; objects = objects; call = Some (called key turn) })
+  pub leads : IsSome (activity_of before.objects key.function)
+      → (s : State) → CallLeads next s (standing_of (started key) before.objects) [] core objects turn
+  pub missing : IsNone (activity_of before.objects key.function)
       → turn ≡ turns.Refused (CallRefused (NoFunction key.function))
+  pub same : core ≡ record before.core { answers = core.answers; call = core.call; reading = core.reading }
 
 -- One request of a call: its query was asked at the base, and counts as read where it was answered; the call
 -- went on with the rows, or was refused as the database refused.
@@ -63,18 +62,39 @@ pub record HasAskedRw (next : Next) (query : Query) (p : PortsValue) (before aft
       → CallLeads next (state_at p.database.history before.base) (standing_of before.call was) (query ∷ [])
       after is turn
   pub refused : (e : DbError) → found ≡ Err e → turn ≡ turns.Refused (refused_request e)
+  pub same : after ≡ record before {
+    queried = after.queried;
+    answers = after.answers;
+    call = after.call;
+    reading = after.reading;
+  }
 
 -- the open call made the request, and is open still or has ended at the turn that came of it
-pub record HasRequestedRw {A C : Type 0} (next : Next) (key : Call) (query : Query) (p : PortsValue)
-    (before : OpenRw A C) (actor : Actor A C) (reply : Reply) : Type 0 where
-  pub current : OpenRw A C
+pub record HasRequestedRw (next : Next) (key : Call) (query : Query) (p : PortsValue) (before : WritingValue)
+    (actor : ActorValue) (reply : Reply) : Type 0 where
+  pub core : RwValue
+  pub objects : Objects
+  pub call : Option CallValue
   pub did : Did
   pub end : Option End
   pub turn : Turn
-  pub actor_is : actor ≡ Writing current
+  pub actor_is : actor ≡ writes (record { core = core; objects = objects; call = call })
   pub reply_is : reply ≡ Asked did end
-  pub asks : HasAskedRw next query p before.core current.core before.registry current.registry did turn
-  pub noted : IsNoted key turn current.call end
+  pub asks : HasAskedRw next query p before.core core before.objects objects did turn
+  pub noted : IsNoted (called key) turn call end
+
+-- the call had ended so before any request, which is told, and nothing else has changed
+pub record HasEndedRw (turn : Turn) (before : WritingValue) (actor : ActorValue) (reply : Reply) : Type 0 where
+  pub end : End
+  pub ends : IsEndOf turn end
+  pub reply_is : reply ≡ Ended end
+  pub actor_is : actor ≡ writes (record before { call = None })
+
+-- a request at a turn of the open call: its query is asked; or the call had ended, which is told
+abbrev pub RequestLeadsRw : Next → Call → Turn → PortsValue → WritingValue → ActorValue → Reply → Type 0
+RequestLeadsRw next key turn p before actor reply = MatchOption (asked_query turn)
+    (HasEndedRw turn before actor reply)
+    (λ query. HasRequestedRw next key query p before actor reply)
 
 -- a query of its own: its rows are those that were found at the base; or it is refused as the database
 -- refused, or as out of memory
@@ -85,17 +105,36 @@ FindLeadsRw query base p (turns.Refused e) = (e ≡ Memory)
     ⊎ ((cause : DbError) × AnswerLeads query base p (Err cause) × (e ≡ refused_request cause))
 FindLeadsRw query base p turn = ⊥
 
--- it has the hold of the stamp left to take away
-abbrev pub HasLeft : {A C : Type 0} → ℕ → Actor A C → Type 0
-HasLeft base (Leaving objects stamp) = stamp ≡ base
-HasLeft base actor = ⊥
+-- a query whose rows are the turn's was read, beside those before it; one that is refused may have been
+abbrev pub IsRead : Query → List Query → List Query → Turn → Type 0
+IsRead query old new (turns.Rows rows) = new ≡ old ++ query ∷ []
+IsRead query old new turn = (new ≡ old ++ query ∷ []) ⊎ (new ≡ old)
+
+-- a query of its own came to this, and no call is open
+pub record HasFoundRw (query : Query) (p : PortsValue) (before : WritingValue) (actor : ActorValue)
+    (reply : Reply) : Type 0 where
+  pub core : RwValue
+  pub turn : Turn
+  pub told : IsToldQuery turn reply
+  pub found : FindLeadsRw query before.core.base p turn
+  pub actor_is : actor ≡ writes (record { core = core; objects = before.objects; call = None })
+  pub read : IsRead query before.core.queried core.queried turn
+  pub same : core ≡ record before.core { queried = core.queried; answers = core.answers }
+
+-- the change stands after those before it; or nothing has changed
+abbrev pub WriteLeadsRw : Change → WritingValue → ActorValue → Reply → Type 0
+WriteLeadsRw change before actor Kept = actor ≡ writes (record before {
+  core = record before.core { changes = before.core.changes ++ change ∷ [] };
+})
+WriteLeadsRw change before actor reply = actor ≡ writes before
 
 -- a commit: the changes were committed at the base with the tags of all that was read, and the hold of the
 -- base is left; or the database refused, and the transaction is as it was
-abbrev pub CommitLeadsRw : {A C : Type 0} → PortsValue → PortsValue → OpenRw A C → Actor A C → Reply → Type 0
-CommitLeadsRw old new o actor (At stamp) =
-    CommitLeads o.core.base (tags_read o.core) o.core.changes old new (Ok stamp)
-    × HasLeft o.core.base actor
-CommitLeadsRw old new o actor (Refused (Database e)) =
-    CommitLeads o.core.base (tags_read o.core) o.core.changes old new (Err e) × (actor ≡ Writing o)
-CommitLeadsRw old new o actor reply = ⊥
+abbrev pub CommitLeadsRw : PortsValue → PortsValue → WritingValue → ActorValue → Reply → Type 0
+CommitLeadsRw old new before actor (At stamp) =
+    CommitLeads before.core.base (tags_read before.core) before.core.changes old new (Ok stamp)
+    × IsGivenUp (Some before.core.base) before.objects actor
+CommitLeadsRw old new before actor (Refused (Database e)) =
+    CommitLeads before.core.base (tags_read before.core) before.core.changes old new (Err e)
+    × (actor ≡ writes before)
+CommitLeadsRw old new before actor reply = ⊥

@@ -1,11 +1,12 @@
 //! What an actor does, each kind of step by itself.
-ghost use Rattle.std.specs.Prelude.{◌≡◌, ◌≤◌, ◌<◌, ◌∷◌, [], All, IfOk, None, OnErr, Some, length, map};
-ghost use Rattle.std.specs.Option.{ForSome};
+ghost use Rattle.std.specs.Prelude.{◌≡◌, ℕ, ◌≤◌, ◌<◌, ◌∷◌, [], All, IfOk, None, OnErr, Some, length, map};
 ghost use Rattle.txc_registry.specs.Objects.{AllIdle, Objects};
 ghost use Rattle.txc_shared.specs.Eval.{Next};
 ghost use Rattle.txc_rw.specs.Core.{IsOfCall};
-ghost use Rattle.txc_txn.specs.Core.{left_pin, open_call, recorded_after, value_of, CoreHolds, IsAsk, IsAsking, IsCore, IsTurn};
-ghost use Rattle.txc_world.specs.Actors.{counted, holds_any, story_of, AddsPart, BeginLeads, HasAsked, HasBegun, HasGivenBack, HasStarted, IsActor, IsBegun, IsNoted, IsOpenTxn, RequestLeads};
+ghost use Rattle.txc_txn.specs.Core.{open_call, recorded_after, value_of, CoreHolds, IsAsk, IsAsking, IsCore, IsTurn};
+ghost use Rattle.txc_world.specs.Actors.{counted, holds_any, story_of, AddsPart, HasAsked, HasBegun, IsActor, IsBegun, IsNoted, IsOpenTxn};
+ghost use Rattle.txc_world.specs.Acts.{ActLeads, LeavingLeads, ReadingLeads, RestingLeads};
+ghost use Rattle.txc_world.specs.Cast.{actor_value, opened, reading_value};
 ghost use Rattle.txc_world.specs.Books.{account_of, account_of_core, nothing, ActCounts, IsFair, IsLossOf, KeepsUsers};
 ghost use Rattle.txc_world.specs.Parts.{IsPartOf};
 ghost use Rattle.txc_world.specs.Ports.{whole_of, KeepsRow};
@@ -73,7 +74,8 @@ fn begin_ro<A: App, C: Cacheable>(
     ensures fits { IsActor A.next (whole_of ports.new) (length ports.new.nodes) result.0 }
     ensures told { story_of result.0 ≡ story_after (Act.BeginRo bounds) result.1 idle }
     ensures due { IsActReply (Act.BeginRo bounds) idle result.1 }
-    ensures leads { BeginLeads renew_after bounds ports.old ports.new result.0 result.1 }
+    ensures leads { RestingLeads renew_after (Act.BeginRo bounds) ports.old ports.new registry
+        (actor_value result.0) result.1 }
     ensures same { ports.new ≡ record ports.old { cushion = ports.new.cushion } }
     ensures counts { ActCounts ports.old ports.new nothing (account_of result.0) result.1 }
 {
@@ -98,7 +100,8 @@ fn start<A: App, C: Cacheable>(
     ensures told { story_of result.0
         ≡ story_after (Act.Start key.now) result.1 (story_of (Actor.Reading current)) }
     ensures due { IsActDue (story_of (Actor.Reading current)) (Act.Start key.now) result.1 }
-    ensures leads { current.call ≡ None → HasStarted key.now current.txn result.0 }
+    ensures leads { (next : Next) (pass : ℕ) → ReadingLeads next pass (Act.Start key.now) whole.now whole.now
+        (reading_value current) (actor_value result.0) result.1 }
     ensures counts { ActCounts whole.now whole.now (account_of (Actor.Reading current)) (account_of result.0) result.1 }
 {
     let mut current = current;
@@ -150,7 +153,7 @@ fn go_on<A: App, C: Cacheable>(
     requires seen { IsPartOf (whole_of ports.old) txn.old.core.seen }
     requires nodes { txn.old.core.nodes ≡ length ports.old.nodes }
     requires adds { AddsPart (whole_of ports.old) (Turn.Ask request) }
-    ensures asks { HasAsked A.next request ports.old ports.new txn.old txn.new result.did result.turn }
+    ensures asks { HasAsked A.next pass request ports.old ports.new txn.old txn.new result.did result.turn }
     ensures turn { IsTurn txn.new.core result.turn }
     ensures goes_on { IsAsk result.turn → open_call txn.new.core ≡ open_call txn.old.core }
     ensures recorded { txn.new.core.recorded
@@ -176,7 +179,7 @@ fn go_on<A: App, C: Cacheable>(
 /// How the call stands at this turn: it is open still, or has ended.
 pub(crate) fn note(key: Key, turn: Turn) -> (Option<OpenCall>, Option<End>)
     requires { IsOfCall turn }
-    ensures { IsNoted key turn result.0 result.1 }
+    ensures { IsNoted (opened key) turn result.0 result.1 }
 {
     match turn {
         Turn::Ask(request) => {
@@ -207,8 +210,8 @@ fn request_call<A: App, C: Cacheable>(
     ensures spare { ports.new.spare ≡ ports.old.spare }
     ensures no_commit { IsNoCommit result.1 }
     ensures counts { ActCounts ports.old ports.new (account_of (Actor.Reading current)) (account_of result.0) result.1 }
-    ensures leads { ForSome current.call (λ call.
-        RequestLeads A.next call.key call.turn ports.old ports.new current.txn result.0 result.1) }
+    ensures leads { ReadingLeads A.next pass Act.Request ports.old ports.new (reading_value current)
+        (actor_value result.0) result.1 }
 {
     let OpenTxn { txn, call } = current;
     let Some(OpenCall { key, turn }) = call else {
@@ -253,6 +256,7 @@ fn leave<A: App, C: Cacheable>(
     ensures spare { ports.new.spare ≡ ports.old.spare }
     ensures no_commit { IsNoCommit result.1 }
     ensures counts { ActCounts ports.old ports.new (record { taken = []; own = stamp ∷ [] }) (account_of result.0) result.1 }
+    ensures leads { LeavingLeads Act.Request ports.old ports.new registry stamp (actor_value result.0) result.1 }
 {
     ports.count_right();
     match ports.unpin(stamp) {
@@ -276,7 +280,8 @@ fn commit<A: App, C: Cacheable>(
     ensures explained { ReplyExplains A.next ports.new.database.history
         (length ports.old.database.history) (story_of (Actor.Reading current)) result.1 }
     ensures same { ports.new ≡ record ports.old { cushion = ports.new.cushion } }
-    ensures gives_back { current.call ≡ None → HasGivenBack current.txn.core.taken ports.old ports.new }
+    ensures leads { (next : Next) (pass : ℕ) → ReadingLeads next pass Act.Commit ports.old ports.new
+        (reading_value current) (actor_value result.0) result.1 }
     ensures counts { ActCounts ports.old ports.new (account_of (Actor.Reading current)) (account_of result.0) result.1 }
 {
     give_back_counts_users();
@@ -297,9 +302,9 @@ fn abort<A: App, C: Cacheable>(ports: &mut Ports<A>, current: OpenTxn<A, C>) -> 
     ensures fits { IsActor A.next (whole_of ports.new) (length ports.new.nodes) result.0 }
     ensures told { story_of result.0 ≡ story_after Act.Abort result.1 (story_of (Actor.Reading current)) }
     ensures due { IsActDue (story_of (Actor.Reading current)) Act.Abort result.1 }
-    ensures left { result.1 ≡ Reply.Aborted (left_pin current.txn.core.pinning) }
     ensures same { ports.new ≡ record ports.old { cushion = ports.new.cushion } }
-    ensures gives_back { HasGivenBack current.txn.core.taken ports.old ports.new }
+    ensures leads { (next : Next) (pass : ℕ) → ReadingLeads next pass Act.Abort ports.old ports.new
+        (reading_value current) (actor_value result.0) result.1 }
     ensures no_commit { IsNoCommit result.1 }
     ensures counts { ActCounts ports.old ports.new (account_of (Actor.Reading current)) (account_of result.0) result.1 }
 {
@@ -330,6 +335,7 @@ fn act_idle<A: App, C: Cacheable>(
     ensures spare { ports.new.spare ≡ ports.old.spare }
     ensures no_commit { IsNoCommit result.1 }
     ensures counts { ActCounts ports.old ports.new nothing (account_of result.0) result.1 }
+    ensures leads { RestingLeads renew_after act.now ports.old ports.new registry (actor_value result.0) result.1 }
 {
     match act {
         Act::BeginRo(bounds) => begin_ro(alloc, ports, renew_after, registry, *bounds),
@@ -358,6 +364,8 @@ fn act_open<A: App, C: Cacheable>(
     ensures keeps { KeepsRow ports.old ports.new }
     ensures spare { ports.new.spare ≡ ports.old.spare }
     ensures counts { ActCounts ports.old ports.new (account_of (Actor.Reading current)) (account_of result.0) result.1 }
+    ensures leads { ReadingLeads A.next pass act.now ports.old ports.new (reading_value current)
+        (actor_value result.0) result.1 }
 {
     match act {
         Act::BeginRo(_) | Act::BeginRw => (
@@ -388,6 +396,7 @@ fn act_leaving<A: App, C: Cacheable>(
     ensures spare { ports.new.spare ≡ ports.old.spare }
     ensures no_commit { IsNoCommit result.1 }
     ensures counts { ActCounts ports.old ports.new (record { taken = []; own = stamp ∷ [] }) (account_of result.0) result.1 }
+    ensures leads { LeavingLeads act.now ports.old ports.new registry stamp (actor_value result.0) result.1 }
 {
     match act {
         Act::Request => leave(ports, registry, stamp),
@@ -424,6 +433,8 @@ pub(crate) fn act<A: App, C: Cacheable>(
     ensures keeps { KeepsRow ports.old ports.new }
     ensures spare { ports.new.spare ≡ ports.old.spare }
     ensures counts { ActCounts ports.old ports.new (account_of actor) (account_of result.0) result.1 }
+    ensures leads { ActLeads A.next renew_after pass act.now ports.old ports.new (actor_value actor)
+        (actor_value result.0) result.1 }
 {
     match actor {
         Actor::Idle(registry) => act_idle(alloc, ports, renew_after, registry, act),

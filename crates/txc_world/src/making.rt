@@ -1,5 +1,5 @@
 //! The ports of a new world.
-ghost use Rattle.std.specs.Prelude.{◌≡◌, ◌+◌, ◌≤◌, length, IfOk};
+ghost use Rattle.std.specs.Prelude.{◌≡◌, ◌+◌, ◌≤◌, length, IfErr, IfOk};
 ghost use Rattle.txc_db.specs.DatabaseValue.{front_of};
 ghost use Rattle.txc_world.specs.Making.{IsNewNode, AreNewNodes};
 
@@ -67,6 +67,7 @@ fn new_nodes<A: App>(
 }
 
 impl<A: App> Ports<A> {
+    ghost use Rattle.txc_db.specs.Refusals.{IsWant};
     ghost use Rattle.txc_world.specs.Making.{AreNewPorts};
 
     /// The ports of a new world, with a pass through each node for each actor and for the keeper.
@@ -79,7 +80,8 @@ impl<A: App> Ports<A> {
         requires recent { (1 ≤ settings.now.recent) × (settings.now.recent ≤ MAX_RECENT) }
         requires row { (1 ≤ settings.now.row_cap) × (settings.now.row_cap ≤ ROW_MOST) }
         requires actors { actors + 1 ≤ MAX_PASSES }
-        ensures { IfOk result (AreNewPorts settings.now actors) }
+        ensures new { IfOk result (AreNewPorts settings.now actors) }
+        ensures refused { IfErr result IsWant }
     {
         let database = DbCore::new(alloc, settings.row_cap)?;
         let front = database.front(alloc)?;

@@ -1,5 +1,5 @@
 //! The plain ports of a world.
-ghost use Rattle.std.specs.Prelude.{◌≡◌, false, ◌≤◌, ◌<◌, length, IfSome, IfOk, OnErr, slice_get, Some, All};
+ghost use Rattle.std.specs.Prelude.{◌≡◌, ◌+◌, false, ◌≤◌, ◌<◌, length, IfSome, IfOk, OnErr, slice_get, Some, All};
 ghost use Rattle.std.specs.Option.{option_map};
 ghost use Rattle.txc_shared.specs.Claims.{IsTrueIn};
 ghost use Rattle.txc_shared.specs.Nodes.{entry_shown};
@@ -77,6 +77,7 @@ impl<A: App> Ports<A> {
         requires { at < length self.now.nodes }
         ensures there { slice_get self.now.nodes at ≡ Some result.now }
         ensures seen { result.now.broken ≡ false → IsPartOf (whole_of self.now) result.now.seen }
+        ensures passes { result.now.passes ≡ self.now.actors + 1 }
     {
         &self.nodes[at]
     }

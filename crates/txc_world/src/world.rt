@@ -1,12 +1,16 @@
 //! Every interleaving of the steps of actors and of the keeper.
-ghost use Rattle.std.specs.Prelude.{◌≡◌, ◌<◌, ◌≤◌, [], false, length, map, slice_get, vec_len, All, Err, IfOk, IsOk, MatchOption, OnErr, Some};
+ghost use Rattle.std.specs.Prelude.{◌≡◌, ◌<◌, ◌≤◌, ◌+◌, [], false, length, map, slice_get, vec_len, All, Err, IfErr, IfOk, IsOk, MatchOption, OnErr, Some};
 ghost use Rattle.txc_node.specs.declared.node.TheConstants.{MAX_CAPACITY, MAX_RECENT};
 ghost use Rattle.txc_stream.specs.declared.row.TheConstants.{MAX_CAPACITY as MAX_ROW};
 ghost use Rattle.txc_shared.specs.declared.log.TheConstants.{MAX_PASSES};
 ghost use Rattle.txc_shared.specs.Nodes.{start_of};
 ghost use Rattle.txc_shared.specs.Runs.{IsNode};
 ghost use Rattle.txc_registry.specs.Objects.{AllIdle};
+ghost use Rattle.txc_world.specs.Acts.{AreLed, StepLeads};
 ghost use Rattle.txc_world.specs.Worlds.{due_of_pins, AreMembersOf, IsBalanced};
+ghost use Rattle.txc_world.specs.Cast.{reads, resting, ReadingValue};
+ghost use Rattle.txc_world.specs.Making.{AreNewPorts};
+ghost use Rattle.txc_db.specs.Refusals.{IsWant};
 ghost use Rattle.txc_world.specs.Tidy.{empty_purse, purse_after, purse_by, AreTidy, IsTidy, LoseNoSnapshot, LosesNoSnapshot, LosesNothing, Purse};
 ghost use Rattle.txc_world.specs.Told.{after, idle, reading, told_by, AreDue, AreExplained, AreExplainedIn, IsDue, IsExplainedIn, Reading};
 
@@ -78,6 +82,9 @@ impl<A: App, C: Cacheable> World<A, C> {
         ensures spare { IfOk result (λ world. world.told.spare ≡ []) }
         ensures actors { IfOk result (λ world. world.told.actors ≡ map (λ registry. idle) registries.items) }
         ensures balanced { IfOk result (λ world. IsBalanced world empty_purse) }
+        ensures ports { IfOk result (λ world. AreNewPorts settings (vec_len registries) world.ports) }
+        ensures idle { IfOk result (λ world. world.actors ≡ map (λ registry. resting registry) registries.items) }
+        ensures refused { IfErr result IsWant }
     {
         let ports = Ports::new(alloc, &settings, registries.len())?;
         let actors = idle_actors(alloc, registries)?;
@@ -88,6 +95,13 @@ impl<A: App, C: Cacheable> World<A, C> {
         })
     }
 
+    /// How many actors there are.
+    pub fn actor_count(&self) -> usize
+        ensures { result ≡ length self.now.told.actors }
+    {
+        self.actors.len()
+    }
+
     /// The members of the actor's read-only transaction, and whether the present is there.
     pub fn pins(&self, place: usize) -> Result<Members<'_>, Refusal>
         ensures due { MatchOption (due_of_pins (slice_get self.now.told.actors place)) (IsOk result)
@@ -95,6 +109,9 @@ impl<A: App, C: Cacheable> World<A, C> {
         ensures members { IfOk result (λ members. (r : Reading)
             → slice_get self.now.told.actors place ≡ Some (reading r)
             → AreMembersOf A.next self.now.told.history r members.has_present members.pins.now) }
+        ensures pin_set { IfOk result (λ members. (r : ReadingValue)
+            → slice_get self.now.actors place ≡ Some (reads r)
+            → r.txn.core.pins ≡ record { members = members.pins.now; has_present = members.has_present }) }
     {
         let Some(Some(actor)) = self.actors.get(place) else {
             return Err(Refusal::NoActor);
@@ -114,7 +131,9 @@ impl<A: App, C: Cacheable> World<A, C> {
     /// history, and it is what a legal history of records leaves, whose events are those of the history.
     pub fn node(&self, at: usize) -> &StoredNode<A>
         requires { at < self.now.told.settings.nodes }
-        ensures { result.now.broken ≡ false → IsNode A.next self.now.told.history (start_of result.now.settings)
+        ensures there { slice_get self.now.ports.nodes at ≡ Some result.now }
+        ensures passes { result.now.passes ≡ self.now.ports.actors + 1 }
+        ensures right { result.now.broken ≡ false → IsNode A.next self.now.told.history (start_of result.now.settings)
             result.now.records result.now.cache false }
     {
         nodes_go_on();
@@ -126,6 +145,7 @@ impl<A: App, C: Cacheable> World<A, C> {
     // One step of an actor.
     fn act(&mut self, alloc: Global, place: usize, doing: &Act) -> Reply
         ensures told { self.new.told ≡ after self.old.told (Step.Actor place doing.now) result }
+        ensures leads { StepLeads A.next self.old (Step.Actor place doing.now) result self.new }
         ensures due { IsDue self.old.told (Step.Actor place doing.now) result }
         ensures explained { IsExplainedIn A.next self.new.told.history self.old.told (Step.Actor place doing.now) result }
         ensures balanced { (purse : Purse) → IsBalanced self.old purse
@@ -145,9 +165,10 @@ impl<A: App, C: Cacheable> World<A, C> {
         reply
     }
 
-    // One step.
-    fn step(&mut self, alloc: Global, step: &Step) -> Reply
+    /// Takes one step, as `run` does, and returns what it was replied.
+    pub fn step(&mut self, alloc: Global, step: &Step) -> Reply
         ensures told { self.new.told ≡ after self.old.told step.now result }
+        ensures leads { StepLeads A.next self.old step.now result self.new }
         ensures due { IsDue self.old.told step.now result }
         ensures explained { IsExplainedIn A.next self.new.told.history self.old.told step.now result }
         ensures balanced { (purse : Purse) → IsBalanced self.old purse → IsTidy step.now result purse
@@ -173,6 +194,7 @@ impl<A: App, C: Cacheable> World<A, C> {
     /// query of an open transaction is refused for a snapshot that is gone.
     pub fn run(&mut self, alloc: Global, steps: &[Step]) -> Result<Vec<Reply>, AllocError>
         ensures told { IfOk result (λ replies. self.new.told ≡ told_by self.old.told steps.now replies.items) }
+        ensures leads { IfOk result (λ replies. AreLed A.next self.old steps.now replies.items self.new) }
         ensures explained { IfOk result (λ replies. AreExplained A.next self.old.told steps.now replies.items) }
         ensures explained_in_the_end { IfOk result (λ replies.
             AreExplainedIn A.next self.new.told.history self.old.told steps.now replies.items) }

@@ -1,15 +1,15 @@
 //! What an actor does with a read-write transaction, each kind of step by itself.
-ghost use Rattle.std.specs.Prelude.{◌≡◌, ◌++◌, ◌∷◌, ◌<◌, [], IfErr, IsSome, None, OnErr, OnOk, Some, length};
-ghost use Rattle.std.specs.Option.{ForSome};
+ghost use Rattle.std.specs.Prelude.{◌≡◌, ℕ, ◌++◌, ◌∷◌, ◌<◌, [], IfErr, IsSome, None, OnErr, OnOk, Some, length};
 ghost use Rattle.txc_rows.specs.declared.query.Change.{Change};
-ghost use Rattle.txc_ports.specs.declared.turn.Turn.{Turn};
 ghost use Rattle.txc_registry.specs.Objects.{AllIdle};
 ghost use Rattle.txc_rw.specs.declared.rw_core.TheConstants.{MAX_CHANGES};
 ghost use Rattle.txc_rw.specs.Core.{answers_after, IsAsk, IsCallEnd, IsIdle, IsOfCall, IsOfQuery, IsRw, IsTurn, IsWriteRefused, RwHolds};
 ghost use Rattle.txc_world.specs.Actors.{asked_query, story_of, IsActor, IsEndOf, IsOpenRw, IsToldQuery};
 ghost use Rattle.txc_world.specs.Books.{account_of, nothing, ActCounts, IsLossOf, TurnIsLossOf};
 ghost use Rattle.txc_world.specs.Ports.{whole_of, KeepsRow};
-ghost use Rattle.txc_world.specs.Writing.{BeginRwLeads, CommitLeadsRw, FindLeadsRw, HasAskedRw, HasRequestedRw, HasStartedRw};
+ghost use Rattle.txc_world.specs.Acts.{RestingLeads, WritingLeads};
+ghost use Rattle.txc_world.specs.Cast.{actor_value, writing_value};
+ghost use Rattle.txc_world.specs.Writing.{FindLeadsRw, HasAskedRw, IsRead};
 ghost use Rattle.txc_world.specs.Told.{act_in, idle, story_after, IsActDue, IsActReply, IsNoCommit, ReplyExplains};
 
 use crate::acting::note;
@@ -42,7 +42,8 @@ pub(crate) fn begin_rw<A: App, C: Cacheable>(
     ensures keeps { KeepsRow ports.old ports.new }
     ensures spare { ports.new.spare ≡ ports.old.spare }
     ensures no_commit { IsNoCommit result.1 }
-    ensures leads { BeginRwLeads ports.old ports.new result.0 result.1 }
+    ensures leads { (renew_after : ℕ) → RestingLeads renew_after Act.BeginRw ports.old ports.new registry
+        (actor_value result.0) result.1 }
     ensures counts { ActCounts ports.old ports.new nothing (account_of result.0) result.1 }
 {
     transactions_stay_right();
@@ -75,7 +76,8 @@ fn start<A: App, C: Cacheable>(
     ensures told { story_of result.0
         ≡ story_after (Act.Start key.now) result.1 (story_of (Actor.Writing current)) }
     ensures due { IsActDue (story_of (Actor.Writing current)) (Act.Start key.now) result.1 }
-    ensures leads { current.call ≡ None → HasStartedRw A.next key.now current result.0 }
+    ensures leads { WritingLeads A.next (Act.Start key.now) whole.now whole.now (writing_value current)
+        (actor_value result.0) result.1 }
     ensures counts { ActCounts whole.now whole.now (account_of (Actor.Writing current)) (account_of result.0) result.1 }
 {
     let mut current = current;
@@ -183,8 +185,8 @@ fn request<A: App, C: Cacheable>(
     ensures due { IsActDue (story_of (Actor.Writing current)) Act.Request result.1 }
     ensures same { ports.new ≡ ports.old }
     ensures no_commit { IsNoCommit result.1 }
-    ensures leads { ForSome current.call (λ call. ForSome (asked_query call.turn) (λ query.
-        HasRequestedRw A.next call.key query ports.old current result.0 result.1)) }
+    ensures leads { WritingLeads A.next Act.Request ports.old ports.new (writing_value current)
+        (actor_value result.0) result.1 }
     ensures counts { ActCounts ports.old ports.new (account_of (Actor.Writing current)) (account_of result.0) result.1 }
 {
     let OpenRw {
@@ -234,6 +236,9 @@ fn find<A: App, C: Cacheable>(
         ≡ answers_after core.old.answers core.old.call.top (Some query.now) result }
     ensures base { core.new.base ≡ core.old.base }
     ensures changes { core.new.changes ≡ core.old.changes }
+    ensures objects { registry.new ≡ registry.old }
+    ensures read { IsRead query.now core.old.queried core.new.queried result }
+    ensures same { core.new ≡ record core.old { queried = core.new.queried; answers = core.new.answers } }
     ensures leads { FindLeadsRw query.now core.old.base ports.old result }
     ensures loss { TurnIsLossOf ports.old (record { taken = []; own = core.old.base ∷ [] }) result }
 {
@@ -273,8 +278,8 @@ fn ask<A: App, C: Cacheable>(
     ensures due { IsActDue (story_of (Actor.Writing current)) (Act.Ask query.now) result.1 }
     ensures same { ports.new ≡ ports.old }
     ensures no_commit { IsNoCommit result.1 }
-    ensures leads { current.call ≡ None → (turn : Turn) × IsToldQuery turn result.1
-        × FindLeadsRw query.now current.core.base ports.old turn }
+    ensures leads { WritingLeads A.next (Act.Ask query.now) ports.old ports.new (writing_value current)
+        (actor_value result.0) result.1 }
     ensures counts { ActCounts ports.old ports.new (account_of (Actor.Writing current)) (account_of result.0) result.1 }
 {
     if current.call.is_some() {
@@ -321,6 +326,8 @@ fn write<A: App, C: Cacheable>(
     ensures told { story_of result.0
         ≡ story_after (Act.Write change.now) result.1 (story_of (Actor.Writing current)) }
     ensures due { IsActDue (story_of (Actor.Writing current)) (Act.Write change.now) result.1 }
+    ensures leads { WritingLeads A.next (Act.Write change.now) whole.now whole.now (writing_value current)
+        (actor_value result.0) result.1 }
     ensures counts { ActCounts whole.now whole.now (account_of (Actor.Writing current)) (account_of result.0) result.1 }
 {
     let mut current = current;
@@ -353,8 +360,8 @@ fn commit<A: App, C: Cacheable>(
         (length ports.old.database.history) (story_of (Actor.Writing current)) result.1 }
     ensures keeps { KeepsRow ports.old ports.new }
     ensures spare { ports.new.spare ≡ ports.old.spare }
-    ensures leads { current.call ≡ None
-        → CommitLeadsRw ports.old ports.new current result.0 result.1 }
+    ensures leads { WritingLeads A.next Act.Commit ports.old ports.new (writing_value current)
+        (actor_value result.0) result.1 }
     ensures counts { ActCounts ports.old ports.new (account_of (Actor.Writing current)) (account_of result.0) result.1 }
 {
     answers_are_right();
@@ -385,7 +392,8 @@ fn abort<A: App, C: Cacheable>(whole: &Ports<A>, current: OpenRw<A, C>) -> (Acto
     ensures fits { IsActor A.next (whole_of whole.now) (length whole.now.nodes) result.0 }
     ensures told { story_of result.0 ≡ story_after Act.Abort result.1 (story_of (Actor.Writing current)) }
     ensures due { IsActDue (story_of (Actor.Writing current)) Act.Abort result.1 }
-    ensures left { result.1 ≡ Reply.Aborted (Some current.core.base) }
+    ensures leads { WritingLeads A.next Act.Abort whole.now whole.now (writing_value current)
+        (actor_value result.0) result.1 }
     ensures counts { ActCounts whole.now whole.now (account_of (Actor.Writing current)) (account_of result.0) result.1 }
 {
     let mut current = current;
@@ -415,6 +423,8 @@ pub(crate) fn act_writing<A: App, C: Cacheable>(
     ensures keeps { KeepsRow ports.old ports.new }
     ensures spare { ports.new.spare ≡ ports.old.spare }
     ensures counts { ActCounts ports.old ports.new (account_of (Actor.Writing current)) (account_of result.0) result.1 }
+    ensures leads { WritingLeads A.next act.now ports.old ports.new (writing_value current)
+        (actor_value result.0) result.1 }
 {
     match act {
         Act::BeginRo(_) | Act::BeginRw => (

@@ -1,9 +1,10 @@
-use Rattle.std.proofs.Common.{◌≡◌, length, sym, ap, subst, ◌∙◌}
+use Rattle.std.proofs.Common.{◌≡◌, length, refl, sym, ap, subst, ◌∙◌}
 use Rattle.txc_db.specs.Seen.{FrontValue}
 use Rattle.txc_ports.specs.Asking.{MayAsk}
 use Rattle.txc_txn.specs.Core.{CoreValue, IsAsk, IsTurn}
 use Rattle.txc_txn.proofs.Offered.{adds_at_first, adds_next, is_answered, is_right, may_ask, AddsOf}
-use Rattle.txc_client.specs.Run.{HasBegun, IsStep}
+use Rattle.txc_client.specs.Run.{Exchange, HasBegun, IsStep}
+use Rattle.txc_client.specs.Txn.{RoTxnValue}
 use Rattle.txc_client.proofs.Counting.{goes_down}
 use Rattle.txc_client.proofs.Grown.{as_many, have_grown_self, have_grown_then, prefix_then}
 use Rattle.txc_client.proofs.Runs.{run_begun, run_on}
@@ -15,12 +16,15 @@ loop-turn-init g c =
     let old = c.args.txn.now.core in
     let new = c.start-turn.new.self.core in
     let same = c.start-turn.ensures.same in
-    let begun : HasBegun c.args.txn.now c.args.key c.start-turn.new.self c.start-turn.result = record {
+    let before : RoTxnValue = record { txn = c.args.txn.now; passes = c.args.ports.now } in
+    let after : RoTxnValue = record { txn = c.start-turn.new.self; passes = c.args.ports.now } in
+    let begun : HasBegun before c.args.key after c.start-turn.result = record {
       turn_fits = c.start-turn.ensures.turn;
       leads = c.start-turn.ensures.leads;
       begins = c.start-turn.ensures.begins;
       functions = c.start-turn.ensures.functions;
       same = same;
+      passes = refl;
     } in
     record {
       passes = have_grown_self c.args.ports.now;
@@ -32,8 +36,8 @@ loop-turn-init g c =
       settings = settings_stay old new same;
       longer = history_stays old new same;
       functions = c.start-turn.ensures.functions;
-      run = run_begun g.A.App.next g.J.Naming.database_row c.args.txn.now c.args.key c.start-turn.new.self c.start-turn.result begun;
-      missing = λ members none. (c.start-turn.ensures.leads.begins members).absent none;
+      run = run_begun g.A.App.next g.J.Naming.database_row g.J.Naming.node_rows before c.args.key after c.start-turn.result begun;
+      missing = λ members none. ((c.start-turn.ensures.leads.begins members).absent none).1;
     }
 
 pub loop-turn-preserved : goal.loop-turn-preserved
@@ -41,10 +45,14 @@ loop-turn-preserved g c =
     let inv = c.loop-turn.invariant in
     let on = c.next-turn.ensures in
     let asks : IsAsk c.loop-turn.turn = subst IsAsk (sym c.in-Ask.is) tt in
-    let step : IsStep g.A.App.next g.J.Naming.database_row c.loop-turn.txn c.loop-turn.turn c.ask-reply.result c.next-turn.new.self c.next-turn.result = record {
-      request = c.in-Ask.request;
+    let began : RoTxnValue = record { txn = c.args.txn.now; passes = c.args.ports.now } in
+    let before : RoTxnValue = record { txn = c.loop-turn.txn; passes = c.loop-turn.ports } in
+    let after : RoTxnValue = record { txn = c.next-turn.new.self; passes = c.ask-reply.new.self } in
+    let x : Exchange = record { request = c.in-Ask.request; reply = c.ask-reply.result } in
+    let step : IsStep g.A.App.next g.J.Naming.database_row g.J.Naming.node_rows before c.loop-turn.turn x after c.next-turn.result = record {
       asks = c.in-Ask.is;
       given = record { to = c.ask-reply.ensures.answer; of_row = c.ask-reply.ensures.row; refused = c.ask-reply.ensures.refused };
+      passes = c.ask-reply.ensures.left;
       goes_on = on;
     } in
     record {
@@ -57,7 +65,7 @@ loop-turn-preserved g c =
       settings = settings_then c.args.txn.now.core c.loop-turn.txn.core c.next-turn.new.self.core inv.settings on.settings;
       longer = prefix_then c.args.txn.now.core.seen.history c.loop-turn.txn.core.seen.history c.next-turn.new.self.core.seen.history inv.longer on.longer;
       functions = on.functions ∙ inv.functions;
-      run = run_on g.A.App.next g.J.Naming.database_row c.args.txn.now c.args.key c.loop-turn.txn c.next-turn.new.self c.loop-turn.turn c.next-turn.result c.ask-reply.result inv.run step;
+      run = run_on g.A.App.next g.J.Naming.database_row g.J.Naming.node_rows began c.args.key before after c.loop-turn.turn c.next-turn.result x inv.run step;
       missing = λ members none. absurd (cc (inv.missing members none, c.in-Ask.is));
     }
 

@@ -1,6 +1,7 @@
-use Rattle.std.proofs.Common.{◌≡◌, ◌∙◌, Some, [], ◌∷◌, arith, sym}
+use Rattle.std.proofs.Common.{◌≡◌, ◌∙◌, ℕ, List, Some, None, [], ◌∷◌, arith, refl, sym, subst}
 use Rattle.txc_txn.specs.Core.{left_pin}
 use Rattle.txc_world.proofs.Fairness.{fair_ended}
+use Rattle.txc_world.specs.Keeping.{GiveBackLeads}
 use Rattle.txc_world.proofs.acting.abort.Goals as goal
 
 pub returns-in-Some-clause-counts : goal.returns-in-Some-clause-counts
@@ -18,3 +19,29 @@ returns-clause-counts g c = record {
       (c.deref.ensures.value ∙ c.cancel-left.ensures.give_back) [] (λ t. omega arith);
   loss = tt;
 }
+
+pub returns-in-Some-clause-leads : goal.returns-in-Some-clause-leads
+returns-in-Some-clause-leads g c = λ next pass.
+    let is : left_pin c.args.current.txn.core.pinning ≡ Some c.in-Some.stamp = sym c.cancel-left.ensures.unpin ∙ c.in-Some.is in
+    rw is (
+      (
+        c.give_back.result,
+        subst (λ (l : List ℕ). GiveBackLeads l c.args.ports.now c.give_back.new.self c.give_back.result)
+            (c.deref.ensures.value ∙ c.cancel-left.ensures.give_back) c.give_back.ensures.leads,
+      ),
+      (c.cancel-left.ensures.idle, c.cancel-left.ensures.functions, refl),
+      refl,
+    )
+
+pub returns-clause-leads : goal.returns-clause-leads
+returns-clause-leads g c = λ next pass.
+    let is : left_pin c.args.current.txn.core.pinning ≡ None = sym c.cancel-left.ensures.unpin ∙ c.in-None.is in
+    rw is (
+      (
+        c.give_back.result,
+        subst (λ (l : List ℕ). GiveBackLeads l c.args.ports.now c.give_back.new.self c.give_back.result)
+            (c.deref.ensures.value ∙ c.cancel-left.ensures.give_back) c.give_back.ensures.leads,
+      ),
+      (c.cancel-left.ensures.idle, c.cancel-left.ensures.functions),
+      refl,
+    )

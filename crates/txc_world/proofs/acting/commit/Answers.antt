@@ -1,10 +1,14 @@
-use Rattle.std.proofs.Common.{subst, sym}
+use Rattle.std.proofs.Common.{ℕ, List, ap, refl, subst, sym}
 use Rattle.txc_txn.specs.Core.{Explains}
 use Rattle.txc_world.specs.Ports.{PortsValue}
 use Rattle.txc_world.proofs.Explaining.{explained_later}
 use Rattle.std.proofs.Common.{◌∙◌, [], arith}
 use Rattle.txc_world.specs.Books.{account_of_core}
 use Rattle.txc_world.proofs.Fairness.{counts_itself, fair_ended}
+use Rattle.txc_world.specs.declared.reply.Reply.TheVariants.{Receipt}
+use Rattle.txc_world.specs.Cast.{call_value, resting}
+use Rattle.txc_world.specs.Keeping.{GiveBackLeads}
+use Rattle.txc_world.proofs.Leading.{with_call, without_call}
 use Rattle.txc_world.proofs.acting.commit.Goals as goal
 
 pub returns-clause-explained : goal.returns-clause-explained
@@ -24,3 +28,17 @@ returns-clause-counts g c = record {
       (c.deref.ensures.value ∙ c.finish-receipt.ensures.give_back) [] (λ t. omega arith);
   loss = tt;
 }
+
+pub returns-then-is_some-clause-leads : goal.returns-then-is_some-clause-leads
+returns-then-is_some-clause-leads g c = λ next pass. with_call call_value _ _ c.args.current.call (sym c.is_some.ensures ∙ c.if-is_some.true) (λ call. (refl, refl))
+
+pub returns-clause-leads : goal.returns-clause-leads
+returns-clause-leads g c = λ next pass. without_call call_value _ _ c.args.current.call (sym c.is_some.ensures ∙ c.if-is_some.false) (
+  (
+    c.give_back.result,
+    subst (λ (l : List ℕ). GiveBackLeads l c.args.ports.now c.give_back.new.self c.give_back.result)
+        (c.deref.ensures.value ∙ c.finish-receipt.ensures.give_back) c.give_back.ensures.leads,
+  ),
+  ap resting c.finish-receipt.ensures.registry,
+  ap Receipt c.finish-receipt.ensures.pin,
+)

@@ -3,6 +3,8 @@ use Rattle.txc_world.proofs.CommitLemmas.{explained_lent, explained_open}
 use Rattle.txc_world.proofs.WritingLemmas.{none_by_test}
 use Rattle.txc_world.proofs.WritingCounts.{based, fair_commit, fair_not_committed}
 use Rattle.txc_world.proofs.Fairness.{counts_itself}
+use Rattle.txc_world.specs.Cast.{call_value}
+use Rattle.txc_world.proofs.Leading.{with_call, without_call}
 use Rattle.txc_world.proofs.writing.commit.Goals as goal
 
 pub returns-in-Ok-clause-explained : goal.returns-in-Ok-clause-explained
@@ -29,3 +31,18 @@ returns-in-Err-clause-counts g c = record {
   fair = fair_not_committed c.args.ports.now c.commit.new.self c.base-base.result c.args.current.core.base _ _ c.in-Err.refusal c.in-Err.ensures.leads;
   loss = tt;
 }
+
+pub returns-then-is_some-clause-leads : goal.returns-then-is_some-clause-leads
+returns-then-is_some-clause-leads g c = with_call call_value _ _ c.args.current.call (sym c.is_some.ensures ∙ c.if-is_some.true) (λ call. (refl, refl))
+
+pub returns-in-Ok-clause-leads : goal.returns-in-Ok-clause-leads
+returns-in-Ok-clause-leads g c = without_call call_value _ _ c.args.current.call (sym c.is_some.ensures ∙ c.if-is_some.false) (
+  rw (sym c.base-base.ensures, sym c.tags-read.ensures, sym c.changes-changes.ensures.answer) c.in-Ok.ensures.leads,
+  (c.cancel-unpin.ensures.idle, c.cancel-unpin.ensures.functions, c.base-base.ensures),
+)
+
+pub returns-in-Err-clause-leads : goal.returns-in-Err-clause-leads
+returns-in-Err-clause-leads g c = without_call call_value _ _ c.args.current.call (sym c.is_some.ensures ∙ c.if-is_some.false) (
+  rw (sym c.base-base.ensures, sym c.tags-read.ensures, sym c.changes-changes.ensures.answer) c.in-Err.ensures.leads,
+  refl,
+)

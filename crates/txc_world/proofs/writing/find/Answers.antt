@@ -1,8 +1,8 @@
-use Rattle.std.proofs.Common.{ap, subst, sym, ◌∙◌}
+use Rattle.std.proofs.Common.{◌≡◌, List, Some, ap, subst, sym, ◌∙◌}
 use Rattle.txc_rows.specs.declared.query.Query.{Query}
-use Rattle.txc_rw.specs.Core.{RwValue}
-use Rattle.txc_world.specs.Writing.{FindLeadsRw}
-use Rattle.txc_world.proofs.WritingLemmas.{answered_at, asks_it, asks_query, found_leads, idle_after, is_ask, of_query, right_answer}
+use Rattle.txc_rw.specs.Core.{queried_after, RwValue}
+use Rattle.txc_world.specs.Writing.{FindLeadsRw, IsRead}
+use Rattle.txc_world.proofs.WritingLemmas.{answered_at, asks_it, asks_query, found_leads, found_read, found_same, idle_after, is_ask, of_query, queried_so, right_answer}
 use Rattle.std.proofs.Common.{ℕ}
 use Rattle.txc_world.specs.Books.{TurnIsLossOf}
 use Rattle.txc_world.proofs.WritingCounts.{based, loss_asked, loss_found}
@@ -52,3 +52,29 @@ returns-clause-leads g c =
     (answered_at c.in-Some.query c.base-base.result c.args.core.now.base c.args.ports.now c.answer-found.result
     (c.base-base.ensures ∙ ap (λ (v : RwValue). v.base) same) c.answer-found.ensures.leads)
     (λ f found. c.reply.ensures.rows f none found) c.reply.ensures.refused)
+
+pub returns-clause-objects : goal.returns-clause-objects
+returns-clause-objects g c =
+    let asks = asks_query c.ask-turn.new.self c.ask-turn.result c.in-Some.query c.ask-turn.ensures.turn (sym c.asked.ensures ∙ c.in-Some.is) in
+    let same = c.ask-turn.ensures.after (is_ask c.ask-turn.result asks.0 asks.1) in
+    c.reply.ensures.same_objects (ap (λ (v : RwValue). v.call.need) same ∙ c.requires.idle.0)
+
+pub returns-clause-same : goal.returns-clause-same
+returns-clause-same g c =
+    let asks = asks_query c.ask-turn.new.self c.ask-turn.result c.in-Some.query c.ask-turn.ensures.turn (sym c.asked.ensures ∙ c.in-Some.is) in
+    let same = c.ask-turn.ensures.after (is_ask c.ask-turn.result asks.0 asks.1) in
+    let none = ap (λ (v : RwValue). v.call.need) same ∙ c.requires.idle.0 in
+    let idle = idle_after c.reply.new.self c.reply.result c.reply.ensures.turn
+    (of_query c.ask-turn.new.self.call.need c.reply.result none c.reply.ensures.kind) in
+    found_same c.args.core.now c.ask-turn.new.self c.reply.new.self _ same c.reply.ensures.same (c.reply.ensures.same_call none) idle.1 c.requires.idle.1
+
+pub returns-clause-read : goal.returns-clause-read
+returns-clause-read g c =
+    let is = sym c.asked.ensures ∙ c.in-Some.is in
+    let asks = asks_query c.ask-turn.new.self c.ask-turn.result c.in-Some.query c.ask-turn.ensures.turn is in
+    let same = c.ask-turn.ensures.after (is_ask c.ask-turn.result asks.0 asks.1) in
+    subst (λ (q : Query). IsRead q c.args.core.now.queried c.reply.new.self.queried c.reply.result) (sym (asks_it c.args.query.now c.in-Some.query _ c.ask-turn.result c.ask-turn.ensures.answer is))
+    (found_read c.in-Some.query c.answer-found.result c.args.core.now.queried c.reply.new.self.queried c.reply.result
+    (subst (λ (qs : List Query). c.reply.new.self.queried ≡ queried_after qs (Some c.in-Some.query) c.answer-found.result) (ap (λ (v : RwValue). v.queried) same)
+    (queried_so c.ask-turn.new.self.queried c.ask-turn.new.self.reading c.in-Some.query c.answer-found.result c.reply.new.self.queried asks.2 c.reply.ensures.queried))
+    c.reply.ensures.refused)

@@ -30,4 +30,5 @@ returns-clause-asks g c =
           (needs_query c.args.core.now.reading c.args.core.now.call.need c.args.query.now c.requires.fits.reading c.requires.asked c.requires.open)
           is (answered_rows c.args.query.now c.args.core.now.base c.args.ports.now c.answer_told-did.result.1 f here is);
       refused = c.reply-turn.ensures.refused;
+      same = c.reply-turn.ensures.same;
     }

@@ -7,7 +7,8 @@ use Rattle.txc_call.specs.declared.error.CallError.TheVariants.{NoFunction}
 use Rattle.txc_ports.specs.declared.error.TxnError.TheVariants.{Call as CallRefused}
 use Rattle.txc_ports.specs.declared.turn.Turn.TheVariants as turns
 use Rattle.txc_rw.specs.Leading.{standing_of, CallLeads}
-use Rattle.txc_world.specs.declared.actor.OpenCall.{OpenCall}
+use Rattle.txc_world.specs.Cast.{call_value, called, writes}
+use Rattle.txc_world.proofs.Leading.{with_call, without_call}
 use Rattle.txc_rw.specs.Core.{RwValue}
 use Rattle.txc_world.specs.Actors.{told_answers}
 use Rattle.txc_world.proofs.WritingLemmas.{answers_at_start, none_by_test, told_at_start, writing_same}
@@ -44,17 +45,24 @@ pub returns-clause-counts : goal.returns-clause-counts
 returns-clause-counts g c =
     counts_based c.args.whole.now c.args.whole.now c.args.current.core.base c.start-turn.new.self.base _ refl (ap (λ (v : RwValue). v.base) c.start-turn.ensures.same) tt
 
+pub returns-then-is_some-clause-leads : goal.returns-then-is_some-clause-leads
+returns-then-is_some-clause-leads g c = with_call call_value _ _ c.args.current.call (sym c.is_some.ensures ∙ c.if-is_some.true) (λ call. (refl, refl))
+
 pub returns-clause-leads : goal.returns-clause-leads
-returns-clause-leads g c = λ none. record {
-  current = record { core = c.start-turn.new.self; registry = c.start-turn.new.registry; call = Some (record { key = c.copy-2.result; turn = c.start-turn.result }) };
-  turn = c.start-turn.result;
-  actor_is = refl;
-  call = ap (λ (k : Call). let call : OpenCall = record { key = k; turn = c.start-turn.result } in Some call) c.copy-2.ensures;
-  leads = λ there s.
-      subst (λ (k : Call). CallLeads g.A.App.next s (standing_of (started k) c.args.current.registry) [] c.start-turn.new.self c.start-turn.new.registry c.start-turn.result)
-      c.copy.ensures
-      (c.start-turn.ensures.leads (subst (λ (k : Call). IsSome (activity_of c.args.current.registry k.function)) (sym c.copy.ensures) there) s);
-  missing = λ gone.
-      subst (λ (k : Call). c.start-turn.result ≡ turns.Refused (CallRefused (NoFunction k.function))) c.copy.ensures
-      (c.start-turn.ensures.missing (subst (λ (k : Call). IsNone (activity_of c.args.current.registry k.function)) (sym c.copy.ensures) gone));
-}
+returns-clause-leads g c = without_call call_value _ _ c.args.current.call (sym c.is_some.ensures ∙ c.if-is_some.false) (
+  refl,
+  record {
+    core = c.start-turn.new.self;
+    objects = c.start-turn.new.registry;
+    turn = c.start-turn.result;
+    actor_is = ap (λ (k : Call). writes (record { core = c.start-turn.new.self; objects = c.start-turn.new.registry; call = Some (called k c.start-turn.result) })) c.copy-2.ensures;
+    leads = λ there s.
+        subst (λ (k : Call). CallLeads g.A.App.next s (standing_of (started k) c.args.current.registry) [] c.start-turn.new.self c.start-turn.new.registry c.start-turn.result)
+        c.copy.ensures
+        (c.start-turn.ensures.leads (subst (λ (k : Call). IsSome (activity_of c.args.current.registry k.function)) (sym c.copy.ensures) there) s);
+    missing = λ gone.
+        subst (λ (k : Call). c.start-turn.result ≡ turns.Refused (CallRefused (NoFunction k.function))) c.copy.ensures
+        (c.start-turn.ensures.missing (subst (λ (k : Call). IsNone (activity_of c.args.current.registry k.function)) (sym c.copy.ensures) gone));
+    same = c.start-turn.ensures.same;
+  },
+)

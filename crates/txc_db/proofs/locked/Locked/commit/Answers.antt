@@ -8,6 +8,7 @@ use Rattle.txc_db.specs.declared.error.DbError.TheVariants.{Broken}
 use Rattle.txc_db.proofs.Committed.{some_net, commit_begins}
 use Rattle.txc_db.proofs.Refusing.{mark_refused}
 use Rattle.txc_db.proofs.locked.Locked.commit.Goals as goal
+use Rattle.txc_db.proofs.locked.Locked.commit.Goals.{else-lt-via-then-lt+else-not-leave_mark, else-lt-via-else-lt}
 
 pub returns-then-not-leave_mark-clause-refused : goal.returns-then-not-leave_mark-clause-refused
 returns-then-not-leave_mark-clause-refused g c =
@@ -24,3 +25,11 @@ lengthen-requires-clause-begins g c =
     let old : c.in_ok-front.front.history ≡ d.history = ap (λ (f : FrontValue). f.history) c.in_ok-front.ensures in
     let whole : c.history.result.now.history ≡ (after_commit d c.args.changes.now).history = ap (λ (f : FrontValue). f.history) c.history.ensures ∙ ap (λ (v : DatabaseValue). v.history) c.in-Ok.ensures.after in
     subst (λ (l : History). IsPrefix c.in_ok-front.front.history l) (sym whole) (subst (λ (l : History). IsPrefix l (after_commit d c.args.changes.now).history) (sym old) begins)
+
+pub returns-else-lt-clause-after : goal.returns-else-lt-clause-after
+returns-else-lt-clause-after g c =
+    let done = c.in-Ok.ensures.after ∙ ap (λ (v : DatabaseValue). after_commit v c.args.changes.now) c.self.view_is in
+    elim c.else-lt.branch [
+      | else-lt-via-then-lt+else-not-leave_mark w ↦ w.self-is ∙ done
+      | else-lt-via-else-lt w ↦ w.self-is ∙ done
+    ]

@@ -22,7 +22,7 @@ new-requires-3 g c =
     let done : program e.key.function e.key.args (Rows rows ∷ []) ≡ Some (Done (body_of rows)) =
     ap (λ (k : Call). program k.function k.args (Rows rows ∷ [])) key_is in
     let answered = c.in_ok-answer.ensures.answer in
-    let hold = c.found_rows_give_true_entries.ensures.rows L q c.args.stamp answered.0 found answered.1 c.in_ok-answer.ensures.tag in
+    let hold = c.found_rows_give_true_entries.ensures.rows L q c.args.stamp answered.0.horizon found answered.2.answer c.in_ok-answer.ensures.tag in
     c.found_rows_give_true_entries.ensures.entry program L q rows e hold (record {
       query = asks ∙ ap (λ t. Some (Query (ById t c.args.id))) (sym table_is);
       done = done ∙ ap (λ b. Some (Done b)) (sym value_is);

@@ -2,6 +2,7 @@ use Rattle.std.proofs.Common.{Option, List, Some, refl, ap, ◌∙◌, slice_set
 use Rattle.txc_world.specs.declared.actor.Actor.{Actor}
 use Rattle.txc_world.specs.Worlds.{WorldValue}
 use Rattle.txc_world.proofs.Balancing.{world_balanced}
+use Rattle.txc_world.proofs.Leading.{world_led}
 use Rattle.txc_world.proofs.Stepping.{due_act, explained_act, told_act, world_acts}
 use Rattle.txc_world.proofs.world.World.act.Goals as goal
 
@@ -37,3 +38,10 @@ returns-clause-balanced g c = λ purse h.
     (c.take_out.ensures.actor ∙ ap Some c.in-Some.is) c.put_back.new.actors.items c.args.self.now _ c.act-actor.result.1 purse
     (c.put_back.ensures ∙ ap (λ (l : List (Option (Actor g.row.A.Denot g.row.C.Denot))). slice_set l c.args.place (Some c.act-actor.result.0)) c.take_out.ensures.after)
     c.act-actor.ensures.spare c.count_right.ensures c.act-actor.ensures.counts c.self.view_is refl h
+
+pub returns-clause-leads : goal.returns-clause-leads
+returns-clause-leads g c =
+    world_led g.A.App.next c.self.inside.settings c.self.inside.ports c.act-actor.new.ports c.self.inside.actors.items c.args.place c.in-Some.actor c.act-actor.result.0
+    (c.take_out.ensures.actor ∙ ap Some c.in-Some.is) c.put_back.new.actors.items c.args.self.now _ c.args.doing.now c.act-actor.result.1
+    (c.put_back.ensures ∙ ap (λ (l : List (Option (Actor g.row.A.Denot g.row.C.Denot))). slice_set l c.args.place (Some c.act-actor.result.0)) c.take_out.ensures.after)
+    c.act-actor.ensures.leads c.self.view_is refl

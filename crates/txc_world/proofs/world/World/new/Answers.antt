@@ -5,21 +5,25 @@ use Rattle.std.proofs.lemmas.List.Elements.{All-map}
 use Rattle.txc_world.specs.declared.actor.Actor.TheVariants.{Idle}
 use Rattle.txc_world.specs.Ports.{whole_of}
 use Rattle.txc_world.specs.Actors.{story_at, IsThere}
+use Rattle.txc_world.specs.Cast.{actor_at}
 use Rattle.txc_world.proofs.Balancing.{new_balanced}
 use Rattle.txc_world.proofs.world.World.new.Goals as goal
 
 pub invariant_of-result : goal.invariant_of-result
 invariant_of-result g c = record {
-  nodes = c.in_ok-ports.ensures.count;
+  nodes = c.in_ok-ports.ensures.new.count;
   some = c.requires.nodes;
-  passes = ap length c.in_ok-actors.ensures ∙ length-map c.args.registries.items (λ r. Some (Idle r)) ∙ sym (c.len.ensures ∙ c.args.registries.ok.0) ∙ sym c.in_ok-ports.ensures.actors_are;
+  passes = ap length c.in_ok-actors.ensures ∙ length-map c.args.registries.items (λ r. Some (Idle r)) ∙ sym (c.len.ensures ∙ c.args.registries.ok.0) ∙ sym c.in_ok-ports.ensures.new.actors_are;
   there = rw c.in_ok-actors.ensures (All-map (IsThere g.A.App.next (whole_of c.in_ok-ports.ports) c.args.settings.nodes) (λ r. Some (Idle r)) c.args.registries.items c.requires.all_idle);
 }
 
 pub returns-clause-actors : goal.returns-clause-actors
 returns-clause-actors g c = rw c.in_ok-actors.ensures (map-map story_at (λ r. Some (Idle r)) c.args.registries.items)
 
+pub returns-clause-idle : goal.returns-clause-idle
+returns-clause-idle g c = rw c.in_ok-actors.ensures (map-map actor_at (λ r. Some (Idle r)) c.args.registries.items)
+
 pub returns-clause-balanced : goal.returns-clause-balanced
 returns-clause-balanced g c =
     new_balanced (λ r. Some (Idle r)) (λ r. refl) c.args.settings c.in_ok-ports.ports c.in_ok-actors.actors.items c.args.registries.items
-    c.in_ok-ports.ensures.holds c.in_ok-ports.ensures.entries c.in_ok-ports.ensures.spare c.in_ok-actors.ensures
+    c.in_ok-ports.ensures.new.holds c.in_ok-ports.ensures.new.entries c.in_ok-ports.ensures.new.spare c.in_ok-actors.ensures

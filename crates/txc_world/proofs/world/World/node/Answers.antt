@@ -4,8 +4,8 @@ use Rattle.txc_shared.specs.Runs.{IsNode}
 use Rattle.txc_world.specs.Worlds.{WorldValue}
 use Rattle.txc_world.proofs.world.World.node.Goals as goal
 
-pub returns : goal.returns
-returns g c = λ whole.
+pub returns-clause-right : goal.returns-clause-right
+returns-clause-right g c = λ whole.
     subst (λ (w : WorldValue). IsNode g.A.App.next w.told.history (start_of c.node-node.result.now.settings) c.node-node.result.now.records c.node-node.result.now.cache false)
     c.self.view_is
     (c.nodes_go_on.ensures.sees g.A.App.next c.node-node.result.now.seen.history c.self.inside.ports.database.history

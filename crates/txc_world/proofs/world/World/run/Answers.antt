@@ -1,5 +1,6 @@
 use Rattle.txc_world.proofs.Tellings.{length_more, loop_due, loop_explained, loop_told, loop_whole}
 use Rattle.txc_world.proofs.Balancing.{loop_tidy, loop_tidy_end}
+use Rattle.txc_world.proofs.Leading.{loop_led, loop_led_end}
 use Rattle.txc_world.proofs.world.World.run.Goals as goal
 
 pub loop-step-preserved : goal.loop-step-preserved
@@ -12,6 +13,8 @@ loop-step-preserved g c =
     rw c.push_reserved.ensures.items (record {
       told = loop_told g.A.App.next start steps i replies c.step-item.result c.step-reply.result c.loop-step-test.true c.step-item.is h.each
           c.loop-step.self.told c.step-reply.new.self.told h.told c.step-reply.ensures.told;
+      led = loop_led g.A.App.next c.args.self.now steps i replies c.step-item.result c.step-reply.result c.loop-step-test.true c.step-item.is h.each
+          c.loop-step.self c.step-reply.new.self h.led (record { told = c.step-reply.ensures.told; leads = c.step-reply.ensures.leads });
       due = loop_due g.A.App.next start steps i replies c.step-item.result c.step-reply.result c.loop-step-test.true c.step-item.is h.each
           c.loop-step.self.told h.told h.due c.step-reply.ensures.due;
       explained = loop_explained g.A.App.next start steps i replies c.step-item.result c.step-reply.result c.loop-step-test.true c.step-item.is h.each
@@ -37,3 +40,8 @@ pub returns-clause-tidy : goal.returns-clause-tidy
 returns-clause-tidy g c = λ purse h tidy.
     (loop_tidy_end c.args.steps.now c.loop-step.step-index c.loop-step.replies.items c.loop-step-test.false c.loop-step.auto.step-index-end
     c.args.self.now c.loop-step.self c.loop-step.invariant.tidy purse h tidy).1
+
+pub returns-clause-leads : goal.returns-clause-leads
+returns-clause-leads g c =
+    loop_led_end g.A.App.next c.args.self.now c.args.steps.now c.loop-step.step-index c.loop-step.replies.items c.loop-step-test.false c.loop-step.auto.step-index-end
+    c.loop-step.self c.loop-step.invariant.led

@@ -2,12 +2,14 @@ use Rattle.std.proofs.Common.{◌≡◌, ◌≤◌, length, take}
 use Rattle.std.specs.Prelude.{vec_capacity}
 use Rattle.txc_world.specs.Tidy.{purse_by, AreTidy, LoseNoSnapshot, Purse}
 use Rattle.txc_world.specs.Worlds.{IsBalanced}
+use Rattle.txc_world.specs.Acts.{AreLed}
 use Rattle.txc_world.specs.Told.{told_by, AreDue, AreExplained}
 use Rattle.txc_world.proofs.world.World.run.Given as goal
 
 abbrev pub invariant-loop-step : goal.invariant-loop-step
 invariant-loop-step g l = record {
   told : l.self.told ≡ told_by l.initial.self.told (take l.step-index l.steps) l.replies.items;
+  led : AreLed g.A.App.next l.initial.self (take l.step-index l.steps) l.replies.items l.self;
   due : AreDue l.initial.self.told (take l.step-index l.steps) l.replies.items;
   explained : AreExplained g.A.App.next l.initial.self.told (take l.step-index l.steps) l.replies.items;
   tidy : (purse : Purse) → IsBalanced l.initial.self purse → AreTidy purse (take l.step-index l.steps) l.replies.items

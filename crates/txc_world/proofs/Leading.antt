@@ -1,0 +1,108 @@
+-- What steps leave of a world, one after another.
+use Rattle.std.proofs.Common.{◌≡◌, ℕ, ◌+◌, ◌<◌, ◌≤◌, true, false, List, [], ◌∷◌, ◌++◌, length, map, Option, Some, None, refl, ap, sym, subst, ◌∙◌, arith, take, get_or, add-one, length-take-le, slice_get, slice_set}
+use Rattle.std.specs.Prelude.{is_some, MatchOption}
+use Rattle.std.specs.Option.{option_map}
+use Rattle.std.proofs.Math.Seq.{take-length, take-suc}
+use Rattle.std.proofs.lemmas.Option.{slice_get-map}
+use Rattle.std.proofs.lemmas.List.{map-set}
+use Rattle.txc_ports.specs.declared.turn.Turn.{Turn}
+use Rattle.txc_ports.specs.declared.turn.Turn.TheVariants as turns
+use Rattle.txc_shared.specs.Eval.{Next}
+use Rattle.txc_world.specs.declared.actor.OpenTxn.{OpenTxn}
+use Rattle.txc_world.specs.declared.actor.Actor.{Actor}
+use Rattle.txc_world.specs.declared.actor.Actor.TheVariants.{Reading}
+use Rattle.txc_world.specs.declared.reply.End.{End}
+use Rattle.txc_world.specs.declared.reply.Reply.{Reply}
+use Rattle.txc_world.specs.declared.settings.WorldSettings.{WorldSettings}
+use Rattle.txc_world.specs.declared.step.Act.{Act}
+use Rattle.txc_world.specs.declared.step.Step.{Step}
+use Rattle.txc_world.specs.declared.step.Step.TheVariants as steps
+use Rattle.txc_world.specs.Ports.{PortsValue}
+use Rattle.txc_world.specs.Cast.{actor_at, actor_value, reading_value, reads, ReadingValue}
+use Rattle.txc_world.specs.Actors.{IsNoted}
+use Rattle.txc_world.specs.Acts.{ActLeads, AreLed, HasStepped, StepLeads}
+use Rattle.txc_world.specs.Worlds.{value_of, WorldValue}
+use Rattle.txc_world.proofs.Stepping.{set_twice}
+
+-- ---- a call, as it is kept and as it is seen
+
+module _ {X Y : Type 0} (see : X → Y) (Closed : Type 0) (Opened : Y → Type 0) where
+  pub with_call : (call : Option X) → is_some call ≡ true → ((x : X) → Opened (see x)) → MatchOption (option_map see call) Closed Opened
+  with_call None is h = absurd (cc is)
+  with_call (Some x) is h = h x
+
+  pub without_call : (call : Option X) → is_some call ≡ false → Closed → MatchOption (option_map see call) Closed Opened
+  without_call None is h = h
+  without_call (Some x) is h = absurd (cc is)
+
+-- what is there is led so
+pub some_there : {X : Type 0} (Absent : Type 0) (There : X → Type 0) (o : Option X) (x : X) → o ≡ Some x → There x → MatchOption o Absent There
+some_there Absent There o x is h = rw is h
+
+pub noted_seen : {X Y : Type 0} (see : X → Y) (opened : Turn → X) (turn : Turn) (call : Option X) (end : Option End) → IsNoted opened turn call end
+    → IsNoted (λ (t : Turn). see (opened t)) turn (option_map see call) end
+noted_seen see opened (turns.Ask request) call end h = (ap (option_map see) h.0, h.1)
+noted_seen see opened (turns.Value value) call end h = (ap (option_map see) h.0, h.1)
+noted_seen see opened (turns.Refused error) call end h = (ap (option_map see) h.0, h.1)
+noted_seen see opened turns.Begun call end h = absurd h
+noted_seen see opened (turns.Rows rows) call end h = absurd h
+noted_seen see opened (turns.At stamp) call end h = absurd h
+
+-- ---- a step of an actor
+
+module _ {A C : Type 0} (next : Next) (settings : WorldSettings) (old new : PortsValue) (actors : List (Option (Actor A C))) (place : ℕ) (actor actor' : Actor A C)
+    (is : slice_get actors place ≡ Some (Some actor)) where
+  actor_there : slice_get (map actor_at actors) place ≡ Some (actor_value actor)
+  actor_there = slice_get-map actor_at actors place ∙ ap (λ (o : Option (Option (Actor A C))). option_map actor_at o) is
+
+  pub world_led : (actors' : List (Option (Actor A C))) (was now : WorldValue) (act : Act) (reply : Reply)
+      → actors' ≡ slice_set (slice_set actors place None) place (Some actor')
+      → ActLeads next settings.renew_after place act old new (actor_value actor) (actor_value actor') reply
+      → value_of settings old actors ≡ was → value_of settings new actors' ≡ now → StepLeads next was (steps.Actor place act) reply now
+  world_led actors' was now act reply put leads shows shows' =
+      let led : StepLeads next (value_of settings old actors) (steps.Actor place act) reply (value_of settings new actors') = rw actor_there (record {
+        actor = actor_value actor';
+        others = rw (put, set_twice actors place None (Some actor')) (map-set actor_at actors place (Some actor'));
+        leads = leads;
+      })
+      in subst (λ (w : WorldValue). StepLeads next was (steps.Actor place act) reply w) shows'
+      (subst (λ (w : WorldValue). StepLeads next w (steps.Actor place act) reply (value_of settings new actors')) shows led)
+
+-- what is seen of an actor with a read-only transaction open
+pub seen_there : {A C : Type 0} → (actors : List (Option (Actor A C))) (place : ℕ) (o : OpenTxn A C) (r : ReadingValue) → slice_get actors place ≡ Some (Some (Reading o))
+    → slice_get (map actor_at actors) place ≡ Some (reads r) → r ≡ reading_value o
+seen_there actors place o r is at =
+    let both : Some (reads r) ≡ Some (reads (reading_value o)) =
+    sym at ∙ slice_get-map actor_at actors place ∙ ap (λ slot. option_map actor_at slot) is in
+    cc both
+
+-- ---- one more step and its reply
+
+pub led_more : (next : Next) (start now new : WorldValue) (steps : List Step) (replies : List Reply) (step : Step) (reply : Reply)
+    → length replies ≡ length steps → AreLed next start steps replies now → HasStepped next now step reply new
+    → AreLed next start (steps ++ step ∷ []) (replies ++ reply ∷ []) new
+led_more next start now new [] [] step reply e h k = (new, subst (λ (w : WorldValue). HasStepped next w step reply new) h k, refl)
+led_more next start now new [] (r ∷ rs) step reply e h k = absurd (cc e)
+led_more next start now new (s ∷ ss) [] step reply e h k = absurd (cc e)
+led_more next start now new (s ∷ ss) (r ∷ rs) step reply e h k =
+    let e' : length rs ≡ length ss = cc in (h.0, h.1, led_more next h.0 now new ss rs step reply e' h.2 k)
+
+-- ---- the loop over the steps
+
+module _ (next : Next) (start : WorldValue) (steps : List Step) (i : ℕ) (replies : List Reply) where
+  pub loop_led : (step : Step) (reply : Reply) → i < length steps → step ≡ get_or steps i step → length replies ≡ i
+      → (now new : WorldValue) → AreLed next start (take i steps) replies now → HasStepped next now step reply new
+      → AreLed next start (take (i + 1) steps) (replies ++ reply ∷ []) new
+  loop_led step reply within is even now new h k =
+      let less : i ≤ length steps = omega (arith, within) in
+      let long = length-take-le i steps less in
+      let one : take (i + 1) steps ≡ take i steps ++ step ∷ [] =
+      ap (λ n. take n steps) (add-one i) ∙ take-suc steps i step within ∙ ap (λ s. take i steps ++ s ∷ []) (sym is) in
+      rw one (led_more next start now new (take i steps) replies step reply (even ∙ sym long) h k)
+
+  pub loop_led_end : length steps ≤ i → i ≤ length steps → (now : WorldValue) → AreLed next start (take i steps) replies now
+      → AreLed next start steps replies now
+  loop_led_end past within now h =
+      let at : i ≡ length steps = omega (arith, past, within) in
+      let all : take i steps ≡ steps = ap (λ n. take n steps) at ∙ take-length steps in
+      subst (λ (ss : List Step). AreLed next start ss replies now) all h

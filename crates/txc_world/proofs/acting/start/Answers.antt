@@ -1,0 +1,21 @@
+use Rattle.std.proofs.Common.{Some, refl, ap, sym, subst, ◌∙◌}
+use Rattle.txc_tags.specs.Keys.{Call}
+use Rattle.txc_txn.specs.Leading.{StartLeads}
+use Rattle.txc_world.specs.Cast.{call_value, called, reads}
+use Rattle.txc_world.proofs.Leading.{with_call, without_call}
+use Rattle.txc_world.proofs.acting.start.Goals as goal
+
+pub returns-then-is_some-clause-leads : goal.returns-then-is_some-clause-leads
+returns-then-is_some-clause-leads g c = λ next pass. with_call call_value _ _ c.args.current.call (sym c.is_some.ensures ∙ c.if-is_some.true) (λ call. (refl, refl))
+
+pub returns-clause-leads : goal.returns-clause-leads
+returns-clause-leads g c = λ next pass. without_call call_value _ _ c.args.current.call (sym c.is_some.ensures ∙ c.if-is_some.false) (
+  refl,
+  record {
+    txn = c.start-turn.new.self;
+    turn = c.start-turn.result;
+    actor_is = ap (λ (k : Call). reads (record { txn = c.start-turn.new.self; call = Some (called k c.start-turn.result) })) c.copy-2.ensures;
+    leads = subst (λ (k : Call). StartLeads c.args.current.txn.core c.args.current.txn.objects k c.start-turn.new.self.core c.start-turn.new.self.objects c.start-turn.result) c.copy.ensures c.start-turn.ensures.leads;
+    same = c.start-turn.ensures.same;
+  },
+)

@@ -1,0 +1,24 @@
+use Rattle.std.proofs.Common.{Option, refl, ap, sym, ◌∙◌}
+use Rattle.std.specs.Option.{option_map}
+use Rattle.txc_world.specs.declared.actor.OpenCall.{OpenCall}
+use Rattle.txc_world.specs.Cast.{call_value, called, opened}
+use Rattle.txc_world.proofs.Leading.{noted_seen, some_there}
+use Rattle.txc_world.proofs.writing.request.Goals as goal
+
+pub returns-clause-leads : goal.returns-clause-leads
+returns-clause-leads g c =
+    some_there _ _ (option_map call_value c.args.current.call) (called c.in-Some.field-0.key c.in-Some.field-0.turn) (ap (λ (o : Option OpenCall). option_map call_value o) c.in-Some.is) (
+      c.go_on-did.ensures.same_ports,
+      some_there _ _ _ c.in-Some-asked.query (sym c.asked.ensures ∙ c.in-Some-asked.is) (record {
+        core = c.go_on-did.new.core;
+        objects = c.go_on-did.new.registry;
+        call = option_map call_value c.note-call.result.0;
+        did = c.go_on-did.result.did;
+        end = c.note-call.result.1;
+        turn = c.go_on-did.result.turn;
+        actor_is = refl;
+        reply_is = refl;
+        asks = c.go_on-did.ensures.asks;
+        noted = noted_seen call_value (opened c.in-Some.field-0.key) c.go_on-did.result.turn c.note-call.result.0 c.note-call.result.1 c.note-call.ensures;
+      }),
+    )

@@ -1,0 +1,128 @@
+-- What each step leaves of a world, beside what is told of it.
+use Rattle.std.specs.Prelude.{◌≡◌, ℕ, List, [], ◌∷◌, Option, Some, None, slice_get, slice_set, MatchOption}
+use Rattle.txc_shared.specs.Eval.{Next}
+use Rattle.txc_registry.specs.Objects.{Objects}
+use Rattle.txc_txn.specs.Core.{left_pin, receipt_pin}
+use Rattle.txc_world.specs.declared.did.Did.{Did}
+use Rattle.txc_world.specs.declared.step.Act.{Act}
+use Rattle.txc_world.specs.declared.step.Act.TheVariants.{BeginRo, BeginRw, Start, Request, Ask, Write, Commit, Abort}
+use Rattle.txc_world.specs.declared.step.Step.{Step}
+use Rattle.txc_world.specs.declared.step.Step.TheVariants.{Actor, Keeper}
+use Rattle.txc_world.specs.declared.reply.Reply.{Reply}
+use Rattle.txc_world.specs.declared.reply.Reply.TheVariants.{Asked, Aborted, Receipt}
+use Rattle.txc_world.specs.Ports.{PortsValue}
+use Rattle.txc_world.specs.Asks.{UnpinTold}
+use Rattle.txc_world.specs.Kept.{KeepLeads}
+use Rattle.txc_world.specs.Cast.{ActorValue, ReadingValue, WritingValue, resting, reads, writes, leaves}
+use Rattle.txc_world.specs.Actors.{BeginLeads, HasGivenBack, HasStarted, IsGivenUp, RequestLeads}
+use Rattle.txc_world.specs.Writing.{BeginRwLeads, CommitLeadsRw, HasFoundRw, HasStartedRw, RequestLeadsRw, WriteLeadsRw}
+use Rattle.txc_world.specs.Told.{after}
+use Rattle.txc_world.specs.Worlds.{WorldValue}
+
+-- ---- a step of an actor
+
+-- neither the ports nor the actor have changed
+abbrev pub NothingDone : PortsValue → PortsValue → ActorValue → ActorValue → Type 0
+NothingDone old new before after = (new ≡ old) × (after ≡ before)
+
+-- with nothing open it begins a transaction, or does nothing
+abbrev pub RestingLeads : ℕ → Act → PortsValue → PortsValue → Objects → ActorValue → Reply → Type 0
+RestingLeads renew_after (BeginRo bounds) old new objects actor reply =
+    BeginLeads renew_after bounds old new objects actor reply
+RestingLeads renew_after BeginRw old new objects actor reply = BeginRwLeads old new objects actor reply
+RestingLeads renew_after act old new objects actor reply = NothingDone old new (resting objects) actor
+
+-- With a read-only transaction open it starts a call or ends the transaction, where no call is open; it
+-- makes the request of the open call; it gives up, in the middle of a call too; or it does nothing.
+abbrev pub ReadingLeads : Next → ℕ → Act → PortsValue → PortsValue → ReadingValue → ActorValue → Reply
+    → Type 0
+ReadingLeads next pass (Start key) old new r actor reply = MatchOption r.call
+    ((new ≡ old) × HasStarted key r.txn actor)
+    (λ call. NothingDone old new (reads r) actor)
+ReadingLeads next pass Request old new r actor reply = MatchOption r.call
+    (NothingDone old new (reads r) actor)
+    (λ call. RequestLeads next pass call.key call.turn old new r.txn actor reply)
+ReadingLeads next pass Commit old new r actor reply = MatchOption r.call
+    (HasGivenBack r.txn.core.taken old new × (actor ≡ resting r.txn.objects)
+    × (reply ≡ Receipt (receipt_pin r.txn.core.recorded r.txn.core.pins.members)))
+    (λ call. NothingDone old new (reads r) actor)
+ReadingLeads next pass Abort old new r actor reply = HasGivenBack r.txn.core.taken old new
+    × IsGivenUp (left_pin r.txn.core.pinning) r.txn.objects actor
+    × (reply ≡ Aborted (left_pin r.txn.core.pinning))
+ReadingLeads next pass act old new r actor reply = NothingDone old new (reads r) actor
+
+-- With a read-write transaction open it starts a call, asks, keeps a change or commits, where no call is
+-- open; it makes the request of the open call; it gives up, in the middle of a call too; or it does nothing.
+abbrev pub WritingLeads : Next → Act → PortsValue → PortsValue → WritingValue → ActorValue → Reply → Type 0
+WritingLeads next (Start key) old new w actor reply = MatchOption w.call
+    ((new ≡ old) × HasStartedRw next key w actor)
+    (λ call. NothingDone old new (writes w) actor)
+WritingLeads next Request old new w actor reply = MatchOption w.call
+    (NothingDone old new (writes w) actor)
+    (λ call. (new ≡ old) × RequestLeadsRw next call.key call.turn old w actor reply)
+WritingLeads next (Ask query) old new w actor reply = MatchOption w.call
+    ((new ≡ old) × HasFoundRw query old w actor reply)
+    (λ call. NothingDone old new (writes w) actor)
+WritingLeads next (Write change) old new w actor reply = MatchOption w.call
+    ((new ≡ old) × WriteLeadsRw change w actor reply)
+    (λ call. NothingDone old new (writes w) actor)
+WritingLeads next Commit old new w actor reply = MatchOption w.call
+    (CommitLeadsRw old new w actor reply)
+    (λ call. NothingDone old new (writes w) actor)
+WritingLeads next Abort old new w actor reply = (new ≡ old)
+    × IsGivenUp (Some w.core.base) w.objects actor × (reply ≡ Aborted (Some w.core.base))
+WritingLeads next act old new w actor reply = NothingDone old new (writes w) actor
+
+-- one request takes the hold away that is left
+pub record HasTakenAway (old new : PortsValue) (objects : Objects) (stamp : ℕ) (actor : ActorValue)
+    (reply : Reply) : Type 0 where
+  pub did : Did
+  pub reply_is : reply ≡ Asked did None
+  pub unpinned : UnpinTold stamp old new did
+  pub actor_is : actor ≡ resting objects
+
+abbrev pub LeavingLeads : Act → PortsValue → PortsValue → Objects → ℕ → ActorValue → Reply → Type 0
+LeavingLeads Request old new objects stamp actor reply = HasTakenAway old new objects stamp actor reply
+LeavingLeads act old new objects stamp actor reply = NothingDone old new (leaves objects stamp) actor
+
+-- what a step of an actor, which has this pass through the nodes, leaves of the ports and of the actor, by
+-- what it has open
+abbrev pub ActLeads : Next → ℕ → ℕ → Act → PortsValue → PortsValue → ActorValue → ActorValue → Reply → Type 0
+ActLeads next renew_after pass act old new (resting objects) actor reply =
+    RestingLeads renew_after act old new objects actor reply
+ActLeads next renew_after pass act old new (reads r) actor reply =
+    ReadingLeads next pass act old new r actor reply
+ActLeads next renew_after pass act old new (writes w) actor reply =
+    WritingLeads next act old new w actor reply
+ActLeads next renew_after pass act old new (leaves objects stamp) actor reply =
+    LeavingLeads act old new objects stamp actor reply
+
+-- ---- a step
+
+-- the actor of the number, which was this before, is led so, and the others stay as they are
+pub record HasActed (next : Next) (place : ℕ) (act : Act) (old new : WorldValue) (reply : Reply)
+    (before : ActorValue) : Type 0 where
+  pub actor : ActorValue
+  pub others : new.actors ≡ slice_set old.actors place actor
+  pub leads : ActLeads next old.told.settings.renew_after place act old.ports new.ports before actor reply
+
+-- A step of an actor leads that actor; where there is no such actor, nothing changes. A step of the keeper
+-- leads the ports, and every actor stays as it is.
+abbrev pub StepLeads : Next → WorldValue → Step → Reply → WorldValue → Type 0
+StepLeads next old (Actor place act) reply new = MatchOption (slice_get old.actors place) (new ≡ old)
+    (λ before. HasActed next place act old new reply before)
+StepLeads next old (Keeper keep) reply new = KeepLeads keep old.ports new.ports reply
+    × (new.actors ≡ old.actors)
+
+-- what a step leaves of a world, and what is told of it
+pub record HasStepped (next : Next) (old : WorldValue) (step : Step) (reply : Reply) (new : WorldValue)
+    : Type 0 where
+  pub told : new.told ≡ after old.told step reply
+  pub leads : StepLeads next old step reply new
+
+-- the steps lead from the one world to the other: each to a world, from which the next one leads on
+abbrev pub AreLed : Next → WorldValue → List Step → List Reply → WorldValue → Type 0
+AreLed next old [] replies new = new ≡ old
+AreLed next old (step ∷ steps) [] new = ⊥
+AreLed next old (step ∷ steps) (reply ∷ replies) new = (between : WorldValue)
+    × HasStepped next old step reply between × AreLed next between steps replies new

@@ -1,0 +1,66 @@
+-- What callers see of an actor.
+use Rattle.std.specs.Prelude.{ℕ, [], Option, None, Some}
+use Rattle.std.specs.Option.{option_map}
+use Rattle.txc_tags.specs.Keys.{Call}
+use Rattle.txc_registry.specs.Objects.{Objects}
+use Rattle.txc_ports.specs.declared.turn.Turn.{Turn}
+use Rattle.txc_txn.specs.Kept.{TxnValue}
+use Rattle.txc_rw.specs.Core.{RwValue}
+use Rattle.txc_world.specs.declared.actor.OpenCall.{OpenCall}
+use Rattle.txc_world.specs.declared.actor.OpenTxn.{OpenTxn}
+use Rattle.txc_world.specs.declared.actor.OpenRw.{OpenRw}
+use Rattle.txc_world.specs.declared.actor.Actor.{Actor}
+use Rattle.txc_world.specs.declared.actor.Actor.TheVariants.{Idle, Reading, Writing, Leaving}
+
+-- a call that did not end for its caller yet: its key, and what it does next
+pub record CallValue : Type 0 where
+  pub key : Call
+  pub turn : Turn
+
+-- an open read-only transaction, with its call, if one is open
+pub record ReadingValue : Type 0 where
+  pub txn : TxnValue
+  pub call : Option CallValue
+
+-- an open read-write transaction, with what its objects do and its call, if one is open
+pub record WritingValue : Type 0 where
+  pub core : RwValue
+  pub objects : Objects
+  pub call : Option CallValue
+
+-- an actor has nothing open; or a read-only or a read-write transaction; or that has ended, and it has the hold
+-- of a stamp still to take away
+pub data ActorValue : Type 0 where
+  resting : Objects → ActorValue
+  reads : ReadingValue → ActorValue
+  writes : WritingValue → ActorValue
+  leaves : Objects → ℕ → ActorValue
+
+-- a call of this key, by its turn
+abbrev pub called : Call → Turn → CallValue
+called key turn = record { key = key; turn = turn }
+
+-- ---- what they are made from
+
+-- the same as it is kept
+abbrev pub opened : Call → Turn → OpenCall
+opened key turn = record { key = key; turn = turn }
+
+abbrev pub call_value : OpenCall → CallValue
+call_value call = called call.key call.turn
+
+abbrev pub reading_value : {A C : Type 0} → OpenTxn A C → ReadingValue
+reading_value o = record { txn = o.txn; call = option_map call_value o.call }
+
+abbrev pub writing_value : {A C : Type 0} → OpenRw A C → WritingValue
+writing_value o = record { core = o.core; objects = o.registry; call = option_map call_value o.call }
+
+abbrev pub actor_value : {A C : Type 0} → Actor A C → ActorValue
+actor_value (Idle objects) = resting objects
+actor_value (Reading o) = reads (reading_value o)
+actor_value (Writing o) = writes (writing_value o)
+actor_value (Leaving objects stamp) = leaves objects stamp
+
+abbrev pub actor_at : {A C : Type 0} → Option (Actor A C) → ActorValue
+actor_at None = resting []
+actor_at (Some actor) = actor_value actor
