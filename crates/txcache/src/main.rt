@@ -2,15 +2,13 @@
 //! prints counts of them; `txcache world` runs transactions and prints their replies.
 #![tactic(auto)]
 
-mod functions;
-
 use clap::error::ErrorKind;
-use functions::registries;
 use std::alloc::{AllocError, Global};
 use std::io::{Read, Write};
 use std::process::ExitCode;
 use std::{env, io};
 use txc_arguments::read_arguments;
+use txc_functions::registries;
 use txc_permits::PermitPool;
 use txc_run::{RunFault, Status, exit_of, run, run_world};
 use txc_settings::{Script, Settings, SettingsError};
