@@ -22,5 +22,6 @@ pub mod WorldTurning
 pub mod WorldSteps
 pub mod TaskNames
 pub mod TasksDone
+pub mod GivingUp
 pub mod TaskParts
 pub mod WorldTexts

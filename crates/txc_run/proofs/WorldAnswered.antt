@@ -9,7 +9,7 @@ use Rattle.txc_world.specs.Told.{Told}
 use Rattle.txc_run.specs.Lines.{IsPlain, IsQuiet}
 use Rattle.txc_run.specs.Tasks.{IsTaskLine}
 use Rattle.txc_run.specs.WorldFaults.{IsWorldFaultOf}
-use Rattle.txc_run.specs.WorldGiven.{WorldGiven, Nothing, Done, Malformed, Gives, GoesOn, AreGiven, is_malformed, given_text, world_text}
+use Rattle.txc_run.specs.WorldGiven.{WorldGiven, Nothing, Done, Malformed, Gives, GoesOn, AreGiven, HasBegunLine, is_malformed, given_text, world_text}
 use Rattle.txc_run.specs.Sessions.{kept_of}
 use Rattle.txc_run.specs.declared.line.TheConstants.{MAX_LINE_LEN}
 use Rattle.txc_run.specs.declared.line_fault.LineFault.{LineFault}
@@ -63,6 +63,9 @@ gives_whole next c n line (Malformed k) after h = (
   h.1,
   h.2,
 )
+
+pub begun_whole : (next : Next) (c : Told) (line : List ℕ) (after : Told) → HasBegunLine next c (kept_of line) after → HasBegunLine next c line after
+begun_whole next c line after h = (h.0, subst (λ l. IsTaskLine l h.0) (plain_kept line h.1.0) h.1, h.2)
 
 short_kept : (line : List ℕ) → length (kept_of line) ≤ MAX_LINE_LEN → kept_of line ≡ line
 short_kept line h = take_all MAX_KEPT line (omega (arith, length-take MAX_KEPT line, h))

@@ -6,7 +6,7 @@ use Rattle.txc_world.specs.Told.{Told}
 use Rattle.txc_run.specs.Lines.{IsQuiet}
 use Rattle.txc_run.specs.Output.{malformed_text}
 use Rattle.txc_run.specs.Tasks.{IsTaskLine, IsMalformedLine}
-use Rattle.txc_run.specs.TaskSteps.{IsDone}
+use Rattle.txc_run.specs.TaskSteps.{HasBegun, IsDone}
 use Rattle.txc_run.specs.TaskTexts.{printed_text, is_refused_line}
 use Rattle.txc_run.specs.declared.world.printed.Printed.{Printed}
 use Rattle.txc_run.specs.declared.world.task.Task.{Task}
@@ -60,3 +60,7 @@ AreGiven next told number (line ∷ lines) [] end = ⊥
 AreGiven next told number (line ∷ lines) (g ∷ given) end =
     (after : Told) × Gives next told number line g after × GoesOn g lines
     × AreGiven next after (number + 1) lines given end
+
+-- the line asks for something, of which the first steps were taken, or all of them
+abbrev pub HasBegunLine : Next → Told → List ℕ → Told → Type 0
+HasBegunLine next told line end = (task : Task) × IsTaskLine line task × HasBegun next told task end
