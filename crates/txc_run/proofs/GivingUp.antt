@@ -1,11 +1,11 @@
 -- Actors give up what they have open.
-use Rattle.std.proofs.Common.{◌≡◌, ◌∙◌, ℕ, suc, ◌+◌, ◌<◌, List, [], ◌∷◌, ◌++◌, length, take, get_or, Option, Some, None, refl, sym, ap, subst, arith, append_assoc, slice_get, slice_set}
+use Rattle.std.proofs.Common.{◌≡◌, ◌∙◌, ℕ, zero, suc, ◌+◌, ◌<◌, List, [], ◌∷◌, ◌++◌, length, take, get_or, Option, Some, None, refl, sym, ap, subst, arith, append_assoc, slice_set}
 use Rattle.std.specs.Prelude.{All, MatchOption}
 use Rattle.std.proofs.lemmas.List.{get_or-set_same, take_all, take_more_set, take-set}
 use Rattle.std.proofs.lemmas.List.Elements.{All-nil, All-push}
 use Rattle.std.proofs.lemmas.Option.{slice_get-get_or}
 use Rattle.txc_shared.specs.Eval.{Next}
-use Rattle.txc_world.specs.declared.reply.Refusal.TheVariants.{NoActor, NotOpen}
+use Rattle.txc_world.specs.declared.reply.Refusal.TheVariants.{NoActor}
 use Rattle.txc_world.specs.declared.reply.Reply.{Reply}
 use Rattle.txc_world.specs.declared.reply.Reply.TheVariants as replies
 use Rattle.txc_world.specs.declared.step.Act.{Act}
@@ -79,7 +79,7 @@ left_closed stamp (replies.Answered rows) = tt
 left_closed stamp replies.Kept = tt
 left_closed stamp (replies.Receipt pin) = tt
 left_closed stamp (replies.Aborted left) = tt
-left_closed stamp (replies.At stamp) = tt
+left_closed stamp (replies.At newest) = tt
 left_closed stamp replies.Added = tt
 left_closed stamp replies.GivenBack = tt
 left_closed stamp (replies.Retired stamps) = tt
@@ -107,7 +107,7 @@ stories_after t m i act r lt is = ap (λ (x : Told). x.actors) (is ∙ ap (act_a
 
 set_length : (xs : List Story) (i : ℕ) (x : Story) → length (slice_set xs i x) ≡ length xs
 set_length [] i x = refl
-set_length (y ∷ xs) 0 x = refl
+set_length (y ∷ xs) zero x = refl
 set_length (y ∷ xs) (suc i) x = ap suc (set_length xs i x)
 
 -- ---- the first actors
@@ -136,7 +136,7 @@ first_closed t m e i r q lt due is due' is' closed =
     let before : take i m.actors ≡ take i t.actors = ap (take i) set ∙ take-set t.actors i y in
     let all : take (i + 1) e.actors ≡ take i m.actors ++ z ∷ [] = ap (take (i + 1)) set' ∙ take_more_set m.actors i z within in
     let last : IsClosed z = request_keeps_closed (get_or m.actors i idle) q (due_of m i acts.Request q within due') up in
-    (subst (All IsClosed) (sym all) (All-push (take i m.actors) z (subst (All IsClosed) (sym before) closed) last), ap length set' ∙ set_length m.actors i z ∙ count)
+    (subst (All IsClosed) (sym all) (All-push IsClosed (take i m.actors) z (subst (All IsClosed) (sym before) closed) last), ap length set' ∙ set_length m.actors i z ∙ count)
 
 pub one_gave_up : (next : Next) (told t m e : Told) (i : ℕ) (r q : Reply) → HaveGivenUp next told i t → i < length told.actors → IsTaken next t (Actor i acts.Abort) r m
     → IsTaken next m (Actor i acts.Request) q e → HaveGivenUp next told (i + 1) e

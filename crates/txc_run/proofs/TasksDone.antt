@@ -1,5 +1,5 @@
 -- What lines of a world's script ask for is done, step by step.
-use Rattle.std.proofs.Common.{◌≡◌, ℕ, Bool, true, false, List, [], ◌∷◌, ◌++◌, Some, None, Result, Ok, Err, IfOk, length, refl, sym, ap, subst}
+use Rattle.std.proofs.Common.{◌≡◌, ℕ, Bool, true, false, List, [], ◌∷◌, ◌++◌, Some, None, Result, Ok, Err, IfOk, OnErr, length, inl, inr, refl, sym, ap, subst}
 use Rattle.std.specs.Prelude.{if◌then◌else◌}
 use Rattle.std.specs.List.{All}
 use Rattle.std.specs.declared.alloc.AllocError.{AllocError}
@@ -16,7 +16,8 @@ use Rattle.txc_world.specs.declared.reply.Reply.{Reply}
 use Rattle.txc_world.specs.declared.reply.Reply.TheVariants as replies
 use Rattle.txc_world.specs.Told.{Told}
 use Rattle.txc_run.specs.TaskSteps.{AreTaken, IsTaken, HasBegun, IsDone, Does, DoesPins, DoesUnpin, ending_of, is_added, is_unpinned, leaves_hold, stamp_in, taken_out, tidied}
-use Rattle.txc_run.specs.WorldSessions.{HasEndedTxn, HasUnpinned}
+use Rattle.txc_run.specs.WorldSessions.{HasEndedTxn, HasUnpinned, IsCutShort, MayHaveBegun}
+use Rattle.txc_run.specs.Tasks.{IsTaskLine}
 use Rattle.txc_run.specs.declared.world.printed.Printed.{Printed}
 use Rattle.txc_run.specs.declared.world.printed.Printed.TheVariants.{Replied}
 use Rattle.txc_run.specs.declared.world.task.Task.{Task}
@@ -235,3 +236,25 @@ requests_begun next told end actor h = record {
     ends = refl;
   };
 }
+
+pub finish_cut : (next : Next) (told end : Told) (actor : ℕ) (r : Result Printed AllocError) → OnErr r (HasBegun next told (tasks.Finish actor) end) → OnErr r (IsCutShort next told (tasks.Finish actor) end)
+finish_cut next told end actor (Ok printed) h = tt
+finish_cut next told end actor (Err e) h = inr h
+
+pub nothing_cut : (next : Next) (told : Told) (task : Task) (r : Result Printed AllocError) → OnErr r (IsCutShort next told task told)
+nothing_cut next told task (Ok printed) = tt
+nothing_cut next told task (Err e) = inl refl
+
+-- what was done is not written
+pub done_cut : {T : Type 0} (next : Next) (told end : Told) (task : Task) (printed : Printed) (r : Result T AllocError) → IsDone next told task printed end → OnErr r (IsCutShort next told task end)
+done_cut next told end task printed (Ok x) h = tt
+done_cut next told end task printed (Err e) h = inr (done_begun next told end task printed h)
+
+pub line_cut : {T : Type 0} (next : Next) (told end : Told) (line : List ℕ) (task : Task) (r : Result T AllocError) → IsTaskLine line task → IsCutShort next told task end → OnErr r (MayHaveBegun next told line end)
+line_cut next told end line task (Ok x) is h = tt
+line_cut next told end line task (Err e) is (inl same) = inl same
+line_cut next told end line task (Err e) is (inr begun) = inr (task, is, begun)
+
+pub line_untouched : {T : Type 0} (next : Next) (told : Told) (line : List ℕ) (r : Result T AllocError) → OnErr r (MayHaveBegun next told line told)
+line_untouched next told line (Ok x) = tt
+line_untouched next told line (Err e) = inl refl

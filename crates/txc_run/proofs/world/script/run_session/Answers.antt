@@ -31,8 +31,8 @@ pub returns-then-n-eq0-clause-after : goal.returns-then-n-eq0-clause-after
 returns-then-n-eq0-clause-after g c =
     let i = c.reads.invariant in
     let start : WorldStart = record { next = g.A.App.next; world = c.args.world.now.told } in
-    run_ends (Unit {0}) start _ _ _ _ _ i.read i.written c.finish-ended.result c.finish-ended.new.world.told (nothing_more _ _ _ i.read c.read.new.piece c.in_ok-n.n c.if-n-eq0.true i.consumed c.in_ok-n.ensures.bytes.0) i.appended
-    (λ _. c.in_ok-n.ensures.bytes.1 c.if-n-eq0.true (omega arith)) (c.finish-ended.ensures.ended start.world i.read i.written i.answered)
+    run_ends (Unit {0}) start _ _ _ _ _ i.read i.written c.finish.result c.finish.new.world.told (nothing_more _ _ _ i.read c.read.new.piece c.in_ok-n.n c.if-n-eq0.true i.consumed c.in_ok-n.ensures.bytes.0) i.appended
+    (λ _. c.in_ok-n.ensures.bytes.1 c.if-n-eq0.true (omega arith)) (c.finish.ensures.ended start.world i.read i.written i.answered)
 
 pub returns-in-Stopped-clause-after : goal.returns-in-Stopped-clause-after
 returns-in-Stopped-clause-after g c =
