@@ -8,10 +8,11 @@ use crate::run::{ROOM, end_of, say_played, settings_of, status_of};
 use examples::EXAMPLES;
 use refused::{HISTORY, REFUSED};
 use std::alloc::{AllocError, Global};
-use txc_functions::registries;
+use txc_functions::{Object, Program, registries};
 use txc_permits::PermitPool;
-use txc_run::{RunFault, Status, run_world};
+use txc_run::{RunFault, Status, run_world, world_settings};
 use txc_settings::Settings;
+use txc_world::World;
 
 /// How many actors a world has.
 const ACTORS: usize = 8;
@@ -40,17 +41,25 @@ struct Case<'a> {
     end: &'a str,
 }
 
+/// A new world with the program's functions. None where memory was refused.
+fn world_of(alloc: Global, settings: Settings) -> Option<World<Program, Object>> {
+    let mut pool = PermitPool::new(alloc, settings.permits as u64).ok()?;
+    let registries = registries(alloc, &mut pool, ACTORS).ok()?;
+    World::new(alloc, world_settings(settings), registries).ok()
+}
+
 /// Runs a script in a new world.
 fn run(
     alloc: Global,
     settings: Settings,
     script: &str,
     written: &mut Vec<u8>,
-) -> Result<Result<Status, RunFault>, AllocError> {
-    let mut pool = PermitPool::new(alloc, settings.permits as u64)?;
-    let registries = registries(alloc, &mut pool, ACTORS)?;
+) -> Result<Status, RunFault> {
+    let Some(mut world) = world_of(alloc, settings) else {
+        return Err(RunFault::Memory);
+    };
     let mut reader = script.as_bytes();
-    Ok(run_world(alloc, settings, registries, &mut reader, written))
+    run_world(alloc, &mut world, &mut reader, written)
 }
 
 /// What the run of a script writes, and how it ends.
@@ -60,10 +69,7 @@ fn ran(alloc: Global, case: Case) -> Result<(Vec<u8>, &'static str), &'static st
         Ok(written) => written,
         Err(_) => Vec::with_capacity(alloc, ROOM).or(Err("no room"))?,
     };
-    let ended = match run(alloc, settings, case.script, &mut written) {
-        Ok(ended) => ended,
-        Err(_) => Err(RunFault::Memory),
-    };
+    let ended = run(alloc, settings, case.script, &mut written);
     Ok((written, end_of(ended)))
 }
 

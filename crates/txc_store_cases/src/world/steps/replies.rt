@@ -63,9 +63,19 @@ fn say_rows(answer: &mut String, rows: &[Row]) {
     }
 }
 
+fn say_stamp(answer: &mut String, stamp: Stamp) {
+    let _ = write!(answer, " {stamp}");
+}
+
 fn say_stamps(answer: &mut String, stamps: &[Stamp]) {
     for stamp in stamps {
-        let _ = write!(answer, " {stamp}");
+        say_stamp(answer, *stamp);
+    }
+}
+
+fn say_pins(answer: &mut String, pins: &[Pin]) {
+    for pin in pins {
+        say_stamp(answer, pin.stamp);
     }
 }
 
@@ -161,10 +171,7 @@ pub(super) fn say_members(answer: &mut String, has_present: bool, pins: &[Pin]) 
     if has_present {
         let _ = answer.push_str(" *");
     }
-    for pin in pins {
-        let stamp = pin.stamp;
-        let _ = write!(answer, " {stamp}");
-    }
+    say_pins(answer, pins);
 }
 
 /// What the node has done: each record with its pass.
