@@ -1,7 +1,8 @@
 #!/usr/bin/env python3
-"""Writes the examples, their replies and their reports as constants of the tests: crates/txc_store_cases/src/run/examples.rt.
+"""Writes the examples with what they print as constants of the tests: those of mode node, with their reports, in
+crates/txc_store_cases/src/run/examples.rt, and those of mode world in crates/txc_store_cases/src/world/examples.rt.
 
-usage: examples.py [--check]      --check writes nothing, and ends with 1 where the file is not what would be written
+usage: examples.py [--check]      --check writes nothing, and ends with 1 where a file is not what would be written
 """
 import pathlib, re, sys
 
@@ -16,39 +17,66 @@ use txc_settings::Mode;
 pub const EXAMPLES: [(&str, Mode, &str, &str, u8); %d] = [
 """
 
+WORLDS = """//! The scripts of worlds in examples/ with their replies: written by scripts/examples.py, which the gate compares.
 
-def literal(text, indent):
+/// Each example: its name, its settings, its script, its replies, and the status of the program after it.
+pub const EXAMPLES: [(&str, &str, &str, &str, u8); %d] = [
+"""
+
+
+def literal(text):
     """A text as a string literal, one line of the text a line."""
     lines = text.replace("\\", "\\\\").replace('"', '\\"').split("\n")
     ends = [*(line + "\\n" for line in lines[:-1]), *lines[-1:]]
     ends = [line for line in ends if line]
-    return '"' + ("\\\n" + indent).join(ends) + '"'
+    return '"' + ("\\\n" + " " * 9).join(ends) + '"'
 
 
-def constants(folder):
+def scripts(files):
+    """The scripts that are short enough, each with its output and the status of the program after it."""
+    for script in sorted(files):
+        if script.stat().st_size <= MOST_BYTES:
+            replies = script.with_suffix(".out").read_text()
+            refused = re.search(r"(^|[a-z0-9] )refused |^line \d+: malformed$", replies, re.M)
+            yield script, replies, "1" if refused else "0"
+
+
+def table(head, rows):
+    """The constants of these rows of values."""
+    text = ["    (\n" + "".join(f"        {value},\n" for value in row) + "    ),\n" for row in rows]
+    return head % len(text) + "".join(text) + "];\n"
+
+
+def of_nodes(folder):
     rows = []
-    for script in sorted(folder.glob("*.txc")):
-        if script.stat().st_size > MOST_BYTES:
-            continue
-        replies = script.with_suffix(".out").read_text()
-        exit = 1 if re.search(r"^(refused |line \d+: malformed$)", replies, re.M) else 0
+    for script, replies, status in scripts(folder.glob("*.txc")):
         outputs = [("Mode::Node", replies)]
         if script.with_suffix(".report").is_file():
             outputs.append(("Mode::Report", script.with_suffix(".report").read_text()))
         for mode, output in outputs:
-            parts = [f'"{script.stem}"', mode, literal(script.read_text(), " " * 9), literal(output, " " * 9), str(exit)]
-            rows.append("    (\n" + "".join(f"        {part},\n" for part in parts) + "    ),\n")
-    return HEAD % len(rows) + "".join(rows) + "];\n"
+            rows.append([literal(script.stem), mode, literal(script.read_text()), literal(output), status])
+    return table(HEAD, rows)
+
+
+def of_worlds(folder):
+    rows = []
+    for script, replies, status in scripts([*folder.glob("*.txw"), *folder.glob("worlds/*.txw")]):
+        file = script.with_suffix(".settings")
+        settings = file.read_text() if file.is_file() else ""
+        rows.append([literal(script.stem), literal(settings), literal(script.read_text()), literal(replies), status])
+    return table(WORLDS, rows)
 
 
 def main():
     root = pathlib.Path(__file__).resolve().parent.parent
-    target = root / "crates/txc_store_cases/src/run/examples.rt"
-    text = constants(root / "examples")
-    if "--check" not in sys.argv[1:]:
-        target.write_text(text)
-    elif not target.is_file() or target.read_text() != text:
-        sys.exit(f"{target.relative_to(root)} is not what scripts/examples.py writes: run it")
+    cases = root / "crates/txc_store_cases/src"
+    examples = root / "examples"
+    written = {cases / "run/examples.rt": of_nodes(examples), cases / "world/examples.rt": of_worlds(examples)}
+    for target, text in written.items():
+        if "--check" not in sys.argv[1:]:
+            target.write_text(text)
+        elif not target.is_file() or target.read_text() != text:
+            sys.exit(f"{target.relative_to(root)} is not what scripts/examples.py writes: run it")
 
 
 main()

@@ -1,3 +1,4 @@
+pub mod AnyFunction
 pub mod Program
 pub mod Running
 pub mod Worked

@@ -2,9 +2,10 @@
 //!
 //! What a function asks and gives is its [`Definition`], which has no state. A [`Function`] is the object of
 //! one: it takes a permit of its pool as an activation begins, keeps the arguments and the answers, and gives
-//! all back as the activation ends.
+//! all back as the activation ends. [`registries`] has an object of each.
 #![tactic(auto)]
 
+mod any_function;
 mod bodies_and_body;
 mod bodies_in;
 mod body_at;
@@ -13,14 +14,17 @@ mod endless;
 mod function;
 mod held;
 pub mod laws;
+mod objects;
 mod program;
 mod row_count;
 
+pub use any_function::AnyFunction;
 pub use bodies_and_body::BodiesAndBody;
 pub use bodies_in::BodiesIn;
 pub use body_at::BodyAt;
 pub use definition::Definition;
 pub use endless::{Again, Itself};
 pub use function::Function;
+pub use objects::{Object, registries, registry};
 pub use program::Program;
 pub use row_count::RowCount;

@@ -8,6 +8,7 @@ pub mod HexDigits
 pub mod WordFaults
 pub mod AllSpell
 pub mod Named
+pub mod EachLine
 pub mod Answered
 pub mod LineRead
 pub mod SessionLines
@@ -22,5 +23,6 @@ pub mod WorldTurning
 pub mod WorldSteps
 pub mod TaskNames
 pub mod TasksDone
+pub mod GivingUp
 pub mod TaskParts
 pub mod WorldTexts

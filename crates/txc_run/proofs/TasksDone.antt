@@ -1,8 +1,9 @@
 -- What lines of a world's script ask for is done, step by step.
-use Rattle.std.proofs.Common.{◌≡◌, ℕ, Bool, true, false, List, [], ◌∷◌, ◌++◌, Some, None, Result, Ok, Err, IfOk, length, refl, sym, ap, subst}
+use Rattle.std.proofs.Common.{◌≡◌, ℕ, Bool, true, false, List, [], ◌∷◌, ◌++◌, Some, None, Result, Ok, Err, IfOk, OnErr, length, inl, inr, refl, sym, ap, subst}
 use Rattle.std.specs.Prelude.{if◌then◌else◌}
 use Rattle.std.specs.List.{All}
 use Rattle.std.specs.declared.alloc.AllocError.{AllocError}
+use Rattle.std.proofs.lemmas.List.{append-nil}
 use Rattle.std.proofs.lemmas.List.Elements.{All-append, All-cons, All-nil}
 use Rattle.txc_shared.specs.Eval.{Next}
 use Rattle.txc_world.specs.declared.step.Act.{Act}
@@ -12,11 +13,14 @@ use Rattle.txc_world.specs.declared.step.Keep.{Keep}
 use Rattle.txc_world.specs.declared.step.Step.{Step}
 use Rattle.txc_world.specs.declared.step.Step.TheVariants.{Actor, Keeper}
 use Rattle.txc_world.specs.declared.reply.Reply.{Reply}
+use Rattle.txc_world.specs.declared.reply.Reply.TheVariants as replies
 use Rattle.txc_world.specs.Told.{Told}
-use Rattle.txc_run.specs.TaskSteps.{AreTaken, IsTaken, IsDone, DoesPins, DoesUnpin, ending_of, is_added, is_unpinned, leaves_hold, stamp_in, taken_out, tidied}
-use Rattle.txc_run.specs.WorldSessions.{HasEndedTxn, HasUnpinned}
+use Rattle.txc_run.specs.TaskSteps.{AreTaken, IsTaken, HasBegun, IsDone, Does, DoesPins, DoesUnpin, ending_of, is_added, is_unpinned, leaves_hold, stamp_in, taken_out, tidied}
+use Rattle.txc_run.specs.WorldSessions.{HasEndedTxn, HasUnpinned, IsCutShort, MayHaveBegun}
+use Rattle.txc_run.specs.Tasks.{IsTaskLine}
 use Rattle.txc_run.specs.declared.world.printed.Printed.{Printed}
 use Rattle.txc_run.specs.declared.world.printed.Printed.TheVariants.{Replied}
+use Rattle.txc_run.specs.declared.world.task.Task.{Task}
 use Rattle.txc_run.specs.declared.world.task.Task.TheVariants as tasks
 use Rattle.txc_run.proofs.WorldSteps.{none_taken, taken_first, taken_more}
 
@@ -165,7 +169,7 @@ unpin_refused next told end stamp stamps count reply one not = record {
   does = (refl, rw not (refl, refl, refl));
 }
 
-one_unpinned : (next : Next) (told mid end : Told) (stamp : ℕ) (stamps : List ℕ) (count : ℕ) (reply : Reply) (printed : Printed) → IsTaken next told (Keeper (keeps.Unpin stamp)) reply mid
+pub one_unpinned : (next : Next) (told mid end : Told) (stamp : ℕ) (stamps : List ℕ) (count : ℕ) (reply : Reply) (printed : Printed) → IsTaken next told (Keeper (keeps.Unpin stamp)) reply mid
     → is_unpinned reply ≡ true → HasUnpinned next mid stamps count printed end → HasUnpinned next told (stamp ∷ stamps) count printed end
 one_unpinned next told mid end stamp stamps count reply printed one is h = record {
   steps = Keeper (keeps.Unpin stamp) ∷ h.steps;
@@ -173,11 +177,6 @@ one_unpinned next told mid end stamp stamps count reply printed one is h = recor
   taken = taken_first next told mid end _ reply _ _ one h.taken;
   does = (refl, rw is h.does);
 }
-
-pub all_unpinned : (next : Next) (told mid end : Told) (stamp : ℕ) (stamps : List ℕ) (count : ℕ) (reply : Reply) (r : Result Printed AllocError) → IsTaken next told (Keeper (keeps.Unpin stamp)) reply mid
-    → is_unpinned reply ≡ true → IfOk r (λ printed. HasUnpinned next mid stamps count printed end) → IfOk r (λ printed. HasUnpinned next told (stamp ∷ stamps) count printed end)
-all_unpinned next told mid end stamp stamps count reply (Ok printed) one is h = one_unpinned next told mid end stamp stamps count reply printed one is h
-all_unpinned next told mid end stamp stamps count reply (Err e) one is h = tt
 
 pub tidy_refused : (next : Next) (told end : Told) (now age : ℕ) (reply : Reply) → IsTaken next told (Keeper (keeps.Retire now age)) reply end → taken_out reply ≡ None
     → IsDone next told (tasks.Tidy now age) (Replied reply) end
@@ -188,10 +187,9 @@ tidy_refused next told end now age reply one none = record {
   does = (refl, rw none (refl, refl, refl));
 }
 
-pub tidy_done : (next : Next) (told mid end : Told) (now age : ℕ) (reply : Reply) (stamps : List ℕ) (count : ℕ) (r : Result Printed AllocError) → IsTaken next told (Keeper (keeps.Retire now age)) reply mid
-    → taken_out reply ≡ Some stamps → count ≡ length stamps → IfOk r (λ printed. HasUnpinned next mid stamps count printed end)
-    → IfOk r (λ printed. IsDone next told (tasks.Tidy now age) printed end)
-tidy_done next told mid end now age reply stamps count (Ok printed) one some is h =
+pub tidy_done : (next : Next) (told mid end : Told) (now age : ℕ) (reply : Reply) (stamps : List ℕ) (count : ℕ) (printed : Printed) → IsTaken next told (Keeper (keeps.Retire now age)) reply mid
+    → taken_out reply ≡ Some stamps → count ≡ length stamps → HasUnpinned next mid stamps count printed end → IsDone next told (tasks.Tidy now age) printed end
+tidy_done next told mid end now age reply stamps count printed one some is h =
     let does : DoesUnpin stamps (length stamps) h.steps h.replied printed = subst (λ (n : ℕ). DoesUnpin stamps n h.steps h.replied printed) is h.does in
     record {
       steps = Keeper (keeps.Retire now age) ∷ h.steps;
@@ -199,10 +197,64 @@ tidy_done next told mid end now age reply stamps count (Ok printed) one some is 
       taken = taken_first next told mid end _ reply _ _ one h.taken;
       does = (refl, rw some does);
     }
-tidy_done next told mid end now age reply stamps count (Err e) one some is h = tt
 
 -- ---- members
 
 pub done_pins : (next : Next) (told : Told) (actor : ℕ) (r : Result Printed AllocError) → IfOk r (λ printed. DoesPins next told actor printed) → IfOk r (λ printed. IsDone next told (tasks.Pins actor) printed told)
 done_pins next told actor (Ok printed) h = record { steps = []; replied = []; taken = none_taken next told; does = (refl, h) }
 done_pins next told actor (Err e) h = tt
+
+-- ---- what breaks off
+
+pub done_begun : (next : Next) (told end : Told) (task : Task) (printed : Printed) → IsDone next told task printed end → HasBegun next told task end
+done_begun next told end task printed h = record {
+  steps = h.steps;
+  replied = h.replied;
+  taken = h.taken;
+  later = [];
+  later_replied = [];
+  printed = printed;
+  does = subst (λ (steps : List Step). Does next told task steps (h.replied ++ []) printed) (sym (append-nil h.steps))
+      (subst (λ (replied : List Reply). Does next told task h.steps replied printed) (sym (append-nil h.replied)) h.does);
+}
+
+-- a call that goes on may end at the next request
+pub requests_begun : (next : Next) (told end : Told) (actor : ℕ) → HasRequested next told actor end → HasBegun next told (tasks.Finish actor) end
+requests_begun next told end actor h = record {
+  steps = h.steps;
+  replied = h.replied;
+  taken = h.taken;
+  later = Actor actor acts.Request ∷ [];
+  later_replied = replies.Begun ∷ [];
+  printed = Replied replies.Begun;
+  does = record {
+    before = h.replied;
+    last = replies.Begun;
+    requests = more_requests actor h.steps h.requests;
+    replied_are = refl;
+    go_on = h.go_on;
+    ends = refl;
+  };
+}
+
+pub finish_cut : (next : Next) (told end : Told) (actor : ℕ) (r : Result Printed AllocError) → OnErr r (HasBegun next told (tasks.Finish actor) end) → OnErr r (IsCutShort next told (tasks.Finish actor) end)
+finish_cut next told end actor (Ok printed) h = tt
+finish_cut next told end actor (Err e) h = inr h
+
+pub nothing_cut : (next : Next) (told : Told) (task : Task) (r : Result Printed AllocError) → OnErr r (IsCutShort next told task told)
+nothing_cut next told task (Ok printed) = tt
+nothing_cut next told task (Err e) = inl refl
+
+-- what was done is not written
+pub done_cut : {T : Type 0} (next : Next) (told end : Told) (task : Task) (printed : Printed) (r : Result T AllocError) → IsDone next told task printed end → OnErr r (IsCutShort next told task end)
+done_cut next told end task printed (Ok x) h = tt
+done_cut next told end task printed (Err e) h = inr (done_begun next told end task printed h)
+
+pub line_cut : {T : Type 0} (next : Next) (told end : Told) (line : List ℕ) (task : Task) (r : Result T AllocError) → IsTaskLine line task → IsCutShort next told task end → OnErr r (MayHaveBegun next told line end)
+line_cut next told end line task (Ok x) is h = tt
+line_cut next told end line task (Err e) is (inl same) = inl same
+line_cut next told end line task (Err e) is (inr begun) = inr (task, is, begun)
+
+pub line_untouched : {T : Type 0} (next : Next) (told : Told) (line : List ℕ) (r : Result T AllocError) → OnErr r (MayHaveBegun next told line told)
+line_untouched next told line (Ok x) = tt
+line_untouched next told line (Err e) = inl refl

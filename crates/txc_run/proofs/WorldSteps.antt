@@ -1,10 +1,9 @@
 -- Steps of a world that are taken one after another.
-use Rattle.std.proofs.Common.{◌≡◌, suc, List, [], ◌∷◌, ◌++◌, length, refl, ap, subst, ◌∙◌, arith}
-use Rattle.std.proofs.lemmas.List.{length-append}
+use Rattle.std.proofs.Common.{◌≡◌, suc, List, [], ◌∷◌, ◌++◌, length, refl, ap, subst, arith}
 use Rattle.txc_shared.specs.Eval.{Next}
 use Rattle.txc_world.specs.declared.step.Step.{Step}
 use Rattle.txc_world.specs.declared.reply.Reply.{Reply}
-use Rattle.txc_world.specs.Told.{Told, after, told_by, AreDue, AreExplained}
+use Rattle.txc_world.specs.Told.{Told, after, IsDue, IsExplainedIn}
 use Rattle.txc_run.specs.TaskSteps.{AreTaken, IsTaken}
 
 pub none_taken : (next : Next) (told : Told) → AreTaken next told [] [] told
@@ -35,19 +34,13 @@ taken_more next told mid end (s ∷ steps) (r ∷ replied) step reply all one =
     taken_first next told (after told s r) end s r (steps ++ step ∷ []) (replied ++ reply ∷ []) first
     (taken_more next (after told s r) mid end steps replied step reply rest one)
 
--- ---- a list of one step
+-- ---- one step
 
-only_one : (xs init : List Reply) (r : Reply) → length xs ≡ 1 → xs ≡ init ++ r ∷ [] → xs ≡ r ∷ []
-only_one xs [] r n e = e
-only_one xs (x ∷ init) r n e = absurd (omega (arith, n, ap length e, length-append init (r ∷ [])))
-
-pub taken_alone : (next : Next) (told end : Told) (step : Step) (reply : Reply) (replied init : List Reply) → end ≡ told_by told (step ∷ []) replied → AreExplained next told (step ∷ []) replied
-    → AreDue told (step ∷ []) replied → length replied ≡ 1 → replied ≡ init ++ reply ∷ [] → IsTaken next told step reply end
-taken_alone next told end step reply replied init told_is explained due each last =
-    let one : replied ≡ reply ∷ [] = only_one replied init reply each last in
-    record {
-      each = refl;
-      told_is = told_is ∙ ap (λ (rs : List Reply). told_by told (step ∷ []) rs) one;
-      explained = subst (λ (rs : List Reply). AreExplained next told (step ∷ []) rs) one explained;
-      due = subst (λ (rs : List Reply). AreDue told (step ∷ []) rs) one due;
-    }
+pub taken_alone : (next : Next) (told end : Told) (step : Step) (reply : Reply) → end ≡ after told step reply → IsDue told step reply → IsExplainedIn next end.history told step reply
+    → IsTaken next told step reply end
+taken_alone next told end step reply told_is due explained = record {
+  each = refl;
+  told_is = told_is;
+  explained = (subst (λ (t : Told). IsExplainedIn next t.history told step reply) told_is explained, tt);
+  due = (due, tt);
+}

@@ -1,19 +1,19 @@
 -- Reads of a run of a world's script, one after another.
-use Rattle.std.proofs.Common.{◌≡◌, ℕ, ◌+◌, Bool, true, false, List, [], ◌++◌, Option, Result, Ok, Err, arith, length, take, refl, sym, ap, subst, ◌∙◌, inl, inr}
+use Rattle.std.proofs.Common.{◌≡◌, ℕ, ◌+◌, Bool, List, [], ◌∷◌, ◌++◌, Option, Result, Ok, Err, arith, length, take, refl, sym, ap, subst, ◌∙◌, ◌⊎◌, inl, inr}
 use Rattle.std.specs.Io.KnownBytes.{Appends, Consumes, IsAtEnd}
 use Rattle.std.specs.declared.alloc.AllocError.{AllocError}
 use Rattle.std.proofs.KnownBytes.{Appends-nil, Appends-trans, Appends-kept, Consumes-nil}
-use Rattle.std.proofs.Math.Seq.{take-append-add}
 use Rattle.std.proofs.lemmas.List.{append-nil, take_all}
 use Rattle.std.proofs.lemmas.List.Elements.{All-nil}
-use Rattle.std.specs.List.{list_any}
 use Rattle.txc_world.specs.Told.{Told}
 use Rattle.txc_run.specs.Script.{HasNoEnd}
 use Rattle.txc_run.specs.Written.{AppendsPrefix}
 use Rattle.txc_run.specs.Turns.{EndsFlushed}
-use Rattle.txc_run.specs.WorldGiven.{WorldGiven, AreGiven, is_refused, world_text}
-use Rattle.txc_run.specs.WorldRuns.{WorldStart, HasPlayed, HasWritten, IsWhole, AreFirstLines, IsStatusOf}
-use Rattle.txc_run.specs.WorldSessions.{Progress, HasAnswered, IsStopped, IsHalted, AnswersAs, AnswersLast, IsKeptBeside, IsEndOf, status_after, EndsWith, TurnsTo}
+use Rattle.txc_run.specs.Kinds.{AreFirstLines}
+use Rattle.txc_run.specs.Flows.{status_after}
+use Rattle.txc_run.specs.WorldGiven.{WorldGiven, HasBegunLine, world_script, world_text}
+use Rattle.txc_run.specs.WorldRuns.{WorldStart, Answers, BreaksOff, HasAnsweredScript, HasWritten}
+use Rattle.txc_run.specs.WorldSessions.{Progress, progress_of, HasAnswered, IsStopped, IsHalted, IsUnfinished, LeavesLine, AnswersAs, AnswersLast, IsKeptBeside, EndsWith, TurnsTo}
 use Rattle.txc_run.specs.declared.fault.Status.{Status}
 use Rattle.txc_run.specs.declared.fault.Status.TheVariants.{Malformed}
 use Rattle.txc_run.specs.declared.line_fault.MalformedLine.{MalformedLine}
@@ -21,43 +21,72 @@ use Rattle.txc_run.specs.declared.fault.RunFault.{RunFault}
 use Rattle.txc_run.specs.declared.fault.RunFault.TheVariants.{Read, Write, Memory}
 use Rattle.txc_run.specs.declared.session.Flow.{Flow}
 use Rattle.txc_run.specs.declared.session.Flow.TheVariants.{GoesOn, Stopped}
+use Rattle.txc_run.specs.declared.world.session.WorldSession.{WorldSession}
+use Rattle.txc_run.proofs.EachLine.{prefix_of, status_is, whole_at, whole_first}
 
-prefix_of : (written out all : List ℕ) (n : ℕ) → written ++ out ≡ all → written ++ take n out ≡ take (length written + n) all
-prefix_of written out all n e = sym (take-append-add written out n) ∙ ap (take (length written + n)) e
+-- ---- where the run broke off
+
+-- after the lines that were answered
+no_more : (start : WorldStart) (read : List ℕ) (lines : List (List ℕ)) (given : List WorldGiven) (told : Told) → Answers start lines given told → BreaksOff start read lines given told
+no_more start read lines given told answers = record { end = told; answers = answers; left = inl refl }
+
+-- in the line after them
+some_more : (start : WorldStart) (read : List ℕ) (lines : List (List ℕ)) (end told : Told) → LeavesLine start read lines end told
+    → (told ≡ end) ⊎ ((line : List ℕ) × AreFirstLines read (lines ++ line ∷ []) × HasBegunLine start.next end line told)
+some_more start read lines end told (inl same) = inl same
+some_more start read lines end told (inr (line, others, begins, begun)) = inr (line, inl (others, begins), begun)
+
+pub halted_unfinished : (start : WorldStart) (read written : List ℕ) (s : Progress) → IsHalted start read written s → IsUnfinished start read written s
+halted_unfinished start read written s h = record {
+  lines = h.lines;
+  given = h.given;
+  others = h.others;
+  broke = record { end = h.end; answers = h.answers; left = some_more start read h.lines h.end s.world h.leaves };
+  begins = h.begins;
+  text = h.text;
+  well_formed = h.well_formed;
+}
+
+-- ---- one read
+
+-- the writer failed out of memory
+fails_unfinished : (P : Type 0) (start : WorldStart) (read written : List ℕ) (s : Progress) (old new : Option (List ℕ)) → AppendsPrefix old new s.text → IsUnfinished start read written s
+    → EndsWith start read P written old new (Err Write) s.world
+fails_unfinished P start read written s old new prefix k =
+    (take prefix.0 s.text, prefix.2, (k.lines, k.given, length written + prefix.0, k.broke, inl (k.others, k.begins), prefix_of written s.text _ prefix.0 k.text))
 
 -- the writer failed
 pub turn_faults : (start : WorldStart) (read written : List ℕ) (s : Progress) (r : Result Flow AllocError) (old new : Option (List ℕ)) → AppendsPrefix old new s.text
-    → AnswersAs start read written s r → EndsWith start read ⊥ written old new (Err Write)
+    → AnswersAs start read written s r → EndsWith start read ⊥ written old new (Err Write) s.world
 turn_faults start read written s (Ok GoesOn) old new prefix k =
-    (take prefix.0 s.text, prefix.2, (k.lines, k.given, length written + prefix.0, record { end = s.world; are_given = k.are_given }, inl (k.rest, k.begins), prefix_of written s.text _ prefix.0 k.text))
+    (take prefix.0 s.text, prefix.2, (k.lines, k.given, length written + prefix.0, no_more start read k.lines k.given s.world k.are_given, inl (k.rest, k.begins), prefix_of written s.text _ prefix.0 k.text))
 turn_faults start read written s (Ok (Stopped bad)) old new prefix k =
-    (take prefix.0 s.text, prefix.2, (k.lines, k.given, length written + prefix.0, k.answers, inl (k.others, k.begins), prefix_of written s.text _ prefix.0 k.text))
-turn_faults start read written s (Err e) old new prefix k =
-    (take prefix.0 s.text, prefix.2, (k.lines, k.given, length written + prefix.0, k.answers, inl (k.others, k.begins), prefix_of written s.text _ prefix.0 k.text))
+    (take prefix.0 s.text, prefix.2, (k.lines, k.given, length written + prefix.0, no_more start read k.lines k.given s.world k.answers, inl (k.others, k.begins), prefix_of written s.text _ prefix.0 k.text))
+turn_faults start read written s (Err e) old new prefix k = fails_unfinished ⊥ start read written s old new prefix (halted_unfinished start read written s k)
 
 -- out of memory
 pub turn_out_of_memory : (P : Type 0) (start : WorldStart) (read written : List ℕ) (s : Progress) (old new : Option (List ℕ)) → Appends old new s.text
-    → IsHalted start read written s → EndsWith start read P written old new (Err Memory)
-turn_out_of_memory P start read written s old new all k = (s.text, all, (k.lines, k.given, k.answers, inl (k.others, k.begins), k.text))
+    → IsUnfinished start read written s → EndsWith start read P written old new (Err Memory) s.world
+turn_out_of_memory P start read written s old new all k = (s.text, all, (k.lines, k.given, k.others, k.broke, k.begins, k.text, k.well_formed))
 
 -- a malformed line was read
 pub turn_stops : (start : WorldStart) (read written : List ℕ) (s : Progress) (bad : MalformedLine) (old new : Option (List ℕ)) → Appends old new s.text
-    → IsStopped start read written bad s → EndsWith start read ⊥ written old new (Ok (Malformed bad))
+    → IsStopped start read written bad s → EndsWith start read ⊥ written old new (Ok (Malformed bad)) s.world
 turn_stops start read written s bad old new all k =
     (s.text, all, (k.lines, k.given, k.answers, inr (k.others, k.begins, k.malformed), k.text, (k.malformed, k.wrong)))
 
 -- the run goes on
-pub turn_goes_on : (start : WorldStart) (read written : List ℕ) (s next : Progress) → IsKeptBeside s next → next.text ≡ [] → HasAnswered start read written s
-    → HasAnswered start read (written ++ s.text) next
-turn_goes_on start read written s next same none h = record {
+turn_goes_on : (start : WorldStart) (read written : List ℕ) (world : Told) (s next : WorldSession) → IsKeptBeside s next → next.replied.text.items ≡ []
+    → HasAnswered start read written (progress_of world s) → HasAnswered start read (written ++ s.replied.text.items) (progress_of world next)
+turn_goes_on start read written world s next same none h = record {
   lines = h.lines;
   given = h.given;
   rest = h.rest;
-  are_given = subst (λ (c : Told). AreGiven start.next start.world 1 h.lines h.given c) (sym same.world) h.are_given;
+  are_given = h.are_given;
   begins = h.begins;
   not_ended = h.not_ended;
   kept = same.line ∙ h.kept;
-  text = ap (λ (xs : List ℕ). (written ++ s.text) ++ xs) none ∙ append-nil (written ++ s.text) ∙ h.text;
+  text = ap (λ (xs : List ℕ). (written ++ s.replied.text.items) ++ xs) none ∙ append-nil (written ++ s.replied.text.items) ∙ h.text;
   count = same.lines ∙ h.count;
   refused = same.refused ∙ h.refused;
   well_formed = h.well_formed;
@@ -65,52 +94,43 @@ turn_goes_on start read written s next same none h = record {
 
 -- ---- the end of the script
 
-status_is : (lines : List (List ℕ)) (given : List WorldGiven) (refused : Bool) (flow : Flow) → refused ≡ list_any is_refused given → IsEndOf lines given flow → IsStatusOf lines given (status_after refused flow)
-status_is lines given refused (Stopped bad) same end = end
-status_is lines given true GoesOn same end = (sym same, end)
-status_is lines given false GoesOn same end = sym same
-
 pub finish_done : (start : WorldStart) (read written : List ℕ) (s : Progress) (refused : Bool) (flow : Flow) (old new : Option (List ℕ)) → Appends old new s.text → refused ≡ s.refused
-    → AnswersLast start read written s (Ok flow) → EndsWith start read (Unit {0}) written old new (Ok (status_after refused flow))
+    → AnswersLast start read written s (Ok flow) → EndsWith start read (Unit {0}) written old new (Ok (status_after refused flow)) s.world
 finish_done start read written s refused flow old new all same k =
-    (s.text, all, (k.lines, k.given, k.answers, inl (k.all, tt), k.text, status_is k.lines k.given refused flow (same ∙ k.refused) k.end))
+    (s.text, all, (k.lines, k.given, k.answers, inl (k.all, tt), k.text, status_is (world_script start.next) k.lines k.given refused flow (same ∙ k.refused) k.end))
 
 pub finish_faults : (start : WorldStart) (read written : List ℕ) (s : Progress) (r : Result Flow AllocError) (old new : Option (List ℕ)) → AppendsPrefix old new s.text
-    → AnswersLast start read written s r → EndsWith start read (Unit {0}) written old new (Err Write)
+    → AnswersLast start read written s r → EndsWith start read (Unit {0}) written old new (Err Write) s.world
 finish_faults start read written s (Ok x) old new prefix k =
-    (take prefix.0 s.text, prefix.2, (k.lines, k.given, length written + prefix.0, k.answers, inr k.all, prefix_of written s.text _ prefix.0 k.text))
-finish_faults start read written s (Err e) old new prefix k =
-    (take prefix.0 s.text, prefix.2, (k.lines, k.given, length written + prefix.0, k.answers, inl (k.others, k.begins), prefix_of written s.text _ prefix.0 k.text))
+    (take prefix.0 s.text, prefix.2, (k.lines, k.given, length written + prefix.0, no_more start read k.lines k.given s.world k.answers, inr k.all, prefix_of written s.text _ prefix.0 k.text))
+finish_faults start read written s (Err e) old new prefix k = fails_unfinished (Unit {0}) start read written s old new prefix k
 
 -- ---- whole runs
 
-whole_at : (P Q : Type 0) (read : List ℕ) (lines : List (List ℕ)) (given : List WorldGiven) → (P → Q) → IsWhole read P lines given → IsWhole read Q lines given
-whole_at P Q read lines given f (inl h) = inl (h.0, f h.1)
-whole_at P Q read lines given f (inr h) = inr h
-
-written_at : (P Q : Type 0) (start : WorldStart) (read written : List ℕ) (r : Result Status RunFault) → (P → Q) → HasWritten start read P written r → HasWritten start read Q written r
-written_at P Q start read written (Ok status) f h = (h.0, h.1, h.2, whole_at P Q read h.0 h.1 f h.3, h.4, h.5)
-written_at P Q start read written (Err Read) f h = h
-written_at P Q start read written (Err Write) f h = h
-written_at P Q start read written (Err Memory) f h = h
+written_at : (P Q : Type 0) (start : WorldStart) (read written : List ℕ) (r : Result Status RunFault) (told : Told) → (P → Q) → HasWritten start read P written r told → HasWritten start read Q written r told
+written_at P Q start read written (Ok status) told f h = (h.0, h.1, h.2, whole_at (world_script start.next) P Q read h.0 h.1 f h.3, h.4, h.5)
+written_at P Q start read written (Err Read) told f h = h
+written_at P Q start read written (Err Write) told f h = h
+written_at P Q start read written (Err Memory) told f h = h
 
 -- what was read and written before, and how the run ended after it
-pub run_ends : (P : Type 0) (start : WorldStart) (a b : Option (List ℕ)) (w x y : Option (List ℕ)) (read written : List ℕ) (r : Result Status RunFault) → Consumes a b read → Appends w x written
-    → (P → IsAtEnd b) → EndsWith start read P written x y r → HasPlayed start a b w y r
-run_ends P start a b w x y read written r consumes appends f e =
-    (read, written ++ e.0, consumes, Appends-trans w x y written e.0 appends e.1, written_at P (IsAtEnd b) start read (written ++ e.0) r f e.2)
+pub run_ends : (P : Type 0) (start : WorldStart) (a b : Option (List ℕ)) (w x y : Option (List ℕ)) (read written : List ℕ) (r : Result Status RunFault) (told : Told) → Consumes a b read → Appends w x written
+    → (P → IsAtEnd b) → EndsWith start read P written x y r told → HasAnsweredScript start a b w y r told
+run_ends P start a b w x y read written r told consumes appends f e =
+    (read, written ++ e.0, consumes, Appends-trans w x y written e.0 appends e.1, written_at P (IsAtEnd b) start read (written ++ e.0) r told f e.2)
 
 -- out of memory before anything was read
-pub run_out_of_memory : (start : WorldStart) (a w : Option (List ℕ)) → HasPlayed start a a w w (Err Memory)
-run_out_of_memory start a w = ([], [], Consumes-nil a, Appends-nil w, ([], [], record { end = start.world; are_given = refl }, inl ([], record { joined = refl; each_is_one = All-nil HasNoEnd }), refl))
+pub run_out_of_memory : (start : WorldStart) (a w : Option (List ℕ)) → HasAnsweredScript start a a w w (Err Memory) start.world
+run_out_of_memory start a w =
+    ([], [], Consumes-nil a, Appends-nil w, ([], [], [], no_more start [] [] [] start.world refl, record { joined = refl; each_is_one = All-nil HasNoEnd }, refl, refl))
 
-pub turn_answered : (start : WorldStart) (read written : List ℕ) (s next : Progress) (flow : Flow) (old new : Option (List ℕ)) → Appends old new s.text → IsKeptBeside s next
-    → next.text ≡ [] → AnswersAs start read written s (Ok flow) → TurnsTo start read written next old new (Ok flow)
-turn_answered start read written s next GoesOn old new all same none h = (s.text, all, turn_goes_on start read written s next same none h, none)
-turn_answered start read written s next (Stopped bad) old new all same none h = turn_stops start read written s bad old new all h
+pub turn_answered : (start : WorldStart) (read written : List ℕ) (world : Told) (s next : WorldSession) (flow : Flow) (old new : Option (List ℕ)) → Appends old new s.replied.text.items → IsKeptBeside s next
+    → next.replied.text.items ≡ [] → AnswersAs start read written (progress_of world s) (Ok flow) → TurnsTo start read written (progress_of world next) old new (Ok flow)
+turn_answered start read written world s next GoesOn old new all same none h = (s.replied.text.items, all, turn_goes_on start read written world s next same none h, none)
+turn_answered start read written world s next (Stopped bad) old new all same none h = turn_stops start read written (progress_of world s) bad old new all h
 
 pub stopped_ends : (start : WorldStart) (read written : List ℕ) (s : Progress) (flow : Flow) (bad : MalformedLine) (old new : Option (List ℕ)) → flow ≡ Stopped bad → TurnsTo start read written s old new (Ok flow)
-    → EndsWith start read ⊥ written old new (Ok (Malformed bad))
+    → EndsWith start read ⊥ written old new (Ok (Malformed bad)) s.world
 stopped_ends start read written s flow bad old new e h = subst (λ (f : Flow). TurnsTo start read written s old new (Ok f)) e h
 
 pub goes_on_at : (start : WorldStart) (read written : List ℕ) (s : Progress) (flow : Flow) (old new : Option (List ℕ)) → flow ≡ GoesOn → TurnsTo start read written s old new (Ok flow)
@@ -119,25 +139,23 @@ goes_on_at start read written s flow old new e h = subst (λ (f : Flow). TurnsTo
 
 -- the reader failed
 pub reader_failed : (start : WorldStart) (a b w x : Option (List ℕ)) (read written : List ℕ) (s : Progress) (r : Result Status RunFault) → Consumes a b read → Appends w x written
-    → HasAnswered start read written s → s.text ≡ [] → r ≡ Err Read → HasPlayed start a b w x r
+    → HasAnswered start read written s → s.text ≡ [] → r ≡ Err Read → HasAnsweredScript start a b w x r s.world
 reader_failed start a b w x read written s r consumes appends h none is =
     let text : written ≡ world_text h.given = sym (append-nil written) ∙ ap (λ (xs : List ℕ). written ++ xs) (sym none) ∙ h.text in
-    subst (HasPlayed start a b w x) (sym is) (read, written, consumes, appends, (h.lines, h.given, h.rest, record { end = s.world; are_given = h.are_given }, h.begins, h.not_ended, text, h.well_formed))
+    subst (λ (e : Result Status RunFault). HasAnsweredScript start a b w x e s.world) (sym is) (read, written, consumes, appends, (h.lines, h.given, h.rest, h.are_given, h.begins, h.not_ended, text, h.well_formed))
 
 -- ---- the writer is flushed
 
--- the lines of a script that was answered are first lines of it
-whole_first : (P : Type 0) (read : List ℕ) (lines : List (List ℕ)) (given : List WorldGiven) → IsWhole read P lines given → AreFirstLines read lines
-whole_first P read lines given (inl h) = inr h.0
-whole_first P read lines given (inr h) = inl (h.0, h.1)
-
-pub flushed : (start : WorldStart) (a b w x y : Option (List ℕ)) (ended result : Result Status RunFault) → HasPlayed start a b w x ended → EndsFlushed x y ended result → HasPlayed start a b w y result
-flushed start a b w x y (Ok status) result h (keeps, inl is) =
-    subst (HasPlayed start a b w y) (sym is) (h.0, h.1, h.2, Appends-kept w x y h.1 h.3 keeps, h.4)
-flushed start a b w x y (Ok status) result h (keeps, inr is) =
+pub flushed : (start : WorldStart) (a b w x y : Option (List ℕ)) (ended result : Result Status RunFault) (told : Told) → HasAnsweredScript start a b w x ended told → EndsFlushed x y ended result
+    → HasAnsweredScript start a b w y result told
+flushed start a b w x y (Ok status) result told h (keeps, inl is) =
+    subst (λ (e : Result Status RunFault). HasAnsweredScript start a b w y e told) (sym is) (h.0, h.1, h.2, Appends-kept w x y h.1 h.3 keeps, h.4)
+flushed start a b w x y (Ok status) result told h (keeps, inr is) =
     let written = h.4 in
     let all = world_text written.1 in
     let text : h.1 ≡ all = written.4 in
     let whole : h.1 ≡ take (length h.1) all = text ∙ sym (take_all (length h.1) all (omega (arith, ap length text))) in
-    subst (HasPlayed start a b w y) (sym is) (h.0, h.1, h.2, Appends-kept w x y h.1 h.3 keeps, (written.0, written.1, length h.1, written.2, whole_first _ h.0 written.0 written.1 written.3, whole))
-flushed start a b w x y (Err fault) result h (keeps, is) = subst (HasPlayed start a b w y) (sym is) (h.0, h.1, h.2, Appends-kept w x y h.1 h.3 keeps, h.4)
+    subst (λ (e : Result Status RunFault). HasAnsweredScript start a b w y e told) (sym is)
+    (h.0, h.1, h.2, Appends-kept w x y h.1 h.3 keeps, (written.0, written.1, length h.1, no_more start h.0 written.0 written.1 told written.2, whole_first (world_script start.next) _ h.0 written.0 written.1 written.3, whole))
+flushed start a b w x y (Err fault) result told h (keeps, is) =
+    subst (λ (e : Result Status RunFault). HasAnsweredScript start a b w y e told) (sym is) (h.0, h.1, h.2, Appends-kept w x y h.1 h.3 keeps, h.4)

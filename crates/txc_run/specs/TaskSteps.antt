@@ -1,5 +1,5 @@
 -- The steps that a line of a world's script stands for, and what is written of their replies.
-use Rattle.std.specs.Prelude.{◌≡◌, ℕ, Bool, true, false, List, [], ◌∷◌, ◌++◌, map, length, All, Option, Some, None, if◌then◌else◌, slice_get, MatchBool, MatchOption}
+use Rattle.std.specs.Prelude.{◌≡◌, ℕ, zero, suc, Bool, true, false, List, [], ◌∷◌, ◌++◌, map, length, All, Option, Some, None, if◌then◌else◌, slice_get, MatchBool, MatchOption}
 use Rattle.txc_cushion.specs.declared.pin.Pin.{Pin}
 use Rattle.txc_shared.specs.Eval.{Next}
 use Rattle.txc_world.specs.declared.step.Act.{Act}
@@ -9,7 +9,7 @@ use Rattle.txc_world.specs.declared.step.Step.{Step}
 use Rattle.txc_world.specs.declared.step.Step.TheVariants.{Actor, Keeper}
 use Rattle.txc_world.specs.declared.reply.Reply.{Reply}
 use Rattle.txc_world.specs.declared.reply.Reply.TheVariants as replies
-use Rattle.txc_world.specs.Told.{Told, Reading, reading, told_by, AreDue, AreExplained}
+use Rattle.txc_world.specs.Told.{Told, Reading, Story, idle, reading, writing, leaving, told_by, AreDue, AreExplained}
 use Rattle.txc_world.specs.Worlds.{due_of_pins, AreMembersOf}
 use Rattle.txc_run.specs.declared.world.printed.Printed.{Printed}
 use Rattle.txc_run.specs.declared.world.printed.Printed.TheVariants.{Replied, Ended, Members, Tidied}
@@ -148,11 +148,32 @@ pub record IsDone (next : Next) (told : Told) (task : Task) (printed : Printed) 
   pub taken : AreTaken next told steps replied end
   pub does : Does next told task steps replied printed
 
--- ---- the end of a script
+-- the first steps of what a line asks for were taken, or all of them
+pub record HasBegun (next : Next) (told : Told) (task : Task) (end : Told) : Type 0 where
+  pub steps : List Step
+  pub replied : List Reply
+  pub taken : AreTaken next told steps replied end
+  pub later : List Step
+  pub later_replied : List Reply
+  pub printed : Printed
+  pub does : Does next told task (steps ++ later) (replied ++ later_replied) printed
 
--- each of so many actors gives up what it has open, by their numbers, and nothing is written
-abbrev pub GiveUp : Next → Told → List ℕ → Told → Type 0
-GiveUp next told [] end = end ≡ told
-GiveUp next told (actor ∷ actors) end =
-    (printed : Printed) × (after : Told) × IsDone next told (tasks.Abort actor) printed after
-    × GiveUp next after actors end
+-- ---- the end of a run
+
+-- each of the first actors gives up what it has open, in the middle of a call too, and then takes the hold away
+-- that is left
+abbrev pub give_up_steps : ℕ → List Step
+give_up_steps zero = []
+give_up_steps (suc actor) = give_up_steps actor ++ Actor actor acts.Abort ∷ Actor actor acts.Request ∷ []
+
+-- all actors of a world gave up what they had open
+pub record HasGivenUp (next : Next) (told left : Told) : Type 0 where
+  pub replied : List Reply
+  pub taken : AreTaken next told (give_up_steps (length told.actors)) replied left
+
+-- no transaction is open
+abbrev pub IsClosed : Story → Type 0
+IsClosed idle = Unit {0}
+IsClosed (reading r) = ⊥
+IsClosed (writing w) = ⊥
+IsClosed (leaving stamp) = Unit {0}

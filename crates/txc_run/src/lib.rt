@@ -31,4 +31,4 @@ pub use line_fault::{LineFault, MalformedLine, WordFault, WordKind};
 pub use reads::MAX_READS;
 pub use script::run;
 pub use world::name::LineName;
-pub use world::script::run_world;
+pub use world::script::{run_world, world_settings};

@@ -84,6 +84,18 @@ fn change(
     Ok(Change::Remove(table, id))
 }
 
+/// The change that the words say: `put TABLE ID GROUP BODY` or `remove TABLE ID`.
+pub(crate) fn change_in(alloc: Global, words: &mut SplitWhitespace<'_>) -> Option<Change> {
+    let kind = words.next()?;
+    let table = table(words)?;
+    let id = number(words);
+    if kind == "remove" {
+        return Some(Change::Remove(table, id));
+    }
+    let group = number(words);
+    change(alloc, kind, (table, id, group), words.next()?).ok()
+}
+
 /// Pushes the change that the text says, of each id of the range.
 fn push_changes(alloc: Global, changes: &mut Vec<Change>, text: &str) -> Result<(), AllocError> {
     let mut words = text.split_whitespace();

@@ -21,8 +21,6 @@ mod errors;
 mod faults;
 #[cfg(test)]
 mod functions;
-// The cases' definitions speak of its types, so it is there without the cases too.
-mod objects;
 #[cfg(test)]
 mod pins;
 #[cfg(test)]
@@ -39,3 +37,5 @@ mod transactions;
 mod updates;
 #[cfg(test)]
 mod validity;
+#[cfg(test)]
+mod world;

@@ -16,7 +16,7 @@ use txc_settings::{Mode, Settings};
 const NO_MEMORY: &[u8] = b"refused memory\n";
 
 /// More than a run of a case writes.
-const ROOM: usize = 1 << 14;
+pub(crate) const ROOM: usize = 1 << 14;
 
 /// Gives the bytes and then those after them, at most so many a read, and fails at one read. One that gives a
 /// byte a read, and does not fail, is interrupted at each second read.
@@ -119,7 +119,7 @@ fn whole_case<'a>(
 }
 
 /// What the program says at its end, with its exit status.
-fn end_of(ended: Result<Status, RunFault>) -> &'static str {
+pub(crate) fn end_of(ended: Result<Status, RunFault>) -> &'static str {
     let status = exit_of(&ended);
     match (ended, status) {
         (Ok(Status::Done), 0) => "0",
@@ -232,7 +232,7 @@ fn play(alloc: Global, case: Case, name: &'static str) -> Result<(), &'static st
 }
 
 /// The settings of a text, which is read once more where memory is refused.
-fn settings_of(alloc: Global, text: &str) -> Result<Settings, &'static str> {
+pub(crate) fn settings_of(alloc: Global, text: &str) -> Result<Settings, &'static str> {
     match Settings::read(alloc, text) {
         Ok(settings) => Ok(settings),
         Err(_) => Settings::read(alloc, text).or(Err("no settings")),
@@ -263,7 +263,7 @@ fn play_rows(
     Ok(())
 }
 
-fn status_of(is_refused: bool) -> &'static str {
+pub(crate) fn status_of(is_refused: bool) -> &'static str {
     if is_refused { "1" } else { "0" }
 }
 
@@ -377,7 +377,7 @@ fn play_slow(alloc: Global) -> Result<(), &'static str> {
     Ok(())
 }
 
-fn say_played(rt: &impl Abort, played: Result<(), &'static str>) {
+pub(crate) fn say_played(rt: &impl Abort, played: Result<(), &'static str>) {
     if let Err(name) = played {
         assert!(rt; false, "{name}");
     }

@@ -8,7 +8,6 @@ ghost use Rattle.std.specs.Prelude.{◌≡◌};
 use crate::common::{is_played, room};
 use crate::db::alone::played;
 use crate::db::locked::Shared;
-use crate::objects::registry;
 use player::Updates;
 use std::alloc::Global;
 use std::marker::Brand;
@@ -16,6 +15,7 @@ use std::process::Abort;
 use std::sync::Wait;
 use std::test::Fail;
 use txc_db::{Database, DbCore, Naming};
+use txc_functions::registry;
 use txc_permits::PermitPool;
 
 /// What four events were, of which the second and the fourth are pins.
@@ -155,8 +155,12 @@ fn play<J: Naming>(
     requires { core.events ≡ J.database_row }
 {
     let mut pool = PermitPool::new(alloc, 4).ok()?;
-    let first = registry(alloc, &mut pool)?;
-    let second = registry(alloc, &mut pool)?;
+    let Ok(first) = registry(alloc, &mut pool) else {
+        return None;
+    };
+    let Ok(second) = registry(alloc, &mut pool) else {
+        return None;
+    };
     let database = Database::<J>::new(alloc, core).ok()?;
     let shared = Shared::new(rt, alloc, &database, false).ok()?;
     let mut updates = Updates::new(rt, &database, shared, first, second);

@@ -2,34 +2,24 @@
 //! prints counts of them; `txcache world` runs transactions and prints their replies.
 #![tactic(auto)]
 
-mod functions;
+ghost use Rattle.std.specs.Prelude.{◌≡◌, vec_len, All, IfOk};
+ghost use Rattle.txc_registry.specs.Objects.{AllIdle};
 
 use clap::error::ErrorKind;
-use functions::registries;
 use std::alloc::{AllocError, Global};
-use std::io::{Read, Write};
+use std::io::{Print, Read, Write};
 use std::process::ExitCode;
 use std::{env, io};
 use txc_arguments::read_arguments;
+use txc_functions::{Object, Program, registries};
 use txc_permits::PermitPool;
-use txc_run::{RunFault, Status, exit_of, run, run_world};
+use txc_registry::Registry;
+use txc_run::{RunFault, Status, exit_of, run, run_world, world_settings};
 use txc_settings::{Script, Settings, SettingsError};
+use txc_world::World;
 
 /// How many actors a world has.
 const ACTORS: usize = 8;
-
-/// Runs a world's script with the program's functions, which share the permits: each actor has one object of
-/// each function.
-fn run_functions<R: Read, W: Write>(
-    alloc: Global,
-    settings: Settings,
-    reader: &mut R,
-    writer: &mut W,
-) -> Result<Result<Status, RunFault>, AllocError> {
-    let mut pool = PermitPool::new(alloc, settings.permits as u64)?;
-    let registries = registries(alloc, &mut pool, ACTORS)?;
-    Ok(run_world(alloc, settings, registries, reader, writer))
-}
 
 fn main(rt: HostRuntime) -> ExitCode {
     let alloc = rt.alloc();
@@ -41,31 +31,75 @@ fn main(rt: HostRuntime) -> ExitCode {
     };
     let arguments = match read_arguments(alloc, words.as_slice()) {
         Ok(arguments) => arguments,
-        Err(error) if error.kind() == ErrorKind::OutOfMemory => return end(&rt, "memory", 5),
-        Err(error) => {
-            // Help goes to standard output, all else to standard error.
-            let _ = error.print(&rt);
-            return ExitCode::from(if error.exit_code() == 0 { 0 } else { 2 });
-        }
+        Err(error) => return end_by_arguments(&rt, &error),
     };
     let settings = match Settings::read(alloc, arguments.settings.unwrap_or("")) {
         Ok(settings) => settings,
-        Err(SettingsError::Memory) => return end(&rt, "memory", 5),
-        Err(error) => {
-            let _ = rt.eprintln(&error);
-            return ExitCode::from(3);
-        }
+        Err(error) => return end_by_settings(&rt, &error),
     };
     let mut reader = rt.reader();
     let mut writer = io::writer(&rt);
     let ended = match arguments.script {
         Script::Node(mode) => run(alloc, mode, settings, &mut reader, &mut writer),
-        Script::World => match run_functions(alloc, settings, &mut reader, &mut writer) {
-            Ok(ended) => ended,
-            Err(_) => Err(RunFault::Memory),
-        },
+        Script::World => run_functions(alloc, settings, &mut reader, &mut writer),
     };
-    match &ended {
+    print_fault(&rt, &ended);
+    ExitCode::from(exit_of(&ended))
+}
+
+/// Runs a world's script with the program's functions.
+fn run_functions<R: Read, W: Write>(
+    alloc: Global,
+    settings: Settings,
+    reader: &mut R,
+    writer: &mut W,
+) -> Result<Status, RunFault> {
+    let Ok(registries) = actors(alloc, settings) else {
+        return Err(RunFault::Memory);
+    };
+    match World::new(alloc, world_settings(settings), registries) {
+        Ok(mut world) => run_world(alloc, &mut world, reader, writer),
+        Err(_) => Err(RunFault::Memory),
+    }
+}
+
+/// The registries of the actors, which share the permits: each has one object of each function.
+fn actors(alloc: Global, settings: Settings) -> Result<Vec<Registry<Program, Object>>, AllocError>
+    ensures all_idle { IfOk result (λ registries. All AllIdle registries.items) }
+    ensures each { IfOk result (λ registries. vec_len registries ≡ 8) }
+{
+    let mut pool = PermitPool::new(alloc, settings.permits as u64)?;
+    registries(alloc, &mut pool, ACTORS)
+}
+
+/// Prints why the command line is refused, or the help that it asks for. Help goes to standard output, all else
+/// to standard error.
+fn end_by_arguments<R: Print + Eprint>(rt: &R, error: &clap::Error) -> ExitCode {
+    if error.kind() == ErrorKind::OutOfMemory {
+        return end(rt, "memory", 5);
+    }
+    let _ = error.print(rt);
+    ExitCode::from(if error.exit_code() == 0 { 0 } else { 2 })
+}
+
+/// Prints why the settings are refused.
+fn end_by_settings(rt: &impl Eprint, error: &SettingsError) -> ExitCode {
+    if let SettingsError::Memory = error {
+        return end(rt, "memory", 5);
+    }
+    let _ = rt.eprintln(error);
+    ExitCode::from(3)
+}
+
+/// Prints on standard error why the program ends with this status.
+fn end(rt: &impl Eprint, text: &str, status: u8) -> ExitCode {
+    let _ = rt.eprintln(text);
+    ExitCode::from(status)
+}
+
+/// Prints on standard error what is wrong with a malformed line, or why the run ended early.
+fn print_fault(rt: &impl Eprint, ended: &Result<Status, RunFault>) {
+    match ended {
         Ok(Status::Malformed(line)) => {
             let _ = rt.eprintln(line);
         }
@@ -74,11 +108,4 @@ fn main(rt: HostRuntime) -> ExitCode {
             let _ = rt.eprintln(fault);
         }
     }
-    ExitCode::from(exit_of(&ended))
-}
-
-/// Prints on standard error why the program ends with this status.
-fn end(rt: &impl Eprint, text: &str, status: u8) -> ExitCode {
-    let _ = rt.eprintln(text);
-    ExitCode::from(status)
 }

@@ -1,7 +1,7 @@
 //! The steps that a line of a world's script stands for.
-ghost use Rattle.std.specs.Prelude.{◌≡◌, map, IfOk};
-ghost use Rattle.txc_run.specs.TaskSteps.{DoesPins, IsDone, IsTaken};
-ghost use Rattle.txc_run.specs.WorldSessions.{HasEndedTxn, HasUnpinned};
+ghost use Rattle.std.specs.Prelude.{◌≡◌, map, All, IfOk, OnErr};
+ghost use Rattle.txc_run.specs.TaskSteps.{DoesPins, HasBegun, HasGivenUp, IsClosed, IsDone, IsTaken};
+ghost use Rattle.txc_run.specs.WorldSessions.{HasEndedTxn, HasUnpinned, IsCutShort};
 
 use crate::world::outcome::{
     ending_of, is_added, is_unpinned, leaves_hold, stamp_in, taken_out, tidied,
@@ -16,42 +16,28 @@ use txc_stamp::Stamp;
 use txc_world::{Act, Keep, Reply, Step, World};
 
 /// Takes one step.
-fn take<A: App, C: Cacheable>(
-    alloc: Global,
-    world: &mut World<A, C>,
-    step: Step,
-) -> Result<Reply, AllocError>
-    ensures { IfOk result (λ reply. IsTaken A.next world.old.told step reply world.new.told) }
+fn take<A: App, C: Cacheable>(alloc: Global, world: &mut World<A, C>, step: Step) -> Reply
+    ensures { IsTaken A.next world.old.told step result world.new.told }
 {
-    let steps = [step];
-    let mut replies = world.run(alloc, &steps)?;
-    match replies.pop() {
-        Some(reply) => Ok(reply),
-        None => unreachable!(),
-    }
+    world.step(alloc, &step)
 }
 
 /// The keeper pins the present and adds the pin, which no transaction uses then; where it is not added, its
 /// hold is taken away.
-fn pin_present<A: App, C: Cacheable>(
-    alloc: Global,
-    world: &mut World<A, C>,
-    now: u64,
-) -> Result<Reply, AllocError>
-    ensures { IfOk result (λ reply.
-        IsDone A.next world.old.told (Task.Pin now) (Printed.Replied reply) world.new.told) }
+fn pin_present<A: App, C: Cacheable>(alloc: Global, world: &mut World<A, C>, now: u64) -> Reply
+    ensures { IsDone A.next world.old.told (Task.Pin now) (Printed.Replied result) world.new.told }
 {
-    let pinned = take(alloc, world, Step::Keeper(Keep::Pin(now)))?;
+    let pinned = take(alloc, world, Step::Keeper(Keep::Pin(now)));
     let Some(stamp) = stamp_in(&pinned) else {
-        return Ok(pinned);
+        return pinned;
     };
-    let added = take(alloc, world, Step::Keeper(Keep::Add(stamp)))?;
+    let added = take(alloc, world, Step::Keeper(Keep::Add(stamp)));
     if is_added(&added) {
-        let _ = take(alloc, world, Step::Keeper(Keep::GiveBack(stamp)))?;
-        return Ok(pinned);
+        let _ = take(alloc, world, Step::Keeper(Keep::GiveBack(stamp)));
+        return pinned;
     }
-    let _ = take(alloc, world, Step::Keeper(Keep::Unpin(stamp)))?;
-    Ok(added)
+    let _ = take(alloc, world, Step::Keeper(Keep::Unpin(stamp)));
+    added
 }
 
 /// The actor makes requests until its call has ended.
@@ -60,10 +46,12 @@ fn finish_call<A: App, C: Cacheable>(
     world: &mut World<A, C>,
     actor: usize,
 ) -> Result<Printed, AllocError>
-    ensures { IfOk result (λ printed. IsDone A.next world.old.told (Task.Finish actor) printed world.new.told) }
+    ensures after { IfOk result (λ printed.
+        IsDone A.next world.old.told (Task.Finish actor) printed world.new.told) }
+    ensures broke { OnErr result (HasBegun A.next world.old.told (Task.Finish actor) world.new.told) }
 {
     for _ in 0..u64::MAX {
-        let reply = take(alloc, world, Step::Actor(actor, Act::Request))?;
+        let reply = take(alloc, world, Step::Actor(actor, Act::Request));
         if let Some(printed) = ending_of(reply) {
             return Ok(printed);
         }
@@ -77,15 +65,15 @@ fn end_txn<A: App, C: Cacheable>(
     world: &mut World<A, C>,
     actor: usize,
     act: Act,
-) -> Result<Reply, AllocError>
-    ensures { IfOk result (λ reply. HasEndedTxn A.next world.old.told actor act reply world.new.told) }
+) -> Reply
+    ensures { HasEndedTxn A.next world.old.told actor act result world.new.told }
 {
-    let reply = take(alloc, world, Step::Actor(actor, act))?;
+    let reply = take(alloc, world, Step::Actor(actor, act));
     if leaves_hold(&reply) {
-        let _ = take(alloc, world, Step::Actor(actor, Act::Request))?;
-        return Ok(reply);
+        let _ = take(alloc, world, Step::Actor(actor, Act::Request));
+        return reply;
     }
-    Ok(reply)
+    reply
 }
 
 /// The keeper takes the holds of these stamps away, and then drops the versions that nothing holds.
@@ -94,18 +82,18 @@ fn unpin_all<A: App, C: Cacheable>(
     world: &mut World<A, C>,
     stamps: &[Stamp],
     count: usize,
-) -> Result<Printed, AllocError>
-    ensures { IfOk result (λ printed. HasUnpinned A.next world.old.told stamps.now count printed world.new.told) }
+) -> Printed
+    ensures { HasUnpinned A.next world.old.told stamps.now count result world.new.told }
 {
     let Some((stamp, others)) = stamps.split_first() else {
-        let reply = take(alloc, world, Step::Keeper(Keep::Vacuum))?;
-        return Ok(tidied(count, reply));
+        let reply = take(alloc, world, Step::Keeper(Keep::Vacuum));
+        return tidied(count, reply);
     };
-    let reply = take(alloc, world, Step::Keeper(Keep::Unpin(*stamp)))?;
+    let reply = take(alloc, world, Step::Keeper(Keep::Unpin(*stamp)));
     if is_unpinned(&reply) {
         return unpin_all(alloc, world, others, count);
     }
-    Ok(Printed::Replied(reply))
+    Printed::Replied(reply)
 }
 
 /// The keeper takes the old pins out and their holds away, and drops the versions that nothing holds.
@@ -114,13 +102,13 @@ fn tidy_up<A: App, C: Cacheable>(
     world: &mut World<A, C>,
     now: u64,
     age: u64,
-) -> Result<Printed, AllocError>
-    ensures { IfOk result (λ printed. IsDone A.next world.old.told (Task.Tidy now age) printed world.new.told) }
+) -> Printed
+    ensures { IsDone A.next world.old.told (Task.Tidy now age) result world.new.told }
 {
-    let reply = take(alloc, world, Step::Keeper(Keep::Retire { now, age }))?;
+    let reply = take(alloc, world, Step::Keeper(Keep::Retire { now, age }));
     match taken_out(reply) {
         Ok(stamps) => unpin_all(alloc, world, stamps.as_slice(), stamps.len()),
-        Err(reply) => Ok(Printed::Replied(reply)),
+        Err(reply) => Printed::Replied(reply),
     }
 }
 
@@ -154,27 +142,28 @@ pub fn play<A: App, C: Cacheable>(
     world: &mut World<A, C>,
     task: Task,
 ) -> Result<Printed, AllocError>
-    ensures { IfOk result (λ printed. IsDone A.next world.old.told task printed world.new.told) }
+    ensures after { IfOk result (λ printed. IsDone A.next world.old.told task printed world.new.told) }
+    ensures broke { OnErr result (IsCutShort A.next world.old.told task world.new.told) }
 {
     match task {
-        Task::One(step) => Ok(Printed::Replied(take(alloc, world, step)?)),
-        Task::Pin(now) => Ok(Printed::Replied(pin_present(alloc, world, now)?)),
+        Task::One(step) => Ok(Printed::Replied(take(alloc, world, step))),
+        Task::Pin(now) => Ok(Printed::Replied(pin_present(alloc, world, now))),
         Task::Finish(actor) => finish_call(alloc, world, actor),
         Task::Pins(actor) => members_of(alloc, world, actor),
-        Task::Commit(actor) => Ok(Printed::Replied(end_txn(alloc, world, actor, Act::Commit)?)),
-        Task::Abort(actor) => Ok(Printed::Replied(end_txn(alloc, world, actor, Act::Abort)?)),
-        Task::Tidy { now, age } => tidy_up(alloc, world, now, age),
+        Task::Commit(actor) => Ok(Printed::Replied(end_txn(alloc, world, actor, Act::Commit))),
+        Task::Abort(actor) => Ok(Printed::Replied(end_txn(alloc, world, actor, Act::Abort))),
+        Task::Tidy { now, age } => Ok(tidy_up(alloc, world, now, age)),
     }
 }
 
-/// Gives up what the actors have open, by their numbers.
-pub fn close_all<A: App, C: Cacheable>(
-    alloc: Global,
-    world: &mut World<A, C>,
-    actors: usize,
-) -> Result<(), AllocError> {
-    for actor in 0..actors {
-        let _ = end_txn(alloc, world, actor, Act::Abort)?;
+/// Each actor gives up what it has open, by their numbers, and takes the hold away that is left then. Steps of
+/// an actor with nothing open are refused, and change nothing.
+pub fn give_all_up<A: App, C: Cacheable>(alloc: Global, world: &mut World<A, C>)
+    ensures given_up { HasGivenUp A.next world.old.told world.new.told }
+    ensures closed { All IsClosed world.new.told.actors }
+{
+    for actor in 0..world.actor_count() {
+        let _ = take(alloc, world, Step::Actor(actor, Act::Abort));
+        let _ = take(alloc, world, Step::Actor(actor, Act::Request));
     }
-    Ok(())
 }

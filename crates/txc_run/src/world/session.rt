@@ -1,14 +1,16 @@
 //! A run of a world's script in progress: lines are answered one after another.
 ghost use Rattle.std.specs.Prelude.{◌≡◌, true, false, ℕ, ◌+◌, ◌^◌, ◌<◌, ◌≤◌, List, [], ◌∷◌, ◌++◌, length, Err, IfOk, OnOk, OnErr};
 ghost use Rattle.std.specs.Io.KnownBytes.{Appends};
+ghost use Rattle.txc_shared.specs.Eval.{Next};
 ghost use Rattle.txc_run.specs.Script.{HasNoEnd};
 ghost use Rattle.txc_run.specs.Lines.{ArePlain};
 ghost use Rattle.txc_run.specs.Written.{AppendsPrefix};
 ghost use Rattle.txc_run.specs.Tasks.{IsMalformedLine};
 ghost use Rattle.txc_run.specs.TaskSteps.{IsDone};
-ghost use Rattle.txc_run.specs.WorldGiven.{Done, Malformed};
+ghost use Rattle.txc_run.specs.Flows.{IsFlowAfter, status_after};
+ghost use Rattle.txc_run.specs.WorldGiven.{world_script, Done, Malformed};
 ghost use Rattle.txc_run.specs.WorldRuns.{WorldStart};
-ghost use Rattle.txc_run.specs.WorldSessions.{progress_of, status_after, AnswersAs, AnswersLast, AnswersLine, HasAnswered, IsFlowAfter, IsKeptBeside, Takes};
+ghost use Rattle.txc_run.specs.WorldSessions.{progress_of, AnswersAs, AnswersLast, AnswersLine, HasAnswered, IsCutShort, IsKeptBeside, MayHaveBegun, Takes};
 ghost use Rattle.txc_world.specs.Told.{Told};
 ghost use Rattle.txc_run.specs.declared.world.printed.Printed.{Printed};
 
@@ -18,7 +20,7 @@ use crate::piece::{LineStart, cut_line};
 use crate::session::Flow;
 use crate::world::finding::find_world_fault;
 use crate::world::line::{WorldLine, read_world_line};
-use crate::world::playing::{close_all, play};
+use crate::world::playing::play;
 use crate::world::printed::Printed;
 use crate::world::refusing::is_refused_line;
 use crate::world::task::Task;
@@ -64,10 +66,9 @@ impl Replied {
     }
 }
 
-/// A run in progress.
+/// A run in progress, beside its world.
 #[derive(Drop)]
-pub struct WorldSession<A: App, C: Cacheable> {
-    world: World<A, C>,
+pub struct WorldSession {
     /// How many lines were read.
     lines: u64,
     /// The line that has not ended.
@@ -85,6 +86,7 @@ fn do_task<A: App, C: Cacheable>(
     ensures after { OnOk result ((printed : Printed) × IsDone A.next world.old.told task printed world.new.told
         × Takes replied.old.text.items replied.new.text.items replied.old.is_refused
         replied.new.is_refused (Done printed)) }
+    ensures broke { OnErr result (IsCutShort A.next world.old.told task world.new.told) }
     ensures unchanged { OnErr result (replied.new.text.items ≡ replied.old.text.items) }
 {
     let printed = play(alloc, world, task)?;
@@ -99,7 +101,7 @@ fn answer_malformed(
     line: &[u8],
 ) -> Result<Flow, AllocError>
     requires { IsMalformedLine line.now }
-    ensures flow { IfOk result (IsFlowAfter number line.now (Malformed number)) }
+    ensures flow { (next : Next) → IfOk result (IsFlowAfter (world_script next) number line.now (Malformed number)) }
     ensures after { OnOk result (Takes replied.old.text.items replied.new.text.items
         replied.old.is_refused replied.new.is_refused (Malformed number)) }
     ensures unchanged { OnErr result (replied.new.text.items ≡ replied.old.text.items) }
@@ -121,6 +123,7 @@ fn answer<A: App, C: Cacheable>(
     requires plain { known_plain ≡ true → ArePlain line.now }
     ensures answered { IfOk result (AnswersLine A.next world.old.told world.new.told replied.old.text.items
         replied.new.text.items replied.old.is_refused replied.new.is_refused number line.now) }
+    ensures broke { OnErr result (MayHaveBegun A.next world.old.told line.now world.new.told) }
     ensures unchanged { OnErr result (replied.new.text.items ≡ replied.old.text.items) }
 {
     let read = read_world_line(alloc, line, known_plain)?;
@@ -134,10 +137,10 @@ fn answer<A: App, C: Cacheable>(
     }
 }
 
-impl<A: App, C: Cacheable> WorldSession<A, C> {
+impl WorldSession {
     /// No line was read.
-    pub fn new(alloc: Global, world: World<A, C>) -> Result<WorldSession<A, C>, AllocError>
-        ensures answered { IfOk result (λ s. HasAnswered (record { next = A.next; world = world.told }) [] [] (progress_of s)) }
+    pub fn new(alloc: Global) -> Result<WorldSession, AllocError>
+        ensures answered { IfOk result (λ s. (start : WorldStart) → HasAnswered start [] [] (progress_of start.world s)) }
         ensures no_output { IfOk result (λ s. s.replied.text.items ≡ []) }
         ensures no_line { IfOk result (λ s. s.lines ≡ 0) }
     {
@@ -147,7 +150,6 @@ impl<A: App, C: Cacheable> WorldSession<A, C> {
             is_refused: false,
         };
         Ok(WorldSession {
-            world,
             lines: 0,
             line,
             replied,
@@ -169,16 +171,18 @@ impl<A: App, C: Cacheable> WorldSession<A, C> {
     }
 
     /// Answers a line.
-    fn answer_line(
+    fn answer_line<A: App, C: Cacheable>(
         &mut self,
         alloc: Global,
+        world: &mut World<A, C>,
         line: &[u8],
         known_plain: bool,
     ) -> Result<Flow, AllocError>
         requires count { self.old.lines + 1 < 2 ^ 64 }
         requires plain { known_plain ≡ true → ArePlain line.now }
-        ensures answered { IfOk result (AnswersLine A.next self.old.world.told self.new.world.told self.old.replied.text.items
+        ensures answered { IfOk result (AnswersLine A.next world.old.told world.new.told self.old.replied.text.items
             self.new.replied.text.items self.old.replied.is_refused self.new.replied.is_refused (self.old.lines + 1) line.now) }
+        ensures broke { OnErr result (MayHaveBegun A.next world.old.told line.now world.new.told) }
         ensures unchanged { OnErr result (self.new.replied.text.items ≡ self.old.replied.text.items) }
         ensures counted { self.new.lines ≡ self.old.lines + 1 }
         ensures same_line { self.new.line ≡ self.old.line }
@@ -186,7 +190,7 @@ impl<A: App, C: Cacheable> WorldSession<A, C> {
         self.lines += 1;
         answer(
             alloc,
-            &mut self.world,
+            world,
             &mut self.replied,
             self.lines,
             line,
@@ -195,32 +199,31 @@ impl<A: App, C: Cacheable> WorldSession<A, C> {
     }
 
     /// Answers the line that is kept.
-    fn answer_kept(&mut self, alloc: Global) -> Result<Flow, AllocError>
+    fn answer_kept<A: App, C: Cacheable>(
+        &mut self,
+        alloc: Global,
+        world: &mut World<A, C>,
+    ) -> Result<Flow, AllocError>
         requires { self.old.lines + 1 < 2 ^ 64 }
-        ensures answered { IfOk result (AnswersLine A.next self.old.world.told self.new.world.told self.old.replied.text.items
+        ensures answered { IfOk result (AnswersLine A.next world.old.told world.new.told self.old.replied.text.items
             self.new.replied.text.items self.old.replied.is_refused self.new.replied.is_refused (self.old.lines + 1) self.old.line) }
+        ensures broke { OnErr result (MayHaveBegun A.next world.old.told self.old.line world.new.told) }
         ensures unchanged { OnErr result (self.new.replied.text.items ≡ self.old.replied.text.items) }
         ensures counted { self.new.lines ≡ self.old.lines + 1 }
         ensures emptied { self.new.line ≡ [] }
     {
         self.lines += 1;
         let line = self.line.bytes();
-        let answered = answer(
-            alloc,
-            &mut self.world,
-            &mut self.replied,
-            self.lines,
-            line,
-            false,
-        );
+        let answered = answer(alloc, world, &mut self.replied, self.lines, line, false);
         self.line.clear();
         answered
     }
 
     /// Answers the line that ends after these bytes. One that lies whole in them is not copied.
-    fn end_line(
+    fn end_line<A: App, C: Cacheable>(
         &mut self,
         alloc: Global,
+        world: &mut World<A, C>,
         bytes: &[u8],
         known_plain: bool,
     ) -> Result<Flow, AllocError>
@@ -228,16 +231,16 @@ impl<A: App, C: Cacheable> WorldSession<A, C> {
         requires no_end { HasNoEnd bytes.now }
         requires plain { known_plain ≡ true → ArePlain bytes.now }
         ensures counted { self.new.lines ≤ self.old.lines + 1 }
-        ensures answered { (world : Told) (read written : List ℕ)
-            → HasAnswered (record { next = A.next; world = world }) read written (progress_of self.old)
-            → AnswersAs (record { next = A.next; world = world }) (read ++ (bytes.now ++ 10 ∷ [])) written
-            (progress_of self.new) result }
+        ensures answered { (first : Told) (read written : List ℕ)
+            → HasAnswered (record { next = A.next; world = first }) read written (progress_of world.old.told self.old)
+            → AnswersAs (record { next = A.next; world = first }) (read ++ (bytes.now ++ 10 ∷ [])) written
+            (progress_of world.new.told self.new) result }
     {
         if self.line.is_empty() {
-            return self.answer_line(alloc, bytes, known_plain);
+            return self.answer_line(alloc, world, bytes, known_plain);
         }
         match self.line.add(bytes) {
-            Ok(()) => self.answer_kept(alloc),
+            Ok(()) => self.answer_kept(alloc, world),
             Err(e) => Err(e),
         }
     }
@@ -246,10 +249,9 @@ impl<A: App, C: Cacheable> WorldSession<A, C> {
     fn extend_line(&mut self, rest: &[u8]) -> Result<Flow, AllocError>
         requires { HasNoEnd rest.now }
         ensures counted { self.new.lines ≡ self.old.lines }
-        ensures answered { (world : Told) (read written : List ℕ)
-            → HasAnswered (record { next = A.next; world = world }) read written (progress_of self.old)
-            → AnswersAs (record { next = A.next; world = world }) (read ++ rest.now) written
-            (progress_of self.new) result }
+        ensures answered { (start : WorldStart) (world : Told) (read written : List ℕ)
+            → HasAnswered start read written (progress_of world self.old)
+            → AnswersAs start (read ++ rest.now) written (progress_of world self.new) result }
     {
         match self.line.add(rest) {
             Ok(()) => Ok(Flow::GoesOn),
@@ -258,43 +260,50 @@ impl<A: App, C: Cacheable> WorldSession<A, C> {
     }
 
     /// Answers the lines that end in these bytes.
-    pub fn answer_lines(&mut self, alloc: Global, bytes: &[u8]) -> Result<Flow, AllocError>
+    pub fn answer_lines<A: App, C: Cacheable>(
+        &mut self,
+        alloc: Global,
+        world: &mut World<A, C>,
+        bytes: &[u8],
+    ) -> Result<Flow, AllocError>
         requires { self.old.lines + length bytes.now < 2 ^ 64 }
         ensures counted { self.new.lines ≤ self.old.lines + length bytes.now }
-        ensures answered { (world : Told) (read written : List ℕ)
-            → HasAnswered (record { next = A.next; world = world }) read written (progress_of self.old)
-            → AnswersAs (record { next = A.next; world = world }) (read ++ bytes.now) written
-            (progress_of self.new) result }
+        ensures answered { (first : Told) (read written : List ℕ)
+            → HasAnswered (record { next = A.next; world = first }) read written (progress_of world.old.told self.old)
+            → AnswersAs (record { next = A.next; world = first }) (read ++ bytes.now) written
+            (progress_of world.new.told self.new) result }
     {
         let mut rest = bytes;
         'lines: loop {
             match cut_line(rest) {
-                Some((before, is_plain, after)) => match self.end_line(alloc, before, is_plain) {
-                    Ok(Flow::GoesOn) => rest = after,
-                    Ok(Flow::Stopped(line)) => return Ok(Flow::Stopped(line)),
-                    Err(e) => return Err(e),
-                },
+                Some((before, is_plain, after)) => {
+                    match self.end_line(alloc, world, before, is_plain) {
+                        Ok(Flow::GoesOn) => rest = after,
+                        Ok(Flow::Stopped(line)) => return Ok(Flow::Stopped(line)),
+                        Err(e) => return Err(e),
+                    }
+                }
                 None => return self.extend_line(rest),
             }
         }
     }
 
     /// Answers the last line, if its line feed is missing.
-    pub fn answer_last(&mut self, alloc: Global) -> Result<Flow, AllocError>
+    pub fn answer_last<A: App, C: Cacheable>(
+        &mut self,
+        alloc: Global,
+        world: &mut World<A, C>,
+    ) -> Result<Flow, AllocError>
         requires { self.old.lines + 1 < 2 ^ 64 }
-        ensures { (world : Told) (read written : List ℕ)
-            → HasAnswered (record { next = A.next; world = world }) read written (progress_of self.old)
-            → AnswersLast (record { next = A.next; world = world }) read written (progress_of self.new) result }
+        ensures { (first : Told) (read written : List ℕ)
+            → HasAnswered (record { next = A.next; world = first }) read written (progress_of world.old.told self.old)
+            → AnswersLast (record { next = A.next; world = first }) read written
+            (progress_of world.new.told self.new) result }
     {
         if self.line.is_empty() {
             return Ok(Flow::GoesOn);
         }
-        self.answer_kept(alloc)
-    }
-
-    /// Gives up what the first actors have open, by their numbers, as far as there is memory for it.
-    pub fn close(&mut self, alloc: Global, actors: usize) {
-        let _ = close_all(alloc, &mut self.world, actors);
+        self.answer_kept(alloc, world)
     }
 
     /// Writes the replies that are not written yet.
@@ -307,7 +316,7 @@ impl<A: App, C: Cacheable> WorldSession<A, C> {
             (AppendsPrefix (W.contents writer.old) (W.contents writer.new)
             self.old.replied.text.items) }
         ensures refused { OnErr result (result ≡ Err RunFault.Write) }
-        ensures same { IsKeptBeside (progress_of self.old) (progress_of self.new) }
+        ensures same { IsKeptBeside self.old self.new }
     {
         write_text(writer, self.replied.text.as_slice())?;
         self.replied.text.clear();

@@ -106,7 +106,7 @@ fn say_reach(answer: &mut String, reach: Reach) {
 }
 
 /// A lookup and what it found, or an insertion of a reach.
-fn say_record(answer: &mut String, record: &Record) {
+pub(crate) fn say_record(answer: &mut String, record: &Record) {
     match (&record.op, &record.reply) {
         (Op::Lookup { key, .. }, Reply::Hit(shown)) => {
             let _ = write!(answer, "hit {key}");

@@ -5,7 +5,6 @@ ghost use Rattle.txc_registry.specs.Objects.{AllIdle};
 
 use crate::common::room;
 use crate::db::alone::played;
-use crate::objects::{Object, registry};
 use crate::plain::{change_all, say_matching, say_value, state_after};
 use std::alloc::{AllocError, Global};
 use std::marker::Brand;
@@ -14,7 +13,7 @@ use std::sync::Wait;
 use std::test::Fail;
 use std::thread::{Threads, join};
 use txc_db::{Database, DbCore, Naming};
-use txc_functions::Program;
+use txc_functions::{Object, Program, registry};
 use txc_permits::PermitPool;
 use txc_ports::TxnError;
 use txc_registry::Registry;
@@ -150,7 +149,7 @@ fn work<J: Naming>(
     first: u32,
 ) -> Option<bool> {
     let mut pool = PermitPool::new(alloc, 2).ok()?;
-    let mut objects = registry(alloc, &mut pool)?;
+    let mut objects = registry(alloc, &mut pool).ok()?;
     let mut text = room(alloc).ok()?;
     let mut done = 0u32;
     for _ in 0..TRIES {

@@ -4,5 +4,5 @@ use Rattle.txc_run.proofs.world.playing.end_txn.Goals as goal
 
 pub returns-then-leaves_hold : goal.returns-then-leaves_hold
 returns-then-leaves_hold g c =
-    ended_with g.A.App.next c.args.world.now.told c.take.new.world.told c.take-then-leaves_hold.new.world.told c.args.actor c.args.act c.in_ok-reply.reply c.in_ok-take.field-0
-    c.in_ok-reply.ensures (sym c.leaves_hold.ensures ∙ c.if-leaves_hold.true) c.in_ok-take.ensures
+    ended_with g.A.App.next c.args.world.now.told c.take-reply.new.world.told c.take.new.world.told c.args.actor c.args.act c.take-reply.result c.take.result
+    c.take-reply.ensures (sym c.leaves_hold.ensures ∙ c.if-leaves_hold.true) c.take.ensures

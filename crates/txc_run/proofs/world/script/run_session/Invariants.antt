@@ -1,6 +1,5 @@
 use Rattle.std.proofs.Common.{◌≡◌, ◌+◌, ◌*◌, ◌≤◌, List, ℕ, []}
 use Rattle.std.specs.Io.KnownBytes.{Appends, Consumes}
-use Rattle.txc_run.specs.WorldRuns.{world_start}
 use Rattle.txc_run.specs.WorldSessions.{progress_of, HasAnswered}
 use Rattle.txc_run.proofs.world.script.run_session.Given as goal
 
@@ -11,7 +10,7 @@ invariant-reads g l = record {
   written : List ℕ;
   consumed : Consumes (g.R.Read.remaining l.fn.reader) (g.R.Read.remaining l.reader) read;
   appended : Appends (g.W.Write.contents l.fn.writer) (g.W.Write.contents l.writer) written;
-  answered : HasAnswered (world_start g.A.App.next l.fn.settings l.fn.registries.items) read written (progress_of l.session);
+  answered : HasAnswered (record { next = g.A.App.next; world = l.fn.world.told }) read written (progress_of l.world.told l.session);
   none : l.session.replied.text.items ≡ [];
 }
 

@@ -8,8 +8,8 @@ invariant-lines g l = record {
   counted : l.self.lines + length l.rest ≤ l.fn.self.lines + length l.fn.bytes;
   done : List ℕ;
   split : l.fn.bytes ≡ done ++ l.rest;
-  answered : (world : Told) (read written : List ℕ) → HasAnswered (record { next = g.A.App.next; world = world }) read written (progress_of l.fn.self)
-      → HasAnswered (record { next = g.A.App.next; world = world }) (read ++ done) written (progress_of l.self);
+  answered : (first : Told) (read written : List ℕ) → HasAnswered (record { next = g.A.App.next; world = first }) read written (progress_of l.fn.world.told l.fn.self)
+      → HasAnswered (record { next = g.A.App.next; world = first }) (read ++ done) written (progress_of l.world.told l.self);
 }
 
 abbrev pub decreases-lines : goal.decreases-lines

@@ -1,9 +1,9 @@
 -- The program's functions, as objects of one type.
-use Rattle.std.specs.Prelude.{ℕ}
+use Rattle.std.specs.Prelude.{ℕ, List, [], ◌∷◌}
 use Rattle.txc_registry.specs.Activity.{Says}
 use Rattle.txc_functions.specs.Program.{program}
-use Rattle.txcache.specs.declared.functions.AnyFunction.{AnyFunction}
-use Rattle.txcache.specs.declared.functions.AnyFunction.TheVariants as functions
+use Rattle.txc_functions.specs.declared.any_function.AnyFunction.{AnyFunction}
+use Rattle.txc_functions.specs.declared.any_function.AnyFunction.TheVariants as functions
 
 -- the number of the function
 abbrev pub number_of : AnyFunction → ℕ
@@ -17,3 +17,7 @@ number_of (functions.Again f) = 5
 -- what it asks, and gives
 abbrev pub says_of : AnyFunction → Says
 says_of f = program (number_of f)
+
+-- the numbers of all functions, in order
+abbrev pub ALL_NUMBERS : List ℕ
+ALL_NUMBERS = 0 ∷ 1 ∷ 2 ∷ 3 ∷ 4 ∷ 5 ∷ []
