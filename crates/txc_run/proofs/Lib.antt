@@ -8,6 +8,7 @@ pub mod HexDigits
 pub mod WordFaults
 pub mod AllSpell
 pub mod Named
+pub mod EachLine
 pub mod Answered
 pub mod LineRead
 pub mod SessionLines

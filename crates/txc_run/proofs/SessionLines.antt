@@ -6,7 +6,8 @@ use Rattle.std.proofs.lemmas.Bool.Decides.{nat_tests}
 use Rattle.std.proofs.lemmas.List.{append-nil, length-append}
 use Rattle.std.proofs.lemmas.List.Elements.{All-append, All-nil}
 use Rattle.txc_run.specs.Script.{BeginsWithLines, HasNoEnd, AreLinesOf, last_line}
-use Rattle.txc_run.specs.Given.{Given, Gives, AreGiven, is_malformed, is_refused}
+use Rattle.txc_run.specs.Given.{Given, Gives, is_malformed, is_refused, node_script}
+use Rattle.txc_run.specs.Kinds.{AreGiven}
 use Rattle.txc_run.specs.Output.{lines_text, closing_text}
 use Rattle.txc_settings.specs.declared.mode.Mode.{Mode}
 use Rattle.txc_settings.specs.declared.mode.Mode.TheVariants.{Report}
@@ -21,31 +22,8 @@ use Rattle.txc_run.specs.declared.piece.TheConstants.{MAX_KEPT}
 use Rattle.txc_run.specs.declared.session.Session.{Session}
 use Rattle.txc_run.specs.declared.session.Flow.{Flow}
 use Rattle.txc_run.specs.declared.session.Flow.TheVariants.{GoesOn, Stopped}
-use Rattle.txc_run.proofs.Answered.{given_more, begins_more, begins_longer, kept_append, gives_whole, any_more, text_more, all_written, fault_whole}
-
-none_taken : (n : ℕ) (xs : List ℕ) → take (suc n) xs ≡ [] → xs ≡ []
-none_taken n [] h = refl
-none_taken n (x ∷ xs) h = cc
-
-nothing_kept : (rest : List ℕ) → kept_of rest ≡ [] → rest ≡ []
-nothing_kept rest h = none_taken 4096 rest h
-
--- what is read of a line as these bytes is read of the whole line too
-record ReadsAs (read line : List ℕ) : Type 0 where
-  gives : (c : Cache) (n : ℕ) (g : Given) (next : Cache) → Gives c n read g next → Gives c n line g next
-  fault : (fault : LineFault) → IsFaultOf read fault → IsFaultOf line fault
-
-kept_reads : (read line : List ℕ) → read ≡ kept_of line → ReadsAs read line
-kept_reads read line is = record {
-  gives = λ c n g next h. gives_whole c n line g next (subst (λ (l : List ℕ). Gives c n l g next) is h);
-  fault = λ fault h. fault_whole line fault (subst (λ (l : List ℕ). IsFaultOf l fault) is h);
-}
-
-whole_reads : (read line : List ℕ) → read ≡ line → ReadsAs read line
-whole_reads read line is = record {
-  gives = λ c n g next h. subst (λ (l : List ℕ). Gives c n l g next) is h;
-  fault = λ fault h. subst (λ (l : List ℕ). IsFaultOf l fault) is h;
-}
+use Rattle.txc_run.proofs.EachLine.{all_read, any_more, begins_longer, begins_more, given_more, kept_append, no_end, none_read, nothing_kept, whole_reads, ReadsAs}
+use Rattle.txc_run.proofs.Answered.{kept_reads, text_more, all_written}
 
 -- the line that was read as these bytes was answered
 record IsAnswered (s next : Session) (read : List ℕ) (flow : Flow) : Type 0 where
@@ -55,14 +33,14 @@ record IsAnswered (s next : Session) (read : List ℕ) (flow : Flow) : Type 0 wh
 
 -- what holds where the line that began with `rest` was answered, as a line that is `line` whole
 record LineAdded (start : Start) (written : List ℕ) (s : Session) (lines : List (List ℕ)) (given : List Given) : Type 0 where
-  are_given : AreGiven start.cache 1 lines given s.node
+  are_given : AreGiven node_script start.cache 1 lines given s.node
   mode : mode_of s.replies ≡ start.mode
   text : written ++ s.replies.text.items ≡ lines_text start.mode given
   counted : HasCounted given s.replies
   refused : s.replies.is_refused ≡ list_any is_refused given
   count : s.lines ≡ length lines
 
-added_line : (start : Start) (read written before x : List ℕ) (s next : Session) (flow : Flow) (h : HasAnswered start read written s) → ReadsAs x (h.rest ++ before)
+added_line : (start : Start) (read written before x : List ℕ) (s next : Session) (flow : Flow) (h : HasAnswered start read written s) → ReadsAs node_script x (h.rest ++ before)
     → (a : IsAnswered s next x flow) → LineAdded start written next (h.lines ++ (h.rest ++ before) ∷ []) (h.given ++ a.answers.given ∷ [])
 added_line start read written before x s next flow h reads a =
     let line = h.rest ++ before in
@@ -70,7 +48,7 @@ added_line start read written before x s next flow h reads a =
     let number : s.lines + 1 ≡ 1 + length h.lines = omega (arith, h.count) in
     let gives : Gives s.node (1 + length h.lines) line given next.node = reads.gives s.node (1 + length h.lines) given next.node (subst (λ (m : ℕ). Gives s.node m x given next.node) number a.answers.gives) in
     record {
-      are_given = given_more start.cache 1 h.lines h.given s.node line given next.node h.are_given h.well_formed gives;
+      are_given = given_more node_script start.cache 1 h.lines h.given s.node line given next.node h.are_given h.well_formed gives;
       mode = a.answers.takes.mode ∙ h.mode;
       text = text_more start.mode (mode_of s.replies) written s.replies.text.items next.replies.text.items h.given given h.mode h.text a.answers.takes.text;
       counted = a.answers.takes.counted h.given h.counted;
@@ -78,12 +56,9 @@ added_line start read written before x s next flow h reads a =
       count = omega (arith, a.count, h.count, length-append h.lines (line ∷ []));
     }
 
-no_end : HasNoEnd []
-no_end = λ k d l. absurd (omega arith)
-
 -- the line that ends after `before` was answered
 answered_line : (start : Start) (read written before x : List ℕ) (s next : Session) (flow : Flow) (h : HasAnswered start read written s) → HasNoEnd before
-    → ReadsAs x (h.rest ++ before) → IsAnswered s next x flow → AnswersAs start (read ++ (before ++ 10 ∷ [])) written next (Ok flow)
+    → ReadsAs node_script x (h.rest ++ before) → IsAnswered s next x flow → AnswersAs start (read ++ (before ++ 10 ∷ [])) written next (Ok flow)
 answered_line start read written before x s next GoesOn h bare reads a =
     let line = h.rest ++ before in
     let added = added_line start read written before x s next GoesOn h reads a in
@@ -167,7 +142,7 @@ pub answered_whole : (start : Start) (read written before : List ℕ) (s next : 
     → HasAnswered start read written s → AnswersAs start (read ++ (before ++ 10 ∷ [])) written next r
 answered_whole start read written before s next (Ok flow) bare none a count same e h =
     let begun : h.rest ≡ [] = nothing_kept h.rest (sym h.kept ∙ none) in
-    answered_line start read written before before s next flow h bare (whole_reads before (h.rest ++ before) (ap (λ (l : List ℕ). l ++ before) (sym begun))) (record { answers = a; count = count; emptied = same ∙ none })
+    answered_line start read written before before s next flow h bare (whole_reads node_script before (h.rest ++ before) (ap (λ (l : List ℕ). l ++ before) (sym begun))) (record { answers = a; count = count; emptied = same ∙ none })
 answered_whole start read written before s next (Err error) bare none a count same e h = halted start read written (before ++ 10 ∷ []) s next h e
 
 -- what is read after a malformed line, and once memory ran out, is not looked at
@@ -194,13 +169,6 @@ halted_longer start read written more all s e h = record {
   text = h.text;
   well_formed = h.well_formed;
 }
-
--- lists of bytes
-pub rejoined : (read done before after rest all : List ℕ) → all ≡ done ++ rest → rest ≡ before ++ 10 ∷ after → ((read ++ done) ++ (before ++ 10 ∷ [])) ++ after ≡ read ++ all
-rejoined read done before after rest all e f = simp append_assoc (ap (λ (xs : List ℕ). read ++ xs) (ap (λ (xs : List ℕ). done ++ xs) (sym f) ∙ sym e))
-
-pub split_more : (done before after rest all : List ℕ) → all ≡ done ++ rest → rest ≡ before ++ 10 ∷ after → all ≡ (done ++ (before ++ 10 ∷ [])) ++ after
-split_more done before after rest all e f = simp append_assoc (e ∙ ap (λ (xs : List ℕ). done ++ xs) f)
 
 pub nothing_answered : (start : Start) (s : Session) → s.node ≡ start.cache → s.lines ≡ 0 → s.line ≡ [] → mode_of s.replies ≡ start.mode → s.replies.is_refused ≡ false
     → s.replies.text.items ≡ [] → HasCounted [] s.replies → HasAnswered start [] [] s
@@ -232,17 +200,6 @@ halted_same start read written s next h e = record {
   well_formed = h.well_formed;
 }
 
-last_of_one : (rest : List ℕ) → (rest ≡ [] → ⊥) → last_line rest ≡ rest ∷ []
-last_of_one [] h = absurd (h refl)
-last_of_one (b ∷ rest) h = refl
-
--- the last line, whose line feed is missing
-all_read : (start : Start) (read written : List ℕ) (s : Session) (h : HasAnswered start read written s) → (s.line ≡ [] → ⊥) → AreLinesOf read (h.lines ++ (h.rest ++ []) ∷ [])
-all_read start read written s h some =
-    let same : h.rest ++ [] ≡ h.rest = append-nil h.rest in
-    let not_empty : h.rest ≡ [] → ⊥ = λ e. some (h.kept ∙ ap kept_of e) in
-    (h.lines, h.rest, h.begins, h.not_ended, ap (λ (l : List ℕ). h.lines ++ l ∷ []) same ∙ ap (λ (ls : List (List ℕ)). h.lines ++ ls) (sym (last_of_one h.rest not_empty)))
-
 -- it was answered
 ended_line : (start : Start) (read written : List ℕ) (s next : Session) (flow : Flow) → HasAnswered start read written s → (s.line ≡ [] → ⊥)
     → IsAnswered s next s.line flow → AnswersLast start read written next (Ok flow)
@@ -256,7 +213,7 @@ ended_line start read written s next GoesOn h some a =
       lines = h.lines ++ line ∷ [];
       given = h.given ++ given ∷ [];
       answers = record { end = next.node; are_given = added.are_given };
-      all = all_read start read written s h some;
+      all = all_read read h.lines h.rest h.begins h.not_ended (λ e. some (h.kept ∙ ap kept_of e));
       mode = added.mode;
       text = added.text;
       counted = added.counted;
@@ -274,7 +231,7 @@ ended_line start read written s next (Stopped bad) h some a =
       lines = h.lines ++ line ∷ [];
       given = h.given ++ given ∷ [];
       answers = record { end = next.node; are_given = added.are_given };
-      all = all_read start read written s h some;
+      all = all_read read h.lines h.rest h.begins h.not_ended (λ e. some (h.kept ∙ ap kept_of e));
       text = all_written start.mode _ (h.given ++ given ∷ []) (malformed ∙ a.answers.flow_is.0) added.text;
       refused = added.refused;
       end = (malformed ∙ a.answers.flow_is.0, (a.answers.flow_is.1 ∙ sym a.count ∙ added.count, (h.lines, line, refl, reads.fault bad.fault a.answers.flow_is.2)));
@@ -292,7 +249,7 @@ none_left start read written s h none = record {
   lines = h.lines;
   given = h.given;
   answers = record { end = s.node; are_given = h.are_given };
-  all = (h.lines, h.rest, h.begins, h.not_ended, sym (append-nil h.lines) ∙ ap (λ (rest : List ℕ). h.lines ++ last_line rest) (sym (nothing_kept h.rest (sym h.kept ∙ none))));
+  all = none_read read h.lines h.rest h.begins h.not_ended (nothing_kept h.rest (sym h.kept ∙ none));
   mode = h.mode;
   text = h.text;
   counted = h.counted;

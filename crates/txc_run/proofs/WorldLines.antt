@@ -7,8 +7,9 @@ use Rattle.std.proofs.lemmas.List.Elements.{All-append, All-nil}
 use Rattle.txc_world.specs.Told.{Told}
 use Rattle.txc_run.specs.Script.{BeginsWithLines, HasNoEnd, AreLinesOf, last_line}
 use Rattle.txc_run.specs.WorldFaults.{IsWorldFaultOf}
-use Rattle.txc_run.specs.WorldGiven.{WorldGiven, Gives, AreGiven, HasBegunLine, is_malformed, is_refused, world_text}
-use Rattle.txc_run.specs.WorldRuns.{WorldStart, AreFirstLines}
+use Rattle.txc_run.specs.Kinds.{AreFirstLines, AreGiven}
+use Rattle.txc_run.specs.WorldGiven.{WorldGiven, Gives, HasBegunLine, is_malformed, is_refused, world_script, world_text}
+use Rattle.txc_run.specs.WorldRuns.{WorldStart}
 use Rattle.txc_run.specs.WorldSessions.{Progress, AnswersLine, HasAnswered, IsStopped, IsHalted, AnswersAs, AnswersLast, IsUnfinished, LeavesLine, MayHaveBegun}
 use Rattle.txc_run.specs.Sessions.{kept_of}
 use Rattle.txc_run.specs.declared.line_fault.LineFault.{LineFault}
@@ -16,35 +17,8 @@ use Rattle.txc_run.specs.declared.line_fault.MalformedLine.{MalformedLine}
 use Rattle.txc_run.specs.declared.piece.TheConstants.{MAX_KEPT}
 use Rattle.txc_run.specs.declared.session.Flow.{Flow}
 use Rattle.txc_run.specs.declared.session.Flow.TheVariants.{GoesOn, Stopped}
-use Rattle.txc_run.proofs.Answered.{begins_more, begins_longer, kept_append}
-use Rattle.txc_run.proofs.WorldAnswered.{begun_whole, given_more, gives_whole, any_more, text_more, fault_whole}
-
-none_taken : (n : ℕ) (xs : List ℕ) → take (suc n) xs ≡ [] → xs ≡ []
-none_taken n [] h = refl
-none_taken n (x ∷ xs) h = cc
-
-nothing_kept : (rest : List ℕ) → kept_of rest ≡ [] → rest ≡ []
-nothing_kept rest h = none_taken 4096 rest h
-
--- what is read of a line as these bytes is read of the whole line too
-record ReadsAs (start : WorldStart) (read line : List ℕ) : Type 0 where
-  gives : (c : Told) (n : ℕ) (g : WorldGiven) (after : Told) → Gives start.next c n read g after → Gives start.next c n line g after
-  fault : (fault : LineFault) → IsWorldFaultOf read fault → IsWorldFaultOf line fault
-  begun : (c after : Told) → HasBegunLine start.next c read after → HasBegunLine start.next c line after
-
-kept_reads : (start : WorldStart) (read line : List ℕ) → read ≡ kept_of line → ReadsAs start read line
-kept_reads start read line is = record {
-  gives = λ c n g after h. gives_whole start.next c n line g after (subst (λ (l : List ℕ). Gives start.next c n l g after) is h);
-  fault = λ fault h. fault_whole line fault (subst (λ (l : List ℕ). IsWorldFaultOf l fault) is h);
-  begun = λ c after h. begun_whole start.next c line after (subst (λ (l : List ℕ). HasBegunLine start.next c l after) is h);
-}
-
-whole_reads : (start : WorldStart) (read line : List ℕ) → read ≡ line → ReadsAs start read line
-whole_reads start read line is = record {
-  gives = λ c n g after h. subst (λ (l : List ℕ). Gives start.next c n l g after) is h;
-  fault = λ fault h. subst (λ (l : List ℕ). IsWorldFaultOf l fault) is h;
-  begun = λ c after h. subst (λ (l : List ℕ). HasBegunLine start.next c l after) is h;
-}
+use Rattle.txc_run.proofs.EachLine.{all_read, any_more, begins_longer, begins_more, given_more, kept_append, no_end, none_read, nothing_kept, whole_reads, ReadsAs}
+use Rattle.txc_run.proofs.WorldAnswered.{begun_whole, kept_reads, text_more}
 
 -- the line that was read as these bytes was answered
 record IsAnswered (start : WorldStart) (s next : Progress) (read : List ℕ) (flow : Flow) : Type 0 where
@@ -54,12 +28,12 @@ record IsAnswered (start : WorldStart) (s next : Progress) (read : List ℕ) (fl
 
 -- what holds where the line that began with `rest` was answered, as a line that is `line` whole
 record LineAdded (start : WorldStart) (written : List ℕ) (s : Progress) (lines : List (List ℕ)) (given : List WorldGiven) : Type 0 where
-  are_given : AreGiven start.next start.world 1 lines given s.world
+  are_given : AreGiven (world_script start.next) start.world 1 lines given s.world
   text : written ++ s.text ≡ world_text given
   refused : s.refused ≡ list_any is_refused given
   count : s.lines ≡ length lines
 
-added_line : (start : WorldStart) (read written before x : List ℕ) (s next : Progress) (flow : Flow) (h : HasAnswered start read written s) → ReadsAs start x (h.rest ++ before)
+added_line : (start : WorldStart) (read written before x : List ℕ) (s next : Progress) (flow : Flow) (h : HasAnswered start read written s) → ReadsAs (world_script start.next) x (h.rest ++ before)
     → (a : IsAnswered start s next x flow) → LineAdded start written next (h.lines ++ (h.rest ++ before) ∷ []) (h.given ++ a.answers.given ∷ [])
 added_line start read written before x s next flow h reads a =
     let line = h.rest ++ before in
@@ -67,18 +41,15 @@ added_line start read written before x s next flow h reads a =
     let number : s.lines + 1 ≡ 1 + length h.lines = omega (arith, h.count) in
     let gives : Gives start.next s.world (1 + length h.lines) line given next.world = reads.gives s.world (1 + length h.lines) given next.world (subst (λ (m : ℕ). Gives start.next s.world m x given next.world) number a.answers.gives) in
     record {
-      are_given = given_more start.next start.world 1 h.lines h.given s.world line given next.world h.are_given h.well_formed gives;
+      are_given = given_more (world_script start.next) start.world 1 h.lines h.given s.world line given next.world h.are_given h.well_formed gives;
       text = text_more written s.text next.text h.given given h.text a.answers.takes.text;
       refused = a.answers.takes.refused ∙ ap (λ (b : Bool). b || is_refused given) h.refused ∙ sym (any_more is_refused h.given given);
       count = omega (arith, a.count, h.count, length-append h.lines (line ∷ []));
     }
 
-no_end : HasNoEnd []
-no_end = λ k d l. absurd (omega arith)
-
 -- the line that ends after `before` was answered
 answered_line : (start : WorldStart) (read written before x : List ℕ) (s next : Progress) (flow : Flow) (h : HasAnswered start read written s) → HasNoEnd before
-    → ReadsAs start x (h.rest ++ before) → IsAnswered start s next x flow → AnswersAs start (read ++ (before ++ 10 ∷ [])) written next (Ok flow)
+    → ReadsAs (world_script start.next) x (h.rest ++ before) → IsAnswered start s next x flow → AnswersAs start (read ++ (before ++ 10 ∷ [])) written next (Ok flow)
 answered_line start read written before x s next GoesOn h bare reads a =
     let line = h.rest ++ before in
     let added = added_line start read written before x s next GoesOn h reads a in
@@ -146,7 +117,7 @@ halted start read written more s next h leaves e = record {
 }
 
 -- the line that ends after `before` may have begun
-left_line : (start : WorldStart) (read written before x : List ℕ) (s next : Progress) (h : HasAnswered start read written s) → HasNoEnd before → ReadsAs start x (h.rest ++ before)
+left_line : (start : WorldStart) (read written before x : List ℕ) (s next : Progress) (h : HasAnswered start read written s) → HasNoEnd before → ReadsAs (world_script start.next) x (h.rest ++ before)
     → MayHaveBegun start.next s.world x next.world → LeavesLine start (read ++ (before ++ 10 ∷ [])) h.lines s.world next.world
 left_line start read written before x s next h bare reads (inl same) = inl same
 left_line start read written before x s next h bare reads (inr begun) =
@@ -158,10 +129,10 @@ pub answered_end : (start : WorldStart) (read written before x : List ℕ) (s ne
     → next.lines ≡ s.lines + 1 → next.line ≡ [] → OnErr r (next.text ≡ s.text) → HasAnswered start read written s → AnswersAs start (read ++ (before ++ 10 ∷ [])) written next r
 answered_end start read written before x s next (Ok flow) bare is a broke count emptied e h =
     let kept : x ≡ kept_of (h.rest ++ before) = is ∙ ap (λ (l : List ℕ). take MAX_KEPT (l ++ before)) h.kept ∙ kept_append MAX_KEPT h.rest before in
-    answered_line start read written before x s next flow h bare (kept_reads start x (h.rest ++ before) kept) (record { answers = a; count = count; emptied = emptied })
+    answered_line start read written before x s next flow h bare (kept_reads start.next x (h.rest ++ before) kept) (record { answers = a; count = count; emptied = emptied })
 answered_end start read written before x s next (Err error) bare is a broke count emptied e h =
     let kept : x ≡ kept_of (h.rest ++ before) = is ∙ ap (λ (l : List ℕ). take MAX_KEPT (l ++ before)) h.kept ∙ kept_append MAX_KEPT h.rest before in
-    halted start read written (before ++ 10 ∷ []) s next h (left_line start read written before x s next h bare (kept_reads start x (h.rest ++ before) kept) broke) e
+    halted start read written (before ++ 10 ∷ []) s next h (left_line start read written before x s next h bare (kept_reads start.next x (h.rest ++ before) kept) broke) e
 
 -- a line that lies whole in the bytes
 pub answered_whole : (start : WorldStart) (read written before : List ℕ) (s next : Progress) (r : Result Flow AllocError) → HasNoEnd before → s.line ≡ []
@@ -169,11 +140,11 @@ pub answered_whole : (start : WorldStart) (read written before : List ℕ) (s ne
     → next.lines ≡ s.lines + 1 → next.line ≡ s.line → OnErr r (next.text ≡ s.text) → HasAnswered start read written s → AnswersAs start (read ++ (before ++ 10 ∷ [])) written next r
 answered_whole start read written before s next (Ok flow) bare none a broke count same e h =
     let begun : h.rest ≡ [] = nothing_kept h.rest (sym h.kept ∙ none) in
-    answered_line start read written before before s next flow h bare (whole_reads start before (h.rest ++ before) (ap (λ (l : List ℕ). l ++ before) (sym begun))) (record { answers = a; count = count; emptied = same ∙ none })
+    answered_line start read written before before s next flow h bare (whole_reads (world_script start.next) before (h.rest ++ before) (ap (λ (l : List ℕ). l ++ before) (sym begun))) (record { answers = a; count = count; emptied = same ∙ none })
 answered_whole start read written before s next (Err error) bare none a broke count same e h =
     let begun : h.rest ≡ [] = nothing_kept h.rest (sym h.kept ∙ none) in
     halted start read written (before ++ 10 ∷ []) s next h
-    (left_line start read written before before s next h bare (whole_reads start before (h.rest ++ before) (ap (λ (l : List ℕ). l ++ before) (sym begun))) broke) e
+    (left_line start read written before before s next h bare (whole_reads (world_script start.next) before (h.rest ++ before) (ap (λ (l : List ℕ). l ++ before) (sym begun))) broke) e
 
 -- what is read after a malformed line, and once memory ran out, is not looked at
 pub stopped_longer : (start : WorldStart) (read written more all : List ℕ) (bad : MalformedLine) (s : Progress) → read ++ more ≡ all → IsStopped start read written bad s → IsStopped start all written bad s
@@ -220,17 +191,6 @@ nothing_answered start s world lines line refused output = record {
   well_formed = refl;
 }
 
-last_of_one : (rest : List ℕ) → (rest ≡ [] → ⊥) → last_line rest ≡ rest ∷ []
-last_of_one [] h = absurd (h refl)
-last_of_one (b ∷ rest) h = refl
-
--- the last line, whose line feed is missing
-all_read : (start : WorldStart) (read written : List ℕ) (s : Progress) (h : HasAnswered start read written s) → (s.line ≡ [] → ⊥) → AreLinesOf read (h.lines ++ (h.rest ++ []) ∷ [])
-all_read start read written s h some =
-    let same : h.rest ++ [] ≡ h.rest = append-nil h.rest in
-    let not_empty : h.rest ≡ [] → ⊥ = λ e. some (h.kept ∙ ap kept_of e) in
-    (h.lines, h.rest, h.begins, h.not_ended, ap (λ (l : List ℕ). h.lines ++ l ∷ []) same ∙ ap (λ (ls : List (List ℕ)). h.lines ++ ls) (sym (last_of_one h.rest not_empty)))
-
 -- it may have begun
 last_begun : (start : WorldStart) (read written : List ℕ) (s next : Progress) (h : HasAnswered start read written s) → (s.line ≡ [] → ⊥) → MayHaveBegun start.next s.world s.line next.world
     → (next.world ≡ s.world) ⊎ ((line : List ℕ) × AreFirstLines read (h.lines ++ line ∷ []) × HasBegunLine start.next s.world line next.world)
@@ -238,7 +198,7 @@ last_begun start read written s next h some (inl same) = inl same
 last_begun start read written s next h some (inr begun) =
     let line = h.rest ++ [] in
     let whole : s.line ≡ kept_of line = h.kept ∙ ap kept_of (sym (append-nil h.rest)) in
-    inr (line, inr (all_read start read written s h some), (kept_reads start s.line line whole).begun s.world next.world begun)
+    inr (line, inr (all_read read h.lines h.rest h.begins h.not_ended (λ e. some (h.kept ∙ ap kept_of e))), kept_begun start.next s.line line whole s.world next.world begun)
 
 unfinished : (start : WorldStart) (read written : List ℕ) (s next : Progress) → HasAnswered start read written s → (s.line ≡ [] → ⊥) → MayHaveBegun start.next s.world s.line next.world
     → next.text ≡ s.text → IsUnfinished start read written next
@@ -258,14 +218,14 @@ ended_line : (start : WorldStart) (read written : List ℕ) (s next : Progress) 
 ended_line start read written s next GoesOn h some a =
     let line = h.rest ++ [] in
     let whole : s.line ≡ kept_of line = h.kept ∙ ap kept_of (sym (append-nil h.rest)) in
-    let added = added_line start read written [] s.line s next GoesOn h (kept_reads start s.line line whole) a in
+    let added = added_line start read written [] s.line s next GoesOn h (kept_reads start.next s.line line whole) a in
     let given = a.answers.given in
     let malformed : list_any is_malformed (h.given ++ given ∷ []) ≡ is_malformed given = any_more is_malformed h.given given ∙ ap (λ (b : Bool). b || is_malformed given) h.well_formed in
     record {
       lines = h.lines ++ line ∷ [];
       given = h.given ++ given ∷ [];
       answers = added.are_given;
-      all = all_read start read written s h some;
+      all = all_read read h.lines h.rest h.begins h.not_ended (λ e. some (h.kept ∙ ap kept_of e));
       text = added.text;
       refused = added.refused;
       end = malformed ∙ a.answers.flow_is;
@@ -273,7 +233,7 @@ ended_line start read written s next GoesOn h some a =
 ended_line start read written s next (Stopped bad) h some a =
     let line = h.rest ++ [] in
     let whole : s.line ≡ kept_of line = h.kept ∙ ap kept_of (sym (append-nil h.rest)) in
-    let reads = kept_reads start s.line line whole in
+    let reads = kept_reads start.next s.line line whole in
     let added = added_line start read written [] s.line s next (Stopped bad) h reads a in
     let given = a.answers.given in
     let malformed : list_any is_malformed (h.given ++ given ∷ []) ≡ is_malformed given = any_more is_malformed h.given given ∙ ap (λ (b : Bool). b || is_malformed given) h.well_formed in
@@ -281,7 +241,7 @@ ended_line start read written s next (Stopped bad) h some a =
       lines = h.lines ++ line ∷ [];
       given = h.given ++ given ∷ [];
       answers = added.are_given;
-      all = all_read start read written s h some;
+      all = all_read read h.lines h.rest h.begins h.not_ended (λ e. some (h.kept ∙ ap kept_of e));
       text = added.text;
       refused = added.refused;
       end = (malformed ∙ a.answers.flow_is.0, (a.answers.flow_is.1 ∙ sym a.count ∙ added.count, (h.lines, line, refl, reads.fault bad.fault a.answers.flow_is.2)));
@@ -299,7 +259,7 @@ none_left start read written s h none = record {
   lines = h.lines;
   given = h.given;
   answers = h.are_given;
-  all = (h.lines, h.rest, h.begins, h.not_ended, sym (append-nil h.lines) ∙ ap (λ (rest : List ℕ). h.lines ++ last_line rest) (sym (nothing_kept h.rest (sym h.kept ∙ none))));
+  all = none_read read h.lines h.rest h.begins h.not_ended (nothing_kept h.rest (sym h.kept ∙ none));
   text = h.text;
   refused = h.refused;
   end = h.well_formed;

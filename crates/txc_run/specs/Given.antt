@@ -1,11 +1,13 @@
 -- What the lines of a script give.
-use Rattle.std.specs.Prelude.{◌≡◌, ℕ, ◌+◌, Bool, true, false, List, [], ◌∷◌}
+use Rattle.std.specs.Prelude.{◌≡◌, ℕ, Bool, true, false, List}
 use Rattle.txc_node.specs.declared.hit.Shown.{Shown}
 use Rattle.txc_node.specs.declared.op.Op.{Op}
 use Rattle.txc_node.specs.declared.reply.Reply.{Reply}
 use Rattle.txc_node.specs.Cache.{Cache}
 use Rattle.txc_node.specs.Steps.{is_refusal, MayReply}
+use Rattle.txc_run.specs.Kinds.{ScriptKind}
 use Rattle.txc_run.specs.Lines.{IsQuiet, IsStepLine, IsMalformed}
+use Rattle.txc_run.specs.LineFaults.{IsFaultOf}
 
 -- a line gives no reply, or names a step and gives its reply, or is malformed and has this number
 pub data Given : Type 0 where
@@ -25,24 +27,17 @@ Gives c number line Nothing next = IsQuiet line × (next ≡ c)
 Gives c number line (Replied op reply) next = IsStepLine line op × MayReply c op reply next
 Gives c number line (Malformed k) next = IsMalformed line × (k ≡ number) × (next ≡ c)
 
--- no line is read after a malformed one
-abbrev pub GoesOn : Given → List (List ℕ) → Type 0
-GoesOn Nothing lines = Unit {0}
-GoesOn (Replied op reply) lines = Unit {0}
-GoesOn (Malformed number) lines = lines ≡ []
-
--- What each of the lines gives, in order: the first has this number, the next the one after it, and each
--- finds the state that the lines before it left.
-abbrev pub AreGiven : Cache → ℕ → List (List ℕ) → List Given → Cache → Type 0
-AreGiven c number [] [] end = end ≡ c
-AreGiven c number [] (g ∷ given) end = ⊥
-AreGiven c number (line ∷ lines) [] end = ⊥
-AreGiven c number (line ∷ lines) (g ∷ given) end =
-    (next : Cache) × Gives c number line g next × GoesOn g lines
-    × AreGiven next (number + 1) lines given end
-
 -- the line was malformed
 abbrev pub is_malformed : Given → Bool
 is_malformed Nothing = false
 is_malformed (Replied op reply) = false
 is_malformed (Malformed number) = true
+
+-- a script of a node's lines
+abbrev pub node_script : ScriptKind Cache Given
+node_script = record {
+  gives = Gives;
+  is_refused = is_refused;
+  is_malformed = is_malformed;
+  is_wrong = IsFaultOf;
+}

@@ -7,7 +7,8 @@ use Rattle.txc_node.specs.declared.reply.Reply.TheVariants.{Refused}
 use Rattle.txc_node.specs.Cache.{Cache}
 use Rattle.txc_run.specs.Lines.{IsQuiet, IsStepLine}
 use Rattle.txc_run.specs.Reading.{Line, IsLine}
-use Rattle.txc_run.specs.Given.{Given, Replied, AreGiven}
+use Rattle.txc_run.specs.Given.{Given, Replied, node_script}
+use Rattle.txc_run.specs.Kinds.{AreGiven}
 
 -- no line without a reply names a step
 abbrev pub NoQuietLineNamesAStep : Type 0
@@ -29,5 +30,5 @@ HadMemory given = All (λ g. (op : Op) → g ≢ Replied op (Refused Memory)) gi
 -- give the same, and leave the same state.
 abbrev pub AreAnsweredOneWay : Type 0
 AreAnsweredOneWay = (c : Cache) (number : ℕ) (lines : List (List ℕ)) (a b : List Given) (end other : Cache)
-    → AreGiven c number lines a end → AreGiven c number lines b other → HadMemory a → HadMemory b
+    → AreGiven node_script c number lines a end → AreGiven node_script c number lines b other → HadMemory a → HadMemory b
     → (a ≡ b) × (end ≡ other)

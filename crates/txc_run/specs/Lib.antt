@@ -6,12 +6,14 @@ pub mod Reads
 pub mod Lines
 pub mod Excerpts
 pub mod LineFaults
+pub mod Kinds
 pub mod Given
 pub mod Reports
 pub mod Output
 pub mod Runs
 pub mod Replies
 pub mod Reading
+pub mod Flows
 pub mod Sessions
 pub mod Turns
 pub mod Laws

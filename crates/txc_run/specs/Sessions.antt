@@ -1,15 +1,14 @@
 -- Only private functions need this file: a run in progress.
-use Rattle.std.specs.Prelude.{◌≡◌, ℕ, Bool, true, false, List, ◌++◌, Result, Ok, Err, length, take}
+use Rattle.std.specs.Prelude.{◌≡◌, ℕ, true, false, List, ◌++◌, Result, Ok, Err, length, take}
 use Rattle.std.specs.List.{list_any}
 use Rattle.std.specs.declared.alloc.AllocError.{AllocError}
 use Rattle.txc_run.specs.Script.{BeginsWithLines, HasNoEnd, AreLinesOf}
-use Rattle.txc_run.specs.Given.{Given, Gives, AreGiven, is_refused, is_malformed}
+use Rattle.txc_run.specs.Flows.{IsEndOf, IsFlowAfter}
+use Rattle.txc_run.specs.Given.{Given, Gives, is_malformed, is_refused, node_script}
+use Rattle.txc_run.specs.Kinds.{AreGiven, EndInFault}
 use Rattle.txc_run.specs.Output.{lines_text, output_of}
 use Rattle.txc_run.specs.Replies.{mode_of, HasCounted, Takes}
-use Rattle.txc_run.specs.Runs.{Start, Answers, AreLinesBefore, EndInFault}
-use Rattle.txc_run.specs.LineFaults.{IsFaultOf}
-use Rattle.txc_run.specs.declared.fault.Status.{Status}
-use Rattle.txc_run.specs.declared.fault.Status.TheVariants.{Done, Refused, Malformed}
+use Rattle.txc_run.specs.Runs.{Start, Answers, AreLinesBefore}
 use Rattle.txc_run.specs.declared.line_fault.MalformedLine.{MalformedLine}
 use Rattle.txc_node.specs.Cache.{Cache}
 use Rattle.txc_run.specs.declared.piece.TheConstants.{MAX_KEPT}
@@ -22,30 +21,12 @@ use Rattle.txc_run.specs.declared.session.Flow.TheVariants.{GoesOn, Stopped}
 abbrev pub kept_of : List ℕ → List ℕ
 kept_of line = take MAX_KEPT line
 
--- the run goes on after a line that is not malformed, and stops at a malformed one, for its number and its
--- fault
-abbrev pub IsFlowAfter : ℕ → List ℕ → Given → Flow → Type 0
-IsFlowAfter number line given GoesOn = is_malformed given ≡ false
-IsFlowAfter number line given (Stopped malformed) =
-    (is_malformed given ≡ true) × (malformed.number ≡ number) × IsFaultOf line malformed.fault
-
--- the end of a run: no line was malformed, or the last one is, for this fault
-abbrev pub IsEndOf : List (List ℕ) → List Given → Flow → Type 0
-IsEndOf lines given GoesOn = list_any is_malformed given ≡ false
-IsEndOf lines given (Stopped malformed) = (list_any is_malformed given ≡ true) × EndInFault lines malformed
-
--- the status of a run that ends so, in which a line was refused or none was
-abbrev pub status_after : Bool → Flow → Status
-status_after refused (Stopped malformed) = Malformed malformed
-status_after true GoesOn = Refused
-status_after false GoesOn = Done
-
 -- a line was answered that has this number: it found one cache and left another, and its reply was taken
 pub record AnswersLine (c next : Cache) (old new : Replies) (n : ℕ) (line : List ℕ) (flow : Flow) : Type 0 where
   pub given : Given
   pub gives : Gives c n line given next
   pub takes : Takes old new given
-  pub flow_is : IsFlowAfter n line given flow
+  pub flow_is : IsFlowAfter node_script n line given flow
 
 -- the lines that have ended were answered, and none was malformed; these bytes were written, and the rest
 -- of the replies is at hand
@@ -53,7 +34,7 @@ pub record HasAnswered (start : Start) (read written : List ℕ) (s : Session) :
   pub lines : List (List ℕ)
   pub given : List Given
   pub rest : List ℕ
-  pub are_given : AreGiven start.cache 1 lines given s.node
+  pub are_given : AreGiven node_script start.cache 1 lines given s.node
   pub begins : BeginsWithLines read lines rest
   pub not_ended : HasNoEnd rest
   pub kept : s.line ≡ kept_of rest
@@ -74,7 +55,7 @@ pub record IsStopped (start : Start) (read written : List ℕ) (malformed_line :
   pub text : written ++ s.replies.text.items ≡ output_of start.mode given
   pub refused : s.replies.is_refused ≡ list_any is_refused given
   pub malformed : list_any is_malformed given ≡ true
-  pub wrong : EndInFault lines malformed_line
+  pub wrong : EndInFault node_script lines malformed_line
 
 -- first lines were answered, none of them malformed, as far as there was memory
 pub record IsHalted (start : Start) (read written : List ℕ) (s : Session) : Type 0 where
@@ -94,7 +75,7 @@ pub record HasEnded (start : Start) (read written : List ℕ) (flow : Flow) (s :
   pub all : AreLinesOf read lines
   pub text : written ++ s.replies.text.items ≡ output_of start.mode given
   pub refused : s.replies.is_refused ≡ list_any is_refused given
-  pub end : IsEndOf lines given flow
+  pub end : IsEndOf node_script lines given flow
 
 -- first lines were answered, or all where the report could not be made, and none was malformed; what is
 -- written after all lines is not at hand

@@ -1,5 +1,5 @@
 -- What is wrong with a malformed line of a world's script.
-use Rattle.std.specs.Prelude.{◌≡◌, ◌<◌, ◌≤◌, ℕ, true, List, [], ◌∷◌, ◌++◌, Some, length, position, slice_index}
+use Rattle.std.specs.Prelude.{◌≡◌, ◌<◌, ◌≤◌, ℕ, true, List, ◌∷◌, Some, length, position, slice_index}
 use Rattle.std.specs.List.{list_any}
 use Rattle.txc_run.specs.Excerpts.{excerpt_of}
 use Rattle.txc_run.specs.Lines.{IsPlain}
@@ -9,7 +9,6 @@ use Rattle.txc_run.specs.Words.{words_of}
 use Rattle.txc_run.specs.declared.line.TheConstants.{MAX_LINE_LEN}
 use Rattle.txc_run.specs.declared.line_fault.LineFault.{LineFault}
 use Rattle.txc_run.specs.declared.line_fault.LineFault.TheVariants as faults
-use Rattle.txc_run.specs.declared.line_fault.MalformedLine.{MalformedLine}
 use Rattle.txc_run.specs.declared.world.name.LineName.{LineName}
 
 -- What is wrong with a line: there are too many bytes; else a foreign one; else an empty word; else the first
@@ -26,10 +25,3 @@ IsWorldFaultOf line (faults.Command text) =
 IsWorldFaultOf line (faults.Usage name) =
     HasWholeWords line × ((words : List (List ℕ)) × (words_of line ≡ name_text name ∷ words))
 IsWorldFaultOf line fault = ⊥
-
--- the last of the lines, which are counted from 1, has this number, and this is wrong with it
-abbrev pub EndInWorldFault : List (List ℕ) → MalformedLine → Type 0
-EndInWorldFault lines malformed =
-    (malformed.number ≡ length lines)
-    × ((before : List (List ℕ)) × (line : List ℕ) × (lines ≡ before ++ line ∷ [])
-    × IsWorldFaultOf line malformed.fault)

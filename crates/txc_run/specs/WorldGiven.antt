@@ -1,13 +1,15 @@
 -- What the lines of a world's script give.
-use Rattle.std.specs.Prelude.{◌≡◌, ℕ, ◌+◌, Bool, true, false, List, [], ◌∷◌, ◌++◌}
+use Rattle.std.specs.Prelude.{◌≡◌, ℕ, Bool, true, false, List, [], ◌∷◌, ◌++◌}
 use Rattle.std.specs.List.{flat_map}
 use Rattle.txc_shared.specs.Eval.{Next}
 use Rattle.txc_world.specs.Told.{Told}
+use Rattle.txc_run.specs.Kinds.{ScriptKind}
 use Rattle.txc_run.specs.Lines.{IsQuiet}
 use Rattle.txc_run.specs.Output.{malformed_text}
 use Rattle.txc_run.specs.Tasks.{IsTaskLine, IsMalformedLine}
 use Rattle.txc_run.specs.TaskSteps.{HasBegun, IsDone}
 use Rattle.txc_run.specs.TaskTexts.{printed_text, is_refused_line}
+use Rattle.txc_run.specs.WorldFaults.{IsWorldFaultOf}
 use Rattle.txc_run.specs.declared.world.printed.Printed.{Printed}
 use Rattle.txc_run.specs.declared.world.task.Task.{Task}
 
@@ -45,21 +47,14 @@ Gives next told number line (Done printed) end =
     (task : Task) × IsTaskLine line task × IsDone next told task printed end
 Gives next told number line (Malformed k) end = IsMalformedLine line × (k ≡ number) × (end ≡ told)
 
--- no line is read after a malformed one
-abbrev pub GoesOn : WorldGiven → List (List ℕ) → Type 0
-GoesOn Nothing lines = Unit {0}
-GoesOn (Done printed) lines = Unit {0}
-GoesOn (Malformed number) lines = lines ≡ []
-
--- What each of the lines gives, in order: the first has this number, the next the one after it, and each
--- finds the world that the lines before it left.
-abbrev pub AreGiven : Next → Told → ℕ → List (List ℕ) → List WorldGiven → Told → Type 0
-AreGiven next told number [] [] end = end ≡ told
-AreGiven next told number [] (g ∷ given) end = ⊥
-AreGiven next told number (line ∷ lines) [] end = ⊥
-AreGiven next told number (line ∷ lines) (g ∷ given) end =
-    (after : Told) × Gives next told number line g after × GoesOn g lines
-    × AreGiven next after (number + 1) lines given end
+-- a script of a world's lines, whose functions compute this
+abbrev pub world_script : Next → ScriptKind Told WorldGiven
+world_script next = record {
+  gives = Gives next;
+  is_refused = is_refused;
+  is_malformed = is_malformed;
+  is_wrong = IsWorldFaultOf;
+}
 
 -- the line asks for something, of which the first steps were taken, or all of them
 abbrev pub HasBegunLine : Next → Told → List ℕ → Told → Type 0

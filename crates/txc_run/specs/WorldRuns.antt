@@ -1,17 +1,16 @@
 -- What a run does with the lines of a world's script.
-use Rattle.std.specs.Prelude.{◌≡◌, ℕ, true, false, List, [], ◌∷◌, ◌++◌, Option, Result, Ok, Err, take, ◌⊎◌}
+use Rattle.std.specs.Prelude.{◌≡◌, ℕ, false, List, [], ◌∷◌, ◌++◌, Option, Result, Ok, Err, take, ◌⊎◌}
 use Rattle.std.specs.List.{list_any}
 use Rattle.std.specs.Io.KnownBytes.{Appends, Consumes, IsAtEnd}
 use Rattle.txc_settings.specs.declared.settings.Settings.{Settings}
 use Rattle.txc_shared.specs.Eval.{Next}
 use Rattle.txc_world.specs.declared.settings.WorldSettings.{WorldSettings}
 use Rattle.txc_world.specs.Told.{Told}
-use Rattle.txc_run.specs.Script.{BeginsWithLines, HasNoEnd, AreLinesOf}
+use Rattle.txc_run.specs.Kinds.{AreFirstLines, AreGiven, IsStatusOf, IsWhole}
+use Rattle.txc_run.specs.Script.{BeginsWithLines, HasNoEnd}
 use Rattle.txc_run.specs.TaskSteps.{HasGivenUp}
-use Rattle.txc_run.specs.WorldFaults.{EndInWorldFault}
-use Rattle.txc_run.specs.WorldGiven.{WorldGiven, AreGiven, HasBegunLine, world_text, is_malformed, is_refused}
+use Rattle.txc_run.specs.WorldGiven.{WorldGiven, HasBegunLine, is_malformed, world_script, world_text}
 use Rattle.txc_run.specs.declared.fault.Status.{Status}
-use Rattle.txc_run.specs.declared.fault.Status.TheVariants.{Done, Refused, Malformed}
 use Rattle.txc_run.specs.declared.fault.RunFault.{RunFault}
 use Rattle.txc_run.specs.declared.fault.RunFault.TheVariants.{Read, Write, Memory}
 
@@ -30,27 +29,9 @@ pub record WorldStart : Type 0 where
   pub next : Next
   pub world : Told
 
--- no refusal was written; or one was, and no line was malformed; or the last one was malformed, for this fault
-abbrev pub IsStatusOf : List (List ℕ) → List WorldGiven → Status → Type 0
-IsStatusOf lines given Done = list_any is_refused given ≡ false
-IsStatusOf lines given Refused = (list_any is_refused given ≡ true) × (list_any is_malformed given ≡ false)
-IsStatusOf lines given (Malformed malformed) = (list_any is_malformed given ≡ true)
-    × EndInWorldFault lines malformed
-
 -- what lines of a script give, which are counted from 1, and the world that they leave
 abbrev pub Answers : WorldStart → List (List ℕ) → List WorldGiven → Told → Type 0
-Answers start lines given told = AreGiven start.next start.world 1 lines given told
-
--- the lines of a whole script; or those up to a malformed one, and what comes after it was not answered
-abbrev pub IsWhole : List ℕ → Type 0 → List (List ℕ) → List WorldGiven → Type 0
-IsWhole read at_end lines given =
-    (AreLinesOf read lines × at_end)
-    ⊎ ((others : List ℕ) × BeginsWithLines read lines others × (list_any is_malformed given ≡ true))
-
--- the first lines of what was read
-abbrev pub AreFirstLines : List ℕ → List (List ℕ) → Type 0
-AreFirstLines read lines =
-    ((others : List ℕ) × BeginsWithLines read lines others) ⊎ AreLinesOf read lines
+Answers start lines given told = AreGiven (world_script start.next) start.world 1 lines given told
 
 -- lines were answered, and the run broke off after them: this is the world that they left, or that the first
 -- steps of the line after them left
@@ -68,8 +49,8 @@ pub record BreaksOff (start : WorldStart) (read : List ℕ) (lines : List (List 
 abbrev pub HasWritten : WorldStart → List ℕ → Type 0 → List ℕ → Result Status RunFault → Told → Type 0
 HasWritten start read at_end written (Ok status) told =
     (lines : List (List ℕ)) × (given : List WorldGiven)
-    × Answers start lines given told × IsWhole read at_end lines given
-    × (written ≡ world_text given) × IsStatusOf lines given status
+    × Answers start lines given told × IsWhole (world_script start.next) read at_end lines given
+    × (written ≡ world_text given) × IsStatusOf (world_script start.next) lines given status
 HasWritten start read at_end written (Err Read) told =
     (lines : List (List ℕ)) × (given : List WorldGiven) × (rest : List ℕ)
     × Answers start lines given told × BeginsWithLines read lines rest × HasNoEnd rest

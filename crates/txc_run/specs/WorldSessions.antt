@@ -9,10 +9,11 @@ use Rattle.txc_world.specs.declared.step.Step.{Step}
 use Rattle.txc_world.specs.declared.reply.Reply.{Reply}
 use Rattle.txc_world.specs.Told.{Told}
 use Rattle.txc_run.specs.Script.{BeginsWithLines, HasNoEnd, AreLinesOf}
+use Rattle.txc_run.specs.Flows.{IsEndOf, IsFlowAfter}
+use Rattle.txc_run.specs.Kinds.{AreGiven, EndInFault}
 use Rattle.txc_run.specs.Sessions.{kept_of}
 use Rattle.txc_run.specs.TaskSteps.{AreTaken, DoesEnd, DoesUnpin, HasBegun}
-use Rattle.txc_run.specs.WorldFaults.{IsWorldFaultOf, EndInWorldFault}
-use Rattle.txc_run.specs.WorldGiven.{WorldGiven, Gives, AreGiven, HasBegunLine, given_text, world_text, is_malformed, is_refused}
+use Rattle.txc_run.specs.WorldGiven.{WorldGiven, Gives, HasBegunLine, given_text, is_malformed, is_refused, world_script, world_text}
 use Rattle.txc_run.specs.WorldRuns.{WorldStart, Answers, BreaksOff, HasWritten}
 use Rattle.txc_run.specs.declared.fault.RunFault.{RunFault}
 use Rattle.txc_run.specs.declared.fault.Status.{Status}
@@ -70,18 +71,6 @@ progress_of world s = record {
   refused = s.replied.is_refused;
 }
 
--- the run goes on after a line that is not malformed, and stops at a malformed one, for its number and its
--- fault
-abbrev pub IsFlowAfter : ℕ → List ℕ → WorldGiven → Flow → Type 0
-IsFlowAfter number line given GoesOn = is_malformed given ≡ false
-IsFlowAfter number line given (Stopped malformed) =
-    (is_malformed given ≡ true) × (malformed.number ≡ number) × IsWorldFaultOf line malformed.fault
-
--- the end of a run: no line was malformed, or the last one is, for this fault
-abbrev pub IsEndOf : List (List ℕ) → List WorldGiven → Flow → Type 0
-IsEndOf lines given GoesOn = list_any is_malformed given ≡ false
-IsEndOf lines given (Stopped malformed) = (list_any is_malformed given ≡ true) × EndInWorldFault lines malformed
-
 -- what a line gave was taken: its text is at hand
 pub record Takes (old new : List ℕ) (was is : Bool) (given : WorldGiven) : Type 0 where
   pub text : new ≡ old ++ given_text given
@@ -93,7 +82,7 @@ pub record AnswersLine (next : Next) (told end : Told) (old new : List ℕ) (was
   pub given : WorldGiven
   pub gives : Gives next told n line given end
   pub takes : Takes old new was is given
-  pub flow_is : IsFlowAfter n line given flow
+  pub flow_is : IsFlowAfter (world_script next) n line given flow
 
 -- the lines that have ended were answered, and none was malformed; these bytes were written, and the rest
 -- of the replies is at hand
@@ -101,7 +90,7 @@ pub record HasAnswered (start : WorldStart) (read written : List ℕ) (s : Progr
   pub lines : List (List ℕ)
   pub given : List WorldGiven
   pub rest : List ℕ
-  pub are_given : AreGiven start.next start.world 1 lines given s.world
+  pub are_given : AreGiven (world_script start.next) start.world 1 lines given s.world
   pub begins : BeginsWithLines read lines rest
   pub not_ended : HasNoEnd rest
   pub kept : s.line ≡ kept_of rest
@@ -120,7 +109,7 @@ pub record IsStopped (start : WorldStart) (read written : List ℕ) (malformed_l
   pub begins : BeginsWithLines read lines others
   pub text : written ++ s.text ≡ world_text given
   pub malformed : list_any is_malformed given ≡ true
-  pub wrong : EndInWorldFault lines malformed_line
+  pub wrong : EndInFault (world_script start.next) lines malformed_line
 
 -- lines were answered, and of the line that ended after them, if one did, some of what it asks for was done
 abbrev pub LeavesLine : WorldStart → List ℕ → List (List ℕ) → Told → Told → Type 0
@@ -159,7 +148,7 @@ pub record HasEnded (start : WorldStart) (read written : List ℕ) (flow : Flow)
   pub all : AreLinesOf read lines
   pub text : written ++ s.text ≡ world_text given
   pub refused : s.refused ≡ list_any is_refused given
-  pub end : IsEndOf lines given flow
+  pub end : IsEndOf (world_script start.next) lines given flow
 
 -- the lines that end in the bytes were answered: the run goes on, or was stopped by a malformed line, or is
 -- out of memory
@@ -178,12 +167,6 @@ pub record IsKeptBeside (old new : WorldSession) : Type 0 where
   pub lines : new.lines ≡ old.lines
   pub line : new.line ≡ old.line
   pub refused : new.replied.is_refused ≡ old.replied.is_refused
-
--- the status of a run that ends so, in which a refusal was written or none was
-abbrev pub status_after : Bool → Flow → Status
-status_after refused (Stopped malformed) = statuses.Malformed malformed
-status_after true GoesOn = statuses.Refused
-status_after false GoesOn = statuses.Done
 
 -- ---- one read of a run
 
