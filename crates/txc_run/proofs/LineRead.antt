@@ -3,10 +3,11 @@ use Rattle.std.proofs.Common.{◌≡◌, ℕ, Bool, true, false, ◌||◌, List,
 use Rattle.std.specs.declared.alloc.AllocError.{AllocError}
 use Rattle.txc_node.specs.Cache.{Cache}
 use Rattle.txc_node.specs.declared.op.Op.{Op}
-use Rattle.txc_run.specs.Given.{Malformed}
+use Rattle.txc_run.specs.Flows.{IsFlowAfter}
+use Rattle.txc_run.specs.Given.{Malformed, node_script}
 use Rattle.txc_run.specs.Lines.{IsBlankOrComment, Spells, IsMalformed}
 use Rattle.txc_run.specs.Replies.{Takes}
-use Rattle.txc_run.specs.Sessions.{AnswersLine, IsFlowAfter}
+use Rattle.txc_run.specs.Sessions.{AnswersLine}
 use Rattle.txc_run.specs.declared.replies.Replies.{Replies}
 use Rattle.txc_run.specs.declared.session.Flow.{Flow}
 
@@ -19,7 +20,7 @@ either_true false = refl
 
 -- a malformed line was answered after a look that changed nothing
 pub malformed_answered : (r : Result Flow AllocError) (c next : Cache) (old mid new : Replies) (n : ℕ) (line : List ℕ) → IsMalformed line → next ≡ c → mid ≡ old
-    → IfOk r (IsFlowAfter n line (Malformed n)) → OnOk r (Takes mid new (Malformed n)) → IfOk r (AnswersLine c next old new n line)
+    → IfOk r (IsFlowAfter node_script n line (Malformed n)) → OnOk r (Takes mid new (Malformed n)) → IfOk r (AnswersLine c next old new n line)
 malformed_answered (Ok flow) c next old mid new n line bad same kept is takes = record {
   given = Malformed n;
   gives = (bad, refl, same);

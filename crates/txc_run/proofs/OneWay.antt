@@ -8,7 +8,8 @@ use Rattle.txc_node.specs.declared.reply.Reply.TheVariants.{Refused}
 use Rattle.txc_node.specs.Cache.{Cache}
 use Rattle.txc_node.specs.Steps.{MayReply}
 use Rattle.txc_node.proofs.Offered.{replied_one_way}
-use Rattle.txc_run.specs.Given.{Given, Nothing, Replied, Malformed, Gives, AreGiven}
+use Rattle.txc_run.specs.Kinds.{AreGiven}
+use Rattle.txc_run.specs.Given.{Given, Nothing, Replied, Malformed, Gives, node_script}
 use Rattle.txc_run.specs.Laws.{HadMemory}
 use Rattle.txc_run.proofs.OneThing.{no_quiet_step, one_step}
 
@@ -33,7 +34,7 @@ same_given c n line (Replied o r) (Malformed l) next other u v h k = absurd (k.0
 same_given c n line (Malformed m) Nothing next other u v h k = absurd (h.0.not_quiet k.0)
 same_given c n line (Malformed m) (Replied p s) next other u v h k = absurd (h.0.no_step p k.0)
 
-one_way : (c : Cache) (n : ℕ) (lines : List (List ℕ)) (a b : List Given) (end other : Cache) → AreGiven c n lines a end → AreGiven c n lines b other
+one_way : (c : Cache) (n : ℕ) (lines : List (List ℕ)) (a b : List Given) (end other : Cache) → AreGiven node_script c n lines a end → AreGiven node_script c n lines b other
     → AllByRecursion (λ g. (op : Op) → g ≢ Replied op (Refused Memory)) a → AllByRecursion (λ g. (op : Op) → g ≢ Replied op (Refused Memory)) b → (a ≡ b) × (end ≡ other)
 one_way c n [] [] [] end other h k u v = (refl, h ∙ sym k)
 one_way c n [] [] (g ∷ b) end other h k u v = absurd k
@@ -42,11 +43,11 @@ one_way c n (line ∷ lines) [] b end other h k u v = absurd h
 one_way c n (line ∷ lines) (g ∷ a) [] end other h k u v = absurd k
 one_way c n (line ∷ lines) (f ∷ a) (g ∷ b) end other h k u v =
     let p = same_given c n line f g h.0 k.0 u.0 v.0 h.1 k.1 in
-    let rest : AreGiven h.0 (n + 1) lines b other = subst (λ (s : Cache). AreGiven s (n + 1) lines b other) (sym p.state) k.3 in
+    let rest : AreGiven node_script h.0 (n + 1) lines b other = subst (λ (s : Cache). AreGiven node_script s (n + 1) lines b other) (sym p.state) k.3 in
     let q = one_way h.0 (n + 1) lines a b end other h.3 rest u.1 v.1 in
     (ap (λ (x : Given). x ∷ a) p.given ∙ ap (λ (xs : List Given). g ∷ xs) q.0, q.1)
 
 pub answered_one_way : (c : Cache) (number : ℕ) (lines : List (List ℕ)) (a b : List Given) (end other : Cache)
-    → AreGiven c number lines a end → AreGiven c number lines b other → HadMemory a → HadMemory b → (a ≡ b) × (end ≡ other)
+    → AreGiven node_script c number lines a end → AreGiven node_script c number lines b other → HadMemory a → HadMemory b → (a ≡ b) × (end ≡ other)
 answered_one_way c number lines a b end other h k u v =
     one_way c number lines a b end other h k (recursion_from_All (λ g. (op : Op) → g ≢ Replied op (Refused Memory)) a u) (recursion_from_All (λ g. (op : Op) → g ≢ Replied op (Refused Memory)) b v)

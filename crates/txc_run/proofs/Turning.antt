@@ -4,19 +4,19 @@ use Rattle.std.specs.Prelude.{IsErr, IsErrAnd}
 use Rattle.std.specs.Io.KnownBytes.{Appends, Consumes, IsAtEnd}
 use Rattle.std.specs.declared.alloc.AllocError.{AllocError}
 use Rattle.std.proofs.KnownBytes.{Appends-nil, Appends-trans, Appends-kept, Consumes-nil, Consumes-trans}
-use Rattle.std.proofs.Math.Seq.{take-append-add}
 use Rattle.std.proofs.lemmas.List.{append-nil, take_all}
 use Rattle.std.proofs.lemmas.List.Elements.{All-nil}
 use Rattle.txc_node.specs.Cache.{Cache}
 use Rattle.txc_settings.specs.declared.mode.Mode.{Mode}
-use Rattle.std.specs.List.{list_any}
 use Rattle.txc_run.specs.Script.{HasNoEnd}
 use Rattle.txc_run.specs.Written.{AppendsPrefix}
-use Rattle.txc_run.specs.Given.{Given, AreGiven, is_refused}
+use Rattle.txc_run.specs.Kinds.{AreFirstLines, AreGiven}
+use Rattle.txc_run.specs.Flows.{status_after}
+use Rattle.txc_run.specs.Given.{node_script}
 use Rattle.txc_run.specs.Output.{lines_text, output_of}
 use Rattle.txc_run.specs.Replies.{mode_by, HasReport}
-use Rattle.txc_run.specs.Runs.{Start, HasRun, HasWritten, IsWhole, AreFirstLines, AreLinesBefore, IsStatusOf}
-use Rattle.txc_run.specs.Sessions.{HasAnswered, IsStopped, IsHalted, HasEnded, IsUnclosed, AnswersAs, EndsAs, IsKeptBeside, IsEndOf, status_after}
+use Rattle.txc_run.specs.Runs.{Start, HasRun, HasWritten, AreLinesBefore}
+use Rattle.txc_run.specs.Sessions.{HasAnswered, IsStopped, IsHalted, HasEnded, IsUnclosed, AnswersAs, EndsAs, IsKeptBeside}
 use Rattle.txc_run.specs.Turns.{EndsWith, EndsFlushed, TurnsTo}
 use Rattle.txc_run.specs.declared.fault.Status.{Status}
 use Rattle.txc_run.specs.declared.fault.Status.TheVariants.{Malformed}
@@ -26,9 +26,7 @@ use Rattle.txc_run.specs.declared.fault.RunFault.TheVariants.{Read, Write, Memor
 use Rattle.txc_run.specs.declared.session.Session.{Session}
 use Rattle.txc_run.specs.declared.session.Flow.{Flow}
 use Rattle.txc_run.specs.declared.session.Flow.TheVariants.{GoesOn, Stopped}
-
-prefix_of : (written out all : List ℕ) (n : ℕ) → written ++ out ≡ all → written ++ take n out ≡ take (length written + n) all
-prefix_of written out all n e = sym (take-append-add written out n) ∙ ap (take (length written + n)) e
+use Rattle.txc_run.proofs.EachLine.{prefix_of, status_is, whole_at}
 
 -- the writer failed
 pub turn_faults : (start : Start) (read written : List ℕ) (s : Session) (r : Result Flow AllocError) (old new : Option (List ℕ)) → AppendsPrefix old new (s.replies.text.items)
@@ -61,7 +59,7 @@ turn_goes_on start read written s next same none h = record {
   lines = h.lines;
   given = h.given;
   rest = h.rest;
-  are_given = subst (λ (c : Cache). AreGiven start.cache 1 h.lines h.given c) (sym same.node) h.are_given;
+  are_given = subst (λ (c : Cache). AreGiven node_script start.cache 1 h.lines h.given c) (sym same.node) h.are_given;
   begins = h.begins;
   not_ended = h.not_ended;
   kept = same.line ∙ h.kept;
@@ -80,15 +78,10 @@ err_is (Err x) e h = ap Err h.1
 
 -- ---- the end of the script
 
-status_is : (lines : List (List ℕ)) (given : List Given) (refused : Bool) (flow : Flow) → refused ≡ list_any is_refused given → IsEndOf lines given flow → IsStatusOf lines given (status_after refused flow)
-status_is lines given refused (Stopped bad) same end = end
-status_is lines given true GoesOn same end = (sym same, end)
-status_is lines given false GoesOn same end = sym same
-
 pub finish_done : (start : Start) (read written : List ℕ) (s : Session) (refused : Bool) (flow : Flow) (old new : Option (List ℕ)) → Appends old new (s.replies.text.items) → refused ≡ s.replies.is_refused
     → HasEnded start read written flow s → EndsWith start read (Unit {0}) written old new (Ok (status_after refused flow))
 finish_done start read written s refused flow old new all same k =
-    (s.replies.text.items, all, (k.lines, k.given, k.answers, inl (k.all, tt), k.text, status_is k.lines k.given refused flow (same ∙ k.refused) k.end))
+    (s.replies.text.items, all, (k.lines, k.given, k.answers, inl (k.all, tt), k.text, status_is node_script k.lines k.given refused flow (same ∙ k.refused) k.end))
 
 pub finish_out_of_memory : (start : Start) (read written : List ℕ) (s : Session) (old new : Option (List ℕ)) → Appends old new (s.replies.text.items)
     → IsUnclosed start read written s → EndsWith start read (Unit {0}) written old new (Err Memory)
@@ -110,15 +103,11 @@ finish_faults start read written s (Err e) old new prefix k =
 
 -- ---- whole runs
 
-whole_at : (P Q : Type 0) (read : List ℕ) (lines : List (List ℕ)) (given : List Given) → (P → Q) → IsWhole read P lines given → IsWhole read Q lines given
-whole_at P Q read lines given f (inl h) = inl (h.0, f h.1)
-whole_at P Q read lines given f (inr h) = inr h
-
 written_at : (P Q : Type 0) (start : Start) (read written : List ℕ) (r : Result Status RunFault) → (P → Q) → HasWritten start read P written r → HasWritten start read Q written r
-written_at P Q start read written (Ok status) f h = (h.0, h.1, h.2, whole_at P Q read h.0 h.1 f h.3, h.4, h.5)
+written_at P Q start read written (Ok status) f h = (h.0, h.1, h.2, whole_at node_script P Q read h.0 h.1 f h.3, h.4, h.5)
 written_at P Q start read written (Err Read) f h = h
 written_at P Q start read written (Err Write) f (lines, given, n, answers, inl h) = (lines, given, n, answers, inl h)
-written_at P Q start read written (Err Write) f (lines, given, n, answers, inr h) = (lines, given, n, answers, inr (whole_at P Q read lines given f h.0, h.1))
+written_at P Q start read written (Err Write) f (lines, given, n, answers, inr h) = (lines, given, n, answers, inr (whole_at node_script P Q read lines given f h.0, h.1))
 written_at P Q start read written (Err Memory) f h = h
 
 -- what was read and written before, and how the run ended after it

@@ -27,7 +27,7 @@ gives_whole next c n line (Malformed k) after h = (
   h.2,
 )
 
-pub begun_whole : (next : Next) (c : Told) (line : List ℕ) (after : Told) → HasBegunLine next c (kept_of line) after → HasBegunLine next c line after
+begun_whole : (next : Next) (c : Told) (line : List ℕ) (after : Told) → HasBegunLine next c (kept_of line) after → HasBegunLine next c line after
 begun_whole next c line after h = (h.0, subst (λ l. IsTaskLine l h.0) (plain_kept line h.1.0) h.1, h.2)
 
 fault_whole : (line : List ℕ) (fault : LineFault) → IsWorldFaultOf (kept_of line) fault → IsWorldFaultOf line fault
@@ -44,6 +44,9 @@ kept_reads next read line is = record {
   gives = λ c n g after h. gives_whole next c n line g after (subst (λ (l : List ℕ). Gives next c n l g after) is h);
   fault = λ fault h. fault_whole line fault (subst (λ (l : List ℕ). IsWorldFaultOf l fault) is h);
 }
+
+pub kept_begun : (next : Next) (read line : List ℕ) → read ≡ kept_of line → (c after : Told) → HasBegunLine next c read after → HasBegunLine next c line after
+kept_begun next read line is c after h = begun_whole next c line after (subst (λ (l : List ℕ). HasBegunLine next c l after) is h)
 
 -- ---- the text
 

@@ -18,7 +18,7 @@ use Rattle.txc_run.specs.declared.piece.TheConstants.{MAX_KEPT}
 use Rattle.txc_run.specs.declared.session.Flow.{Flow}
 use Rattle.txc_run.specs.declared.session.Flow.TheVariants.{GoesOn, Stopped}
 use Rattle.txc_run.proofs.EachLine.{all_read, any_more, begins_longer, begins_more, given_more, kept_append, no_end, none_read, nothing_kept, whole_reads, ReadsAs}
-use Rattle.txc_run.proofs.WorldAnswered.{begun_whole, kept_reads, text_more}
+use Rattle.txc_run.proofs.WorldAnswered.{kept_begun, kept_reads, text_more}
 
 -- the line that was read as these bytes was answered
 record IsAnswered (start : WorldStart) (s next : Progress) (read : List ℕ) (flow : Flow) : Type 0 where
@@ -117,11 +117,12 @@ halted start read written more s next h leaves e = record {
 }
 
 -- the line that ends after `before` may have begun
-left_line : (start : WorldStart) (read written before x : List ℕ) (s next : Progress) (h : HasAnswered start read written s) → HasNoEnd before → ReadsAs (world_script start.next) x (h.rest ++ before)
+left_line : (start : WorldStart) (read written before x : List ℕ) (s next : Progress) (h : HasAnswered start read written s) → HasNoEnd before
+    → (HasBegunLine start.next s.world x next.world → HasBegunLine start.next s.world (h.rest ++ before) next.world)
     → MayHaveBegun start.next s.world x next.world → LeavesLine start (read ++ (before ++ 10 ∷ [])) h.lines s.world next.world
-left_line start read written before x s next h bare reads (inl same) = inl same
-left_line start read written before x s next h bare reads (inr begun) =
-    inr (h.rest ++ before, [], begins_more read h.lines h.rest before h.begins h.not_ended bare, reads.begun s.world next.world begun)
+left_line start read written before x s next h bare whole (inl same) = inl same
+left_line start read written before x s next h bare whole (inr begun) =
+    inr (h.rest ++ before, [], begins_more read h.lines h.rest before h.begins h.not_ended bare, whole begun)
 
 -- a line that was kept
 pub answered_end : (start : WorldStart) (read written before x : List ℕ) (s next : Progress) (r : Result Flow AllocError) → HasNoEnd before → x ≡ take MAX_KEPT (s.line ++ before)
@@ -132,7 +133,8 @@ answered_end start read written before x s next (Ok flow) bare is a broke count 
     answered_line start read written before x s next flow h bare (kept_reads start.next x (h.rest ++ before) kept) (record { answers = a; count = count; emptied = emptied })
 answered_end start read written before x s next (Err error) bare is a broke count emptied e h =
     let kept : x ≡ kept_of (h.rest ++ before) = is ∙ ap (λ (l : List ℕ). take MAX_KEPT (l ++ before)) h.kept ∙ kept_append MAX_KEPT h.rest before in
-    halted start read written (before ++ 10 ∷ []) s next h (left_line start read written before x s next h bare (kept_reads start.next x (h.rest ++ before) kept) broke) e
+    halted start read written (before ++ 10 ∷ []) s next h
+    (left_line start read written before x s next h bare (kept_begun start.next x (h.rest ++ before) kept s.world next.world) broke) e
 
 -- a line that lies whole in the bytes
 pub answered_whole : (start : WorldStart) (read written before : List ℕ) (s next : Progress) (r : Result Flow AllocError) → HasNoEnd before → s.line ≡ []
@@ -144,7 +146,8 @@ answered_whole start read written before s next (Ok flow) bare none a broke coun
 answered_whole start read written before s next (Err error) bare none a broke count same e h =
     let begun : h.rest ≡ [] = nothing_kept h.rest (sym h.kept ∙ none) in
     halted start read written (before ++ 10 ∷ []) s next h
-    (left_line start read written before before s next h bare (whole_reads (world_script start.next) before (h.rest ++ before) (ap (λ (l : List ℕ). l ++ before) (sym begun))) broke) e
+    (left_line start read written before before s next h bare
+    (λ some. subst (λ (l : List ℕ). HasBegunLine start.next s.world l next.world) (ap (λ (l : List ℕ). l ++ before) (sym begun)) some) broke) e
 
 -- what is read after a malformed line, and once memory ran out, is not looked at
 pub stopped_longer : (start : WorldStart) (read written more all : List ℕ) (bad : MalformedLine) (s : Progress) → read ++ more ≡ all → IsStopped start read written bad s → IsStopped start all written bad s

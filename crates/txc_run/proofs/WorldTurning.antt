@@ -3,17 +3,17 @@ use Rattle.std.proofs.Common.{◌≡◌, ℕ, ◌+◌, Bool, true, false, List, 
 use Rattle.std.specs.Io.KnownBytes.{Appends, Consumes, IsAtEnd}
 use Rattle.std.specs.declared.alloc.AllocError.{AllocError}
 use Rattle.std.proofs.KnownBytes.{Appends-nil, Appends-trans, Appends-kept, Consumes-nil}
-use Rattle.std.proofs.Math.Seq.{take-append-add}
 use Rattle.std.proofs.lemmas.List.{append-nil, take_all}
 use Rattle.std.proofs.lemmas.List.Elements.{All-nil}
-use Rattle.std.specs.List.{list_any}
 use Rattle.txc_world.specs.Told.{Told}
 use Rattle.txc_run.specs.Script.{HasNoEnd}
 use Rattle.txc_run.specs.Written.{AppendsPrefix}
 use Rattle.txc_run.specs.Turns.{EndsFlushed}
-use Rattle.txc_run.specs.WorldGiven.{WorldGiven, HasBegunLine, is_refused, world_text}
-use Rattle.txc_run.specs.WorldRuns.{WorldStart, Answers, BreaksOff, HasAnsweredScript, HasWritten, IsWhole, AreFirstLines, IsStatusOf}
-use Rattle.txc_run.specs.WorldSessions.{Progress, progress_of, HasAnswered, IsStopped, IsHalted, IsUnfinished, LeavesLine, AnswersAs, AnswersLast, IsKeptBeside, IsEndOf, status_after, EndsWith, TurnsTo}
+use Rattle.txc_run.specs.Kinds.{AreFirstLines}
+use Rattle.txc_run.specs.Flows.{status_after}
+use Rattle.txc_run.specs.WorldGiven.{WorldGiven, HasBegunLine, world_script, world_text}
+use Rattle.txc_run.specs.WorldRuns.{WorldStart, Answers, BreaksOff, HasAnsweredScript, HasWritten}
+use Rattle.txc_run.specs.WorldSessions.{Progress, progress_of, HasAnswered, IsStopped, IsHalted, IsUnfinished, LeavesLine, AnswersAs, AnswersLast, IsKeptBeside, EndsWith, TurnsTo}
 use Rattle.txc_run.specs.declared.fault.Status.{Status}
 use Rattle.txc_run.specs.declared.fault.Status.TheVariants.{Malformed}
 use Rattle.txc_run.specs.declared.line_fault.MalformedLine.{MalformedLine}
@@ -22,9 +22,7 @@ use Rattle.txc_run.specs.declared.fault.RunFault.TheVariants.{Read, Write, Memor
 use Rattle.txc_run.specs.declared.session.Flow.{Flow}
 use Rattle.txc_run.specs.declared.session.Flow.TheVariants.{GoesOn, Stopped}
 use Rattle.txc_run.specs.declared.world.session.WorldSession.{WorldSession}
-
-prefix_of : (written out all : List ℕ) (n : ℕ) → written ++ out ≡ all → written ++ take n out ≡ take (length written + n) all
-prefix_of written out all n e = sym (take-append-add written out n) ∙ ap (take (length written + n)) e
+use Rattle.txc_run.proofs.EachLine.{prefix_of, status_is, whole_at, whole_first}
 
 -- ---- where the run broke off
 
@@ -96,15 +94,10 @@ turn_goes_on start read written world s next same none h = record {
 
 -- ---- the end of the script
 
-status_is : (lines : List (List ℕ)) (given : List WorldGiven) (refused : Bool) (flow : Flow) → refused ≡ list_any is_refused given → IsEndOf lines given flow → IsStatusOf lines given (status_after refused flow)
-status_is lines given refused (Stopped bad) same end = end
-status_is lines given true GoesOn same end = (sym same, end)
-status_is lines given false GoesOn same end = sym same
-
 pub finish_done : (start : WorldStart) (read written : List ℕ) (s : Progress) (refused : Bool) (flow : Flow) (old new : Option (List ℕ)) → Appends old new s.text → refused ≡ s.refused
     → AnswersLast start read written s (Ok flow) → EndsWith start read (Unit {0}) written old new (Ok (status_after refused flow)) s.world
 finish_done start read written s refused flow old new all same k =
-    (s.text, all, (k.lines, k.given, k.answers, inl (k.all, tt), k.text, status_is k.lines k.given refused flow (same ∙ k.refused) k.end))
+    (s.text, all, (k.lines, k.given, k.answers, inl (k.all, tt), k.text, status_is (world_script start.next) k.lines k.given refused flow (same ∙ k.refused) k.end))
 
 pub finish_faults : (start : WorldStart) (read written : List ℕ) (s : Progress) (r : Result Flow AllocError) (old new : Option (List ℕ)) → AppendsPrefix old new s.text
     → AnswersLast start read written s r → EndsWith start read (Unit {0}) written old new (Err Write) s.world
@@ -114,12 +107,8 @@ finish_faults start read written s (Err e) old new prefix k = fails_unfinished (
 
 -- ---- whole runs
 
-whole_at : (P Q : Type 0) (read : List ℕ) (lines : List (List ℕ)) (given : List WorldGiven) → (P → Q) → IsWhole read P lines given → IsWhole read Q lines given
-whole_at P Q read lines given f (inl h) = inl (h.0, f h.1)
-whole_at P Q read lines given f (inr h) = inr h
-
 written_at : (P Q : Type 0) (start : WorldStart) (read written : List ℕ) (r : Result Status RunFault) (told : Told) → (P → Q) → HasWritten start read P written r told → HasWritten start read Q written r told
-written_at P Q start read written (Ok status) told f h = (h.0, h.1, h.2, whole_at P Q read h.0 h.1 f h.3, h.4, h.5)
+written_at P Q start read written (Ok status) told f h = (h.0, h.1, h.2, whole_at (world_script start.next) P Q read h.0 h.1 f h.3, h.4, h.5)
 written_at P Q start read written (Err Read) told f h = h
 written_at P Q start read written (Err Write) told f h = h
 written_at P Q start read written (Err Memory) told f h = h
@@ -157,11 +146,6 @@ reader_failed start a b w x read written s r consumes appends h none is =
 
 -- ---- the writer is flushed
 
--- the lines of a script that was answered are first lines of it
-whole_first : (P : Type 0) (read : List ℕ) (lines : List (List ℕ)) (given : List WorldGiven) → IsWhole read P lines given → AreFirstLines read lines
-whole_first P read lines given (inl h) = inr h.0
-whole_first P read lines given (inr h) = inl (h.0, h.1)
-
 pub flushed : (start : WorldStart) (a b w x y : Option (List ℕ)) (ended result : Result Status RunFault) (told : Told) → HasAnsweredScript start a b w x ended told → EndsFlushed x y ended result
     → HasAnsweredScript start a b w y result told
 flushed start a b w x y (Ok status) result told h (keeps, inl is) =
@@ -172,6 +156,6 @@ flushed start a b w x y (Ok status) result told h (keeps, inr is) =
     let text : h.1 ≡ all = written.4 in
     let whole : h.1 ≡ take (length h.1) all = text ∙ sym (take_all (length h.1) all (omega (arith, ap length text))) in
     subst (λ (e : Result Status RunFault). HasAnsweredScript start a b w y e told) (sym is)
-    (h.0, h.1, h.2, Appends-kept w x y h.1 h.3 keeps, (written.0, written.1, length h.1, no_more start h.0 written.0 written.1 told written.2, whole_first _ h.0 written.0 written.1 written.3, whole))
+    (h.0, h.1, h.2, Appends-kept w x y h.1 h.3 keeps, (written.0, written.1, length h.1, no_more start h.0 written.0 written.1 told written.2, whole_first (world_script start.next) _ h.0 written.0 written.1 written.3, whole))
 flushed start a b w x y (Err fault) result told h (keeps, is) =
     subst (λ (e : Result Status RunFault). HasAnsweredScript start a b w y e told) (sym is) (h.0, h.1, h.2, Appends-kept w x y h.1 h.3 keeps, h.4)

@@ -4,10 +4,11 @@ ghost use Rattle.std.specs.Io.KnownBytes.{Appends};
 ghost use Rattle.txc_run.specs.Script.{HasNoEnd};
 ghost use Rattle.txc_run.specs.Runs.{Start, start_of};
 ghost use Rattle.txc_run.specs.Written.{AppendsPrefix};
-ghost use Rattle.txc_run.specs.Given.{Malformed};
+ghost use Rattle.txc_run.specs.Flows.{IsFlowAfter, status_after};
+ghost use Rattle.txc_run.specs.Given.{node_script, Malformed};
 ghost use Rattle.txc_run.specs.Lines.{ArePlain, IsMalformed};
 ghost use Rattle.txc_run.specs.Replies.{Takes, counted_by};
-ghost use Rattle.txc_run.specs.Sessions.{AnswersLine, HasAnswered, AnswersAs, AnswersLast, EndsAs, IsFlowAfter, IsKeptBeside, status_after};
+ghost use Rattle.txc_run.specs.Sessions.{AnswersLine, HasAnswered, AnswersAs, AnswersLast, EndsAs, IsKeptBeside};
 
 use crate::fault::{RunFault, Status};
 use crate::finding::find_fault;
@@ -63,7 +64,7 @@ fn answer_malformed(
     line: &[u8],
 ) -> Result<Flow, AllocError>
     requires { IsMalformed line.now }
-    ensures flow { IfOk result (IsFlowAfter number line.now (Malformed number)) }
+    ensures flow { IfOk result (IsFlowAfter node_script number line.now (Malformed number)) }
     ensures after { OnOk result (Takes replies.old replies.new (Malformed number)) }
     ensures unchanged { OnErr result (replies.new.text.items ≡ replies.old.text.items) }
     ensures bound { counted_by replies.new ≡ counted_by replies.old }

@@ -6,9 +6,10 @@ ghost use Rattle.txc_run.specs.Lines.{ArePlain};
 ghost use Rattle.txc_run.specs.Written.{AppendsPrefix};
 ghost use Rattle.txc_run.specs.Tasks.{IsMalformedLine};
 ghost use Rattle.txc_run.specs.TaskSteps.{IsDone};
-ghost use Rattle.txc_run.specs.WorldGiven.{Done, Malformed};
+ghost use Rattle.txc_run.specs.Flows.{IsFlowAfter, status_after};
+ghost use Rattle.txc_run.specs.WorldGiven.{world_script, Done, Malformed};
 ghost use Rattle.txc_run.specs.WorldRuns.{WorldStart};
-ghost use Rattle.txc_run.specs.WorldSessions.{progress_of, status_after, AnswersAs, AnswersLast, AnswersLine, HasAnswered, IsCutShort, IsFlowAfter, IsKeptBeside, MayHaveBegun, Takes};
+ghost use Rattle.txc_run.specs.WorldSessions.{progress_of, AnswersAs, AnswersLast, AnswersLine, HasAnswered, IsCutShort, IsKeptBeside, MayHaveBegun, Takes};
 ghost use Rattle.txc_world.specs.Told.{Told};
 ghost use Rattle.txc_run.specs.declared.world.printed.Printed.{Printed};
 
@@ -99,7 +100,7 @@ fn answer_malformed(
     line: &[u8],
 ) -> Result<Flow, AllocError>
     requires { IsMalformedLine line.now }
-    ensures flow { IfOk result (IsFlowAfter number line.now (Malformed number)) }
+    ensures flow { (next : Next) → IfOk result (IsFlowAfter (world_script next) number line.now (Malformed number)) }
     ensures after { OnOk result (Takes replied.old.text.items replied.new.text.items
         replied.old.is_refused replied.new.is_refused (Malformed number)) }
     ensures unchanged { OnErr result (replied.new.text.items ≡ replied.old.text.items) }

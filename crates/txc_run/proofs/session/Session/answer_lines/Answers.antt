@@ -1,6 +1,7 @@
 use Rattle.std.proofs.Common.{◌++◌, ◌∷◌, [], List, ℕ, sym, ap, ◌∙◌, arith, append_assoc, length}
 use Rattle.std.proofs.lemmas.List.{length-append}
-use Rattle.txc_run.proofs.SessionLines.{stopped_longer, halted_longer, rejoined, split_more, answers_same, answered_same, stopped_of, answered_of}
+use Rattle.txc_run.proofs.EachLine.{rejoined, split_more}
+use Rattle.txc_run.proofs.SessionLines.{stopped_longer, halted_longer, answers_same, answered_same, stopped_of, answered_of}
 use Rattle.txc_run.proofs.session.Session.answer_lines.Goals as goal
 
 pub returns-in-Ok-Stopped-clause-answered : goal.returns-in-Ok-Stopped-clause-answered

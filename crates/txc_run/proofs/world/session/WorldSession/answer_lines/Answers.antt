@@ -2,7 +2,7 @@ use Rattle.std.proofs.Common.{◌++◌, ◌∷◌, [], List, ℕ, sym, ap, ◌�
 use Rattle.std.proofs.lemmas.List.{length-append}
 use Rattle.txc_run.specs.WorldRuns.{WorldStart}
 use Rattle.txc_run.specs.WorldSessions.{progress_of}
-use Rattle.txc_run.proofs.SessionLines.{rejoined, split_more}
+use Rattle.txc_run.proofs.EachLine.{rejoined, split_more}
 use Rattle.txc_run.proofs.WorldLines.{stopped_longer, halted_longer, answers_same, answered_same, stopped_of, answered_of}
 use Rattle.txc_run.proofs.world.session.WorldSession.answer_lines.Goals as goal
 
