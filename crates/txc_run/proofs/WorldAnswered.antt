@@ -1,16 +1,20 @@
 -- Lines of a world's script that are answered one after another.
-use Rattle.std.proofs.Common.{◌≡◌, ℕ, ◌+◌, List, [], ◌∷◌, ◌++◌, sym, ap, subst, ◌∙◌, arith, append_assoc}
+use Rattle.std.proofs.Common.{◌≡◌, ℕ, ◌+◌, Bool, List, [], ◌∷◌, ◌++◌, Result, Ok, Err, IfOk, OnOk, refl, sym, ap, subst, ◌∙◌, arith, append_assoc}
+use Rattle.std.specs.declared.alloc.AllocError.{AllocError}
 use Rattle.std.proofs.lemmas.List.{length-take}
 use Rattle.txc_shared.specs.Eval.{Next}
 use Rattle.txc_world.specs.Told.{Told}
+use Rattle.txc_run.specs.Flows.{IsFlowAfter}
 use Rattle.txc_run.specs.Lines.{IsQuiet}
-use Rattle.txc_run.specs.Tasks.{IsTaskLine}
+use Rattle.txc_run.specs.Tasks.{IsMalformedLine, IsTaskLine}
 use Rattle.txc_run.specs.WorldFaults.{IsWorldFaultOf}
 use Rattle.txc_run.specs.WorldGiven.{WorldGiven, Nothing, Done, Malformed, Gives, HasBegunLine, given_text, world_script, world_text}
 use Rattle.txc_run.specs.Sessions.{kept_of}
+use Rattle.txc_run.specs.WorldSessions.{AnswersLine, Takes}
 use Rattle.txc_run.specs.declared.line_fault.LineFault.{LineFault}
 use Rattle.txc_run.specs.declared.line_fault.LineFault.TheVariants as faults
 use Rattle.txc_run.specs.declared.piece.TheConstants.{MAX_KEPT}
+use Rattle.txc_run.specs.declared.session.Flow.{Flow}
 use Rattle.txc_run.proofs.EachLine.{flat_more, plain_kept, plain_whole, short_kept, ReadsAs}
 
 -- ---- what is kept of a line is enough
@@ -47,6 +51,12 @@ kept_reads next read line is = record {
 
 pub kept_begun : (next : Next) (read line : List ℕ) → read ≡ kept_of line → (c after : Told) → HasBegunLine next c read after → HasBegunLine next c line after
 kept_begun next read line is c after h = begun_whole next c line after (subst (λ (l : List ℕ). HasBegunLine next c l after) is h)
+
+-- a malformed line was answered, and no step was taken
+pub malformed_answered : (next : Next) (r : Result Flow AllocError) (told : Told) (old new : List ℕ) (was is : Bool) (n : ℕ) (line : List ℕ) → IsMalformedLine line
+    → IfOk r (IsFlowAfter (world_script next) n line (Malformed n)) → OnOk r (Takes old new was is (Malformed n)) → IfOk r (AnswersLine next told told old new was is n line)
+malformed_answered next (Ok flow) told old new was is n line bad stops takes = record { given = Malformed n; gives = (bad, refl, refl); takes = takes; flow_is = stops }
+malformed_answered next (Err e) told old new was is n line bad stops takes = tt
 
 -- ---- the text
 

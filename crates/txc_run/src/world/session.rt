@@ -1,6 +1,7 @@
 //! A run of a world's script in progress: lines are answered one after another.
 ghost use Rattle.std.specs.Prelude.{◌≡◌, true, false, ℕ, ◌+◌, ◌^◌, ◌<◌, ◌≤◌, List, [], ◌∷◌, ◌++◌, length, Err, IfOk, OnOk, OnErr};
 ghost use Rattle.std.specs.Io.KnownBytes.{Appends};
+ghost use Rattle.txc_shared.specs.Eval.{Next};
 ghost use Rattle.txc_run.specs.Script.{HasNoEnd};
 ghost use Rattle.txc_run.specs.Lines.{ArePlain};
 ghost use Rattle.txc_run.specs.Written.{AppendsPrefix};
