@@ -1,11 +1,11 @@
 -- A run answers its lines.
-use Rattle.std.proofs.Common.{◌≡◌, ◌≢◌, ℕ, ◌+◌, Bool, true, false, ◌||◌, suc, ◌≤◌, List, [], ◌∷◌, ◌++◌, length, take, Ok, Err, Result, IfOk, OnErr, refl, sym, ap, subst, ◌∙◌, arith, append_assoc, eqb, inl, inr}
+use Rattle.std.proofs.Common.{◌≡◌, ◌≢◌, ℕ, ◌+◌, Bool, true, false, ◌||◌, ◌≤◌, List, [], ◌∷◌, ◌++◌, length, take, Ok, Err, Result, IfOk, OnErr, refl, sym, ap, subst, ◌∙◌, arith, append_assoc, eqb, inl, inr}
 use Rattle.std.specs.List.{list_any}
 use Rattle.std.specs.declared.alloc.AllocError.{AllocError}
 use Rattle.std.proofs.lemmas.Bool.Decides.{nat_tests}
 use Rattle.std.proofs.lemmas.List.{append-nil, length-append}
 use Rattle.std.proofs.lemmas.List.Elements.{All-append, All-nil}
-use Rattle.txc_run.specs.Script.{BeginsWithLines, HasNoEnd, AreLinesOf, last_line}
+use Rattle.txc_run.specs.Script.{BeginsWithLines, HasNoEnd}
 use Rattle.txc_run.specs.Given.{Given, Gives, is_malformed, is_refused, node_script}
 use Rattle.txc_run.specs.Kinds.{AreGiven}
 use Rattle.txc_run.specs.Output.{lines_text, closing_text}
@@ -14,9 +14,6 @@ use Rattle.txc_settings.specs.declared.mode.Mode.TheVariants.{Report}
 use Rattle.txc_run.specs.Runs.{Start}
 use Rattle.txc_run.specs.Replies.{mode_of, HasCounted, counted_by}
 use Rattle.txc_run.specs.Sessions.{kept_of, AnswersLine, HasAnswered, IsStopped, IsHalted, HasLast, HasEnded, IsUnclosed, AnswersAs, AnswersLast}
-use Rattle.txc_run.specs.LineFaults.{IsFaultOf}
-use Rattle.txc_node.specs.Cache.{Cache}
-use Rattle.txc_run.specs.declared.line_fault.LineFault.{LineFault}
 use Rattle.txc_run.specs.declared.line_fault.MalformedLine.{MalformedLine}
 use Rattle.txc_run.specs.declared.piece.TheConstants.{MAX_KEPT}
 use Rattle.txc_run.specs.declared.session.Session.{Session}

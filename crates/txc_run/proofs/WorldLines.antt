@@ -1,18 +1,16 @@
 -- A run of a world's script answers its lines.
-use Rattle.std.proofs.Common.{◌≡◌, ◌≢◌, ℕ, ◌+◌, Bool, false, ◌||◌, suc, List, [], ◌∷◌, ◌++◌, length, take, Ok, Err, Result, IfOk, OnErr, refl, sym, ap, subst, ◌∙◌, ◌⊎◌, inl, inr, arith}
+use Rattle.std.proofs.Common.{◌≡◌, ◌≢◌, ℕ, ◌+◌, Bool, false, ◌||◌, List, [], ◌∷◌, ◌++◌, length, take, Ok, Err, Result, IfOk, OnErr, refl, sym, ap, subst, ◌∙◌, ◌⊎◌, inl, inr, arith}
 use Rattle.std.specs.List.{list_any}
 use Rattle.std.specs.declared.alloc.AllocError.{AllocError}
 use Rattle.std.proofs.lemmas.List.{append-nil, length-append}
 use Rattle.std.proofs.lemmas.List.Elements.{All-append, All-nil}
 use Rattle.txc_world.specs.Told.{Told}
-use Rattle.txc_run.specs.Script.{BeginsWithLines, HasNoEnd, AreLinesOf, last_line}
-use Rattle.txc_run.specs.WorldFaults.{IsWorldFaultOf}
+use Rattle.txc_run.specs.Script.{BeginsWithLines, HasNoEnd}
 use Rattle.txc_run.specs.Kinds.{AreFirstLines, AreGiven}
 use Rattle.txc_run.specs.WorldGiven.{WorldGiven, Gives, HasBegunLine, is_malformed, is_refused, world_script, world_text}
 use Rattle.txc_run.specs.WorldRuns.{WorldStart}
 use Rattle.txc_run.specs.WorldSessions.{Progress, AnswersLine, HasAnswered, IsStopped, IsHalted, AnswersAs, AnswersLast, IsUnfinished, LeavesLine, MayHaveBegun}
 use Rattle.txc_run.specs.Sessions.{kept_of}
-use Rattle.txc_run.specs.declared.line_fault.LineFault.{LineFault}
 use Rattle.txc_run.specs.declared.line_fault.MalformedLine.{MalformedLine}
 use Rattle.txc_run.specs.declared.piece.TheConstants.{MAX_KEPT}
 use Rattle.txc_run.specs.declared.session.Flow.{Flow}
