@@ -52,8 +52,7 @@ given_more kind c n [] (g0 ∷ given) end line g next h none gives = absurd h
 given_more kind c n (l ∷ lines) [] end line g next h none gives = absurd h
 given_more kind c n (l ∷ lines) (g0 ∷ given) end line g next h none gives =
     let none_of = either_false (kind.is_malformed g0) (list_any kind.is_malformed given) none in
-    let same : n + suc (length lines) ≡ n + 1 + length lines = omega arith in
-    (
+    let same : n + suc (length lines) ≡ n + 1 + length lines = omega arith in (
       h.0,
       h.1,
       goes_on (kind.is_malformed g0) (lines ++ line ∷ []) none_of.0,
