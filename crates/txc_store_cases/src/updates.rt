@@ -155,8 +155,12 @@ fn play<J: Naming>(
     requires { core.events ≡ J.database_row }
 {
     let mut pool = PermitPool::new(alloc, 4).ok()?;
-    let first = registry(alloc, &mut pool).ok()?;
-    let second = registry(alloc, &mut pool).ok()?;
+    let Ok(first) = registry(alloc, &mut pool) else {
+        return None;
+    };
+    let Ok(second) = registry(alloc, &mut pool) else {
+        return None;
+    };
     let database = Database::<J>::new(alloc, core).ok()?;
     let shared = Shared::new(rt, alloc, &database, false).ok()?;
     let mut updates = Updates::new(rt, &database, shared, first, second);
