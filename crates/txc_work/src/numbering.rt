@@ -1,5 +1,5 @@
 //! The numbers of the jobs of a batch, and of their results.
-ghost use Rattle.std.specs.Prelude.{◌≡◌, All, Contains, IfNone, IfOk, IfSome, IsPermutation, IsSorted};
+ghost use Rattle.std.specs.Prelude.{◌≡◌, All, Contains, IfErr, IfNone, IfOk, IfSome, IsPermutation, IsSorted};
 ghost use Rattle.std.specs.Ordering.{nat_cmp};
 ghost use Rattle.std.specs.List.Sorted.{IsStrictlyIncreasing};
 ghost use Rattle.txc_work.specs.Batches.{numbers_of, result_numbers, IsLeastTwice, NamesOneOf};
@@ -22,6 +22,7 @@ pub(crate) fn sorted_numbers(alloc: Global, jobs: &Vec<Job>) -> Result<Vec<u32>,
 pub(crate) fn first_twice(numbers: &[u32]) -> Option<u32>
     requires { IsSorted nat_cmp numbers.now }
     ensures none { IfNone result (IsStrictlyIncreasing numbers.now) }
+    ensures there { IfSome result (Contains numbers.now) }
     ensures least { IfSome result (IsLeastTwice numbers.now) }
 {
     for place in 1..numbers.len() {
