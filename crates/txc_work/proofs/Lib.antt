@@ -2,3 +2,4 @@ pub mod Rules
 pub mod Calls
 pub mod Numbers
 pub mod Answered
+pub mod Crosses

@@ -1,4 +1,5 @@
 //! A batch of jobs.
+ghost use denote.Param.Send.{IsSend, IsSync};
 ghost use Rattle.std.specs.Prelude.{◌≡◌, ◌+◌, ◌<◌, ◌≤◌, ◌⊎◌, [], ℕ, All, Err, IfErr, IfOk, IsOk, IsPermutation, vec_capacity, vec_len};
 ghost use Rattle.std.specs.List.Sorted.{IsStrictlyIncreasing};
 ghost use Rattle.crossbeam_queue.specs.Passes.{IsPassOf};
@@ -38,9 +39,9 @@ pub fn run_batch<A, C, J, G, R>(
     gate: &G,
 ) -> Result<Vec<Receipted>, BatchError>
 where
-    A: App + Send + Sync,
+    A: App,
     C: Cacheable + Send,
-    J: Naming + Send + Sync,
+    J: Naming,
     G: Gate + Sync,
     R: Threads + Wait + Sync,
     requires some { 0 < vec_len clients }
@@ -80,9 +81,9 @@ fn run_all<B, A, C, J, G, R>(
 ) -> Result<Vec<Receipted>, AllocError>
 where
     B: Batch + Sync,
-    A: App + Send + Sync,
+    A: App,
     C: Cacheable + Send,
-    J: Naming + Send + Sync,
+    J: Naming,
     G: Gate + Sync,
     R: Threads + Wait + Sync,
     requires some { 0 < vec_len jobs }
@@ -121,9 +122,9 @@ fn run_workers<B, A, C, J, G, R>(
 )
 where
     B: Batch + Sync,
-    A: App + Send + Sync,
+    A: App,
     C: Cacheable + Send,
-    J: Naming + Send + Sync,
+    J: Naming,
     G: Gate + Sync,
     R: Threads + Wait + Sync,
     requires workers { All (IsWorkerOf jobs.now results.now) workers.items }
@@ -136,7 +137,8 @@ where
         thread::scope_env(),
         rt,
         |scope|
-            requires { All (IsWorkerOf jobs.now results.now) workers.items
+            requires { IsSync B.row × IsSync G.row × IsSync R.row × IsSend C.row
+                × All (IsWorkerOf jobs.now results.now) workers.items
                 × IsWorkerOf jobs.now results.now last
                 × Implies (Meets A.next J.database_row J.node_rows) B.meets }
         {
