@@ -39,9 +39,9 @@ pub fn run_batch<A, C, J, G, R>(
     gate: &G,
 ) -> Result<Vec<Receipted>, BatchError>
 where
-    A: App,
+    A: App + Send + Sync,
     C: Cacheable + Send,
-    J: Naming,
+    J: Naming + Send + Sync,
     G: Gate + Sync,
     R: Threads + Wait + Sync,
     requires some { 0 < vec_len clients }
@@ -81,9 +81,9 @@ fn run_all<B, A, C, J, G, R>(
 ) -> Result<Vec<Receipted>, AllocError>
 where
     B: Batch + Sync,
-    A: App,
+    A: App + Send + Sync,
     C: Cacheable + Send,
-    J: Naming,
+    J: Naming + Send + Sync,
     G: Gate + Sync,
     R: Threads + Wait + Sync,
     requires some { 0 < vec_len jobs }
@@ -122,9 +122,9 @@ fn run_workers<B, A, C, J, G, R>(
 )
 where
     B: Batch + Sync,
-    A: App,
+    A: App + Send + Sync,
     C: Cacheable + Send,
-    J: Naming,
+    J: Naming + Send + Sync,
     G: Gate + Sync,
     R: Threads + Wait + Sync,
     requires workers { All (IsWorkerOf jobs.now results.now) workers.items }
@@ -137,10 +137,13 @@ where
         thread::scope_env(),
         rt,
         |scope|
-            requires { IsSync B.row × IsSync G.row × IsSync R.row × IsSend C.row
-                × All (IsWorkerOf jobs.now results.now) workers.items
-                × IsWorkerOf jobs.now results.now last
-                × Implies (Meets A.next J.database_row J.node_rows) B.meets }
+            requires batch { IsSync B.row }
+            requires gate { IsSync G.row }
+            requires runtime { IsSync R.row }
+            requires functions { IsSend C.row }
+            requires workers { All (IsWorkerOf jobs.now results.now) workers.items }
+            requires last { IsWorkerOf jobs.now results.now last }
+            requires meets { Implies (Meets A.next J.database_row J.node_rows) B.meets }
         {
             for worker in workers {
                 let _ = scope.spawn(
