@@ -38,4 +38,6 @@ mod updates;
 #[cfg(test)]
 mod validity;
 #[cfg(test)]
+mod work;
+#[cfg(test)]
 mod world;

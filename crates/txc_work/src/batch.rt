@@ -137,7 +137,6 @@ where
         thread::scope_env(),
         rt,
         |scope|
-            requires batch { IsSync B.row }
             requires gate { IsSync G.row }
             requires runtime { IsSync R.row }
             requires functions { IsSend C.row }

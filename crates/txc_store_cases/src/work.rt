@@ -1,0 +1,3 @@
+//! Batches of jobs on threads.
+mod batches;
+mod gates;
