@@ -50,13 +50,13 @@ stands_once s m (suc p) le up =
     subst (λ n. count_of m (take n s) ≤ 1) on
     (⊎_elim
     (λ h.
-        let none = stands_nowhere s m p (omega arith) (λ k lt e. let less = all_below s p rises k lt in let same : slice_index s p ≡ m = h.1 in absurd (omega arith)) in
-        let more = count_by_more_yes (λ x. x == m) s p 0 (omega arith) h.0 in
-        omega arith)
+    let none = stands_nowhere s m p (omega arith) (λ k lt e. let less = all_below s p rises k lt in let same : slice_index s p ≡ m = h.1 in absurd (omega arith)) in
+    let more = count_by_more_yes (λ x. x == m) s p 0 (omega arith) h.0 in
+    omega arith)
     (λ h.
-        let before = stands_once s m p (omega arith) (λ k lt. up k (omega arith)) in
-        let more = count_by_more_no (λ x. x == m) s p 0 (omega arith) h.0 in
-        omega arith)
+    let before = stands_once s m p (omega arith) (λ k lt. up k (omega arith)) in
+    let more = count_by_more_no (λ x. x == m) s p 0 (omega arith) h.0 in
+    omega arith)
     (eqb_tells (slice_index s p) m))
 
 pub none_twice : (s : List ℕ) (n : ℕ) → IsStrictlyIncreasing s → StandsTwice s n → ⊥
@@ -96,12 +96,12 @@ first_beside s p sorted some lt up same =
       least = λ m twice. ⊎_elim
           (λ h. h.1)
           (λ h.
-              let rest : p + (length s - p) ≡ length s = omega arith in
-              let later = none_later s m p (length s - p) (omega arith)
-                  (λ k le below e. let up : slice_index s p ≤ slice_index s k = IsNonDecreasingBy-from_sort (λ x. x) s sorted p k 0 le below in let less : m < slice_index s p = h.1 in absurd (omega arith)) in
-              let whole = ap (count_of m) (ap (λ n. take n s) rest ∙ take-length s) in
-              let once = stands_once s m p (omega arith) up in
-              absurd (omega arith))
+          let rest : p + (length s - p) ≡ length s = omega arith in
+          let later = none_later s m p (length s - p) (omega arith)
+          (λ k le below e. let up : slice_index s p ≤ slice_index s k = IsNonDecreasingBy-from_sort (λ x. x) s sorted p k 0 le below in let less : m < slice_index s p = h.1 in absurd (omega arith)) in
+          let whole = ap (count_of m) (ap (λ n. take n s) rest ∙ take-length s) in
+          let once = stands_once s m p (omega arith) up in
+          absurd (omega arith))
           (leb_tells (slice_index s p) m);
     }
 

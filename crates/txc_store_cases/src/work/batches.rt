@@ -94,16 +94,7 @@ fn client<'a, J: Naming>(
     requires { 1 ≤ length nodes.now }
 {
     let registry = registry(alloc, pool).ok()?;
-    Client::new(
-        rt,
-        alloc,
-        database,
-        cushion,
-        nodes,
-        registry,
-        RENEW_AFTER,
-    )
-    .ok()
+    Client::new(rt, alloc, database, cushion, nodes, registry, RENEW_AFTER).ok()
 }
 
 /// Runs the jobs by so many clients over the rows. None where memory for that was refused.
@@ -169,7 +160,8 @@ fn is_answered<G: Gate + Sync, R: Threads + Wait + Sync>(
 #[test]
 fn results_come_by_number(rt: HostRuntime) -> Result<(), Fail> {
     let mut answer = room(rt.alloc())?;
-    let text = "5 1000 0 f0(7)\n3 1000 0 f1(2) f1(3)\n9 1000 0 f0(8)\n0 1000 0 f2(2,8)\n4 1000 0 f0(9)";
+    let text =
+        "5 1000 0 f0(7)\n3 1000 0 f1(2) f1(3)\n9 1000 0 f0(8)\n0 1000 0 f2(2,8)\n4 1000 0 f0(9)";
     let wanted = "0: 613b62; 3: 61 62; 4: -; 5: 61; 9: 62; ";
     let gate = Counting::new();
     assert!(&rt;
@@ -211,7 +203,14 @@ fn two_workers_run_at_once(rt: HostRuntime) -> Result<(), Fail> {
     let text = "1 1000 0 f0(7)\n2 1000 0 f0(8)";
     let gate = Holding::new();
     assert!(&rt;
-        is_answered(&rt, rt.alloc(), (2, text), &gate, "1: 61; 2: 62; ", &mut answer),
+        is_answered(
+            &rt,
+            rt.alloc(),
+            (2, text),
+            &gate,
+            "1: 61; 2: 62; ",
+            &mut answer
+        ),
         "{answer}"
     );
     assert!(&rt; !gate.gave_up());
@@ -237,7 +236,14 @@ fn a_client_runs_each_job_in_turn(rt: HostRuntime) -> Result<(), Fail> {
     let text = "1 1000 0 f1(2) f0(7)\n2 1000 0 f2(2,7)";
     let gate = Counting::new();
     assert!(&rt;
-        is_answered(&rt, rt.alloc(), (1, text), &gate, "1: 61 61; 2: 613b61; ", &mut answer),
+        is_answered(
+            &rt,
+            rt.alloc(),
+            (1, text),
+            &gate,
+            "1: 61 61; 2: 613b61; ",
+            &mut answer
+        ),
         "{answer}"
     );
     Ok(())

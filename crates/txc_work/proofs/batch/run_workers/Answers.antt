@@ -18,15 +18,32 @@ scoped-requires g c =
     let sync_g = b.sync-G in
     let sync_r = b.sync-R in
     record {
-      at = λ a. (search (sendable, sync_g) depth 20, (search (sendable, sync_r) depth 20, (argument_send _ _ _ b.send-C,
-          (taken.0, (last, (c.requires.meets, (
-            argument_send _ _ _ b.send-A,
+      at = λ a. (
+        search (sendable, sync_g) depth 20,
+        (
+          search (sendable, sync_r) depth 20,
+          (
             argument_send _ _ _ b.send-C,
-            argument_send _ _ _ b.send-J,
-            search (sendable, sync_b) depth 20,
-            search (sendable, sync_a) depth 20,
-            search (sendable, sync_j) depth 20,
-            search (sendable, sync_g) depth 20,
-            search (sendable, sync_r) depth 20,
-          )))))));
+            (
+              taken.0,
+              (
+                last,
+                (
+                  c.requires.meets,
+                  (
+                    argument_send _ _ _ b.send-A,
+                    argument_send _ _ _ b.send-C,
+                    argument_send _ _ _ b.send-J,
+                    search (sendable, sync_b) depth 20,
+                    search (sendable, sync_a) depth 20,
+                    search (sendable, sync_j) depth 20,
+                    search (sendable, sync_g) depth 20,
+                    search (sendable, sync_r) depth 20,
+                  ),
+                ),
+              ),
+            ),
+          ),
+        ),
+      );
     }

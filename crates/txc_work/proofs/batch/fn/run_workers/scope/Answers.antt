@@ -33,11 +33,11 @@ spawn-requires-send-F g c κs within =
     let unit = (unit-field).row in
     closure6_send _ _ _ _ _ _ _ _ _ (shr_send _ _ _ c.requires.runtime) heap_send
     (shr_send _ _ _
-      (queue.the_sync (Option.the_row Job.the_row) (Doing.the_row Job.the_row unit) (Turns.the_row (JobRule.the_row B)) heap.the_row
-      (turns.ghosts Job.the_row unit (JobRule.the_row B) (job_rule.ghosts B g.B.Batch g.B.Batch-dict) g.B.Batch-dict) _ job_slot_send heap_send heap_sync frees))
+    (queue.the_sync (Option.the_row Job.the_row) (Doing.the_row Job.the_row unit) (Turns.the_row (JobRule.the_row B)) heap.the_row
+    (turns.ghosts Job.the_row unit (JobRule.the_row B) (job_rule.ghosts B g.B.Batch g.B.Batch-dict) g.B.Batch-dict) _ job_slot_send heap_send heap_sync frees))
     (shr_send _ _ _
-      (queue.the_sync (Option.the_row Receipted.the_row) (Doing.the_row Receipted.the_row unit) (Turns.the_row (ResultRule.the_row B)) heap.the_row
-      (turns.ghosts Receipted.the_row unit (ResultRule.the_row B) (result_rule.ghosts B g.B.Batch g.B.Batch-dict) g.B.Batch-dict) _ result_slot_send heap_send heap_sync frees))
+    (queue.the_sync (Option.the_row Receipted.the_row) (Doing.the_row Receipted.the_row unit) (Turns.the_row (ResultRule.the_row B)) heap.the_row
+    (turns.ghosts Receipted.the_row unit (ResultRule.the_row B) (result_rule.ghosts B g.B.Batch g.B.Batch-dict) g.B.Batch-dict) _ result_slot_send heap_send heap_sync frees))
     (shr_send _ _ _ c.requires.gate)
     (worker_send _ (client_send _ (param 1 g.row.A) (param 2 g.row.C) (param 3 g.row.J) g.A.App g.C.Cacheable g.J.Naming c.requires.functions))
 
