@@ -152,7 +152,7 @@ fn say_seen<A: App, C: Cacheable, J: Naming>(
 }
 
 /// Commits the changes, where nothing was read.
-pub(super) fn committed<J: Naming>(
+pub(crate) fn committed<J: Naming>(
     rt: &impl Wait,
     alloc: Global,
     database: &Database<J>,
@@ -165,7 +165,7 @@ pub(super) fn committed<J: Naming>(
 }
 
 /// Pins the present, adds the pin, and gives it back.
-pub(super) fn pinned<J: Naming>(
+pub(crate) fn pinned<J: Naming>(
     rt: &impl Wait,
     alloc: Global,
     database: &Database<J>,

@@ -87,7 +87,8 @@ fn say_results(answer: &mut String, results: &[Receipted]) {
 fn client<'a, J: Naming>(
     rt: &impl Wait,
     alloc: Global,
-    (database, cushion): (&'a Database<J>, &'a Pincushion<J>),
+    database: &'a Database<J>,
+    cushion: &'a Pincushion<J>,
     nodes: &'a [SharedNode<Program, J>],
     pool: &mut PermitPool,
 ) -> Option<Client<'a, Program, Object, J>>
@@ -102,7 +103,7 @@ fn run_over<J: Naming + Send + Sync, G: Gate + Sync, R: Threads + Wait + Sync>(
     rt: &R,
     alloc: Global,
     rows: (DbCore, EventRow<Record>),
-    (count, text): (usize, &str),
+    batch: (usize, &str),
     gate: &G,
     answer: &mut String,
 ) -> Option<()>
@@ -110,6 +111,7 @@ fn run_over<J: Naming + Send + Sync, G: Gate + Sync, R: Threads + Wait + Sync>(
     requires node { rows.1 ≡ J.node_rows 0 }
 {
     let (core, row) = rows;
+    let (count, text) = batch;
     let database = Database::<J>::new(alloc, core).ok()?;
     let cushion = Pincushion::new(alloc, &database).ok()?;
     let mut nodes = Vec::new(alloc);
@@ -120,7 +122,7 @@ fn run_over<J: Naming + Send + Sync, G: Gate + Sync, R: Threads + Wait + Sync>(
     pinned(rt, alloc, &database, &cushion, 1000)?;
     let mut clients = Vec::new(alloc);
     for _ in 0..count {
-        let client = client(rt, alloc, (&database, &cushion), &nodes, &mut pool)?;
+        let client = client(rt, alloc, &database, &cushion, &nodes, &mut pool)?;
         clients.push(client).ok()?;
     }
     if clients.is_empty() || clients.len() > MAX_CLIENTS {
@@ -139,7 +141,7 @@ fn run_over<J: Naming + Send + Sync, G: Gate + Sync, R: Threads + Wait + Sync>(
 fn is_answered<G: Gate + Sync, R: Threads + Wait + Sync>(
     rt: &R,
     alloc: Global,
-    (count, text): (usize, &str),
+    batch: (usize, &str),
     gate: &G,
     wanted: &str,
     answer: &mut String,
@@ -149,7 +151,7 @@ fn is_answered<G: Gate + Sync, R: Threads + Wait + Sync>(
         let (Ok(core), Ok(row)) = (DbCore::new(alloc, 64), EventRow::new(alloc, 64)) else {
             continue;
         };
-        let ran = run_over::<Brand, G, R>(rt, alloc, (core, row), (count, text), gate, answer);
+        let ran = run_over::<Brand, G, R>(rt, alloc, (core, row), batch, gate, answer);
         if ran.is_some() && answer.as_str() == wanted {
             return true;
         }
