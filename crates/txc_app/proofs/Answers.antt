@@ -5,13 +5,13 @@ use Rattle.txc_tags.specs.Keys.{Call}
 use Rattle.txc_rows.specs.declared.query.Query.{Query}
 use Rattle.txc_rows.specs.States.{State, answer}
 use Rattle.txc_node.specs.declared.value.TheConstants.{MAX_VALUE_LEN}
-use Rattle.txc_shared.specs.declared.ask.Ask.{Ask}
-use Rattle.txc_shared.specs.declared.ask.Ask.TheVariants as asks
-use Rattle.txc_shared.specs.declared.ask.Answer.{Answer}
-use Rattle.txc_shared.specs.Eval.{Next, Evaluation, no_value, after_meeting, after_value, after_ask, activation, call_below, evaluation, met}
-use Rattle.txc_shared.specs.Answering.{IsRight, queries_of, queries_after, queries_for}
-use Rattle.txc_shared.specs.Laws.{RightAnswersGiveTheValue}
-use Rattle.txc_shared.proofs.Evals.{below_is}
+use Rattle.txc_app.specs.declared.ask.Ask.{Ask}
+use Rattle.txc_app.specs.declared.ask.Ask.TheVariants as asks
+use Rattle.txc_app.specs.declared.ask.Answer.{Answer}
+use Rattle.txc_app.specs.Eval.{Next, Evaluation, no_value, after_meeting, after_value, after_ask, activation, call_below, evaluation, met}
+use Rattle.txc_app.specs.Answering.{IsRight, queries_of, queries_after, queries_for}
+use Rattle.txc_app.specs.Laws.{RightAnswersGiveTheValue}
+use Rattle.txc_app.proofs.Evals.{below_is}
 
 after_both : (xs ys : List Query) (o : Evaluation) → after_meeting xs (after_meeting ys o) ≡ after_meeting (xs ++ ys) o
 after_both xs ys o = ap (λ (qs : List Query). record { value = o.value; met = qs }) (sym (append_assoc xs ys o.met))

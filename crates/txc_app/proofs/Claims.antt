@@ -14,16 +14,16 @@ use Rattle.txc_rows.specs.RowTags.{covers_query, query_tag}
 use Rattle.txc_tags.specs.Keys.{Call}
 use Rattle.txc_db.specs.History.{History, state_at, tags_at}
 use Rattle.txc_db.specs.Laws.{EventTagsAreSound, StatesStay}
-use Rattle.txc_shared.specs.declared.ask.Answer.{Answer}
-use Rattle.txc_shared.specs.declared.ask.Answer.TheVariants as answers
-use Rattle.txc_shared.specs.declared.ask.Ask.{Ask}
-use Rattle.txc_shared.specs.Eval.{Next, eval, met}
-use Rattle.txc_shared.specs.Answering.{IsRight, AreRight, queries_of}
-use Rattle.txc_shared.specs.Claims.{covers_all, HoldsIn, HoldsOver}
-use Rattle.txc_shared.specs.Laws.{EventLeaves, TrueInLonger, IsDoneAfter, FoundRowsHold, DoneAfterIsTrue}
-use Rattle.txc_shared.proofs.Evals.{equal_answers_decide}
-use Rattle.txc_shared.proofs.Offered.{each_none, each_push}
-use Rattle.txc_shared.proofs.Answers.{right_answers_give_the_value}
+use Rattle.txc_app.specs.declared.ask.Answer.{Answer}
+use Rattle.txc_app.specs.declared.ask.Answer.TheVariants as answers
+use Rattle.txc_app.specs.declared.ask.Ask.{Ask}
+use Rattle.txc_app.specs.Eval.{Next, eval, met}
+use Rattle.txc_app.specs.Answering.{IsRight, AreRight, queries_of}
+use Rattle.txc_app.specs.Claims.{covers_all, HoldsIn, HoldsOver}
+use Rattle.txc_app.specs.Laws.{EventLeaves, TrueInLonger, IsDoneAfter, FoundRowsHold, DoneAfterIsTrue}
+use Rattle.txc_app.proofs.Evals.{equal_answers_decide}
+use Rattle.txc_app.proofs.Offered.{each_none, each_push}
+use Rattle.txc_app.proofs.Answers.{right_answers_give_the_value}
 
 -- ---- one event
 

@@ -1,7 +1,7 @@
 -- What holds over a reach of a history, and the queries that it rests on.
 use Rattle.std.specs.Prelude.{ℕ, Bool, true, ◌≡◌, ◌≤◌, List, [], ◌∷◌, length, Option, Some, None}
 use Rattle.std.specs.List.{list_all}
-use Rattle.txc_stamp.specs.Interval.{Interval, Holds, shown}
+use Rattle.txc_stamp.specs.Interval.{Interval, Holds}
 use Rattle.txc_tags.specs.declared.tag.Tag.{Tag}
 use Rattle.txc_tags.specs.Keys.{Call}
 use Rattle.txc_rows.specs.declared.query.Query.{Query}
@@ -9,7 +9,8 @@ use Rattle.txc_rows.specs.States.{RowValue, State, answer}
 use Rattle.txc_rows.specs.RowTags.{covers_query}
 use Rattle.txc_db.specs.History.{History, state_at}
 use Rattle.txc_node.specs.declared.entry.Entry.{Entry}
-use Rattle.txc_shared.specs.Eval.{Next, eval, met}
+use Rattle.txc_node.specs.declared.hit.Shown.{Shown}
+use Rattle.txc_app.specs.Eval.{Next, eval, met}
 
 -- the set covers each of the queries
 abbrev pub covers_all : List Tag → List Query → Bool
@@ -40,12 +41,6 @@ ValueHolds next L k bytes reach tags = HoldsOver L (λ s. eval next k s ≡ Some
 abbrev pub IsTrueIn : Next → History → Entry → Type 0
 IsTrueIn next L e = ValueHolds next L e.key e.value (Some e.reach) e.tags
 
--- the entry as a hit shows it where the first `processed` events were taken: known up to the last stamp of
--- its span
-abbrev pub shown_entry : ℕ → Entry → Entry
-shown_entry processed e = record e { reach = shown processed e.reach }
-
--- what a hit shows of the entry is true, where the first `processed` events were taken
-pub record IsShownTrue (next : Next) (L : History) (processed : ℕ) (e : Entry) : Type 0 where
-  pub some : e.reach.lo ≤ e.reach.known
-  pub true_as_shown : IsTrueIn next L (shown_entry processed e)
+-- the entry of the call that is shown so
+abbrev pub entry_shown : Call → Shown → Entry
+entry_shown key shown = record { key = key; value = shown.value; reach = shown.reach; tags = shown.tags }

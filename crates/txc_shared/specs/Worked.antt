@@ -1,6 +1,6 @@
--- A node worked by hand, over the worked history: which entries of the program's functions are true there,
--- and which histories of the node are legal beside it.
-use Rattle.std.specs.Prelude.{ℕ, true, false, List, [], ◌∷◌, ◌++◌, None}
+-- A node worked by hand, over the worked history: which histories of the node are legal beside it.
+use Rattle.std.specs.Prelude.{ℕ, true, List, [], ◌∷◌, ◌++◌, None}
+use Rattle.txc_tags.specs.Keys.{Call}
 use Rattle.txc_tags.specs.Tags.{id_tag, group_tag}
 use Rattle.txc_db.specs.Worked.{worked}
 use Rattle.txc_node.specs.declared.entry.Entry.{Entry}
@@ -12,44 +12,27 @@ use Rattle.txc_node.specs.declared.reply.Reply.{Reply}
 use Rattle.txc_node.specs.declared.reply.Reply.TheVariants as replies
 use Rattle.txc_node.specs.declared.record.Record.{Record}
 use Rattle.txc_node.specs.Cache.{Cache, empty_cache}
-use Rattle.txc_shared.specs.Claims.{IsTrueIn}
 use Rattle.txc_shared.specs.Histories.{IsLegal}
-use Rattle.txc_functions.specs.Program.{program, call_of}
 
--- the body at the id 9 is not there, from the first stamp to the newest, and still
+-- the call of function 0 for the id 9
+abbrev pub call_of_absent : Call
+call_of_absent = record { function = 0; args = 9 ∷ [] }
+
+-- what it asks for is not there, from the first stamp to the newest, and still
 abbrev pub absent : Entry
 absent = record {
-  key = call_of 0 (9 ∷ []);
+  key = call_of_absent;
   value = [];
   reach = record { lo = 0; known = 4; still = true };
   tags = id_tag 1 9 ∷ [];
 }
-
--- the body at the id 7 is, too soon, an a from the first stamp on
-abbrev pub too_soon : Entry
-too_soon = record {
-  key = call_of 0 (7 ∷ []);
-  value = 97 ∷ [];
-  reach = record { lo = 0; known = 4; still = false };
-  tags = [];
-}
-
--- there it is true only without the stamp 0
-abbrev pub in_time : Entry
-in_time = record too_soon { reach = record { lo = 1; known = 4; still = false } }
-
--- which entries are true
-pub record WorkedEntries : Type 0 where
-  pub absent : IsTrueIn program worked absent
-  pub too_soon : ¬ (IsTrueIn program worked too_soon)
-  pub in_time : IsTrueIn program worked in_time
 
 -- a record of a pass
 abbrev pub by : ℕ → ℕ → Op → Reply Shown → Record
 by pass turn op reply = record { pass = pass; turn = turn; op = op; reply = reply }
 
 abbrev pub looks_up : Op
-looks_up = Lookup (call_of 0 (9 ∷ [])) 0 9
+looks_up = Lookup call_of_absent 0 9
 
 abbrev pub shown_absent : Shown
 shown_absent = record { reach = absent.reach; value = []; tags = absent.tags }

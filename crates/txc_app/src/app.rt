@@ -1,4 +1,4 @@
-ghost use Rattle.txc_shared.specs.Eval.{Next};
+ghost use Rattle.txc_app.specs.Eval.{Next};
 
 /// The most asks of one activation. Being done is an ask too.
 pub const MAX_ASKS: usize = 64;

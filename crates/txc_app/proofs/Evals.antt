@@ -7,13 +7,13 @@ use Rattle.txc_tags.specs.Keys.{Call}
 use Rattle.txc_tags.proofs.Lists.{bool_cases}
 use Rattle.txc_rows.specs.declared.query.Query.{Query}
 use Rattle.txc_rows.specs.States.{RowValue, answer}
-use Rattle.txc_shared.specs.declared.app.TheConstants.{MAX_ASKS}
-use Rattle.txc_shared.specs.declared.ask.Ask.{Ask}
-use Rattle.txc_shared.specs.declared.ask.Ask.TheVariants as asks
-use Rattle.txc_shared.specs.declared.ask.Answer.{Answer}
-use Rattle.txc_shared.specs.declared.ask.Answer.TheVariants as answers
-use Rattle.txc_shared.specs.Eval.{Next, Rows, Calls, Evaluation, no_value, after_meeting, after_value, after_ask, activation, called_with, call_below}
-use Rattle.txc_shared.specs.Laws.{CallsAreOfFunctionsBelow, EqualAnswersDecide}
+use Rattle.txc_app.specs.declared.app.TheConstants.{MAX_ASKS}
+use Rattle.txc_app.specs.declared.ask.Ask.{Ask}
+use Rattle.txc_app.specs.declared.ask.Ask.TheVariants as asks
+use Rattle.txc_app.specs.declared.ask.Answer.{Answer}
+use Rattle.txc_app.specs.declared.ask.Answer.TheVariants as answers
+use Rattle.txc_app.specs.Eval.{Next, Rows, Calls, Evaluation, no_value, after_meeting, after_value, after_ask, activation, called_with, call_below}
+use Rattle.txc_app.specs.Laws.{CallsAreOfFunctionsBelow, EqualAnswersDecide}
 
 -- ---- calls of functions below
 

@@ -3,12 +3,12 @@ use Rattle.std.specs.Prelude.{ℕ, ◌≡◌, ◌<◌, List, [], ◌∷◌, ◌+
 use Rattle.txc_tags.specs.Keys.{Call}
 use Rattle.txc_rows.specs.declared.query.Query.{Query}
 use Rattle.txc_rows.specs.States.{State, answer}
-use Rattle.txc_shared.specs.declared.ask.Ask.{Ask}
-use Rattle.txc_shared.specs.declared.ask.Ask.TheVariants as asks
-use Rattle.txc_shared.specs.declared.ask.Answer.{Answer}
-use Rattle.txc_shared.specs.declared.ask.Answer.TheVariants as answers
-use Rattle.txc_shared.specs.Each.{EachAfter}
-use Rattle.txc_shared.specs.Eval.{Next, eval, met}
+use Rattle.txc_app.specs.declared.ask.Ask.{Ask}
+use Rattle.txc_app.specs.declared.ask.Ask.TheVariants as asks
+use Rattle.txc_app.specs.declared.ask.Answer.{Answer}
+use Rattle.txc_app.specs.declared.ask.Answer.TheVariants as answers
+use Rattle.txc_app.specs.Each.{EachAfter}
+use Rattle.txc_app.specs.Eval.{Next, eval, met}
 
 -- the answer is the value of the call, which is of a function below f
 pub record IsValueOf (next : Next) (f : ℕ) (s : State) (k : Call) (a : Answer) : Type 0 where
