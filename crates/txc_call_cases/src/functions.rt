@@ -4,13 +4,13 @@ ghost use Rattle.std.specs.Prelude.{◌≡◌, All, Some};
 ghost use Rattle.txc_registry.specs.Activity.{idle};
 ghost use Rattle.txc_registry.specs.Objects.{activity_of};
 
-use crate::common::{Obeys, Player, body, is_played, number, room, say_unknown};
 use std::alloc::{AllocError, Global};
 use std::str::SplitWhitespace;
 use std::test::Fail;
 use txc_functions::{Again, BodiesAndBody, BodiesIn, BodyAt, Function, Itself, Program, RowCount};
 use txc_node::Value;
 use txc_permits::PermitPool;
+use txc_players::{Obeys, Player, body, is_played, number, room, say_unknown};
 use txc_registry::{Cacheable, CallFault, Registry, enlist};
 use txc_rows::{Query, Row};
 use txc_shared::{Answer, App, Ask, Rows};

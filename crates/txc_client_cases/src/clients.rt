@@ -1,7 +1,7 @@
 //! Clients and their read-only transactions.
 mod boxes;
 mod calling;
-pub(crate) mod desk;
+mod desk;
 mod explained;
 mod rows;
 mod threads;

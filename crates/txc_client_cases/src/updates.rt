@@ -5,9 +5,6 @@ mod transaction;
 
 ghost use Rattle.std.specs.Prelude.{◌≡◌};
 
-use crate::common::{is_played, room};
-use crate::db::alone::played;
-use crate::db::locked::Shared;
 use player::Updates;
 use std::alloc::Global;
 use std::marker::Brand;
@@ -17,6 +14,7 @@ use std::test::Fail;
 use txc_db::{Database, DbCore, Naming};
 use txc_functions::registry;
 use txc_permits::PermitPool;
+use txc_players::{Shared, is_played, played, room};
 
 /// What four events were, of which the second and the fourth are pins.
 const HISTORY: &str = "commit 0 -: put 1 7 2 a => 1

@@ -1,4 +1,4 @@
-//! Cases of the crates that reach the store, and of runs of scripts. A case is text: each line a
+//! Cases of the database and of what it stands on, of a pincushion and of pin sets. A case is text: each line a
 //! command and what it answers.
 //!
 //! Each case goes on where one allocation is refused: what the refused call was not to change is
@@ -8,34 +8,10 @@
 #[cfg(test)]
 mod calling;
 #[cfg(test)]
-mod calls;
-#[cfg(test)]
-mod clients;
-#[cfg(test)]
-mod common;
-#[cfg(test)]
 mod db;
-#[cfg(test)]
-mod errors;
-#[cfg(test)]
-mod faults;
-#[cfg(test)]
-mod functions;
 #[cfg(test)]
 mod pins;
 #[cfg(test)]
-mod plain;
-#[cfg(test)]
 mod rows;
 #[cfg(test)]
-mod run;
-#[cfg(test)]
-mod shared;
-#[cfg(test)]
-mod transactions;
-#[cfg(test)]
-mod updates;
-#[cfg(test)]
 mod validity;
-#[cfg(test)]
-mod world;

@@ -1,14 +1,20 @@
 //! Stores of a few rows: what is written, what is deleted, and what is found after it.
-use crate::common::{
-    Obeys, Player, body, changes, is_played, query, room, say_number, say_row, say_unknown, stamp,
-};
 use std::alloc::{AllocError, Global};
 use std::process::Abort;
 use std::str::SplitWhitespace;
 use std::test::Fail;
+use txc_players::{
+    Obeys, Player, body, changes, is_played, query, room, say_number, say_row, say_unknown, stamp,
+};
 use txc_rows::{Query, Row, StoreError, VersionRows, Versioned};
 use txc_stamp::Stamp;
 use txc_tags::Table;
+
+/// A store of rows.
+#[derive(Drop)]
+struct Store {
+    rows: VersionRows,
+}
 
 fn say_refusal(answer: &mut String, refusal: StoreError) {
     let _ = write!(answer, "{refusal}");
@@ -78,15 +84,16 @@ fn say_copy(answer: &mut String, alloc: Global, text: &str) -> Result<(), AllocE
     Ok(())
 }
 
-impl Player for VersionRows {
-    type Other = VersionRows;
+impl Player for Store {
+    type Other = Store;
 
-    fn other(&self, alloc: Global) -> Option<VersionRows> {
-        VersionRows::open_in_memory(alloc).ok()
+    fn other(&self, alloc: Global) -> Option<Store> {
+        let rows = VersionRows::open_in_memory(alloc).ok()?;
+        Some(Store { rows })
     }
 }
 
-impl Obeys for VersionRows {
+impl Obeys for Store {
     fn obey(
         &mut self,
         alloc: Global,
@@ -94,19 +101,20 @@ impl Obeys for VersionRows {
         changes: &str,
         answer: &mut String,
     ) {
+        let rows = &mut self.rows;
         match words.next().unwrap_or("") {
-            "write" => say_done(answer, write(self, alloc, stamp(words), changes)),
+            "write" => say_done(answer, write(rows, alloc, stamp(words), changes)),
             // Each later statement of the store may take so many steps.
-            "limit" => self.set_step_limit(words.next().unwrap_or("").parse().ok()),
-            "purge" => say_done(answer, self.purge(stamp(words))),
+            "limit" => rows.set_step_limit(words.next().unwrap_or("").parse().ok()),
+            "purge" => say_done(answer, rows.purge(stamp(words))),
             "list" => {
                 if let Some(query) = query(words) {
-                    say_list(self, &query, answer);
+                    say_list(rows, &query, answer);
                 }
             }
             "count" => {
                 if let Some(query) = query(words) {
-                    say_count(self, &query, answer);
+                    say_count(rows, &query, answer);
                 }
             }
             "copy" => {
@@ -214,9 +222,11 @@ fn opened(alloc: Global) -> Result<VersionRows, StoreError> {
 fn play_all(rt: &(impl Abort + AllocGlobal), scripts: &[&str]) -> Result<(), Fail> {
     let mut answer = room(rt.alloc())?;
     for script in scripts {
-        let mut rows = opened(rt.alloc())?;
+        let mut store = Store {
+            rows: opened(rt.alloc())?,
+        };
         assert!(rt;
-            is_played(&mut rows, rt.alloc(), "", script, &mut answer),
+            is_played(&mut store, rt.alloc(), "", script, &mut answer),
             "{answer}"
         );
     }

@@ -3,9 +3,9 @@ ghost use Rattle.std.specs.Prelude.{◌≡◌, ◌≤◌, ◌∷◌, [], IfSome}
 ghost use Rattle.txc_stamp.specs.declared.stamp.TheConstants.{LAST_STAMP};
 ghost use Rattle.txc_rows.specs.Versions.{AreVersions};
 
-use crate::common::room;
 use std::alloc::Global;
 use std::test::Fail;
+use txc_players::room;
 use txc_rows::{Query, Row, Versioned};
 use txc_stamp::Stamp;
 use txc_tags::Table;

@@ -1,13 +1,10 @@
 //! The calls of a database for one thread.
-use super::calls::{
+use crate::commands::{
     Calls, Work, obey_calls, say_done, say_found, say_pinned, say_refusal, say_stamp,
 };
-use super::scripts::{ALONE, LONG, Script};
-use crate::common::{Obeys, Player, is_played, room, say_number, say_unknown};
+use crate::script::{Obeys, Player, is_played, say_number, say_unknown};
 use std::alloc::Global;
-use std::process::Abort;
 use std::str::SplitWhitespace;
-use std::test::Fail;
 use txc_db::{DbCore, DbError, Event};
 use txc_rows::Query;
 use txc_stamp::Stamp;
@@ -83,44 +80,11 @@ impl Player for DbCore {
 
 /// A database with room for so many events, to which the commands were given that come before its lock. None
 /// where memory for the database itself was refused, or an answer is not wanted.
-pub(crate) fn played(
-    alloc: Global,
-    capacity: usize,
-    before: &str,
-    answer: &mut String,
-) -> Option<DbCore> {
+pub fn played(alloc: Global, capacity: usize, before: &str, answer: &mut String) -> Option<DbCore> {
     let capacity = capacity.clamp(1, MAX_CAPACITY);
     let mut core = match DbCore::new(alloc, capacity) {
         Ok(core) => core,
         Err(_) => DbCore::new(alloc, capacity).ok()?,
     };
     is_played(&mut core, alloc, "", before, answer).then_some(core)
-}
-
-fn is_answered(alloc: Global, script: Script, answer: &mut String) -> bool {
-    let (capacity, before, after) = script;
-    match played(alloc, capacity, before, answer) {
-        Some(mut core) => is_played(&mut core, alloc, before, after, answer),
-        None => false,
-    }
-}
-
-fn play(rt: &(impl Abort + AllocGlobal), scripts: &[Script]) -> Result<(), Fail> {
-    let mut answer = room(rt.alloc())?;
-    for script in scripts {
-        assert!(rt; is_answered(rt.alloc(), *script, &mut answer), "{answer}");
-    }
-    Ok(())
-}
-
-#[test]
-fn calls_answer_alone(rt: HostRuntime) -> Result<(), Fail> {
-    play(&rt, &ALONE)
-}
-
-#[test]
-fn a_history_has_its_answers_and_too_many_versions_are_not_read(
-    rt: HostRuntime,
-) -> Result<(), Fail> {
-    play(&rt, &LONG)
 }

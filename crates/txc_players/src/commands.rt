@@ -1,5 +1,5 @@
 //! The calls of the database as commands, and what they answer.
-use crate::common::{changes, number, query, range, say_number, say_row, stamp, stamp_of};
+use crate::script::{changes, number, query, range, say_number, say_row, stamp, stamp_of};
 use std::alloc::{AllocError, Global};
 use std::str::SplitWhitespace;
 use txc_db::{DbError, Event, Pinned, What};
@@ -10,10 +10,10 @@ use txc_tags::TagSet;
 use txc_validity::Found;
 
 /// What a commit takes beside its base: the tags of what was read, and the changes.
-pub(crate) type Work = (TagSet, Vec<Change>);
+pub type Work = (TagSet, Vec<Change>);
 
 /// The calls that are made alone and under the lock. Each writes what it answers.
-pub(crate) trait Calls {
+pub trait Calls {
     fn commit(&mut self, alloc: Global, base: Stamp, work: &Work, answer: &mut String);
 
     fn pin(&mut self, alloc: Global, now: u64, at_least: Stamp, answer: &mut String);
@@ -32,25 +32,25 @@ pub(crate) trait Calls {
     fn other_call(&mut self, alloc: Global, command: &str, answer: &mut String);
 }
 
-pub(super) fn say_refusal(answer: &mut String, refusal: DbError) {
+pub(crate) fn say_refusal(answer: &mut String, refusal: DbError) {
     let _ = write!(answer, "{refusal}");
 }
 
-pub(super) fn say_stamp(answer: &mut String, given: Result<Stamp, DbError>) {
+pub(crate) fn say_stamp(answer: &mut String, given: Result<Stamp, DbError>) {
     match given {
         Ok(stamp) => say_number(answer, stamp.number() as usize),
         Err(refusal) => say_refusal(answer, refusal),
     }
 }
 
-pub(super) fn say_done(answer: &mut String, done: Result<(), DbError>) {
+pub(crate) fn say_done(answer: &mut String, done: Result<(), DbError>) {
     if let Err(refusal) = done {
         say_refusal(answer, refusal);
     }
 }
 
 /// How many rows, the first and the last of them, and the validity.
-pub(super) fn say_found(answer: &mut String, found: &Found, query: &Query) {
+pub(crate) fn say_found(answer: &mut String, found: &Found, query: &Query) {
     say_number(answer, found.rows.len());
     say_row(answer, found.rows.first());
     say_row(answer, found.rows.last());
@@ -62,7 +62,7 @@ pub(super) fn say_found(answer: &mut String, found: &Found, query: &Query) {
     }
 }
 
-pub(super) fn say_pinned(answer: &mut String, pinned: &Pinned) {
+pub(crate) fn say_pinned(answer: &mut String, pinned: &Pinned) {
     let (number, moment) = (pinned.stamp.number(), pinned.moment);
     let _ = write!(answer, "{number} at {moment}");
     if pinned.front.len() != number as usize {
@@ -159,7 +159,7 @@ fn answer_query(
     }
 }
 
-pub(crate) fn obey_calls(
+pub fn obey_calls(
     calls: &mut impl Calls,
     alloc: Global,
     words: &mut SplitWhitespace<'_>,

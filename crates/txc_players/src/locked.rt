@@ -2,17 +2,13 @@
 //! history.
 ghost use Rattle.std.specs.Prelude.{◌≡◌, IfOk};
 
-use super::alone::played;
-use super::calls::{
+use crate::commands::{
     Calls, Work, obey_calls, say_done, say_event, say_found, say_pinned, say_refusal, say_stamp,
 };
-use super::scripts::{LOCKED, Script};
-use crate::common::{Obeys, Player, is_played, room, say_number, say_unknown};
+use crate::script::{Obeys, Player, say_number, say_unknown};
 use std::alloc::{AllocError, Global};
-use std::marker::Brand;
 use std::str::SplitWhitespace;
 use std::sync::Wait;
-use std::test::Fail;
 use txc_db::{
     Answered, CommitError, Database, DbCore, DbError, Event, Feed, HistoryFront, Mark, Naming,
 };
@@ -22,7 +18,7 @@ use txc_stream::EventRow;
 
 /// A database under its lock, and a feed of it, which sees the front of each answer too.
 #[derive(Drop)]
-pub(crate) struct Shared<'a, J: Naming, R: Wait> {
+pub struct Shared<'a, J: Naming, R: Wait> {
     rt: &'a R,
     database: &'a Database<J>,
     feed: Feed<J>,
@@ -31,7 +27,7 @@ pub(crate) struct Shared<'a, J: Naming, R: Wait> {
 }
 
 impl<'a, J: Naming, R: Wait> Shared<'a, J, R> {
-    pub(crate) fn new(
+    pub fn new(
         rt: &'a R,
         alloc: Global,
         database: &'a Database<J>,
@@ -47,7 +43,7 @@ impl<'a, J: Naming, R: Wait> Shared<'a, J, R> {
     }
 
     /// A front of all that the answers and the feed have shown.
-    pub(super) fn seen(&self, alloc: Global) -> Result<HistoryFront, AllocError>
+    pub fn seen(&self, alloc: Global) -> Result<HistoryFront, AllocError>
         ensures { IfOk result (λ front. front.events ≡ J.database_row) }
     {
         self.feed.front().again(alloc)
@@ -185,50 +181,4 @@ impl<J: Naming, R: Wait> Player for Shared<'_, J, R> {
         }
         None
     }
-}
-
-/// Plays a script to the database, after the commands before it, or with no others to compare with. None
-/// where memory for the feed was refused.
-pub(super) fn is_answered_by<J: Naming>(
-    rt: &impl Wait,
-    alloc: Global,
-    database: &Database<J>,
-    before: Option<&str>,
-    script: &str,
-    answer: &mut String,
-) -> Option<bool> {
-    let mut shared = Shared::new(rt, alloc, database, before.is_some()).ok()?;
-    Some(is_played(&mut shared, alloc, before.unwrap_or(""), script, answer))
-}
-
-/// Puts the database under its lock, and plays a script to it. None where memory for that was refused.
-fn is_answered<J: Naming>(
-    rt: &impl Wait,
-    alloc: Global,
-    core: DbCore,
-    script: Script,
-    answer: &mut String,
-) -> Option<bool>
-    requires { core.events ≡ J.database_row }
-{
-    let database = Database::<J>::new(alloc, core).ok()?;
-    is_answered_by(rt, alloc, &database, Some(script.1), script.2, answer)
-}
-
-fn starts(rt: &impl Wait, alloc: Global, script: Script, answer: &mut String) -> Option<bool> {
-    let core = played(alloc, script.0, script.1, answer)?;
-    is_answered::<Brand>(rt, alloc, core, script, answer)
-}
-
-#[test]
-fn calls_answer_under_the_lock(rt: HostRuntime) -> Result<(), Fail> {
-    let mut answer = room(rt.alloc())?;
-    for script in &LOCKED {
-        let mut given = starts(&rt, rt.alloc(), *script, &mut answer);
-        if given.is_none() {
-            given = starts(&rt, rt.alloc(), *script, &mut answer);
-        }
-        assert!(rt; given == Some(true), "{answer}");
-    }
-    Ok(())
 }

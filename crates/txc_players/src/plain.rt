@@ -33,7 +33,7 @@ fn make(alloc: Global, rows: &mut Vec<Row>, change: &Change) -> Result<(), Alloc
 }
 
 /// The state after these changes too.
-pub(crate) fn change_all(
+pub fn change_all(
     alloc: Global,
     rows: &mut Vec<Row>,
     changes: &[Change],
@@ -45,7 +45,7 @@ pub(crate) fn change_all(
 }
 
 /// The rows after so many events.
-pub(crate) fn state_after(
+pub fn state_after(
     alloc: Global,
     front: &HistoryFront,
     events: usize,
@@ -58,7 +58,7 @@ pub(crate) fn state_after(
 }
 
 /// The rows that match, with a comma after each.
-pub(crate) fn say_matching(text: &mut String, rows: &[Row], query: &Query) {
+pub fn say_matching(text: &mut String, rows: &[Row], query: &Query) {
     for row in rows {
         if query.matches(row) {
             let body = str::from_utf8(row.body()).unwrap_or("?");
@@ -68,7 +68,7 @@ pub(crate) fn say_matching(text: &mut String, rows: &[Row], query: &Query) {
 }
 
 /// What the program's functions 0 to 3 come to in the state.
-pub(crate) fn say_value(text: &mut String, rows: &[Row], key: &Key) {
+pub fn say_value(text: &mut String, rows: &[Row], key: &Key) {
     let Some(table) = Table::new(1) else {
         return;
     };

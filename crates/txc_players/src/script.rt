@@ -6,7 +6,7 @@ use txc_stamp::Stamp;
 use txc_tags::Table;
 
 /// What obeys commands.
-pub(crate) trait Obeys {
+pub trait Obeys {
     /// Obeys the command of these words, with the changes after it, and writes what it answers.
     fn obey(
         &mut self,
@@ -18,7 +18,7 @@ pub(crate) trait Obeys {
 }
 
 /// What a script is played to.
-pub(crate) trait Player: Obeys {
+pub trait Player: Obeys {
     /// What shows the same after the same commands.
     type Other: Obeys + Drop;
 
@@ -26,20 +26,20 @@ pub(crate) trait Player: Obeys {
     fn other(&self, alloc: Global) -> Option<Self::Other>;
 }
 
-pub(crate) fn number(words: &mut SplitWhitespace<'_>) -> u32 {
+pub fn number(words: &mut SplitWhitespace<'_>) -> u32 {
     words.next().unwrap_or("").parse().unwrap_or(0)
 }
 
-pub(crate) fn stamp(words: &mut SplitWhitespace<'_>) -> Stamp {
+pub fn stamp(words: &mut SplitWhitespace<'_>) -> Stamp {
     stamp_of(number(words))
 }
 
-pub(crate) fn stamp_of(number: u32) -> Stamp {
+pub fn stamp_of(number: u32) -> Stamp {
     Stamp::new(number).unwrap_or(Stamp::ZERO)
 }
 
 /// The numbers of `FIRST-LAST`, or one number twice.
-pub(crate) fn range(word: &str) -> (u32, u32) {
+pub fn range(word: &str) -> (u32, u32) {
     let (first, last) = word.split_once('-').unwrap_or((word, word));
     (first.parse().unwrap_or(0), last.parse().unwrap_or(0))
 }
@@ -49,7 +49,7 @@ fn table(words: &mut SplitWhitespace<'_>) -> Option<Table> {
 }
 
 /// What the words ask for: `id TABLE ID`, `group TABLE GROUP` or `all TABLE`; none for a `-`.
-pub(crate) fn query(words: &mut SplitWhitespace<'_>) -> Option<Query> {
+pub fn query(words: &mut SplitWhitespace<'_>) -> Option<Query> {
     match words.next()? {
         "id" => Some(Query::ById(table(words)?, number(words))),
         "group" => Some(Query::ByGroup(table(words)?, number(words))),
@@ -59,7 +59,7 @@ pub(crate) fn query(words: &mut SplitWhitespace<'_>) -> Option<Query> {
 }
 
 /// The body that a word says: the word itself, or what stands before a star, so many times.
-pub(crate) fn body(alloc: Global, word: &str) -> Result<Vec<u8>, AllocError> {
+pub fn body(alloc: Global, word: &str) -> Result<Vec<u8>, AllocError> {
     let (part, count) = word.split_once('*').unwrap_or((word, "1"));
     let mut body = Vec::new(alloc);
     for _ in 0..count.parse::<u16>().unwrap_or(0) {
@@ -85,7 +85,7 @@ fn change(
 }
 
 /// The change that the words say: `put TABLE ID GROUP BODY` or `remove TABLE ID`.
-pub(crate) fn change_in(alloc: Global, words: &mut SplitWhitespace<'_>) -> Option<Change> {
+pub fn change_in(alloc: Global, words: &mut SplitWhitespace<'_>) -> Option<Change> {
     let kind = words.next()?;
     let table = table(words)?;
     let id = number(words);
@@ -115,7 +115,7 @@ fn push_changes(alloc: Global, changes: &mut Vec<Change>, text: &str) -> Result<
 
 /// The changes: each `put TABLE ID GROUP BODY` or `remove TABLE ID`, with a comma between them. `FIRST-LAST`
 /// for the id stands for so many changes.
-pub(crate) fn changes(alloc: Global, text: &str) -> Result<Vec<Change>, AllocError> {
+pub fn changes(alloc: Global, text: &str) -> Result<Vec<Change>, AllocError> {
     let mut changes = Vec::new(alloc);
     for change in text.split(", ") {
         push_changes(alloc, &mut changes, change)?;
@@ -127,20 +127,20 @@ pub(crate) fn changes(alloc: Global, text: &str) -> Result<Vec<Change>, AllocErr
 const ROOM: usize = 1 << 14;
 
 /// An empty text that needs no more memory for an answer.
-pub(crate) fn room(alloc: Global) -> Result<String, AllocError> {
+pub fn room(alloc: Global) -> Result<String, AllocError> {
     match String::with_capacity(alloc, ROOM) {
         Err(_) => String::with_capacity(alloc, ROOM),
         other => other,
     }
 }
 
-pub(crate) fn obey(player: &mut impl Obeys, alloc: Global, command: &str, answer: &mut String) {
+pub fn obey(player: &mut impl Obeys, alloc: Global, command: &str, answer: &mut String) {
     let (call, changes) = command.split_once(": ").unwrap_or((command, ""));
     player.obey(alloc, &mut call.split_whitespace(), changes, answer);
 }
 
 /// Gives the commands of a script, whatever they answer.
-pub(crate) fn give(player: &mut impl Obeys, alloc: Global, script: &str, answers: &mut String) {
+pub fn give(player: &mut impl Obeys, alloc: Global, script: &str, answers: &mut String) {
     for line in script.lines() {
         let (command, _) = line.split_once(" =>").unwrap_or((line, ""));
         obey(player, alloc, command, answers);
@@ -208,7 +208,7 @@ fn obey_again(
 
 /// Plays a script after the commands before it: each line is a command and what it answers. Where an answer
 /// is not wanted, it stays, with its line.
-pub(crate) fn is_played(
+pub fn is_played(
     player: &mut impl Player,
     alloc: Global,
     before: &str,
@@ -230,16 +230,16 @@ pub(crate) fn is_played(
 }
 
 /// So that a word that is spelled wrong is no command without an answer.
-pub(crate) fn say_unknown(answer: &mut String) {
+pub fn say_unknown(answer: &mut String) {
     let _ = answer.push_str("no such command");
 }
 
-pub(crate) fn say_number(answer: &mut String, number: usize) {
+pub fn say_number(answer: &mut String, number: usize) {
     let _ = write!(answer, "{number}");
 }
 
 /// The id and the body.
-pub(crate) fn say_row(answer: &mut String, row: Option<&Row>) {
+pub fn say_row(answer: &mut String, row: Option<&Row>) {
     if let Some(row) = row {
         let id = row.id();
         let body = str::from_utf8(row.body()).unwrap_or("?");

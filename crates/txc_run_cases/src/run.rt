@@ -3,7 +3,6 @@
 mod examples;
 mod rows;
 
-use crate::common::room;
 use examples::EXAMPLES;
 use rows::{LONG, REPLIES, REPORTS, ROWS, SCRIPT};
 use std::alloc::{AllocError, Global};
@@ -16,7 +15,7 @@ use txc_settings::{Mode, Settings};
 const NO_MEMORY: &[u8] = b"refused memory\n";
 
 /// More than a run of a case writes.
-pub(crate) const ROOM: usize = 1 << 14;
+const ROOM: usize = 1 << 14;
 
 /// Gives the bytes and then those after them, at most so many a read, and fails at one read. One that gives a
 /// byte a read, and does not fail, is interrupted at each second read.
@@ -119,7 +118,7 @@ fn whole_case<'a>(
 }
 
 /// What the program says at its end, with its exit status.
-pub(crate) fn end_of(ended: Result<Status, RunFault>) -> &'static str {
+fn end_of(ended: Result<Status, RunFault>) -> &'static str {
     let status = exit_of(&ended);
     match (ended, status) {
         (Ok(Status::Done), 0) => "0",
@@ -232,7 +231,7 @@ fn play(alloc: Global, case: Case, name: &'static str) -> Result<(), &'static st
 }
 
 /// The settings of a text, which is read once more where memory is refused.
-pub(crate) fn settings_of(alloc: Global, text: &str) -> Result<Settings, &'static str> {
+fn settings_of(alloc: Global, text: &str) -> Result<Settings, &'static str> {
     match Settings::read(alloc, text) {
         Ok(settings) => Ok(settings),
         Err(_) => Settings::read(alloc, text).or(Err("no settings")),
@@ -263,7 +262,7 @@ fn play_rows(
     Ok(())
 }
 
-pub(crate) fn status_of(is_refused: bool) -> &'static str {
+fn status_of(is_refused: bool) -> &'static str {
     if is_refused { "1" } else { "0" }
 }
 
@@ -306,7 +305,10 @@ fn play_front(
     cut_line: Option<usize>,
 ) -> Result<(), &'static str> {
     let front = SCRIPT.get(..len).unwrap_or(SCRIPT);
-    let mut replies = room(alloc).or(Err("no room"))?;
+    let mut replies = match String::with_capacity(alloc, ROOM) {
+        Ok(replies) => replies,
+        Err(_) => String::with_capacity(alloc, ROOM).or(Err("no room"))?,
+    };
     let _ = replies.push_str(REPLIES.get(..known).unwrap_or(""));
     if let Some(line) = cut_line {
         let _ = write!(replies, "line {line}: malformed\n");
@@ -377,7 +379,7 @@ fn play_slow(alloc: Global) -> Result<(), &'static str> {
     Ok(())
 }
 
-pub(crate) fn say_played(rt: &impl Abort, played: Result<(), &'static str>) {
+fn say_played(rt: &impl Abort, played: Result<(), &'static str>) {
     if let Err(name) = played {
         assert!(rt; false, "{name}");
     }

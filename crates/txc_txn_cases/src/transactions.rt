@@ -7,15 +7,15 @@ mod running;
 ghost use Rattle.std.specs.Prelude.{IfSome};
 ghost use Rattle.txc_registry.specs.Objects.{AllIdle};
 
-use crate::calls::counting::{Counted, Counting};
-use crate::common::{Obeys, give, is_played, obey, room};
 use driver::Driver;
 use std::alloc::{AllocError, Global};
 use std::process::Abort;
 use std::test::Fail;
 use txc_functions::Function;
 use txc_permits::PermitPool;
+use txc_players::{Obeys, give, is_played, obey, room};
 use txc_registry::{Registry, enlist};
+use txc_stand_ins::{Counted, Counting};
 
 /// The functions 0, 5 and 6.
 fn functions(alloc: Global, pool: &mut PermitPool) -> Option<Registry<Counted, Function<Counting>>>

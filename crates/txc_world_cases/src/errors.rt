@@ -1,10 +1,10 @@
 //! The texts of the errors that no script meets.
-use crate::common::room;
 use sqlite::{Error, ErrorCode};
 use std::fmt::Display;
 use std::test::Fail;
 use txc_cushion::AddError;
 use txc_db::DbError;
+use txc_players::room;
 use txc_registry::CallFault;
 use txc_rows::StoreError;
 use txc_run::{RunFault, exit_of};

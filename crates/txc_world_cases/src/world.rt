@@ -4,18 +4,24 @@ mod examples;
 mod refused;
 mod steps;
 
-use crate::run::{ROOM, end_of, say_played, settings_of, status_of};
 use examples::EXAMPLES;
 use refused::{HISTORY, REFUSED};
 use std::alloc::{AllocError, Global};
+use std::process::Abort;
 use txc_functions::{Object, Program, registries};
 use txc_permits::PermitPool;
-use txc_run::{RunFault, Status, run_world, world_settings};
+use txc_run::{RunFault, Status, exit_of, run_world, world_settings};
 use txc_settings::Settings;
 use txc_world::World;
 
+/// More than a run of a case writes.
+const ROOM: usize = 1 << 14;
+
 /// How many actors a world has.
 const ACTORS: usize = 8;
+
+/// The status of the program that is out of memory.
+const OUT_OF_MEMORY: u8 = 5;
 
 /// How a line ends where memory was refused, also to a function and to the store.
 const REFUSED_MEMORY: [&str; 3] = ["refused memory", "refused K6", "refused R3"];
@@ -32,13 +38,13 @@ const OTHERS: [(&str, &str); 7] = [
     ("advanced ", "advanced "),
 ];
 
-/// A script, and what its run is to write and how it is to end.
+/// A script, what its run is to write, and the status of the program after it.
 #[derive(Clone, Copy)]
 struct Case<'a> {
     settings: &'a str,
     script: &'a str,
     replies: &'a str,
-    end: &'a str,
+    status: u8,
 }
 
 /// A new world with the program's functions. None where memory was refused.
@@ -62,15 +68,18 @@ fn run(
     run_world(alloc, &mut world, &mut reader, written)
 }
 
-/// What the run of a script writes, and how it ends.
-fn ran(alloc: Global, case: Case) -> Result<(Vec<u8>, &'static str), &'static str> {
-    let settings = settings_of(alloc, case.settings)?;
+/// What the run of a script writes, and the status of the program after it.
+fn ran(alloc: Global, case: Case) -> Result<(Vec<u8>, u8), &'static str> {
+    let settings = match Settings::read(alloc, case.settings) {
+        Ok(settings) => settings,
+        Err(_) => Settings::read(alloc, case.settings).or(Err("no settings"))?,
+    };
     let mut written = match Vec::with_capacity(alloc, ROOM) {
         Ok(written) => written,
         Err(_) => Vec::with_capacity(alloc, ROOM).or(Err("no room"))?,
     };
     let ended = run(alloc, settings, case.script, &mut written);
-    Ok((written, end_of(ended)))
+    Ok((written, exit_of(&ended)))
 }
 
 /// Whether that line may stand in place of the wanted one where memory was refused.
@@ -80,8 +89,8 @@ fn is_other(line: &str, wanted: &str) -> bool {
 }
 
 /// Whether a run that was refused memory wrote what is wanted up to there.
-fn is_left(written: &[u8], replies: &str, end: &str) -> bool {
-    if end == "memory" {
+fn is_left(written: &[u8], replies: &str, status: u8) -> bool {
+    if status == OUT_OF_MEMORY {
         return replies.as_bytes().starts_with(written);
     }
     let Ok(written) = str::from_utf8(written) else {
@@ -99,11 +108,11 @@ fn is_left(written: &[u8], replies: &str, end: &str) -> bool {
 
 /// Whether a run gives what is wanted; `Some(false)` where it was refused memory, and wrote what it may then.
 fn is_given(alloc: Global, case: Case) -> Option<bool> {
-    let (written, end) = ran(alloc, case).ok()?;
-    if written.as_slice() == case.replies.as_bytes() && end == case.end {
+    let (written, status) = ran(alloc, case).ok()?;
+    if written.as_slice() == case.replies.as_bytes() && status == case.status {
         return Some(true);
     }
-    is_left(&written, case.replies, end).then_some(false)
+    is_left(&written, case.replies, status).then_some(false)
 }
 
 /// A run, once more where it was refused memory; the name, where it does not give what is wanted.
@@ -116,13 +125,12 @@ fn play(alloc: Global, case: Case, name: &'static str) -> Result<(), &'static st
 }
 
 fn play_examples(alloc: Global) -> Result<(), &'static str> {
-    for (name, settings, script, replies, exit) in &EXAMPLES {
-        let end = status_of(*exit != 0);
+    for (name, settings, script, replies, status) in &EXAMPLES {
         let case = Case {
             settings,
             script,
             replies,
-            end,
+            status: *status,
         };
         play(alloc, case, name)?;
     }
@@ -160,11 +168,17 @@ fn play_refused(alloc: Global) -> Result<(), &'static str> {
             settings,
             script: script.as_str(),
             replies: replies.as_str(),
-            end: status_of(replies.as_str().contains("refused ")),
+            status: u8::from(replies.as_str().contains("refused ")),
         };
         play(alloc, case, name)?;
     }
     Ok(())
+}
+
+fn say_played(rt: &impl Abort, played: Result<(), &'static str>) {
+    if let Err(name) = played {
+        assert!(rt; false, "{name}");
+    }
 }
 
 #[test]

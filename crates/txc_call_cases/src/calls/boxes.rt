@@ -3,12 +3,12 @@ ghost use Rattle.std.specs.Prelude.{◌≡◌, ◌≤◌, All};
 ghost use Rattle.txc_registry.specs.Activity.{idle};
 
 use super::caller::Caller;
-use crate::common::{is_played, room};
 use std::alloc::{AllocError, Global};
 use std::process::Abort;
 use std::test::Fail;
 use txc_functions::{Again, BodiesAndBody, BodiesIn, BodyAt, Function, Itself, Program, RowCount};
 use txc_permits::PermitPool;
+use txc_players::{is_played, room};
 use txc_registry::{Cacheable, Registry, enlist};
 use txc_shared::App;
 

@@ -6,18 +6,17 @@ ghost use Rattle.txc_call.specs.declared.need.Need.{Need};
 ghost use Rattle.txc_call.specs.Needs.{reply_reach, ReplyFits};
 ghost use Rattle.txc_call.specs.Reaches.{InReach};
 
-use crate::common::{Obeys, Player, body, number, say_number, say_unknown};
-use std::alloc::{AllocError, Global};
+use std::alloc::Global;
 use std::marker::Model;
 use std::str::SplitWhitespace;
 use txc_call::{CallError, CallMachine, Need, Outcome, Reply};
-use txc_node::{Shown, Value};
 use txc_permits::PermitPool;
+use txc_players::{Obeys, Player, say_number, say_unknown};
 use txc_registry::{Cacheable, Registry};
-use txc_rows::{Query, Row};
 use txc_shared::App;
 use txc_stamp::{Reach, Stamp};
-use txc_tags::{Key, Table, TagSet};
+use txc_stand_ins::{found, free, hit, say_query};
+use txc_tags::{Key, TagSet};
 use txc_validity::Found;
 
 /// A machine, what it runs over, and the permits of its objects. All that it is handed holds at stamp 2.
@@ -36,44 +35,6 @@ impl<A: App, C: Cacheable> Model for Caller<A, C> {
     ghost view = { λ c. c.machine };
 
     ghost invariant = { λ c. IsCalling A.next c.registry c.machine × InCall 2 c.machine };
-}
-
-/// The reach that the words say: `LO KNOWN still`, or `closed`.
-fn reach(words: &mut SplitWhitespace<'_>) -> Option<Reach> {
-    let (lo, known) = (number(words), number(words));
-    let still = words.next() == Some("still");
-    Reach::new(lo, known, still).ok()
-}
-
-fn tags(alloc: Global, words: &mut SplitWhitespace<'_>) -> Option<TagSet> {
-    TagSet::read(alloc, words.next().unwrap_or("").as_bytes()).ok()
-}
-
-/// The rows of the bodies that the words say.
-fn rows(alloc: Global, words: &mut SplitWhitespace<'_>) -> Result<Vec<Row>, AllocError> {
-    let mut rows = Vec::new(alloc);
-    for word in words {
-        if let Some(table) = Table::new(1)
-            && let Ok(row) = Row::new(table, 7, 2, body(alloc, word)?)
-        {
-            rows.push(row)?;
-        }
-    }
-    Ok(rows)
-}
-
-pub(crate) fn hit(alloc: Global, words: &mut SplitWhitespace<'_>) -> Option<Reply> {
-    let reach = reach(words)?;
-    let tags = tags(alloc, words)?;
-    let value = Value::new(body(alloc, words.next().unwrap_or("")).ok()?)?;
-    Some(Reply::Hit(Shown { reach, value, tags }))
-}
-
-pub(crate) fn found(alloc: Global, words: &mut SplitWhitespace<'_>) -> Option<Reply> {
-    let reach = reach(words)?;
-    let tags = tags(alloc, words)?;
-    let rows = rows(alloc, words).ok()?;
-    Some(Reply::Found(Found { rows, reach, tags }))
 }
 
 /// The reply that the words after its name say: `miss`, `hit REACH TAGS VALUE`, `found REACH TAGS BODY ..` or
@@ -129,14 +90,6 @@ fn is_common(reply: &Reply) -> bool
     }
 }
 
-pub(crate) fn say_query(answer: &mut String, query: &Query) {
-    let _ = match query {
-        Query::ById(_, id) => write!(answer, "id {id}"),
-        Query::ByGroup(_, group) => write!(answer, "group {group}"),
-        Query::All(_) => write!(answer, "all"),
-    };
-}
-
 fn say_outcome(answer: &mut String, outcome: &Outcome) {
     let (key, value, tags) = (&outcome.key, &outcome.value, &outcome.tags);
     let _ = match outcome.reach {
@@ -163,12 +116,6 @@ fn say_need(answer: &mut String, need: Option<&Need>) {
             say_outcome(answer, outcome);
         }
     }
-}
-
-/// How many permits can be taken, of three at most.
-pub(crate) fn free(pool: &mut PermitPool) -> usize {
-    let (one, two, three) = (pool.take(), pool.take(), pool.take());
-    usize::from(one.is_some()) + usize::from(two.is_some()) + usize::from(three.is_some())
 }
 
 impl<A: App, C: Cacheable> Caller<A, C> {

@@ -3,7 +3,6 @@ ghost use Rattle.std.specs.Prelude.{◌≡◌};
 
 use super::calling::{Page, read_page};
 use super::explained::is_explained;
-use crate::common::{Obeys, Player, changes, number, say_number, say_unknown, stamp};
 use std::alloc::Global;
 use std::fmt::Display;
 use std::str::SplitWhitespace;
@@ -13,6 +12,7 @@ use txc_cushion::Pincushion;
 use txc_db::{Database, Naming};
 use txc_node::{Op, Record, Reply, Shown};
 use txc_permits::{Permit, PermitPool};
+use txc_players::{Obeys, Player, changes, number, say_number, say_unknown, stamp};
 use txc_ports::Bounds;
 use txc_registry::Cacheable;
 use txc_shared::{Advanced, App, NodeError, NodePass, SharedNode};
@@ -96,34 +96,6 @@ fn say_receipt(answer: &mut String, alloc: Global, receipt: &Receipt, bounds: &B
         Ok(true) => {}
         Ok(false) => say_text(answer, " not explained"),
         Err(_) => say_text(answer, " out of memory"),
-    }
-}
-
-fn say_reach(answer: &mut String, reach: Reach) {
-    let (lo, known) = (reach.lo().number(), reach.known().number());
-    let still = if reach.is_still() { " still" } else { "" };
-    let _ = write!(answer, " [{lo},{known}]{still}");
-}
-
-/// A lookup and what it found, or an insertion of a reach.
-pub(crate) fn say_record(answer: &mut String, record: &Record) {
-    match (&record.op, &record.reply) {
-        (Op::Lookup { key, .. }, Reply::Hit(shown)) => {
-            let _ = write!(answer, "hit {key}");
-            say_reach(answer, shown.reach);
-        }
-        (Op::Lookup { key, .. }, _) => {
-            let _ = write!(answer, "miss {key}");
-        }
-        (Op::Insert(entry), _) => {
-            let key = &entry.key;
-            let _ = write!(answer, "insert {key}");
-            say_reach(answer, entry.reach);
-        }
-        (Op::Event { stamp, .. }, _) => {
-            let _ = write!(answer, "event {stamp}");
-        }
-        (Op::Sweep { .. }, _) => say_text(answer, "sweep"),
     }
 }
 

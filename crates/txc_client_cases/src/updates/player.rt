@@ -2,14 +2,12 @@
 ghost use Rattle.txc_registry.specs.Objects.{AllIdle};
 
 use super::transaction::Slot;
-use crate::common::{Obeys, Player, changes, query, say_unknown};
-use crate::db::calls::obey_calls;
-use crate::db::locked::Shared;
 use std::alloc::Global;
 use std::mem;
 use std::str::SplitWhitespace;
 use std::sync::Wait;
 use txc_db::{Database, DbCore, Naming};
+use txc_players::{Obeys, Player, Shared, changes, obey_calls, query, say_unknown};
 use txc_registry::{Cacheable, Registry};
 use txc_shared::App;
 use txc_tags::Key;

@@ -3,9 +3,6 @@
 ghost use Rattle.std.specs.Prelude.{◌≡◌};
 ghost use Rattle.txc_registry.specs.Objects.{AllIdle};
 
-use crate::common::room;
-use crate::db::alone::played;
-use crate::plain::{change_all, say_matching, say_value, state_after};
 use std::alloc::{AllocError, Global};
 use std::marker::Brand;
 use std::process::Abort;
@@ -15,6 +12,7 @@ use std::thread::{Threads, join};
 use txc_db::{Database, DbCore, Naming};
 use txc_functions::{Object, Program, registry};
 use txc_permits::PermitPool;
+use txc_players::{change_all, played, room, say_matching, say_value, state_after};
 use txc_ports::TxnError;
 use txc_registry::Registry;
 use txc_rows::{Change, Query, Row};

@@ -1,10 +1,10 @@
 //! One read-write transaction, or the registry of which it is made.
 ghost use Rattle.txc_registry.specs.Objects.{AllIdle};
 
-use crate::common::say_row;
 use std::alloc::Global;
 use std::sync::Wait;
 use txc_db::{Database, Naming};
+use txc_players::say_row;
 use txc_registry::{Cacheable, Registry};
 use txc_rows::{Change, Query, Row};
 use txc_rw::{Committed, Given, RwTxn};

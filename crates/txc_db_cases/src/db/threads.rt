@@ -1,15 +1,14 @@
 //! Two threads over one database.
 ghost use Rattle.std.specs.Prelude.{◌≡◌, IfSome};
 
-use super::alone::played;
-use super::locked::{Shared, is_answered_by};
-use crate::common::{is_played, room};
+use super::locked::is_answered_by;
 use std::alloc::Global;
 use std::marker::Brand;
 use std::sync::Wait;
 use std::test::Fail;
 use std::thread::{Threads, join};
 use txc_db::{Database, DbCore, HistoryFront, Naming};
+use txc_players::{Shared, is_played, played, room};
 
 /// How many events both threads leave.
 const EVENTS: usize = 16;

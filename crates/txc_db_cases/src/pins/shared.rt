@@ -2,7 +2,6 @@
 ghost use Rattle.std.specs.Prelude.{◌≡◌};
 
 use super::scripts::{LIMITS, SCRIPTS, Script};
-use crate::common::{Obeys, Player, is_played, number, room, say_number, say_unknown, stamp};
 use std::alloc::{AllocError, Global};
 use std::marker::{Brand, Model, PhantomData};
 use std::process::Abort;
@@ -12,6 +11,7 @@ use std::test::Fail;
 use txc_cushion::{MAX_PINS, Pin, Pincushion, Pins};
 use txc_db::{Database, DbCore, Naming, Pinned};
 use txc_pinset::{Choice, PinSet};
+use txc_players::{Obeys, Player, is_played, number, room, say_number, say_unknown, stamp};
 use txc_stamp::{Reach, Stamp};
 
 /// How many events the history has room for: a pin more than a pincushion may have.

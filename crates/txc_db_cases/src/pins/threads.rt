@@ -2,7 +2,6 @@
 ghost use Rattle.std.specs.Prelude.{◌≡◌};
 
 use super::shared::is_answered_by;
-use crate::common::room;
 use std::alloc::Global;
 use std::marker::Brand;
 use std::sync::Wait;
@@ -10,6 +9,7 @@ use std::test::Fail;
 use std::thread::{Threads, join};
 use txc_cushion::Pincushion;
 use txc_db::{Database, DbCore, Naming};
+use txc_players::room;
 use txc_stamp::Stamp;
 
 /// How often each thread fetches the pins and gives them back.

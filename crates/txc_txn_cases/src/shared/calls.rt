@@ -2,12 +2,12 @@
 ghost use Rattle.std.specs.Prelude.{◌≡◌};
 
 use super::findings::find_body;
-use crate::common::{Obeys, Player, number, say_number, say_unknown, stamp};
 use std::alloc::Global;
 use std::str::SplitWhitespace;
 use std::sync::Wait;
 use txc_db::{Database, DbCore, Naming};
 use txc_functions::Program;
+use txc_players::{Obeys, Player, number, say_number, say_unknown, stamp};
 use txc_shared::{Advanced, Finding, Insertion, NodeError, NodePass, SharedNode, audit};
 use txc_stamp::{Reach, Stamp};
 use txc_tags::Key;

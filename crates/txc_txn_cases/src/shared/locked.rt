@@ -2,8 +2,6 @@
 ghost use Rattle.std.specs.Prelude.{◌≡◌};
 
 use super::calls::{Caller, say_refusal};
-use crate::common::{Obeys, Player, changes, is_played, number, room, say_number, say_unknown};
-use crate::db::alone::played;
 use std::alloc::{AllocError, Global};
 use std::marker::Brand;
 use std::process::Abort;
@@ -13,6 +11,9 @@ use std::test::Fail;
 use txc_db::{Database, DbCore, Naming};
 use txc_functions::Program;
 use txc_node::{Op, Record, Reply};
+use txc_players::{
+    Obeys, Player, changes, is_played, number, played, room, say_number, say_unknown,
+};
 use txc_shared::{NodeError, NodeSettings, SharedNode, meet};
 use txc_stamp::Stamp;
 use txc_stream::EventRow;

@@ -3,8 +3,6 @@ ghost use Rattle.std.specs.Prelude.{◌≡◌};
 
 use super::calls::Caller;
 use super::locked::{HISTORY, SETTINGS};
-use crate::common::{is_played, room};
-use crate::db::alone::played;
 use std::alloc::Global;
 use std::marker::Brand;
 use std::sync::Wait;
@@ -13,6 +11,7 @@ use std::thread::{Threads, join};
 use txc_db::{Database, DbCore, Naming};
 use txc_functions::Program;
 use txc_node::Record;
+use txc_players::{is_played, played, room};
 use txc_shared::{NodeFront, NodePass, SharedNode, meet};
 use txc_stream::EventRow;
 

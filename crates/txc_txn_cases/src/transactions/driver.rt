@@ -8,8 +8,6 @@ ghost use Rattle.txc_txn.specs.Core.{IsAnswered};
 
 use super::pins::{bounds, two_pins};
 use super::replies::{say_answers, say_stamps, say_turn};
-use crate::calls::caller::{found, free, hit};
-use crate::common::{Obeys, Player, number, say_number, say_unknown, stamp_of};
 use std::alloc::Global;
 use std::marker::Model;
 use std::mem;
@@ -18,11 +16,13 @@ use txc_call::Reply;
 use txc_cushion::{AddError, Pin};
 use txc_db::{Answered, DbCore, DbError, Pinned};
 use txc_permits::PermitPool;
+use txc_players::{Obeys, Player, number, say_number, say_unknown, stamp_of};
 use txc_ports::{PortReply, PortRequest};
 use txc_registry::{Cacheable, Registry};
 use txc_rows::StoreError;
 use txc_shared::App;
 use txc_stamp::Stamp;
+use txc_stand_ins::{found, free, hit};
 use txc_tags::Key;
 use txc_txn::{Receipt, TxnCore};
 
@@ -66,7 +66,7 @@ pub(super) struct Driver<A: App, C: Cacheable> {
 
 impl<A: App, C: Cacheable> Model for Driver<A, C> {
     ghost use Rattle.txc_txn.specs.Core.{CoreValue, value_of};
-    ghost use Rattle.txc_store_cases.specs.Driven.{IsDriven};
+    ghost use Rattle.txc_txn_cases.specs.Driven.{IsDriven};
 
     ghost Value = { CoreValue };
 

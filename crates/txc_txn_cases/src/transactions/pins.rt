@@ -2,7 +2,7 @@
 ghost use Rattle.std.specs.Prelude.{◌≡◌, All, IsSome};
 ghost use Rattle.std.specs.Option.{ForSome};
 ghost use Rattle.txc_ports.specs.Answers.{IsFresh};
-ghost use Rattle.txc_store_cases.specs.Driven.{bounds_of};
+ghost use Rattle.txc_txn_cases.specs.Driven.{bounds_of};
 
 use std::alloc::Global;
 use txc_cushion::{CushionCore, Pins};

@@ -1,10 +1,10 @@
 //! What a transaction asks, and how its call ends.
 ghost use Rattle.txc_txn.specs.Core.{CoreValue, IsTurn};
-ghost use Rattle.txc_store_cases.specs.Driven.{Asks};
+ghost use Rattle.txc_txn_cases.specs.Driven.{Asks};
 
-use crate::calls::caller::say_query;
 use txc_ports::{PortRequest, Recorded, Turn};
 use txc_stamp::Stamp;
+use txc_stand_ins::say_query;
 
 /// The calls that were answered, and their values.
 pub(super) fn say_answers(answer: &mut String, recorded: &[Recorded]) {

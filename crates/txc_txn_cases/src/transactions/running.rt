@@ -3,7 +3,7 @@ ghost use Rattle.std.specs.Prelude.{All, IfSome};
 ghost use Rattle.txc_registry.specs.Objects.{AllIdle};
 ghost use Rattle.txc_ports.specs.Answers.{IsFresh};
 ghost use Rattle.txc_txn.specs.Core.{IsIdle};
-ghost use Rattle.txc_store_cases.specs.Driven.{bounds_of};
+ghost use Rattle.txc_txn_cases.specs.Driven.{bounds_of};
 
 use super::pins::{bounds, two_pins};
 use super::replies::{say_answers, say_stamps};

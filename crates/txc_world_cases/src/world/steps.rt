@@ -5,7 +5,6 @@ mod scripts;
 
 ghost use Rattle.std.specs.Prelude.{◌≡◌, ◌<◌, length};
 
-use crate::common::{Obeys, Player, change_in, is_played, number, query, room, say_unknown, stamp};
 use replies::{say_members, say_node, say_refusal, say_replies};
 use scripts::{HISTORY, SCRIPTS};
 use std::alloc::Global;
@@ -14,6 +13,7 @@ use std::str::SplitWhitespace;
 use std::test::Fail;
 use txc_functions::{Object, Program, registries};
 use txc_permits::PermitPool;
+use txc_players::{Obeys, Player, change_in, is_played, number, query, room, say_unknown, stamp};
 use txc_ports::Bounds;
 use txc_tags::Key;
 use txc_world::{Act, Keep, Step, World, WorldSettings};

@@ -1,6 +1,6 @@
 use Rattle.std.proofs.Common.{◌≡◌, Some}
 use Rattle.txc_registry.specs.Activity.{activation_in, next_of, running}
-use Rattle.txc_store_cases.proofs.functions.drive.Given as goal
+use Rattle.txc_call_cases.proofs.functions.drive.Given as goal
 
 abbrev pub invariant-loop-answer : goal.invariant-loop-answer
 invariant-loop-answer g l = record {

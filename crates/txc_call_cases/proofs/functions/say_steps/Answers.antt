@@ -2,7 +2,7 @@ use Rattle.std.proofs.Common.{◌≡◌, [], ◌∷◌, Some, ap, sym, subst, �
 use Rattle.txc_registry.specs.Activity.{begun, idle, running, WantsAnswer}
 use Rattle.txc_registry.specs.Objects.{Objects, activity_of}
 use Rattle.txc_registry.proofs.Offered.{here_after, asking_there}
-use Rattle.txc_store_cases.proofs.functions.say_steps.Goals as goal
+use Rattle.txc_call_cases.proofs.functions.say_steps.Goals as goal
 
 pub resume-requires : goal.resume-requires
 resume-requires g c =

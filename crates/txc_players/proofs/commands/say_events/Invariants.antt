@@ -1,5 +1,5 @@
 use Rattle.std.proofs.Common.{◌≡◌}
-use Rattle.txc_store_cases.proofs.db.calls.say_events.Given as goal
+use Rattle.txc_players.proofs.commands.say_events.Given as goal
 
 -- the front is of the row of the events
 abbrev pub invariant-loop : goal.invariant-loop

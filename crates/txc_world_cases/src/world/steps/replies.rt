@@ -1,10 +1,10 @@
 //! What steps were replied, as text.
-use crate::clients::desk::say_record;
-use crate::common::say_row;
 use txc_cushion::Pin;
+use txc_players::say_row;
 use txc_rows::Row;
 use txc_shared::{Advanced, App, StoredNode};
 use txc_stamp::Stamp;
+use txc_stand_ins::say_record;
 use txc_world::{Did, End, Refusal, Reply, RowsFound};
 
 pub(super) fn say_refusal(answer: &mut String, refusal: &Refusal) {

@@ -1,4 +1,4 @@
-use Rattle.txc_store_cases.proofs.clients.boxes.work_over.Given as goal
+use Rattle.txc_client_cases.proofs.clients.boxes.work_over.Given as goal
 
 -- the rows that were just made
 abbrev pub ghosts-work_of : goal.ghosts-work_of

@@ -3,7 +3,7 @@ use denote.Param.Send.{shr_send, IsSend}
 use Rattle.std.proofs.Crossing.{sync as heap_sync}
 use Rattle.txc_db.proofs.Captured.{closure4_send}
 use Rattle.txc_client.proofs.Crosses.{client_send}
-use Rattle.txc_store_cases.proofs.clients.threads.are_explained.Goals as goal
+use Rattle.txc_client_cases.proofs.clients.threads.are_explained.Goals as goal
 
 -- the closure of the clients borrows the runtime and the allocator, and owns both
 pub join-requires-send-F : goal.join-requires-send-F

@@ -3,7 +3,7 @@ use denote.Param.Send.{shr_send}
 use Rattle.std.proofs.Crossing.{sync as heap_sync}
 use Rattle.txc_db.proofs.Captured.{closure3_send}
 use Rattle.txc_client.proofs.Crosses.{client_send}
-use Rattle.txc_store_cases.proofs.clients.threads.both_visit.Goals as goal
+use Rattle.txc_client_cases.proofs.clients.threads.both_visit.Goals as goal
 
 -- each closure borrows the runtime and the allocator, and owns a client
 pub join-requires-send-F : goal.join-requires-send-F

@@ -1,5 +1,5 @@
 use Rattle.std.proofs.Common.{[]}
-use Rattle.txc_store_cases.proofs.updates.threads.start.Given as goal
+use Rattle.txc_client_cases.proofs.updates.threads.start.Given as goal
 
 -- the row that was just made
 abbrev pub ghosts-meet : goal.ghosts-meet

@@ -3,7 +3,7 @@ use denote.Param.Send.{IsSync, sendable}
 use Rattle.std.proofs.Crossing.{crosses}
 use Rattle.std.specs.contracts.alloc.Global as heap
 use Rattle.txc_db.proofs.Crosses.{database_sync}
-use Rattle.txc_store_cases.proofs.updates.threads.work_in_two_threads.Goals as goal
+use Rattle.txc_client_cases.proofs.updates.threads.work_in_two_threads.Goals as goal
 
 heap_sync : IsSync heap.the_row
 heap_sync = search (sendable, crosses) depth 20

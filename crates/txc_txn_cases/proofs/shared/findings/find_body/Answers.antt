@@ -5,7 +5,7 @@ use Rattle.txc_node.specs.declared.entry.Entry.{Entry}
 use Rattle.txc_shared.specs.declared.ask.Answer.TheVariants.{Rows}
 use Rattle.txc_shared.specs.declared.ask.Ask.TheVariants.{Query, Done}
 use Rattle.txc_functions.specs.Program.{program, body_of}
-use Rattle.txc_store_cases.proofs.shared.findings.find_body.Goals as goal
+use Rattle.txc_txn_cases.proofs.shared.findings.find_body.Goals as goal
 
 pub new-requires-3 : goal.new-requires-3
 new-requires-3 g c =

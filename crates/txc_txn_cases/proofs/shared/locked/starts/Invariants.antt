@@ -1,4 +1,4 @@
-use Rattle.txc_store_cases.proofs.shared.locked.starts.Given as goal
+use Rattle.txc_txn_cases.proofs.shared.locked.starts.Given as goal
 
 -- the rows that were just made
 abbrev pub ghosts-is_answered : goal.ghosts-is_answered

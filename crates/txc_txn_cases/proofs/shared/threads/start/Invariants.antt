@@ -1,4 +1,4 @@
-use Rattle.txc_store_cases.proofs.shared.threads.start.Given as goal
+use Rattle.txc_txn_cases.proofs.shared.threads.start.Given as goal
 
 -- the rows that were just made
 abbrev pub ghosts-meet_after : goal.ghosts-meet_after

@@ -6,7 +6,7 @@ use Rattle.txc_db.proofs.Captured.{closure5_send}
 use Rattle.txc_shared.proofs.Crosses.{node_sync}
 use Rattle.txc_shared.proofs.node_pass.NodePass.TheSendSync as pass
 use Rattle.txc_functions.specs.contracts.program.Program as program
-use Rattle.txc_store_cases.proofs.shared.threads.work_in_two_threads.Goals as goal
+use Rattle.txc_txn_cases.proofs.shared.threads.work_in_two_threads.Goals as goal
 
 -- each closure borrows the runtime, the allocator, the database and the node, and owns a pass
 pub join-requires-send-F : goal.join-requires-send-F

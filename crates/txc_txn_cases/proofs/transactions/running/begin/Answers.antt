@@ -4,8 +4,8 @@ use Rattle.txc_db.specs.History.{History}
 use Rattle.txc_ports.specs.Answers.{IsFresh}
 use Rattle.txc_ports.specs.declared.bounds.Bounds.{Bounds}
 use Rattle.txc_txn.specs.Core.{CoreValue}
-use Rattle.txc_store_cases.specs.Driven.{bounds_of}
-use Rattle.txc_store_cases.proofs.transactions.running.begin.Goals as goal
+use Rattle.txc_txn_cases.specs.Driven.{bounds_of}
+use Rattle.txc_txn_cases.proofs.transactions.running.begin.Goals as goal
 
 -- the core has seen what the front of its pins shows
 pub new-requires : goal.new-requires

@@ -1,5 +1,5 @@
 use Rattle.std.proofs.Common.{refl}
-use Rattle.txc_store_cases.proofs.calls.caller.Caller.reply.Goals as goal
+use Rattle.txc_call_cases.proofs.calls.caller.Caller.reply.Goals as goal
 
 -- what was handed in holds at stamp 2, as all before it
 pub invariant_of-self-then-is_common : goal.invariant_of-self-then-is_common

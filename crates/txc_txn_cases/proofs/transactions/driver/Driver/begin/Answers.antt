@@ -1,6 +1,6 @@
 use Rattle.std.proofs.Common.{refl, ap, ◌∙◌}
 use Rattle.txc_txn.specs.Core.{CoreValue}
-use Rattle.txc_store_cases.proofs.transactions.driver.Driver.begin.Goals as goal
+use Rattle.txc_txn_cases.proofs.transactions.driver.Driver.begin.Goals as goal
 
 pub invariant_of-result : goal.invariant_of-result
 invariant_of-result g c = record {

@@ -1,6 +1,6 @@
 use Rattle.std.proofs.Common.{ap, ◌∙◌}
 use Rattle.txc_txn.specs.Core.{CoreValue, value_of}
-use Rattle.txc_store_cases.proofs.transactions.driver.Driver.call.Goals as goal
+use Rattle.txc_txn_cases.proofs.transactions.driver.Driver.call.Goals as goal
 
 pub invariant_of-self-then-is_none-6 : goal.invariant_of-self-then-is_none-6
 invariant_of-self-then-is_none-6 g c = record {

@@ -1,6 +1,6 @@
 use Rattle.std.proofs.Common.{◌∙◌}
 use Rattle.txc_txn.specs.Core.{value_of}
-use Rattle.txc_store_cases.proofs.transactions.driver.Driver.give.Goals as goal
+use Rattle.txc_txn_cases.proofs.transactions.driver.Driver.give.Goals as goal
 
 pub invariant_of-self : goal.invariant_of-self
 invariant_of-self g c = record {
