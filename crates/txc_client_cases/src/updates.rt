@@ -8,7 +8,6 @@ ghost use Rattle.std.specs.Prelude.{◌≡◌};
 use player::Updates;
 use std::alloc::Global;
 use std::marker::Brand;
-use std::process::Abort;
 use std::sync::Wait;
 use std::test::Fail;
 use txc_db::{Database, DbCore, Naming};

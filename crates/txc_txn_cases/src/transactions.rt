@@ -8,8 +8,7 @@ ghost use Rattle.std.specs.Prelude.{IfSome};
 ghost use Rattle.txc_registry.specs.Objects.{AllIdle};
 
 use driver::Driver;
-use std::alloc::{AllocError, Global};
-use std::process::Abort;
+use std::alloc::Global;
 use std::test::Fail;
 use txc_functions::Function;
 use txc_permits::PermitPool;

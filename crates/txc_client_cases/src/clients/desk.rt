@@ -11,13 +11,13 @@ use txc_app::App;
 use txc_client::{Client, RoTxn};
 use txc_cushion::Pincushion;
 use txc_db::{Database, Naming};
-use txc_node::{Op, Record, Reply, Shown};
 use txc_permits::{Permit, PermitPool};
-use txc_players::{Obeys, Player, changes, number, say_number, say_unknown, stamp};
+use txc_players::{Obeys, Player, changes, number, say_unknown, stamp};
 use txc_ports::Bounds;
 use txc_registry::Cacheable;
 use txc_shared::{Advanced, NodeError, NodePass, SharedNode};
-use txc_stamp::{Reach, Stamp};
+use txc_stamp::Stamp;
+use txc_stand_ins::say_record;
 use txc_tags::{Key, TagSet};
 use txc_txn::Receipt;
 

@@ -5,7 +5,6 @@ ghost use Rattle.txc_registry.specs.Objects.{AllIdle};
 
 use std::alloc::{AllocError, Global};
 use std::marker::Brand;
-use std::process::Abort;
 use std::sync::Wait;
 use std::test::Fail;
 use std::thread::{Threads, join};
