@@ -17,24 +17,6 @@ use Rattle.txc_run.specs.Words.{HasWords, words_of}
 use Rattle.txc_run.proofs.Blanks.{has_words}
 use Rattle.txc_run.proofs.Cuts.{at_end}
 
--- ---- bytes
-
-not_foreign : (b : ℕ) → is_foreign b ≡ false → (32 ≤ b) × (b ≤ 126)
-not_foreign b h = (grind (arith, nat_tests), grind (arith, nat_tests))
-
-nowhere : (es : List ℕ) → length es ≤ prefix_len (λ b. not (is_foreign b)) es → All (λ b. (32 ≤ b) × (b ≤ 126)) es
-nowhere [] h = λ k d l. absurd (omega arith)
-nowhere (e ∷ es) h =
-    let rest = prefix_len (λ b. not (is_foreign b)) es in
-    let go : (b : Bool) → is_foreign e ≡ b → suc (length es) ≤ cond (not b) (1 + rest) 0 → All (λ b. (32 ≤ b) × (b ≤ 126)) (e ∷ es) = λ b. elim b as (λ v. is_foreign e ≡ v → suc (length es) ≤ cond (not v) (1 + rest) 0 → All (λ b. (32 ≤ b) × (b ≤ 126)) (e ∷ es)) [ true ↦ (λ _ l. absurd (omega arith)) | false ↦ (λ k l. All-cons (λ b. (32 ≤ b) × (b ≤ 126)) e es (not_foreign e k) (nowhere es (omega arith))) ] in
-    go (is_foreign e) refl h
-
-pub plain_line : (line : List ℕ) (at : Option ℕ) → length line ≤ MAX_LINE_LEN → at ≡ position is_foreign line → at ≡ None → IsPlain line
-plain_line line at few e none = record { few = few; bytes = nowhere line (at_end (prefix_len (λ b. not (is_foreign b)) line) (length line) (sym e ∙ none)) }
-
-pub whole_words : (line : List ℕ) (empty : Bool) → IsPlain line → empty ≡ list_any is_empty (words_of line) → empty ≡ false → HasWholeWords line
-whole_words line empty plain e none = record { plain = plain; none_empty = sym e ∙ none }
-
 -- ---- words
 
 insert_spells : (line : List ℕ) (words : List (List ℕ)) → HasWords line (codes "insert" ∷ words) → AreOfKinds insert_kinds words → (op : Op) × Spells line op
