@@ -9,12 +9,12 @@ use Rattle.std.proofs.lemmas.Slice.Eq.{bytes_eq-Decides}
 use Rattle.txc_node.specs.declared.entry.Entry.{Entry}
 use Rattle.txc_node.specs.declared.op.Op.{Op}
 use Rattle.txc_node.specs.declared.op.Op.TheVariants.{Insert, Lookup, Event, Sweep}
-use Rattle.txc_run.specs.declared.line.TheConstants.{MAX_LINE_LEN}
-use Rattle.txc_run.specs.declared.line_fault.WordKind.{WordKind}
-use Rattle.txc_run.specs.LineFaults.{AreOfKinds, IsCommand, HasWholeWords, insert_kinds, lookup_kinds, event_kinds, sweep_kinds, is_foreign, is_empty}
+use Rattle.txc_script.specs.declared.line.TheConstants.{MAX_LINE_LEN}
+use Rattle.txc_script.specs.declared.line_fault.WordKind.{WordKind}
+use Rattle.txc_script.specs.LineFaults.{AreOfKinds, IsCommand, HasWholeWords, insert_kinds, lookup_kinds, event_kinds, sweep_kinds, is_foreign, is_empty}
 use Rattle.txc_run.specs.Lines.{IsPlain, Spells}
-use Rattle.txc_run.specs.Words.{HasWords, words_of}
-use Rattle.txc_run.proofs.Blanks.{has_words}
+use Rattle.txc_script.specs.Words.{HasWords, words_of}
+use Rattle.txc_script.proofs.Offered.{has_words}
 use Rattle.txc_run.proofs.Cuts.{at_end}
 
 -- ---- words

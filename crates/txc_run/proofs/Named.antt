@@ -18,8 +18,8 @@ use Rattle.txc_node.specs.declared.value.TheConstants.{MAX_VALUE_LEN}
 use Rattle.txc_node.specs.Cache.{Cache}
 use Rattle.txc_node.specs.Steps.{entry_refusal, refusal_by}
 use Rattle.txc_node.proofs.Offered.{entry_has_no_reach, entry_is_too_long}
-use Rattle.txc_run.specs.Words.{HasNoBlank, HasWords, words_of}
-use Rattle.txc_run.specs.Hex.{IsHexWord}
+use Rattle.txc_script.specs.Words.{HasNoBlank, HasWords, words_of}
+use Rattle.txc_script.specs.Hex.{IsHexWord}
 use Rattle.txc_run.specs.Lines.{IsKeyWord, IsStampWord, IsTagsWord, still_text, AreLookupWords, AreEventWords, AreSweepWords, AreInsertWords, name_of, AreWordsAfter, Spells}
 use Rattle.txc_run.specs.Reading.{IsNoWord, IsNamed, NamesNone, set_reason}
 use Rattle.txc_run.specs.Replies.{MakesStep, MakesNone}
@@ -28,7 +28,7 @@ use Rattle.txc_run.specs.declared.unread.NoStep.TheVariants as reasons
 use Rattle.txc_run.specs.declared.unread.Unanswered.{Unanswered}
 use Rattle.txc_run.specs.declared.unread.Unanswered.TheVariants as unanswered
 use Rattle.txc_run.specs.declared.replies.Replies.{Replies}
-use Rattle.txc_run.proofs.Blanks.{words_cut, words_alone, has_words, words_are}
+use Rattle.txc_script.proofs.Offered.{words_cut, words_alone, has_words, words_are}
 
 -- ---- texts that are compared
 

@@ -16,10 +16,10 @@ use Rattle.txc_node.specs.declared.op.Op.{Op}
 use Rattle.txc_node.specs.declared.op.Op.TheVariants.{Insert, Lookup, Event, Sweep}
 use Rattle.txc_node.specs.Steps.{entry_refusal, refusal_by}
 use Rattle.txc_node.specs.Texts.{digit_of, digits_of}
-use Rattle.txc_run.specs.Hex.{IsHexWord}
+use Rattle.txc_script.specs.Hex.{IsHexWord}
 use Rattle.txc_run.specs.Lines.{IsKeyWord, IsStampWord, IsTagsWord, still_text, AreLookupWords, AreEventWords, AreSweepWords, AreInsertWords, AreWordsAfter, name_of, Spells, IsQuiet, IsStepLine}
 use Rattle.txc_run.specs.Reading.{Line, Quiet, Step, Unmade, Malformed, IsLine, CanBeMade}
-use Rattle.txc_run.proofs.Blanks.{words_are}
+use Rattle.txc_script.proofs.Offered.{words_are}
 
 -- ---- a word has one meaning
 

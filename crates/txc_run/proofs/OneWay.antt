@@ -8,7 +8,7 @@ use Rattle.txc_node.specs.declared.reply.Reply.TheVariants.{Refused}
 use Rattle.txc_node.specs.Cache.{Cache}
 use Rattle.txc_node.specs.Steps.{MayReply}
 use Rattle.txc_node.proofs.Offered.{replied_one_way}
-use Rattle.txc_run.specs.Kinds.{AreGiven}
+use Rattle.txc_script.specs.Kinds.{AreGiven}
 use Rattle.txc_run.specs.Given.{Given, Nothing, Replied, Malformed, Gives, node_script}
 use Rattle.txc_run.specs.Laws.{HadMemory}
 use Rattle.txc_run.proofs.OneThing.{no_quiet_step, one_step}

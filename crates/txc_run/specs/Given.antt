@@ -5,9 +5,9 @@ use Rattle.txc_node.specs.declared.op.Op.{Op}
 use Rattle.txc_node.specs.declared.reply.Reply.{Reply}
 use Rattle.txc_node.specs.Cache.{Cache}
 use Rattle.txc_node.specs.Steps.{is_refusal, MayReply}
-use Rattle.txc_run.specs.Kinds.{ScriptKind}
+use Rattle.txc_script.specs.Kinds.{ScriptKind}
 use Rattle.txc_run.specs.Lines.{IsQuiet, IsStepLine, IsMalformed}
-use Rattle.txc_run.specs.LineFaults.{IsFaultOf}
+use Rattle.txc_script.specs.LineFaults.{IsFaultOf}
 
 -- a line gives no reply, or names a step and gives its reply, or is malformed and has this number
 pub data Given : Type 0 where

@@ -8,7 +8,7 @@ use Rattle.txc_node.specs.Cache.{Cache}
 use Rattle.txc_run.specs.Lines.{IsQuiet, IsStepLine}
 use Rattle.txc_run.specs.Reading.{Line, IsLine}
 use Rattle.txc_run.specs.Given.{Given, Replied, node_script}
-use Rattle.txc_run.specs.Kinds.{AreGiven}
+use Rattle.txc_script.specs.Kinds.{AreGiven}
 
 -- no line without a reply names a step
 abbrev pub NoQuietLineNamesAStep : Type 0

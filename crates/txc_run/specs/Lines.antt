@@ -11,9 +11,9 @@ use Rattle.txc_tags.specs.TextSet.{IsSetOfText}
 use Rattle.txc_node.specs.declared.entry.Entry.{Entry}
 use Rattle.txc_node.specs.declared.op.Op.{Op}
 use Rattle.txc_node.specs.declared.op.Op.TheVariants.{Insert, Lookup, Event, Sweep}
-use Rattle.txc_run.specs.declared.line.TheConstants.{MAX_LINE_LEN}
-use Rattle.txc_run.specs.Hex.{IsHexWord}
-use Rattle.txc_run.specs.Words.{HasWords}
+use Rattle.txc_script.specs.declared.line.TheConstants.{MAX_LINE_LEN}
+use Rattle.txc_script.specs.Hex.{IsHexWord}
+use Rattle.txc_script.specs.Words.{HasWords}
 
 -- ---- words
 
