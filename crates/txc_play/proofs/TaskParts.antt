@@ -12,9 +12,10 @@ use Rattle.txc_rows.specs.declared.query.Query.TheVariants as queries
 use Rattle.txc_rows.specs.declared.query.Change.{Change}
 use Rattle.txc_rows.specs.declared.query.Change.TheVariants as changes
 use Rattle.txc_play.specs.Tasks.{query_words, row_words, AreChangeWords, AreQueryWords}
-use Rattle.txc_play.specs.TaskReading.{IsNone, IsNumberWord, ArePairWords}
-use Rattle.txc_play.specs.declared.unread.NoTask.{NoTask}
-use Rattle.txc_play.specs.declared.unread.NoTask.TheVariants as reasons
+use Rattle.txc_script.specs.Unread.{IsNone}
+use Rattle.txc_play.specs.TaskReading.{IsNumberWord, ArePairWords}
+use Rattle.txc_script.specs.declared.unread.Unread.{Unread}
+use Rattle.txc_script.specs.declared.unread.Unread.TheVariants as reasons
 
 -- two texts of which a test says that they differ
 pub apart : (a b : List ℕ) → bytes_eq a b ≡ false → a ≡ b → ⊥
@@ -151,7 +152,7 @@ row_short words rest word row e other h =
     other (ap length three)
 
 -- what was refused as malformed is no such value
-pub none_of : {T V : Type 0} (r : Result T NoTask) (Is : V → Type 0) → IsErr r × IsErrAnd r (λ reason. reason ≡ reasons.Malformed) → ((v : V) → Is v → ⊥) → IfErr r (IsNone Is)
+pub none_of : {T V : Type 0} (r : Result T Unread) (Is : V → Type 0) → IsErr r × IsErrAnd r (λ reason. reason ≡ reasons.Malformed) → ((v : V) → Is v → ⊥) → IfErr r (IsNone Is)
 none_of (Ok x) Is h none = tt
 none_of (Err reason) Is h none = subst (IsNone Is) (sym h.1) none
 
@@ -161,7 +162,7 @@ refused_anyhow (Ok x) P h = tt
 refused_anyhow (Err e) P h = h
 
 -- where there is no such value there is none of a narrower kind
-pub none_as : {T V : Type 0} (r : Result T NoTask) (Is Js : V → Type 0) → IfErr r (IsNone Is) → ((v : V) → Js v → Is v) → IfErr r (IsNone Js)
+pub none_as : {T V : Type 0} (r : Result T Unread) (Is Js : V → Type 0) → IfErr r (IsNone Is) → ((v : V) → Js v → Is v) → IfErr r (IsNone Js)
 none_as (Ok x) Is Js h there = tt
 none_as (Err reasons.Malformed) Is Js h there = λ v js. h v (there v js)
 none_as (Err reasons.Memory) Is Js h there = tt

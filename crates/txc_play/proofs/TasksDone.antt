@@ -16,8 +16,7 @@ use Rattle.txc_world.specs.declared.reply.Reply.{Reply}
 use Rattle.txc_world.specs.declared.reply.Reply.TheVariants as replies
 use Rattle.txc_world.specs.Told.{Told}
 use Rattle.txc_play.specs.TaskSteps.{AreTaken, IsTaken, HasBegun, IsDone, Does, DoesPins, DoesUnpin, ending_of, is_added, is_unpinned, leaves_hold, stamp_in, taken_out, tidied}
-use Rattle.txc_play.specs.WorldSessions.{HasEndedTxn, HasUnpinned, IsCutShort, MayHaveBegun}
-use Rattle.txc_play.specs.Tasks.{IsTaskLine}
+use Rattle.txc_play.specs.Playing.{HasEndedTxn, HasUnpinned, IsCutShort}
 use Rattle.txc_play.specs.declared.printed.Printed.{Printed}
 use Rattle.txc_play.specs.declared.printed.Printed.TheVariants.{Replied}
 use Rattle.txc_play.specs.declared.task.Task.{Task}
@@ -249,12 +248,3 @@ nothing_cut next told task (Err e) = inl refl
 pub done_cut : {T : Type 0} (next : Next) (told end : Told) (task : Task) (printed : Printed) (r : Result T AllocError) → IsDone next told task printed end → OnErr r (IsCutShort next told task end)
 done_cut next told end task printed (Ok x) h = tt
 done_cut next told end task printed (Err e) h = inr (done_begun next told end task printed h)
-
-pub line_cut : {T : Type 0} (next : Next) (told end : Told) (line : List ℕ) (task : Task) (r : Result T AllocError) → IsTaskLine line task → IsCutShort next told task end → OnErr r (MayHaveBegun next told line end)
-line_cut next told end line task (Ok x) is h = tt
-line_cut next told end line task (Err e) is (inl same) = inl same
-line_cut next told end line task (Err e) is (inr begun) = inr (task, is, begun)
-
-pub line_untouched : {T : Type 0} (next : Next) (told : Told) (line : List ℕ) (r : Result T AllocError) → OnErr r (MayHaveBegun next told line told)
-line_untouched next told line (Ok x) = tt
-line_untouched next told line (Err e) = inl refl

@@ -15,7 +15,6 @@ use Rattle.txc_ports.specs.declared.bounds.Bounds.{Bounds}
 use Rattle.txc_world.specs.declared.step.Act.TheVariants as acts
 use Rattle.txc_world.specs.declared.step.Keep.TheVariants as keeps
 use Rattle.txc_world.specs.declared.step.Step.TheVariants.{Actor, Keeper}
-use Rattle.txc_script.specs.Lines.{IsPlain, IsQuiet}
 use Rattle.txc_script.specs.Words.{words_of}
 use Rattle.txc_script.specs.declared.line_name.LineName.{LineName}
 use Rattle.txc_script.specs.declared.line_name.LineName.TheVariants as names
@@ -140,12 +139,3 @@ Says names.Tidy words task =
 abbrev pub SpellsTask : List ℕ → Task → Type 0
 SpellsTask line task =
     (name : LineName) × (words : List (List ℕ)) × (words_of line ≡ name_text name ∷ words) × Says name words task
-
--- a line that asks for something
-abbrev pub IsTaskLine : List ℕ → Task → Type 0
-IsTaskLine line task = IsPlain line × SpellsTask line task
-
--- a line that has a reply, and asks for nothing
-pub record IsMalformedLine (line : List ℕ) : Type 0 where
-  pub not_quiet : IsQuiet line → ⊥
-  pub no_task : (task : Task) → IsTaskLine line task → ⊥

@@ -1,15 +1,18 @@
-//! Scripts of a world.
+//! Runs of a world's scripts: what their lines ask for, the steps that those stand for, and what is written of
+//! the replies.
+#![tactic(auto)]
+
 mod finding;
-mod line;
-pub mod name;
+mod name;
 mod outcome;
 mod parts;
+mod player;
 mod playing;
 mod printed;
 mod reading;
 mod refusing;
-pub mod script;
-mod session;
+mod script;
 mod task;
 mod texts;
-mod unread;
+
+pub use script::{run_world, world_settings};

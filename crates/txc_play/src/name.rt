@@ -3,6 +3,8 @@ ghost use Rattle.std.specs.Prelude.{◌≡◌, IfSome, IfNone};
 ghost use Rattle.txc_play.specs.Tasks.{name_text};
 ghost use Rattle.txc_script.specs.declared.line_name.LineName.{LineName};
 
+use txc_script::LineName;
+
 /// The name that the word is.
 pub fn name_of(word: &[u8]) -> Option<LineName>
     ensures answer { IfSome result (λ name. word.now ≡ name_text name) }

@@ -3,7 +3,7 @@ ghost use Rattle.std.specs.Prelude.{◌≡◌, Some, None, IfOk, IfErr};
 ghost use Rattle.txc_world.specs.declared.reply.Reply.{Reply};
 ghost use Rattle.txc_play.specs.TaskSteps.{ending_of, is_added, is_unpinned, leaves_hold, stamp_in, taken_out, tidied};
 
-use crate::world::printed::Printed;
+use crate::printed::Printed;
 use txc_stamp::Stamp;
 use txc_world::Reply;
 

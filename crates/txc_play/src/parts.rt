@@ -9,16 +9,16 @@ ghost use Rattle.txc_rows.specs.declared.query.Query.{Query};
 ghost use Rattle.txc_ports.specs.declared.bounds.Bounds.{Bounds};
 ghost use Rattle.txc_script.specs.Words.{words_of};
 ghost use Rattle.txc_play.specs.Tasks.{row_words, AreBoundsWords, AreChangeWords, AreQueryWords, IsPair};
-ghost use Rattle.txc_play.specs.TaskReading.{IsNone, IsNumberWord, ArePairWords};
+ghost use Rattle.txc_script.specs.Unread.{IsNone};
+ghost use Rattle.txc_play.specs.TaskReading.{IsNumberWord, ArePairWords};
 ghost use Rattle.txc_play.specs.declared.parts.TheConstants.{LAST_MOMENT};
 
-use crate::reading::read_stamp;
-use crate::unread::Malformed;
-use crate::words::{first_word, one_word, three_words, two_words};
-use crate::world::unread::NoTask;
 use std::alloc::Global;
 use txc_ports::Bounds;
 use txc_rows::{Change, Query, Row};
+use txc_script::{
+    Malformed, Unread, first_word, one_word, read_stamp, three_words, two_words,
+};
 use txc_tags::{LAST_NUMBER, LAST_TABLE, Table, read_number};
 
 /// The greatest moment and the longest time, in milliseconds.
@@ -106,12 +106,12 @@ pub fn read_query(text: &[u8]) -> Result<Query, Malformed>
 }
 
 /// A row, by its four words.
-pub fn read_row(alloc: Global, text: &[u8]) -> Result<Row, NoTask>
+pub fn read_row(alloc: Global, text: &[u8]) -> Result<Row, Unread>
     ensures answer { IfOk result (λ row. (words_of text.now ≡ row_words row) × IsRow row) }
     ensures refused { IfErr result (IsNone (λ row. (words_of text.now ≡ row_words row) × IsRow row)) }
 {
     let Some((table, text)) = first_word(text) else {
-        return Err(NoTask::Malformed);
+        return Err(Unread::Malformed);
     };
     let (id, group, body) = three_words(text)?;
     let table = read_table(table)?;
@@ -120,17 +120,17 @@ pub fn read_row(alloc: Global, text: &[u8]) -> Result<Row, NoTask>
     let body = Vec::from_slice(alloc, body)?;
     match Row::new(table, id, group, body) {
         Ok(row) => Ok(row),
-        Err(_) => Err(NoTask::Malformed),
+        Err(_) => Err(Unread::Malformed),
     }
 }
 
 /// A change, with its name.
-pub fn read_change(alloc: Global, text: &[u8]) -> Result<Change, NoTask>
+pub fn read_change(alloc: Global, text: &[u8]) -> Result<Change, Unread>
     ensures answer { IfOk result (AreChangeWords (words_of text.now)) }
     ensures refused { IfErr result (IsNone (AreChangeWords (words_of text.now))) }
 {
     let Some((name, text)) = first_word(text) else {
-        return Err(NoTask::Malformed);
+        return Err(Unread::Malformed);
     };
     if name == b"put".as_slice() {
         return Ok(Change::Put(read_row(alloc, text)?));
@@ -139,7 +139,7 @@ pub fn read_change(alloc: Global, text: &[u8]) -> Result<Change, NoTask>
         let (table, id) = read_pair(text)?;
         return Ok(Change::Remove(table, id));
     }
-    Err(NoTask::Malformed)
+    Err(Unread::Malformed)
 }
 
 /// The bounds of a read-only transaction.

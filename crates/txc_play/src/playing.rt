@@ -1,13 +1,13 @@
 //! The steps that a line of a world's script stands for.
 ghost use Rattle.std.specs.Prelude.{◌≡◌, map, All, IfOk, OnErr};
 ghost use Rattle.txc_play.specs.TaskSteps.{DoesPins, HasBegun, HasGivenUp, IsClosed, IsDone, IsTaken};
-ghost use Rattle.txc_play.specs.WorldSessions.{HasEndedTxn, HasUnpinned, IsCutShort};
+ghost use Rattle.txc_play.specs.Playing.{HasEndedTxn, HasUnpinned, IsCutShort};
 
-use crate::world::outcome::{
+use crate::outcome::{
     ending_of, is_added, is_unpinned, leaves_hold, stamp_in, taken_out, tidied,
 };
-use crate::world::printed::Printed;
-use crate::world::task::Task;
+use crate::printed::Printed;
+use crate::task::Task;
 use std::alloc::{AllocError, Global};
 use txc_cushion::Pin;
 use txc_registry::Cacheable;

@@ -3,20 +3,18 @@ ghost use Rattle.std.specs.Prelude.{◌≡◌, ◌≤◌, ℕ, List, [], ◌∷�
 ghost use Rattle.std.specs.Fmt.{decimal};
 ghost use Rattle.txc_script.specs.Words.{words_of};
 ghost use Rattle.txc_play.specs.Tasks.{name_text, AreAfterPlace, Says, SpellsTask};
-ghost use Rattle.txc_play.specs.TaskReading.{IsNone, IsKeeperChange};
+ghost use Rattle.txc_script.specs.Unread.{IsNone};
+ghost use Rattle.txc_play.specs.TaskReading.{IsKeeperChange};
 ghost use Rattle.txc_play.specs.declared.task.Task.{Task};
 
-use crate::reading::read_stamp;
-use crate::unread::Malformed;
-use crate::words::{first_word, one_word, two_words};
-use crate::world::name::{LineName, name_of};
-use crate::world::parts::{
+use crate::name::name_of;
+use crate::parts::{
     read_bounds, read_change, read_moment, read_place, read_query, read_row,
 };
-use crate::world::task::Task;
-use crate::world::unread::NoTask;
+use crate::task::Task;
 use std::alloc::Global;
 use txc_rows::Change;
+use txc_script::{LineName, Malformed, Unread, first_word, one_word, read_stamp, two_words};
 use txc_tags::Key;
 use txc_world::{Act, Keep, Step};
 
@@ -87,7 +85,7 @@ fn read_ask(text: &[u8]) -> Result<Task, Malformed>
 }
 
 /// `write`, by what comes after its name.
-fn read_write(alloc: Global, text: &[u8]) -> Result<Task, NoTask>
+fn read_write(alloc: Global, text: &[u8]) -> Result<Task, Unread>
     ensures answer { IfOk result (Says LineName.Write (words_of text.now)) }
     ensures refused { IfErr result (IsNone (Says LineName.Write (words_of text.now))) }
 {
@@ -119,7 +117,7 @@ fn read_tidy(text: &[u8]) -> Result<Task, Malformed>
 }
 
 /// `put` or `remove`, with its name.
-fn read_keeper_change(alloc: Global, line: &[u8]) -> Result<Task, NoTask>
+fn read_keeper_change(alloc: Global, line: &[u8]) -> Result<Task, Unread>
     ensures answer { IfOk result (IsKeeperChange (words_of line.now)) }
     ensures refused { IfErr result (IsNone (IsKeeperChange (words_of line.now))) }
 {
@@ -128,7 +126,7 @@ fn read_keeper_change(alloc: Global, line: &[u8]) -> Result<Task, NoTask>
 }
 
 /// What the words after the name ask for.
-fn read_named(alloc: Global, name: LineName, line: &[u8], text: &[u8]) -> Result<Task, NoTask>
+fn read_named(alloc: Global, name: LineName, line: &[u8], text: &[u8]) -> Result<Task, Unread>
     requires { words_of line.now ≡ name_text name ∷ words_of text.now }
     ensures answer { IfOk result (Says name (words_of text.now)) }
     ensures refused { IfErr result (IsNone (Says name (words_of text.now))) }
@@ -155,15 +153,15 @@ fn read_named(alloc: Global, name: LineName, line: &[u8], text: &[u8]) -> Result
 }
 
 /// What the line asks for.
-pub fn read_task(alloc: Global, line: &[u8]) -> Result<Task, NoTask>
+pub fn read_task(alloc: Global, line: &[u8]) -> Result<Task, Unread>
     ensures answer { IfOk result (SpellsTask line.now) }
     ensures refused { IfErr result (IsNone (SpellsTask line.now)) }
 {
     let Some((word, text)) = first_word(line) else {
-        return Err(NoTask::Malformed);
+        return Err(Unread::Malformed);
     };
     match name_of(word) {
         Some(name) => read_named(alloc, name, line, text),
-        None => Err(NoTask::Malformed),
+        None => Err(Unread::Malformed),
     }
 }

@@ -2,7 +2,7 @@
 ghost use Rattle.std.specs.Prelude.{◌≡◌};
 ghost use Rattle.txc_play.specs.TaskTexts.{is_refused_did, is_refused_end, is_refused_line, is_refused_reply};
 
-use crate::world::printed::Printed;
+use crate::printed::Printed;
 use txc_world::{Did, End, Reply};
 
 fn is_refused_end(end: &End) -> bool

@@ -1,5 +1,5 @@
 //! The texts of what lines of a world's script are answered.
-use crate::world::printed::Printed;
+use crate::printed::Printed;
 use std::fmt;
 use txc_call::CallError;
 use txc_cushion::{AddError, Pin, UnknownPin};

@@ -8,3 +8,4 @@ pub mod WordFaults
 pub mod EachLine
 pub mod Answering
 pub mod Turning
+pub mod Offered

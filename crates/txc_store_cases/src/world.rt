@@ -10,7 +10,8 @@ use refused::{HISTORY, REFUSED};
 use std::alloc::{AllocError, Global};
 use txc_functions::{Object, Program, registries};
 use txc_permits::PermitPool;
-use txc_run::{RunFault, Status, run_world, world_settings};
+use txc_play::{run_world, world_settings};
+use txc_run::{RunFault, Status};
 use txc_settings::Settings;
 use txc_world::World;
 

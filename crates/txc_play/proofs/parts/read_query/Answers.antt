@@ -1,6 +1,6 @@
 use Rattle.std.specs.Prelude.{codes}
 use Rattle.txc_script.proofs.Offered.{words_alone, words_cut}
-use Rattle.txc_play.proofs.Named.{other_text}
+use Rattle.txc_script.proofs.Offered.{other_text}
 use Rattle.txc_play.proofs.TaskParts.{no_lone_query, no_query}
 use Rattle.txc_play.proofs.parts.read_query.Goals as goal
 

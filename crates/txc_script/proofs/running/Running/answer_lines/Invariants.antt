@@ -7,7 +7,7 @@ invariant-lines g l = record {
   counted : l.self.lines + length l.rest ≤ l.fn.self.lines + length l.fn.bytes;
   done : List ℕ;
   split : l.fn.bytes ≡ done ++ l.rest;
-  answered : (start : g.K.Script.State) (read written : List ℕ) → HasAnswered (g.K.Script.kind l.fn.kind) start read written (progress_of l.fn.state l.fn.self)
+  answered : (start : g.row.K-State.Denot) (read written : List ℕ) → HasAnswered (g.K.Script.kind l.fn.kind) start read written (progress_of l.fn.state l.fn.self)
       → HasAnswered (g.K.Script.kind l.fn.kind) start (read ++ done) written (progress_of l.state l.self);
 }
 

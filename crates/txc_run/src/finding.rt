@@ -1,0 +1,69 @@
+//! Finding what is wrong with the words of a malformed line.
+ghost use Rattle.std.specs.Prelude.{◌≡◌, Some, None, IfSome, IfNone};
+ghost use Rattle.txc_node.specs.declared.op.Op.{Op};
+ghost use Rattle.txc_script.specs.LineFaults.{HasWholeWords, IsCommandFault};
+ghost use Rattle.txc_script.specs.Words.{words_of};
+ghost use Rattle.txc_run.specs.Lines.{Spells};
+ghost use Rattle.txc_run.specs.NodeScripts.{kinds_after};
+
+use std::alloc::Global;
+use txc_script::{CommandFault, Excerpt, WordKind, all_words, bad_word, count_words};
+
+static INSERT_WORDS: [WordKind; 6] = [
+    WordKind::Key,
+    WordKind::Stamp,
+    WordKind::Stamp,
+    WordKind::Reach,
+    WordKind::Tags,
+    WordKind::Bytes,
+];
+
+static LOOKUP_WORDS: [WordKind; 3] = [WordKind::Key, WordKind::Stamp, WordKind::Stamp];
+
+static EVENT_WORDS: [WordKind; 2] = [WordKind::Stamp, WordKind::Tags];
+
+static SWEEP_WORDS: [WordKind; 1] = [WordKind::Stamp];
+
+/// The kinds of the words after a command's name.
+fn words_after(name: &[u8]) -> Option<&'static [WordKind]>
+    ensures answer { IfSome result (λ kinds. kinds_after name.now ≡ Some kinds.now) }
+    ensures refused { IfNone result (kinds_after name.now ≡ None) }
+{
+    if name == b"insert".as_slice() {
+        return Some(INSERT_WORDS.as_slice());
+    }
+    if name == b"lookup".as_slice() {
+        return Some(LOOKUP_WORDS.as_slice());
+    }
+    if name == b"event".as_slice() {
+        return Some(EVENT_WORDS.as_slice());
+    }
+    if name == b"sweep".as_slice() {
+        return Some(SWEEP_WORDS.as_slice());
+    }
+    None
+}
+
+/// What is wrong with the words of a line that names no step. Where memory is refused the answer is the same.
+pub fn find_command_fault(alloc: Global, line: &[u8]) -> CommandFault
+    requires whole { HasWholeWords line.now }
+    requires no_step { (op : Op) → Spells line.now op → ⊥ }
+    ensures { IsCommandFault kinds_after (words_of line.now) result }
+{
+    let mut words = all_words(line);
+    let name = words.next();
+    let Some(kinds) = words_after(name) else {
+        return CommandFault::Unknown(Excerpt::new(name));
+    };
+    let given = count_words(line) - 1;
+    if given != kinds.len() {
+        return CommandFault::Count {
+            wanted: kinds.len(),
+            given,
+        };
+    }
+    match bad_word(alloc, kinds, words) {
+        Some(fault) => CommandFault::Word(fault),
+        None => unreachable!(),
+    }
+}
