@@ -1,13 +1,16 @@
 -- A run answers its lines.
 use Rattle.std.proofs.Common.{◌≡◌, ◌≢◌, ℕ, ◌+◌, Bool, true, false, ◌||◌, List, [], ◌∷◌, ◌++◌, length, take, Ok, Err, Result, IfOk, OnErr, OnOk, refl, sym, ap, subst, ◌∙◌, arith, append_assoc, eqb, inl, inr}
+use Rattle.std.specs.Global.{Vec}
 use Rattle.std.specs.Prelude.{MatchBool}
 use Rattle.std.specs.List.{list_any}
 use Rattle.std.specs.declared.alloc.AllocError.{AllocError}
 use Rattle.std.proofs.lemmas.Bool.Decides.{nat_tests}
 use Rattle.std.proofs.lemmas.List.{append-nil, length-append}
 use Rattle.std.proofs.lemmas.List.Elements.{All-append, All-nil}
-use Rattle.txc_script.specs.Answers.{IsClosed}
-use Rattle.txc_script.specs.Kinds.{ScriptKind, Given, AreFirstLines, Closing, Closes, Gives, IsWhole, no_closing, is_malformed, is_refused, lines_text}
+use Rattle.txc_script.specs.Answers.{IsAnswered, IsClosed}
+use Rattle.txc_script.specs.Flows.{IsStoppedAt}
+use Rattle.txc_script.specs.Kinds.{ScriptKind, Given, Replied, Malformed, AreFirstLines, Closing, Closes, Gives, IsMalformed, IsWhole, no_closing, is_malformed, is_refused, lines_text, malformed_text}
+use Rattle.txc_script.specs.Lines.{IsBlankOrComment, IsPlain}
 use Rattle.txc_script.specs.Progress.{Progress, progress_of, kept_of, AnswersAs, AnswersLast, AnswersLine, HasAnswered, HasClosed, HasLast, IsHalted, IsStopped, MayBreakOff}
 use Rattle.txc_script.specs.Runs.{Answers, Breaks, After, Within, AtEnd}
 use Rattle.txc_script.specs.Script.{AreLinesOf, BeginsWithLines, HasNoEnd}
@@ -18,6 +21,42 @@ use Rattle.txc_script.specs.declared.running.Flow.TheVariants.{GoesOn, Stopped}
 use Rattle.txc_script.specs.declared.running.Replies.{Replies}
 use Rattle.txc_script.specs.declared.running.Running.{Running}
 use Rattle.txc_script.proofs.EachLine.{all_read, any_more, begins_longer, begins_more, given_more, kept_append, kept_reads, no_end, none_read, nothing_kept, text_more, whole_reads, ReadsAs}
+
+-- ---- one line
+
+pub not_plain : {S A R : Type 0} (kind : ScriptKind S A R) (line : List ℕ) → (IsPlain line → ⊥) → IsMalformed kind line
+not_plain kind line none = record { not_quiet = λ quiet. none quiet.0; asks_nothing = λ asked is. none is.0 }
+
+pub asks_nothing : {S A R : Type 0} (kind : ScriptKind S A R) (line : List ℕ) → (IsBlankOrComment line → ⊥) → ((asked : A) → kind.asks line asked → ⊥) → IsMalformed kind line
+asks_nothing kind line bare none = record { not_quiet = λ quiet. bare quiet.1; asks_nothing = λ asked is. none asked is.1 }
+
+either_true : (b : Bool) → true ≡ (b || true)
+either_true true = refl
+either_true false = refl
+
+-- a malformed line was answered after a look that changed nothing
+pub malformed_answered : {S A R : Type 0} (kind : ScriptKind S A R) (s next : S) (old new : Replies) (number : ℕ) (line : List ℕ) (r : Result Flow AllocError) → IsMalformed kind line → next ≡ s
+    → IfOk r (IsStoppedAt kind number line) → OnOk r (new.text.items ≡ old.text.items ++ malformed_text number) → OnOk r (new.is_refused ≡ true) → IfOk r (AnswersLine kind s next old new number line)
+malformed_answered kind s next old new number line (Ok GoesOn) bad same stops text refused = absurd stops
+malformed_answered kind s next old new number line (Ok (Stopped fault)) bad same stops text refused = record {
+  given = Malformed number;
+  gives = (bad, refl, same);
+  text = text;
+  refused = refused ∙ either_true old.is_refused;
+  flow_is = (refl, stops);
+}
+malformed_answered kind s next old new number line (Err e) bad same stops text refused = tt
+
+-- what a line asks for was done
+pub line_answered : {S A R : Type 0} (kind : ScriptKind S A R) (s next : S) (old : Replies) (text : Vec ℕ) (refused : Bool) (number : ℕ) (line : List ℕ) → IsPlain line
+    → IsAnswered kind s line next old.text.items text.items refused → AnswersLine kind s next old (record { text = text; is_refused = old.is_refused || refused }) number line GoesOn
+line_answered kind s next old text refused number line plain h = record {
+  given = Replied h.asked h.reply;
+  gives = ((plain, h.asks), h.does);
+  text = h.text;
+  refused = ap (λ (b : Bool). old.is_refused || b) h.is_refused;
+  flow_is = refl;
+}
 
 -- ---- a line that was answered
 

@@ -1,4 +1,5 @@
 pub mod Cuts
+pub mod Texts
 pub mod DigitTable
 pub mod Streams
 pub mod Scans

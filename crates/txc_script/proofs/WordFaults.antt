@@ -1,15 +1,20 @@
 -- Words that are tested against their kinds.
-use Rattle.std.proofs.Common.{◌≡◌, ◌<◌, ◌≤◌, ◌+◌, ◌-◌, ◌↔◌, ℕ, List, [], ◌∷◌, ◌++◌, get_or, length, drop, take, refl, sym, ap, subst, ◌∙◌, arith}
+use Rattle.std.proofs.Common.{◌≡◌, ◌<◌, ◌≤◌, ◌+◌, ◌-◌, ◌↔◌, ℕ, Bool, true, false, not, suc, cond, Option, None, List, [], ◌∷◌, ◌++◌, get_or, length, drop, take, refl, sym, ap, subst, ◌∙◌, arith}
 use Rattle.std.specs.Prelude.{codes}
-use Rattle.std.specs.List.{flat_map}
+use Rattle.std.specs.List.{All, flat_map, list_any, position, prefix_len}
+use Rattle.std.proofs.lemmas.Bool.Decides.{nat_tests}
 use Rattle.std.proofs.lemmas.List.{length-append, take_rest}
 use Rattle.std.proofs.lemmas.List.Elements.{All-cons, All-nil, All-rest}
 use Rattle.txc_node.specs.Texts.{digits_of, hex_text}
 use Rattle.txc_script.specs.Hex.{IsBytes, IsHexWord}
-use Rattle.txc_script.specs.LineFaults.{IsOfKind, AreOfKinds, IsRun, IsHex, IsBadWord, StopsAt}
+use Rattle.txc_script.specs.LineFaults.{IsOfKind, AreOfKinds, IsRun, IsHex, IsBadWord, StopsAt, HasWholeWords, is_empty, is_foreign}
+use Rattle.txc_script.specs.Lines.{IsPlain}
+use Rattle.txc_script.specs.Words.{words_of}
+use Rattle.txc_script.specs.declared.line.TheConstants.{MAX_LINE_LEN}
 use Rattle.txc_script.specs.Excerpts.{excerpt_of}
 use Rattle.txc_script.specs.declared.line_fault.WordKind.{WordKind}
 use Rattle.txc_script.specs.declared.line_fault.WordFault.{WordFault}
+use Rattle.txc_script.proofs.Cuts.{at_end}
 use Rattle.txc_script.proofs.HexDigits.{odd_digits, bad_digits}
 
 -- ---- digits in pairs

@@ -308,9 +308,13 @@ impl Running {
             → HasLast (K.kind kind.now) start read written (progress_of state.old self.old)
             → EndsAs (K.kind kind.now) start read written (progress_of state.new self.new) result }
     {
-        let is_refused = kind.close(alloc, state, &mut self.replies.text)?;
-        self.replies.is_refused |= is_refused;
-        Ok(Flow::GoesOn)
+        match kind.close(alloc, state, &mut self.replies.text) {
+            Ok(is_refused) => {
+                self.replies.is_refused |= is_refused;
+                Ok(Flow::GoesOn)
+            }
+            Err(e) => Err(e),
+        }
     }
 
     /// Answers the last line, if its line feed is missing, and does what comes after all lines.

@@ -1,6 +1,6 @@
 use Rattle.std.specs.Prelude.{codes}
 use Rattle.txc_script.proofs.HexDigits.{hex_unread}
-use Rattle.txc_script.proofs.Named.{other_text}
+use Rattle.txc_script.proofs.Texts.{other_text}
 use Rattle.txc_script.proofs.hex.read_hex.Goals as goal
 
 pub returns-clause-refused : goal.returns-clause-refused

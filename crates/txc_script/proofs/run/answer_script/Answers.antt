@@ -1,15 +1,28 @@
-use Rattle.std.proofs.Common.{◌++◌, take, arith, rules, Ok, Err, Result, refl, sym, subst}
-use Rattle.std.proofs.KnownBytes.{Consumes-trans, Consumes-kept, Appends-trans}
+use Rattle.std.proofs.Common.{◌++◌, [], take, arith, rules, Ok, Err, Result, refl, sym, ap, subst}
+use Rattle.std.proofs.KnownBytes.{Appends-nil, Appends-trans, Consumes-kept, Consumes-nil, Consumes-trans}
 use Rattle.txc_script.specs.Progress.{progress_of}
 use Rattle.txc_script.specs.Runs.{HasRun}
 use Rattle.txc_script.specs.declared.fault.Status.TheVariants.{Malformed}
 use Rattle.txc_script.specs.declared.fault.Status.{Status}
 use Rattle.txc_script.specs.declared.fault.RunFault.{RunFault}
+use Rattle.txc_script.specs.declared.reads.Reads.{Reads}
+use Rattle.txc_script.proofs.Answering.{nothing_answered}
 use Rattle.txc_script.proofs.Turning.{err_is, read_fault, reader_failed, run_ends, run_out_of_memory, nothing_more, stopped_ends, goes_on_at}
 use Rattle.txc_script.proofs.run.answer_script.Goals as goal
 
 pub returns-in-Err-clause-after : goal.returns-in-Err-clause-after
 returns-in-Err-clause-after g c = run_out_of_memory (g.K.Script.kind c.args.kind.now) _ _ _
+
+pub reads-init : goal.reads-init
+reads-init g c = record {
+  counted = omega (arith, c.in-Ok.ensures.no_line, ap (λ (r : Reads). r.left) c.requires);
+  read = [];
+  written = [];
+  consumed = Consumes-nil _;
+  appended = Appends-nil _;
+  answered = nothing_answered (g.K.Script.kind c.args.kind.now) c.args.state.now c.in-Ok.running c.in-Ok.ensures.no_line c.in-Ok.ensures.nothing_kept c.in-Ok.ensures.no_output c.in-Ok.ensures.none_refused;
+  none = c.in-Ok.ensures.no_output;
+}
 
 pub returns-then-n-eq0-clause-after : goal.returns-then-n-eq0-clause-after
 returns-then-n-eq0-clause-after g c =
@@ -60,6 +73,6 @@ reads-preserved g c =
 pub returns-in_err-n-clause-after : goal.returns-in_err-n-clause-after
 returns-in_err-n-clause-after g c =
     let i = c.reads.invariant in
-    reader_failed (g.K.Script.kind c.args.kind.now) c.args.state.now _ _ _ _ i.read i.written (progress_of c.reads.state.now c.reads.running) c.from_residual.result
+    reader_failed (g.K.Script.kind c.args.kind.now) c.args.state.now _ _ _ _ i.read i.written (progress_of c.reads.state c.reads.running) c.from_residual.result
     (Consumes-kept _ _ _ i.read i.consumed c.in_err-n.ensures.bytes) i.appended i.answered i.none
     (read_fault c.from_residual.result (Err c.in_err-n.field-0.0) c.in_err-n.field-0.0 refl c.in_err-n.ensures.fault (err_is c.from_residual.result c.in_err-n.field-0.0 c.from_residual.ensures))

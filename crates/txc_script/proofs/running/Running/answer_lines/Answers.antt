@@ -28,8 +28,8 @@ returns-in-None-clause-answered g c start read written h =
     let i = c.lines.invariant in
     let kind = g.K.Script.kind c.args.kind.now in
     let added = c.extend_line.ensures in
-    answers_same kind start _ _ written (progress_of c.lines.state.now c.extend_line.new.self) c.extend_line.result (append_assoc read i.done c.lines.rest.now ∙ ap (λ (xs : List ℕ). read ++ xs) (sym i.split))
-    (extended_line kind start (read ++ i.done) written c.lines.rest.now c.lines.state.now c.lines.self.now c.extend_line.new.self c.extend_line.result c.in-None.ensures.refused added.goes_on added.line added.counted added.replies
+    answers_same kind start _ _ written (progress_of c.lines.state c.extend_line.new.self) c.extend_line.result (append_assoc read i.done c.lines.rest.now ∙ ap (λ (xs : List ℕ). read ++ xs) (sym i.split))
+    (extended_line kind start (read ++ i.done) written c.lines.rest.now c.lines.state c.lines.self c.extend_line.new.self c.extend_line.result c.in-None.ensures.refused added.goes_on added.line added.counted added.replies
     (i.answered start read written h))
 
 pub lines-preserved : goal.lines-preserved

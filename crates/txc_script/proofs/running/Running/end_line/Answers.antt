@@ -1,4 +1,5 @@
 use Rattle.std.proofs.Common.{refl, sym, ◌∙◌}
+use Rattle.txc_script.specs.declared.running.Running.{Running}
 use Rattle.txc_script.proofs.Answering.{answered_end, answered_whole, halted_before, is_nothing}
 use Rattle.txc_script.proofs.running.Running.end_line.Goals as goal
 
@@ -15,4 +16,6 @@ returns-in-Ok-clause-answered g c start read written h =
     c.in-Ok.ensures ended.answered ended.broke ended.counted ended.emptied ended.unchanged h
 
 pub returns-in-Err-clause-answered : goal.returns-in-Err-clause-answered
-returns-in-Err-clause-answered g c start read written h = halted_before (g.K.Script.kind c.args.kind.now) start read written _ c.args.state.now c.args.self.now _ h refl
+returns-in-Err-clause-answered g c start read written h =
+    let q : Running = record c.args.self.now { line = c.add.new.self } in
+    halted_before (g.K.Script.kind c.args.kind.now) start read written _ c.args.state.now c.args.self.now q h refl
