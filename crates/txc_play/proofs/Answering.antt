@@ -1,7 +1,7 @@
 -- Lines of a world's script are answered.
 use Rattle.std.proofs.Common.{◌≡◌, ◌⊎◌, ℕ, List, Result, Ok, Err, IfErr, OnErr, refl, subst, inl, inr}
 use Rattle.std.specs.declared.alloc.AllocError.{AllocError}
-use Rattle.txc_shared.specs.Eval.{Next}
+use Rattle.txc_app.specs.Eval.{Next}
 use Rattle.txc_world.specs.Worlds.{WorldValue}
 use Rattle.txc_script.specs.Answers.{IsUnanswered}
 use Rattle.txc_script.specs.Unread.{IsNone}

@@ -1,7 +1,7 @@
 -- What a run does with the lines of a world's script.
 use Rattle.std.specs.Prelude.{ℕ, List, Option, Result}
 use Rattle.txc_settings.specs.declared.settings.Settings.{Settings}
-use Rattle.txc_shared.specs.Eval.{Next}
+use Rattle.txc_app.specs.Eval.{Next}
 use Rattle.txc_world.specs.declared.settings.WorldSettings.{WorldSettings}
 use Rattle.txc_world.specs.Worlds.{WorldValue}
 use Rattle.txc_script.specs.Runs.{HasRun}

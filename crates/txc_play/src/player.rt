@@ -14,7 +14,7 @@ use std::alloc::{AllocError, Global};
 use std::marker::PhantomData;
 use txc_registry::Cacheable;
 use txc_script::{CommandFault, Script, Unread};
-use txc_shared::App;
+use txc_app::App;
 use txc_world::World;
 
 /// A script of a world's lines.

@@ -11,7 +11,7 @@ use std::marker::PhantomData;
 use txc_registry::Cacheable;
 use txc_script::{RunFault, Status, run_script};
 use txc_settings::Settings;
-use txc_shared::App;
+use txc_app::App;
 use txc_world::{World, WorldSettings};
 
 /// The settings of a run's world.

@@ -1,6 +1,5 @@
 -- A run answers its lines.
 use Rattle.std.proofs.Common.{◌≡◌, ◌≢◌, ℕ, ◌+◌, Bool, true, false, ◌||◌, List, [], ◌∷◌, ◌++◌, length, take, Ok, Err, Result, IfOk, OnErr, OnOk, refl, sym, ap, subst, ◌∙◌, arith, append_assoc, eqb, inl, inr}
-use Rattle.std.specs.Global.{Vec}
 use Rattle.std.specs.Prelude.{MatchBool}
 use Rattle.std.specs.List.{list_any}
 use Rattle.std.specs.declared.alloc.AllocError.{AllocError}
@@ -35,26 +34,27 @@ either_true true = refl
 either_true false = refl
 
 -- a malformed line was answered after a look that changed nothing
-pub malformed_answered : {S A R : Type 0} (kind : ScriptKind S A R) (s next : S) (old new : Replies) (number : ℕ) (line : List ℕ) (r : Result Flow AllocError) → IsMalformed kind line → next ≡ s
-    → IfOk r (IsStoppedAt kind number line) → OnOk r (new.text.items ≡ old.text.items ++ malformed_text number) → OnOk r (new.is_refused ≡ true) → IfOk r (AnswersLine kind s next old new number line)
-malformed_answered kind s next old new number line (Ok GoesOn) bad same stops text refused = absurd stops
-malformed_answered kind s next old new number line (Ok (Stopped fault)) bad same stops text refused = record {
+pub malformed_answered : {S A R : Type 0} (kind : ScriptKind S A R) (s next : S) (old new : Replies) (seen : List ℕ) (number : ℕ) (line : List ℕ) (r : Result Flow AllocError) → IsMalformed kind line → next ≡ s
+    → seen ≡ old.text.items → IfOk r (IsStoppedAt kind number line) → OnOk r (new.text.items ≡ seen ++ malformed_text number) → OnOk r (new.is_refused ≡ true)
+    → IfOk r (AnswersLine kind s next old new number line)
+malformed_answered kind s next old new seen number line (Ok GoesOn) bad same kept stops text refused = absurd stops
+malformed_answered kind s next old new seen number line (Ok (Stopped fault)) bad same kept stops text refused = record {
   given = Malformed number;
   gives = (bad, refl, same);
-  text = text;
+  text = text ∙ ap (λ (xs : List ℕ). xs ++ malformed_text number) kept;
   refused = refused ∙ either_true old.is_refused;
   flow_is = (refl, stops);
 }
-malformed_answered kind s next old new number line (Err e) bad same stops text refused = tt
+malformed_answered kind s next old new seen number line (Err e) bad same kept stops text refused = tt
 
 -- what a line asks for was done
-pub line_answered : {S A R : Type 0} (kind : ScriptKind S A R) (s next : S) (old : Replies) (text : Vec ℕ) (refused : Bool) (number : ℕ) (line : List ℕ) → IsPlain line
-    → IsAnswered kind s line next old.text.items text.items refused → AnswersLine kind s next old (record { text = text; is_refused = old.is_refused || refused }) number line GoesOn
-line_answered kind s next old text refused number line plain h = record {
+pub line_answered : {S A R : Type 0} (kind : ScriptKind S A R) (s next : S) (old new : Replies) (refused : Bool) (number : ℕ) (line : List ℕ) → IsPlain line
+    → IsAnswered kind s line next old.text.items new.text.items refused → new.is_refused ≡ (old.is_refused || refused) → AnswersLine kind s next old new number line GoesOn
+line_answered kind s next old new refused number line plain h same = record {
   given = Replied h.asked h.reply;
   gives = ((plain, h.asks), h.does);
   text = h.text;
-  refused = ap (λ (b : Bool). old.is_refused || b) h.is_refused;
+  refused = same ∙ ap (λ (b : Bool). old.is_refused || b) h.is_refused;
   flow_is = refl;
 }
 
