@@ -74,16 +74,18 @@ impl<A: App, C: Cacheable> Script for WorldScript<A, C> {
         }
     }
 
-    fn find_fault(&self, _alloc: Global, line: &[u8]) -> CommandFault {
+    fn find_fault(&self, alloc: Global, line: &[u8]) -> CommandFault {
+        let _ = alloc;
         find_command_fault(line)
     }
 
     fn close(
         &self,
-        _alloc: Global,
-        _state: &mut World<A, C>,
-        _text: &mut Vec<u8>,
+        alloc: Global,
+        state: &mut World<A, C>,
+        text: &mut Vec<u8>,
     ) -> Result<bool, AllocError> {
+        let _ = (alloc, state, text);
         Ok(false)
     }
 }

@@ -24,7 +24,7 @@ use Rattle.txc_script.specs.Unread.{IsNone}
 use Rattle.txc_script.specs.declared.unread.Unread.{Unread}
 use Rattle.txc_script.specs.declared.unread.Unread.TheVariants as unread
 use Rattle.txc_run.specs.Reading.{IsNoWord, IsNamed, NamesNone, set_reason, unread_reason}
-use Rattle.txc_run.specs.Steps.{Taking, MakesStep, MakesNone}
+use Rattle.txc_run.specs.Steps.{MakesNone}
 use Rattle.txc_run.specs.declared.unread.NoStep.{NoStep}
 use Rattle.txc_run.specs.declared.unread.NoStep.TheVariants as reasons
 use Rattle.txc_script.proofs.Offered.{words_cut, words_alone, has_words, words_are}
@@ -204,16 +204,12 @@ unnamed line op bare s =
     let none : s.0 ≡ [] = cc in
     some_words op (subst (AreWordsAfter op) none s.2)
 
--- a step of that name is one of the line, and the other way round
-pub makes_as : {T : Type 0} (takes : Taking T) (Is Js : Op → Type 0) (r : Result Bool Unread) (c next : Cache) (old new : T) → ((op : Op) → Is op → Js op) → IfOk r (MakesStep takes Is c next old new)
-    → IfOk r (MakesStep takes Js c next old new)
-makes_as takes Is Js (Ok refused) c next old new there h = (h.0, there h.0 h.1, h.2)
-makes_as takes Is Js (Err reason) c next old new there h = tt
-
-pub makes_none_as : {V : Type 0} (Is Js : Op → Type 0) (r : Result V Unread) (c next : Cache) → ((op : Op) → Js op → Is op) → IfErr r (MakesNone Is c next) → IfErr r (MakesNone Js c next)
-makes_none_as Is Js (Ok x) c next back h = tt
-makes_none_as Is Js (Err unread.Malformed) c next back h = (λ op js. h.0 op (back op js), h.1)
-makes_none_as Is Js (Err unread.Memory) c next back h = tt
+-- where no step has that name, the line names none
+pub makes_none_as : {T V : Type 0} (Is Js : Op → Type 0) (r : Result V Unread) (c next : Cache) (old new : T) → ((op : Op) → Js op → Is op) → IfErr r (MakesNone Is c next old new)
+    → IfErr r (MakesNone Js c next old new)
+makes_none_as Is Js (Ok x) c next old new back h = tt
+makes_none_as Is Js (Err unread.Malformed) c next old new back h = (λ op js. h.0 op (back op js), h.1, h.2)
+makes_none_as Is Js (Err unread.Memory) c next old new back h = tt
 
 -- there is no step of another name
 pub no_step : (name text : List ℕ) (op : Op) → (name ≡ codes "insert" → ⊥) → (name ≡ codes "lookup" → ⊥) → (name ≡ codes "event" → ⊥) → (name ≡ codes "sweep" → ⊥) → IsNamed name text op → ⊥

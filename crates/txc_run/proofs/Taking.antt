@@ -1,5 +1,5 @@
 -- What lines gave is taken.
-use Rattle.std.proofs.Common.{◌≡◌, ◌++◌, Bool, true, false, List, ℕ, [], ◌∷◌, Option, Result, Ok, Err, OnOk, IfOk, sym, ap, subst, ◌∙◌}
+use Rattle.std.proofs.Common.{◌≡◌, ◌++◌, Bool, true, false, List, ℕ, [], ◌∷◌, Option, Result, Ok, Err, IfErr, IfOk, sym, ap, subst, inr, ◌∙◌}
 use Rattle.std.specs.Prelude.{if◌then◌else◌}
 use Rattle.std.proofs.lemmas.List.{append-nil}
 use Rattle.txc_node.specs.Cache.{Cache}
@@ -7,11 +7,18 @@ use Rattle.txc_node.specs.declared.hit.Shown.{Shown}
 use Rattle.txc_node.specs.declared.op.Op.{Op}
 use Rattle.txc_node.specs.declared.record.Record.{Record}
 use Rattle.txc_node.specs.declared.reply.Reply.{Reply}
-use Rattle.txc_node.specs.Steps.{is_refusal, function_of, MayReply}
+use Rattle.txc_node.specs.Steps.{is_refusal, MayReply}
+use Rattle.txc_settings.specs.declared.mode.Mode.TheVariants.{Node}
+use Rattle.txc_script.specs.Answers.{IsUnanswered}
 use Rattle.txc_script.specs.Kinds.{Given, Replied}
-use Rattle.txc_run.specs.Counting.{Counts, HasReport}
+use Rattle.txc_script.specs.declared.unread.Unread.{Unread}
+use Rattle.txc_script.specs.declared.unread.Unread.TheVariants.{Malformed, Memory}
+use Rattle.txc_run.specs.Counting.{Counts, counted_script}
+use Rattle.txc_run.specs.Lines.{Spells}
+use Rattle.txc_run.specs.NodeScripts.{node_script}
 use Rattle.txc_run.specs.Reports.{IsReportOf, step_by, steps_in, steps_of}
-use Rattle.txc_run.specs.Steps.{IsFor, Taking, TakesStep}
+use Rattle.txc_run.specs.Steps.{IsFor, MakesNone, Taking, TakesStep}
+use Rattle.txc_run.specs.declared.node.Counted.{Counted}
 use Rattle.txc_run.specs.declared.report.Report.{Report}
 use Rattle.txc_run.proofs.Reporting.{steps_more}
 
@@ -37,3 +44,27 @@ pub taken : {T E : Type 0} (takes : Taking T) (r : Result Bool E) (c next : Cach
     → IfOk r (λ refused. (o : Op) → IsFor function o reply → takes old o reply new) → IfOk r (λ refused. refused ≡ is_refusal reply) → IfOk r (TakesStep takes c op next old new)
 taken takes (Ok refused) c next op reply function old new may is after same = (reply, may, after op is, same)
 taken takes (Err e) c next op reply function old new may is after same = tt
+
+-- ---- lines that name a step
+
+pub on_made : {X E : Type 0} (r : Result X E) (P Q : X → Type 0) → ((x : X) → P x → Q x) → IfOk r P → IfOk r Q
+on_made (Ok x) P Q f h = f x h
+on_made (Err e) P Q f h = tt
+
+pub node_unanswered : {T : Type 0} (r : Result Bool Unread) (c : Cache) (line : List ℕ) (next : Cache) (old new : T) → IfErr r (MakesNone (Spells line) c next old new)
+    → IfErr r (IsUnanswered (node_script Node) c line next)
+node_unanswered (Ok x) c line next old new h = tt
+node_unanswered (Err Malformed) c line next old new h = (h.0, h.1)
+node_unanswered (Err Memory) c line next old new h = inr tt
+
+same_counted : (s : Counted) (node : Cache) (report : Report) → node ≡ s.node → report ≡ s.report → ◌≡◌ {A = Counted} (record { node = node; report = report }) s
+same_counted s node report n r =
+    let a : ◌≡◌ {A = Counted} (record { node = node; report = report }) (record { node = s.node; report = report }) = ap (λ (x : Cache). record s { node = x; report = report }) n in
+    let b : ◌≡◌ {A = Counted} (record { node = s.node; report = report }) s = ap (λ (x : Report). record s { report = x }) r in
+    a ∙ b
+
+pub counted_unanswered : (r : Result Bool Unread) (s : Counted) (line : List ℕ) (node : Cache) (report : Report) → IfErr r (MakesNone (Spells line) s.node node s.report report)
+    → IfErr r (IsUnanswered counted_script s line (record { node = node; report = report }))
+counted_unanswered (Ok x) s line node report h = tt
+counted_unanswered (Err Malformed) s line node report h = (h.0, same_counted s node report h.1 h.2)
+counted_unanswered (Err Memory) s line node report h = inr tt

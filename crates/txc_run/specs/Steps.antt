@@ -25,7 +25,7 @@ TakesStep takes c op next old new refused = (reply : Reply Shown) × MayReply c 
 abbrev pub MakesStep : {T : Type 0} → Taking T → (Op → Type 0) → Cache → Cache → T → T → Bool → Type 0
 MakesStep takes Is c next old new refused = (op : Op) × Is op × TakesStep takes c op next old new refused
 
--- there is no such step, and the cache is as it was; or a growth was refused
-abbrev pub MakesNone : (Op → Type 0) → Cache → Cache → Unread → Type 0
-MakesNone Is c next Malformed = ((op : Op) → Is op → ⊥) × (next ≡ c)
-MakesNone Is c next Memory = ⊤
+-- there is no such step, and nothing changed; or a growth was refused
+abbrev pub MakesNone : {T : Type 0} → (Op → Type 0) → Cache → Cache → T → T → Unread → Type 0
+MakesNone Is c next old new Malformed = ((op : Op) → Is op → ⊥) × (next ≡ c) × (new ≡ old)
+MakesNone Is c next old new Memory = ⊤

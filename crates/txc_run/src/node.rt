@@ -45,10 +45,11 @@ impl Script for Replying {
 
     fn close(
         &self,
-        _alloc: Global,
-        _state: &mut NodeCore,
-        _text: &mut Vec<u8>,
+        alloc: Global,
+        state: &mut NodeCore,
+        text: &mut Vec<u8>,
     ) -> Result<bool, AllocError> {
+        let _ = (alloc, state, text);
         Ok(false)
     }
 }
@@ -67,8 +68,9 @@ impl Script for Counting {
         alloc: Global,
         state: &mut Counted,
         line: &[u8],
-        _text: &mut Vec<u8>,
+        text: &mut Vec<u8>,
     ) -> Result<bool, Unread> {
+        let _ = text;
         make_step(alloc, &mut state.node, line, &mut state.report)
     }
 

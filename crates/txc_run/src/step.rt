@@ -104,7 +104,8 @@ fn make_insertion<T: Taker>(
 ) -> Result<bool, Unread>
     ensures after { IfOk result (MakesStep T.takes (IsNamed (codes "insert") text.now)
         node.old node.new taker.old taker.new) }
-    ensures refused { IfErr result (MakesNone (IsNamed (codes "insert") text.now) node.old node.new) }
+    ensures refused { IfErr result (MakesNone (IsNamed (codes "insert") text.now)
+        node.old node.new taker.old taker.new) }
     ensures unchanged { OnErr result (T.text taker.new ≡ T.text taker.old) }
 {
     match read_insert(alloc, text) {
@@ -131,7 +132,8 @@ fn make_lookup<T: Taker>(
 ) -> Result<bool, Unread>
     ensures after { IfOk result (MakesStep T.takes (IsNamed (codes "lookup") text.now)
         node.old node.new taker.old taker.new) }
-    ensures refused { IfErr result (MakesNone (IsNamed (codes "lookup") text.now) node.old node.new) }
+    ensures refused { IfErr result (MakesNone (IsNamed (codes "lookup") text.now)
+        node.old node.new taker.old taker.new) }
     ensures unchanged { OnErr result (T.text taker.new ≡ T.text taker.old) }
 {
     let (key, lo, hi) = match read_lookup(text) {
@@ -154,7 +156,8 @@ fn make_event<T: Taker>(
 ) -> Result<bool, Unread>
     ensures after { IfOk result (MakesStep T.takes (IsNamed (codes "event") text.now)
         node.old node.new taker.old taker.new) }
-    ensures refused { IfErr result (MakesNone (IsNamed (codes "event") text.now) node.old node.new) }
+    ensures refused { IfErr result (MakesNone (IsNamed (codes "event") text.now)
+        node.old node.new taker.old taker.new) }
     ensures unchanged { OnErr result (T.text taker.new ≡ T.text taker.old) }
 {
     let (stamp, tags) = match read_event(alloc, text) {
@@ -178,7 +181,8 @@ fn make_sweep<T: Taker>(
 ) -> Result<bool, Unread>
     ensures after { IfOk result (MakesStep T.takes (IsNamed (codes "sweep") text.now)
         node.old node.new taker.old taker.new) }
-    ensures refused { IfErr result (MakesNone (IsNamed (codes "sweep") text.now) node.old node.new) }
+    ensures refused { IfErr result (MakesNone (IsNamed (codes "sweep") text.now)
+        node.old node.new taker.old taker.new) }
     ensures unchanged { OnErr result (T.text taker.new ≡ T.text taker.old) }
 {
     let horizon = match read_sweep(text) {
@@ -201,7 +205,8 @@ pub fn make_step<T: Taker>(
 ) -> Result<bool, Unread>
     ensures after { IfOk result (MakesStep T.takes (Spells line.now)
         node.old node.new taker.old taker.new) }
-    ensures refused { IfErr result (MakesNone (Spells line.now) node.old node.new) }
+    ensures refused { IfErr result (MakesNone (Spells line.now)
+        node.old node.new taker.old taker.new) }
     ensures unchanged { OnErr result (T.text taker.new ≡ T.text taker.old) }
 {
     let Some((name, text)) = first_word(line) else {

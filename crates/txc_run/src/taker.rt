@@ -46,9 +46,10 @@ impl Taker for Vec<u8> {
     fn take(
         &mut self,
         alloc: Global,
-        _function: Option<u8>,
+        function: Option<u8>,
         reply: &Reply<Hit<'_>>,
     ) -> Result<bool, AllocError> {
+        let _ = function;
         push_reply(alloc, self, reply)?;
         Ok(reply.is_refusal())
     }
