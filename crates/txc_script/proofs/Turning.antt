@@ -1,14 +1,13 @@
 -- Reads of a run, one after another.
-use Rattle.std.proofs.Common.{◌≡◌, ℕ, ◌+◌, Bool, true, false, ◌||◌, List, [], ◌∷◌, ◌++◌, Option, Result, Ok, Err, arith, length, take, refl, sym, ap, subst, ◌∙◌, inl, inr}
+use Rattle.std.proofs.Common.{◌≡◌, ℕ, ◌+◌, Bool, List, [], ◌∷◌, ◌++◌, Option, Result, Ok, Err, arith, length, take, refl, sym, ap, subst, ◌∙◌, inl, inr}
 use Rattle.std.specs.Prelude.{IsErr, IsErrAnd, MatchBool}
-use Rattle.std.specs.List.{list_any}
 use Rattle.std.specs.Io.KnownBytes.{Appends, Consumes, IsAtEnd}
 use Rattle.std.specs.declared.alloc.AllocError.{AllocError}
 use Rattle.std.proofs.KnownBytes.{Appends-nil, Appends-trans, Appends-kept, Consumes-nil, Consumes-trans}
 use Rattle.std.proofs.lemmas.List.{append-nil, take_all}
 use Rattle.std.proofs.lemmas.List.Elements.{All-nil}
 use Rattle.txc_script.specs.Flows.{status_after}
-use Rattle.txc_script.specs.Kinds.{ScriptKind, Given, AreFirstLines, Closing, Closes, is_malformed, lines_text, no_closing}
+use Rattle.txc_script.specs.Kinds.{ScriptKind, Given, AreFirstLines, Closing, lines_text, no_closing}
 use Rattle.txc_script.specs.Progress.{Progress, progress_of, AnswersAs, EndsAs, EndsFlushed, EndsWith, HasAnswered, HasClosed, IsHalted, IsKeptBeside, IsStopped, TurnsTo}
 use Rattle.txc_script.specs.Runs.{Breaks, After, Within, AtEnd, BreaksOff, Ends, HasRun, HasWritten}
 use Rattle.txc_script.specs.Script.{HasNoEnd}
@@ -65,13 +64,16 @@ halts kind start read at_end written p old new all k = (p.text, all, (k.lines, k
 -- the writer failed
 pub turn_faults : {S A R : Type 0} (kind : ScriptKind S A R) (start : S) (read written : List ℕ) (p : Progress S) (r : Result Flow AllocError) (old new : Option (List ℕ)) → AppendsPrefix old new p.text
     → AnswersAs kind start read written p r → EndsWith kind start read ⊥ written old new (Err Write) p.state
-turn_faults kind start read written p (Ok GoesOn) old new prefix k =
-    (take prefix.0 p.text, prefix.2, (
-      k.lines,
-      k.given,
-      length written + prefix.0,
-      inl (record { end = p.state; answers = k.answers; breaks = After k.rest k.begins refl }, prefix_of written p.text (lines_text kind k.given) prefix.0 k.text),
-    ))
+turn_faults kind start read written p (Ok GoesOn) old new prefix k = (
+  take prefix.0 p.text,
+  prefix.2,
+  (
+    k.lines,
+    k.given,
+    length written + prefix.0,
+    inl (record { end = p.state; answers = k.answers; breaks = After k.rest k.begins refl }, prefix_of written p.text (lines_text kind k.given) prefix.0 k.text),
+  ),
+)
 turn_faults kind start read written p (Ok (Stopped bad)) old new prefix k = stop_faults kind start read ⊥ written bad p old new prefix k
 turn_faults kind start read written p (Err e) old new prefix k = halt_faults kind start read ⊥ written p old new prefix k
 

@@ -6,7 +6,7 @@ use Rattle.std.specs.declared.alloc.AllocError.{AllocError}
 use Rattle.txc_script.specs.Flows.{IsFlowAfter}
 use Rattle.txc_script.specs.Kinds.{ScriptKind, Given, Closing, Closes, EndInFault, Gives, IsWhole, is_malformed, is_refused, line_text, lines_text}
 use Rattle.txc_script.specs.Lines.{IsPlain}
-use Rattle.txc_script.specs.Runs.{Answers, BreaksOff, Ends, HasWritten}
+use Rattle.txc_script.specs.Runs.{Answers, BreaksOff, HasWritten}
 use Rattle.txc_script.specs.Script.{BeginsWithLines, HasNoEnd, AreLinesOf}
 use Rattle.txc_script.specs.declared.fault.RunFault.{RunFault}
 use Rattle.txc_script.specs.declared.fault.RunFault.TheVariants.{Write}

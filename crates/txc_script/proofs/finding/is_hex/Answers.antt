@@ -1,6 +1,6 @@
 use Rattle.std.proofs.Common.{refl, arith}
 use Rattle.std.specs.Prelude.{codes}
-use Rattle.txc_script.proofs.Named.{same_text, other_text}
+use Rattle.txc_script.proofs.Texts.{same_text, other_text}
 use Rattle.txc_script.proofs.WordFaults.{dash_is_hex, no_hex, hex_is_run}
 use Rattle.txc_script.proofs.finding.is_hex.Goals as goal
 

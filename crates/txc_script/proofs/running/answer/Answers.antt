@@ -1,4 +1,4 @@
-use Rattle.std.proofs.Common.{rules, refl, subst, ◌||◌, ◌≡◌}
+use Rattle.std.proofs.Common.{rules, refl, subst, ◌||◌}
 use Rattle.txc_script.specs.Answers.{IsUnanswered}
 use Rattle.txc_script.specs.Lines.{IsPlain}
 use Rattle.txc_script.specs.declared.running.Replies.{Replies}
