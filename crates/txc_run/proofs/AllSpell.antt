@@ -1,41 +1,17 @@
--- A line whose bytes are as they may be, and words that are all of their kinds and spell a step.
-use Rattle.std.proofs.Common.{◌≡◌, ◌+◌, ◌≤◌, ℕ, Bool, true, false, not, suc, cond, Option, Some, None, List, [], ◌∷◌, length, refl, sym, ap, subst, if◌then◌else◌, ◌∙◌, arith}
+-- Words that are all of their kinds spell a step.
+use Rattle.std.proofs.Common.{◌≡◌, ℕ, Bool, true, false, Some, None, List, [], ◌∷◌, refl, sym, ap, subst, if◌then◌else◌}
 use Rattle.std.specs.Prelude.{codes}
 use Rattle.std.specs.Str.{bytes_eq}
-use Rattle.std.specs.List.{All, position, prefix_len, list_any}
-use Rattle.std.proofs.lemmas.Bool.Decides.{nat_tests}
-use Rattle.std.proofs.lemmas.List.Elements.{All-cons}
 use Rattle.std.proofs.lemmas.Slice.Eq.{bytes_eq-Decides}
 use Rattle.txc_node.specs.declared.entry.Entry.{Entry}
 use Rattle.txc_node.specs.declared.op.Op.{Op}
 use Rattle.txc_node.specs.declared.op.Op.TheVariants.{Insert, Lookup, Event, Sweep}
-use Rattle.txc_run.specs.declared.line.TheConstants.{MAX_LINE_LEN}
-use Rattle.txc_run.specs.declared.line_fault.WordKind.{WordKind}
-use Rattle.txc_run.specs.LineFaults.{AreOfKinds, IsCommand, HasWholeWords, insert_kinds, lookup_kinds, event_kinds, sweep_kinds, is_foreign, is_empty}
-use Rattle.txc_run.specs.Lines.{IsPlain, Spells}
-use Rattle.txc_run.specs.Words.{HasWords, words_of}
-use Rattle.txc_run.proofs.Blanks.{has_words}
-use Rattle.txc_run.proofs.Cuts.{at_end}
-
--- ---- bytes
-
-not_foreign : (b : ℕ) → is_foreign b ≡ false → (32 ≤ b) × (b ≤ 126)
-not_foreign b h = (grind (arith, nat_tests), grind (arith, nat_tests))
-
-nowhere : (es : List ℕ) → length es ≤ prefix_len (λ b. not (is_foreign b)) es → All (λ b. (32 ≤ b) × (b ≤ 126)) es
-nowhere [] h = λ k d l. absurd (omega arith)
-nowhere (e ∷ es) h =
-    let rest = prefix_len (λ b. not (is_foreign b)) es in
-    let go : (b : Bool) → is_foreign e ≡ b → suc (length es) ≤ cond (not b) (1 + rest) 0 → All (λ b. (32 ≤ b) × (b ≤ 126)) (e ∷ es) = λ b. elim b as (λ v. is_foreign e ≡ v → suc (length es) ≤ cond (not v) (1 + rest) 0 → All (λ b. (32 ≤ b) × (b ≤ 126)) (e ∷ es)) [ true ↦ (λ _ l. absurd (omega arith)) | false ↦ (λ k l. All-cons (λ b. (32 ≤ b) × (b ≤ 126)) e es (not_foreign e k) (nowhere es (omega arith))) ] in
-    go (is_foreign e) refl h
-
-pub plain_line : (line : List ℕ) (at : Option ℕ) → length line ≤ MAX_LINE_LEN → at ≡ position is_foreign line → at ≡ None → IsPlain line
-plain_line line at few e none = record { few = few; bytes = nowhere line (at_end (prefix_len (λ b. not (is_foreign b)) line) (length line) (sym e ∙ none)) }
-
-pub whole_words : (line : List ℕ) (empty : Bool) → IsPlain line → empty ≡ list_any is_empty (words_of line) → empty ≡ false → HasWholeWords line
-whole_words line empty plain e none = record { plain = plain; none_empty = sym e ∙ none }
-
--- ---- words
+use Rattle.txc_script.specs.declared.line_fault.WordKind.{WordKind}
+use Rattle.txc_script.specs.LineFaults.{AreOfKinds, IsCommand}
+use Rattle.txc_run.specs.NodeScripts.{insert_kinds, lookup_kinds, event_kinds, sweep_kinds, kinds_after}
+use Rattle.txc_run.specs.Lines.{Spells}
+use Rattle.txc_script.specs.Words.{HasWords, words_of}
+use Rattle.txc_script.proofs.Offered.{has_words}
 
 insert_spells : (line : List ℕ) (words : List (List ℕ)) → HasWords line (codes "insert" ∷ words) → AreOfKinds insert_kinds words → (op : Op) × Spells line op
 insert_spells line [] has h = absurd h
@@ -109,6 +85,6 @@ by_name line name words kinds false false false true has is_i is_l is_e is_s kno
     sweep_spells line words (subst (λ (n : List ℕ). HasWords line (n ∷ words)) ((bytes_eq-Decides name (codes "sweep")).0 is_s) has) (subst (λ (ks : List WordKind). AreOfKinds ks words) (sym (same_some sweep_kinds kinds known)) h)
 by_name line name words kinds false false false false has is_i is_l is_e is_s known h = absurd (let no : None ≡ Some kinds = known in cc)
 
-pub all_spell : (line : List ℕ) (words : List (List ℕ)) (kinds : List WordKind) → IsCommand line words kinds → AreOfKinds kinds words → (op : Op) × Spells line op
+pub all_spell : (line : List ℕ) (words : List (List ℕ)) (kinds : List WordKind) → IsCommand kinds_after (words_of line) words kinds → AreOfKinds kinds words → (op : Op) × Spells line op
 all_spell line words kinds is h =
     by_name line is.name words kinds _ _ _ _ (subst (HasWords line) is.are (has_words line)) refl refl refl refl is.known h

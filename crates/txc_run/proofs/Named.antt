@@ -1,8 +1,6 @@
 -- The steps that the words of a line name.
-use Rattle.std.proofs.Common.{◌≡◌, ◌<◌, ◌≤◌, lit<, ℕ, Bool, true, false, List, [], ◌∷◌, ◌++◌, Some, Result, Ok, Err, IfErr, OnOk, get_or, length, refl, arith, sym, ap, subst, ◌∙◌}
+use Rattle.std.proofs.Common.{◌≡◌, ◌<◌, ◌≤◌, lit<, ℕ, Bool, true, false, List, [], ◌∷◌, ◌++◌, Some, Result, Ok, Err, IfErr, IfOk, get_or, length, refl, arith, sym, ap, subst, ◌∙◌}
 use Rattle.std.specs.Prelude.{codes, IsErr, IsErrAnd}
-use Rattle.std.specs.Str.{bytes_eq}
-use Rattle.std.proofs.lemmas.Slice.Eq.{bytes_eq-Decides}
 use Rattle.std.proofs.lemmas.List.{append-nil, length-append}
 use Rattle.txc_tags.specs.declared.tag.Tag.{Tag}
 use Rattle.txc_tags.specs.Keys.{Call}
@@ -18,25 +16,18 @@ use Rattle.txc_node.specs.declared.value.TheConstants.{MAX_VALUE_LEN}
 use Rattle.txc_node.specs.Cache.{Cache}
 use Rattle.txc_node.specs.Steps.{entry_refusal, refusal_by}
 use Rattle.txc_node.proofs.Offered.{entry_has_no_reach, entry_is_too_long}
-use Rattle.txc_run.specs.Words.{HasNoBlank, HasWords, words_of}
-use Rattle.txc_run.specs.Hex.{IsHexWord}
-use Rattle.txc_run.specs.Lines.{IsKeyWord, IsStampWord, IsTagsWord, still_text, AreLookupWords, AreEventWords, AreSweepWords, AreInsertWords, name_of, AreWordsAfter, Spells}
-use Rattle.txc_run.specs.Reading.{IsNoWord, IsNamed, NamesNone, set_reason}
-use Rattle.txc_run.specs.Replies.{MakesStep, MakesNone}
+use Rattle.txc_script.specs.Words.{HasNoBlank, HasWords, words_of}
+use Rattle.txc_script.specs.Hex.{IsHexWord}
+use Rattle.txc_script.specs.Lines.{IsKeyWord, IsStampWord, IsTagsWord, still_text}
+use Rattle.txc_run.specs.Lines.{AreLookupWords, AreEventWords, AreSweepWords, AreInsertWords, name_of, AreWordsAfter, Spells}
+use Rattle.txc_script.specs.Unread.{IsNone}
+use Rattle.txc_script.specs.declared.unread.Unread.{Unread}
+use Rattle.txc_script.specs.declared.unread.Unread.TheVariants as unread
+use Rattle.txc_run.specs.Reading.{IsNoWord, IsNamed, NamesNone, set_reason, unread_reason}
+use Rattle.txc_run.specs.Steps.{MakesNone}
 use Rattle.txc_run.specs.declared.unread.NoStep.{NoStep}
 use Rattle.txc_run.specs.declared.unread.NoStep.TheVariants as reasons
-use Rattle.txc_run.specs.declared.unread.Unanswered.{Unanswered}
-use Rattle.txc_run.specs.declared.unread.Unanswered.TheVariants as unanswered
-use Rattle.txc_run.specs.declared.replies.Replies.{Replies}
-use Rattle.txc_run.proofs.Blanks.{words_cut, words_alone, has_words, words_are}
-
--- ---- texts that are compared
-
-pub same_text : (text other word : List ℕ) (r : Bool) → other ≡ word → r ≡ bytes_eq text other → r ≡ true → text ≡ word
-same_text text other word r is e h = (bytes_eq-Decides text other).0 (sym e ∙ h) ∙ is
-
-pub other_text : (text other word : List ℕ) (r : Bool) → other ≡ word → r ≡ bytes_eq text other → r ≡ false → text ≡ word → ⊥
-other_text text other word r is e h same = let k : r ≡ true = e ∙ (bytes_eq-Decides text other).1 (same ∙ sym is) in cc
+use Rattle.txc_script.proofs.Offered.{words_cut, words_alone, has_words, words_are}
 
 -- ---- what is refused
 
@@ -67,12 +58,11 @@ tags_unread (Err reason) Is word (sets.BadTag bad) h refused some =
     subst (NamesNone Is) (sym h.1) (λ op is. let tags = some op is in refused.1 (tags.1.0, tags.1.1))
 tags_unread (Err reason) Is word (sets.Memory error) h refused some = subst (NamesNone Is) (sym h.1) tt
 
-pub word_unread : {T V : Type 0} (r : Result T NoStep) (Is : Op → Type 0) (IsWord : V → Type 0) (error : NoStep) → IsErr r × IsErrAnd r (λ reason. reason ≡ error) → IsNoWord IsWord error
+pub word_unread : {T V : Type 0} (r : Result T NoStep) (Is : Op → Type 0) (IsWord : V → Type 0) (error : Unread) → IsErr r × IsErrAnd r (λ reason. reason ≡ unread_reason error) → IsNone IsWord error
     → ((op : Op) → Is op → (v : V) × IsWord v) → IfErr r (NamesNone Is)
 word_unread (Ok x) Is IsWord error h refused some = tt
-word_unread (Err reason) Is IsWord reasons.Malformed h refused some = subst (NamesNone Is) (sym h.1) (λ op is. let v = some op is in refused v.0 v.1)
-word_unread (Err reason) Is IsWord (reasons.Unmade error) h refused some = absurd refused
-word_unread (Err reason) Is IsWord reasons.Memory h refused some = subst (NamesNone Is) (sym h.1) tt
+word_unread (Err reason) Is IsWord unread.Malformed h refused some = subst (NamesNone Is) (sym h.1) (λ op is. let v = some op is in refused v.0 v.1)
+word_unread (Err reason) Is IsWord unread.Memory h refused some = subst (NamesNone Is) (sym h.1) tt
 
 pub unmade : {T : Type 0} (r : Result T NoStep) (Is : Op → Type 0) (e : Entry) (error : EntryError) → IsErr r × IsErrAnd r (λ reason. reason ≡ reasons.Unmade error) → Is (Insert e)
     → entry_refusal e ≡ Some (refusal_by error) → IfErr r (NamesNone Is)
@@ -214,16 +204,12 @@ unnamed line op bare s =
     let none : s.0 ≡ [] = cc in
     some_words op (subst (AreWordsAfter op) none s.2)
 
--- a step of that name is one of the line, and the other way round
-pub makes_as : {T : Type 0} (Is Js : Op → Type 0) (r : Result T Unanswered) (c next : Cache) (old new : Replies) → ((op : Op) → Is op → Js op) → OnOk r (MakesStep Is c next old new) → OnOk r (MakesStep Js c next old new)
-makes_as Is Js (Ok x) c next old new there h = (h.0, there h.0 h.1, h.2)
-makes_as Is Js (Err reason) c next old new there h = tt
-
-pub makes_none_as : {T : Type 0} (Is Js : Op → Type 0) (r : Result T Unanswered) (c next : Cache) (old new : Replies) → ((op : Op) → Js op → Is op) → IfErr r (MakesNone Is c next old new)
+-- where no step has that name, the line names none
+pub makes_none_as : {T V : Type 0} (Is Js : Op → Type 0) (r : Result V Unread) (c next : Cache) (old new : T) → ((op : Op) → Js op → Is op) → IfErr r (MakesNone Is c next old new)
     → IfErr r (MakesNone Js c next old new)
 makes_none_as Is Js (Ok x) c next old new back h = tt
-makes_none_as Is Js (Err unanswered.Malformed) c next old new back h = (λ op js. h.0 op (back op js), h.1, h.2)
-makes_none_as Is Js (Err unanswered.Memory) c next old new back h = tt
+makes_none_as Is Js (Err unread.Malformed) c next old new back h = (λ op js. h.0 op (back op js), h.1, h.2)
+makes_none_as Is Js (Err unread.Memory) c next old new back h = tt
 
 -- there is no step of another name
 pub no_step : (name text : List ℕ) (op : Op) → (name ≡ codes "insert" → ⊥) → (name ≡ codes "lookup" → ⊥) → (name ≡ codes "event" → ⊥) → (name ≡ codes "sweep" → ⊥) → IsNamed name text op → ⊥

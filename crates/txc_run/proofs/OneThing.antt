@@ -16,10 +16,11 @@ use Rattle.txc_node.specs.declared.op.Op.{Op}
 use Rattle.txc_node.specs.declared.op.Op.TheVariants.{Insert, Lookup, Event, Sweep}
 use Rattle.txc_node.specs.Steps.{entry_refusal, refusal_by}
 use Rattle.txc_node.specs.Texts.{digit_of, digits_of}
-use Rattle.txc_run.specs.Hex.{IsHexWord}
-use Rattle.txc_run.specs.Lines.{IsKeyWord, IsStampWord, IsTagsWord, still_text, AreLookupWords, AreEventWords, AreSweepWords, AreInsertWords, AreWordsAfter, name_of, Spells, IsQuiet, IsStepLine}
+use Rattle.txc_script.specs.Hex.{IsHexWord}
+use Rattle.txc_script.specs.Lines.{IsKeyWord, IsStampWord, IsTagsWord, still_text, IsQuiet}
+use Rattle.txc_run.specs.Lines.{AreLookupWords, AreEventWords, AreSweepWords, AreInsertWords, AreWordsAfter, name_of, Spells, IsStepLine}
 use Rattle.txc_run.specs.Reading.{Line, Quiet, Step, Unmade, Malformed, IsLine, CanBeMade}
-use Rattle.txc_run.proofs.Blanks.{words_are}
+use Rattle.txc_script.proofs.Offered.{words_are}
 
 -- ---- a word has one meaning
 
@@ -189,10 +190,10 @@ one_thing line Quiet (Unmade b) h k = absurd (no_quiet_step line (Insert k.0) h 
 one_thing line Quiet Malformed h k = absurd (k.not_quiet h)
 one_thing line (Step a) Quiet h k = absurd (no_quiet_step line a k h.0)
 one_thing line (Step a) (Unmade b) h k = absurd (made_unmade line a k.0 b h k.1 k.2)
-one_thing line (Step a) Malformed h k = absurd (k.no_step a h.0)
+one_thing line (Step a) Malformed h k = absurd (k.asks_nothing a h.0)
 one_thing line (Unmade a) Quiet h k = absurd (no_quiet_step line (Insert h.0) k h.1)
 one_thing line (Unmade a) (Step b) h k = absurd (made_unmade line b h.0 a k h.1 h.2)
-one_thing line (Unmade a) Malformed h k = absurd (k.no_step (Insert h.0) h.1)
+one_thing line (Unmade a) Malformed h k = absurd (k.asks_nothing (Insert h.0) h.1)
 one_thing line Malformed Quiet h k = absurd (h.not_quiet k)
-one_thing line Malformed (Step b) h k = absurd (h.no_step b k.0)
-one_thing line Malformed (Unmade b) h k = absurd (h.no_step (Insert k.0) k.1)
+one_thing line Malformed (Step b) h k = absurd (h.asks_nothing b k.0)
+one_thing line Malformed (Unmade b) h k = absurd (h.asks_nothing (Insert k.0) k.1)

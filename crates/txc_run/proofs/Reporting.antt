@@ -16,7 +16,8 @@ use Rattle.txc_node.specs.declared.reply.Reply.{Reply}
 use Rattle.txc_node.specs.declared.reply.Reply.TheVariants as replies
 use Rattle.txc_node.specs.Counts.{Totals, AreCountsOf, counts_for, counts_of, sum_of, step_counts, events_by, closed_by, swept_by}
 use Rattle.txc_node.specs.Steps.{function_of, seen_reply}
-use Rattle.txc_run.specs.Given.{Given}
+use Rattle.txc_node.specs.declared.hit.Shown.{Shown}
+use Rattle.txc_script.specs.Kinds.{Given}
 use Rattle.txc_run.specs.Reports.{IsReportOf, before_others, counts_in, functions_named, functions_text, function_line, step_by, steps_in, steps_of, steps_report, total_line, with_name}
 
 -- the counts of one step more
@@ -161,7 +162,7 @@ report_is steps names t h =
 
 -- ---- what lines give
 
-pub steps_more : (given : List Given) (g : Given) → steps_of (given ++ g ∷ []) ≡ steps_of given ++ steps_in g
+pub steps_more : (given : List (Given Op (Reply Shown))) (g : Given Op (Reply Shown)) → steps_of (given ++ g ∷ []) ≡ steps_of given ++ steps_in g
 steps_more given g = flat_map-append steps_in given (g ∷ []) ∙ ap (λ (xs : List Record). steps_of given ++ xs) (append-nil (steps_in g))
 
 pub on_ok : {T E : Type 0} (r : Result T E) (P Q : Type 0) → (P → Q) → OnOk r P → OnOk r Q

@@ -1,5 +1,5 @@
 -- What lines gave is taken.
-use Rattle.std.proofs.Common.{◌≡◌, ◌++◌, Bool, true, false, List, ℕ, [], ◌∷◌, Option, Some, None, Result, OnOk, sym, ap, subst, ◌∙◌}
+use Rattle.std.proofs.Common.{◌≡◌, ◌++◌, Bool, true, false, List, ℕ, [], ◌∷◌, Option, Result, Ok, Err, IfErr, IfOk, sym, ap, subst, inr, ◌∙◌}
 use Rattle.std.specs.Prelude.{if◌then◌else◌}
 use Rattle.std.proofs.lemmas.List.{append-nil}
 use Rattle.txc_node.specs.Cache.{Cache}
@@ -8,32 +8,63 @@ use Rattle.txc_node.specs.declared.op.Op.{Op}
 use Rattle.txc_node.specs.declared.record.Record.{Record}
 use Rattle.txc_node.specs.declared.reply.Reply.{Reply}
 use Rattle.txc_node.specs.Steps.{is_refusal, MayReply}
-use Rattle.txc_run.specs.Given.{Given, Replied}
+use Rattle.txc_settings.specs.declared.mode.Mode.TheVariants.{Node}
+use Rattle.txc_script.specs.Answers.{IsUnanswered}
+use Rattle.txc_script.specs.Kinds.{Given, Replied}
+use Rattle.txc_script.specs.declared.unread.Unread.{Unread}
+use Rattle.txc_script.specs.declared.unread.Unread.TheVariants.{Malformed, Memory}
+use Rattle.txc_run.specs.Counting.{Counts, counted_script}
+use Rattle.txc_run.specs.Lines.{Spells}
+use Rattle.txc_run.specs.NodeScripts.{node_script}
 use Rattle.txc_run.specs.Reports.{IsReportOf, step_by, steps_in, steps_of}
-use Rattle.txc_run.specs.Replies.{HasReport, IsFor, Takes, TakesStep}
-use Rattle.txc_run.specs.declared.replies.Replies.{Replies}
+use Rattle.txc_run.specs.Steps.{IsFor, MakesNone, Taking, TakesStep}
+use Rattle.txc_run.specs.declared.node.Counted.{Counted}
 use Rattle.txc_run.specs.declared.report.Report.{Report}
-use Rattle.txc_run.proofs.Reporting.{on_ok, steps_more}
+use Rattle.txc_run.proofs.Reporting.{steps_more}
 
--- a line that names no step which is not refused counts nothing
-pub none_counted : (given : List Given) (g : Given) (report : Option Report) → steps_in g ≡ [] → HasReport given report → HasReport (given ++ g ∷ []) report
-none_counted given g None none h = tt
-none_counted given g (Some report) none h =
-    subst (λ (steps : List Record). IsReportOf steps report.functions.keys report.counts) (sym (steps_more given g ∙ ap (λ (xs : List Record). steps_of given ++ xs) none ∙ append-nil (steps_of given))) h
+-- a step that is refused counts nothing
+refused_in : (op : Op) (reply : Reply Shown) → is_refusal reply ≡ true → steps_in (Replied op reply) ≡ []
+refused_in op reply refused = ap (λ (b : Bool). if b then [] else step_by op reply ∷ []) refused
 
-pub refused_counts_none : (op : Op) (reply : Reply Shown) → is_refusal reply ≡ true → steps_in (Replied op reply) ≡ []
-refused_counts_none op reply refused = ap (λ (b : Bool). if b then [] else step_by op reply ∷ []) refused
+pub refused_counted : (report : Report) (op : Op) (reply : Reply Shown) → is_refusal reply ≡ true → Counts report op reply report
+refused_counted report op reply refused given h =
+    subst (λ (steps : List Record). IsReportOf steps report.functions.keys report.counts)
+    (sym (steps_more given (Replied op reply) ∙ ap (λ (xs : List Record). steps_of given ++ xs) (refused_in op reply refused) ∙ append-nil (steps_of given))) h
 
 -- a step that is not refused is counted
-pub one_counted : (given : List Given) (op : Op) (reply : Reply Shown) (old new : Report) → is_refusal reply ≡ false → IsReportOf (steps_of given) old.functions.keys old.counts
-    → ((steps : List Record) → IsReportOf steps old.functions.keys old.counts → IsReportOf (steps ++ step_by op reply ∷ []) new.functions.keys new.counts)
-    → IsReportOf (steps_of (given ++ Replied op reply ∷ [])) new.functions.keys new.counts
-one_counted given op reply old new kept h counts =
+pub one_counted : (old new : Report) (op : Op) (reply : Reply Shown) → is_refusal reply ≡ false
+    → ((steps : List Record) → IsReportOf steps old.functions.keys old.counts → IsReportOf (steps ++ step_by op reply ∷ []) new.functions.keys new.counts) → Counts old op reply new
+one_counted old new op reply kept counts given h =
     let one : steps_in (Replied op reply) ≡ step_by op reply ∷ [] = ap (λ (b : Bool). if b then [] else step_by op reply ∷ []) kept in
     subst (λ (steps : List Record). IsReportOf steps new.functions.keys new.counts) (sym (steps_more given (Replied op reply) ∙ ap (λ (xs : List Record). steps_of given ++ xs) one))
     (counts (steps_of given) h)
 
 -- the reply to a step was taken
-pub taken : {T E : Type 0} (r : Result T E) (c next : Cache) (op : Op) (reply : Reply Shown) (function : Option ℕ) (old new : Replies) → MayReply c op reply next → IsFor function op reply
-    → OnOk r ((o : Op) → IsFor function o reply → Takes old new (Replied o reply)) → OnOk r (TakesStep c op next old new)
-taken r c next op reply function old new may is after = on_ok r _ _ (λ takes. (reply, may, takes op is)) after
+pub taken : {T E : Type 0} (takes : Taking T) (r : Result Bool E) (c next : Cache) (op : Op) (reply : Reply Shown) (function : Option ℕ) (old new : T) → MayReply c op reply next → IsFor function op reply
+    → IfOk r (λ refused. (o : Op) → IsFor function o reply → takes old o reply new) → IfOk r (λ refused. refused ≡ is_refusal reply) → IfOk r (TakesStep takes c op next old new)
+taken takes (Ok refused) c next op reply function old new may is after same = (reply, may, after op is, same)
+taken takes (Err e) c next op reply function old new may is after same = tt
+
+-- ---- lines that name a step
+
+pub on_made : {X E : Type 0} (r : Result X E) (P Q : X → Type 0) → ((x : X) → P x → Q x) → IfOk r P → IfOk r Q
+on_made (Ok x) P Q f h = f x h
+on_made (Err e) P Q f h = tt
+
+pub node_unanswered : {T : Type 0} (r : Result Bool Unread) (c : Cache) (line : List ℕ) (next : Cache) (old new : T) → IfErr r (MakesNone (Spells line) c next old new)
+    → IfErr r (IsUnanswered (node_script Node) c line next)
+node_unanswered (Ok x) c line next old new h = tt
+node_unanswered (Err Malformed) c line next old new h = (h.0, h.1)
+node_unanswered (Err Memory) c line next old new h = inr tt
+
+same_counted : (s : Counted) (node : Cache) (report : Report) → node ≡ s.node → report ≡ s.report → ◌≡◌ {A = Counted} (record { node = node; report = report }) s
+same_counted s node report n r =
+    let a : ◌≡◌ {A = Counted} (record { node = node; report = report }) (record { node = s.node; report = report }) = ap (λ (x : Cache). record s { node = x; report = report }) n in
+    let b : ◌≡◌ {A = Counted} (record { node = s.node; report = report }) s = ap (λ (x : Report). record s { report = x }) r in
+    a ∙ b
+
+pub counted_unanswered : (r : Result Bool Unread) (s : Counted) (line : List ℕ) (node : Cache) (report : Report) → IfErr r (MakesNone (Spells line) s.node node s.report report)
+    → IfErr r (IsUnanswered counted_script s line (record { node = node; report = report }))
+counted_unanswered (Ok x) s line node report h = tt
+counted_unanswered (Err Malformed) s line node report h = (h.0, same_counted s node report h.1 h.2)
+counted_unanswered (Err Memory) s line node report h = inr tt

@@ -5,10 +5,14 @@ use Rattle.txc_node.specs.declared.op.Op.{Op}
 use Rattle.txc_node.specs.declared.refusal.Refusal.TheVariants.{Memory}
 use Rattle.txc_node.specs.declared.reply.Reply.TheVariants.{Refused}
 use Rattle.txc_node.specs.Cache.{Cache}
-use Rattle.txc_run.specs.Lines.{IsQuiet, IsStepLine}
+use Rattle.txc_node.specs.declared.hit.Shown.{Shown}
+use Rattle.txc_node.specs.declared.reply.Reply.{Reply}
+use Rattle.txc_settings.specs.declared.mode.Mode.{Mode}
+use Rattle.txc_script.specs.Kinds.{Given, Replied, AreGiven}
+use Rattle.txc_script.specs.Lines.{IsQuiet}
+use Rattle.txc_run.specs.Lines.{IsStepLine}
+use Rattle.txc_run.specs.NodeScripts.{node_script}
 use Rattle.txc_run.specs.Reading.{Line, IsLine}
-use Rattle.txc_run.specs.Given.{Given, Replied, node_script}
-use Rattle.txc_run.specs.Kinds.{AreGiven}
 
 -- no line without a reply names a step
 abbrev pub NoQuietLineNamesAStep : Type 0
@@ -23,12 +27,14 @@ abbrev pub IsOneThing : Type 0
 IsOneThing = (line : List ℕ) (a b : Line) → IsLine line a → IsLine line b → a ≡ b
 
 -- no step was refused for memory
-abbrev pub HadMemory : List Given → Type 0
+abbrev pub HadMemory : List (Given Op (Reply Shown)) → Type 0
 HadMemory given = All (λ g. (op : Op) → g ≢ Replied op (Refused Memory)) given
 
 -- Lines that are answered from one state, where no step is refused for memory, are answered in one way: they
 -- give the same, and leave the same state.
 abbrev pub AreAnsweredOneWay : Type 0
-AreAnsweredOneWay = (c : Cache) (number : ℕ) (lines : List (List ℕ)) (a b : List Given) (end other : Cache)
-    → AreGiven node_script c number lines a end → AreGiven node_script c number lines b other → HadMemory a → HadMemory b
+AreAnsweredOneWay = (mode : Mode) (c : Cache) (number : ℕ) (lines : List (List ℕ))
+    (a b : List (Given Op (Reply Shown))) (end other : Cache)
+    → AreGiven (node_script mode) c number lines a end → AreGiven (node_script mode) c number lines b other
+    → HadMemory a → HadMemory b
     → (a ≡ b) × (end ≡ other)

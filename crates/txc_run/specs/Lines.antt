@@ -1,38 +1,13 @@
--- What a line is: the grammar of a script's lines, given by how each word is written.
-use Rattle.std.specs.Prelude.{◌≡◌, ℕ, ◌≤◌, Bool, true, false, List, [], ◌∷◌, length, codes}
-use Rattle.std.specs.List.{All}
-use Rattle.std.specs.Fmt.{decimal}
-use Rattle.txc_stamp.specs.declared.stamp.TheConstants.{LAST_STAMP}
+-- What the lines of a node's script are, given by how each word is written.
+use Rattle.std.specs.Prelude.{◌≡◌, ℕ, List, [], ◌∷◌, codes}
 use Rattle.txc_tags.specs.declared.tag.Tag.{Tag}
 use Rattle.txc_tags.specs.Keys.{Call}
-use Rattle.txc_tags.specs.TextGrammar.{IsTextOf}
-use Rattle.txc_tags.specs.TextKey.{key_text, IsKeyInRange}
-use Rattle.txc_tags.specs.TextSet.{IsSetOfText}
 use Rattle.txc_node.specs.declared.entry.Entry.{Entry}
 use Rattle.txc_node.specs.declared.op.Op.{Op}
 use Rattle.txc_node.specs.declared.op.Op.TheVariants.{Insert, Lookup, Event, Sweep}
-use Rattle.txc_run.specs.declared.line.TheConstants.{MAX_LINE_LEN}
-use Rattle.txc_run.specs.Hex.{IsHexWord}
-use Rattle.txc_run.specs.Words.{HasWords}
-
--- ---- words
-
--- the text of a key
-abbrev pub IsKeyWord : List ℕ → Call → Type 0
-IsKeyWord word key = IsTextOf IsKeyInRange key_text word key
-
--- a stamp is a number of at most the last one
-abbrev pub IsStampWord : List ℕ → ℕ → Type 0
-IsStampWord word stamp = IsTextOf (λ n. n ≤ LAST_STAMP) decimal word stamp
-
--- tags in any order and with repeats; the set is what adding them one after the other gives
-abbrev pub IsTagsWord : List ℕ → List Tag → Type 0
-IsTagsWord word tags = IsSetOfText word tags
-
--- the word for a reach that is still valid, or is not
-abbrev pub still_text : Bool → List ℕ
-still_text true = codes "still"
-still_text false = codes "closed"
+use Rattle.txc_script.specs.Hex.{IsHexWord}
+use Rattle.txc_script.specs.Lines.{IsKeyWord, IsPlain, IsStampWord, IsTagsWord, still_text}
+use Rattle.txc_script.specs.Words.{HasWords}
 
 -- ---- steps
 
@@ -98,29 +73,6 @@ Spells line op = (words : List (List ℕ)) × HasWords line (name_of op ∷ word
 
 -- ---- lines
 
--- a script may have each of these bytes
-abbrev pub ArePlain : List ℕ → Type 0
-ArePlain bytes = All (λ b. (32 ≤ b) × (b ≤ 126)) bytes
-
--- few bytes, each from 0x20 to 0x7E
-pub record IsPlain (line : List ℕ) : Type 0 where
-  pub few : length line ≤ MAX_LINE_LEN
-  pub bytes : ArePlain line
-
--- empty, or a comment, which begins with `#`
-abbrev pub IsBlankOrComment : List ℕ → Type 0
-IsBlankOrComment [] = Unit {0}
-IsBlankOrComment (b ∷ bytes) = b ≡ 35
-
--- a line that has no reply
-abbrev pub IsQuiet : List ℕ → Type 0
-IsQuiet line = IsPlain line × IsBlankOrComment line
-
 -- a line that names a step
 abbrev pub IsStepLine : List ℕ → Op → Type 0
 IsStepLine line op = IsPlain line × Spells line op
-
--- a line that is neither
-pub record IsMalformed (line : List ℕ) : Type 0 where
-  pub not_quiet : IsQuiet line → ⊥
-  pub no_step : (op : Op) → IsStepLine line op → ⊥

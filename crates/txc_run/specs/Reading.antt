@@ -7,7 +7,13 @@ use Rattle.txc_node.specs.declared.entry.EntryError.{EntryError}
 use Rattle.txc_node.specs.declared.op.Op.{Op}
 use Rattle.txc_node.specs.declared.op.Op.TheVariants.{Insert, Lookup, Event, Sweep}
 use Rattle.txc_node.specs.Steps.{refusal_by, entry_refusal}
-use Rattle.txc_run.specs.Lines.{IsQuiet, IsStepLine, IsMalformed, IsTextAfter, name_of}
+use Rattle.txc_settings.specs.declared.mode.Mode.TheVariants.{Node}
+use Rattle.txc_script.specs.Kinds.{IsMalformed}
+use Rattle.txc_script.specs.Lines.{IsQuiet}
+use Rattle.txc_script.specs.declared.unread.Unread.{Unread}
+use Rattle.txc_script.specs.declared.unread.Unread.TheVariants as unread
+use Rattle.txc_run.specs.Lines.{IsStepLine, IsTextAfter, name_of}
+use Rattle.txc_run.specs.NodeScripts.{node_script}
 use Rattle.txc_run.specs.declared.unread.NoStep.{NoStep}
 use Rattle.txc_run.specs.declared.unread.NoStep.TheVariants as reasons
 
@@ -15,6 +21,11 @@ use Rattle.txc_run.specs.declared.unread.NoStep.TheVariants as reasons
 abbrev pub set_reason : SetError → NoStep
 set_reason (sets.BadTag bad) = reasons.Malformed
 set_reason (sets.Memory error) = reasons.Memory
+
+-- the reason that a word which was not read gives
+abbrev pub unread_reason : Unread → NoStep
+unread_reason unread.Malformed = reasons.Malformed
+unread_reason unread.Memory = reasons.Memory
 
 -- a malformed text is none of these; its reading asks for no entry; a growth may be refused
 abbrev pub IsNoWord : {V : Type 0} → (V → Type 0) → NoStep → Type 0
@@ -59,4 +70,4 @@ abbrev pub IsLine : List ℕ → Line → Type 0
 IsLine bytes Quiet = IsQuiet bytes
 IsLine bytes (Step op) = NamesStep (IsStepLine bytes) op
 IsLine bytes (Unmade error) = IsUnmade (IsStepLine bytes) error
-IsLine bytes Malformed = IsMalformed bytes
+IsLine bytes Malformed = IsMalformed (node_script Node) bytes

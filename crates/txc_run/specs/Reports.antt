@@ -9,7 +9,7 @@ use Rattle.txc_node.specs.declared.record.Record.{Record}
 use Rattle.txc_node.specs.declared.reply.Reply.{Reply}
 use Rattle.txc_node.specs.Counts.{Totals, AreCountsOf, step_counts, events_by, closed_by, swept_by}
 use Rattle.txc_node.specs.Steps.{is_refusal, function_of}
-use Rattle.txc_run.specs.Given.{Given, Nothing, Replied, Malformed}
+use Rattle.txc_script.specs.Kinds.{Given, Nothing, Replied, Malformed}
 
 -- ---- what is counted
 
@@ -18,12 +18,12 @@ abbrev pub step_by : Op → Reply Shown → Record
 step_by op reply = record { pass = 0; turn = 0; op = op; reply = reply }
 
 -- the steps that lines name which are not refused
-abbrev pub steps_in : Given → List Record
+abbrev pub steps_in : Given Op (Reply Shown) → List Record
 steps_in Nothing = []
 steps_in (Replied op reply) = if is_refusal reply then [] else step_by op reply ∷ []
 steps_in (Malformed number) = []
 
-abbrev pub steps_of : List Given → List Record
+abbrev pub steps_of : List (Given Op (Reply Shown)) → List Record
 steps_of given = flat_map steps_in given
 
 -- what the steps count for a function
@@ -79,7 +79,7 @@ steps_report steps =
     ++ total_line (sum_by (λ s. events_by s.reply) steps) (sum_by (λ s. closed_by s.reply) steps)
     (sum_by (λ s. swept_by s.reply) steps)
 
-abbrev pub report_text : List Given → List ℕ
+abbrev pub report_text : List (Given Op (Reply Shown)) → List ℕ
 report_text given = steps_report (steps_of given)
 
 -- ---- only private functions need these: a report in progress

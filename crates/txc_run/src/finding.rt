@@ -1,18 +1,13 @@
-//! Finding what is wrong with a malformed line.
-ghost use Rattle.std.specs.Prelude.{◌≡◌, ◌↔◌, ℕ, List, Some, None, IfSome, IfNone, IfOk, IfErr, OnOk, OnErr, position, length, IsTrue};
-ghost use Rattle.std.specs.List.{list_any};
-ghost use Rattle.txc_run.specs.Lines.{IsMalformed};
-ghost use Rattle.txc_run.specs.Words.{words_of, words_left};
-ghost use Rattle.txc_run.specs.LineFaults.{IsOfKind, AreOfKinds, kinds_after, is_foreign, is_empty, IsHex, IsRun, StopsAt, IsBadWord, IsFaultOf};
+//! Finding what is wrong with the words of a malformed line.
+ghost use Rattle.std.specs.Prelude.{◌≡◌, Some, None, IfSome, IfNone};
+ghost use Rattle.txc_node.specs.declared.op.Op.{Op};
+ghost use Rattle.txc_script.specs.LineFaults.{HasWholeWords, IsCommandFault};
+ghost use Rattle.txc_script.specs.Words.{words_of};
+ghost use Rattle.txc_run.specs.Lines.{Spells};
+ghost use Rattle.txc_run.specs.NodeScripts.{kinds_after};
 
-use crate::excerpt::Excerpt;
-use crate::hex::read_byte;
-use crate::line::MAX_LINE_LEN;
-use crate::line_fault::{LineFault, WordFault, WordKind};
-use crate::reading::{read_stamp, read_still};
-use crate::words::{WordsLeft, all_words, count_words};
 use std::alloc::Global;
-use txc_tags::{Key, SetError, TagSet};
+use txc_script::{CommandFault, Excerpt, WordKind, all_words, bad_word, count_words};
 
 static INSERT_WORDS: [WordKind; 6] = [
     WordKind::Key,
@@ -49,189 +44,26 @@ fn words_after(name: &[u8]) -> Option<&'static [WordKind]>
     None
 }
 
-/// Whether the text is digits in pairs.
-fn are_digits(text: &[u8]) -> bool
-    ensures { IsTrue result ↔ IsRun text.now }
+/// What is wrong with the words of a line that names no step. Where memory is refused the answer is the same.
+pub fn find_command_fault(alloc: Global, line: &[u8]) -> CommandFault
+    requires whole { HasWholeWords line.now }
+    requires no_step { (op : Op) → Spells line.now op → ⊥ }
+    ensures { IsCommandFault kinds_after (words_of line.now) result }
 {
-    let mut rest = text;
-    'digits: loop {
-        match rest {
-            [] => return true,
-            [_] => return false,
-            [high, low, after @ ..] => {
-                match read_byte(*high, *low) {
-                    None => return false,
-                    Some(_) => rest = after,
-                }
-            }
-        }
-    }
-}
-
-/// Whether the word is the spelling of bytes. It takes no memory.
-fn is_hex(word: &[u8]) -> bool
-    ensures { IsTrue result ↔ IsHex word.now }
-{
-    if word == b"-".as_slice() {
-        return true;
-    }
-    if word.is_empty() {
-        return false;
-    }
-    are_digits(word)
-}
-
-/// Whether the word is a key; if not, where it goes wrong.
-fn test_key(word: &[u8]) -> Result<(), Option<usize>>
-    ensures answer { OnOk result (IsOfKind WordKind.Key word.now) }
-    ensures refused { OnErr result (IsOfKind WordKind.Key word.now → ⊥) }
-    ensures stop { IfErr result (StopsAt WordKind.Key word.now) }
-{
-    match Key::read(word) {
-        Ok(_) => Ok(()),
-        Err(bad) => Err(Some(bad.at)),
-    }
-}
-
-/// Whether the word is tags; if not, where it goes wrong.
-fn test_tags(alloc: Global, word: &[u8]) -> Result<(), Option<usize>>
-    ensures answer { OnOk result (IsOfKind WordKind.Tags word.now) }
-    ensures refused { OnErr result (IsOfKind WordKind.Tags word.now → ⊥) }
-    ensures stop { IfErr result (StopsAt WordKind.Tags word.now) }
-{
-    match TagSet::read(alloc, word) {
-        Ok(_) => Ok(()),
-        Err(SetError::BadTag(bad)) => Err(Some(bad.at)),
-        // Memory is refused only for a word that is tags.
-        Err(SetError::Memory(_)) => Ok(()),
-    }
-}
-
-/// Whether the word is a stamp.
-fn test_stamp(word: &[u8]) -> Result<(), Option<usize>>
-    ensures answer { OnOk result (IsOfKind WordKind.Stamp word.now) }
-    ensures refused { OnErr result (IsOfKind WordKind.Stamp word.now → ⊥) }
-    ensures stop { IfErr result (StopsAt WordKind.Stamp word.now) }
-{
-    match read_stamp(word) {
-        Ok(_) => Ok(()),
-        Err(_) => Err(None),
-    }
-}
-
-/// Whether the word is `still` or `closed`.
-fn test_still(word: &[u8]) -> Result<(), Option<usize>>
-    ensures answer { OnOk result (IsOfKind WordKind.Reach word.now) }
-    ensures refused { OnErr result (IsOfKind WordKind.Reach word.now → ⊥) }
-    ensures stop { IfErr result (StopsAt WordKind.Reach word.now) }
-{
-    match read_still(word) {
-        Ok(_) => Ok(()),
-        Err(_) => Err(None),
-    }
-}
-
-/// Whether the word is bytes.
-fn test_hex(word: &[u8]) -> Result<(), Option<usize>>
-    ensures answer { OnOk result (IsOfKind WordKind.Bytes word.now) }
-    ensures refused { OnErr result (IsOfKind WordKind.Bytes word.now → ⊥) }
-    ensures stop { IfErr result (StopsAt WordKind.Bytes word.now) }
-{
-    if is_hex(word) { Ok(()) } else { Err(None) }
-}
-
-/// Whether the word is of its kind; if not, where a key or tags go wrong.
-fn test_word(alloc: Global, kind: WordKind, word: &[u8]) -> Result<(), Option<usize>>
-    ensures answer { OnOk result (IsOfKind kind word.now) }
-    ensures refused { OnErr result (IsOfKind kind word.now → ⊥) }
-    ensures stop { IfErr result (StopsAt kind word.now) }
-{
-    match kind {
-        WordKind::Key => test_key(word),
-        WordKind::Stamp => test_stamp(word),
-        WordKind::Reach => test_still(word),
-        WordKind::Tags => test_tags(alloc, word),
-        WordKind::Bytes => test_hex(word),
-    }
-}
-
-/// The first of the words that is not of its kind.
-fn bad_word(alloc: Global, kinds: &[WordKind], words: WordsLeft<'_>) -> Option<WordFault>
-    requires { length (words_left words) ≡ length kinds.now }
-    ensures answer { IfSome result (IsBadWord kinds.now (words_left words.entry)) }
-    ensures refused { IfNone result (AreOfKinds kinds.now (words_left words.entry)) }
-{
-    let mut left = words;
-    let mut rest = kinds;
-    let mut number = 0;
-    'words: loop {
-        match rest {
-            [] => return None,
-            [kind, others @ ..] => {
-                let word = left.next();
-                if let Err(at) = test_word(alloc, *kind, word) {
-                    return Some(WordFault {
-                        number: number + 1,
-                        kind: *kind,
-                        at,
-                        text: Excerpt::new(word),
-                    });
-                }
-                number += 1;
-                rest = others;
-            }
-        }
-    }
-}
-
-/// The place of the first byte that no line may have.
-pub fn foreign_at(line: &[u8]) -> Option<usize>
-    ensures { result ≡ position is_foreign line.now }
-{
-    line.iter().position(|b| *b < 0x20 || *b > 0x7e)
-}
-
-/// Whether a word of the line is empty.
-pub fn has_empty_word(line: &[u8]) -> bool
-    ensures { result ≡ list_any is_empty (words_of line.now) }
-{
-    let mut words = all_words(line);
-    for _ in 0..count_words(line) {
-        if words.next().is_empty() {
-            return true;
-        }
-    }
-    false
-}
-
-/// What is wrong with a malformed line. Where memory is refused the answer is the same.
-pub fn find_fault(alloc: Global, line: &[u8]) -> LineFault
-    requires { IsMalformed line.now }
-    ensures { IsFaultOf line.now result }
-{
-    if line.len() > MAX_LINE_LEN {
-        return LineFault::TooLong;
-    }
-    if let Some(at) = foreign_at(line) {
-        return LineFault::Byte { at, byte: line[at] };
-    }
-    if has_empty_word(line) {
-        return LineFault::Blanks;
-    }
     let mut words = all_words(line);
     let name = words.next();
     let Some(kinds) = words_after(name) else {
-        return LineFault::Command(Excerpt::new(name));
+        return CommandFault::Unknown(Excerpt::new(name));
     };
     let given = count_words(line) - 1;
     if given != kinds.len() {
-        return LineFault::Count {
+        return CommandFault::Count {
             wanted: kinds.len(),
             given,
         };
     }
     match bad_word(alloc, kinds, words) {
-        Some(fault) => LineFault::Word(fault),
+        Some(fault) => CommandFault::Word(fault),
         None => unreachable!(),
     }
 }

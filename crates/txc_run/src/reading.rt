@@ -1,40 +1,17 @@
 //! What steps are asked for, by the words of lines.
-ghost use Rattle.std.specs.Prelude.{◌≡◌, ℕ, Bool, codes, IfOk, IfErr};
+ghost use Rattle.std.specs.Prelude.{codes, IfOk, IfErr};
 ghost use Rattle.txc_node.specs.declared.op.Op.{Op};
 ghost use Rattle.txc_node.specs.declared.op.Op.TheVariants.{Insert, Lookup, Event, Sweep};
-ghost use Rattle.txc_run.specs.Lines.{IsStampWord, still_text};
 ghost use Rattle.txc_run.specs.Reading.{IsNamed, IsNoWord, NamesStep, NamesNone};
 
-use crate::hex::read_hex;
-use crate::unread::{Malformed, NoStep};
-use crate::words::{one_word, six_words, three_words, two_words};
+use crate::unread::NoStep;
 use std::alloc::Global;
 use txc_node::Entry;
-use txc_stamp::{LAST_STAMP, Stamp};
-use txc_tags::{Key, TagSet, read_number};
-
-/// A stamp's number.
-pub fn read_stamp(text: &[u8]) -> Result<Stamp, Malformed>
-    ensures answer { IfOk result (IsStampWord text.now) }
-    ensures refused { IfErr result (λ _. (n : ℕ) → IsStampWord text.now n → ⊥) }
-{
-    match read_number(text, u64::from(LAST_STAMP)) {
-        Some(number) => Ok(Stamp::after(number as usize)),
-        None => Err(Malformed),
-    }
-}
-
-/// `still`, or `closed`.
-pub fn read_still(text: &[u8]) -> Result<bool, Malformed>
-    ensures answer { IfOk result (λ still. text.now ≡ still_text still) }
-    ensures refused { IfErr result (λ _. (still : Bool) → text.now ≡ still_text still → ⊥) }
-{
-    match text {
-        b"still" => Ok(true),
-        b"closed" => Ok(false),
-        _ => Err(Malformed),
-    }
-}
+use txc_script::{
+    Malformed, one_word, read_hex, read_stamp, read_still, six_words, three_words, two_words,
+};
+use txc_stamp::Stamp;
+use txc_tags::{Key, TagSet};
 
 /// What a lookup asks for, by what comes after its name: a key, and the first and the last stamp.
 pub fn read_lookup(text: &[u8]) -> Result<(Key, Stamp, Stamp), Malformed>

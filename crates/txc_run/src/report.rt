@@ -1,5 +1,5 @@
 //! Reports: counts of replies, in place of the replies.
-ghost use Rattle.std.specs.Prelude.{◌≡◌, ◌+◌, ◌^◌, ◌<◌, ◌≤◌, ◌++◌, [], ◌∷◌, ℕ, List, All, IfOk, OnOk, IfSome, codes, string_bytes};
+ghost use Rattle.std.specs.Prelude.{◌≡◌, ◌≤◌, ◌++◌, [], ◌∷◌, ℕ, List, All, IfOk, OnOk, IfSome, codes, string_bytes};
 ghost use Rattle.std.specs.Fmt.{decimal};
 ghost use Rattle.txc_node.specs.Steps.{function_of, seen_reply};
 ghost use Rattle.txc_node.specs.Counts.{counts_of};
@@ -20,10 +20,13 @@ const FUNCTIONS: usize = LAST_FUNCTION as usize + 1;
 #[derive(Drop)]
 pub struct Report {
     counts: Counts,
+    /// How many replies were counted.
+    replies: u64,
     /// The functions that lookups and insertions named which were not refused, in the order of their first
     /// naming.
     functions: IndexSet<u8>,
     ghost in_range: { All (λ f. f ≤ LAST_FUNCTION) functions.keys },
+    ghost counted: { counts.replies ≡ replies },
 }
 
 /// The beginning of a function's line.
@@ -67,11 +70,11 @@ fn function_line(alloc: Global, function: u8, counts: FunctionCounts) -> Result<
 impl Report {
     /// No reply was counted. The room for all functions is made now.
     pub fn new(alloc: Global) -> Result<Report, AllocError>
-        ensures empty { IfOk result (λ r. IsReportOf [] r.functions.keys r.counts) }
-        ensures replies { IfOk result (λ r. r.counts.replies ≡ 0) }
+        ensures { IfOk result (λ r. IsReportOf [] r.functions.keys r.counts) }
     {
         Ok(Report {
             counts: Counts::new(),
+            replies: 0,
             functions: IndexSet::with_capacity(alloc, FUNCTIONS)?,
         })
     }
@@ -91,16 +94,18 @@ impl Report {
         }
     }
 
-    /// Counts a reply to a step of that function, if it is of one.
+    /// Counts a reply to a step of that function, if it is of one. More than 2^64 replies are refused.
     pub fn count(&mut self, function: Option<u8>, reply: &Reply<Hit<'_>>) -> Result<(), AllocError>
-        requires function { IfSome function (λ f. f ≤ LAST_FUNCTION) }
-        requires room { self.old.counts.replies + 1 < 2 ^ 64 }
-        ensures after { OnOk result ((steps : List Record) (op : Op) → function ≡ function_of op
+        requires { IfSome function (λ f. f ≤ LAST_FUNCTION) }
+        ensures { OnOk result ((steps : List Record) (op : Op) → function ≡ function_of op
             → IsReportOf steps self.old.functions.keys self.old.counts
             → IsReportOf (steps ++ step_by op (seen_reply reply.now) ∷ [])
             self.new.functions.keys self.new.counts) }
-        ensures bound { self.new.counts.replies ≤ self.old.counts.replies + 1 }
     {
+        if self.replies == u64::MAX {
+            return Err(AllocError);
+        }
+        self.replies += 1;
         self.counts.count(function, reply);
         self.name(function)
     }

@@ -1,89 +1,80 @@
 //! Steps of the node, whose replies are taken.
-ghost use Rattle.std.specs.Prelude.{◌+◌, ◌^◌, ◌<◌, ◌≤◌, ◌≡◌, codes, OnOk, OnErr, IfErr};
+ghost use Rattle.std.specs.Prelude.{◌≡◌, true, codes, IfOk, IfErr, OnErr};
 ghost use Rattle.txc_node.specs.declared.entry.Entry.{Entry};
 ghost use Rattle.txc_node.specs.declared.op.Op.TheVariants as steps;
 ghost use Rattle.txc_node.specs.declared.reply.Reply.TheVariants.{Refused};
 ghost use Rattle.txc_node.specs.Steps.{refusal_by};
-ghost use Rattle.txc_run.specs.Given.{Replied};
 ghost use Rattle.txc_run.specs.Lines.{Spells};
 ghost use Rattle.txc_run.specs.Reading.{IsNamed};
-ghost use Rattle.txc_run.specs.Replies.{counted_by, Takes, TakesStep, MakesStep, MakesNone};
+ghost use Rattle.txc_run.specs.Steps.{TakesStep, MakesStep, MakesNone};
 
 use crate::reading::{read_event, read_insert, read_lookup, read_sweep};
-use crate::replies::Replies;
-use crate::unread::{NoStep, Unanswered};
-use crate::words::first_word;
+use crate::taker::Taker;
+use crate::unread::NoStep;
 use std::alloc::{AllocError, Global};
 use txc_node::{Entry, EntryError, NodeCore, Refusal, Reply};
+use txc_script::{Unread, first_word};
 use txc_stamp::Stamp;
 use txc_tags::{Key, TagSet};
 
-fn insert(
+fn insert<T: Taker>(
     alloc: Global,
     node: &mut NodeCore,
     entry: Entry,
-    replies: &mut Replies,
-) -> Result<(), AllocError>
-    requires room { counted_by replies.old + 1 < 2 ^ 64 }
-    ensures after { OnOk result (TakesStep node.old (steps.Insert entry) node.new replies.old replies.new) }
-    ensures unchanged { OnErr result (replies.new.text.items ≡ replies.old.text.items) }
-    ensures bound { counted_by replies.new ≤ counted_by replies.old + 1 }
+    taker: &mut T,
+) -> Result<bool, AllocError>
+    ensures after { IfOk result (TakesStep T.takes node.old (steps.Insert entry) node.new taker.old taker.new) }
+    ensures unchanged { OnErr result (T.text taker.new ≡ T.text taker.old) }
 {
     let function = Some(entry.key.function());
     match node.insert(entry) {
-        Ok(inserted) => replies.take(alloc, function, &Reply::Inserted(inserted)),
-        Err(_) => replies.take(alloc, function, &Reply::Refused(Refusal::Memory)),
+        Ok(inserted) => taker.take(alloc, function, &Reply::Inserted(inserted)),
+        Err(_) => taker.take(alloc, function, &Reply::Refused(Refusal::Memory)),
     }
 }
 
 /// Takes the refusal of an insertion whose entry cannot be made.
-fn refuse(alloc: Global, error: EntryError, replies: &mut Replies) -> Result<(), AllocError>
-    requires room { counted_by replies.old + 1 < 2 ^ 64 }
-    ensures after { OnOk result ((entry : Entry) → Takes replies.old replies.new
-        (Replied (steps.Insert entry) (Refused (refusal_by error)))) }
-    ensures unchanged { OnErr result (replies.new.text.items ≡ replies.old.text.items) }
-    ensures bound { counted_by replies.new ≤ counted_by replies.old + 1 }
+fn refuse<T: Taker>(alloc: Global, error: EntryError, taker: &mut T) -> Result<bool, AllocError>
+    ensures after { IfOk result (λ refused. (entry : Entry)
+        → T.takes taker.old (steps.Insert entry) (Refused (refusal_by error)) taker.new × (refused ≡ true)) }
+    ensures unchanged { OnErr result (T.text taker.new ≡ T.text taker.old) }
 {
     let refusal = Refusal::of_entry(error);
-    replies.take(alloc, None, &Reply::Refused(refusal))
+    taker.take(alloc, None, &Reply::Refused(refusal))
 }
 
-fn lookup(
+fn lookup<T: Taker>(
     alloc: Global,
     node: &mut NodeCore,
     key: Key,
     lo: Stamp,
     hi: Stamp,
-    replies: &mut Replies,
-) -> Result<(), AllocError>
-    requires room { counted_by replies.old + 1 < 2 ^ 64 }
-    ensures after { OnOk result (TakesStep node.old (steps.Lookup key lo hi) node.new replies.old replies.new) }
-    ensures unchanged { OnErr result (replies.new.text.items ≡ replies.old.text.items) }
-    ensures bound { counted_by replies.new ≤ counted_by replies.old + 1 }
+    taker: &mut T,
+) -> Result<bool, AllocError>
+    ensures after { IfOk result (TakesStep T.takes node.old (steps.Lookup key lo hi) node.new taker.old taker.new) }
+    ensures unchanged { OnErr result (T.text taker.new ≡ T.text taker.old) }
 {
     let function = Some(key.function());
     match node.lookup(&key, lo, hi) {
-        Ok(Some(hit)) => replies.take(alloc, function, &Reply::Hit(hit)),
-        Ok(None) => replies.take(alloc, function, &Reply::Miss),
-        Err(_) => replies.take(alloc, function, &Reply::Refused(Refusal::EmptyRange)),
+        Ok(Some(hit)) => taker.take(alloc, function, &Reply::Hit(hit)),
+        Ok(None) => taker.take(alloc, function, &Reply::Miss),
+        Err(_) => taker.take(alloc, function, &Reply::Refused(Refusal::EmptyRange)),
     }
 }
 
-fn event(
+fn event<T: Taker>(
     alloc: Global,
     node: &mut NodeCore,
     stamp: Stamp,
     tags: TagSet,
-    replies: &mut Replies,
-) -> Result<(), AllocError>
-    requires room { counted_by replies.old + 1 < 2 ^ 64 }
-    ensures after { OnOk result (TakesStep node.old (steps.Event stamp tags) node.new replies.old replies.new) }
-    ensures unchanged { OnErr result (replies.new.text.items ≡ replies.old.text.items) }
-    ensures bound { counted_by replies.new ≤ counted_by replies.old + 1 }
+    taker: &mut T,
+) -> Result<bool, AllocError>
+    ensures after { IfOk result (TakesStep T.takes node.old (steps.Event stamp tags) node.new taker.old taker.new) }
+    ensures unchanged { OnErr result (T.text taker.new ≡ T.text taker.old) }
 {
     match node.event(stamp, tags) {
-        Ok(count) => replies.take(alloc, None, &Reply::Closed(count)),
-        Err(error) => replies.take(
+        Ok(count) => taker.take(alloc, None, &Reply::Closed(count)),
+        Err(error) => taker.take(
             alloc,
             None,
             &Reply::Refused(Refusal::OutOfOrder(error.processed)),
@@ -91,159 +82,147 @@ fn event(
     }
 }
 
-fn sweep(
+fn sweep<T: Taker>(
     alloc: Global,
     node: &mut NodeCore,
     horizon: Stamp,
-    replies: &mut Replies,
-) -> Result<(), AllocError>
-    requires room { counted_by replies.old + 1 < 2 ^ 64 }
-    ensures after { OnOk result (TakesStep node.old (steps.Sweep horizon) node.new replies.old replies.new) }
-    ensures unchanged { OnErr result (replies.new.text.items ≡ replies.old.text.items) }
-    ensures bound { counted_by replies.new ≤ counted_by replies.old + 1 }
+    taker: &mut T,
+) -> Result<bool, AllocError>
+    ensures after { IfOk result (TakesStep T.takes node.old (steps.Sweep horizon) node.new taker.old taker.new) }
+    ensures unchanged { OnErr result (T.text taker.new ≡ T.text taker.old) }
 {
-    replies.take(alloc, None, &Reply::Swept(node.sweep(horizon)))
+    taker.take(alloc, None, &Reply::Swept(node.sweep(horizon)))
 }
 
 /// Makes the insertion that the text after its name is, and takes its reply.
 #[inline(never)]
-fn make_insertion(
+fn make_insertion<T: Taker>(
     alloc: Global,
     node: &mut NodeCore,
     text: &[u8],
-    replies: &mut Replies,
-) -> Result<(), Unanswered>
-    requires room { counted_by replies.old + 1 < 2 ^ 64 }
-    ensures after { OnOk result (MakesStep (IsNamed (codes "insert") text.now)
-        node.old node.new replies.old replies.new) }
+    taker: &mut T,
+) -> Result<bool, Unread>
+    ensures after { IfOk result (MakesStep T.takes (IsNamed (codes "insert") text.now)
+        node.old node.new taker.old taker.new) }
     ensures refused { IfErr result (MakesNone (IsNamed (codes "insert") text.now)
-        node.old node.new replies.old replies.new) }
-    ensures unchanged { OnErr result (replies.new.text.items ≡ replies.old.text.items) }
-    ensures bound { counted_by replies.new ≤ counted_by replies.old + 1 }
+        node.old node.new taker.old taker.new) }
+    ensures unchanged { OnErr result (T.text taker.new ≡ T.text taker.old) }
 {
     match read_insert(alloc, text) {
-        Ok(entry) => match insert(alloc, node, entry, replies) {
-            Ok(()) => Ok(()),
-            Err(_) => Err(Unanswered::Memory),
+        Ok(entry) => match insert(alloc, node, entry, taker) {
+            Ok(refused) => Ok(refused),
+            Err(_) => Err(Unread::Memory),
         },
-        Err(NoStep::Unmade(error)) => match refuse(alloc, error, replies) {
-            Ok(()) => Ok(()),
-            Err(_) => Err(Unanswered::Memory),
+        Err(NoStep::Unmade(error)) => match refuse(alloc, error, taker) {
+            Ok(refused) => Ok(refused),
+            Err(_) => Err(Unread::Memory),
         },
-        Err(NoStep::Malformed) => Err(Unanswered::Malformed),
-        Err(NoStep::Memory) => Err(Unanswered::Memory),
+        Err(NoStep::Malformed) => Err(Unread::Malformed),
+        Err(NoStep::Memory) => Err(Unread::Memory),
     }
 }
 
 /// Makes the lookup that the text after its name is, and takes its reply.
 #[inline(never)]
-fn make_lookup(
+fn make_lookup<T: Taker>(
     alloc: Global,
     node: &mut NodeCore,
     text: &[u8],
-    replies: &mut Replies,
-) -> Result<(), Unanswered>
-    requires room { counted_by replies.old + 1 < 2 ^ 64 }
-    ensures after { OnOk result (MakesStep (IsNamed (codes "lookup") text.now)
-        node.old node.new replies.old replies.new) }
+    taker: &mut T,
+) -> Result<bool, Unread>
+    ensures after { IfOk result (MakesStep T.takes (IsNamed (codes "lookup") text.now)
+        node.old node.new taker.old taker.new) }
     ensures refused { IfErr result (MakesNone (IsNamed (codes "lookup") text.now)
-        node.old node.new replies.old replies.new) }
-    ensures unchanged { OnErr result (replies.new.text.items ≡ replies.old.text.items) }
-    ensures bound { counted_by replies.new ≤ counted_by replies.old + 1 }
+        node.old node.new taker.old taker.new) }
+    ensures unchanged { OnErr result (T.text taker.new ≡ T.text taker.old) }
 {
     let (key, lo, hi) = match read_lookup(text) {
         Ok(read) => read,
-        Err(_) => return Err(Unanswered::Malformed),
+        Err(_) => return Err(Unread::Malformed),
     };
-    match lookup(alloc, node, key, lo, hi, replies) {
-        Ok(()) => Ok(()),
-        Err(_) => Err(Unanswered::Memory),
+    match lookup(alloc, node, key, lo, hi, taker) {
+        Ok(refused) => Ok(refused),
+        Err(_) => Err(Unread::Memory),
     }
 }
 
 /// Makes the event that the text after its name is, and takes its reply.
 #[inline(never)]
-fn make_event(
+fn make_event<T: Taker>(
     alloc: Global,
     node: &mut NodeCore,
     text: &[u8],
-    replies: &mut Replies,
-) -> Result<(), Unanswered>
-    requires room { counted_by replies.old + 1 < 2 ^ 64 }
-    ensures after { OnOk result (MakesStep (IsNamed (codes "event") text.now)
-        node.old node.new replies.old replies.new) }
+    taker: &mut T,
+) -> Result<bool, Unread>
+    ensures after { IfOk result (MakesStep T.takes (IsNamed (codes "event") text.now)
+        node.old node.new taker.old taker.new) }
     ensures refused { IfErr result (MakesNone (IsNamed (codes "event") text.now)
-        node.old node.new replies.old replies.new) }
-    ensures unchanged { OnErr result (replies.new.text.items ≡ replies.old.text.items) }
-    ensures bound { counted_by replies.new ≤ counted_by replies.old + 1 }
+        node.old node.new taker.old taker.new) }
+    ensures unchanged { OnErr result (T.text taker.new ≡ T.text taker.old) }
 {
     let (stamp, tags) = match read_event(alloc, text) {
         Ok(read) => read,
-        Err(NoStep::Memory) => return Err(Unanswered::Memory),
-        Err(_) => return Err(Unanswered::Malformed),
+        Err(NoStep::Memory) => return Err(Unread::Memory),
+        Err(_) => return Err(Unread::Malformed),
     };
-    match event(alloc, node, stamp, tags, replies) {
-        Ok(()) => Ok(()),
-        Err(_) => Err(Unanswered::Memory),
+    match event(alloc, node, stamp, tags, taker) {
+        Ok(refused) => Ok(refused),
+        Err(_) => Err(Unread::Memory),
     }
 }
 
 /// Makes the sweep that the text after its name is, and takes its reply.
 #[inline(never)]
-fn make_sweep(
+fn make_sweep<T: Taker>(
     alloc: Global,
     node: &mut NodeCore,
     text: &[u8],
-    replies: &mut Replies,
-) -> Result<(), Unanswered>
-    requires room { counted_by replies.old + 1 < 2 ^ 64 }
-    ensures after { OnOk result (MakesStep (IsNamed (codes "sweep") text.now)
-        node.old node.new replies.old replies.new) }
+    taker: &mut T,
+) -> Result<bool, Unread>
+    ensures after { IfOk result (MakesStep T.takes (IsNamed (codes "sweep") text.now)
+        node.old node.new taker.old taker.new) }
     ensures refused { IfErr result (MakesNone (IsNamed (codes "sweep") text.now)
-        node.old node.new replies.old replies.new) }
-    ensures unchanged { OnErr result (replies.new.text.items ≡ replies.old.text.items) }
-    ensures bound { counted_by replies.new ≤ counted_by replies.old + 1 }
+        node.old node.new taker.old taker.new) }
+    ensures unchanged { OnErr result (T.text taker.new ≡ T.text taker.old) }
 {
     let horizon = match read_sweep(text) {
         Ok(horizon) => horizon,
-        Err(_) => return Err(Unanswered::Malformed),
+        Err(_) => return Err(Unread::Malformed),
     };
-    match sweep(alloc, node, horizon, replies) {
-        Ok(()) => Ok(()),
-        Err(_) => Err(Unanswered::Memory),
+    match sweep(alloc, node, horizon, taker) {
+        Ok(refused) => Ok(refused),
+        Err(_) => Err(Unread::Memory),
     }
 }
 
 /// Makes the step that a line names, and takes its reply. Each kind of step is a function of its own, so that
 /// a line pays for the room of its own words alone.
-pub fn make_step(
+pub fn make_step<T: Taker>(
     alloc: Global,
     node: &mut NodeCore,
     line: &[u8],
-    replies: &mut Replies,
-) -> Result<(), Unanswered>
-    requires room { counted_by replies.old + 1 < 2 ^ 64 }
-    ensures after { OnOk result (MakesStep (Spells line.now)
-        node.old node.new replies.old replies.new) }
+    taker: &mut T,
+) -> Result<bool, Unread>
+    ensures after { IfOk result (MakesStep T.takes (Spells line.now)
+        node.old node.new taker.old taker.new) }
     ensures refused { IfErr result (MakesNone (Spells line.now)
-        node.old node.new replies.old replies.new) }
-    ensures unchanged { OnErr result (replies.new.text.items ≡ replies.old.text.items) }
-    ensures bound { counted_by replies.new ≤ counted_by replies.old + 1 }
+        node.old node.new taker.old taker.new) }
+    ensures unchanged { OnErr result (T.text taker.new ≡ T.text taker.old) }
 {
     let Some((name, text)) = first_word(line) else {
-        return Err(Unanswered::Malformed);
+        return Err(Unread::Malformed);
     };
     if name == b"lookup".as_slice() {
-        return make_lookup(alloc, node, text, replies);
+        return make_lookup(alloc, node, text, taker);
     }
     if name == b"insert".as_slice() {
-        return make_insertion(alloc, node, text, replies);
+        return make_insertion(alloc, node, text, taker);
     }
     if name == b"event".as_slice() {
-        return make_event(alloc, node, text, replies);
+        return make_event(alloc, node, text, taker);
     }
     if name == b"sweep".as_slice() {
-        return make_sweep(alloc, node, text, replies);
+        return make_sweep(alloc, node, text, taker);
     }
-    Err(Unanswered::Malformed)
+    Err(Unread::Malformed)
 }

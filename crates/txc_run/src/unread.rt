@@ -1,19 +1,7 @@
 //! Why nothing was read.
 use txc_node::EntryError;
+use txc_script::{Malformed, Unread};
 use txc_tags::{BadKey, SetError};
-
-/// The text is not what was to be read.
-#[derive(Clone, Copy, Debug, PartialEq, Eq)]
-pub struct Malformed;
-
-/// Why a line was not answered.
-#[derive(Clone, Copy, Debug, PartialEq, Eq)]
-pub enum Unanswered {
-    /// It is not that of a step.
-    Malformed,
-    /// A growth was refused.
-    Memory,
-}
 
 /// Why a text names no step that can be made.
 #[derive(Clone, Copy, Debug, PartialEq, Eq)]
@@ -26,12 +14,6 @@ pub enum NoStep {
     Memory,
 }
 
-impl From<BadKey> for Malformed {
-    fn from(_error: BadKey) -> Malformed {
-        Malformed
-    }
-}
-
 impl From<Malformed> for NoStep {
     ghost use Rattle.std.specs.Prelude.{◌≡◌};
     ghost use Rattle.txc_run.specs.declared.unread.NoStep.TheVariants as reasons;
@@ -40,6 +22,20 @@ impl From<Malformed> for NoStep {
 
     fn from(_error: Malformed) -> NoStep {
         NoStep::Malformed
+    }
+}
+
+impl From<Unread> for NoStep {
+    ghost use Rattle.std.specs.Prelude.{◌≡◌};
+    ghost use Rattle.txc_run.specs.Reading.{unread_reason};
+
+    ghost from_gives = { λ unread reason. reason ≡ unread_reason unread };
+
+    fn from(unread: Unread) -> NoStep {
+        match unread {
+            Unread::Malformed => NoStep::Malformed,
+            Unread::Memory => NoStep::Memory,
+        }
     }
 }
 

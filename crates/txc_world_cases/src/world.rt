@@ -10,7 +10,8 @@ use std::alloc::{AllocError, Global};
 use std::process::Abort;
 use txc_functions::{Object, Program, registries};
 use txc_permits::PermitPool;
-use txc_run::{RunFault, Status, exit_of, run_world, world_settings};
+use txc_play::{run_world, world_settings};
+use txc_run::{RunFault, Status, exit_of};
 use txc_settings::Settings;
 use txc_world::World;
 

@@ -13,8 +13,9 @@ use std::{env, io};
 use txc_arguments::read_arguments;
 use txc_functions::{Object, Program, registries};
 use txc_permits::PermitPool;
+use txc_play::{run_world, world_settings};
 use txc_registry::Registry;
-use txc_run::{RunFault, Status, exit_of, run, run_world, world_settings};
+use txc_run::{RunFault, Status, exit_of, run};
 use txc_settings::{Script, Settings, SettingsError};
 use txc_world::World;
 

@@ -3,8 +3,8 @@ use Rattle.std.specs.Prelude.{codes}
 use Rattle.txc_node.specs.declared.entry.Entry.{Entry}
 use Rattle.txc_node.specs.declared.op.Op.TheVariants.{Insert}
 use Rattle.txc_node.proofs.Offered.{entry_is_made}
-use Rattle.txc_run.specs.Hex.{IsHexWord}
-use Rattle.txc_run.specs.Lines.{IsKeyWord, IsStampWord, IsTagsWord, still_text}
+use Rattle.txc_script.specs.Hex.{IsHexWord}
+use Rattle.txc_script.specs.Lines.{IsKeyWord, IsStampWord, IsTagsWord, still_text}
 use Rattle.txc_run.specs.Reading.{IsNamed, NamesStep}
 use Rattle.txc_run.proofs.Named.{malformed, tags_unread, word_unread, unmade, insert_in, insertion_named, entry_refused}
 use Rattle.txc_run.proofs.reading.read_insert.Goals as goal

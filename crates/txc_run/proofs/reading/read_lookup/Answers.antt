@@ -1,8 +1,8 @@
 use Rattle.std.proofs.Common.{◌≡◌, List, ℕ, [], get_or, length, refl, sym, ap, subst, ◌∙◌}
 use Rattle.std.specs.Prelude.{codes}
-use Rattle.txc_run.specs.Words.{words_of}
-use Rattle.txc_run.specs.Lines.{IsKeyWord, IsStampWord}
-use Rattle.txc_run.proofs.Blanks.{has_words}
+use Rattle.txc_script.specs.Words.{words_of}
+use Rattle.txc_script.specs.Lines.{IsKeyWord, IsStampWord}
+use Rattle.txc_script.proofs.Offered.{has_words}
 use Rattle.txc_run.proofs.Named.{none_named, lookup_in}
 use Rattle.txc_run.proofs.reading.read_lookup.Goals as goal
 

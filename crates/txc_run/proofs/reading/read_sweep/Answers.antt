@@ -1,8 +1,8 @@
 use Rattle.std.proofs.Common.{◌≡◌, List, ℕ, [], get_or, length, refl, sym, ap, subst, ◌∙◌}
 use Rattle.std.specs.Prelude.{codes}
-use Rattle.txc_run.specs.Words.{words_of}
-use Rattle.txc_run.specs.Lines.{IsStampWord}
-use Rattle.txc_run.proofs.Blanks.{has_words}
+use Rattle.txc_script.specs.Words.{words_of}
+use Rattle.txc_script.specs.Lines.{IsStampWord}
+use Rattle.txc_script.proofs.Offered.{has_words}
 use Rattle.txc_run.proofs.Named.{none_named, sweep_in}
 use Rattle.txc_run.proofs.reading.read_sweep.Goals as goal
 

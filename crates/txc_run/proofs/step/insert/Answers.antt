@@ -7,7 +7,7 @@ use Rattle.txc_run.proofs.Taking.{taken}
 use Rattle.txc_run.proofs.step.insert.Goals as goal
 
 pub returns-in-Ok-clause-after : goal.returns-in-Ok-clause-after
-returns-in-Ok-clause-after c = taken c.take.result c.args.node.now c.insert.new.self (Insert c.args.entry) (replies.Inserted c.in-Ok.inserted) (Some c.function.result) c.args.replies.now c.take.new.self (search rules) (λ _. search rules) c.take.ensures.after
+returns-in-Ok-clause-after g c = taken g.T.Taker.takes c.take.result c.args.node.now c.insert.new.self (Insert c.args.entry) (replies.Inserted c.in-Ok.inserted) (Some c.function.result) c.args.taker.now c.take.new.self (search rules) (λ _. search rules) c.take.ensures.after c.take.ensures.refusal
 
 pub returns-clause-after : goal.returns-clause-after
-returns-clause-after c = taken c.take-in-Err.result c.args.node.now c.insert.new.self (Insert c.args.entry) (replies.Refused Memory) (Some c.function.result) c.args.replies.now c.take-in-Err.new.self (search rules) (λ _. search rules) c.take-in-Err.ensures.after
+returns-clause-after g c = taken g.T.Taker.takes c.take-in-Err.result c.args.node.now c.insert.new.self (Insert c.args.entry) (replies.Refused Memory) (Some c.function.result) c.args.taker.now c.take-in-Err.new.self (search rules) (λ _. search rules) c.take-in-Err.ensures.after c.take-in-Err.ensures.refusal

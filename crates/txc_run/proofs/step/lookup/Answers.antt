@@ -8,10 +8,10 @@ use Rattle.txc_run.proofs.Taking.{taken}
 use Rattle.txc_run.proofs.step.lookup.Goals as goal
 
 pub returns-in-Ok-Some-clause-after : goal.returns-in-Ok-Some-clause-after
-returns-in-Ok-Some-clause-after c = taken c.take.result c.args.node.now _ (Lookup c.args.key c.args.lo c.args.hi) (replies.Hit (seen c.in-Ok-Some.hit)) (Some c.function.result) c.args.replies.now c.take.new.self (search rules) (λ _. search rules) c.take.ensures.after
+returns-in-Ok-Some-clause-after g c = taken g.T.Taker.takes c.take.result c.args.node.now _ (Lookup c.args.key c.args.lo c.args.hi) (replies.Hit (seen c.in-Ok-Some.hit)) (Some c.function.result) c.args.taker.now c.take.new.self (search rules) (λ _. search rules) c.take.ensures.after c.take.ensures.refusal
 
 pub returns-in-Ok-None-clause-after : goal.returns-in-Ok-None-clause-after
-returns-in-Ok-None-clause-after c = taken c.take-in-Ok-None.result c.args.node.now _ (Lookup c.args.key c.args.lo c.args.hi) (replies.Miss) (Some c.function.result) c.args.replies.now c.take-in-Ok-None.new.self (search rules) (λ _. search rules) c.take-in-Ok-None.ensures.after
+returns-in-Ok-None-clause-after g c = taken g.T.Taker.takes c.take-in-Ok-None.result c.args.node.now _ (Lookup c.args.key c.args.lo c.args.hi) (replies.Miss) (Some c.function.result) c.args.taker.now c.take-in-Ok-None.new.self (search rules) (λ _. search rules) c.take-in-Ok-None.ensures.after c.take-in-Ok-None.ensures.refusal
 
 pub returns-in-Err-clause-after : goal.returns-in-Err-clause-after
-returns-in-Err-clause-after c = taken c.take-in-Err.result c.args.node.now _ (Lookup c.args.key c.args.lo c.args.hi) (replies.Refused EmptyRange) (Some c.function.result) c.args.replies.now c.take-in-Err.new.self (search rules) (λ _. search rules) c.take-in-Err.ensures.after
+returns-in-Err-clause-after g c = taken g.T.Taker.takes c.take-in-Err.result c.args.node.now _ (Lookup c.args.key c.args.lo c.args.hi) (replies.Refused EmptyRange) (Some c.function.result) c.args.taker.now c.take-in-Err.new.self (search rules) (λ _. search rules) c.take-in-Err.ensures.after c.take-in-Err.ensures.refusal

@@ -8,8 +8,9 @@ use Rattle.txc_run.specs.Reading.{IsNamed, IsUnmade, NamesNone}
 use Rattle.txc_run.proofs.step.make_insertion.Goals as goal
 
 pub returns-in-Ok-refuse-clause-after : goal.returns-in-Ok-refuse-clause-after
-returns-in-Ok-refuse-clause-after c =
+returns-in-Ok-refuse-clause-after g c =
     let error = c.in-Err-Unmade.error in
     let Is = IsNamed (codes "insert") c.args.text.now in
     let of : IsUnmade Is error = subst (NamesNone Is) c.in-Err-Unmade.field-0-is c.in-Err-Unmade.ensures.refused in
-    (Insert of.0, of.1, (replies.Refused (refusal_by error), insertion_refused c.args.node.now of.0 (refusal_by error) of.2, c.in-Ok-refuse.ensures.after of.0))
+    let taken = c.in-Ok-refuse.ensures.after of.0 in
+    (Insert of.0, of.1, (replies.Refused (refusal_by error), insertion_refused c.args.node.now of.0 (refusal_by error) of.2, taken.0, taken.1))

@@ -1,0 +1,12 @@
+use Rattle.std.proofs.Common.{List, ℕ, ◌∷◌, sym, ap, ◌∙◌}
+use Rattle.txc_script.specs.Words.{words_left}
+use Rattle.txc_play.proofs.finding.find_command_fault.Goals as goal
+
+pub returns-in-Some : goal.returns-in-Some
+returns-in-Some c = (
+  words_left c.next-word.new.self,
+  sym c.all_words-words.ensures ∙ c.next-word.ensures ∙ ap (λ (w : List ℕ). w ∷ words_left c.next-word.new.self) c.in-Some.ensures.answer,
+)
+
+pub returns-in-None : goal.returns-in-None
+returns-in-None c = (c.next-word.result.now, words_left c.next-word.new.self, sym c.all_words-words.ensures ∙ c.next-word.ensures, c.in-None.ensures.refused, c.new.ensures)

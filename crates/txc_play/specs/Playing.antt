@@ -1,0 +1,39 @@
+-- Only private functions need this file: parts of what a line of a world's script asks for.
+use Rattle.std.specs.Prelude.{◌≡◌, ◌⊎◌, ℕ, Bool, List, [], ◌∷◌, ◌++◌}
+use Rattle.txc_app.specs.Eval.{Next}
+use Rattle.txc_world.specs.declared.step.Act.{Act}
+use Rattle.txc_world.specs.declared.step.Step.{Step}
+use Rattle.txc_world.specs.declared.reply.Reply.{Reply}
+use Rattle.txc_world.specs.Told.{Told}
+use Rattle.txc_play.specs.TaskSteps.{AreTaken, DoesEnd, DoesUnpin, HasBegun, IsDone}
+use Rattle.txc_play.specs.TaskTexts.{printed_text, is_refused_line}
+use Rattle.txc_play.specs.declared.printed.Printed.{Printed}
+use Rattle.txc_play.specs.declared.printed.Printed.TheVariants.{Replied}
+use Rattle.txc_play.specs.declared.task.Task.{Task}
+
+-- an actor ended its transaction so
+pub record HasEndedTxn (next : Next) (told : Told) (actor : ℕ) (act : Act) (reply : Reply) (end : Told) : Type 0 where
+  pub steps : List Step
+  pub replied : List Reply
+  pub taken : AreTaken next told steps replied end
+  pub does : DoesEnd actor act steps replied (Replied reply)
+
+-- the holds of stamps were taken away
+pub record HasUnpinned (next : Next) (told : Told) (stamps : List ℕ) (count : ℕ) (printed : Printed) (end : Told)
+    : Type 0 where
+  pub steps : List Step
+  pub replied : List Reply
+  pub taken : AreTaken next told steps replied end
+  pub does : DoesUnpin stamps count steps replied printed
+
+-- none of the steps of what a line asks for were taken, or the first ones
+abbrev pub IsCutShort : Next → Told → Task → Told → Type 0
+IsCutShort next told task end = (end ≡ told) ⊎ HasBegun next told task end
+
+-- what a line asks for was done, and what is written of it was put after the text
+pub record IsTaskDone (next : Next) (told : Told) (task : Task) (end : Told) (old new : List ℕ) (refused : Bool)
+    : Type 0 where
+  pub printed : Printed
+  pub done : IsDone next told task printed end
+  pub text : new ≡ old ++ (printed_text printed ++ 10 ∷ [])
+  pub is_refused : refused ≡ is_refused_line printed

@@ -1,0 +1,199 @@
+-- What is written of what lines of a world's script are answered.
+use Rattle.std.specs.Prelude.{ℕ, Bool, true, false, ◌||◌, List, [], ◌∷◌, ◌++◌, Option, Some, None, codes, length, map, if◌then◌else◌}
+use Rattle.std.specs.Fmt.{decimal}
+use Rattle.std.specs.List.{flat_map, join_with_byte}
+use Rattle.txc_stamp.specs.Texts.{reach_text}
+use Rattle.txc_tags.specs.TextSet.{tags_text}
+use Rattle.txc_node.specs.Texts.{hex_text}
+use Rattle.txc_rows.specs.declared.store_error.StoreError.{StoreError}
+use Rattle.txc_rows.specs.declared.store_error.StoreError.TheVariants as store
+use Rattle.txc_db.specs.declared.error.DbError.{DbError}
+use Rattle.txc_db.specs.declared.error.DbError.TheVariants as database
+use Rattle.txc_cushion.specs.declared.error.AddError.{AddError}
+use Rattle.txc_cushion.specs.declared.error.AddError.TheVariants as adding
+use Rattle.txc_shared.specs.declared.error.NodeError.{NodeError}
+use Rattle.txc_shared.specs.declared.error.NodeError.TheVariants as nodes
+use Rattle.txc_shared.specs.declared.advanced.Advanced.{Advanced}
+use Rattle.txc_shared.specs.declared.advanced.Advanced.TheVariants as advances
+use Rattle.txc_call.specs.declared.error.CallError.{CallError}
+use Rattle.txc_call.specs.declared.error.CallError.TheVariants as calls
+use Rattle.txc_ports.specs.declared.error.TxnError.{TxnError}
+use Rattle.txc_ports.specs.declared.error.TxnError.TheVariants as transactions
+use Rattle.txc_world.specs.declared.did.Did.{Did}
+use Rattle.txc_world.specs.declared.did.Did.TheVariants as dids
+use Rattle.txc_world.specs.declared.did.RowsFound.{RowsFound}
+use Rattle.txc_world.specs.declared.reply.End.{End}
+use Rattle.txc_world.specs.declared.reply.End.TheVariants as ends
+use Rattle.txc_world.specs.declared.reply.Refusal.{Refusal}
+use Rattle.txc_world.specs.declared.reply.Refusal.TheVariants as refusals
+use Rattle.txc_world.specs.declared.reply.Reply.{Reply}
+use Rattle.txc_world.specs.declared.reply.Reply.TheVariants as replies
+use Rattle.txc_play.specs.declared.printed.Printed.{Printed}
+use Rattle.txc_play.specs.declared.printed.Printed.TheVariants.{Replied, Ended, Members, Tidied}
+
+-- ---- refusals: a code, and the numbers that go with it
+
+abbrev pub store_text : StoreError → List ℕ
+store_text store.TooManyRows = codes "R2"
+store_text (store.Store cause) = codes "R3"
+store_text store.StoreMemory = codes "R3"
+store_text store.Memory = codes "memory"
+
+abbrev pub database_text : DbError → List ℕ
+database_text (database.SnapshotGone horizon) = codes "B1 " ++ decimal horizon
+database_text (database.Conflict stamp) = codes "B2 " ++ decimal stamp
+database_text database.Full = codes "B3"
+database_text (database.Store cause) = store_text cause
+database_text database.Broken = codes "B5"
+database_text (database.NotPinned stamp) = codes "B6 " ++ decimal stamp
+database_text (database.FutureStamp newest) = codes "B7 " ++ decimal newest
+database_text database.HoldsFull = codes "B8"
+database_text database.Memory = codes "memory"
+
+abbrev pub call_text : CallError → List ℕ
+call_text (calls.NoFunction number) = codes "K1 " ++ decimal number
+call_text (calls.CallOrder caller called) = codes "K2 " ++ (decimal caller ++ (codes " " ++ decimal called))
+call_text calls.AskLimit = codes "K3"
+call_text calls.Budget = codes "K4"
+call_text calls.Busy = codes "K5"
+call_text calls.ObjectMemory = codes "K6"
+call_text calls.ValueTooLong = codes "K7"
+call_text (calls.BadArguments number) = codes "K8 " ++ decimal number
+call_text calls.Memory = codes "memory"
+
+abbrev pub transaction_text : TxnError → List ℕ
+transaction_text (transactions.Call cause) = call_text cause
+transaction_text (transactions.Database cause) = database_text cause
+transaction_text (transactions.SnapshotLost horizon) = codes "X3 " ++ decimal horizon
+transaction_text transactions.PinsFull = codes "X4"
+transaction_text transactions.BufferFull = codes "X5"
+transaction_text transactions.Memory = codes "memory"
+
+abbrev pub add_text : AddError → List ℕ
+add_text adding.Full = codes "C2"
+add_text (adding.Known stamp) = codes "C3 " ++ decimal stamp
+add_text adding.Memory = codes "memory"
+
+abbrev pub node_text : NodeError → List ℕ
+node_text nodes.HistoryFull = codes "H1"
+node_text nodes.Broken = codes "H2"
+node_text nodes.PassesFull = codes "H3"
+node_text nodes.EmptyRange = codes "N1"
+node_text nodes.Memory = codes "memory"
+
+abbrev pub refusal_text : Refusal → List ℕ
+refusal_text refusals.NoActor = codes "O1"
+refusal_text refusals.NotOpen = codes "O2"
+refusal_text refusals.AlreadyOpen = codes "O3"
+refusal_text refusals.NoRequest = codes "O4"
+refusal_text refusals.MidCall = codes "O5"
+refusal_text refusals.NoNode = codes "O6"
+refusal_text (refusals.Database cause) = database_text cause
+refusal_text (refusals.Pincushion cause) = add_text cause
+refusal_text (refusals.GiveBack unknown) = codes "C1 " ++ decimal unknown.stamp
+refusal_text (refusals.Node cause) = node_text cause
+refusal_text (refusals.Transaction cause) = transaction_text cause
+refusal_text refusals.Memory = codes "memory"
+
+-- ---- rows
+
+-- joined by commas; none are a dash
+abbrev pub ids_text : List ℕ → List ℕ
+ids_text [] = codes "-"
+ids_text (id ∷ ids) = join_with_byte 44 (map decimal (id ∷ ids))
+
+abbrev pub found_text : RowsFound → List ℕ
+found_text found =
+    codes "rows " ++ (ids_text found.ids.items ++ (codes " " ++ (reach_text found.reach
+    ++ (codes " " ++ tags_text found.tags))))
+
+-- ---- replies
+
+abbrev pub end_text : End → List ℕ
+end_text (ends.Value value) = codes "value " ++ hex_text value
+end_text (ends.Refused error) = codes "refused " ++ transaction_text error
+
+abbrev pub did_text : Did → List ℕ
+did_text (dids.Pinned stamp) = codes "pinned " ++ decimal stamp
+did_text dids.Added = codes "added"
+did_text (dids.NotAdded error) = codes "refused " ++ add_text error
+did_text dids.Unpinned = codes "unpinned"
+did_text (dids.Hit reach) = codes "hit " ++ reach_text reach
+did_text dids.Miss = codes "miss"
+did_text (dids.Rows found) = found_text found
+did_text (dids.Stored reach) = codes "stored " ++ reach_text reach
+did_text dids.Kept = codes "kept"
+did_text dids.Dropped = codes "dropped"
+did_text (dids.Refused error) = codes "refused " ++ database_text error
+
+-- what a port did, and behind it how the call ended, if it did; of a request that was refused and ended its
+-- call the call's refusal alone
+abbrev pub asked_text : Did → Option End → List ℕ
+asked_text did None = did_text did
+asked_text (dids.Refused error) (Some end) = end_text end
+asked_text did (Some end) = did_text did ++ (codes " " ++ end_text end)
+
+abbrev pub advanced_text : Advanced → List ℕ
+advanced_text (advances.Taken stamp closed) =
+    codes "advanced " ++ (decimal stamp ++ (codes " closed " ++ decimal closed))
+advanced_text advances.Idle = codes "idle"
+
+abbrev pub reply_text : Reply → List ℕ
+reply_text replies.Begun = codes "open"
+reply_text (replies.Based base) = codes "open " ++ decimal base
+reply_text replies.Started = codes "started"
+reply_text (replies.Asked did end) = asked_text did end
+reply_text (replies.Ended end) = end_text end
+reply_text (replies.Answered rows) = codes "rows " ++ ids_text (map (λ r. r.id) rows.items)
+reply_text replies.Kept = codes "kept"
+reply_text (replies.Receipt None) = codes "receipt none"
+reply_text (replies.Receipt (Some pin)) =
+    codes "receipt " ++ (decimal pin.stamp ++ (codes " " ++ decimal pin.moment))
+reply_text (replies.Aborted left) = codes "aborted"
+reply_text (replies.At stamp) = codes "at " ++ decimal stamp
+reply_text replies.Added = codes "added"
+reply_text replies.GivenBack = codes "given back"
+reply_text (replies.Retired stamps) = codes "retired " ++ decimal (length stamps.items)
+reply_text replies.Unpinned = codes "unpinned"
+reply_text (replies.Vacuumed horizon) = codes "horizon " ++ decimal horizon
+reply_text (replies.Rows found) = found_text found
+reply_text (replies.Advanced advanced) = advanced_text advanced
+reply_text (replies.Swept count) = codes "swept " ++ decimal count
+reply_text (replies.Refused refusal) = codes "refused " ++ refusal_text refusal
+
+-- each after a blank
+abbrev pub stamps_text : List ℕ → List ℕ
+stamps_text stamps = flat_map (λ s. codes " " ++ decimal s) stamps
+
+-- what is written of a line, without its end
+abbrev pub printed_text : Printed → List ℕ
+printed_text (Replied reply) = reply_text reply
+printed_text (Ended end) = end_text end
+printed_text (Members has_present stamps) =
+    codes "pins" ++ ((if has_present then codes " *" else []) ++ stamps_text stamps.items)
+printed_text (Tidied count horizon) =
+    codes "retired " ++ (decimal count ++ (codes " horizon " ++ decimal horizon))
+
+-- ---- whether it holds a refusal
+
+abbrev pub is_refused_end : End → Bool
+is_refused_end (ends.Value value) = false
+is_refused_end (ends.Refused error) = true
+
+abbrev pub is_refused_did : Did → Bool
+is_refused_did (dids.NotAdded error) = true
+is_refused_did (dids.Refused error) = true
+is_refused_did did = false
+
+abbrev pub is_refused_reply : Reply → Bool
+is_refused_reply (replies.Asked did None) = is_refused_did did
+is_refused_reply (replies.Asked did (Some end)) = is_refused_did did || is_refused_end end
+is_refused_reply (replies.Ended end) = is_refused_end end
+is_refused_reply (replies.Refused refusal) = true
+is_refused_reply reply = false
+
+abbrev pub is_refused_line : Printed → Bool
+is_refused_line (Replied reply) = is_refused_reply reply
+is_refused_line (Ended end) = is_refused_end end
+is_refused_line (Members has_present stamps) = false
+is_refused_line (Tidied count horizon) = false

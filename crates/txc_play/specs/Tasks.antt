@@ -1,0 +1,141 @@
+-- What the lines of a world's script are, and what they ask for.
+use Rattle.std.specs.Prelude.{◌≡◌, ℕ, ◌≤◌, List, [], ◌∷◌, codes}
+use Rattle.std.specs.Fmt.{decimal}
+use Rattle.txc_stamp.specs.declared.stamp.TheConstants.{LAST_STAMP}
+use Rattle.txc_tags.specs.declared.tag.TheConstants.{LAST_TABLE}
+use Rattle.txc_tags.specs.declared.text.number.TheConstants.{LAST_NUMBER}
+use Rattle.txc_tags.specs.Keys.{Call}
+use Rattle.txc_tags.specs.TextKey.{key_text, IsKeyInRange}
+use Rattle.txc_rows.specs.Values.{RowValue, IsRow}
+use Rattle.txc_rows.specs.declared.query.Query.{Query}
+use Rattle.txc_rows.specs.declared.query.Query.TheVariants as queries
+use Rattle.txc_rows.specs.declared.query.Change.{Change}
+use Rattle.txc_rows.specs.declared.query.Change.TheVariants as changes
+use Rattle.txc_ports.specs.declared.bounds.Bounds.{Bounds}
+use Rattle.txc_world.specs.declared.step.Act.TheVariants as acts
+use Rattle.txc_world.specs.declared.step.Keep.TheVariants as keeps
+use Rattle.txc_world.specs.declared.step.Step.TheVariants.{Actor, Keeper}
+use Rattle.txc_script.specs.Words.{words_of}
+use Rattle.txc_script.specs.declared.line_name.LineName.{LineName}
+use Rattle.txc_script.specs.declared.line_name.LineName.TheVariants as names
+use Rattle.txc_play.specs.declared.parts.TheConstants.{LAST_MOMENT}
+use Rattle.txc_play.specs.declared.task.Task.{Task}
+use Rattle.txc_play.specs.declared.task.Task.TheVariants as tasks
+
+-- ---- parts of lines, by how they are written
+
+-- a table, and an id or a group
+pub record IsPair (table number : ℕ) : Type 0 where
+  pub is_table : table ≤ LAST_TABLE
+  pub is_number : number ≤ LAST_NUMBER
+
+abbrev pub query_words : Query → List (List ℕ)
+query_words (queries.ById table id) = codes "by-id" ∷ decimal table ∷ decimal id ∷ []
+query_words (queries.ByGroup table group) = codes "by-group" ∷ decimal table ∷ decimal group ∷ []
+query_words (queries.All table) = codes "all" ∷ decimal table ∷ []
+
+abbrev pub IsQueryInRange : Query → Type 0
+IsQueryInRange (queries.ById table id) = IsPair table id
+IsQueryInRange (queries.ByGroup table group) = IsPair table group
+IsQueryInRange (queries.All table) = table ≤ LAST_TABLE
+
+abbrev pub row_words : RowValue → List (List ℕ)
+row_words row = decimal row.table ∷ decimal row.id ∷ decimal row.group ∷ row.body ∷ []
+
+abbrev pub change_words : Change → List (List ℕ)
+change_words (changes.Put row) = codes "put" ∷ row_words row
+change_words (changes.Remove table id) = codes "remove" ∷ decimal table ∷ decimal id ∷ []
+
+abbrev pub IsChangeInRange : Change → Type 0
+IsChangeInRange (changes.Put row) = IsRow row
+IsChangeInRange (changes.Remove table id) = IsPair table id
+
+abbrev pub bounds_words : Bounds → List (List ℕ)
+bounds_words b = decimal b.now ∷ decimal b.staleness ∷ decimal b.at_least ∷ []
+
+pub record AreBoundsInRange (b : Bounds) : Type 0 where
+  pub now : b.now ≤ LAST_MOMENT
+  pub staleness : b.staleness ≤ LAST_MOMENT
+  pub at_least : b.at_least ≤ LAST_STAMP
+
+-- ---- lines
+
+-- the first word of a line
+abbrev pub name_text : LineName → List ℕ
+name_text names.Put = codes "put"
+name_text names.Remove = codes "remove"
+name_text names.Pin = codes "pin"
+name_text names.Query = codes "query"
+name_text names.Ro = codes "ro"
+name_text names.Rw = codes "rw"
+name_text names.Call = codes "call"
+name_text names.Step = codes "step"
+name_text names.Finish = codes "finish"
+name_text names.Ask = codes "ask"
+name_text names.Write = codes "write"
+name_text names.Pins = codes "pins"
+name_text names.Commit = codes "commit"
+name_text names.Abort = codes "abort"
+name_text names.Advance = codes "advance"
+name_text names.Sweep = codes "sweep"
+name_text names.Tidy = codes "tidy"
+
+-- the words are the number of an actor or a node, and then others
+abbrev pub AreAfterPlace : List (List ℕ) → ℕ → List (List ℕ) → Type 0
+AreAfterPlace words place others = (words ≡ decimal place ∷ others) × (place ≤ LAST_NUMBER)
+
+-- the line of a change, of the keeper's own or of an actor
+abbrev pub AreChangeWords : List (List ℕ) → Change → Type 0
+AreChangeWords words change = (words ≡ change_words change) × IsChangeInRange change
+
+abbrev pub AreQueryWords : List (List ℕ) → Query → Type 0
+AreQueryWords words query = (words ≡ query_words query) × IsQueryInRange query
+
+abbrev pub AreBoundsWords : List (List ℕ) → Bounds → Type 0
+AreBoundsWords words b = (words ≡ bounds_words b) × AreBoundsInRange b
+
+-- what a line asks for that has this name and these words after it
+abbrev pub Says : LineName → List (List ℕ) → Task → Type 0
+Says names.Put words task =
+    (change : Change) × AreChangeWords (codes "put" ∷ words) change × (task ≡ tasks.One (Keeper (keeps.Write change)))
+Says names.Remove words task =
+    (change : Change) × AreChangeWords (codes "remove" ∷ words) change
+    × (task ≡ tasks.One (Keeper (keeps.Write change)))
+Says names.Pin words task =
+    (now : ℕ) × (words ≡ decimal now ∷ []) × (now ≤ LAST_MOMENT) × (task ≡ tasks.Pin now)
+Says names.Query words task =
+    (stamp : ℕ) × (query : Query) × (words ≡ decimal stamp ∷ query_words query) × (stamp ≤ LAST_STAMP)
+    × IsQueryInRange query × (task ≡ tasks.One (Keeper (keeps.Query stamp query)))
+Says names.Ro words task =
+    (actor : ℕ) × (b : Bounds) × AreAfterPlace words actor (bounds_words b) × AreBoundsInRange b
+    × (task ≡ tasks.One (Actor actor (acts.BeginRo b)))
+Says names.Rw words task =
+    (actor : ℕ) × AreAfterPlace words actor [] × (task ≡ tasks.One (Actor actor acts.BeginRw))
+Says names.Call words task =
+    (actor : ℕ) × (key : Call) × AreAfterPlace words actor (key_text key ∷ []) × IsKeyInRange key
+    × (task ≡ tasks.One (Actor actor (acts.Start key)))
+Says names.Step words task =
+    (actor : ℕ) × AreAfterPlace words actor [] × (task ≡ tasks.One (Actor actor acts.Request))
+Says names.Finish words task = (actor : ℕ) × AreAfterPlace words actor [] × (task ≡ tasks.Finish actor)
+Says names.Ask words task =
+    (actor : ℕ) × (query : Query) × AreAfterPlace words actor (query_words query) × IsQueryInRange query
+    × (task ≡ tasks.One (Actor actor (acts.Ask query)))
+Says names.Write words task =
+    (actor : ℕ) × (change : Change) × AreAfterPlace words actor (change_words change) × IsChangeInRange change
+    × (task ≡ tasks.One (Actor actor (acts.Write change)))
+Says names.Pins words task = (actor : ℕ) × AreAfterPlace words actor [] × (task ≡ tasks.Pins actor)
+Says names.Commit words task = (actor : ℕ) × AreAfterPlace words actor [] × (task ≡ tasks.Commit actor)
+Says names.Abort words task = (actor : ℕ) × AreAfterPlace words actor [] × (task ≡ tasks.Abort actor)
+Says names.Advance words task =
+    (node : ℕ) × AreAfterPlace words node [] × (task ≡ tasks.One (Keeper (keeps.Advance node)))
+Says names.Sweep words task =
+    (node horizon : ℕ) × AreAfterPlace words node (decimal horizon ∷ []) × (horizon ≤ LAST_STAMP)
+    × (task ≡ tasks.One (Keeper (keeps.Sweep node horizon)))
+Says names.Tidy words task =
+    (now age : ℕ) × (words ≡ decimal now ∷ decimal age ∷ []) × (now ≤ LAST_MOMENT) × (age ≤ LAST_MOMENT)
+    × (task ≡ tasks.Tidy now age)
+
+-- the line is a name and words that ask for this
+abbrev pub SpellsTask : List ℕ → Task → Type 0
+SpellsTask line task =
+    (name : LineName) × (words : List (List ℕ)) × (words_of line ≡ name_text name ∷ words) × Says name words task

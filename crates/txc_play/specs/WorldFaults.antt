@@ -1,0 +1,16 @@
+-- What is wrong with the words of a malformed line of a world's script.
+use Rattle.std.specs.Prelude.{◌≡◌, ℕ, List, ◌∷◌}
+use Rattle.txc_script.specs.Excerpts.{excerpt_of}
+use Rattle.txc_script.specs.declared.line_fault.CommandFault.{CommandFault}
+use Rattle.txc_script.specs.declared.line_fault.CommandFault.TheVariants as faults
+use Rattle.txc_script.specs.declared.line_name.LineName.{LineName}
+use Rattle.txc_play.specs.Tasks.{name_text}
+
+-- What is wrong with a line's words: the first is no line's name; else the others are not those of a line of
+-- this name.
+abbrev pub IsWorldFault : List (List ℕ) → CommandFault → Type 0
+IsWorldFault all (faults.Unknown text) =
+    (word : List ℕ) × (words : List (List ℕ)) × (all ≡ word ∷ words)
+    × ((name : LineName) → word ≡ name_text name → ⊥) × (text ≡ excerpt_of word)
+IsWorldFault all (faults.Usage name) = (words : List (List ℕ)) × (all ≡ name_text name ∷ words)
+IsWorldFault all fault = ⊥

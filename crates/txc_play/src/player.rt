@@ -1,0 +1,91 @@
+//! Scripts of a world, whose lines stand for steps.
+ghost use Rattle.std.specs.Prelude.{◌≡◌, ◌∷◌, [], ◌++◌, IfOk, OnOk, OnErr};
+ghost use Rattle.txc_play.specs.Playing.{IsCutShort, IsTaskDone};
+ghost use Rattle.txc_play.specs.TaskTexts.{printed_text, is_refused_line};
+ghost use Rattle.txc_play.specs.WorldScripts.{world_script};
+
+use crate::finding::find_command_fault;
+use crate::playing::play;
+use crate::printed::Printed;
+use crate::reading::read_task;
+use crate::refusing::is_refused_line;
+use crate::task::Task;
+use std::alloc::{AllocError, Global};
+use std::marker::PhantomData;
+use txc_registry::Cacheable;
+use txc_script::{CommandFault, Script, Unread};
+use txc_app::App;
+use txc_world::World;
+
+/// A script of a world's lines.
+pub struct WorldScript<A, C>(pub PhantomData<(A, C)>);
+
+/// Puts what is written of a line after the text. Returns whether it holds a refusal.
+fn push_printed(
+    alloc: Global,
+    text: &mut Vec<u8>,
+    printed: &Printed,
+) -> Result<bool, AllocError>
+    ensures text { OnOk result (text.new.items ≡ text.old.items ++ (printed_text printed.now ++ 10 ∷ [])) }
+    ensures refusal { IfOk result (λ refused. refused ≡ is_refused_line printed.now) }
+    ensures unchanged { OnErr result (text.new.items ≡ text.old.items) }
+{
+    let line = format!(in alloc; "{printed}\n")?;
+    text.extend_from_slice(line.as_bytes())?;
+    Ok(is_refused_line(printed))
+}
+
+/// Does what a line asks for, and puts what is written of it after the text. Returns whether that holds a
+/// refusal.
+fn do_task<A: App, C: Cacheable>(
+    alloc: Global,
+    world: &mut World<A, C>,
+    task: Task,
+    text: &mut Vec<u8>,
+) -> Result<bool, AllocError>
+    ensures after { IfOk result (IsTaskDone A.next world.old.told task world.new.told text.old.items text.new.items) }
+    ensures broke { OnErr result (IsCutShort A.next world.old.told task world.new.told) }
+    ensures unchanged { OnErr result (text.new.items ≡ text.old.items) }
+{
+    let printed = play(alloc, world, task)?;
+    push_printed(alloc, text, &printed)
+}
+
+impl<A: App, C: Cacheable> Script for WorldScript<A, C> {
+    type State = World<A, C>;
+    type Asked = Task;
+    type Reply = Printed;
+
+    ghost kind = { λ _. world_script A.next };
+
+    fn answer(
+        &self,
+        alloc: Global,
+        state: &mut World<A, C>,
+        line: &[u8],
+        text: &mut Vec<u8>,
+    ) -> Result<bool, Unread> {
+        match read_task(alloc, line) {
+            Ok(task) => match do_task(alloc, state, task, text) {
+                Ok(is_refused) => Ok(is_refused),
+                Err(_) => Err(Unread::Memory),
+            },
+            Err(reason) => Err(reason),
+        }
+    }
+
+    fn find_fault(&self, alloc: Global, line: &[u8]) -> CommandFault {
+        let _ = alloc;
+        find_command_fault(line)
+    }
+
+    fn close(
+        &self,
+        alloc: Global,
+        state: &mut World<A, C>,
+        text: &mut Vec<u8>,
+    ) -> Result<bool, AllocError> {
+        let _ = (alloc, state, text);
+        Ok(false)
+    }
+}

@@ -1,0 +1,169 @@
+//! The steps that a line of a world's script stands for.
+ghost use Rattle.std.specs.Prelude.{◌≡◌, map, All, IfOk, OnErr};
+ghost use Rattle.txc_play.specs.TaskSteps.{DoesPins, HasBegun, HasGivenUp, IsClosed, IsDone, IsTaken};
+ghost use Rattle.txc_play.specs.Playing.{HasEndedTxn, HasUnpinned, IsCutShort};
+
+use crate::outcome::{
+    ending_of, is_added, is_unpinned, leaves_hold, stamp_in, taken_out, tidied,
+};
+use crate::printed::Printed;
+use crate::task::Task;
+use std::alloc::{AllocError, Global};
+use txc_app::App;
+use txc_cushion::Pin;
+use txc_registry::Cacheable;
+use txc_stamp::Stamp;
+use txc_world::{Act, Keep, Reply, Step, World};
+
+/// Takes one step.
+fn take<A: App, C: Cacheable>(alloc: Global, world: &mut World<A, C>, step: Step) -> Reply
+    ensures { IsTaken A.next world.old.told step result world.new.told }
+{
+    world.step(alloc, &step)
+}
+
+/// The keeper pins the present and adds the pin, which no transaction uses then; where it is not added, its
+/// hold is taken away.
+fn pin_present<A: App, C: Cacheable>(alloc: Global, world: &mut World<A, C>, now: u64) -> Reply
+    ensures { IsDone A.next world.old.told (Task.Pin now) (Printed.Replied result) world.new.told }
+{
+    let pinned = take(alloc, world, Step::Keeper(Keep::Pin(now)));
+    let Some(stamp) = stamp_in(&pinned) else {
+        return pinned;
+    };
+    let added = take(alloc, world, Step::Keeper(Keep::Add(stamp)));
+    if is_added(&added) {
+        let _ = take(alloc, world, Step::Keeper(Keep::GiveBack(stamp)));
+        return pinned;
+    }
+    let _ = take(alloc, world, Step::Keeper(Keep::Unpin(stamp)));
+    added
+}
+
+/// The actor makes requests until its call has ended.
+fn finish_call<A: App, C: Cacheable>(
+    alloc: Global,
+    world: &mut World<A, C>,
+    actor: usize,
+) -> Result<Printed, AllocError>
+    ensures after { IfOk result (λ printed.
+        IsDone A.next world.old.told (Task.Finish actor) printed world.new.told) }
+    ensures broke { OnErr result (HasBegun A.next world.old.told (Task.Finish actor) world.new.told) }
+{
+    for _ in 0..u64::MAX {
+        let reply = take(alloc, world, Step::Actor(actor, Act::Request));
+        if let Some(printed) = ending_of(reply) {
+            return Ok(printed);
+        }
+    }
+    Err(AllocError) // no call makes so many requests
+}
+
+/// The actor ends its transaction so, and takes the hold away that is left then.
+fn end_txn<A: App, C: Cacheable>(
+    alloc: Global,
+    world: &mut World<A, C>,
+    actor: usize,
+    act: Act,
+) -> Reply
+    ensures { HasEndedTxn A.next world.old.told actor act result world.new.told }
+{
+    let reply = take(alloc, world, Step::Actor(actor, act));
+    if leaves_hold(&reply) {
+        let _ = take(alloc, world, Step::Actor(actor, Act::Request));
+        return reply;
+    }
+    reply
+}
+
+/// The keeper takes the holds of these stamps away, and then drops the versions that nothing holds.
+fn unpin_all<A: App, C: Cacheable>(
+    alloc: Global,
+    world: &mut World<A, C>,
+    stamps: &[Stamp],
+    count: usize,
+) -> Printed
+    ensures { HasUnpinned A.next world.old.told stamps.now count result world.new.told }
+{
+    let Some((stamp, others)) = stamps.split_first() else {
+        let reply = take(alloc, world, Step::Keeper(Keep::Vacuum));
+        return tidied(count, reply);
+    };
+    let reply = take(alloc, world, Step::Keeper(Keep::Unpin(*stamp)));
+    if is_unpinned(&reply) {
+        return unpin_all(alloc, world, others, count);
+    }
+    Printed::Replied(reply)
+}
+
+/// The keeper takes the old pins out and their holds away, and drops the versions that nothing holds.
+fn tidy_up<A: App, C: Cacheable>(
+    alloc: Global,
+    world: &mut World<A, C>,
+    now: u64,
+    age: u64,
+) -> Printed
+    ensures { IsDone A.next world.old.told (Task.Tidy now age) result world.new.told }
+{
+    let reply = take(alloc, world, Step::Keeper(Keep::Retire { now, age }));
+    match taken_out(reply) {
+        Ok(stamps) => unpin_all(alloc, world, stamps.as_slice(), stamps.len()),
+        Err(reply) => Printed::Replied(reply),
+    }
+}
+
+/// The stamps of the pins.
+fn stamps_of(alloc: Global, pins: &[Pin]) -> Result<Vec<Stamp>, AllocError>
+    ensures { IfOk result (λ stamps. stamps.items ≡ map (λ p. p.stamp) pins.now) }
+{
+    pins.iter().map(|pin| pin.stamp).collect(alloc)
+}
+
+/// Where the actor's transaction may be serialised.
+fn members_of<A: App, C: Cacheable>(
+    alloc: Global,
+    world: &World<A, C>,
+    actor: usize,
+) -> Result<Printed, AllocError>
+    ensures { IfOk result (λ printed. DoesPins A.next world.now.told actor printed) }
+{
+    match world.pins(actor) {
+        Ok(members) => {
+            let stamps = stamps_of(alloc, members.pins)?;
+            Ok(Printed::Members(members.has_present, stamps))
+        }
+        Err(refusal) => Ok(Printed::Replied(Reply::Refused(refusal))),
+    }
+}
+
+/// Takes the steps of a line, and returns what is written of it.
+pub fn play<A: App, C: Cacheable>(
+    alloc: Global,
+    world: &mut World<A, C>,
+    task: Task,
+) -> Result<Printed, AllocError>
+    ensures after { IfOk result (λ printed. IsDone A.next world.old.told task printed world.new.told) }
+    ensures broke { OnErr result (IsCutShort A.next world.old.told task world.new.told) }
+{
+    match task {
+        Task::One(step) => Ok(Printed::Replied(take(alloc, world, step))),
+        Task::Pin(now) => Ok(Printed::Replied(pin_present(alloc, world, now))),
+        Task::Finish(actor) => finish_call(alloc, world, actor),
+        Task::Pins(actor) => members_of(alloc, world, actor),
+        Task::Commit(actor) => Ok(Printed::Replied(end_txn(alloc, world, actor, Act::Commit))),
+        Task::Abort(actor) => Ok(Printed::Replied(end_txn(alloc, world, actor, Act::Abort))),
+        Task::Tidy { now, age } => Ok(tidy_up(alloc, world, now, age)),
+    }
+}
+
+/// Each actor gives up what it has open, by their numbers, and takes the hold away that is left then. Steps of
+/// an actor with nothing open are refused, and change nothing.
+pub fn give_all_up<A: App, C: Cacheable>(alloc: Global, world: &mut World<A, C>)
+    ensures given_up { HasGivenUp A.next world.old.told world.new.told }
+    ensures closed { All IsClosed world.new.told.actors }
+{
+    for actor in 0..world.actor_count() {
+        let _ = take(alloc, world, Step::Actor(actor, Act::Abort));
+        let _ = take(alloc, world, Step::Actor(actor, Act::Request));
+    }
+}

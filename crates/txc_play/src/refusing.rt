@@ -1,0 +1,48 @@
+//! Whether what is written of a line holds a refusal.
+ghost use Rattle.std.specs.Prelude.{◌≡◌};
+ghost use Rattle.txc_play.specs.TaskTexts.{is_refused_did, is_refused_end, is_refused_line, is_refused_reply};
+
+use crate::printed::Printed;
+use txc_world::{Did, End, Reply};
+
+fn is_refused_end(end: &End) -> bool
+    ensures { result ≡ is_refused_end end.now }
+{
+    match end {
+        End::Value(_) => false,
+        End::Refused(_) => true,
+    }
+}
+
+fn is_refused_did(did: &Did) -> bool
+    ensures { result ≡ is_refused_did did.now }
+{
+    match did {
+        Did::NotAdded(_) | Did::Refused(_) => true,
+        _ => false,
+    }
+}
+
+fn is_refused_reply(reply: &Reply) -> bool
+    ensures { result ≡ is_refused_reply reply.now }
+{
+    match reply {
+        Reply::Asked(did, None) => is_refused_did(did),
+        Reply::Asked(did, Some(end)) => is_refused_did(did) || is_refused_end(end),
+        Reply::Ended(end) => is_refused_end(end),
+        Reply::Refused(_) => true,
+        _ => false,
+    }
+}
+
+/// Whether it holds a refusal.
+pub fn is_refused_line(printed: &Printed) -> bool
+    ensures { result ≡ is_refused_line printed.now }
+{
+    match printed {
+        Printed::Replied(reply) => is_refused_reply(reply),
+        Printed::Ended(end) => is_refused_end(end),
+        Printed::Members(_, _) => false,
+        Printed::Tidied(_, _) => false,
+    }
+}

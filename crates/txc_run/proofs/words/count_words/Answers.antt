@@ -1,7 +1,0 @@
-use Rattle.std.proofs.Common.{arith}
-use Rattle.std.proofs.lemmas.List.Splits.{length-slice_split}
-use Rattle.txc_run.specs.Words.{is_blank}
-use Rattle.txc_run.proofs.words.count_words.Goals as goal
-
-pub returns-clause-count : goal.returns-clause-count
-returns-clause-count c = let counted = length-slice_split is_blank c.args.text.now in omega arith

@@ -1,0 +1,71 @@
+-- Scripts of a node: what their lines ask for and what they give, by the mode of the run.
+use Rattle.std.specs.Prelude.{◌≡◌, ℕ, false, List, [], ◌∷◌, ◌++◌, Option, Some, None, if◌then◌else◌, codes}
+use Rattle.std.specs.Str.{bytes_eq}
+use Rattle.txc_settings.specs.declared.mode.Mode.{Mode}
+use Rattle.txc_settings.specs.declared.mode.Mode.TheVariants.{Node, Report}
+use Rattle.txc_node.specs.declared.hit.Shown.{Shown}
+use Rattle.txc_node.specs.declared.op.Op.{Op}
+use Rattle.txc_node.specs.declared.reply.Reply.{Reply}
+use Rattle.txc_node.specs.Cache.{Cache}
+use Rattle.txc_node.specs.Steps.{is_refusal, MayReply}
+use Rattle.txc_node.specs.Texts.{reply_text}
+use Rattle.txc_script.specs.Kinds.{ScriptKind, Given, Closing}
+use Rattle.txc_script.specs.LineFaults.{IsCommandFault}
+use Rattle.txc_script.specs.declared.line_fault.WordKind.{WordKind}
+use Rattle.txc_script.specs.declared.line_fault.WordKind.TheVariants.{Key, Stamp, Reach, Tags, Bytes}
+use Rattle.txc_run.specs.Lines.{Spells}
+use Rattle.txc_run.specs.Reports.{report_text}
+
+-- the kinds of the words after a command's name
+abbrev pub insert_kinds : List WordKind
+insert_kinds = Key ∷ Stamp ∷ Stamp ∷ Reach ∷ Tags ∷ Bytes ∷ []
+
+abbrev pub lookup_kinds : List WordKind
+lookup_kinds = Key ∷ Stamp ∷ Stamp ∷ []
+
+abbrev pub event_kinds : List WordKind
+event_kinds = Stamp ∷ Tags ∷ []
+
+abbrev pub sweep_kinds : List WordKind
+sweep_kinds = Stamp ∷ []
+
+abbrev pub kinds_after : List ℕ → Option (List WordKind)
+kinds_after name =
+    if bytes_eq name (codes "insert") then Some insert_kinds
+    else (if bytes_eq name (codes "lookup") then Some lookup_kinds
+    else (if bytes_eq name (codes "event") then Some event_kinds
+    else (if bytes_eq name (codes "sweep") then Some sweep_kinds else None)))
+
+-- what is written of a reply at once: a report writes none
+abbrev pub reply_line : Mode → Reply Shown → List ℕ
+reply_line Node reply = reply_text reply ++ 10 ∷ []
+reply_line Report reply = []
+
+-- what is written after all lines, none of which was malformed: the report
+abbrev pub closing_text : Mode → List (Given Op (Reply Shown)) → List ℕ
+closing_text Node given = []
+closing_text Report given = report_text given
+
+-- the cache stays, and no refusal is written
+abbrev pub CloseNode : Mode → Cache → List (Given Op (Reply Shown)) → Closing → Cache → Type 0
+CloseNode mode c given closing next =
+    (closing ≡ record { text = closing_text mode given; is_refused = false }) × (next ≡ c)
+
+-- memory may be refused for a report alone
+abbrev pub MayBreakAtEnd : Mode → Type 0
+MayBreakAtEnd Node = ⊥
+MayBreakAtEnd Report = Unit {0}
+
+-- A script of a node's lines, each of which names a step. Of the cache that is left where memory is refused
+-- nothing is said: no line finds it.
+abbrev pub node_script : Mode → ScriptKind Cache Op (Reply Shown)
+node_script mode = record {
+  asks = Spells;
+  does = MayReply;
+  breaks_off = λ c line next. Unit {0};
+  text = reply_line mode;
+  is_refused = is_refusal;
+  is_wrong = IsCommandFault kinds_after;
+  closes = CloseNode mode;
+  breaks_at_end = λ c next. MayBreakAtEnd mode;
+}

@@ -1,0 +1,91 @@
+//! Scripts of a node, whose replies are written, or counted for a report.
+ghost use Rattle.txc_settings.specs.declared.mode.Mode.TheVariants as modes;
+ghost use Rattle.txc_run.specs.NodeScripts.{node_script};
+
+use crate::finding::find_command_fault;
+use crate::report::Report;
+use crate::step::make_step;
+use std::alloc::{AllocError, Global};
+use txc_node::{NodeCore, Op, Reply, Shown};
+use txc_script::{CommandFault, Script, Unread};
+
+/// A script of a node whose replies are written.
+pub struct Replying;
+
+/// A script of a node whose replies are counted, and a report is written after all lines.
+pub struct Counting;
+
+/// A node, and what a report says of its replies.
+#[derive(Drop)]
+pub struct Counted {
+    pub node: NodeCore,
+    pub report: Report,
+}
+
+impl Script for Replying {
+    type State = NodeCore;
+    type Asked = Op;
+    type Reply = Reply<Shown>;
+
+    ghost kind = { λ _. node_script modes.Node };
+
+    fn answer(
+        &self,
+        alloc: Global,
+        state: &mut NodeCore,
+        line: &[u8],
+        text: &mut Vec<u8>,
+    ) -> Result<bool, Unread> {
+        make_step(alloc, state, line, text)
+    }
+
+    fn find_fault(&self, alloc: Global, line: &[u8]) -> CommandFault {
+        find_command_fault(alloc, line)
+    }
+
+    fn close(
+        &self,
+        alloc: Global,
+        state: &mut NodeCore,
+        text: &mut Vec<u8>,
+    ) -> Result<bool, AllocError> {
+        let _ = (alloc, state, text);
+        Ok(false)
+    }
+}
+
+impl Script for Counting {
+    type State = Counted;
+    type Asked = Op;
+    type Reply = Reply<Shown>;
+
+    ghost use Rattle.txc_run.specs.Counting.{counted_script};
+
+    ghost kind = { λ _. counted_script };
+
+    fn answer(
+        &self,
+        alloc: Global,
+        state: &mut Counted,
+        line: &[u8],
+        text: &mut Vec<u8>,
+    ) -> Result<bool, Unread> {
+        let _ = text;
+        make_step(alloc, &mut state.node, line, &mut state.report)
+    }
+
+    fn find_fault(&self, alloc: Global, line: &[u8]) -> CommandFault {
+        find_command_fault(alloc, line)
+    }
+
+    fn close(
+        &self,
+        alloc: Global,
+        state: &mut Counted,
+        text: &mut Vec<u8>,
+    ) -> Result<bool, AllocError> {
+        let report = state.report.text(alloc)?;
+        text.extend_from_slice(report.as_bytes())?;
+        Ok(false)
+    }
+}

@@ -1,0 +1,79 @@
+//! Runs of a node's scripts.
+ghost use Rattle.txc_node.specs.Cache.{Cache, empty_cache};
+ghost use Rattle.std.specs.Prelude.{◌≡◌, [], IfOk};
+ghost use Rattle.txc_script.specs.Runs.{HasRun};
+ghost use Rattle.txc_run.specs.Counting.{HasReport};
+ghost use Rattle.txc_run.specs.NodeScripts.{node_script};
+
+use crate::node::{Counted, Counting, Replying};
+use crate::report::Report;
+use std::alloc::{AllocError, Global};
+use std::io::{Read, Write};
+use txc_node::NodeCore;
+use txc_script::{RunFault, Status, run_script};
+use txc_settings::{Mode, Settings};
+
+/// Runs a script whose replies are written.
+fn run_replying<R: Read, W: Write>(
+    alloc: Global,
+    settings: Settings,
+    reader: &mut R,
+    writer: &mut W,
+) -> Result<Status, RunFault>
+    ensures { (left : Cache) × HasRun (node_script Mode.Node) (empty_cache settings.capacity settings.recent)
+        (R.remaining reader.old) (R.remaining reader.new)
+        (W.contents writer.old) (W.contents writer.new) result left }
+{
+    match NodeCore::new(alloc, settings.capacity, settings.recent) {
+        Ok(mut node) => run_script(alloc, &Replying, &mut node, reader, writer),
+        Err(_) => Err(RunFault::Memory),
+    }
+}
+
+/// A new node, and a report of no reply.
+fn new_counted(alloc: Global, settings: Settings) -> Result<Counted, AllocError>
+    ensures node { IfOk result (λ s. s.node ≡ empty_cache settings.capacity settings.recent) }
+    ensures report { IfOk result (λ s. HasReport [] s.report) }
+{
+    let node = NodeCore::new(alloc, settings.capacity, settings.recent)?;
+    let report = Report::new(alloc)?;
+    Ok(Counted { node, report })
+}
+
+/// Runs a script whose replies are counted.
+fn run_counting<R: Read, W: Write>(
+    alloc: Global,
+    settings: Settings,
+    reader: &mut R,
+    writer: &mut W,
+) -> Result<Status, RunFault>
+    ensures { (left : Cache) × HasRun (node_script Mode.Report) (empty_cache settings.capacity settings.recent)
+        (R.remaining reader.old) (R.remaining reader.new)
+        (W.contents writer.old) (W.contents writer.new) result left }
+{
+    match new_counted(alloc, settings) {
+        Ok(mut counted) => run_script(alloc, &Counting, &mut counted, reader, writer),
+        Err(_) => Err(RunFault::Memory),
+    }
+}
+
+/// Reads a script, and writes the replies to its lines or a report of them, as the mode says. The status says
+/// what is wrong with a malformed line. A reader is read at most [`crate::MAX_READS`] times, where a read
+/// that was interrupted counts and is made again: one that has not come to its end by then is a read fault.
+/// The writer is flushed at the end, unless no node could be made: then nothing was read.
+pub fn run<R: Read, W: Write>(
+    alloc: Global,
+    mode: Mode,
+    settings: Settings,
+    reader: &mut R,
+    writer: &mut W,
+) -> Result<Status, RunFault>
+    ensures { (left : Cache) × HasRun (node_script mode) (empty_cache settings.capacity settings.recent)
+        (R.remaining reader.old) (R.remaining reader.new)
+        (W.contents writer.old) (W.contents writer.new) result left }
+{
+    match mode {
+        Mode::Node => run_replying(alloc, settings, reader, writer),
+        Mode::Report => run_counting(alloc, settings, reader, writer),
+    }
+}

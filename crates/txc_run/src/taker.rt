@@ -1,0 +1,79 @@
+//! What takes the replies to steps.
+ghost use Rattle.std.specs.Prelude.{◌≡◌, ◌≤◌, ℕ, List, IfOk, IfSome, OnErr};
+ghost use Rattle.txc_node.specs.Steps.{is_refusal, seen_reply};
+ghost use Rattle.txc_node.specs.declared.hit.Shown.{Shown};
+ghost use Rattle.txc_node.specs.declared.op.Op.{Op};
+ghost use Rattle.txc_node.specs.declared.reply.Reply.{Reply};
+ghost use Rattle.txc_run.specs.Steps.{IsFor};
+
+use crate::output::push_reply;
+use crate::report::Report;
+use std::alloc::{AllocError, Global};
+use txc_node::{Hit, Reply};
+use txc_tags::LAST_FUNCTION;
+
+/// Takes the replies to steps: a text, to which they are written, or a report, which counts them.
+pub trait Taker {
+    // The reply to a step was taken.
+    ghost takes: { Self → Op → Reply Shown → Self → Type 0 };
+
+    // What was written so far.
+    ghost text: { Self → List ℕ };
+
+    /// Takes the reply to a step of that function, if it is of one. Returns whether it is a refusal.
+    fn take(
+        &mut self,
+        alloc: Global,
+        function: Option<u8>,
+        reply: &Reply<Hit<'_>>,
+    ) -> Result<bool, AllocError>
+        requires { IfSome function (λ f. f ≤ LAST_FUNCTION) }
+        ensures after { IfOk result (λ refused. (op : Op) → IsFor function op (seen_reply reply.now)
+            → takes self.old op (seen_reply reply.now) self.new) }
+        ensures refusal { IfOk result (λ refused. refused ≡ is_refusal (seen_reply reply.now)) }
+        ensures unchanged { OnErr result (text self.new ≡ text self.old) };
+}
+
+impl Taker for Vec<u8> {
+    ghost use Rattle.std.specs.Prelude.{◌≡◌, ◌++◌};
+    ghost use Rattle.txc_settings.specs.declared.mode.Mode.TheVariants.{Node};
+    ghost use Rattle.txc_run.specs.NodeScripts.{reply_line};
+
+    ghost takes = { λ old op reply new. new.items ≡ old.items ++ reply_line Node reply };
+
+    ghost text = { λ text. text.items };
+
+    fn take(
+        &mut self,
+        alloc: Global,
+        function: Option<u8>,
+        reply: &Reply<Hit<'_>>,
+    ) -> Result<bool, AllocError> {
+        let _ = function;
+        push_reply(alloc, self, reply)?;
+        Ok(reply.is_refusal())
+    }
+}
+
+impl Taker for Report {
+    ghost use Rattle.std.specs.Prelude.{[]};
+    ghost use Rattle.txc_run.specs.Counting.{Counts};
+
+    ghost takes = { Counts };
+
+    ghost text = { λ _. [] };
+
+    fn take(
+        &mut self,
+        alloc: Global,
+        function: Option<u8>,
+        reply: &Reply<Hit<'_>>,
+    ) -> Result<bool, AllocError> {
+        let _ = alloc;
+        if reply.is_refusal() {
+            return Ok(true);
+        }
+        self.count(function, reply)?;
+        Ok(false)
+    }
+}

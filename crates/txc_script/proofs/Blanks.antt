@@ -1,0 +1,105 @@
+-- The words of a text, as its parts between blanks.
+use Rattle.std.proofs.Common.{◌≡◌, ◌≢◌, ℕ, ◌+◌, ◌-◌, ◌<◌, ◌≤◌, Bool, true, false, zero, suc, List, [], ◌∷◌, ◌++◌, length, take, drop, get_or, Result, Ok, Err, OnErr, refl, sym, ap, subst, ◌∙◌, arith}
+use Rattle.std.specs.List.{All, AllByRecursion, onto_first, join_with_byte}
+use Rattle.std.proofs.lemmas.Bool.Decides.{nat_tests}
+use Rattle.std.proofs.lemmas.List.{drop_more, take_all, take-append-drop}
+use Rattle.std.proofs.lemmas.List.Elements.{All-cons, All-nil, recursion_from_All}
+use Rattle.std.proofs.lemmas.List.Splits.{slice_split_at, slice_split_none, join_with_byte-slice_split, length-slice_split}
+use Rattle.txc_script.specs.Words.{HasNoBlank, HasWords, is_blank, words_of}
+
+is_other : (b : ℕ) → b ≢ 32 → is_blank b ≡ false
+is_other b other = grind (arith, nat_tests)
+
+not_blanks : (xs : List ℕ) → HasNoBlank xs → All (λ b. is_blank b ≡ false) xs
+not_blanks xs h = λ k d l. is_other _ (h k d l)
+
+-- a text whose first blank stands after w
+pub words_cut : (text w rest : List ℕ) → text ≡ w ++ 32 ∷ rest → HasNoBlank w → words_of text ≡ w ∷ words_of rest
+words_cut text w rest e bare = ap words_of e ∙ slice_split_at is_blank w 32 rest (not_blanks w bare) refl
+
+-- a text without a blank is one word
+pub words_alone : (text : List ℕ) → HasNoBlank text → words_of text ≡ text ∷ []
+words_alone text bare = slice_split_none is_blank text (not_blanks text bare)
+
+-- ---- the definition of the words of a text
+
+bare_more : (x : ℕ) (parts : List (List ℕ)) → x ≢ 32 → AllByRecursion HasNoBlank parts → AllByRecursion HasNoBlank (onto_first x parts)
+bare_more x [] other h = (All-cons (λ b. b ≢ 32) x [] other (All-nil (λ b. b ≢ 32)), tt)
+bare_more x (part ∷ parts) other h = (All-cons (λ b. b ≢ 32) x part other h.0, h.1)
+
+bare_parts : (text : List ℕ) → AllByRecursion HasNoBlank (words_of text)
+bare_parts [] = (All-nil (λ b. b ≢ 32), tt)
+bare_parts (x ∷ text) =
+    let go : (b : Bool) → is_blank x ≡ b → AllByRecursion HasNoBlank (words_of (x ∷ text)) = λ b. elim b as (λ v. is_blank x ≡ v → AllByRecursion HasNoBlank (words_of (x ∷ text))) [
+      | true ↦ (λ e. rw e (All-nil (λ b. b ≢ 32), bare_parts text))
+      | false ↦ (λ e. let other : x ≢ 32 = grind (arith, nat_tests) in rw e (bare_more x (words_of text) other (bare_parts text)))
+    ] in
+    go (is_blank x) refl
+
+all_parts : (parts : List (List ℕ)) → AllByRecursion HasNoBlank parts → All HasNoBlank parts
+all_parts [] h = All-nil HasNoBlank
+all_parts (part ∷ parts) h = All-cons HasNoBlank part parts h.0 (all_parts parts h.1)
+
+pub has_words : (text : List ℕ) → HasWords text (words_of text)
+has_words text = record { joined = sym (join_with_byte-slice_split 32 text); each_is_one = all_parts (words_of text) (bare_parts text) }
+
+joined_are : (w : List ℕ) (words : List (List ℕ)) → AllByRecursion HasNoBlank (w ∷ words) → words_of (join_with_byte 32 (w ∷ words)) ≡ w ∷ words
+joined_are w [] h = words_alone w h.0
+joined_are w (v ∷ words) h = words_cut _ w (join_with_byte 32 (v ∷ words)) refl h.0 ∙ ap (λ (vs : List (List ℕ)). w ∷ vs) (joined_are v words h.1)
+
+pub words_are : (text w : List ℕ) (words : List (List ℕ)) → HasWords text (w ∷ words) → words_of text ≡ w ∷ words
+words_are text w words h = ap words_of h.joined ∙ joined_are w words (recursion_from_All HasNoBlank (w ∷ words) h.each_is_one)
+
+-- ---- texts of so many words
+
+pub some_word : (text : List ℕ) → 1 ≤ length (words_of text)
+some_word text = omega (arith, length-slice_split is_blank text)
+
+-- a text whose first bytes are all and have no blank
+pub one_word_is : (text : List ℕ) (n : ℕ) → length text ≤ n → HasNoBlank (take n text) → words_of text ≡ text ∷ []
+one_word_is text n all bare = words_alone text (subst HasNoBlank (take_all n text all) bare)
+
+-- a text with a blank is two words at least
+pub not_one_word : (text : List ℕ) (n : ℕ) → n < length text → HasNoBlank (take n text) → get_or text n 0 ≡ 32 → length (words_of text) ≡ 1 → ⊥
+not_one_word text n within bare here e =
+    let rest = drop (n + 1) text in
+    let split : text ≡ take n text ++ 32 ∷ rest = sym (take-append-drop n text) ∙ ap (λ (ys : List ℕ). take n text ++ ys) (drop_more text n 0 within ∙ ap (λ b. b ∷ rest) here) in
+    omega (arith, ap length (words_cut text (take n text) rest split bare), some_word rest, e)
+
+-- a text without a blank is not more words
+pub no_more_words : (text : List ℕ) (n : ℕ) → 2 ≤ n → HasNoBlank text → length (words_of text) ≡ n → ⊥
+no_more_words text n l bare e = omega (arith, ap length (words_alone text bare), e)
+
+-- a text of one word more than another
+pub word_before : (text w rest : List ℕ) (words : List (List ℕ)) → text ≡ w ++ 32 ∷ rest → HasNoBlank w → words_of rest ≡ words → words_of text ≡ w ∷ words
+word_before text w rest words e bare is = words_cut text w rest e bare ∙ ap (λ (ws : List (List ℕ)). w ∷ ws) is
+
+pub words_before : (text w rest : List ℕ) → text ≡ w ++ 32 ∷ rest → HasNoBlank w → length (words_of text) ≡ length (words_of rest) + 1
+words_before text w rest e bare = omega (arith, ap length (words_cut text w rest e bare))
+
+pub on_err : {T E : Type 0} (r : Result T E) (P : Type 0) → P → OnErr r P
+on_err (Ok x) P h = tt
+on_err (Err e) P h = h
+
+-- the rest has not so many
+pub too_few : {T E : Type 0} (r : Result T E) (text w rest : List ℕ) (n : ℕ) → text ≡ w ++ 32 ∷ rest → HasNoBlank w → length (words_of rest) ≢ n → OnErr r (length (words_of text) ≢ n + 1)
+too_few r text w rest n e bare other = on_err r (length (words_of text) ≢ n + 1) (λ is. other (omega (arith, words_before text w rest e bare, is)))
+
+-- the words after one are so many fewer
+pub fewer_words : (text w rest : List ℕ) (n : ℕ) → text ≡ w ++ 32 ∷ rest → HasNoBlank w → (length (words_of rest) ≡ n → ⊥) → length (words_of text) ≡ n + 1 → ⊥
+fewer_words text w rest n e bare other is = other (omega (arith, words_before text w rest e bare, is))
+
+-- ---- words that are taken one after the other
+
+pub some_left : (n : ℕ) (words : List (List ℕ)) → 0 < length (take n words) → 0 < n
+some_left zero words h = h
+some_left (suc n) words h = omega arith
+
+pub take_first : (n : ℕ) (w : List ℕ) (words : List (List ℕ)) → 0 < n → take n (w ∷ words) ≡ w ∷ take (n - 1) words
+take_first zero w words h = absurd (omega arith)
+take_first (suc n) w words h = let same : suc n - 1 ≡ n = omega arith in ap (λ (k : ℕ). w ∷ take k words) (sym same)
+
+pub take_one : (n : ℕ) (w : List ℕ) → 0 < n → take n (w ∷ []) ≡ w ∷ []
+take_one zero w h = absurd (omega arith)
+take_one (suc zero) w h = refl
+take_one (suc (suc n)) w h = refl

@@ -1,0 +1,12 @@
+pub mod Cuts
+pub mod Texts
+pub mod DigitTable
+pub mod Streams
+pub mod Scans
+pub mod Blanks
+pub mod HexDigits
+pub mod WordFaults
+pub mod EachLine
+pub mod Answering
+pub mod Turning
+pub mod Offered

@@ -1,0 +1,25 @@
+-- Only private functions need this file: how a run goes on after a line.
+use Rattle.std.specs.Prelude.{◌≡◌, ℕ, Bool, true, false, List}
+use Rattle.txc_script.specs.Kinds.{ScriptKind, Given, IsFaultOf, is_malformed}
+use Rattle.txc_script.specs.declared.fault.Status.{Status}
+use Rattle.txc_script.specs.declared.fault.Status.TheVariants.{Done, Refused, Malformed}
+use Rattle.txc_script.specs.declared.running.Flow.{Flow}
+use Rattle.txc_script.specs.declared.running.Flow.TheVariants.{GoesOn, Stopped}
+
+-- the run stops at a malformed line, for its number and its fault
+abbrev pub IsStoppedAt : {S A R : Type 0} → ScriptKind S A R → ℕ → List ℕ → Flow → Type 0
+IsStoppedAt kind number line GoesOn = ⊥
+IsStoppedAt kind number line (Stopped malformed) =
+    (malformed.number ≡ number) × IsFaultOf kind line malformed.fault
+
+-- the run goes on after a line that is not malformed, and stops at a malformed one
+abbrev pub IsFlowAfter : {S A R : Type 0} → ScriptKind S A R → ℕ → List ℕ → Given A R → Flow → Type 0
+IsFlowAfter kind number line given GoesOn = is_malformed given ≡ false
+IsFlowAfter kind number line given (Stopped malformed) =
+    (is_malformed given ≡ true) × IsStoppedAt kind number line (Stopped malformed)
+
+-- the status of a run that ends so, in which a refusal was written or none was
+abbrev pub status_after : Bool → Flow → Status
+status_after refused (Stopped malformed) = Malformed malformed
+status_after true GoesOn = Refused
+status_after false GoesOn = Done

@@ -1,0 +1,14 @@
+pub mod Script
+pub mod Hex
+pub mod Words
+pub mod Written
+pub mod Reads
+pub mod Lines
+pub mod Excerpts
+pub mod LineFaults
+pub mod Unread
+pub mod Kinds
+pub mod Answers
+pub mod Runs
+pub mod Flows
+pub mod Progress

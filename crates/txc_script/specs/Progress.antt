@@ -1,0 +1,174 @@
+-- Only private functions need this file: a run in progress.
+use Rattle.std.specs.Prelude.{◌≡◌, ◌⊎◌, ◌||◌, ℕ, Bool, true, false, List, [], ◌++◌, Option, Result, Ok, Err, length, take}
+use Rattle.std.specs.List.{list_any}
+use Rattle.std.specs.Io.KnownBytes.{Appends, Keeps}
+use Rattle.std.specs.declared.alloc.AllocError.{AllocError}
+use Rattle.txc_script.specs.Flows.{IsFlowAfter}
+use Rattle.txc_script.specs.Kinds.{ScriptKind, Given, Closing, Closes, EndInFault, Gives, IsWhole, is_malformed, is_refused, line_text, lines_text}
+use Rattle.txc_script.specs.Lines.{IsPlain}
+use Rattle.txc_script.specs.Runs.{Answers, BreaksOff, HasWritten}
+use Rattle.txc_script.specs.Script.{BeginsWithLines, HasNoEnd, AreLinesOf}
+use Rattle.txc_script.specs.declared.fault.RunFault.{RunFault}
+use Rattle.txc_script.specs.declared.fault.RunFault.TheVariants.{Write}
+use Rattle.txc_script.specs.declared.fault.Status.{Status}
+use Rattle.txc_script.specs.declared.fault.Status.TheVariants as statuses
+use Rattle.txc_script.specs.declared.line_fault.MalformedLine.{MalformedLine}
+use Rattle.txc_script.specs.declared.piece.TheConstants.{MAX_KEPT}
+use Rattle.txc_script.specs.declared.running.Flow.{Flow}
+use Rattle.txc_script.specs.declared.running.Flow.TheVariants.{GoesOn, Stopped}
+use Rattle.txc_script.specs.declared.running.Replies.{Replies}
+use Rattle.txc_script.specs.declared.running.Running.{Running}
+
+-- how much of a line is kept
+abbrev pub kept_of : List ℕ → List ℕ
+kept_of line = take MAX_KEPT line
+
+-- the state of a run and how many lines it has read, what it keeps of the line that has not ended, the replies
+-- at hand, and whether a refusal was written
+pub record Progress (S : Type 0) : Type 0 where
+  pub state : S
+  pub lines : ℕ
+  pub line : List ℕ
+  pub text : List ℕ
+  pub refused : Bool
+
+abbrev pub progress_of : {S : Type 0} → S → Running → Progress S
+progress_of state r = record {
+  state = state;
+  lines = r.lines;
+  line = r.line;
+  text = r.replies.text.items;
+  refused = r.replies.is_refused;
+}
+
+-- a line was answered that has this number: it found one state and left another, and what it gave was taken
+pub record AnswersLine {S A R : Type 0} (kind : ScriptKind S A R) (s next : S) (old new : Replies) (number : ℕ)
+    (line : List ℕ) (flow : Flow) : Type 0 where
+  pub given : Given A R
+  pub gives : Gives kind s number line given next
+  pub text : new.text.items ≡ old.text.items ++ line_text kind given
+  pub refused : new.is_refused ≡ (old.is_refused || is_refused kind given)
+  pub flow_is : IsFlowAfter kind number line given flow
+
+-- nothing was done of what a line asks for, or it broke off
+abbrev pub MayBreakOff : {S A R : Type 0} → ScriptKind S A R → S → List ℕ → S → Type 0
+MayBreakOff kind s line end = (end ≡ s) ⊎ (IsPlain line × kind.breaks_off s line end)
+
+-- the lines that have ended were answered, and none was malformed; these bytes were written, and the rest of
+-- the replies is at hand
+pub record HasAnswered {S A R : Type 0} (kind : ScriptKind S A R) (start : S) (read written : List ℕ)
+    (p : Progress S) : Type 0 where
+  pub lines : List (List ℕ)
+  pub given : List (Given A R)
+  pub rest : List ℕ
+  pub answers : Answers kind start lines given p.state
+  pub begins : BeginsWithLines read lines rest
+  pub not_ended : HasNoEnd rest
+  pub kept : p.line ≡ kept_of rest
+  pub text : written ++ p.text ≡ lines_text kind given
+  pub count : p.lines ≡ length lines
+  pub refused : p.refused ≡ list_any (is_refused kind) given
+  pub well_formed : list_any is_malformed given ≡ false
+
+-- first lines were answered, and the last of them was malformed, for this fault; or these are all lines
+pub record IsStopped {S A R : Type 0} (kind : ScriptKind S A R) (start : S) (read : List ℕ) (at_end : Type 0)
+    (written : List ℕ) (malformed_line : MalformedLine) (p : Progress S) : Type 0 where
+  pub lines : List (List ℕ)
+  pub given : List (Given A R)
+  pub answers : Answers kind start lines given p.state
+  pub whole : IsWhole read at_end lines given
+  pub text : written ++ p.text ≡ lines_text kind given
+  pub malformed : list_any is_malformed given ≡ true
+  pub wrong : EndInFault kind lines malformed_line
+
+-- lines were answered, none of them malformed, and the run broke off
+pub record IsHalted {S A R : Type 0} (kind : ScriptKind S A R) (start : S) (read : List ℕ) (at_end : Type 0)
+    (written : List ℕ) (p : Progress S) : Type 0 where
+  pub lines : List (List ℕ)
+  pub given : List (Given A R)
+  pub broke : BreaksOff kind start read at_end lines given p.state
+  pub text : written ++ p.text ≡ lines_text kind given
+  pub well_formed : list_any is_malformed given ≡ false
+
+-- all lines of the script were answered, and none was malformed
+pub record HasLast {S A R : Type 0} (kind : ScriptKind S A R) (start : S) (read written : List ℕ)
+    (p : Progress S) : Type 0 where
+  pub lines : List (List ℕ)
+  pub given : List (Given A R)
+  pub answers : Answers kind start lines given p.state
+  pub all : AreLinesOf read lines
+  pub text : written ++ p.text ≡ lines_text kind given
+  pub refused : p.refused ≡ list_any (is_refused kind) given
+  pub well_formed : list_any is_malformed given ≡ false
+
+-- all lines of the script were answered, none of them malformed, and what comes after them was done
+pub record HasClosed {S A R : Type 0} (kind : ScriptKind S A R) (start : S) (read written : List ℕ)
+    (p : Progress S) : Type 0 where
+  pub lines : List (List ℕ)
+  pub given : List (Given A R)
+  pub closing : Closing
+  pub end : S
+  pub answers : Answers kind start lines given end
+  pub all : AreLinesOf read lines
+  pub closes : Closes kind end given closing p.state
+  pub text : written ++ p.text ≡ lines_text kind given ++ closing.text
+  pub refused : p.refused ≡ (list_any (is_refused kind) given || closing.is_refused)
+  pub well_formed : list_any is_malformed given ≡ false
+
+-- the lines that end in the bytes were answered: the run goes on, or was stopped by a malformed line, or is
+-- out of memory
+abbrev pub AnswersAs : {S A R : Type 0} → ScriptKind S A R → S → List ℕ → List ℕ → Progress S
+    → Result Flow AllocError → Type 0
+AnswersAs kind start read written p (Ok GoesOn) = HasAnswered kind start read written p
+AnswersAs kind start read written p (Ok (Stopped malformed)) = IsStopped kind start read ⊥ written malformed p
+AnswersAs kind start read written p (Err e) = IsHalted kind start read ⊥ written p
+
+-- the last line was answered, or was malformed, or the run is out of memory
+abbrev pub AnswersLast : {S A R : Type 0} → ScriptKind S A R → S → List ℕ → List ℕ → Progress S
+    → Result Flow AllocError → Type 0
+AnswersLast kind start read written p (Ok GoesOn) = HasLast kind start read written p
+AnswersLast kind start read written p (Ok (Stopped malformed)) =
+    IsStopped kind start read (Unit {0}) written malformed p
+AnswersLast kind start read written p (Err e) = IsHalted kind start read (Unit {0}) written p
+
+-- the last line was answered, and what comes after it done; or it was malformed, or the run is out of memory
+abbrev pub EndsAs : {S A R : Type 0} → ScriptKind S A R → S → List ℕ → List ℕ → Progress S
+    → Result Flow AllocError → Type 0
+EndsAs kind start read written p (Ok GoesOn) = HasClosed kind start read written p
+EndsAs kind start read written p (Ok (Stopped malformed)) =
+    IsStopped kind start read (Unit {0}) written malformed p
+EndsAs kind start read written p (Err e) = IsHalted kind start read (Unit {0}) written p
+
+-- all but the replies at hand stay as they were
+pub record IsKeptBeside (old new : Running) : Type 0 where
+  pub lines : new.lines ≡ old.lines
+  pub line : new.line ≡ old.line
+  pub refused : new.replies.is_refused ≡ old.replies.is_refused
+
+-- ---- one read of a run
+
+-- more bytes were written after these, and the run ended so, in this state
+abbrev pub EndsWith : {S A R : Type 0} → ScriptKind S A R → S → List ℕ → Type 0 → List ℕ → Option (List ℕ)
+    → Option (List ℕ) → Result Status RunFault → S → Type 0
+EndsWith kind start read at_end written contents_old contents_new result left =
+    (more : List ℕ) × Appends contents_old contents_new more
+    × HasWritten kind start read at_end (written ++ more) result left
+
+-- the lines that end in the bytes of a read were answered, and the replies written: the run goes on, or it ends so
+abbrev pub TurnsTo : {S A R : Type 0} → ScriptKind S A R → S → List ℕ → List ℕ → Progress S → Option (List ℕ)
+    → Option (List ℕ) → Result Flow RunFault → Type 0
+TurnsTo kind start read written p contents_old contents_new (Ok GoesOn) =
+    (more : List ℕ) × Appends contents_old contents_new more
+    × HasAnswered kind start read (written ++ more) p × (p.text ≡ [])
+TurnsTo kind start read written p contents_old contents_new (Ok (Stopped malformed)) =
+    EndsWith kind start read ⊥ written contents_old contents_new (Ok (statuses.Malformed malformed)) p.state
+TurnsTo kind start read written p contents_old contents_new (Err fault) =
+    EndsWith kind start read ⊥ written contents_old contents_new (Err fault) p.state
+
+-- the run ended so, and the writer was flushed: a failure to flush is a fault of a run that had none
+abbrev pub EndsFlushed : Option (List ℕ) → Option (List ℕ) → Result Status RunFault → Result Status RunFault
+    → Type 0
+EndsFlushed contents_old contents_new (Ok status) result =
+    Keeps contents_old contents_new × ((result ≡ Ok status) ⊎ (result ≡ Err Write))
+EndsFlushed contents_old contents_new (Err fault) result =
+    Keeps contents_old contents_new × (result ≡ Err fault)

@@ -1,0 +1,96 @@
+//! Bytes as hexadecimal digits.
+ghost use Rattle.std.specs.Prelude.{◌≡◌, ℕ, ◌<◌, List, [], ◌∷◌, IfOk, IfErr, IfSome, IfNone};
+ghost use Rattle.std.specs.List.{flat_map};
+ghost use Rattle.txc_node.specs.Texts.{digit_of, digits_of};
+ghost use Rattle.txc_script.specs.Hex.{IsBytes, IsHexWord};
+ghost use Rattle.txc_script.specs.Unread.{IsNone};
+
+use crate::unread::Unread;
+use std::alloc::Global;
+
+/// What stands in [`DIGITS`] for a byte that is no digit.
+const X: u8 = 16;
+
+/// What each byte stands for as a hexadecimal digit.
+static DIGITS: [u8; 256] = [
+    X, X, X, X, X, X, X, X, X, X, X, X, X, X, X, X, X, X, X, X, X, X, X, X, X, X, X, X, X, X, X, X,
+    X, X, X, X, X, X, X, X, X, X, X, X, X, X, X, X, 0, 1, 2, 3, 4, 5, 6, 7, 8, 9, X, X, X, X, X, X,
+    X, X, X, X, X, X, X, X, X, X, X, X, X, X, X, X, X, X, X, X, X, X, X, X, X, X, X, X, X, X, X, X,
+    X, 10, 11, 12, 13, 14, 15, X, X, X, X, X, X, X, X, X, X, X, X, X, X, X, X, X, X, X, X, X, X, X,
+    X, X, X, X, X, X, X, X, X, X, X, X, X, X, X, X, X, X, X, X, X, X, X, X, X, X, X, X, X, X, X, X,
+    X, X, X, X, X, X, X, X, X, X, X, X, X, X, X, X, X, X, X, X, X, X, X, X, X, X, X, X, X, X, X, X,
+    X, X, X, X, X, X, X, X, X, X, X, X, X, X, X, X, X, X, X, X, X, X, X, X, X, X, X, X, X, X, X, X,
+    X, X, X, X, X, X, X, X, X, X, X, X, X, X, X, X, X, X, X, X, X, X, X, X, X, X, X, X, X, X, X, X,
+    X, X,
+];
+
+/// What a hexadecimal digit stands for. It has no branch by the digit's kind, which cannot be foreseen.
+#[inline(always)]
+fn digit_value(digit: u8) -> Option<u8>
+    ensures answer { IfSome result (λ n. (n < 16) × (digit_of n ≡ digit)) }
+    ensures refused { IfNone result ((n : ℕ) → n < 16 → digit_of n ≡ digit → ⊥) }
+{
+    let value = DIGITS[usize::from(digit)];
+    if value == X {
+        return None;
+    }
+    Some(value)
+}
+
+/// The byte of two digits.
+#[inline(always)]
+pub fn read_byte(high: u8, low: u8) -> Option<u8>
+    ensures answer { IfSome result (λ b. (b < 256) × (digits_of b ≡ high ∷ low ∷ [])) }
+    ensures refused { IfNone result ((b : ℕ) → b < 256 → digits_of b ≡ high ∷ low ∷ [] → ⊥) }
+{
+    let Some(high) = digit_value(high) else {
+        return None;
+    };
+    let Some(low) = digit_value(low) else {
+        return None;
+    };
+    Some(high * 16 + low)
+}
+
+/// The bytes of which the text has the digits.
+fn read_digits(alloc: Global, text: &[u8]) -> Result<Vec<u8>, Unread>
+    ensures answer { IfOk result (λ v.
+        IsBytes v.items × (flat_map digits_of v.items ≡ text.now)) }
+    ensures refused { IfErr result (IsNone (λ bytes.
+        IsBytes bytes × (flat_map digits_of bytes ≡ text.now))) }
+{
+    let mut bytes = match Vec::with_capacity(alloc, text.len() / 2) {
+        Ok(bytes) => bytes,
+        Err(_) => return Err(Unread::Memory),
+    };
+    let mut rest = text;
+    'digits: loop {
+        match rest {
+            [] => return Ok(bytes),
+            [_] => return Err(Unread::Malformed),
+            [high, low, after @ ..] => {
+                match read_byte(*high, *low) {
+                    None => return Err(Unread::Malformed),
+                    Some(byte) => match bytes.push(byte) {
+                        Ok(()) => rest = after,
+                        Err(_) => return Err(Unread::Memory),
+                    },
+                }
+            }
+        }
+    }
+}
+
+/// The bytes of which the text is the spelling: `-` for none, or two digits for each.
+pub fn read_hex(alloc: Global, text: &[u8]) -> Result<Vec<u8>, Unread>
+    ensures answer { IfOk result (λ v. IsHexWord text.now v.items) }
+    ensures refused { IfErr result (IsNone (IsHexWord text.now)) }
+{
+    if text == b"-".as_slice() {
+        return Ok(Vec::new(alloc));
+    }
+    if text.is_empty() {
+        return Err(Unread::Malformed);
+    }
+    read_digits(alloc, text)
+}

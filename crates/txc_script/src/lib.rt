@@ -1,0 +1,36 @@
+//! Scripts: lines and their words, what is wrong with a malformed line, and runs of any kind of script.
+#![tactic(auto)]
+
+mod excerpt;
+mod fault;
+mod finding;
+mod hex;
+mod kind;
+mod line;
+mod line_fault;
+mod line_name;
+mod piece;
+mod reads;
+mod run;
+mod running;
+mod scan;
+mod unread;
+mod word;
+mod words;
+mod writer;
+
+pub use excerpt::{Excerpt, MAX_SHOWN};
+pub use fault::{RunFault, Status, exit_of};
+pub use finding::bad_word;
+pub use hex::read_hex;
+pub use kind::Script;
+pub use line::MAX_LINE_LEN;
+pub use line_fault::{CommandFault, LineFault, MalformedLine, WordFault, WordKind};
+pub use line_name::LineName;
+pub use reads::MAX_READS;
+pub use run::run_script;
+pub use unread::{Malformed, Unread};
+pub use word::{read_stamp, read_still};
+pub use words::{
+    WordsLeft, all_words, count_words, first_word, one_word, six_words, three_words, two_words,
+};

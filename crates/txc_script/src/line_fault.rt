@@ -1,0 +1,142 @@
+//! What is wrong with a malformed line.
+use crate::excerpt::Excerpt;
+use crate::line::MAX_LINE_LEN;
+use crate::line_name::LineName;
+use std::fmt;
+use txc_stamp::LAST_STAMP;
+
+/// What a word has to be.
+#[derive(Clone, Copy, Debug, PartialEq, Eq)]
+pub enum WordKind {
+    /// A key: `f3(1,2)`.
+    Key,
+    /// A stamp: a number of at most the last one.
+    Stamp,
+    /// `still` or `closed`.
+    Reach,
+    /// Tags: `-`, or `t1:id=7,t2:?`.
+    Tags,
+    /// Bytes: `-`, or two lower-case hexadecimal digits for each.
+    Bytes,
+}
+
+/// A word that is not of its kind.
+#[derive(Debug, Drop)]
+pub struct WordFault {
+    /// Its number among the words after the command, counted from 1.
+    pub number: usize,
+    pub kind: WordKind,
+    /// Of a key and of tags: how many of its bytes are right, so that the next one is wrong or missing.
+    pub at: Option<usize>,
+    pub text: Excerpt,
+}
+
+/// What is wrong with the words of a line: the first of these.
+#[derive(Debug, Drop)]
+pub enum CommandFault {
+    /// There is no command of this name.
+    Unknown(Excerpt),
+    /// The command has another number of words after it.
+    Count {
+        /// How many there are to be.
+        wanted: usize,
+        /// How many there are.
+        given: usize,
+    },
+    Word(WordFault),
+    /// Of a world's script: its words are not those of a line of this name.
+    Usage(LineName),
+}
+
+/// What is wrong with a malformed line: the first of these.
+#[derive(Debug, Drop)]
+pub enum LineFault {
+    /// It has more than 4,096 bytes.
+    TooLong,
+    /// A byte outside 0x20 to 0x7E.
+    Byte {
+        /// How many bytes stand before it.
+        at: usize,
+        byte: u8,
+    },
+    /// A blank stands at an end, or two side by side.
+    Blanks,
+    /// It is no command.
+    Command(CommandFault),
+}
+
+/// A malformed line of a script.
+#[derive(Debug, Drop)]
+pub struct MalformedLine {
+    /// Its number among all lines, counted from 1.
+    pub number: u64,
+    pub fault: LineFault,
+}
+
+impl fmt::Display for WordKind {
+    fn fmt<W: fmt::Write>(&self, f: &mut fmt::Formatter<W>) -> fmt::Result {
+        match self {
+            WordKind::Key => f.write_str("a key such as `f1(2,3)`"),
+            WordKind::Stamp => write!(f, "a stamp from 0 to {}, without leading zeros", LAST_STAMP),
+            WordKind::Reach => f.write_str("`still` or `closed`"),
+            WordKind::Tags => f.write_str("tags such as `t1:id=7,t2:?`, or `-`"),
+            WordKind::Bytes => f.write_str(
+                "bytes as pairs of lower-case hexadecimal digits, or `-`",
+            ),
+        }
+    }
+}
+
+impl fmt::Display for WordFault {
+    fn fmt<W: fmt::Write>(&self, f: &mut fmt::Formatter<W>) -> fmt::Result {
+        write!(
+            f,
+            "word {} after the command: expected {}, found `{}`",
+            self.number, self.kind, self.text
+        )?;
+        let Some(at) = self.at else {
+            return Ok(());
+        };
+        if at < self.text.text_len() {
+            write!(f, ", wrong at byte {}", at + 1)
+        } else {
+            f.write_str(", which ends too early")
+        }
+    }
+}
+
+impl fmt::Display for CommandFault {
+    fn fmt<W: fmt::Write>(&self, f: &mut fmt::Formatter<W>) -> fmt::Result {
+        match self {
+            CommandFault::Unknown(name) => write!(f, "unknown command `{name}`"),
+            CommandFault::Count { wanted, given } => {
+                let words = if *wanted == 1 { "word" } else { "words" };
+                write!(f, "{wanted} {words} must follow the command, not {given}")
+            }
+            CommandFault::Word(fault) => write!(f, "{fault}"),
+            CommandFault::Usage(name) => write!(f, "expected `{name}`"),
+        }
+    }
+}
+
+impl fmt::Display for LineFault {
+    fn fmt<W: fmt::Write>(&self, f: &mut fmt::Formatter<W>) -> fmt::Result {
+        match self {
+            LineFault::TooLong => write!(f, "longer than {} bytes", MAX_LINE_LEN),
+            LineFault::Byte { at, byte } => {
+                let number = at.saturating_add(1);
+                write!(f, "byte {number}, 0x{byte:02X}, is not printable ASCII")
+            }
+            LineFault::Blanks => {
+                f.write_str("a blank at the start or the end, or two blanks in a row")
+            }
+            LineFault::Command(fault) => write!(f, "{fault}"),
+        }
+    }
+}
+
+impl fmt::Display for MalformedLine {
+    fn fmt<W: fmt::Write>(&self, f: &mut fmt::Formatter<W>) -> fmt::Result {
+        write!(f, "line {}: {}", self.number, self.fault)
+    }
+}

@@ -1,0 +1,128 @@
+//! Runs of scripts.
+ghost use Rattle.std.specs.Prelude.{◌≡◌, ◌≢◌, ℕ, ◌+◌, ◌^◌, ◌<◌, ◌≤◌, List, None, Err, ◌++◌, length};
+ghost use Rattle.txc_script.specs.Reads.{IsOver};
+ghost use Rattle.txc_script.specs.Runs.{HasRun};
+ghost use Rattle.txc_script.specs.Progress.{progress_of, EndsFlushed, EndsWith, HasAnswered, TurnsTo};
+
+use crate::fault::{RunFault, Status};
+use crate::kind::Script;
+use crate::reads::Reads;
+use crate::running::{Flow, Running};
+use std::alloc::Global;
+use std::io::{Read, Write};
+
+/// How many bytes a read is asked for.
+const PIECE_LEN: usize = 16_384;
+
+/// Answers the lines that end in the bytes of a read, and writes the replies.
+fn turn<K: Script, W: Write>(
+    alloc: Global,
+    kind: &K,
+    state: &mut K::State,
+    running: &mut Running,
+    bytes: &[u8],
+    writer: &mut W,
+) -> Result<Flow, RunFault>
+    requires { running.old.lines + length bytes.now < 2 ^ 64 }
+    ensures counted { running.new.lines ≤ running.old.lines + length bytes.now }
+    ensures turned { (start : K.State) (read written : List ℕ)
+        → HasAnswered (K.kind kind.now) start read written (progress_of state.old running.old)
+        → TurnsTo (K.kind kind.now) start (read ++ bytes.now) written (progress_of state.new running.new)
+        (W.contents writer.old) (W.contents writer.new) result }
+    ensures refused { result ≢ Err RunFault.Read }
+{
+    let answered = running.answer_lines(alloc, kind, state, bytes);
+    match running.write_out(writer) {
+        Ok(()) => match answered {
+            Ok(flow) => Ok(flow),
+            Err(_) => Err(RunFault::Memory),
+        },
+        Err(_) => Err(RunFault::Write),
+    }
+}
+
+/// Answers the last line, does what comes after all lines, and writes the replies.
+fn finish<K: Script, W: Write>(
+    alloc: Global,
+    kind: &K,
+    state: &mut K::State,
+    running: &mut Running,
+    writer: &mut W,
+) -> Result<Status, RunFault>
+    requires { running.old.lines + 1 < 2 ^ 64 }
+    ensures ended { (start : K.State) (read written : List ℕ)
+        → HasAnswered (K.kind kind.now) start read written (progress_of state.old running.old)
+        → EndsWith (K.kind kind.now) start read (Unit {0}) written
+        (W.contents writer.old) (W.contents writer.new) result state.new }
+    ensures refused { result ≢ Err RunFault.Read }
+{
+    let answered = running.finish(alloc, kind, state);
+    match running.write_out(writer) {
+        Ok(()) => match answered {
+            Ok(end) => Ok(running.status(end)),
+            Err(_) => Err(RunFault::Memory),
+        },
+        Err(_) => Err(RunFault::Write),
+    }
+}
+
+/// Answers the lines of a script. A fault of the reader comes only where no read is left or the reader failed.
+fn answer_script<K: Script, R: Read, W: Write>(
+    alloc: Global,
+    kind: &K,
+    state: &mut K::State,
+    reader: &mut R,
+    writer: &mut W,
+    reads: &mut Reads,
+) -> Result<Status, RunFault>
+    requires { reads.old ≡ record { left = 1048576; failure = None } }
+    ensures after { HasRun (K.kind kind.now) state.old (R.remaining reader.old) (R.remaining reader.new)
+        (W.contents writer.old) (W.contents writer.new) result state.new }
+    ensures refused { result ≡ Err RunFault.Read → IsOver reads.new }
+{
+    let mut running = match Running::new(alloc) {
+        Ok(running) => running,
+        Err(_) => return Err(RunFault::Memory),
+    };
+    let mut piece = [0u8; PIECE_LEN];
+    'reads: loop {
+        let n = reads.read(reader, &mut piece)?;
+        if n == 0 {
+            return finish(alloc, kind, state, &mut running, writer);
+        }
+        match turn(alloc, kind, state, &mut running, &piece[..n], writer)? {
+            Flow::GoesOn => {}
+            Flow::Stopped(line) => return Ok(Status::Malformed(line)),
+        }
+    }
+}
+
+/// Flushes the writer at the end of a run. A fault of the run stays the one that is reported.
+fn flush<W: Write>(writer: &mut W, ended: Result<Status, RunFault>) -> Result<Status, RunFault>
+    ensures { EndsFlushed (W.contents writer.old) (W.contents writer.new) ended result }
+{
+    let flushed = writer.flush();
+    let status = ended?;
+    match flushed {
+        Ok(()) => Ok(status),
+        Err(_) => Err(RunFault::Write),
+    }
+}
+
+/// Reads a script of a kind, and writes the replies to its lines. The status says what is wrong with a malformed
+/// line. A reader is read at most [`crate::MAX_READS`] times, where a read that was interrupted counts and is made
+/// again: one that has not come to its end by then is a read fault. The writer is flushed at the end.
+pub fn run_script<K: Script, R: Read, W: Write>(
+    alloc: Global,
+    kind: &K,
+    state: &mut K::State,
+    reader: &mut R,
+    writer: &mut W,
+) -> Result<Status, RunFault>
+    ensures { HasRun (K.kind kind.now) state.old (R.remaining reader.old) (R.remaining reader.new)
+        (W.contents writer.old) (W.contents writer.new) result state.new }
+{
+    let mut reads = Reads::new();
+    let ended = answer_script(alloc, kind, state, reader, writer, &mut reads);
+    flush(writer, ended)
+}

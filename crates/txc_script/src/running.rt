@@ -1,0 +1,353 @@
+//! A run in progress: lines are answered one after another.
+ghost use Rattle.std.specs.Prelude.{◌≡◌, true, false, ℕ, ◌+◌, ◌^◌, ◌<◌, ◌≤◌, List, [], ◌∷◌, ◌++◌, length, take, Err, IfOk, OnOk, OnErr};
+ghost use Rattle.std.specs.Io.KnownBytes.{Appends};
+ghost use Rattle.txc_script.specs.Script.{HasNoEnd};
+ghost use Rattle.txc_script.specs.Kinds.{IsMalformed, malformed_text};
+ghost use Rattle.txc_script.specs.Lines.{ArePlain};
+ghost use Rattle.txc_script.specs.Written.{AppendsPrefix};
+ghost use Rattle.txc_script.specs.Flows.{IsStoppedAt, status_after};
+ghost use Rattle.txc_script.specs.Progress.{progress_of, AnswersAs, AnswersLast, AnswersLine, EndsAs, HasAnswered, HasLast, IsKeptBeside, MayBreakOff};
+
+use crate::fault::{RunFault, Status};
+use crate::finding::find_fault;
+use crate::kind::Script;
+use crate::line::{is_plain, is_quiet};
+use crate::line_fault::MalformedLine;
+use crate::piece::{LineStart, MAX_KEPT, cut_line};
+use crate::unread::Unread;
+use crate::writer::write_text;
+use std::alloc::{AllocError, Global};
+use std::io::Write;
+
+/// Whether a run goes on after a line.
+#[derive(Debug, Drop)]
+pub enum Flow {
+    /// The next line is read.
+    GoesOn,
+    /// A malformed line was read.
+    Stopped(MalformedLine),
+}
+
+/// The replies so far.
+#[derive(Drop)]
+pub struct Replies {
+    /// What is not written yet.
+    text: Vec<u8>,
+    /// Whether one of them holds a refusal, or a line was malformed.
+    is_refused: bool,
+}
+
+/// A run in progress, beside its state.
+#[derive(Drop)]
+pub struct Running {
+    /// How many lines were read.
+    lines: u64,
+    /// The line that has not ended.
+    line: LineStart,
+    replies: Replies,
+}
+
+impl Replies {
+    /// Takes a malformed line.
+    #[cold]
+    #[inline(never)]
+    fn take_malformed(&mut self, alloc: Global, number: u64) -> Result<(), AllocError>
+        ensures text { OnOk result (self.new.text.items ≡ self.old.text.items ++ malformed_text number) }
+        ensures refused { OnOk result (self.new.is_refused ≡ true) }
+        ensures unchanged { OnErr result (self.new.text.items ≡ self.old.text.items) }
+    {
+        let line = format!(in alloc; "line {number}: malformed\n")?;
+        self.text.extend_from_slice(line.as_bytes())?;
+        self.is_refused = true;
+        Ok(())
+    }
+}
+
+/// Answers a malformed line that has this number.
+#[cold]
+#[inline(never)]
+fn answer_malformed<K: Script>(
+    alloc: Global,
+    kind: &K,
+    replies: &mut Replies,
+    number: u64,
+    line: &[u8],
+) -> Result<Flow, AllocError>
+    requires { IsMalformed (K.kind kind.now) line.now }
+    ensures stopped { IfOk result (IsStoppedAt (K.kind kind.now) number line.now) }
+    ensures text { OnOk result (replies.new.text.items ≡ replies.old.text.items ++ malformed_text number) }
+    ensures refused { OnOk result (replies.new.is_refused ≡ true) }
+    ensures unchanged { OnErr result (replies.new.text.items ≡ replies.old.text.items) }
+{
+    let fault = find_fault(alloc, kind, line);
+    replies.take_malformed(alloc, number)?;
+    Ok(Flow::Stopped(MalformedLine { number, fault }))
+}
+
+/// Answers a line that has this number. Of its bytes it may be known that a line may have each.
+fn answer<K: Script>(
+    alloc: Global,
+    kind: &K,
+    state: &mut K::State,
+    replies: &mut Replies,
+    number: u64,
+    line: &[u8],
+    known_plain: bool,
+) -> Result<Flow, AllocError>
+    requires { known_plain ≡ true → ArePlain line.now }
+    ensures answered { IfOk result (AnswersLine (K.kind kind.now) state.old state.new replies.old replies.new
+        number line.now) }
+    ensures broke { OnErr result (MayBreakOff (K.kind kind.now) state.old line.now state.new) }
+    ensures unchanged { OnErr result (replies.new.text.items ≡ replies.old.text.items) }
+{
+    if !is_plain(line, known_plain) {
+        return answer_malformed(alloc, kind, replies, number, line);
+    }
+    if is_quiet(line) {
+        return Ok(Flow::GoesOn);
+    }
+    match kind.answer(alloc, state, line, &mut replies.text) {
+        Ok(is_refused) => {
+            replies.is_refused |= is_refused;
+            Ok(Flow::GoesOn)
+        }
+        Err(Unread::Malformed) => answer_malformed(alloc, kind, replies, number, line),
+        Err(Unread::Memory) => Err(AllocError),
+    }
+}
+
+impl Running {
+    /// No line was read.
+    pub fn new(alloc: Global) -> Result<Running, AllocError>
+        ensures no_line { IfOk result (λ r. r.lines ≡ 0) }
+        ensures nothing_kept { IfOk result (λ r. r.line ≡ []) }
+        ensures no_output { IfOk result (λ r. r.replies.text.items ≡ []) }
+        ensures none_refused { IfOk result (λ r. r.replies.is_refused ≡ false) }
+    {
+        let line = LineStart::new(alloc)?;
+        let replies = Replies {
+            text: Vec::new(alloc),
+            is_refused: false,
+        };
+        Ok(Running {
+            lines: 0,
+            line,
+            replies,
+        })
+    }
+
+    /// The status of a run that ends so.
+    pub fn status(&self, end: Flow) -> Status
+        ensures { result ≡ status_after self.now.replies.is_refused end }
+    {
+        if let Flow::Stopped(line) = end {
+            return Status::Malformed(line);
+        }
+        if self.replies.is_refused {
+            Status::Refused
+        } else {
+            Status::Done
+        }
+    }
+
+    /// Answers a line.
+    fn answer_line<K: Script>(
+        &mut self,
+        alloc: Global,
+        kind: &K,
+        state: &mut K::State,
+        line: &[u8],
+        known_plain: bool,
+    ) -> Result<Flow, AllocError>
+        requires count { self.old.lines + 1 < 2 ^ 64 }
+        requires plain { known_plain ≡ true → ArePlain line.now }
+        ensures answered { IfOk result (AnswersLine (K.kind kind.now) state.old state.new self.old.replies
+            self.new.replies (self.old.lines + 1) line.now) }
+        ensures broke { OnErr result (MayBreakOff (K.kind kind.now) state.old line.now state.new) }
+        ensures unchanged { OnErr result (self.new.replies.text.items ≡ self.old.replies.text.items) }
+        ensures counted { self.new.lines ≡ self.old.lines + 1 }
+        ensures same_line { self.new.line ≡ self.old.line }
+    {
+        self.lines += 1;
+        answer(
+            alloc,
+            kind,
+            state,
+            &mut self.replies,
+            self.lines,
+            line,
+            known_plain,
+        )
+    }
+
+    /// Answers the line that is kept.
+    fn answer_kept<K: Script>(
+        &mut self,
+        alloc: Global,
+        kind: &K,
+        state: &mut K::State,
+    ) -> Result<Flow, AllocError>
+        requires { self.old.lines + 1 < 2 ^ 64 }
+        ensures answered { IfOk result (AnswersLine (K.kind kind.now) state.old state.new self.old.replies
+            self.new.replies (self.old.lines + 1) self.old.line) }
+        ensures broke { OnErr result (MayBreakOff (K.kind kind.now) state.old self.old.line state.new) }
+        ensures unchanged { OnErr result (self.new.replies.text.items ≡ self.old.replies.text.items) }
+        ensures counted { self.new.lines ≡ self.old.lines + 1 }
+        ensures emptied { self.new.line ≡ [] }
+    {
+        self.lines += 1;
+        let line = self.line.bytes();
+        let answered = answer(
+            alloc,
+            kind,
+            state,
+            &mut self.replies,
+            self.lines,
+            line,
+            false,
+        );
+        self.line.clear();
+        answered
+    }
+
+    /// Answers the line that ends after these bytes. One that lies whole in them is not copied.
+    fn end_line<K: Script>(
+        &mut self,
+        alloc: Global,
+        kind: &K,
+        state: &mut K::State,
+        bytes: &[u8],
+        known_plain: bool,
+    ) -> Result<Flow, AllocError>
+        requires count { self.old.lines + 1 < 2 ^ 64 }
+        requires no_end { HasNoEnd bytes.now }
+        requires plain { known_plain ≡ true → ArePlain bytes.now }
+        ensures counted { self.new.lines ≤ self.old.lines + 1 }
+        ensures answered { (start : K.State) (read written : List ℕ)
+            → HasAnswered (K.kind kind.now) start read written (progress_of state.old self.old)
+            → AnswersAs (K.kind kind.now) start (read ++ (bytes.now ++ 10 ∷ [])) written
+            (progress_of state.new self.new) result }
+    {
+        if self.line.is_empty() {
+            return self.answer_line(alloc, kind, state, bytes, known_plain);
+        }
+        match self.line.add(bytes) {
+            Ok(()) => self.answer_kept(alloc, kind, state),
+            Err(e) => Err(e),
+        }
+    }
+
+    /// A line goes on with these bytes.
+    fn extend_line(&mut self, rest: &[u8]) -> Result<Flow, AllocError>
+        ensures goes_on { IfOk result (λ flow. flow ≡ Flow.GoesOn) }
+        ensures line { OnOk result (self.new.line ≡ take MAX_KEPT (self.old.line ++ rest.now)) }
+        ensures counted { self.new.lines ≡ self.old.lines }
+        ensures replies { self.new.replies ≡ self.old.replies }
+    {
+        match self.line.add(rest) {
+            Ok(()) => Ok(Flow::GoesOn),
+            Err(e) => Err(e),
+        }
+    }
+
+    /// Answers the lines that end in these bytes.
+    pub fn answer_lines<K: Script>(
+        &mut self,
+        alloc: Global,
+        kind: &K,
+        state: &mut K::State,
+        bytes: &[u8],
+    ) -> Result<Flow, AllocError>
+        requires { self.old.lines + length bytes.now < 2 ^ 64 }
+        ensures counted { self.new.lines ≤ self.old.lines + length bytes.now }
+        ensures answered { (start : K.State) (read written : List ℕ)
+            → HasAnswered (K.kind kind.now) start read written (progress_of state.old self.old)
+            → AnswersAs (K.kind kind.now) start (read ++ bytes.now) written (progress_of state.new self.new) result }
+    {
+        let mut rest = bytes;
+        'lines: loop {
+            match cut_line(rest) {
+                Some((before, is_plain, after)) => {
+                    match self.end_line(alloc, kind, state, before, is_plain) {
+                        Ok(Flow::GoesOn) => rest = after,
+                        Ok(Flow::Stopped(line)) => return Ok(Flow::Stopped(line)),
+                        Err(e) => return Err(e),
+                    }
+                }
+                None => return self.extend_line(rest),
+            }
+        }
+    }
+
+    /// Answers the last line, if its line feed is missing.
+    fn answer_last<K: Script>(
+        &mut self,
+        alloc: Global,
+        kind: &K,
+        state: &mut K::State,
+    ) -> Result<Flow, AllocError>
+        requires { self.old.lines + 1 < 2 ^ 64 }
+        ensures { (start : K.State) (read written : List ℕ)
+            → HasAnswered (K.kind kind.now) start read written (progress_of state.old self.old)
+            → AnswersLast (K.kind kind.now) start read written (progress_of state.new self.new) result }
+    {
+        if self.line.is_empty() {
+            return Ok(Flow::GoesOn);
+        }
+        self.answer_kept(alloc, kind, state)
+    }
+
+    /// Does what comes after all lines.
+    fn close<K: Script>(
+        &mut self,
+        alloc: Global,
+        kind: &K,
+        state: &mut K::State,
+    ) -> Result<Flow, AllocError>
+        ensures { (start : K.State) (read written : List ℕ)
+            → HasLast (K.kind kind.now) start read written (progress_of state.old self.old)
+            → EndsAs (K.kind kind.now) start read written (progress_of state.new self.new) result }
+    {
+        match kind.close(alloc, state, &mut self.replies.text) {
+            Ok(is_refused) => {
+                self.replies.is_refused |= is_refused;
+                Ok(Flow::GoesOn)
+            }
+            Err(e) => Err(e),
+        }
+    }
+
+    /// Answers the last line, if its line feed is missing, and does what comes after all lines.
+    pub fn finish<K: Script>(
+        &mut self,
+        alloc: Global,
+        kind: &K,
+        state: &mut K::State,
+    ) -> Result<Flow, AllocError>
+        requires { self.old.lines + 1 < 2 ^ 64 }
+        ensures { (start : K.State) (read written : List ℕ)
+            → HasAnswered (K.kind kind.now) start read written (progress_of state.old self.old)
+            → EndsAs (K.kind kind.now) start read written (progress_of state.new self.new) result }
+    {
+        match self.answer_last(alloc, kind, state) {
+            Ok(Flow::GoesOn) => self.close(alloc, kind, state),
+            Ok(Flow::Stopped(line)) => Ok(Flow::Stopped(line)),
+            Err(e) => Err(e),
+        }
+    }
+
+    /// Writes the replies that are not written yet.
+    pub fn write_out<W: Write>(&mut self, writer: &mut W) -> Result<(), RunFault>
+        ensures after { OnOk result (Appends (W.contents writer.old) (W.contents writer.new)
+            self.old.replies.text.items) }
+        ensures emptied { OnOk result (self.new.replies.text.items ≡ []) }
+        ensures prefix { OnErr result (AppendsPrefix (W.contents writer.old) (W.contents writer.new)
+            self.old.replies.text.items) }
+        ensures refused { OnErr result (result ≡ Err RunFault.Write) }
+        ensures same { IsKeptBeside self.old self.new }
+    {
+        write_text(writer, self.replies.text.as_slice())?;
+        self.replies.text.clear();
+        Ok(())
+    }
+}

@@ -1,0 +1,44 @@
+//! Why nothing was read.
+use std::alloc::AllocError;
+use txc_tags::BadKey;
+
+/// The text is not what was to be read.
+#[derive(Clone, Copy, Debug, PartialEq, Eq)]
+pub struct Malformed;
+
+impl From<BadKey> for Malformed {
+    fn from(_error: BadKey) -> Malformed {
+        Malformed
+    }
+}
+
+/// Why nothing was read of a text.
+#[derive(Clone, Copy, Debug, PartialEq, Eq)]
+pub enum Unread {
+    /// It is not what was to be read.
+    Malformed,
+    /// A growth was refused.
+    Memory,
+}
+
+impl From<Malformed> for Unread {
+    ghost use Rattle.std.specs.Prelude.{◌≡◌};
+    ghost use Rattle.txc_script.specs.declared.unread.Unread.TheVariants as reasons;
+
+    ghost from_gives = { λ _ reason. reason ≡ reasons.Malformed };
+
+    fn from(_error: Malformed) -> Unread {
+        Unread::Malformed
+    }
+}
+
+impl From<AllocError> for Unread {
+    ghost use Rattle.std.specs.Prelude.{◌≡◌};
+    ghost use Rattle.txc_script.specs.declared.unread.Unread.TheVariants as reasons;
+
+    ghost from_gives = { λ _ reason. reason ≡ reasons.Memory };
+
+    fn from(_error: AllocError) -> Unread {
+        Unread::Memory
+    }
+}
