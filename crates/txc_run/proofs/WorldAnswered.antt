@@ -3,7 +3,7 @@ use Rattle.std.proofs.Common.{◌≡◌, ℕ, Bool, List, [], ◌∷◌, ◌++�
 use Rattle.std.specs.declared.alloc.AllocError.{AllocError}
 use Rattle.std.proofs.lemmas.List.{length-take}
 use Rattle.txc_shared.specs.Eval.{Next}
-use Rattle.txc_world.specs.Told.{Told}
+use Rattle.txc_world.specs.Worlds.{WorldValue}
 use Rattle.txc_run.specs.Flows.{IsFlowAfter}
 use Rattle.txc_run.specs.Lines.{IsQuiet}
 use Rattle.txc_run.specs.Tasks.{IsMalformedLine, IsTaskLine}
@@ -19,7 +19,7 @@ use Rattle.txc_run.proofs.EachLine.{flat_more, plain_kept, plain_whole, short_ke
 
 -- ---- what is kept of a line is enough
 
-gives_whole : (next : Next) (c : Told) (n : ℕ) (line : List ℕ) (g : WorldGiven) (after : Told) → Gives next c n (kept_of line) g after → Gives next c n line g after
+gives_whole : (next : Next) (c : WorldValue) (n : ℕ) (line : List ℕ) (g : WorldGiven) (after : WorldValue) → Gives next c n (kept_of line) g after → Gives next c n line g after
 gives_whole next c n line Nothing after h = (subst IsQuiet (plain_kept line h.0.0) h.0, h.1)
 gives_whole next c n line (Done printed) after h = (h.0, subst (λ l. IsTaskLine l h.0) (plain_kept line h.1.0) h.1, h.2)
 gives_whole next c n line (Malformed k) after h = (
@@ -31,7 +31,7 @@ gives_whole next c n line (Malformed k) after h = (
   h.2,
 )
 
-begun_whole : (next : Next) (c : Told) (line : List ℕ) (after : Told) → HasBegunLine next c (kept_of line) after → HasBegunLine next c line after
+begun_whole : (next : Next) (c : WorldValue) (line : List ℕ) (after : WorldValue) → HasBegunLine next c (kept_of line) after → HasBegunLine next c line after
 begun_whole next c line after h = (h.0, subst (λ l. IsTaskLine l h.0) (plain_kept line h.1.0) h.1, h.2)
 
 fault_whole : (line : List ℕ) (fault : LineFault) → IsWorldFaultOf (kept_of line) fault → IsWorldFaultOf line fault
@@ -49,14 +49,14 @@ kept_reads next read line is = record {
   fault = λ fault h. fault_whole line fault (subst (λ (l : List ℕ). IsWorldFaultOf l fault) is h);
 }
 
-pub kept_begun : (next : Next) (read line : List ℕ) → read ≡ kept_of line → (c after : Told) → HasBegunLine next c read after → HasBegunLine next c line after
+pub kept_begun : (next : Next) (read line : List ℕ) → read ≡ kept_of line → (c after : WorldValue) → HasBegunLine next c read after → HasBegunLine next c line after
 kept_begun next read line is c after h = begun_whole next c line after (subst (λ (l : List ℕ). HasBegunLine next c l after) is h)
 
 -- a malformed line was answered, and no step was taken
-pub malformed_answered : (next : Next) (r : Result Flow AllocError) (told : Told) (old new : List ℕ) (was is : Bool) (n : ℕ) (line : List ℕ) → IsMalformedLine line
-    → IfOk r (IsFlowAfter (world_script next) n line (Malformed n)) → OnOk r (Takes old new was is (Malformed n)) → IfOk r (AnswersLine next told told old new was is n line)
-malformed_answered next (Ok flow) told old new was is n line bad stops takes = record { given = Malformed n; gives = (bad, refl, refl); takes = takes; flow_is = stops }
-malformed_answered next (Err e) told old new was is n line bad stops takes = tt
+pub malformed_answered : (next : Next) (r : Result Flow AllocError) (world : WorldValue) (old new : List ℕ) (was is : Bool) (n : ℕ) (line : List ℕ) → IsMalformedLine line
+    → IfOk r (IsFlowAfter (world_script next) n line (Malformed n)) → OnOk r (Takes old new was is (Malformed n)) → IfOk r (AnswersLine next world world old new was is n line)
+malformed_answered next (Ok flow) world old new was is n line bad stops takes = record { given = Malformed n; gives = (bad, refl, refl); takes = takes; flow_is = stops }
+malformed_answered next (Err e) world old new was is n line bad stops takes = tt
 
 -- ---- the text
 

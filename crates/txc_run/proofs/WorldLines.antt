@@ -4,7 +4,7 @@ use Rattle.std.specs.List.{list_any}
 use Rattle.std.specs.declared.alloc.AllocError.{AllocError}
 use Rattle.std.proofs.lemmas.List.{append-nil, length-append}
 use Rattle.std.proofs.lemmas.List.Elements.{All-append, All-nil}
-use Rattle.txc_world.specs.Told.{Told}
+use Rattle.txc_world.specs.Worlds.{WorldValue}
 use Rattle.txc_run.specs.Script.{BeginsWithLines, HasNoEnd}
 use Rattle.txc_run.specs.Kinds.{AreFirstLines, AreGiven}
 use Rattle.txc_run.specs.WorldGiven.{WorldGiven, Gives, HasBegunLine, is_malformed, is_refused, world_script, world_text}
@@ -160,9 +160,9 @@ stopped_longer start read written more all bad s e h = record {
   wrong = h.wrong;
 }
 
-leaves_longer : (start : WorldStart) (read more : List ℕ) (lines : List (List ℕ)) (end told : Told) → LeavesLine start read lines end told → LeavesLine start (read ++ more) lines end told
-leaves_longer start read more lines end told (inl same) = inl same
-leaves_longer start read more lines end told (inr (line, others, begins, begun)) = inr (line, others ++ more, begins_longer read (lines ++ line ∷ []) others more begins, begun)
+leaves_longer : (start : WorldStart) (read more : List ℕ) (lines : List (List ℕ)) (end world : WorldValue) → LeavesLine start read lines end world → LeavesLine start (read ++ more) lines end world
+leaves_longer start read more lines end world (inl same) = inl same
+leaves_longer start read more lines end world (inr (line, others, begins, begun)) = inr (line, others ++ more, begins_longer read (lines ++ line ∷ []) others more begins, begun)
 
 pub halted_longer : (start : WorldStart) (read written more all : List ℕ) (s : Progress) → read ++ more ≡ all → IsHalted start read written s → IsHalted start all written s
 halted_longer start read written more all s e h = record {

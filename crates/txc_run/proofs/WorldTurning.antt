@@ -5,7 +5,7 @@ use Rattle.std.specs.declared.alloc.AllocError.{AllocError}
 use Rattle.std.proofs.KnownBytes.{Appends-nil, Appends-trans, Appends-kept, Consumes-nil}
 use Rattle.std.proofs.lemmas.List.{append-nil, take_all}
 use Rattle.std.proofs.lemmas.List.Elements.{All-nil}
-use Rattle.txc_world.specs.Told.{Told}
+use Rattle.txc_world.specs.Worlds.{WorldValue}
 use Rattle.txc_run.specs.Script.{HasNoEnd}
 use Rattle.txc_run.specs.Written.{AppendsPrefix}
 use Rattle.txc_run.specs.Turns.{EndsFlushed}
@@ -27,14 +27,14 @@ use Rattle.txc_run.proofs.EachLine.{prefix_of, status_is, whole_at, whole_first}
 -- ---- where the run broke off
 
 -- after the lines that were answered
-no_more : (start : WorldStart) (read : List ℕ) (lines : List (List ℕ)) (given : List WorldGiven) (told : Told) → Answers start lines given told → BreaksOff start read lines given told
-no_more start read lines given told answers = record { end = told; answers = answers; left = inl refl }
+no_more : (start : WorldStart) (read : List ℕ) (lines : List (List ℕ)) (given : List WorldGiven) (world : WorldValue) → Answers start lines given world → BreaksOff start read lines given world
+no_more start read lines given world answers = record { end = world; answers = answers; left = inl refl }
 
 -- in the line after them
-some_more : (start : WorldStart) (read : List ℕ) (lines : List (List ℕ)) (end told : Told) → LeavesLine start read lines end told
-    → (told ≡ end) ⊎ ((line : List ℕ) × AreFirstLines read (lines ++ line ∷ []) × HasBegunLine start.next end line told)
-some_more start read lines end told (inl same) = inl same
-some_more start read lines end told (inr (line, others, begins, begun)) = inr (line, inl (others, begins), begun)
+some_more : (start : WorldStart) (read : List ℕ) (lines : List (List ℕ)) (end world : WorldValue) → LeavesLine start read lines end world
+    → (world ≡ end) ⊎ ((line : List ℕ) × AreFirstLines read (lines ++ line ∷ []) × HasBegunLine start.next end line world)
+some_more start read lines end world (inl same) = inl same
+some_more start read lines end world (inr (line, others, begins, begun)) = inr (line, inl (others, begins), begun)
 
 pub halted_unfinished : (start : WorldStart) (read written : List ℕ) (s : Progress) → IsHalted start read written s → IsUnfinished start read written s
 halted_unfinished start read written s h = record {
@@ -76,7 +76,7 @@ turn_stops start read written s bad old new all k =
     (s.text, all, (k.lines, k.given, k.answers, inr (k.others, k.begins, k.malformed), k.text, (k.malformed, k.wrong)))
 
 -- the run goes on
-turn_goes_on : (start : WorldStart) (read written : List ℕ) (world : Told) (s next : WorldSession) → IsKeptBeside s next → next.replied.text.items ≡ []
+turn_goes_on : (start : WorldStart) (read written : List ℕ) (world : WorldValue) (s next : WorldSession) → IsKeptBeside s next → next.replied.text.items ≡ []
     → HasAnswered start read written (progress_of world s) → HasAnswered start read (written ++ s.replied.text.items) (progress_of world next)
 turn_goes_on start read written world s next same none h = record {
   lines = h.lines;
@@ -107,24 +107,24 @@ finish_faults start read written s (Err e) old new prefix k = fails_unfinished (
 
 -- ---- whole runs
 
-written_at : (P Q : Type 0) (start : WorldStart) (read written : List ℕ) (r : Result Status RunFault) (told : Told) → (P → Q) → HasWritten start read P written r told → HasWritten start read Q written r told
-written_at P Q start read written (Ok status) told f h = (h.0, h.1, h.2, whole_at (world_script start.next) P Q read h.0 h.1 f h.3, h.4, h.5)
-written_at P Q start read written (Err Read) told f h = h
-written_at P Q start read written (Err Write) told f h = h
-written_at P Q start read written (Err Memory) told f h = h
+written_at : (P Q : Type 0) (start : WorldStart) (read written : List ℕ) (r : Result Status RunFault) (world : WorldValue) → (P → Q) → HasWritten start read P written r world → HasWritten start read Q written r world
+written_at P Q start read written (Ok status) world f h = (h.0, h.1, h.2, whole_at (world_script start.next) P Q read h.0 h.1 f h.3, h.4, h.5)
+written_at P Q start read written (Err Read) world f h = h
+written_at P Q start read written (Err Write) world f h = h
+written_at P Q start read written (Err Memory) world f h = h
 
 -- what was read and written before, and how the run ended after it
-pub run_ends : (P : Type 0) (start : WorldStart) (a b : Option (List ℕ)) (w x y : Option (List ℕ)) (read written : List ℕ) (r : Result Status RunFault) (told : Told) → Consumes a b read → Appends w x written
-    → (P → IsAtEnd b) → EndsWith start read P written x y r told → HasAnsweredScript start a b w y r told
-run_ends P start a b w x y read written r told consumes appends f e =
-    (read, written ++ e.0, consumes, Appends-trans w x y written e.0 appends e.1, written_at P (IsAtEnd b) start read (written ++ e.0) r told f e.2)
+pub run_ends : (P : Type 0) (start : WorldStart) (a b : Option (List ℕ)) (w x y : Option (List ℕ)) (read written : List ℕ) (r : Result Status RunFault) (world : WorldValue) → Consumes a b read → Appends w x written
+    → (P → IsAtEnd b) → EndsWith start read P written x y r world → HasAnsweredScript start a b w y r world
+run_ends P start a b w x y read written r world consumes appends f e =
+    (read, written ++ e.0, consumes, Appends-trans w x y written e.0 appends e.1, written_at P (IsAtEnd b) start read (written ++ e.0) r world f e.2)
 
 -- out of memory before anything was read
 pub run_out_of_memory : (start : WorldStart) (a w : Option (List ℕ)) → HasAnsweredScript start a a w w (Err Memory) start.world
 run_out_of_memory start a w =
     ([], [], Consumes-nil a, Appends-nil w, ([], [], [], no_more start [] [] [] start.world refl, record { joined = refl; each_is_one = All-nil HasNoEnd }, refl, refl))
 
-pub turn_answered : (start : WorldStart) (read written : List ℕ) (world : Told) (s next : WorldSession) (flow : Flow) (old new : Option (List ℕ)) → Appends old new s.replied.text.items → IsKeptBeside s next
+pub turn_answered : (start : WorldStart) (read written : List ℕ) (world : WorldValue) (s next : WorldSession) (flow : Flow) (old new : Option (List ℕ)) → Appends old new s.replied.text.items → IsKeptBeside s next
     → next.replied.text.items ≡ [] → AnswersAs start read written (progress_of world s) (Ok flow) → TurnsTo start read written (progress_of world next) old new (Ok flow)
 turn_answered start read written world s next GoesOn old new all same none h = (s.replied.text.items, all, turn_goes_on start read written world s next same none h, none)
 turn_answered start read written world s next (Stopped bad) old new all same none h = turn_stops start read written (progress_of world s) bad old new all h
@@ -146,16 +146,16 @@ reader_failed start a b w x read written s r consumes appends h none is =
 
 -- ---- the writer is flushed
 
-pub flushed : (start : WorldStart) (a b w x y : Option (List ℕ)) (ended result : Result Status RunFault) (told : Told) → HasAnsweredScript start a b w x ended told → EndsFlushed x y ended result
-    → HasAnsweredScript start a b w y result told
-flushed start a b w x y (Ok status) result told h (keeps, inl is) =
-    subst (λ (e : Result Status RunFault). HasAnsweredScript start a b w y e told) (sym is) (h.0, h.1, h.2, Appends-kept w x y h.1 h.3 keeps, h.4)
-flushed start a b w x y (Ok status) result told h (keeps, inr is) =
+pub flushed : (start : WorldStart) (a b w x y : Option (List ℕ)) (ended result : Result Status RunFault) (world : WorldValue) → HasAnsweredScript start a b w x ended world → EndsFlushed x y ended result
+    → HasAnsweredScript start a b w y result world
+flushed start a b w x y (Ok status) result world h (keeps, inl is) =
+    subst (λ (e : Result Status RunFault). HasAnsweredScript start a b w y e world) (sym is) (h.0, h.1, h.2, Appends-kept w x y h.1 h.3 keeps, h.4)
+flushed start a b w x y (Ok status) result world h (keeps, inr is) =
     let written = h.4 in
     let all = world_text written.1 in
     let text : h.1 ≡ all = written.4 in
     let whole : h.1 ≡ take (length h.1) all = text ∙ sym (take_all (length h.1) all (omega (arith, ap length text))) in
-    subst (λ (e : Result Status RunFault). HasAnsweredScript start a b w y e told) (sym is)
-    (h.0, h.1, h.2, Appends-kept w x y h.1 h.3 keeps, (written.0, written.1, length h.1, no_more start h.0 written.0 written.1 told written.2, whole_first (world_script start.next) _ h.0 written.0 written.1 written.3, whole))
-flushed start a b w x y (Err fault) result told h (keeps, is) =
-    subst (λ (e : Result Status RunFault). HasAnsweredScript start a b w y e told) (sym is) (h.0, h.1, h.2, Appends-kept w x y h.1 h.3 keeps, h.4)
+    subst (λ (e : Result Status RunFault). HasAnsweredScript start a b w y e world) (sym is)
+    (h.0, h.1, h.2, Appends-kept w x y h.1 h.3 keeps, (written.0, written.1, length h.1, no_more start h.0 written.0 written.1 world written.2, whole_first (world_script start.next) _ h.0 written.0 written.1 written.3, whole))
+flushed start a b w x y (Err fault) result world h (keeps, is) =
+    subst (λ (e : Result Status RunFault). HasAnsweredScript start a b w y e world) (sym is) (h.0, h.1, h.2, Appends-kept w x y h.1 h.3 keeps, h.4)

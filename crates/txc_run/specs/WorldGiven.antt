@@ -2,7 +2,7 @@
 use Rattle.std.specs.Prelude.{◌≡◌, ℕ, Bool, true, false, List, [], ◌∷◌, ◌++◌}
 use Rattle.std.specs.List.{flat_map}
 use Rattle.txc_shared.specs.Eval.{Next}
-use Rattle.txc_world.specs.Told.{Told}
+use Rattle.txc_world.specs.Worlds.{WorldValue}
 use Rattle.txc_run.specs.Kinds.{ScriptKind}
 use Rattle.txc_run.specs.Lines.{IsQuiet}
 use Rattle.txc_run.specs.Output.{malformed_text}
@@ -41,14 +41,14 @@ abbrev pub world_text : List WorldGiven → List ℕ
 world_text given = flat_map given_text given
 
 -- what a line, which has this number, gives in a world, and the world that it leaves
-abbrev pub Gives : Next → Told → ℕ → List ℕ → WorldGiven → Told → Type 0
-Gives next told number line Nothing end = IsQuiet line × (end ≡ told)
-Gives next told number line (Done printed) end =
-    (task : Task) × IsTaskLine line task × IsDone next told task printed end
-Gives next told number line (Malformed k) end = IsMalformedLine line × (k ≡ number) × (end ≡ told)
+abbrev pub Gives : Next → WorldValue → ℕ → List ℕ → WorldGiven → WorldValue → Type 0
+Gives next world number line Nothing end = IsQuiet line × (end ≡ world)
+Gives next world number line (Done printed) end =
+    (task : Task) × IsTaskLine line task × IsDone next world task printed end
+Gives next world number line (Malformed k) end = IsMalformedLine line × (k ≡ number) × (end ≡ world)
 
 -- a script of a world's lines, whose functions compute this
-abbrev pub world_script : Next → ScriptKind Told WorldGiven
+abbrev pub world_script : Next → ScriptKind WorldValue WorldGiven
 world_script next = record {
   gives = Gives next;
   is_refused = is_refused;
@@ -57,5 +57,5 @@ world_script next = record {
 }
 
 -- the line asks for something, of which the first steps were taken, or all of them
-abbrev pub HasBegunLine : Next → Told → List ℕ → Told → Type 0
-HasBegunLine next told line end = (task : Task) × IsTaskLine line task × HasBegun next told task end
+abbrev pub HasBegunLine : Next → WorldValue → List ℕ → WorldValue → Type 0
+HasBegunLine next world line end = (task : Task) × IsTaskLine line task × HasBegun next world task end

@@ -7,7 +7,7 @@ use Rattle.txc_shared.specs.Eval.{Next}
 use Rattle.txc_world.specs.declared.step.Act.{Act}
 use Rattle.txc_world.specs.declared.step.Step.{Step}
 use Rattle.txc_world.specs.declared.reply.Reply.{Reply}
-use Rattle.txc_world.specs.Told.{Told}
+use Rattle.txc_world.specs.Worlds.{WorldValue}
 use Rattle.txc_run.specs.Script.{BeginsWithLines, HasNoEnd, AreLinesOf}
 use Rattle.txc_run.specs.Flows.{IsEndOf, IsFlowAfter}
 use Rattle.txc_run.specs.Kinds.{AreGiven, EndInFault}
@@ -29,40 +29,41 @@ use Rattle.txc_run.specs.declared.world.printed.Printed.TheVariants.{Replied}
 -- ---- parts of what a line asks for
 
 -- an actor ended its transaction so
-pub record HasEndedTxn (next : Next) (told : Told) (actor : ℕ) (act : Act) (reply : Reply) (end : Told) : Type 0 where
+pub record HasEndedTxn (next : Next) (world : WorldValue) (actor : ℕ) (act : Act) (reply : Reply)
+    (end : WorldValue) : Type 0 where
   pub steps : List Step
   pub replied : List Reply
-  pub taken : AreTaken next told steps replied end
+  pub taken : AreTaken next world steps replied end
   pub does : DoesEnd actor act steps replied (Replied reply)
 
 -- the holds of stamps were taken away
-pub record HasUnpinned (next : Next) (told : Told) (stamps : List ℕ) (count : ℕ) (printed : Printed) (end : Told)
-    : Type 0 where
+pub record HasUnpinned (next : Next) (world : WorldValue) (stamps : List ℕ) (count : ℕ) (printed : Printed)
+    (end : WorldValue) : Type 0 where
   pub steps : List Step
   pub replied : List Reply
-  pub taken : AreTaken next told steps replied end
+  pub taken : AreTaken next world steps replied end
   pub does : DoesUnpin stamps count steps replied printed
 
 -- none of the steps of what a line asks for were taken, or the first ones
-abbrev pub IsCutShort : Next → Told → Task → Told → Type 0
-IsCutShort next told task end = (end ≡ told) ⊎ HasBegun next told task end
+abbrev pub IsCutShort : Next → WorldValue → Task → WorldValue → Type 0
+IsCutShort next world task end = (end ≡ world) ⊎ HasBegun next world task end
 
 -- nothing was done of a line, or some of what it asks for
-abbrev pub MayHaveBegun : Next → Told → List ℕ → Told → Type 0
-MayHaveBegun next told line end = (end ≡ told) ⊎ HasBegunLine next told line end
+abbrev pub MayHaveBegun : Next → WorldValue → List ℕ → WorldValue → Type 0
+MayHaveBegun next world line end = (end ≡ world) ⊎ HasBegunLine next world line end
 
 -- ---- a run in progress
 
 -- its world, how many lines it has read, what it keeps of the line that has not ended, the replies at hand,
 -- and whether a refusal was written
 pub record Progress : Type 0 where
-  pub world : Told
+  pub world : WorldValue
   pub lines : ℕ
   pub line : List ℕ
   pub text : List ℕ
   pub refused : Bool
 
-abbrev pub progress_of : Told → WorldSession → Progress
+abbrev pub progress_of : WorldValue → WorldSession → Progress
 progress_of world s = record {
   world = world;
   lines = s.lines;
@@ -77,10 +78,10 @@ pub record Takes (old new : List ℕ) (was is : Bool) (given : WorldGiven) : Typ
   pub refused : is ≡ (was || is_refused given)
 
 -- a line was answered that has this number: it found one world and left another, and what it gave was taken
-pub record AnswersLine (next : Next) (told end : Told) (old new : List ℕ) (was is : Bool) (n : ℕ) (line : List ℕ)
-    (flow : Flow) : Type 0 where
+pub record AnswersLine (next : Next) (world end : WorldValue) (old new : List ℕ) (was is : Bool) (n : ℕ)
+    (line : List ℕ) (flow : Flow) : Type 0 where
   pub given : WorldGiven
-  pub gives : Gives next told n line given end
+  pub gives : Gives next world n line given end
   pub takes : Takes old new was is given
   pub flow_is : IsFlowAfter (world_script next) n line given flow
 
@@ -112,18 +113,18 @@ pub record IsStopped (start : WorldStart) (read written : List ℕ) (malformed_l
   pub wrong : EndInFault (world_script start.next) lines malformed_line
 
 -- lines were answered, and of the line that ended after them, if one did, some of what it asks for was done
-abbrev pub LeavesLine : WorldStart → List ℕ → List (List ℕ) → Told → Told → Type 0
-LeavesLine start read lines end told =
-    (told ≡ end)
+abbrev pub LeavesLine : WorldStart → List ℕ → List (List ℕ) → WorldValue → WorldValue → Type 0
+LeavesLine start read lines end world =
+    (world ≡ end)
     ⊎ ((line : List ℕ) × (others : List ℕ) × BeginsWithLines read (lines ++ line ∷ []) others
-    × HasBegunLine start.next end line told)
+    × HasBegunLine start.next end line world)
 
 -- first lines were answered, none of them malformed, as far as there was memory
 pub record IsHalted (start : WorldStart) (read written : List ℕ) (s : Progress) : Type 0 where
   pub lines : List (List ℕ)
   pub given : List WorldGiven
   pub others : List ℕ
-  pub end : Told
+  pub end : WorldValue
   pub answers : Answers start lines given end
   pub leaves : LeavesLine start read lines end s.world
   pub begins : BeginsWithLines read lines others
@@ -172,10 +173,10 @@ pub record IsKeptBeside (old new : WorldSession) : Type 0 where
 
 -- more bytes were written after these, and the run ended so, with this world
 abbrev pub EndsWith : WorldStart → List ℕ → Type 0 → List ℕ → Option (List ℕ) → Option (List ℕ)
-    → Result Status RunFault → Told → Type 0
-EndsWith start read at_end written contents_old contents_new result told =
+    → Result Status RunFault → WorldValue → Type 0
+EndsWith start read at_end written contents_old contents_new result world =
     (more : List ℕ) × Appends contents_old contents_new more
-    × HasWritten start read at_end (written ++ more) result told
+    × HasWritten start read at_end (written ++ more) result world
 
 -- the lines that end in the bytes of a read were answered, and the replies written: the run goes on, or it
 -- ends so

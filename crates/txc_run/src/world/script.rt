@@ -4,7 +4,7 @@ ghost use Rattle.txc_run.specs.Reads.{IsOver};
 ghost use Rattle.txc_run.specs.TaskSteps.{IsClosed};
 ghost use Rattle.txc_run.specs.WorldRuns.{world_settings, HasAnsweredScript, HasPlayed};
 ghost use Rattle.txc_run.specs.WorldSessions.{progress_of, EndsWith, HasAnswered, TurnsTo};
-ghost use Rattle.txc_world.specs.Told.{Told};
+ghost use Rattle.txc_world.specs.Worlds.{WorldValue};
 
 use crate::fault::{RunFault, Status};
 use crate::reads::Reads;
@@ -42,11 +42,11 @@ fn turn<A: App, C: Cacheable, W: Write>(
 ) -> Result<Flow, RunFault>
     requires { session.old.lines + length bytes.now < 2 ^ 64 }
     ensures counted { session.new.lines ≤ session.old.lines + length bytes.now }
-    ensures turned { (first : Told) (read written : List ℕ)
+    ensures turned { (first : WorldValue) (read written : List ℕ)
         → HasAnswered (record { next = A.next; world = first }) read written
-        (progress_of world.old.told session.old)
+        (progress_of world.old session.old)
         → TurnsTo (record { next = A.next; world = first }) (read ++ bytes.now) written
-        (progress_of world.new.told session.new)
+        (progress_of world.new session.new)
         (W.contents writer.old) (W.contents writer.new) result }
     ensures refused { result ≢ Err RunFault.Read }
 {
@@ -68,11 +68,11 @@ fn finish<A: App, C: Cacheable, W: Write>(
     writer: &mut W,
 ) -> Result<Status, RunFault>
     requires { session.old.lines + 1 < 2 ^ 64 }
-    ensures ended { (first : Told) (read written : List ℕ)
+    ensures ended { (first : WorldValue) (read written : List ℕ)
         → HasAnswered (record { next = A.next; world = first }) read written
-        (progress_of world.old.told session.old)
+        (progress_of world.old session.old)
         → EndsWith (record { next = A.next; world = first }) read (Unit {0}) written
-        (W.contents writer.old) (W.contents writer.new) result world.new.told }
+        (W.contents writer.old) (W.contents writer.new) result world.new }
     ensures refused { result ≢ Err RunFault.Read }
 {
     let answered = session.answer_last(alloc, world);
@@ -94,9 +94,9 @@ fn run_session<A: App, C: Cacheable, R: Read, W: Write>(
     reads: &mut Reads,
 ) -> Result<Status, RunFault>
     requires { reads.old ≡ record { left = 1048576; failure = None } }
-    ensures after { HasAnsweredScript (record { next = A.next; world = world.old.told })
+    ensures after { HasAnsweredScript (record { next = A.next; world = world.old })
         (R.remaining reader.old) (R.remaining reader.new)
-        (W.contents writer.old) (W.contents writer.new) result world.new.told }
+        (W.contents writer.old) (W.contents writer.new) result world.new }
     ensures refused { result ≡ Err RunFault.Read → IsOver reads.new }
 {
     let mut session = match WorldSession::new(alloc) {
@@ -127,9 +127,9 @@ pub fn run_world<A: App, C: Cacheable, R: Read, W: Write>(
     reader: &mut R,
     writer: &mut W,
 ) -> Result<Status, RunFault>
-    ensures after { HasPlayed (record { next = A.next; world = world.old.told })
+    ensures after { HasPlayed (record { next = A.next; world = world.old })
         (R.remaining reader.old) (R.remaining reader.new)
-        (W.contents writer.old) (W.contents writer.new) result world.new.told }
+        (W.contents writer.old) (W.contents writer.new) result world.new }
     ensures closed { All IsClosed world.new.told.actors }
 {
     let mut reads = Reads::new();

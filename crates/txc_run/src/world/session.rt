@@ -11,7 +11,7 @@ ghost use Rattle.txc_run.specs.Flows.{IsFlowAfter, status_after};
 ghost use Rattle.txc_run.specs.WorldGiven.{world_script, Done, Malformed};
 ghost use Rattle.txc_run.specs.WorldRuns.{WorldStart};
 ghost use Rattle.txc_run.specs.WorldSessions.{progress_of, AnswersAs, AnswersLast, AnswersLine, HasAnswered, IsCutShort, IsKeptBeside, MayHaveBegun, Takes};
-ghost use Rattle.txc_world.specs.Told.{Told};
+ghost use Rattle.txc_world.specs.Worlds.{WorldValue};
 ghost use Rattle.txc_run.specs.declared.world.printed.Printed.{Printed};
 
 use crate::fault::{RunFault, Status};
@@ -83,10 +83,10 @@ fn do_task<A: App, C: Cacheable>(
     replied: &mut Replied,
     task: Task,
 ) -> Result<(), AllocError>
-    ensures after { OnOk result ((printed : Printed) × IsDone A.next world.old.told task printed world.new.told
+    ensures after { OnOk result ((printed : Printed) × IsDone A.next world.old task printed world.new
         × Takes replied.old.text.items replied.new.text.items replied.old.is_refused
         replied.new.is_refused (Done printed)) }
-    ensures broke { OnErr result (IsCutShort A.next world.old.told task world.new.told) }
+    ensures broke { OnErr result (IsCutShort A.next world.old task world.new) }
     ensures unchanged { OnErr result (replied.new.text.items ≡ replied.old.text.items) }
 {
     let printed = play(alloc, world, task)?;
@@ -121,9 +121,9 @@ fn answer<A: App, C: Cacheable>(
     known_plain: bool,
 ) -> Result<Flow, AllocError>
     requires plain { known_plain ≡ true → ArePlain line.now }
-    ensures answered { IfOk result (AnswersLine A.next world.old.told world.new.told replied.old.text.items
+    ensures answered { IfOk result (AnswersLine A.next world.old world.new replied.old.text.items
         replied.new.text.items replied.old.is_refused replied.new.is_refused number line.now) }
-    ensures broke { OnErr result (MayHaveBegun A.next world.old.told line.now world.new.told) }
+    ensures broke { OnErr result (MayHaveBegun A.next world.old line.now world.new) }
     ensures unchanged { OnErr result (replied.new.text.items ≡ replied.old.text.items) }
 {
     let read = read_world_line(alloc, line, known_plain)?;
@@ -180,9 +180,9 @@ impl WorldSession {
     ) -> Result<Flow, AllocError>
         requires count { self.old.lines + 1 < 2 ^ 64 }
         requires plain { known_plain ≡ true → ArePlain line.now }
-        ensures answered { IfOk result (AnswersLine A.next world.old.told world.new.told self.old.replied.text.items
+        ensures answered { IfOk result (AnswersLine A.next world.old world.new self.old.replied.text.items
             self.new.replied.text.items self.old.replied.is_refused self.new.replied.is_refused (self.old.lines + 1) line.now) }
-        ensures broke { OnErr result (MayHaveBegun A.next world.old.told line.now world.new.told) }
+        ensures broke { OnErr result (MayHaveBegun A.next world.old line.now world.new) }
         ensures unchanged { OnErr result (self.new.replied.text.items ≡ self.old.replied.text.items) }
         ensures counted { self.new.lines ≡ self.old.lines + 1 }
         ensures same_line { self.new.line ≡ self.old.line }
@@ -205,9 +205,9 @@ impl WorldSession {
         world: &mut World<A, C>,
     ) -> Result<Flow, AllocError>
         requires { self.old.lines + 1 < 2 ^ 64 }
-        ensures answered { IfOk result (AnswersLine A.next world.old.told world.new.told self.old.replied.text.items
+        ensures answered { IfOk result (AnswersLine A.next world.old world.new self.old.replied.text.items
             self.new.replied.text.items self.old.replied.is_refused self.new.replied.is_refused (self.old.lines + 1) self.old.line) }
-        ensures broke { OnErr result (MayHaveBegun A.next world.old.told self.old.line world.new.told) }
+        ensures broke { OnErr result (MayHaveBegun A.next world.old self.old.line world.new) }
         ensures unchanged { OnErr result (self.new.replied.text.items ≡ self.old.replied.text.items) }
         ensures counted { self.new.lines ≡ self.old.lines + 1 }
         ensures emptied { self.new.line ≡ [] }
@@ -231,10 +231,10 @@ impl WorldSession {
         requires no_end { HasNoEnd bytes.now }
         requires plain { known_plain ≡ true → ArePlain bytes.now }
         ensures counted { self.new.lines ≤ self.old.lines + 1 }
-        ensures answered { (first : Told) (read written : List ℕ)
-            → HasAnswered (record { next = A.next; world = first }) read written (progress_of world.old.told self.old)
+        ensures answered { (first : WorldValue) (read written : List ℕ)
+            → HasAnswered (record { next = A.next; world = first }) read written (progress_of world.old self.old)
             → AnswersAs (record { next = A.next; world = first }) (read ++ (bytes.now ++ 10 ∷ [])) written
-            (progress_of world.new.told self.new) result }
+            (progress_of world.new self.new) result }
     {
         if self.line.is_empty() {
             return self.answer_line(alloc, world, bytes, known_plain);
@@ -249,7 +249,7 @@ impl WorldSession {
     fn extend_line(&mut self, rest: &[u8]) -> Result<Flow, AllocError>
         requires { HasNoEnd rest.now }
         ensures counted { self.new.lines ≡ self.old.lines }
-        ensures answered { (start : WorldStart) (world : Told) (read written : List ℕ)
+        ensures answered { (start : WorldStart) (world : WorldValue) (read written : List ℕ)
             → HasAnswered start read written (progress_of world self.old)
             → AnswersAs start (read ++ rest.now) written (progress_of world self.new) result }
     {
@@ -268,10 +268,10 @@ impl WorldSession {
     ) -> Result<Flow, AllocError>
         requires { self.old.lines + length bytes.now < 2 ^ 64 }
         ensures counted { self.new.lines ≤ self.old.lines + length bytes.now }
-        ensures answered { (first : Told) (read written : List ℕ)
-            → HasAnswered (record { next = A.next; world = first }) read written (progress_of world.old.told self.old)
+        ensures answered { (first : WorldValue) (read written : List ℕ)
+            → HasAnswered (record { next = A.next; world = first }) read written (progress_of world.old self.old)
             → AnswersAs (record { next = A.next; world = first }) (read ++ bytes.now) written
-            (progress_of world.new.told self.new) result }
+            (progress_of world.new self.new) result }
     {
         let mut rest = bytes;
         'lines: loop {
@@ -295,10 +295,10 @@ impl WorldSession {
         world: &mut World<A, C>,
     ) -> Result<Flow, AllocError>
         requires { self.old.lines + 1 < 2 ^ 64 }
-        ensures { (first : Told) (read written : List ℕ)
-            → HasAnswered (record { next = A.next; world = first }) read written (progress_of world.old.told self.old)
+        ensures { (first : WorldValue) (read written : List ℕ)
+            → HasAnswered (record { next = A.next; world = first }) read written (progress_of world.old self.old)
             → AnswersLast (record { next = A.next; world = first }) read written
-            (progress_of world.new.told self.new) result }
+            (progress_of world.new self.new) result }
     {
         if self.line.is_empty() {
             return Ok(Flow::GoesOn);

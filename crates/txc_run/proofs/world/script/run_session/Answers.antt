@@ -11,12 +11,12 @@ use Rattle.txc_run.proofs.world.script.run_session.Goals as goal
 
 pub returns-in-Err-clause-after : goal.returns-in-Err-clause-after
 returns-in-Err-clause-after g c =
-    let start : WorldStart = record { next = g.A.App.next; world = c.args.world.now.told } in
+    let start : WorldStart = record { next = g.A.App.next; world = c.args.world.now } in
     run_out_of_memory start _ _
 
 pub reads-init : goal.reads-init
 reads-init g c =
-    let start : WorldStart = record { next = g.A.App.next; world = c.args.world.now.told } in
+    let start : WorldStart = record { next = g.A.App.next; world = c.args.world.now } in
     record {
       counted = search rules;
       read = [];
@@ -30,35 +30,35 @@ reads-init g c =
 pub returns-then-n-eq0-clause-after : goal.returns-then-n-eq0-clause-after
 returns-then-n-eq0-clause-after g c =
     let i = c.reads.invariant in
-    let start : WorldStart = record { next = g.A.App.next; world = c.args.world.now.told } in
-    run_ends (Unit {0}) start _ _ _ _ _ i.read i.written c.finish.result c.finish.new.world.told (nothing_more _ _ _ i.read c.read.new.piece c.in_ok-n.n c.if-n-eq0.true i.consumed c.in_ok-n.ensures.bytes.0) i.appended
+    let start : WorldStart = record { next = g.A.App.next; world = c.args.world.now } in
+    run_ends (Unit {0}) start _ _ _ _ _ i.read i.written c.finish.result c.finish.new.world (nothing_more _ _ _ i.read c.read.new.piece c.in_ok-n.n c.if-n-eq0.true i.consumed c.in_ok-n.ensures.bytes.0) i.appended
     (λ _. c.in_ok-n.ensures.bytes.1 c.if-n-eq0.true (omega arith)) (c.finish.ensures.ended start.world i.read i.written i.answered)
 
 pub returns-in-Stopped-clause-after : goal.returns-in-Stopped-clause-after
 returns-in-Stopped-clause-after g c =
     let i = c.reads.invariant in
-    let start : WorldStart = record { next = g.A.App.next; world = c.args.world.now.told } in
+    let start : WorldStart = record { next = g.A.App.next; world = c.args.world.now } in
     let read = i.read ++ take c.in_ok-n.n c.read.new.piece in
-    (run_ends ⊥ start _ _ _ _ _ read i.written (Ok (Malformed c.in-Stopped.line)) c.turn.new.world.told (Consumes-trans _ _ _ i.read (take c.in_ok-n.n c.read.new.piece) i.consumed c.in_ok-n.ensures.bytes.0) i.appended (λ h. absurd h)
-    (stopped_ends start read i.written (progress_of c.turn.new.world.told c.turn.new.session) _ c.in-Stopped.line _ _ c.in-Stopped.is (c.in_ok-turn.ensures.turned start.world i.read i.written i.answered)))
+    (run_ends ⊥ start _ _ _ _ _ read i.written (Ok (Malformed c.in-Stopped.line)) c.turn.new.world (Consumes-trans _ _ _ i.read (take c.in_ok-n.n c.read.new.piece) i.consumed c.in_ok-n.ensures.bytes.0) i.appended (λ h. absurd h)
+    (stopped_ends start read i.written (progress_of c.turn.new.world c.turn.new.session) _ c.in-Stopped.line _ _ c.in-Stopped.is (c.in_ok-turn.ensures.turned start.world i.read i.written i.answered)))
 
 pub returns-in_err-turn-clause-after : goal.returns-in_err-turn-clause-after
 returns-in_err-turn-clause-after g c =
     let i = c.reads.invariant in
-    let start : WorldStart = record { next = g.A.App.next; world = c.args.world.now.told } in
+    let start : WorldStart = record { next = g.A.App.next; world = c.args.world.now } in
     let read = i.read ++ take c.in_ok-n.n c.read.new.piece in
     let fault = c.in_err-turn.field-0.0 in
-    subst (λ (r : Result Status RunFault). HasAnsweredScript start (g.R.Read.remaining c.args.reader.now) (g.R.Read.remaining c.read.new.reader) (g.W.Write.contents c.args.writer.now) (g.W.Write.contents c.turn.new.writer) r c.turn.new.world.told)
+    subst (λ (r : Result Status RunFault). HasAnsweredScript start (g.R.Read.remaining c.args.reader.now) (g.R.Read.remaining c.read.new.reader) (g.W.Write.contents c.args.writer.now) (g.W.Write.contents c.turn.new.writer) r c.turn.new.world)
     (sym (err_is c.from_residual-in_err-turn.result fault c.from_residual-in_err-turn.ensures))
-    (run_ends ⊥ start _ _ _ _ _ read i.written (Err fault) c.turn.new.world.told (Consumes-trans _ _ _ i.read (take c.in_ok-n.n c.read.new.piece) i.consumed c.in_ok-n.ensures.bytes.0) i.appended (λ h. absurd h)
+    (run_ends ⊥ start _ _ _ _ _ read i.written (Err fault) c.turn.new.world (Consumes-trans _ _ _ i.read (take c.in_ok-n.n c.read.new.piece) i.consumed c.in_ok-n.ensures.bytes.0) i.appended (λ h. absurd h)
     (c.in_err-turn.ensures.turned start.world i.read i.written i.answered))
 
 pub reads-preserved : goal.reads-preserved
 reads-preserved g c =
     let i = c.reads.invariant in
-    let start : WorldStart = record { next = g.A.App.next; world = c.args.world.now.told } in
+    let start : WorldStart = record { next = g.A.App.next; world = c.args.world.now } in
     let read = i.read ++ take c.in_ok-n.n c.read.new.piece in
-    let turned = goes_on_at start read i.written (progress_of c.turn.new.world.told c.turn.new.session) _ _ _ c.in-GoesOn.is (c.in_ok-turn.ensures.turned start.world i.read i.written i.answered) in
+    let turned = goes_on_at start read i.written (progress_of c.turn.new.world c.turn.new.session) _ _ _ c.in-GoesOn.is (c.in_ok-turn.ensures.turned start.world i.read i.written i.answered) in
     record {
       counted = search rules;
       read = read;
@@ -72,7 +72,7 @@ reads-preserved g c =
 pub returns-in_err-n-clause-after : goal.returns-in_err-n-clause-after
 returns-in_err-n-clause-after g c =
     let i = c.reads.invariant in
-    let start : WorldStart = record { next = g.A.App.next; world = c.args.world.now.told } in
-    reader_failed start _ _ _ _ i.read i.written (progress_of c.reads.world.told c.reads.session) c.from_residual.result
+    let start : WorldStart = record { next = g.A.App.next; world = c.args.world.now } in
+    reader_failed start _ _ _ _ i.read i.written (progress_of c.reads.world c.reads.session) c.from_residual.result
     (Consumes-kept _ _ _ i.read i.consumed c.in_err-n.ensures.bytes) i.appended i.answered i.none
     (read_fault c.from_residual.result (Err c.in_err-n.field-0.0) c.in_err-n.field-0.0 refl c.in_err-n.ensures.fault (err_is c.from_residual.result c.in_err-n.field-0.0 c.from_residual.ensures))

@@ -10,7 +10,7 @@ invariant-reads g l = record {
   written : List ℕ;
   consumed : Consumes (g.R.Read.remaining l.fn.reader) (g.R.Read.remaining l.reader) read;
   appended : Appends (g.W.Write.contents l.fn.writer) (g.W.Write.contents l.writer) written;
-  answered : HasAnswered (record { next = g.A.App.next; world = l.fn.world.told }) read written (progress_of l.world.told l.session);
+  answered : HasAnswered (record { next = g.A.App.next; world = l.fn.world }) read written (progress_of l.world l.session);
   none : l.session.replied.text.items ≡ [];
 }
 

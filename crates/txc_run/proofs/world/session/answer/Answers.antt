@@ -7,5 +7,5 @@ pub returns-in-Malformed-clause-answered : goal.returns-in-Malformed-clause-answ
 returns-in-Malformed-clause-answered g c =
     let bad : IsMalformedLine c.args.line.now = search rules in
     let ended = c.answer_malformed in
-    malformed_answered g.A.App.next ended.result c.args.world.now.told c.args.replied.now.text.items ended.new.replied.text.items c.args.replied.now.is_refused ended.new.replied.is_refused c.args.number c.args.line.now
+    malformed_answered g.A.App.next ended.result c.args.world.now c.args.replied.now.text.items ended.new.replied.text.items c.args.replied.now.is_refused ended.new.replied.is_refused c.args.number c.args.line.now
     bad (ended.ensures.flow g.A.App.next) ended.ensures.after

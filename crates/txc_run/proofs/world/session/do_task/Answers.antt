@@ -2,4 +2,4 @@ use Rattle.txc_run.proofs.TasksDone.{done_cut}
 use Rattle.txc_run.proofs.world.session.do_task.Goals as goal
 
 pub returns-clause-broke : goal.returns-clause-broke
-returns-clause-broke g c = done_cut g.A.App.next c.args.world.now.told c.play.new.world.told c.args.task c.in_ok-printed.printed c.take.result c.in_ok-printed.ensures.after
+returns-clause-broke g c = done_cut g.A.App.next c.args.world.now c.play.new.world c.args.task c.in_ok-printed.printed c.take.result c.in_ok-printed.ensures.after
