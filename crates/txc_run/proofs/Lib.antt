@@ -23,6 +23,7 @@ pub mod WorldTurning
 pub mod WorldSteps
 pub mod TaskNames
 pub mod TasksDone
+pub mod WrittenOneWay
 pub mod GivingUp
 pub mod TaskParts
 pub mod WorldTexts

@@ -21,6 +21,7 @@ pub mod Tasks
 pub mod TaskReading
 pub mod TaskSteps
 pub mod TaskTexts
+pub mod TaskLaws
 pub mod WorldGiven
 pub mod WorldFaults
 pub mod WorldRuns

@@ -30,5 +30,6 @@ pub use laws::{a_line_is_one_thing, lines_are_answered_one_way};
 pub use line_fault::{LineFault, MalformedLine, WordFault, WordKind};
 pub use reads::MAX_READS;
 pub use script::run;
+pub use world::laws::a_line_of_a_world_is_written_one_way;
 pub use world::name::LineName;
 pub use world::script::{run_world, world_settings};

@@ -1,5 +1,6 @@
 //! Scripts of a world.
 mod finding;
+pub mod laws;
 mod line;
 pub mod name;
 mod outcome;
