@@ -14,7 +14,7 @@ use crate::advanced::Advanced;
 use crate::error::NodeError;
 use crate::finding::Finding;
 use crate::insertion::Insertion;
-use crate::laws::{answers_are_true, entries_stay_true, nodes_go_on};
+use crate::laws::{answers_are_true, nodes_go_on};
 use crate::log::{Log, MAX_PASSES};
 use crate::node_front::NodeFront;
 use crate::settings::NodeSettings;
@@ -22,6 +22,7 @@ use std::alloc::{AllocError, Global};
 use std::marker::{Model, PhantomData};
 use std::sync::Arc;
 use txc_app::App;
+use txc_app::laws::true_entries_stay;
 use txc_db::{HistoryFront, states_stay};
 use txc_node::{Entry, MAX_CAPACITY, MAX_RECENT, NodeCore, Op, Record, Reply, Shown};
 use txc_stamp::Stamp;
@@ -309,7 +310,7 @@ impl<A: App> StoredNode<A> {
         ensures refused { IfErr result (IsStepRefused self.old) }
     {
         nodes_go_on();
-        entries_stay_true();
+        true_entries_stay();
         self.check_whole()?;
         self.check_room()?;
         let Finding { entry, front, .. } = finding;
