@@ -24,7 +24,9 @@ pub struct Counted {
 
 impl Script for Replying {
     type State = NodeCore;
+
     type Asked = Op;
+
     type Reply = Reply<Shown>;
 
     ghost kind = { λ _. node_script modes.Node };
@@ -56,7 +58,9 @@ impl Script for Replying {
 
 impl Script for Counting {
     type State = Counted;
+
     type Asked = Op;
+
     type Reply = Reply<Shown>;
 
     ghost use Rattle.txc_run.specs.Counting.{counted_script};
