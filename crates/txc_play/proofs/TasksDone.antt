@@ -1,5 +1,5 @@
 -- What lines of a world's script ask for is done, step by step.
-use Rattle.std.proofs.Common.{◌≡◌, ℕ, Bool, true, false, List, [], ◌∷◌, ◌++◌, Some, None, Result, Ok, Err, IfOk, OnErr, length, inl, inr, refl, sym, ap, subst}
+use Rattle.std.proofs.Common.{◌≡◌, ℕ, Bool, true, false, List, [], ◌∷◌, ◌++◌, Some, None, Result, Ok, Err, IfOk, OnErr, length, inl, inr, refl, sym, ap, subst, arith}
 use Rattle.std.specs.Prelude.{if◌then◌else◌}
 use Rattle.std.specs.List.{All}
 use Rattle.std.specs.declared.alloc.AllocError.{AllocError}
@@ -49,7 +49,7 @@ pub pin_added : (next : Next) (world a b end : WorldValue) (now stamp : ℕ) (pi
 pin_added next world a b end now stamp pinned added last one some two is three = record {
   steps = Keeper (keeps.Pin now) ∷ Keeper (keeps.Add stamp) ∷ Keeper (keeps.GiveBack stamp) ∷ [];
   replied = pinned ∷ added ∷ last ∷ [];
-  taken = (a, one, b, two, taken_alone next b end _ last three);
+  taken = (a, one, (b, two, taken_alone next b end _ last three));
   does = (
     stamp,
     some,
@@ -64,7 +64,7 @@ pub pin_refused : (next : Next) (world a b end : WorldValue) (now stamp : ℕ) (
 pin_refused next world a b end now stamp pinned added last one some two not three = record {
   steps = Keeper (keeps.Pin now) ∷ Keeper (keeps.Add stamp) ∷ Keeper (keeps.Unpin stamp) ∷ [];
   replied = pinned ∷ added ∷ last ∷ [];
-  taken = (a, one, b, two, taken_alone next b end _ last three);
+  taken = (a, one, (b, two, taken_alone next b end _ last three));
   does = (
     stamp,
     some,
@@ -151,13 +151,15 @@ done_abort next world end actor reply h = record { steps = h.steps; replied = h.
 
 -- ---- a tidy
 
-pub vacuumed : (next : Next) (world end : WorldValue) (count : ℕ) (reply : Reply) → IsTaken next world (Keeper keeps.Vacuum) reply end → HasUnpinned next world [] count (tidied count reply) end
-vacuumed next world end count reply one = record {
+pub vacuumed : (next : Next) (world end : WorldValue) (stamps : List ℕ) (count : ℕ) (reply : Reply) (printed : Printed) → IsTaken next world (Keeper keeps.Vacuum) reply end → length stamps ≡ 0
+    → printed ≡ tidied count reply → HasUnpinned next world stamps count printed end
+vacuumed next world end [] count reply printed one none is = record {
   steps = Keeper keeps.Vacuum ∷ [];
   replied = reply ∷ [];
   taken = taken_alone next world end _ reply one;
-  does = (refl, refl);
+  does = (refl, is);
 }
+vacuumed next world end (stamp ∷ stamps) count reply printed one none is = absurd (omega (arith, none))
 
 pub unpin_refused : (next : Next) (world end : WorldValue) (stamp : ℕ) (stamps : List ℕ) (count : ℕ) (reply : Reply) → IsTaken next world (Keeper (keeps.Unpin stamp)) reply end → is_unpinned reply ≡ false
     → HasUnpinned next world (stamp ∷ stamps) count (Replied reply) end

@@ -18,7 +18,7 @@ use Rattle.txc_play.specs.declared.task.Task.TheVariants as tasks
 
 -- ---- the last reply
 
-last_of : Reply → List Reply → Reply
+abbrev last_of : Reply → List Reply → Reply
 last_of first [] = first
 last_of first (r ∷ rs) = last_of r rs
 
@@ -29,7 +29,7 @@ last_is first last (r ∷ before) = last_is r last before
 same_last : (replied before other : List Reply) (last end : Reply) → replied ≡ before ++ last ∷ [] → replied ≡ other ++ end ∷ [] → last ≡ end
 same_last replied before other last end e d = sym (last_is last last before) ∙ ap (last_of last) (sym e ∙ d) ∙ last_is last end other
 
-printed_or : Printed → Option Printed → Printed
+abbrev printed_or : Printed → Option Printed → Printed
 printed_or p None = p
 printed_or p (Some q) = q
 
@@ -96,7 +96,7 @@ written_by_replies next other world elsewhere (tasks.Tidy now age) s t replied a
 
 -- ---- pins
 
-shown_text : Bool → List ℕ → List ℕ
+abbrev shown_text : Bool → List ℕ → List ℕ
 shown_text has_present stamps = codes "pins" ++ ((if has_present then codes " *" else []) ++ stamps_text stamps)
 
 members_way : (next other : Next) (world elsewhere : WorldValue) (actor : ℕ) (r : ReadingValue) (p q : Bool) (s t : List ℕ) → slice_get world.actors actor ≡ Some (reads r)

@@ -1,4 +1,4 @@
-use Rattle.txc_play.proofs.TasksDone.{done_pins, finish_cut, nothing_cut}
+use Rattle.txc_play.proofs.TasksDone.{done_one, done_pins, finish_cut, nothing_cut}
 use Rattle.txc_play.proofs.playing.play.Goals as goal
 
 pub returns-in-Finish-clause-broke : goal.returns-in-Finish-clause-broke
@@ -10,3 +10,6 @@ returns-in-Pins-clause-after g c = rw c.in-Pins.is (done_pins g.A.App.next c.arg
 
 pub returns-in-Pins-clause-broke : goal.returns-in-Pins-clause-broke
 returns-in-Pins-clause-broke g c = nothing_cut g.A.App.next c.args.world.now c.args.task c.members_of.result
+
+pub returns-in-One-clause-after : goal.returns-in-One-clause-after
+returns-in-One-clause-after g c = rw c.in-One.is (done_one g.A.App.next c.args.world.now c.take.new.world c.in-One.step c.take.result c.take.ensures)
