@@ -11,7 +11,7 @@ usage: [JOBS=N] scripts/edits.py [CRATE..]
 
 A function's contract is all that the proofs of others know of it, so the wrong bodies of different
 functions are tried together, in one check: each is refused if the check says that its own function
-has a goal that is not proved. One of which that is not said is tried again, alone; with --named it is bad.
+has a goal that is not proved. One of which that is not said is tried again, alone.
 
 It prints each wrong body that is not plainly refused, with --named each, and last `N refused, M proved`, with
 `, K bad` where some could not be tried. The exit status is 0 only if M and K are 0.
@@ -163,13 +163,12 @@ def try_named(root, edits):
     lines = ran.stdout.split("\n")
     for edit in applied:
         judge(edit, lines, ran.returncode, False)
-        if not edit.verdict:
-            path = next(iter(edit.functions), crate)
-            own = [it for it in lines if re.match(rf"fn {path}(?:<.*>)?: ", it)]
+        if edit.said.startswith("names: "):
+            edit.verdict = "bad"
+        elif not edit.verdict and len(applied) == 1:
+            own = [it for it in lines if any(re.match(rf"fn {path}(?:<.*>)?: ", it) for path in edit.functions)]
             edit.verdict = "proved" if own and all(it.endswith(": proved") for it in own) else "bad"
             edit.said = " | ".join(own or [it for it in lines if it][-3:])
-        elif edit.said.startswith("names: "):
-            edit.verdict = "bad"
 
 
 def named(root, crates):
@@ -191,8 +190,9 @@ def try_all_named(root, crates):
     lists = [it for crate in dict.fromkeys(edit.crate for edit in edits)
              for it in rounds([edit for edit in edits if edit.crate == crate and not edit.verdict])]
     with ThreadPoolExecutor(JOBS) as pool:
-        for _ in pool.map(lambda it: try_named(root, it), sorted(lists, key=len, reverse=True)):
-            pass
+        list(pool.map(lambda it: try_named(root, it), sorted(lists, key=len, reverse=True)))
+        # one that calls another one's function was not judged beside it
+        list(pool.map(lambda it: try_named(root, [it]), [edit for edit in edits if not edit.verdict]))
     for edit in edits:
         print(f"{edit.name}: {edit.verdict}: {edit.said[:200]}")
     return told(edits)
@@ -221,8 +221,8 @@ def judge(edit, lines, status, is_alone):
     for path in edit.functions:
         name = re.compile(rf"fn {path}(?:<.*>)?: (.*)")
         own += [it[1] for it in map(name.match, lines) if it]
-    failing = [it for it in own if it != "proved" and not re.match(r"no proof: it calls `.*`, which (?:is|are) not proved$", it)
-               and not it.startswith("not proved; it waits")]
+    failing = [it for it in own if it != "proved" and not it.startswith("not proved; it waits")
+               and not re.match(r"(?:no proof:|not proved;) it calls `.*`, which (?:is|are) not proved$", it)]
     if failing:
         edit.verdict, edit.said = "refused", failing[0]
         proofs = [it for it in lines if any(re.search(f"proofs/{proof_folder(path)}/", it) for path in edit.functions)]
