@@ -43,7 +43,8 @@ fn do_task<A: App, C: Cacheable>(
     task: Task,
     text: &mut Vec<u8>,
 ) -> Result<bool, AllocError>
-    ensures after { IfOk result (IsTaskDone A.next world.old.told task world.new.told text.old.items text.new.items) }
+    ensures after { IfOk result (IsTaskDone A.next world.old.told task world.new.told
+        text.old.items text.new.items) }
     ensures broke { OnErr result (IsCutShort A.next world.old.told task world.new.told) }
     ensures unchanged { OnErr result (text.new.items ≡ text.old.items) }
 {
@@ -75,7 +76,6 @@ impl<A: App, C: Cacheable> Script for WorldScript<A, C> {
     }
 
     fn find_fault(&self, alloc: Global, line: &[u8]) -> CommandFault {
-        let _ = alloc;
         find_command_fault(line)
     }
 
@@ -85,7 +85,6 @@ impl<A: App, C: Cacheable> Script for WorldScript<A, C> {
         state: &mut World<A, C>,
         text: &mut Vec<u8>,
     ) -> Result<bool, AllocError> {
-        let _ = (alloc, state, text);
         Ok(false)
     }
 }

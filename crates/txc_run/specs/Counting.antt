@@ -20,7 +20,8 @@ HasReport given report = IsReportOf (steps_of given) report.functions.keys repor
 -- a reply to a step was counted
 abbrev pub Counts : reports.Report → Op → Reply Shown → reports.Report → Type 0
 Counts old op reply new =
-    (given : List (Given Op (Reply Shown))) → HasReport given old → HasReport (given ++ Replied op reply ∷ []) new
+    (given : List (Given Op (Reply Shown))) → HasReport given old
+    → HasReport (given ++ Replied op reply ∷ []) new
 
 -- a script of a node's lines whose replies are counted
 abbrev pub counted_script : ScriptKind Counted Op (Reply Shown)
