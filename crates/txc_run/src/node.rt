@@ -51,7 +51,6 @@ impl Script for Replying {
         state: &mut NodeCore,
         text: &mut Vec<u8>,
     ) -> Result<bool, AllocError> {
-        let _ = (alloc, state, text);
         Ok(false)
     }
 }
@@ -74,7 +73,6 @@ impl Script for Counting {
         line: &[u8],
         text: &mut Vec<u8>,
     ) -> Result<bool, Unread> {
-        let _ = text;
         make_step(alloc, &mut state.node, line, &mut state.report)
     }
 
