@@ -18,6 +18,6 @@ unread next s line Malformed none = (none, refl)
 unread next s line Memory none = inl refl
 
 -- what a line asks for broke off
-pub broke : (next : Next) (s end : WorldValue) (line : List ℕ) (task : Task) → SpellsTask line task → IsCutShort next s.told task end.told → IsUnanswered (world_script next) s line end Memory
+pub broke : (next : Next) (s end : WorldValue) (line : List ℕ) (task : Task) → SpellsTask line task → IsCutShort next s task end → IsUnanswered (world_script next) s line end Memory
 broke next s end line task is (inl same) = inr (inl same)
 broke next s end line task is (inr begun) = inr (inr (task, is, begun))

@@ -12,8 +12,9 @@ use Rattle.txc_world.specs.declared.step.Act.{Act}
 use Rattle.txc_world.specs.declared.step.Act.TheVariants as acts
 use Rattle.txc_world.specs.declared.step.Step.TheVariants.{Actor}
 use Rattle.txc_world.specs.Told.{Reading, Writing, Story, idle, reading, writing, leaving, given_up, story_after, Told, act_at, after, IsActDue, IsActReply, IsDue}
+use Rattle.txc_world.specs.Worlds.{WorldValue}
 use Rattle.txc_play.specs.TaskSteps.{AreTaken, HasGivenUp, IsClosed, IsTaken, give_up_steps}
-use Rattle.txc_play.proofs.WorldSteps.{none_taken, taken_more}
+use Rattle.txc_play.proofs.WorldSteps.{taken_more}
 
 -- ---- one actor
 
@@ -113,14 +114,14 @@ set_length (y ∷ xs) (suc i) x = ap suc (set_length xs i x)
 -- ---- the first actors
 
 -- they gave up what they had open
-pub record HaveGivenUp (next : Next) (told : Told) (count : ℕ) (now : Told) : Type 0 where
+pub record HaveGivenUp (next : Next) (world : WorldValue) (count : ℕ) (now : WorldValue) : Type 0 where
   pub replied : List Reply
-  pub taken : AreTaken next told (give_up_steps count) replied now
-  pub same : length now.actors ≡ length told.actors
-  pub closed : All IsClosed (take count now.actors)
+  pub taken : AreTaken next world (give_up_steps count) replied now
+  pub same : length now.told.actors ≡ length world.told.actors
+  pub closed : All IsClosed (take count now.told.actors)
 
-pub none_gave_up : (next : Next) (told : Told) → HaveGivenUp next told 0 told
-none_gave_up next told = record { replied = []; taken = none_taken next told; same = refl; closed = All-nil IsClosed }
+pub none_gave_up : (next : Next) (world : WorldValue) → HaveGivenUp next world 0 world
+none_gave_up next world = record { replied = []; taken = refl; same = refl; closed = All-nil IsClosed }
 
 first_closed : (t m e : Told) (i : ℕ) (r q : Reply) → i < length t.actors → IsDue t (Actor i acts.Abort) r → m ≡ after t (Actor i acts.Abort) r → IsDue m (Actor i acts.Request) q
     → e ≡ after m (Actor i acts.Request) q → All IsClosed (take i t.actors) → All IsClosed (take (i + 1) e.actors) × (length e.actors ≡ length t.actors)
@@ -138,23 +139,24 @@ first_closed t m e i r q lt due is due' is' closed =
     let last : IsClosed z = request_keeps_closed (get_or m.actors i idle) q (due_of m i acts.Request q within due') up in
     (subst (All IsClosed) (sym all) (All-push IsClosed (take i m.actors) z (subst (All IsClosed) (sym before) closed) last), ap length set' ∙ set_length m.actors i z ∙ count)
 
-pub one_gave_up : (next : Next) (told t m e : Told) (i : ℕ) (r q : Reply) → HaveGivenUp next told i t → i < length told.actors → IsTaken next t (Actor i acts.Abort) r m
-    → IsTaken next m (Actor i acts.Request) q e → HaveGivenUp next told (i + 1) e
-one_gave_up next told t m e i r q h lt one two =
-    let closed = first_closed t m e i r q (omega (arith, lt, h.same)) one.due.0 one.told_is two.due.0 two.told_is h.closed in
-    let all = taken_more next told m e (give_up_steps i ++ Actor i acts.Abort ∷ []) (h.replied ++ r ∷ []) (Actor i acts.Request) q (taken_more next told t m (give_up_steps i) h.replied (Actor i acts.Abort) r h.taken one) two in
+pub one_gave_up : (next : Next) (world t m e : WorldValue) (i : ℕ) (r q : Reply) → HaveGivenUp next world i t → i < length world.told.actors → IsTaken next t (Actor i acts.Abort) r m
+    → IsTaken next m (Actor i acts.Request) q e → HaveGivenUp next world (i + 1) e
+one_gave_up next world t m e i r q h lt one two =
+    let closed = first_closed t.told m.told e.told i r q (omega (arith, lt, h.same)) one.due one.stepped.told two.due two.stepped.told h.closed in
+    let aborted = taken_more next world t m (give_up_steps i) h.replied (Actor i acts.Abort) r h.taken one in
+    let all = taken_more next world m e (give_up_steps i ++ Actor i acts.Abort ∷ []) (h.replied ++ r ∷ []) (Actor i acts.Request) q aborted two in
     let suc_is : suc i ≡ i + 1 = omega arith in
     let steps : (give_up_steps i ++ Actor i acts.Abort ∷ []) ++ Actor i acts.Request ∷ [] ≡ give_up_steps (i + 1) =
     append_assoc (give_up_steps i) (Actor i acts.Abort ∷ []) (Actor i acts.Request ∷ []) ∙ ap give_up_steps suc_is in
     record {
       replied = (h.replied ++ r ∷ []) ++ q ∷ [];
-      taken = subst (λ ss. AreTaken next told ss ((h.replied ++ r ∷ []) ++ q ∷ []) e) steps all;
+      taken = subst (λ ss. AreTaken next world ss ((h.replied ++ r ∷ []) ++ q ∷ []) e) steps all;
       same = closed.1 ∙ h.same;
       closed = closed.0;
     }
 
-pub all_gave_up : (next : Next) (told e : Told) (count : ℕ) → count ≡ length told.actors → HaveGivenUp next told count e → HasGivenUp next told e
-all_gave_up next told e count is h = record { replied = h.replied; taken = subst (λ n. AreTaken next told (give_up_steps n) h.replied e) is h.taken }
+pub all_gave_up : (next : Next) (world e : WorldValue) (count : ℕ) → count ≡ length world.told.actors → HaveGivenUp next world count e → HasGivenUp next world e
+all_gave_up next world e count is h = record { replied = h.replied; taken = subst (λ n. AreTaken next world (give_up_steps n) h.replied e) is h.taken }
 
-pub all_closed : (next : Next) (told e : Told) (count : ℕ) → count ≡ length told.actors → HaveGivenUp next told count e → All IsClosed e.actors
-all_closed next told e count is h = subst (All IsClosed) (take_all count e.actors (omega (arith, is, h.same))) h.closed
+pub all_closed : (next : Next) (world e : WorldValue) (count : ℕ) → count ≡ length world.told.actors → HaveGivenUp next world count e → All IsClosed e.told.actors
+all_closed next world e count is h = subst (All IsClosed) (take_all count e.told.actors (omega (arith, is, h.same))) h.closed

@@ -1,6 +1,7 @@
 pub mod WorldSteps
 pub mod TaskNames
 pub mod TasksDone
+pub mod WrittenOneWay
 pub mod GivingUp
 pub mod TaskParts
 pub mod WorldTexts

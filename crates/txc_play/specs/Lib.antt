@@ -2,6 +2,7 @@ pub mod Tasks
 pub mod TaskReading
 pub mod TaskSteps
 pub mod TaskTexts
+pub mod TaskLaws
 pub mod WorldFaults
 pub mod WorldScripts
 pub mod WorldRuns

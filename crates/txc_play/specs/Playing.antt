@@ -4,7 +4,7 @@ use Rattle.txc_app.specs.Eval.{Next}
 use Rattle.txc_world.specs.declared.step.Act.{Act}
 use Rattle.txc_world.specs.declared.step.Step.{Step}
 use Rattle.txc_world.specs.declared.reply.Reply.{Reply}
-use Rattle.txc_world.specs.Told.{Told}
+use Rattle.txc_world.specs.Worlds.{WorldValue}
 use Rattle.txc_play.specs.TaskSteps.{AreTaken, DoesEnd, DoesUnpin, HasBegun, IsDone}
 use Rattle.txc_play.specs.TaskTexts.{printed_text, is_refused_line}
 use Rattle.txc_play.specs.declared.printed.Printed.{Printed}
@@ -12,28 +12,29 @@ use Rattle.txc_play.specs.declared.printed.Printed.TheVariants.{Replied}
 use Rattle.txc_play.specs.declared.task.Task.{Task}
 
 -- an actor ended its transaction so
-pub record HasEndedTxn (next : Next) (told : Told) (actor : ℕ) (act : Act) (reply : Reply) (end : Told) : Type 0 where
+pub record HasEndedTxn (next : Next) (world : WorldValue) (actor : ℕ) (act : Act) (reply : Reply)
+    (end : WorldValue) : Type 0 where
   pub steps : List Step
   pub replied : List Reply
-  pub taken : AreTaken next told steps replied end
+  pub taken : AreTaken next world steps replied end
   pub does : DoesEnd actor act steps replied (Replied reply)
 
 -- the holds of stamps were taken away
-pub record HasUnpinned (next : Next) (told : Told) (stamps : List ℕ) (count : ℕ) (printed : Printed) (end : Told)
-    : Type 0 where
+pub record HasUnpinned (next : Next) (world : WorldValue) (stamps : List ℕ) (count : ℕ) (printed : Printed)
+    (end : WorldValue) : Type 0 where
   pub steps : List Step
   pub replied : List Reply
-  pub taken : AreTaken next told steps replied end
+  pub taken : AreTaken next world steps replied end
   pub does : DoesUnpin stamps count steps replied printed
 
 -- none of the steps of what a line asks for were taken, or the first ones
-abbrev pub IsCutShort : Next → Told → Task → Told → Type 0
-IsCutShort next told task end = (end ≡ told) ⊎ HasBegun next told task end
+abbrev pub IsCutShort : Next → WorldValue → Task → WorldValue → Type 0
+IsCutShort next world task end = (end ≡ world) ⊎ HasBegun next world task end
 
 -- what a line asks for was done, and what is written of it was put after the text
-pub record IsTaskDone (next : Next) (told : Told) (task : Task) (end : Told) (old new : List ℕ) (refused : Bool)
-    : Type 0 where
+pub record IsTaskDone (next : Next) (world : WorldValue) (task : Task) (end : WorldValue) (old new : List ℕ)
+    (refused : Bool) : Type 0 where
   pub printed : Printed
-  pub done : IsDone next told task printed end
+  pub done : IsDone next world task printed end
   pub text : new ≡ old ++ (printed_text printed ++ 10 ∷ [])
   pub is_refused : refused ≡ is_refused_line printed

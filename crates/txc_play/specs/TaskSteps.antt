@@ -9,8 +9,11 @@ use Rattle.txc_world.specs.declared.step.Step.{Step}
 use Rattle.txc_world.specs.declared.step.Step.TheVariants.{Actor, Keeper}
 use Rattle.txc_world.specs.declared.reply.Reply.{Reply}
 use Rattle.txc_world.specs.declared.reply.Reply.TheVariants as replies
-use Rattle.txc_world.specs.Told.{Told, Reading, Story, idle, reading, writing, leaving, told_by, AreDue, AreExplained}
-use Rattle.txc_world.specs.Worlds.{due_of_pins, AreMembersOf}
+use Rattle.txc_world.specs.Acts.{HasStepped}
+use Rattle.txc_world.specs.Cast.{reads, ReadingValue}
+use Rattle.txc_world.specs.Tidy.{purse_after, IsTidy, LosesNoSnapshot, Purse}
+use Rattle.txc_world.specs.Told.{Reading, Story, idle, reading, writing, leaving, IsDue, IsExplainedIn}
+use Rattle.txc_world.specs.Worlds.{due_of_pins, AreMembersOf, IsBalanced, WorldValue}
 use Rattle.txc_play.specs.declared.printed.Printed.{Printed}
 use Rattle.txc_play.specs.declared.printed.Printed.TheVariants.{Replied, Ended, Members, Tidied}
 use Rattle.txc_play.specs.declared.task.Task.{Task}
@@ -18,17 +21,24 @@ use Rattle.txc_play.specs.declared.task.Task.TheVariants as tasks
 
 -- ---- steps and replies of a world
 
--- The steps were taken one after another: each is replied what is due, each receipt and each commit explains
--- what was told before it, and what is told of the world after them is what they and their replies tell.
-pub record AreTaken (next : Next) (told : Told) (steps : List Step) (replied : List Reply) (end : Told) : Type 0 where
-  pub each : length replied ≡ length steps
-  pub told_is : end ≡ told_by told steps replied
-  pub explained : AreExplained next told steps replied
-  pub due : AreDue told steps replied
+-- A step was taken and replied so. It leads from the one world to the other, as it was replied; a receipt and
+-- a commit explain what was told before it; it is replied what is due; and where each has what is its own and
+-- the step is tidy, each has so after it, and it loses no snapshot.
+pub record IsTaken (next : Next) (old : WorldValue) (step : Step) (reply : Reply) (new : WorldValue)
+    : Type 0 where
+  pub stepped : HasStepped next old step reply new
+  pub explained : IsExplainedIn next new.told.history old.told step reply
+  pub due : IsDue old.told step reply
+  pub balanced : (purse : Purse) → IsBalanced old purse → IsTidy step reply purse
+      → IsBalanced new (purse_after step reply purse) × LosesNoSnapshot step reply
 
--- the step was taken
-abbrev pub IsTaken : Next → Told → Step → Reply → Told → Type 0
-IsTaken next told step reply end = AreTaken next told (step ∷ []) (reply ∷ []) end
+-- steps were taken one after another and replied so, each in the world that those before it left
+abbrev pub AreTaken : Next → WorldValue → List Step → List Reply → WorldValue → Type 0
+AreTaken next old [] [] new = new ≡ old
+AreTaken next old [] (reply ∷ replied) new = ⊥
+AreTaken next old (step ∷ steps) [] new = ⊥
+AreTaken next old (step ∷ steps) (reply ∷ replied) new = (between : WorldValue)
+    × IsTaken next old step reply between × AreTaken next between steps replied new
 
 -- ---- the steps of each line
 
@@ -116,47 +126,56 @@ DoesTidy now age (step ∷ steps) (reply ∷ replied) printed =
     (λ stamps. DoesUnpin stamps (length stamps) steps replied printed)
 DoesTidy now age steps replied printed = ⊥
 
--- the stamps of the members are written, and whether the present is there
-abbrev pub ShowsMembers : Next → Told → ℕ → Printed → Type 0
-ShowsMembers next told actor (Members has_present stamps) =
-    (pins : List Pin) × (stamps.items ≡ map (λ p. p.stamp) pins)
-    × ((r : Reading) → slice_get told.actors actor ≡ Some (reading r)
-    → AreMembersOf next told.history r has_present pins)
-ShowsMembers next told actor printed = ⊥
+-- what is shown of an actor's transaction: the stamps of the members of its pin set, the newest first, and
+-- whether the present is there; it may still be serialised at each of these
+pub record AreShown (next : Next) (world : WorldValue) (actor : ℕ) (has_present : Bool) (stamps : List ℕ)
+    : Type 0 where
+  pub pins : List Pin
+  pub stamps_are : stamps ≡ map (λ p. p.stamp) pins
+  pub pin_set : (r : ReadingValue) → slice_get world.actors actor ≡ Some (reads r)
+      → r.txn.core.pins ≡ record { members = pins; has_present = has_present }
+  pub members : (r : Reading) → slice_get world.told.actors actor ≡ Some (reading r)
+      → AreMembersOf next world.told.history r has_present pins
+
+abbrev pub ShowsMembers : Next → WorldValue → ℕ → Printed → Type 0
+ShowsMembers next world actor (Members has_present stamps) =
+    AreShown next world actor has_present stamps.items
+ShowsMembers next world actor printed = ⊥
 
 -- the actor's members are written, or why it has none
-abbrev pub DoesPins : Next → Told → ℕ → Printed → Type 0
-DoesPins next told actor printed =
-    MatchOption (due_of_pins (slice_get told.actors actor)) (ShowsMembers next told actor printed)
+abbrev pub DoesPins : Next → WorldValue → ℕ → Printed → Type 0
+DoesPins next world actor printed =
+    MatchOption (due_of_pins (slice_get world.told.actors actor)) (ShowsMembers next world actor printed)
     (λ refusal. printed ≡ Replied (replies.Refused refusal))
 
 -- the steps of what a line asks for, as they were replied, and what is written of them
-abbrev pub Does : Next → Told → Task → List Step → List Reply → Printed → Type 0
-Does next told (tasks.One step) steps replied printed =
+abbrev pub Does : Next → WorldValue → Task → List Step → List Reply → Printed → Type 0
+Does next world (tasks.One step) steps replied printed =
     (reply : Reply) × (steps ≡ step ∷ []) × (replied ≡ reply ∷ []) × (printed ≡ Replied reply)
-Does next told (tasks.Pin now) steps replied printed = DoesPin now steps replied printed
-Does next told (tasks.Finish actor) steps replied printed = DoesFinish actor steps replied printed
-Does next told (tasks.Pins actor) steps replied printed = (steps ≡ []) × DoesPins next told actor printed
-Does next told (tasks.Commit actor) steps replied printed = DoesEnd actor acts.Commit steps replied printed
-Does next told (tasks.Abort actor) steps replied printed = DoesEnd actor acts.Abort steps replied printed
-Does next told (tasks.Tidy now age) steps replied printed = DoesTidy now age steps replied printed
+Does next world (tasks.Pin now) steps replied printed = DoesPin now steps replied printed
+Does next world (tasks.Finish actor) steps replied printed = DoesFinish actor steps replied printed
+Does next world (tasks.Pins actor) steps replied printed = (steps ≡ []) × DoesPins next world actor printed
+Does next world (tasks.Commit actor) steps replied printed = DoesEnd actor acts.Commit steps replied printed
+Does next world (tasks.Abort actor) steps replied printed = DoesEnd actor acts.Abort steps replied printed
+Does next world (tasks.Tidy now age) steps replied printed = DoesTidy now age steps replied printed
 
 -- what a line asks for was done: its steps were taken, and this is written of them
-pub record IsDone (next : Next) (told : Told) (task : Task) (printed : Printed) (end : Told) : Type 0 where
+pub record IsDone (next : Next) (world : WorldValue) (task : Task) (printed : Printed) (end : WorldValue)
+    : Type 0 where
   pub steps : List Step
   pub replied : List Reply
-  pub taken : AreTaken next told steps replied end
-  pub does : Does next told task steps replied printed
+  pub taken : AreTaken next world steps replied end
+  pub does : Does next world task steps replied printed
 
 -- the first steps of what a line asks for were taken, or all of them
-pub record HasBegun (next : Next) (told : Told) (task : Task) (end : Told) : Type 0 where
+pub record HasBegun (next : Next) (world : WorldValue) (task : Task) (end : WorldValue) : Type 0 where
   pub steps : List Step
   pub replied : List Reply
-  pub taken : AreTaken next told steps replied end
+  pub taken : AreTaken next world steps replied end
   pub later : List Step
   pub later_replied : List Reply
   pub printed : Printed
-  pub does : Does next told task (steps ++ later) (replied ++ later_replied) printed
+  pub does : Does next world task (steps ++ later) (replied ++ later_replied) printed
 
 -- ---- the end of a run
 
@@ -167,9 +186,9 @@ give_up_steps zero = []
 give_up_steps (suc actor) = give_up_steps actor ++ Actor actor acts.Abort ∷ Actor actor acts.Request ∷ []
 
 -- all actors of a world gave up what they had open
-pub record HasGivenUp (next : Next) (told left : Told) : Type 0 where
+pub record HasGivenUp (next : Next) (world left : WorldValue) : Type 0 where
   pub replied : List Reply
-  pub taken : AreTaken next told (give_up_steps (length told.actors)) replied left
+  pub taken : AreTaken next world (give_up_steps (length world.told.actors)) replied left
 
 -- no transaction is open
 abbrev pub IsClosed : Story → Type 0

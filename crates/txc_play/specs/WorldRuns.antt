@@ -27,4 +27,4 @@ abbrev pub HasPlayed : Next → WorldValue → Option (List ℕ) → Option (Lis
 HasPlayed next start remaining_old remaining_new contents_old contents_new result left =
     (s : WorldValue)
     × HasRun (world_script next) start remaining_old remaining_new contents_old contents_new result s
-    × HasGivenUp next s.told left.told
+    × HasGivenUp next s left

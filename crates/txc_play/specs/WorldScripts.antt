@@ -13,14 +13,14 @@ use Rattle.txc_play.specs.declared.task.Task.{Task}
 -- nothing was done of what a line asks for, or the first steps were taken, or all of them
 abbrev pub BreaksOffTask : Next → WorldValue → List ℕ → WorldValue → Type 0
 BreaksOffTask next s line end =
-    (end.told ≡ s.told) ⊎ ((task : Task) × SpellsTask line task × HasBegun next s.told task end.told)
+    (end ≡ s) ⊎ ((task : Task) × SpellsTask line task × HasBegun next s task end)
 
 -- A script of a world's lines, whose functions compute this: what a line asks for is done by steps, and
 -- nothing comes after all lines.
 abbrev pub world_script : Next → ScriptKind WorldValue Task Printed
 world_script next = record {
   asks = SpellsTask;
-  does = λ s task printed end. IsDone next s.told task printed end.told;
+  does = IsDone next;
   breaks_off = BreaksOffTask next;
   text = λ printed. printed_text printed ++ 10 ∷ [];
   is_refused = is_refused_line;

@@ -3,6 +3,7 @@
 #![tactic(auto)]
 
 mod finding;
+mod laws;
 mod name;
 mod outcome;
 mod parts;
@@ -15,4 +16,5 @@ mod script;
 mod task;
 mod texts;
 
+pub use laws::a_line_of_a_world_is_written_one_way;
 pub use script::{run_world, world_settings};

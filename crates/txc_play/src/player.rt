@@ -39,9 +39,8 @@ fn do_task<A: App, C: Cacheable>(
     task: Task,
     text: &mut Vec<u8>,
 ) -> Result<bool, AllocError>
-    ensures after { IfOk result (IsTaskDone A.next world.old.told task world.new.told
-        text.old.items text.new.items) }
-    ensures broke { OnErr result (IsCutShort A.next world.old.told task world.new.told) }
+    ensures after { IfOk result (IsTaskDone A.next world.old task world.new text.old.items text.new.items) }
+    ensures broke { OnErr result (IsCutShort A.next world.old task world.new) }
     ensures unchanged { OnErr result (text.new.items ≡ text.old.items) }
 {
     let printed = play(alloc, world, task)?;

@@ -15,7 +15,7 @@ use txc_world::{Act, Keep, Reply, Step, World};
 
 /// Takes one step.
 fn take<A: App, C: Cacheable>(alloc: Global, world: &mut World<A, C>, step: Step) -> Reply
-    ensures { IsTaken A.next world.old.told step result world.new.told }
+    ensures { IsTaken A.next world.old step result world.new }
 {
     world.step(alloc, &step)
 }
@@ -23,7 +23,7 @@ fn take<A: App, C: Cacheable>(alloc: Global, world: &mut World<A, C>, step: Step
 /// The keeper pins the present and adds the pin, which no transaction uses then; where it is not added, its
 /// hold is taken away.
 fn pin_present<A: App, C: Cacheable>(alloc: Global, world: &mut World<A, C>, now: u64) -> Reply
-    ensures { IsDone A.next world.old.told (Task.Pin now) (Printed.Replied result) world.new.told }
+    ensures { IsDone A.next world.old (Task.Pin now) (Printed.Replied result) world.new }
 {
     let pinned = take(alloc, world, Step::Keeper(Keep::Pin(now)));
     let Some(stamp) = stamp_in(&pinned) else {
@@ -45,8 +45,8 @@ fn finish_call<A: App, C: Cacheable>(
     actor: usize,
 ) -> Result<Printed, AllocError>
     ensures after { IfOk result (λ printed.
-        IsDone A.next world.old.told (Task.Finish actor) printed world.new.told) }
-    ensures broke { OnErr result (HasBegun A.next world.old.told (Task.Finish actor) world.new.told) }
+        IsDone A.next world.old (Task.Finish actor) printed world.new) }
+    ensures broke { OnErr result (HasBegun A.next world.old (Task.Finish actor) world.new) }
 {
     for _ in 0..u64::MAX {
         let reply = take(alloc, world, Step::Actor(actor, Act::Request));
@@ -64,7 +64,7 @@ fn end_txn<A: App, C: Cacheable>(
     actor: usize,
     act: Act,
 ) -> Reply
-    ensures { HasEndedTxn A.next world.old.told actor act result world.new.told }
+    ensures { HasEndedTxn A.next world.old actor act result world.new }
 {
     let reply = take(alloc, world, Step::Actor(actor, act));
     if leaves_hold(&reply) {
@@ -81,7 +81,7 @@ fn unpin_all<A: App, C: Cacheable>(
     stamps: &[Stamp],
     count: usize,
 ) -> Printed
-    ensures { HasUnpinned A.next world.old.told stamps.now count result world.new.told }
+    ensures { HasUnpinned A.next world.old stamps.now count result world.new }
 {
     let Some((stamp, others)) = stamps.split_first() else {
         let reply = take(alloc, world, Step::Keeper(Keep::Vacuum));
@@ -101,7 +101,7 @@ fn tidy_up<A: App, C: Cacheable>(
     now: u64,
     age: u64,
 ) -> Printed
-    ensures { IsDone A.next world.old.told (Task.Tidy now age) result world.new.told }
+    ensures { IsDone A.next world.old (Task.Tidy now age) result world.new }
 {
     let reply = take(alloc, world, Step::Keeper(Keep::Retire { now, age }));
     match taken_out(reply) {
@@ -123,7 +123,7 @@ fn members_of<A: App, C: Cacheable>(
     world: &World<A, C>,
     actor: usize,
 ) -> Result<Printed, AllocError>
-    ensures { IfOk result (λ printed. DoesPins A.next world.now.told actor printed) }
+    ensures { IfOk result (λ printed. DoesPins A.next world.now actor printed) }
 {
     match world.pins(actor) {
         Ok(members) => {
@@ -140,8 +140,8 @@ pub fn play<A: App, C: Cacheable>(
     world: &mut World<A, C>,
     task: Task,
 ) -> Result<Printed, AllocError>
-    ensures after { IfOk result (λ printed. IsDone A.next world.old.told task printed world.new.told) }
-    ensures broke { OnErr result (IsCutShort A.next world.old.told task world.new.told) }
+    ensures after { IfOk result (λ printed. IsDone A.next world.old task printed world.new) }
+    ensures broke { OnErr result (IsCutShort A.next world.old task world.new) }
 {
     match task {
         Task::One(step) => Ok(Printed::Replied(take(alloc, world, step))),
@@ -157,7 +157,7 @@ pub fn play<A: App, C: Cacheable>(
 /// Each actor gives up what it has open, by their numbers, and takes the hold away that is left then. Steps of
 /// an actor with nothing open are refused, and change nothing.
 pub fn give_all_up<A: App, C: Cacheable>(alloc: Global, world: &mut World<A, C>)
-    ensures given_up { HasGivenUp A.next world.old.told world.new.told }
+    ensures given_up { HasGivenUp A.next world.old world.new }
     ensures closed { All IsClosed world.new.told.actors }
 {
     for actor in 0..world.actor_count() {

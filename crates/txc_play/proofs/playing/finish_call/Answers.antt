@@ -3,17 +3,17 @@ use Rattle.txc_play.proofs.TasksDone.{call_ended, none_requested, one_requested,
 use Rattle.txc_play.proofs.playing.finish_call.Goals as goal
 
 pub loop-init : goal.loop-init
-loop-init g c = none_requested g.A.App.next c.args.world.now.told c.args.actor
+loop-init g c = none_requested g.A.App.next c.args.world.now c.args.actor
 
 pub returns-in-Some-clause-after : goal.returns-in-Some-clause-after
 returns-in-Some-clause-after g c =
-    call_ended g.A.App.next c.args.world.now.told c.loop.world.told c.take-reply.new.world.told c.args.actor c.take-reply.result c.in-Some.printed c.loop.invariant c.take-reply.ensures
+    call_ended g.A.App.next c.args.world.now c.loop.world c.take-reply.new.world c.args.actor c.take-reply.result c.in-Some.printed c.loop.invariant c.take-reply.ensures
     (sym c.ending_of.ensures ∙ c.in-Some.is)
 
 pub loop-preserved : goal.loop-preserved
 loop-preserved g c =
-    one_requested g.A.App.next c.args.world.now.told c.loop.world.told c.take-reply.new.world.told c.args.actor c.take-reply.result c.loop.invariant c.take-reply.ensures
+    one_requested g.A.App.next c.args.world.now c.loop.world c.take-reply.new.world c.args.actor c.take-reply.result c.loop.invariant c.take-reply.ensures
     (sym c.ending_of.ensures ∙ c.in_default.is)
 
 pub returns-clause-broke : goal.returns-clause-broke
-returns-clause-broke g c = requests_begun g.A.App.next c.args.world.now.told c.loop.world.told c.args.actor c.loop.invariant
+returns-clause-broke g c = requests_begun g.A.App.next c.args.world.now c.loop.world c.args.actor c.loop.invariant

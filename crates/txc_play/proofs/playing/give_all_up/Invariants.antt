@@ -2,4 +2,4 @@ use Rattle.txc_play.proofs.GivingUp.{HaveGivenUp}
 use Rattle.txc_play.proofs.playing.give_all_up.Given as goal
 
 abbrev pub invariant-loop-actor : goal.invariant-loop-actor
-invariant-loop-actor g l = HaveGivenUp g.A.App.next l.fn.world.told l.actor l.world.told
+invariant-loop-actor g l = HaveGivenUp g.A.App.next l.fn.world l.actor l.world

@@ -1,12 +1,15 @@
-use Rattle.txc_play.proofs.TasksDone.{done_pins, finish_cut, nothing_cut}
+use Rattle.txc_play.proofs.TasksDone.{done_one, done_pins, finish_cut, nothing_cut}
 use Rattle.txc_play.proofs.playing.play.Goals as goal
 
 pub returns-in-Finish-clause-broke : goal.returns-in-Finish-clause-broke
 returns-in-Finish-clause-broke g c =
-    rw c.in-Finish.is (finish_cut g.A.App.next c.args.world.now.told c.finish_call.new.world.told c.in-Finish.actor c.finish_call.result c.finish_call.ensures.broke)
+    rw c.in-Finish.is (finish_cut g.A.App.next c.args.world.now c.finish_call.new.world c.in-Finish.actor c.finish_call.result c.finish_call.ensures.broke)
 
 pub returns-in-Pins-clause-after : goal.returns-in-Pins-clause-after
-returns-in-Pins-clause-after g c = rw c.in-Pins.is (done_pins g.A.App.next c.args.world.now.told c.in-Pins.actor c.members_of.result c.members_of.ensures)
+returns-in-Pins-clause-after g c = rw c.in-Pins.is (done_pins g.A.App.next c.args.world.now c.in-Pins.actor c.members_of.result c.members_of.ensures)
 
 pub returns-in-Pins-clause-broke : goal.returns-in-Pins-clause-broke
-returns-in-Pins-clause-broke g c = nothing_cut g.A.App.next c.args.world.now.told c.args.task c.members_of.result
+returns-in-Pins-clause-broke g c = nothing_cut g.A.App.next c.args.world.now c.args.task c.members_of.result
+
+pub returns-in-One-clause-after : goal.returns-in-One-clause-after
+returns-in-One-clause-after g c = rw c.in-One.is (done_one g.A.App.next c.args.world.now c.take.new.world c.in-One.step c.take.result c.take.ensures)
