@@ -15,8 +15,8 @@ abbrev pub BreaksOffTask : Next → WorldValue → List ℕ → WorldValue → T
 BreaksOffTask next s line end =
     (end ≡ s) ⊎ ((task : Task) × SpellsTask line task × HasBegun next s task end)
 
--- A script of a world's lines, whose functions compute this: what a line asks for is done by steps, and nothing
--- comes after all lines.
+-- A script of a world's lines, whose functions compute this: what a line asks for is done by steps, and
+-- nothing comes after all lines.
 abbrev pub world_script : Next → ScriptKind WorldValue Task Printed
 world_script next = record {
   asks = SpellsTask;

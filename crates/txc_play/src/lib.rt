@@ -1,5 +1,5 @@
-//! Runs of a world's scripts: what their lines ask for, the steps that those stand for, and what is written of
-//! the replies.
+//! Runs of a world's scripts: what their lines ask for, the steps that those stand for, and what is written
+//! of the replies.
 #![tactic(auto)]
 
 mod finding;

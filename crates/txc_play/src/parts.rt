@@ -16,9 +16,7 @@ ghost use Rattle.txc_play.specs.declared.parts.TheConstants.{LAST_MOMENT};
 use std::alloc::Global;
 use txc_ports::Bounds;
 use txc_rows::{Change, Query, Row};
-use txc_script::{
-    Malformed, Unread, first_word, one_word, read_stamp, three_words, two_words,
-};
+use txc_script::{Malformed, Unread, first_word, one_word, read_stamp, three_words, two_words};
 use txc_tags::{LAST_NUMBER, LAST_TABLE, Table, read_number};
 
 /// The greatest moment and the longest time, in milliseconds.

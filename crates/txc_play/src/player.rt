@@ -12,20 +12,16 @@ use crate::refusing::is_refused_line;
 use crate::task::Task;
 use std::alloc::{AllocError, Global};
 use std::marker::PhantomData;
+use txc_app::App;
 use txc_registry::Cacheable;
 use txc_script::{CommandFault, Script, Unread};
-use txc_app::App;
 use txc_world::World;
 
 /// A script of a world's lines.
 pub struct WorldScript<A, C>(pub PhantomData<(A, C)>);
 
 /// Puts what is written of a line after the text. Returns whether it holds a refusal.
-fn push_printed(
-    alloc: Global,
-    text: &mut Vec<u8>,
-    printed: &Printed,
-) -> Result<bool, AllocError>
+fn push_printed(alloc: Global, text: &mut Vec<u8>, printed: &Printed) -> Result<bool, AllocError>
     ensures text { OnOk result (text.new.items ≡ text.old.items ++ (printed_text printed.now ++ 10 ∷ [])) }
     ensures refusal { IfOk result (λ refused. refused ≡ is_refused_line printed.now) }
     ensures unchanged { OnErr result (text.new.items ≡ text.old.items) }
@@ -53,7 +49,9 @@ fn do_task<A: App, C: Cacheable>(
 
 impl<A: App, C: Cacheable> Script for WorldScript<A, C> {
     type State = World<A, C>;
+
     type Asked = Task;
+
     type Reply = Printed;
 
     ghost kind = { λ _. world_script A.next };
@@ -75,7 +73,6 @@ impl<A: App, C: Cacheable> Script for WorldScript<A, C> {
     }
 
     fn find_fault(&self, alloc: Global, line: &[u8]) -> CommandFault {
-        let _ = alloc;
         find_command_fault(line)
     }
 
@@ -85,7 +82,6 @@ impl<A: App, C: Cacheable> Script for WorldScript<A, C> {
         state: &mut World<A, C>,
         text: &mut Vec<u8>,
     ) -> Result<bool, AllocError> {
-        let _ = (alloc, state, text);
         Ok(false)
     }
 }

@@ -3,9 +3,7 @@ ghost use Rattle.std.specs.Prelude.{◌≡◌, map, All, IfOk, OnErr};
 ghost use Rattle.txc_play.specs.TaskSteps.{DoesPins, HasBegun, HasGivenUp, IsClosed, IsDone, IsTaken};
 ghost use Rattle.txc_play.specs.Playing.{HasEndedTxn, HasUnpinned, IsCutShort};
 
-use crate::outcome::{
-    ending_of, is_added, is_unpinned, leaves_hold, stamp_in, taken_out, tidied,
-};
+use crate::outcome::{ending_of, is_added, is_unpinned, leaves_hold, stamp_in, taken_out, tidied};
 use crate::printed::Printed;
 use crate::task::Task;
 use std::alloc::{AllocError, Global};

@@ -8,9 +8,7 @@ ghost use Rattle.txc_play.specs.TaskReading.{IsKeeperChange};
 ghost use Rattle.txc_play.specs.declared.task.Task.{Task};
 
 use crate::name::name_of;
-use crate::parts::{
-    read_bounds, read_change, read_moment, read_place, read_query, read_row,
-};
+use crate::parts::{read_bounds, read_change, read_moment, read_place, read_query, read_row};
 use crate::task::Task;
 use std::alloc::Global;
 use txc_rows::Change;

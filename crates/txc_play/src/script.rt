@@ -8,10 +8,10 @@ use crate::playing::give_all_up;
 use std::alloc::Global;
 use std::io::{Read, Write};
 use std::marker::PhantomData;
+use txc_app::App;
 use txc_registry::Cacheable;
 use txc_script::{RunFault, Status, run_script};
 use txc_settings::Settings;
-use txc_app::App;
 use txc_world::{World, WorldSettings};
 
 /// The settings of a run's world.

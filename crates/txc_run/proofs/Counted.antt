@@ -3,7 +3,7 @@ use Rattle.std.proofs.Common.{◌≡◌, ℕ, ◌+◌, Bool, true, false, ◌||�
 use Rattle.std.specs.Prelude.{MatchBool}
 use Rattle.std.specs.List.{list_any}
 use Rattle.std.proofs.lemmas.List.{append-nil}
-use Rattle.txc_settings.specs.declared.mode.Mode.TheVariants.{Report}
+use Rattle.txc_settings.specs.declared.mode.Mode.TheVariants.{Node, Report}
 use Rattle.txc_node.specs.Cache.{Cache}
 use Rattle.txc_node.specs.declared.hit.Shown.{Shown}
 use Rattle.txc_node.specs.declared.op.Op.{Op}
@@ -97,7 +97,7 @@ same_status : (lines : List (List ℕ)) (given : List (Given Op (Reply Shown))) 
     → IsStatusOf (node_script Report) lines given closing status
 same_status lines given closing statuses.Done h = ap (λ (b : Bool). b || closing.is_refused) (sym (any_refused given)) ∙ h
 same_status lines given closing statuses.Refused h = (ap (λ (b : Bool). b || closing.is_refused) (sym (any_refused given)) ∙ h.0, h.1)
-same_status lines given closing (statuses.Malformed bad) h = (h.0, h.1.0, h.1.1.0, h.1.1.1, h.1.1.2, same_fault h.1.1.1 bad.fault h.1.1.3)
+same_status lines given closing (statuses.Malformed bad) h = (h.0, (h.1.0, (h.1.1.0, h.1.1.1, h.1.1.2, same_fault h.1.1.1 bad.fault h.1.1.3)))
 
 -- ---- the end of a run
 
@@ -151,3 +151,7 @@ pub same_run : (start : Counted) (a b w x : Option (List ℕ)) (r : Result Statu
     → HasRun (node_script Report) c a b w x r left.node
 same_run start a b w x r left c is none h =
     subst (λ (c : Cache). HasRun (node_script Report) c a b w x r left.node) is (h.0, h.1, h.2, h.3, same_written start h.0 _ h.1 r left none h.4)
+
+-- a run begins in the same cache
+pub run_from : (start c : Cache) (a b w x : Option (List ℕ)) (r : Result Status RunFault) (left : Cache) → start ≡ c → HasRun (node_script Node) start a b w x r left → HasRun (node_script Node) c a b w x r left
+run_from start c a b w x r left is h = subst (λ (s : Cache). HasRun (node_script Node) s a b w x r left) is h

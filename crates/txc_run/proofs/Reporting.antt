@@ -15,7 +15,7 @@ use Rattle.txc_node.specs.declared.record.Record.{Record}
 use Rattle.txc_node.specs.declared.reply.Reply.{Reply}
 use Rattle.txc_node.specs.declared.reply.Reply.TheVariants as replies
 use Rattle.txc_node.specs.Counts.{Totals, AreCountsOf, counts_for, counts_of, sum_of, step_counts, events_by, closed_by, swept_by}
-use Rattle.txc_node.specs.Steps.{function_of, seen_reply}
+use Rattle.txc_node.specs.Steps.{function_of, is_refusal, seen_reply}
 use Rattle.txc_node.specs.declared.hit.Shown.{Shown}
 use Rattle.txc_script.specs.Kinds.{Given}
 use Rattle.txc_run.specs.Reports.{IsReportOf, before_others, counts_in, functions_named, functions_text, function_line, step_by, steps_in, steps_of, steps_report, total_line, with_name}
@@ -47,6 +47,14 @@ counts_seen f function replies.Miss = refl
 counts_seen f function (replies.Closed count) = refl
 counts_seen f function (replies.Swept count) = refl
 counts_seen f function (replies.Refused refusal) = refl
+
+pub refusal_seen : (reply : Reply Hit) → is_refusal (seen_reply reply) ≡ is_refusal reply
+refusal_seen (replies.Inserted inserted) = refl
+refusal_seen (replies.Hit hit) = refl
+refusal_seen replies.Miss = refl
+refusal_seen (replies.Closed count) = refl
+refusal_seen (replies.Swept count) = refl
+refusal_seen (replies.Refused refusal) = refl
 
 pub events_seen : (reply : Reply Hit) → events_by (seen_reply reply) ≡ events_by reply
 events_seen (replies.Inserted inserted) = refl

@@ -10,7 +10,7 @@ use Rattle.txc_node.specs.declared.reply.Reply.{Reply}
 use Rattle.txc_node.specs.Steps.{is_refusal, MayReply}
 use Rattle.txc_settings.specs.declared.mode.Mode.TheVariants.{Node}
 use Rattle.txc_script.specs.Answers.{IsUnanswered}
-use Rattle.txc_script.specs.Kinds.{Given, Replied}
+use Rattle.txc_script.specs.Kinds.{Replied}
 use Rattle.txc_script.specs.declared.unread.Unread.{Unread}
 use Rattle.txc_script.specs.declared.unread.Unread.TheVariants.{Malformed, Memory}
 use Rattle.txc_run.specs.Counting.{Counts, counted_script}

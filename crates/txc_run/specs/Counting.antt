@@ -1,5 +1,5 @@
 -- Only private functions need this file: a report in progress.
-use Rattle.std.specs.Prelude.{◌≡◌, ◌++◌, ◌∷◌, [], List}
+use Rattle.std.specs.Prelude.{◌++◌, ◌∷◌, [], List}
 use Rattle.txc_settings.specs.declared.mode.Mode.TheVariants.{Report}
 use Rattle.txc_node.specs.declared.hit.Shown.{Shown}
 use Rattle.txc_node.specs.declared.op.Op.{Op}
@@ -20,7 +20,8 @@ HasReport given report = IsReportOf (steps_of given) report.functions.keys repor
 -- a reply to a step was counted
 abbrev pub Counts : reports.Report → Op → Reply Shown → reports.Report → Type 0
 Counts old op reply new =
-    (given : List (Given Op (Reply Shown))) → HasReport given old → HasReport (given ++ Replied op reply ∷ []) new
+    (given : List (Given Op (Reply Shown))) → HasReport given old
+    → HasReport (given ++ Replied op reply ∷ []) new
 
 -- a script of a node's lines whose replies are counted
 abbrev pub counted_script : ScriptKind Counted Op (Reply Shown)

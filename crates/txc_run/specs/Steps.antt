@@ -1,5 +1,5 @@
 -- Only private functions need this file: steps that are made, and their replies, which are taken.
-use Rattle.std.specs.Prelude.{◌≡◌, ℕ, ◌++◌, ◌∷◌, [], Bool, false, List, Option, ⊤}
+use Rattle.std.specs.Prelude.{◌≡◌, ℕ, Bool, false, Option, ⊤}
 use Rattle.txc_node.specs.declared.hit.Shown.{Shown}
 use Rattle.txc_node.specs.declared.op.Op.{Op}
 use Rattle.txc_node.specs.declared.reply.Reply.{Reply}

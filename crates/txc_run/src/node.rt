@@ -24,7 +24,9 @@ pub struct Counted {
 
 impl Script for Replying {
     type State = NodeCore;
+
     type Asked = Op;
+
     type Reply = Reply<Shown>;
 
     ghost kind = { λ _. node_script modes.Node };
@@ -49,14 +51,15 @@ impl Script for Replying {
         state: &mut NodeCore,
         text: &mut Vec<u8>,
     ) -> Result<bool, AllocError> {
-        let _ = (alloc, state, text);
         Ok(false)
     }
 }
 
 impl Script for Counting {
     type State = Counted;
+
     type Asked = Op;
+
     type Reply = Reply<Shown>;
 
     ghost use Rattle.txc_run.specs.Counting.{counted_script};
@@ -70,7 +73,6 @@ impl Script for Counting {
         line: &[u8],
         text: &mut Vec<u8>,
     ) -> Result<bool, Unread> {
-        let _ = text;
         make_step(alloc, &mut state.node, line, &mut state.report)
     }
 

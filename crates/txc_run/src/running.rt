@@ -47,7 +47,8 @@ fn run_counting<R: Read, W: Write>(
     reader: &mut R,
     writer: &mut W,
 ) -> Result<Status, RunFault>
-    ensures { (left : Cache) × HasRun (node_script Mode.Report) (empty_cache settings.capacity settings.recent)
+    ensures { (left : Cache)
+        × HasRun (node_script Mode.Report) (empty_cache settings.capacity settings.recent)
         (R.remaining reader.old) (R.remaining reader.new)
         (W.contents writer.old) (W.contents writer.new) result left }
 {

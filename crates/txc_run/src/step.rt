@@ -23,7 +23,8 @@ fn insert<T: Taker>(
     entry: Entry,
     taker: &mut T,
 ) -> Result<bool, AllocError>
-    ensures after { IfOk result (TakesStep T.takes node.old (steps.Insert entry) node.new taker.old taker.new) }
+    ensures after { IfOk result (TakesStep T.takes node.old (steps.Insert entry)
+        node.new taker.old taker.new) }
     ensures unchanged { OnErr result (T.text taker.new ≡ T.text taker.old) }
 {
     let function = Some(entry.key.function());
@@ -51,7 +52,8 @@ fn lookup<T: Taker>(
     hi: Stamp,
     taker: &mut T,
 ) -> Result<bool, AllocError>
-    ensures after { IfOk result (TakesStep T.takes node.old (steps.Lookup key lo hi) node.new taker.old taker.new) }
+    ensures after { IfOk result (TakesStep T.takes node.old (steps.Lookup key lo hi)
+        node.new taker.old taker.new) }
     ensures unchanged { OnErr result (T.text taker.new ≡ T.text taker.old) }
 {
     let function = Some(key.function());
@@ -69,7 +71,8 @@ fn event<T: Taker>(
     tags: TagSet,
     taker: &mut T,
 ) -> Result<bool, AllocError>
-    ensures after { IfOk result (TakesStep T.takes node.old (steps.Event stamp tags) node.new taker.old taker.new) }
+    ensures after { IfOk result (TakesStep T.takes node.old (steps.Event stamp tags)
+        node.new taker.old taker.new) }
     ensures unchanged { OnErr result (T.text taker.new ≡ T.text taker.old) }
 {
     match node.event(stamp, tags) {
@@ -88,7 +91,8 @@ fn sweep<T: Taker>(
     horizon: Stamp,
     taker: &mut T,
 ) -> Result<bool, AllocError>
-    ensures after { IfOk result (TakesStep T.takes node.old (steps.Sweep horizon) node.new taker.old taker.new) }
+    ensures after { IfOk result (TakesStep T.takes node.old (steps.Sweep horizon)
+        node.new taker.old taker.new) }
     ensures unchanged { OnErr result (T.text taker.new ≡ T.text taker.old) }
 {
     taker.take(alloc, None, &Reply::Swept(node.sweep(horizon)))

@@ -49,7 +49,6 @@ impl Taker for Vec<u8> {
         function: Option<u8>,
         reply: &Reply<Hit<'_>>,
     ) -> Result<bool, AllocError> {
-        let _ = function;
         push_reply(alloc, self, reply)?;
         Ok(reply.is_refusal())
     }
@@ -69,7 +68,6 @@ impl Taker for Report {
         function: Option<u8>,
         reply: &Reply<Hit<'_>>,
     ) -> Result<bool, AllocError> {
-        let _ = alloc;
         if reply.is_refusal() {
             return Ok(true);
         }

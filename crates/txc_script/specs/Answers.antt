@@ -15,7 +15,8 @@ pub record IsAnswered {S A R : Type 0} (kind : ScriptKind S A R) (s : S) (line :
   pub text : new ≡ old ++ kind.text reply
   pub is_refused : refused ≡ kind.is_refused reply
 
--- the line asks for nothing, and nothing changed; or memory was refused, before anything was done or while it was
+-- the line asks for nothing, and nothing changed; or memory was refused, before anything was done or while it
+-- was
 abbrev pub IsUnanswered : {S A R : Type 0} → ScriptKind S A R → S → List ℕ → S → Unread → Type 0
 IsUnanswered {S} {A} {R} kind s line end Malformed = ((asked : A) → kind.asks line asked → ⊥) × (end ≡ s)
 IsUnanswered kind s line end Memory = (end ≡ s) ⊎ kind.breaks_off s line end

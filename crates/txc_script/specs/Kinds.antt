@@ -32,11 +32,11 @@ pub record Closing : Type 0 where
 abbrev pub no_closing : Closing
 no_closing = record { text = []; is_refused = false }
 
--- A kind of script, by the states that its lines find and leave, by what they ask for and by the replies: what a
--- line asks for; what it is replied in a state, and the state that it leaves; the states in which it breaks off
--- where memory is refused; what is written of a reply, and whether it holds a refusal; what is wrong with the
--- words of a line that asks for nothing; what comes after all lines, by what they gave, in the state that they
--- left; and the states in which that breaks off.
+-- A kind of script, by the states that its lines find and leave, by what they ask for and by the replies: what
+-- a line asks for; what it is replied in a state, and the state that it leaves; the states in which it breaks
+-- off where memory is refused; what is written of a reply, and whether it holds a refusal; what is wrong with
+-- the words of a line that asks for nothing; what comes after all lines, by what they gave, in the state that
+-- they left; and the states in which that breaks off.
 pub record ScriptKind (S A R : Type 0) : Type 1 where
   pub asks : List ℕ → A → Type 0
   pub does : S → A → R → S → Type 0
@@ -58,8 +58,8 @@ pub record IsMalformed {S A R : Type 0} (kind : ScriptKind S A R) (line : List �
   pub not_quiet : IsQuiet line → ⊥
   pub asks_nothing : (asked : A) → Asks kind line asked → ⊥
 
--- What is wrong with a malformed line: there are too many bytes; else a foreign one; else an empty word; else it
--- is in its words.
+-- What is wrong with a malformed line: there are too many bytes; else a foreign one; else an empty word; else
+-- it is in its words.
 abbrev pub IsFaultOf : {S A R : Type 0} → ScriptKind S A R → List ℕ → LineFault → Type 0
 IsFaultOf kind line faults.TooLong = MAX_LINE_LEN < length line
 IsFaultOf kind line (faults.Byte at byte) =
@@ -107,7 +107,8 @@ GoesOn false lines = Unit {0}
 
 -- What each of the lines gives, in order: the first has this number, the next the one after it, and each
 -- finds the state that the lines before it left.
-abbrev pub AreGiven : {S A R : Type 0} → ScriptKind S A R → S → ℕ → List (List ℕ) → List (Given A R) → S → Type 0
+abbrev pub AreGiven : {S A R : Type 0} → ScriptKind S A R → S → ℕ → List (List ℕ) → List (Given A R) → S
+    → Type 0
 AreGiven kind s number [] [] end = end ≡ s
 AreGiven kind s number [] (g ∷ given) end = ⊥
 AreGiven kind s number (line ∷ lines) [] end = ⊥
@@ -118,7 +119,8 @@ AreGiven {S} {A} {R} kind s number (line ∷ lines) (g ∷ given) end =
 -- what comes after lines that gave this, and the state that is left: nothing, where one was malformed
 abbrev pub Closes : {S A R : Type 0} → ScriptKind S A R → S → List (Given A R) → Closing → S → Type 0
 Closes kind s given closing end =
-    MatchBool (list_any is_malformed given) ((closing ≡ no_closing) × (end ≡ s)) (kind.closes s given closing end)
+    MatchBool (list_any is_malformed given) ((closing ≡ no_closing) × (end ≡ s))
+    (kind.closes s given closing end)
 
 -- ---- how a run of them ends
 
@@ -140,9 +142,10 @@ EndInFault kind lines malformed =
     × ((before : List (List ℕ)) × (line : List ℕ) × (lines ≡ before ++ line ∷ [])
     × IsFaultOf kind line malformed.fault)
 
--- no refusal was written; or one was, and no line was malformed; or the last one was malformed, for this fault
-abbrev pub IsStatusOf : {S A R : Type 0} → ScriptKind S A R → List (List ℕ) → List (Given A R) → Closing → Status
-    → Type 0
+-- no refusal was written; or one was, and no line was malformed; or the last one was malformed, for this
+-- fault
+abbrev pub IsStatusOf : {S A R : Type 0} → ScriptKind S A R → List (List ℕ) → List (Given A R) → Closing
+    → Status → Type 0
 IsStatusOf kind lines given closing Done = (list_any (is_refused kind) given || closing.is_refused) ≡ false
 IsStatusOf kind lines given closing Refused =
     ((list_any (is_refused kind) given || closing.is_refused) ≡ true) × (list_any is_malformed given ≡ false)

@@ -23,8 +23,8 @@ use Rattle.txc_script.specs.declared.running.Running.{Running}
 abbrev pub kept_of : List ℕ → List ℕ
 kept_of line = take MAX_KEPT line
 
--- the state of a run and how many lines it has read, what it keeps of the line that has not ended, the replies
--- at hand, and whether a refusal was written
+-- the state of a run and how many lines it has read, what it keeps of the line that has not ended, the
+-- replies at hand, and whether a refusal was written
 pub record Progress (S : Type 0) : Type 0 where
   pub state : S
   pub lines : ℕ
@@ -154,7 +154,8 @@ EndsWith kind start read at_end written contents_old contents_new result left =
     (more : List ℕ) × Appends contents_old contents_new more
     × HasWritten kind start read at_end (written ++ more) result left
 
--- the lines that end in the bytes of a read were answered, and the replies written: the run goes on, or it ends so
+-- the lines that end in the bytes of a read were answered, and the replies written: the run goes on, or it
+-- ends so
 abbrev pub TurnsTo : {S A R : Type 0} → ScriptKind S A R → S → List ℕ → List ℕ → Progress S → Option (List ℕ)
     → Option (List ℕ) → Result Flow RunFault → Type 0
 TurnsTo kind start read written p contents_old contents_new (Ok GoesOn) =

@@ -21,8 +21,8 @@ pub record Ends {S A R : Type 0} (kind : ScriptKind S A R) (start : S) (read : L
   pub whole : IsWhole read at_end lines given
   pub closes : Closes kind end given closing left
 
--- where a run broke off that had answered these lines, which left this state: right after them; or in the line
--- after them; or, where these are all lines, in what comes after them
+-- where a run broke off that had answered these lines, which left this state: right after them; or in the
+-- line after them; or, where these are all lines, in what comes after them
 pub data Breaks {S A R : Type 0} (kind : ScriptKind S A R) (read : List ℕ) (at_end : Type 0)
     (lines : List (List ℕ)) (end left : S) : Type 0 where
   After : (others : List ℕ) → BeginsWithLines read lines others → left ≡ end → Breaks kind read at_end lines end left
@@ -40,8 +40,8 @@ pub record BreaksOff {S A R : Type 0} (kind : ScriptKind S A R) (start : S) (rea
 
 -- What a run that read these bytes wrote, by how it ended, and the state that it left: what is written of the
 -- lines that it answered, and then what is written after all lines. After a fault of the reader these are all
--- lines that had ended; out of memory, those before it broke off; after a fault of the writer, a prefix of the text
--- was written. After a fault of the reader, and out of memory, no line was malformed.
+-- lines that had ended; out of memory, those before it broke off; after a fault of the writer, a prefix of the
+-- text was written. After a fault of the reader, and out of memory, no line was malformed.
 abbrev pub HasWritten : {S A R : Type 0} → ScriptKind S A R → S → List ℕ → Type 0 → List ℕ
     → Result Status RunFault → S → Type 0
 HasWritten {S} {A} {R} kind start read at_end written (Ok status) left =
@@ -62,8 +62,8 @@ HasWritten {S} {A} {R} kind start read at_end written (Err Memory) left =
     × BreaksOff kind start read at_end lines given left
     × (written ≡ lines_text kind given) × (list_any is_malformed given ≡ false)
 
--- A run that begins in this state: what it read of the reader's bytes, what it wrote after the writer's, how it
--- ended, and the state that it left.
+-- A run that begins in this state: what it read of the reader's bytes, what it wrote after the writer's, how
+-- it ended, and the state that it left.
 abbrev pub HasRun : {S A R : Type 0} → ScriptKind S A R → S → Option (List ℕ) → Option (List ℕ)
     → Option (List ℕ) → Option (List ℕ) → Result Status RunFault → S → Type 0
 HasRun kind start remaining_old remaining_new contents_old contents_new result left =

@@ -23,8 +23,9 @@ pub trait Script {
     // What the lines are, what they give, and what comes after them.
     ghost kind: { Self → ScriptKind Self.State Self.Asked Self.Reply };
 
-    /// Does what a line asks for that is neither empty nor a comment, and puts what is written of the reply after
-    /// the text. Returns whether that holds a refusal. Out of memory, what the line asks for may be done in part.
+    /// Does what a line asks for that is neither empty nor a comment, and puts what is written of the reply
+    /// after the text. Returns whether that holds a refusal. Out of memory, what the line asks for may be done
+    /// in part.
     fn answer(
         &self,
         alloc: Global,
@@ -38,21 +39,23 @@ pub trait Script {
         ensures refused { IfErr result (IsUnanswered (kind self.now) state.old line.now state.new) }
         ensures unchanged { OnErr result (text.new.items ≡ text.old.items) };
 
-    /// What is wrong with the words of a line that asks for nothing. Where memory is refused the answer is the same.
+    /// What is wrong with the words of a line that asks for nothing. Where memory is refused the answer is the
+    /// same.
     fn find_fault(&self, alloc: Global, line: &[u8]) -> CommandFault
         requires whole { HasWholeWords line.now }
         requires asks_nothing { (asked : Self.Asked) → (kind self.now).asks line.now asked → ⊥ }
         ensures { (kind self.now).is_wrong (words_of line.now) result };
 
-    /// Does what comes after all lines, none of which was malformed, and puts what is written of it after the text.
-    /// Returns whether that holds a refusal.
+    /// Does what comes after all lines, none of which was malformed, and puts what is written of it after the
+    /// text. Returns whether that holds a refusal.
     fn close(
         &self,
         alloc: Global,
         state: &mut Self::State,
         text: &mut Vec<u8>,
     ) -> Result<bool, AllocError>
-        ensures closed { IfOk result (IsClosed (kind self.now) state.old state.new text.old.items text.new.items) }
+        ensures closed { IfOk result (IsClosed (kind self.now) state.old state.new
+            text.old.items text.new.items) }
         ensures broke { OnErr result ((kind self.now).breaks_at_end state.old state.new) }
         ensures unchanged { OnErr result (text.new.items ≡ text.old.items) };
 }

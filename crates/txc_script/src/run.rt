@@ -66,7 +66,8 @@ fn finish<K: Script, W: Write>(
     }
 }
 
-/// Answers the lines of a script. A fault of the reader comes only where no read is left or the reader failed.
+/// Answers the lines of a script. A fault of the reader comes only where no read is left or the reader
+/// failed.
 fn answer_script<K: Script, R: Read, W: Write>(
     alloc: Global,
     kind: &K,
@@ -109,9 +110,10 @@ fn flush<W: Write>(writer: &mut W, ended: Result<Status, RunFault>) -> Result<St
     }
 }
 
-/// Reads a script of a kind, and writes the replies to its lines. The status says what is wrong with a malformed
-/// line. A reader is read at most [`crate::MAX_READS`] times, where a read that was interrupted counts and is made
-/// again: one that has not come to its end by then is a read fault. The writer is flushed at the end.
+/// Reads a script of a kind, and writes the replies to its lines. The status says what is wrong with a
+/// malformed line. A reader is read at most [`crate::MAX_READS`] times, where a read that was interrupted counts
+/// and is made again: one that has not come to its end by then is a read fault. The writer is flushed at the
+/// end.
 pub fn run_script<K: Script, R: Read, W: Write>(
     alloc: Global,
     kind: &K,

@@ -262,7 +262,8 @@ impl Running {
         ensures counted { self.new.lines ≤ self.old.lines + length bytes.now }
         ensures answered { (start : K.State) (read written : List ℕ)
             → HasAnswered (K.kind kind.now) start read written (progress_of state.old self.old)
-            → AnswersAs (K.kind kind.now) start (read ++ bytes.now) written (progress_of state.new self.new) result }
+            → AnswersAs (K.kind kind.now) start (read ++ bytes.now) written
+            (progress_of state.new self.new) result }
     {
         let mut rest = bytes;
         'lines: loop {

@@ -7,8 +7,8 @@ use Rattle.txc_run.proofs.running.run_counting.Goals as goal
 
 pub returns-in-Ok : goal.returns-in-Ok
 returns-in-Ok g c = (
-  c.run_script.new.counted.node,
-  same_run c.in-Ok.counted _ _ _ _ c.run_script.result c.run_script.new.counted _ c.in-Ok.ensures.node c.in-Ok.ensures.report c.run_script.ensures,
+  c.run_script.new.state.node,
+  same_run c.in-Ok.counted _ _ _ _ c.run_script.result c.run_script.new.state _ c.in-Ok.ensures.node c.in-Ok.ensures.report c.run_script.ensures,
 )
 
 pub returns-in-Err : goal.returns-in-Err

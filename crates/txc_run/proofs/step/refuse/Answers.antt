@@ -4,7 +4,6 @@ use Rattle.txc_node.specs.declared.op.Op.{Op}
 use Rattle.txc_node.specs.declared.op.Op.TheVariants.{Insert}
 use Rattle.txc_node.specs.declared.refusal.Refusal.{Refusal}
 use Rattle.txc_node.specs.declared.reply.Reply.TheVariants as replies
-use Rattle.txc_node.specs.Steps.{is_refusal}
 use Rattle.txc_run.specs.Steps.{IsFor, Taking}
 use Rattle.std.specs.Prelude.{None}
 use Rattle.txc_run.proofs.step.refuse.Goals as goal

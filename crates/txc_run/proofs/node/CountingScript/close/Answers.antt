@@ -1,4 +1,4 @@
-use Rattle.std.proofs.Common.{ℕ, List, ◌++◌, ◌≡◌, false, ap, refl, string_bytes, ◌∙◌}
+use Rattle.std.proofs.Common.{ℕ, List, ◌++◌, false, ap, refl, string_bytes, ◌∙◌}
 use Rattle.txc_script.specs.Kinds.{Closing}
 use Rattle.txc_run.specs.Reports.{steps_of}
 use Rattle.txc_run.proofs.node.CountingScript.close.Goals as goal

@@ -5,8 +5,8 @@ use Rattle.txc_run.specs.Reports.{IsReportOf, step_by}
 use Rattle.txc_run.proofs.Reporting.{on_ok, reported_more}
 use Rattle.txc_run.proofs.report.Report.count.Goals as goal
 
-pub returns-clause-after : goal.returns-clause-after
-returns-clause-after c = on_ok c.name.result _ _ (λ named steps op of h.
+pub returns : goal.returns
+returns c = on_ok c.name.result _ _ (λ named steps op of h.
     let names = c.name.new.self.functions.keys in
     let counted = c.count.ensures in
     subst (λ (t : Totals). IsReportOf (steps ++ step_by op (seen_reply c.args.reply.now) ∷ []) names t) (sym c.name.ensures.unchanged)
