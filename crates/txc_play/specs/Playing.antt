@@ -12,15 +12,16 @@ use Rattle.txc_play.specs.declared.printed.Printed.TheVariants.{Replied}
 use Rattle.txc_play.specs.declared.task.Task.{Task}
 
 -- an actor ended its transaction so
-pub record HasEndedTxn (next : Next) (world : WorldValue) (actor : ℕ) (act : Act) (reply : Reply) (end : WorldValue) : Type 0 where
+pub record HasEndedTxn (next : Next) (world : WorldValue) (actor : ℕ) (act : Act) (reply : Reply)
+    (end : WorldValue) : Type 0 where
   pub steps : List Step
   pub replied : List Reply
   pub taken : AreTaken next world steps replied end
   pub does : DoesEnd actor act steps replied (Replied reply)
 
 -- the holds of stamps were taken away
-pub record HasUnpinned (next : Next) (world : WorldValue) (stamps : List ℕ) (count : ℕ) (printed : Printed) (end : WorldValue)
-    : Type 0 where
+pub record HasUnpinned (next : Next) (world : WorldValue) (stamps : List ℕ) (count : ℕ) (printed : Printed)
+    (end : WorldValue) : Type 0 where
   pub steps : List Step
   pub replied : List Reply
   pub taken : AreTaken next world steps replied end
@@ -31,8 +32,8 @@ abbrev pub IsCutShort : Next → WorldValue → Task → WorldValue → Type 0
 IsCutShort next world task end = (end ≡ world) ⊎ HasBegun next world task end
 
 -- what a line asks for was done, and what is written of it was put after the text
-pub record IsTaskDone (next : Next) (world : WorldValue) (task : Task) (end : WorldValue) (old new : List ℕ) (refused : Bool)
-    : Type 0 where
+pub record IsTaskDone (next : Next) (world : WorldValue) (task : Task) (end : WorldValue) (old new : List ℕ)
+    (refused : Bool) : Type 0 where
   pub printed : Printed
   pub done : IsDone next world task printed end
   pub text : new ≡ old ++ (printed_text printed ++ 10 ∷ [])

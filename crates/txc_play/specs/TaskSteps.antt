@@ -1,0 +1,198 @@
+-- The steps that a line of a world's script stands for, and what is written of their replies.
+use Rattle.std.specs.Prelude.{◌≡◌, ℕ, zero, suc, Bool, true, false, List, [], ◌∷◌, ◌++◌, map, length, All, Option, Some, None, if◌then◌else◌, slice_get, MatchBool, MatchOption}
+use Rattle.txc_cushion.specs.declared.pin.Pin.{Pin}
+use Rattle.txc_app.specs.Eval.{Next}
+use Rattle.txc_world.specs.declared.step.Act.{Act}
+use Rattle.txc_world.specs.declared.step.Act.TheVariants as acts
+use Rattle.txc_world.specs.declared.step.Keep.TheVariants as keeps
+use Rattle.txc_world.specs.declared.step.Step.{Step}
+use Rattle.txc_world.specs.declared.step.Step.TheVariants.{Actor, Keeper}
+use Rattle.txc_world.specs.declared.reply.Reply.{Reply}
+use Rattle.txc_world.specs.declared.reply.Reply.TheVariants as replies
+use Rattle.txc_world.specs.Acts.{HasStepped}
+use Rattle.txc_world.specs.Cast.{reads, ReadingValue}
+use Rattle.txc_world.specs.Tidy.{purse_after, IsTidy, LosesNoSnapshot, Purse}
+use Rattle.txc_world.specs.Told.{Reading, Story, idle, reading, writing, leaving, IsDue, IsExplainedIn}
+use Rattle.txc_world.specs.Worlds.{due_of_pins, AreMembersOf, IsBalanced, WorldValue}
+use Rattle.txc_play.specs.declared.printed.Printed.{Printed}
+use Rattle.txc_play.specs.declared.printed.Printed.TheVariants.{Replied, Ended, Members, Tidied}
+use Rattle.txc_play.specs.declared.task.Task.{Task}
+use Rattle.txc_play.specs.declared.task.Task.TheVariants as tasks
+
+-- ---- steps and replies of a world
+
+-- A step was taken and replied so. It leads from the one world to the other, as it was replied; a receipt and
+-- a commit explain what was told before it; it is replied what is due; and where each has what is its own and
+-- the step is tidy, each has so after it, and it loses no snapshot.
+pub record IsTaken (next : Next) (old : WorldValue) (step : Step) (reply : Reply) (new : WorldValue)
+    : Type 0 where
+  pub stepped : HasStepped next old step reply new
+  pub explained : IsExplainedIn next new.told.history old.told step reply
+  pub due : IsDue old.told step reply
+  pub balanced : (purse : Purse) → IsBalanced old purse → IsTidy step reply purse
+      → IsBalanced new (purse_after step reply purse) × LosesNoSnapshot step reply
+
+-- steps were taken one after another and replied so, each in the world that those before it left
+abbrev pub AreTaken : Next → WorldValue → List Step → List Reply → WorldValue → Type 0
+AreTaken next old [] [] new = new ≡ old
+AreTaken next old [] (reply ∷ replied) new = ⊥
+AreTaken next old (step ∷ steps) [] new = ⊥
+AreTaken next old (step ∷ steps) (reply ∷ replied) new = (between : WorldValue)
+    × IsTaken next old step reply between × AreTaken next between steps replied new
+
+-- ---- the steps of each line
+
+-- the stamp of the pin that was made, if one was
+abbrev pub stamp_in : Reply → Option ℕ
+stamp_in (replies.At stamp) = Some stamp
+stamp_in reply = None
+
+abbrev pub is_added : Reply → Bool
+is_added replies.Added = true
+is_added reply = false
+
+-- the keeper pins, adds the pin and gives its user back; where the pin is not added its hold is taken away,
+-- and why it was not is written
+abbrev pub DoesPin : ℕ → List Step → List Reply → Printed → Type 0
+DoesPin now steps (pinned ∷ []) printed =
+    (stamp_in pinned ≡ None) × (steps ≡ Keeper (keeps.Pin now) ∷ []) × (printed ≡ Replied pinned)
+DoesPin now steps (pinned ∷ added ∷ last ∷ []) printed =
+    (stamp : ℕ) × (stamp_in pinned ≡ Some stamp)
+    × (steps ≡ Keeper (keeps.Pin now) ∷ Keeper (keeps.Add stamp)
+    ∷ Keeper (if is_added added then keeps.GiveBack stamp else keeps.Unpin stamp) ∷ [])
+    × (printed ≡ Replied (if is_added added then pinned else added))
+DoesPin now steps replied printed = ⊥
+
+-- how a call has ended by a request, as it is written, or that there is no call; none where it goes on
+abbrev pub ending_of : Reply → Option Printed
+ending_of (replies.Asked did None) = None
+ending_of (replies.Asked did (Some end)) = Some (Ended end)
+ending_of (replies.Ended end) = Some (Ended end)
+ending_of reply = Some (Replied reply)
+
+-- the actor makes requests, and the call goes on after each but the last, which ends it
+pub record DoesFinish (actor : ℕ) (steps : List Step) (replied : List Reply) (printed : Printed) : Type 0 where
+  pub before : List Reply
+  pub last : Reply
+  pub requests : All (λ s. s ≡ Actor actor acts.Request) steps
+  pub replied_are : replied ≡ before ++ last ∷ []
+  pub go_on : All (λ r. ending_of r ≡ None) before
+  pub ends : ending_of last ≡ Some printed
+
+-- after the end of a transaction that was replied so a hold is left, which one request takes away
+abbrev pub leaves_hold : Reply → Bool
+leaves_hold (replies.At stamp) = true
+leaves_hold (replies.Aborted (Some stamp)) = true
+leaves_hold reply = false
+
+-- the actor ends its transaction, and takes the hold away that is left, if one is
+abbrev pub DoesEnd : ℕ → Act → List Step → List Reply → Printed → Type 0
+DoesEnd actor act steps (reply ∷ []) printed =
+    (leaves_hold reply ≡ false) × (steps ≡ Actor actor act ∷ []) × (printed ≡ Replied reply)
+DoesEnd actor act steps (reply ∷ last ∷ []) printed =
+    (leaves_hold reply ≡ true) × (steps ≡ Actor actor act ∷ Actor actor acts.Request ∷ [])
+    × (printed ≡ Replied reply)
+DoesEnd actor act steps replied printed = ⊥
+
+-- the stamps of the pins that were taken out, if they were
+abbrev pub taken_out : Reply → Option (List ℕ)
+taken_out (replies.Retired stamps) = Some stamps.items
+taken_out reply = None
+
+abbrev pub is_unpinned : Reply → Bool
+is_unpinned replies.Unpinned = true
+is_unpinned reply = false
+
+-- what is written at the end of a tidy in which so many pins were taken out
+abbrev pub tidied : ℕ → Reply → Printed
+tidied count (replies.Vacuumed horizon) = Tidied count horizon
+tidied count reply = Replied reply
+
+-- the keeper takes the hold of each of the stamps away and then drops old versions; the first refusal ends it
+abbrev pub DoesUnpin : List ℕ → ℕ → List Step → List Reply → Printed → Type 0
+DoesUnpin [] count steps (reply ∷ []) printed =
+    (steps ≡ Keeper keeps.Vacuum ∷ []) × (printed ≡ tidied count reply)
+DoesUnpin (stamp ∷ stamps) count (step ∷ steps) (reply ∷ replied) printed =
+    (step ≡ Keeper (keeps.Unpin stamp))
+    × MatchBool (is_unpinned reply) (DoesUnpin stamps count steps replied printed)
+    ((steps ≡ []) × (replied ≡ []) × (printed ≡ Replied reply))
+DoesUnpin stamps count steps replied printed = ⊥
+
+-- the keeper takes old pins out, and then their holds away
+abbrev pub DoesTidy : ℕ → ℕ → List Step → List Reply → Printed → Type 0
+DoesTidy now age (step ∷ steps) (reply ∷ replied) printed =
+    (step ≡ Keeper (keeps.Retire now age))
+    × MatchOption (taken_out reply) ((steps ≡ []) × (replied ≡ []) × (printed ≡ Replied reply))
+    (λ stamps. DoesUnpin stamps (length stamps) steps replied printed)
+DoesTidy now age steps replied printed = ⊥
+
+-- what is shown of an actor's transaction: the stamps of the members of its pin set, the newest first, and
+-- whether the present is there; it may still be serialised at each of these
+pub record AreShown (next : Next) (world : WorldValue) (actor : ℕ) (has_present : Bool) (stamps : List ℕ)
+    : Type 0 where
+  pub pins : List Pin
+  pub stamps_are : stamps ≡ map (λ p. p.stamp) pins
+  pub pin_set : (r : ReadingValue) → slice_get world.actors actor ≡ Some (reads r)
+      → r.txn.core.pins ≡ record { members = pins; has_present = has_present }
+  pub members : (r : Reading) → slice_get world.told.actors actor ≡ Some (reading r)
+      → AreMembersOf next world.told.history r has_present pins
+
+abbrev pub ShowsMembers : Next → WorldValue → ℕ → Printed → Type 0
+ShowsMembers next world actor (Members has_present stamps) =
+    AreShown next world actor has_present stamps.items
+ShowsMembers next world actor printed = ⊥
+
+-- the actor's members are written, or why it has none
+abbrev pub DoesPins : Next → WorldValue → ℕ → Printed → Type 0
+DoesPins next world actor printed =
+    MatchOption (due_of_pins (slice_get world.told.actors actor)) (ShowsMembers next world actor printed)
+    (λ refusal. printed ≡ Replied (replies.Refused refusal))
+
+-- the steps of what a line asks for, as they were replied, and what is written of them
+abbrev pub Does : Next → WorldValue → Task → List Step → List Reply → Printed → Type 0
+Does next world (tasks.One step) steps replied printed =
+    (reply : Reply) × (steps ≡ step ∷ []) × (replied ≡ reply ∷ []) × (printed ≡ Replied reply)
+Does next world (tasks.Pin now) steps replied printed = DoesPin now steps replied printed
+Does next world (tasks.Finish actor) steps replied printed = DoesFinish actor steps replied printed
+Does next world (tasks.Pins actor) steps replied printed = (steps ≡ []) × DoesPins next world actor printed
+Does next world (tasks.Commit actor) steps replied printed = DoesEnd actor acts.Commit steps replied printed
+Does next world (tasks.Abort actor) steps replied printed = DoesEnd actor acts.Abort steps replied printed
+Does next world (tasks.Tidy now age) steps replied printed = DoesTidy now age steps replied printed
+
+-- what a line asks for was done: its steps were taken, and this is written of them
+pub record IsDone (next : Next) (world : WorldValue) (task : Task) (printed : Printed) (end : WorldValue)
+    : Type 0 where
+  pub steps : List Step
+  pub replied : List Reply
+  pub taken : AreTaken next world steps replied end
+  pub does : Does next world task steps replied printed
+
+-- the first steps of what a line asks for were taken, or all of them
+pub record HasBegun (next : Next) (world : WorldValue) (task : Task) (end : WorldValue) : Type 0 where
+  pub steps : List Step
+  pub replied : List Reply
+  pub taken : AreTaken next world steps replied end
+  pub later : List Step
+  pub later_replied : List Reply
+  pub printed : Printed
+  pub does : Does next world task (steps ++ later) (replied ++ later_replied) printed
+
+-- ---- the end of a run
+
+-- each of the first actors gives up what it has open, in the middle of a call too, and then takes the hold away
+-- that is left
+abbrev pub give_up_steps : ℕ → List Step
+give_up_steps zero = []
+give_up_steps (suc actor) = give_up_steps actor ++ Actor actor acts.Abort ∷ Actor actor acts.Request ∷ []
+
+-- all actors of a world gave up what they had open
+pub record HasGivenUp (next : Next) (world left : WorldValue) : Type 0 where
+  pub replied : List Reply
+  pub taken : AreTaken next world (give_up_steps (length world.told.actors)) replied left
+
+-- no transaction is open
+abbrev pub IsClosed : Story → Type 0
+IsClosed idle = Unit {0}
+IsClosed (reading r) = ⊥
+IsClosed (writing w) = ⊥
+IsClosed (leaving stamp) = Unit {0}

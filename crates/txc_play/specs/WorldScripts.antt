@@ -20,7 +20,7 @@ BreaksOffTask next s line end =
 abbrev pub world_script : Next → ScriptKind WorldValue Task Printed
 world_script next = record {
   asks = SpellsTask;
-  does = λ s task printed end. IsDone next s task printed end;
+  does = IsDone next;
   breaks_off = BreaksOffTask next;
   text = λ printed. printed_text printed ++ 10 ∷ [];
   is_refused = is_refused_line;

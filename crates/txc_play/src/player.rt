@@ -73,7 +73,6 @@ impl<A: App, C: Cacheable> Script for WorldScript<A, C> {
     }
 
     fn find_fault(&self, alloc: Global, line: &[u8]) -> CommandFault {
-        let _ = alloc;
         find_command_fault(line)
     }
 
@@ -83,7 +82,6 @@ impl<A: App, C: Cacheable> Script for WorldScript<A, C> {
         state: &mut World<A, C>,
         text: &mut Vec<u8>,
     ) -> Result<bool, AllocError> {
-        let _ = (alloc, state, text);
         Ok(false)
     }
 }
