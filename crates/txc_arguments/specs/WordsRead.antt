@@ -14,7 +14,7 @@ pub record HasNoText (fault : NotText) : Type 0 where
 -- an argument after the program's name is no text; or a growth was refused
 abbrev pub IsNoText : WordsError → Type 0
 IsNoText (reasons.NotText fault) = HasNoText fault × (0 < fault.number)
-IsNoText (reasons.Memory error) = ⊤
+IsNoText reasons.Memory = ⊤
 
 -- ---- only private functions need this
 

@@ -2,7 +2,7 @@
 ghost use Rattle.std.specs.Prelude.{◌≡◌, IfOk, IfErr, string_bytes};
 ghost use Rattle.txc_arguments.specs.WordsRead.{IsNoText, IsNoWord};
 
-use std::alloc::{AllocError, Global};
+use std::alloc::{AllocError, AllocFailed, Global};
 use std::env::{Env, FillError};
 use std::fmt;
 use thiserror::Error;
@@ -30,7 +30,29 @@ pub enum WordsError {
     NotText(NotText),
     /// A growth was refused.
     #[error("memory")]
-    Memory(#[from(alloc)] AllocError),
+    Memory,
+}
+
+impl From<AllocError> for WordsError {
+    ghost use Rattle.std.specs.Prelude.{◌≡◌};
+    ghost use Rattle.txc_arguments.specs.declared.words.WordsError.TheVariants as reasons;
+
+    ghost from_gives = { λ _ reason. reason ≡ reasons.Memory };
+
+    fn from(_error: AllocError) -> WordsError {
+        WordsError::Memory
+    }
+}
+
+impl<T: Drop> From<AllocFailed<T>> for WordsError {
+    ghost use Rattle.std.specs.Prelude.{◌≡◌};
+    ghost use Rattle.txc_arguments.specs.declared.words.WordsError.TheVariants as reasons;
+
+    ghost from_gives = { λ _ reason. reason ≡ reasons.Memory };
+
+    fn from(_error: AllocFailed<T>) -> WordsError {
+        WordsError::Memory
+    }
 }
 
 impl fmt::Display for NotText {

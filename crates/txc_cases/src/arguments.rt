@@ -95,7 +95,7 @@ impl Player for ArgumentsPlayer {
         match read_words(&called, alloc) {
             Ok(words) => show_words(alloc, words.as_slice(), out),
             Err(WordsError::NotText(fault)) => show(out, &fault),
-            Err(WordsError::Memory(error)) => Err(error),
+            Err(WordsError::Memory) => Err(AllocError),
         }
     }
 }

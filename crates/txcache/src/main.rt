@@ -75,7 +75,7 @@ fn actors(alloc: Global, settings: Settings) -> Result<Vec<Registry<Program, Obj
 fn end_by_words(rt: &impl Eprint, error: &WordsError) -> ExitCode {
     match error {
         WordsError::NotText(fault) => end(rt, fault, 2),
-        WordsError::Memory(_) => end(rt, "memory", 5),
+        WordsError::Memory => end(rt, "memory", 5),
     }
 }
 
