@@ -57,10 +57,11 @@ impl<T: Drop> From<AllocFailed<T>> for WordsError {
 
 impl fmt::Display for NotText {
     fn fmt<W: fmt::Write>(&self, f: &mut fmt::Formatter<W>) -> fmt::Result {
-        let shown = self.bytes.as_slice().get(..MAX_SHOWN);
-        let (start, rest) = match shown {
-            Some(start) => (start, "..."),
-            None => (self.bytes.as_slice(), ""),
+        let bytes = self.bytes.as_slice();
+        let (start, rest) = if bytes.len() > MAX_SHOWN {
+            (&bytes[..MAX_SHOWN], "...")
+        } else {
+            (bytes, "")
         };
         let (number, byte) = (self.number, self.at.saturating_add(1));
         let start = start.escape_ascii();
