@@ -58,11 +58,8 @@ impl<T: Drop> From<AllocFailed<T>> for WordsError {
 impl fmt::Display for NotText {
     fn fmt<W: fmt::Write>(&self, f: &mut fmt::Formatter<W>) -> fmt::Result {
         let bytes = self.bytes.as_slice();
-        let (start, rest) = if bytes.len() > MAX_SHOWN {
-            (&bytes[..MAX_SHOWN], "...")
-        } else {
-            (bytes, "")
-        };
+        let start = bytes.get(..MAX_SHOWN).unwrap_or(bytes);
+        let rest = if start.len() < bytes.len() { "..." } else { "" };
         let (number, byte) = (self.number, self.at.saturating_add(1));
         let start = start.escape_ascii();
         write!(
