@@ -1,7 +1,7 @@
 #!/usr/bin/env python3
 """Writes the parts of docs/ that are made by script: docs/DEFINITIONS.md, from the comments of the crates' specs/, the
 lists of docs/WRONG_BODIES.md, from their edits, the examples of docs/SCRIPTS.md, from examples/, and the code of
-docs/CALLING.md, from the tests.
+docs/CALLING.md, from the tests. The session of a world in docs/SCRIPTS.md has to be that of its script.
 
 usage: docs.py [--check]      --check writes nothing, and ends with 1 where a file is not what would be written
 """
@@ -10,6 +10,7 @@ import pathlib, re, sys
 ROOT = pathlib.Path(__file__).resolve().parent.parent
 LISTS = "## All of them, by crate"
 EXAMPLES = "## The examples, with the replies beside their lines"
+SESSION = "### A world, line by line"
 # Of more commands in a row than this, only the first and the last are shown.
 MOST_SHOWN = 12
 DEFINITIONS = """# Definitions
@@ -174,12 +175,37 @@ def beside(script, output):
     return "".join(f"    {line}".rstrip() + "\n" for line in shown)
 
 
+def in_reading_order(scripts):
+    """Scripts by the numbers with which their names begin."""
+    return sorted(scripts, key=lambda it: int(it.stem.split("_")[0]))
+
+
+def example(script):
+    """A script with its replies, and with its settings, if it has any."""
+    settings = script.with_suffix(".settings")
+    text = f"\nWith the settings `{settings.read_text().strip()}`.\n" if settings.is_file() else ""
+    return f"\n### {script.stem}\n{text}\n" + beside(script.read_text(), script.with_suffix(".out").read_text())
+
+
+def check_session(text):
+    """Ends where the session of a world in the text is not that of its script."""
+    script = ROOT / "examples/worlds/a_session_line_by_line.txw"
+    replies = script.with_suffix(".out").read_text()
+    wanted = [f"    {line:<37} {reply}" for line, reply in zip(script.read_text().splitlines(), replies.splitlines())]
+    section = text.partition(SESSION)[2].partition("\n### ")[0]
+    if [line for line in section.split("\n") if line.startswith("    ")] != wanted:
+        sys.exit(f"docs/SCRIPTS.md: the session of a world is not that of {script.relative_to(ROOT)}")
+
+
 def scripts(text):
+    check_session(text)
     start, _, after = text.partition(EXAMPLES)
     text = start + EXAMPLES + after.partition("\n### ")[0].rstrip() + "\n"
-    for script in sorted((ROOT / "examples").glob("*.txc")):
-        text += f"\n### {script.stem}\n\n" + beside(script.read_text(), script.with_suffix(".out").read_text())
-    return text
+    folder = ROOT / "examples"
+    for script in in_reading_order([*folder.glob("*.txc"), *folder.glob("*.txw")]):
+        text += example(script)
+    text += "\n### Shorter worlds\n\nEach script of `examples/worlds/` shows what its name says. Its replies stand beside it, in the file that ends in `.out`.\n\n"
+    return text + "".join(f"- `{it.name}`\n" for it in sorted(folder.glob("worlds/*.txw")))
 
 
 def calling(text):

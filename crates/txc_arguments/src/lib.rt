@@ -2,5 +2,7 @@
 #![tactic(auto)]
 
 mod arguments;
+mod words;
 
 pub use arguments::{Arguments, read_arguments};
+pub use words::{NotText, WordsError, read_words};

@@ -126,6 +126,11 @@ settings Capacity=1 = settings: Capacity
 settings workers=9;nodes=65;permits=3 = settings: nodes
 settings workers=9;Z=1 = settings: Z
 settings recent=0;x=1;capacity=1 = settings: recent
+a key is told on one line, its control characters escaped
+settings \"a\\nb\\tc\\u007f\"=1 = settings: a\\nb\\tc\\u{7f}
+settings \"\\u0085\"=1 = settings: \\u{85}
+settings \"\u{e9} \\\\\"=1 = settings: \u{e9} \\
+settings '\t'=1 = settings: \\t
 no document
 settings ;= = settings: not TOML
 settings capacity = settings: not TOML

@@ -5,6 +5,8 @@
 #![tactic(auto)]
 
 #[cfg(test)]
+mod arguments;
+#[cfg(test)]
 mod calling;
 #[cfg(test)]
 mod command;

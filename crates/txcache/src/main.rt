@@ -7,10 +7,11 @@ ghost use Rattle.txc_registry.specs.Objects.{AllIdle};
 
 use clap::error::ErrorKind;
 use std::alloc::{AllocError, Global};
+use std::fmt::Display;
+use std::io;
 use std::io::{Print, Read, Write};
 use std::process::ExitCode;
-use std::{env, io};
-use txc_arguments::read_arguments;
+use txc_arguments::{WordsError, read_arguments, read_words};
 use txc_functions::{Object, Program, registries};
 use txc_permits::PermitPool;
 use txc_play::{run_world, world_settings};
@@ -24,11 +25,9 @@ const ACTORS: usize = 8;
 
 fn main(rt: HostRuntime) -> ExitCode {
     let alloc = rt.alloc();
-    let Ok(arguments) = env::args(&rt) else {
-        return end(&rt, "memory", 5);
-    };
-    let Ok(words) = arguments.collect::<Vec<String>>(alloc) else {
-        return end(&rt, "memory", 5);
+    let words = match read_words(&rt, alloc) {
+        Ok(words) => words,
+        Err(error) => return end_by_words(&rt, &error),
     };
     let arguments = match read_arguments(alloc, words.as_slice()) {
         Ok(arguments) => arguments,
@@ -73,14 +72,30 @@ fn actors(alloc: Global, settings: Settings) -> Result<Vec<Registry<Program, Obj
     registries(alloc, &mut pool, ACTORS)
 }
 
+/// Prints why the arguments give no words.
+fn end_by_words(rt: &impl Eprint, error: &WordsError) -> ExitCode {
+    match error {
+        WordsError::NotText(fault) => end(rt, fault, 2),
+        WordsError::Memory => end(rt, "memory", 5),
+    }
+}
+
 /// Prints why the command line is refused, or the help that it asks for. Help goes to standard output, all else
 /// to standard error.
 fn end_by_arguments<R: Print + Eprint>(rt: &R, error: &clap::Error) -> ExitCode {
     if error.kind() == ErrorKind::OutOfMemory {
         return end(rt, "memory", 5);
     }
-    let _ = error.print(rt);
-    ExitCode::from(if error.exit_code() == 0 { 0 } else { 2 })
+    if error.exit_code() != 0 {
+        let _ = rt.eprint(error);
+        return ExitCode::from(2);
+    }
+    let ended = match rt.print(error) {
+        Ok(()) => Ok(Status::Done),
+        Err(_) => Err(RunFault::Write),
+    };
+    print_fault(rt, &ended);
+    ExitCode::from(exit_of(&ended))
 }
 
 /// Prints why the settings are refused.
@@ -93,7 +108,7 @@ fn end_by_settings(rt: &impl Eprint, error: &SettingsError) -> ExitCode {
 }
 
 /// Prints on standard error why the program ends with this status.
-fn end(rt: &impl Eprint, text: &str, status: u8) -> ExitCode {
+fn end(rt: &impl Eprint, text: impl Display + Drop, status: u8) -> ExitCode {
     let _ = rt.eprintln(text);
     ExitCode::from(status)
 }

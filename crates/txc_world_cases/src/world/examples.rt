@@ -1,7 +1,309 @@
 //! The scripts of worlds in examples/ with their replies: written by scripts/examples.py, which the gate compares.
 
 /// Each example: its name, its settings, its script, its replies, and the status of the program after it.
-pub const EXAMPLES: [(&str, &str, &str, &str, u8); 24] = [
+pub const EXAMPLES: [(&str, &str, &str, &str, u8); 30] = [
+    (
+        "10_stock",
+        "",
+        "# A page of a shop is made while the stock changes: all its parts are of one moment.\n\
+         # Without it: the page would list three pens in one place and two in another.\n\
+         #\n\
+         # f1(2) lists the articles of group 2, and f0(7) is the article with id 7. A pin keeps the state with three pens.\n\
+         put 1 7 2 pens:3\n\
+         pin 1000\n\
+         # A page begins at the moment of the pin. It may still be of that pin, or of the present, which is printed as *.\n\
+         ro 0 1000 0 0\n\
+         pins 0\n\
+         # It lists the group. The list is right at the pin, where it was computed, so the page is now bound to it.\n\
+         call 0 f1(2)\n\
+         finish 0\n\
+         pins 0\n\
+         # A pen is sold, and the new state is pinned too.\n\
+         put 1 7 2 pens:2\n\
+         pin 2000\n\
+         # The page goes on, and shows the article as it was in its list.\n\
+         call 0 f0(7)\n\
+         finish 0\n\
+         commit 0\n\
+         # A page that begins at the moment of the second pin shows the new stock in both places.\n\
+         ro 1 2000 0 0\n\
+         call 1 f1(2)\n\
+         finish 1\n\
+         call 1 f0(7)\n\
+         finish 1\n\
+         commit 1\n",
+        "at 1\n\
+         at 2\n\
+         open\n\
+         pins * 2\n\
+         started\n\
+         value 70656e733a33\n\
+         pins 2\n\
+         at 3\n\
+         at 4\n\
+         started\n\
+         value 70656e733a33\n\
+         receipt 2 1000\n\
+         open\n\
+         started\n\
+         value 70656e733a32\n\
+         started\n\
+         value 70656e733a32\n\
+         receipt 4 2000\n",
+        0,
+    ),
+    (
+        "11_stale",
+        "",
+        "# A page says how old it may be. Within that bound it takes what the nodes have, and asks the database for nothing.\n\
+         # Without it: a page would have to be of the very present, and each change would cost all pages a query.\n\
+         put 1 7 2 pen\n\
+         pin 1000\n\
+         # A first page computes the list of group 2, and the node keeps it.\n\
+         ro 0 1000 0 0\n\
+         call 0 f1(2)\n\
+         finish 0\n\
+         commit 0\n\
+         # The group changes, the new state is pinned, and the node learns of all four events: its list ends at stamp 2.\n\
+         put 1 8 2 ink\n\
+         pin 2000\n\
+         advance 0\n\
+         advance 0\n\
+         advance 0\n\
+         advance 0\n\
+         # At moment 2500 a page that may be 1,500 milliseconds old may be of either pin. The list of the older one is there.\n\
+         ro 1 2500 1500 0\n\
+         pins 1\n\
+         call 1 f1(2)\n\
+         step 1\n\
+         pins 1\n\
+         commit 1\n\
+         # A page that may be a millisecond less old may not use the older pin: its list is computed.\n\
+         ro 2 2500 1499 0\n\
+         pins 2\n\
+         call 2 f1(2)\n\
+         step 2\n\
+         step 2\n\
+         step 2\n\
+         commit 2\n\
+         # At moment 8000 both pins are older than `renew_after`, which is 5,000 milliseconds where nothing else is set. A page that may\n\
+         # be that old uses what a node has all the same ..\n\
+         ro 3 8000 9000 0\n\
+         pins 3\n\
+         call 3 f1(2)\n\
+         step 3\n\
+         commit 3\n\
+         # .. but before its first query the present is pinned, so that what is computed is of now. The new pin comes in the place of *.\n\
+         ro 4 8000 9000 0\n\
+         call 4 f3()\n\
+         step 4\n\
+         step 4\n\
+         step 4\n\
+         pins 4\n\
+         step 4\n\
+         pins 4\n\
+         step 4\n\
+         commit 4\n",
+        "at 1\n\
+         at 2\n\
+         open\n\
+         started\n\
+         value 70656e\n\
+         receipt 2 1000\n\
+         at 3\n\
+         at 4\n\
+         advanced 1 closed 0\n\
+         advanced 2 closed 0\n\
+         advanced 3 closed 1\n\
+         advanced 4 closed 0\n\
+         open\n\
+         pins * 4 2\n\
+         started\n\
+         hit [1,3) closed value 70656e\n\
+         pins 2\n\
+         receipt 2 1000\n\
+         open\n\
+         pins * 4\n\
+         started\n\
+         miss\n\
+         rows 7,8 [3,5) still t1:grp=2\n\
+         stored [3,5) still value 70656e2c696e6b\n\
+         receipt 4 2000\n\
+         open\n\
+         pins * 4 2\n\
+         started\n\
+         hit [3,5) still value 70656e2c696e6b\n\
+         receipt 4 2000\n\
+         open\n\
+         started\n\
+         miss\n\
+         pinned 5\n\
+         added\n\
+         pins 5 4 2\n\
+         rows 7,8 [3,6) still t1:?\n\
+         pins 5 4\n\
+         stored [3,6) still value 32\n\
+         receipt 5 8000\n",
+        0,
+    ),
+    (
+        "12_writers",
+        "",
+        "# Two writers read the same row and want to change it: the first one commits, the second one is refused.\n\
+         # Without it: both would sell the last pen.\n\
+         put 1 7 2 pens:1\n\
+         # Both begin at stamp 1, and see that one pen is left. A call in a read-write transaction asks the database, and no node.\n\
+         rw 0\n\
+         rw 1\n\
+         call 0 f0(7)\n\
+         finish 0\n\
+         call 1 f0(7)\n\
+         finish 1\n\
+         # Both sell it. What a transaction writes is kept until it commits.\n\
+         write 0 put 1 7 2 pens:0\n\
+         write 1 put 1 7 2 pens:0\n\
+         commit 0\n\
+         # The event of stamp 2 changed a row that the second one has read.\n\
+         commit 1\n\
+         # A refused commit leaves its transaction open, as it was: it can only be given up, and begun again.\n\
+         abort 1\n\
+         rw 1\n\
+         call 1 f0(7)\n\
+         finish 1\n\
+         # No pen is left, and nothing is written: this commit makes no event.\n\
+         commit 1\n\
+         # A writer is not disturbed by a change of what it has not read.\n\
+         rw 0\n\
+         call 0 f0(7)\n\
+         finish 0\n\
+         put 1 8 2 ink:1\n\
+         write 0 put 1 7 2 pens:9\n\
+         commit 0\n",
+        "at 1\n\
+         open 1\n\
+         open 1\n\
+         started\n\
+         value 70656e733a31\n\
+         started\n\
+         value 70656e733a31\n\
+         kept\n\
+         kept\n\
+         at 2\n\
+         refused B2 2\n\
+         aborted\n\
+         open 2\n\
+         started\n\
+         value 70656e733a30\n\
+         at 2\n\
+         open 2\n\
+         started\n\
+         value 70656e733a30\n\
+         at 3\n\
+         kept\n\
+         at 4\n",
+        1,
+    ),
+    (
+        "13_room",
+        "capacity = 2\n",
+        "# A node that has room for two results: a third one drops the one that was used longest ago. No step shows what was dropped.\n\
+         # Without it: no page would be wrong, but the node would grow, or forget what it just used.\n\
+         put 1 7 2 pen\n\
+         pin 1000\n\
+         ro 0 1000 0 0\n\
+         # The article and the list of its group come into the node.\n\
+         call 0 f0(7)\n\
+         finish 0\n\
+         call 0 f1(2)\n\
+         finish 0\n\
+         # The article is used, so that the list is now the one that was used longest ago.\n\
+         call 0 f0(7)\n\
+         step 0\n\
+         # The count of all rows drops the list: its step says that the count was stored, and nothing of the list ..\n\
+         call 0 f3()\n\
+         step 0\n\
+         step 0\n\
+         step 0\n\
+         # .. but the list is not there any more, while the article is.\n\
+         call 0 f0(7)\n\
+         step 0\n\
+         call 0 f1(2)\n\
+         step 0\n\
+         step 0\n\
+         step 0\n\
+         commit 0\n",
+        "at 1\n\
+         at 2\n\
+         open\n\
+         started\n\
+         value 70656e\n\
+         started\n\
+         value 70656e\n\
+         started\n\
+         hit [1,3) still value 70656e\n\
+         started\n\
+         miss\n\
+         rows 7 [1,3) still t1:?\n\
+         stored [1,3) still value 31\n\
+         started\n\
+         hit [1,3) still value 70656e\n\
+         started\n\
+         miss\n\
+         rows 7 [1,3) still t1:grp=2\n\
+         stored [1,3) still value 70656e\n\
+         receipt 2 1000\n",
+        0,
+    ),
+    (
+        "14_mid_call",
+        "permits = 1\n",
+        "# A call that is refused in its middle gives back what it held, and leaves its transaction open.\n\
+         # Without it: one refused call would take a whole page along, or permits would be lost with it.\n\
+         #\n\
+         # There is one permit. f2(2,7) holds it while it asks f1(2), which finds none: both end, and the call is refused.\n\
+         put 1 7 2 pen\n\
+         pin 1000\n\
+         ro 0 1000 0 0\n\
+         call 0 f2(2,7)\n\
+         step 0\n\
+         # In the middle of a call other lines are refused, and change nothing.\n\
+         call 0 f0(7)\n\
+         commit 0\n\
+         # The lookup of f1(2) is a miss, and then no permit is left for it.\n\
+         step 0\n\
+         # The permit was given back: another call of the transaction has it, and is answered.\n\
+         call 0 f0(7)\n\
+         step 0\n\
+         # What another actor calls meanwhile is refused too, where it is not in the node.\n\
+         ro 1 1000 0 0\n\
+         call 1 f1(2)\n\
+         step 1\n\
+         step 0\n\
+         step 0\n\
+         # The refused calls are in no receipt: the second transaction has none, since none of its calls was answered.\n\
+         commit 0\n\
+         pins 1\n\
+         commit 1\n",
+        "at 1\n\
+         at 2\n\
+         open\n\
+         started\n\
+         miss\n\
+         refused O5\n\
+         refused O5\n\
+         miss refused K5\n\
+         started\n\
+         miss\n\
+         open\n\
+         started\n\
+         miss refused K5\n\
+         rows 7 [1,3) still t1:id=7\n\
+         stored [1,3) still value 70656e\n\
+         receipt 2 1000\n\
+         pins * 2\n\
+         receipt none\n",
+        1,
+    ),
     (
         "9_transactions",
         "",
@@ -194,6 +496,111 @@ pub const EXAMPLES: [(&str, &str, &str, &str, u8); 24] = [
          put 1 8 2 b\n",
         "at 1\n\
          line 4: malformed\n",
+        1,
+    ),
+    (
+        "a_session_line_by_line",
+        "nodes = 2\n",
+        "put 1 7 2 pen\n\
+         pin 1000\n\
+         ro 0 1500 600 0\n\
+         pins 0\n\
+         call 0 f1(2)\n\
+         step 0\n\
+         step 0\n\
+         pins 0\n\
+         step 0\n\
+         commit 0\n\
+         put 1 8 2 ink\n\
+         advance 1\n\
+         advance 1\n\
+         advance 1\n\
+         advance 1\n\
+         ro 1 1600 600 0\n\
+         call 1 f2(2,8)\n\
+         step 1\n\
+         step 1\n\
+         step 1\n\
+         step 1\n\
+         commit 1\n\
+         ro 2 9000 0 0\n\
+         pins 2\n\
+         call 2 f0(8)\n\
+         step 2\n\
+         step 2\n\
+         pins 2\n\
+         step 2\n\
+         step 2\n\
+         step 2\n\
+         commit 2\n\
+         ro 3 20000 12000 0\n\
+         pins 3\n\
+         call 3 f3()\n\
+         step 3\n\
+         step 3\n\
+         step 3\n\
+         pins 3\n\
+         step 3\n\
+         step 3\n\
+         commit 3\n\
+         rw 4\n\
+         ask 4 by-group 1 2\n\
+         write 4 remove 1 7\n\
+         commit 4\n\
+         tidy 30000 1000\n\
+         sweep 1 6\n\
+         query 5 all 1\n\
+         query 6 all 1\n",
+        "at 1\n\
+         at 2\n\
+         open\n\
+         pins * 2\n\
+         started\n\
+         miss\n\
+         rows 7 [1,3) still t1:grp=2\n\
+         pins 2\n\
+         stored [1,3) still value 70656e\n\
+         receipt 2 1000\n\
+         at 3\n\
+         advanced 1 closed 0\n\
+         advanced 2 closed 0\n\
+         advanced 3 closed 1\n\
+         idle\n\
+         open\n\
+         started\n\
+         miss\n\
+         hit [1,3) closed\n\
+         rows - [0,3) closed t1:id=8\n\
+         stored [1,3) closed value 70656e3b\n\
+         receipt 2 1000\n\
+         open\n\
+         pins *\n\
+         started\n\
+         pinned 4\n\
+         added\n\
+         pins 4\n\
+         miss\n\
+         rows 8 [3,5) still t1:id=8\n\
+         stored [3,5) still value 696e6b\n\
+         receipt 4 9000\n\
+         open\n\
+         pins * 4\n\
+         started\n\
+         miss\n\
+         pinned 5\n\
+         added\n\
+         pins 5 4\n\
+         rows 7,8 [3,6) still t1:?\n\
+         stored [3,6) still value 32\n\
+         receipt 5 20000\n\
+         open 5\n\
+         rows 7,8\n\
+         kept\n\
+         at 6\n\
+         retired 3 horizon 6\n\
+         swept 2\n\
+         refused B1 6\n\
+         rows 8 [6,7) still t1:?\n",
         1,
     ),
     (

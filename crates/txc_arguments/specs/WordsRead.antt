@@ -1,0 +1,25 @@
+-- The arguments of a process as words.
+use Rattle.std.specs.Prelude.{◌≡◌, ◌<◌, ⊤, ℕ, List}
+use Rattle.std.specs.Str.{IsUtf8}
+use Rattle.std.specs.Str.Lossy.{utf8_valid_len}
+use Rattle.txc_arguments.specs.declared.words.NotText.{NotText}
+use Rattle.txc_arguments.specs.declared.words.WordsError.{WordsError}
+use Rattle.txc_arguments.specs.declared.words.WordsError.TheVariants as reasons
+
+-- the bytes are no text; of those that begin them the longest text is as long as is said
+pub record HasNoText (fault : NotText) : Type 0 where
+  pub bad : IsUtf8 fault.bytes.items → ⊥
+  pub at : fault.at ≡ utf8_valid_len fault.bytes.items
+
+-- an argument after the program's name is no text; or a growth was refused
+abbrev pub IsNoText : WordsError → Type 0
+IsNoText (reasons.NotText fault) = HasNoText fault × (0 < fault.number)
+IsNoText reasons.Memory = ⊤
+
+-- ---- only private functions need this
+
+-- the argument of this number has these bytes, and is no text
+pub record IsNoWord (number : ℕ) (bytes : List ℕ) (fault : NotText) : Type 0 where
+  pub numbered : fault.number ≡ number
+  pub has : fault.bytes.items ≡ bytes
+  pub none : HasNoText fault

@@ -1,0 +1,121 @@
+//! The words of a command line, from the arguments of the process.
+ghost use Rattle.std.specs.Prelude.{◌≡◌, IfOk, IfErr, string_bytes};
+ghost use Rattle.txc_arguments.specs.WordsRead.{IsNoText, IsNoWord};
+
+use std::alloc::{AllocError, AllocFailed, Global};
+use std::env::{Env, FillError};
+use std::fmt;
+use thiserror::Error;
+
+/// How much of an argument is shown.
+const MAX_SHOWN: usize = 40;
+
+/// How much room an argument is read into at first.
+const FIRST_ROOM: usize = 256;
+
+/// An argument that is no text. It is printed on one line, its bytes that are not printable ASCII escaped.
+#[derive(Debug, Drop)]
+pub struct NotText {
+    /// Its number among the arguments after the program's name, counted from 1.
+    pub number: usize,
+    /// How many of its bytes are right, so that the next one is wrong.
+    pub at: usize,
+    pub bytes: Vec<u8>,
+}
+
+/// Why the arguments of a process give no words.
+#[derive(Debug, Drop, Error)]
+pub enum WordsError {
+    #[error("{0}")]
+    NotText(NotText),
+    /// A growth was refused.
+    #[error("memory")]
+    Memory,
+}
+
+impl From<AllocError> for WordsError {
+    ghost use Rattle.std.specs.Prelude.{◌≡◌};
+    ghost use Rattle.txc_arguments.specs.declared.words.WordsError.TheVariants as reasons;
+
+    ghost from_gives = { λ _ reason. reason ≡ reasons.Memory };
+
+    fn from(_error: AllocError) -> WordsError {
+        WordsError::Memory
+    }
+}
+
+impl<T: Drop> From<AllocFailed<T>> for WordsError {
+    ghost use Rattle.std.specs.Prelude.{◌≡◌};
+    ghost use Rattle.txc_arguments.specs.declared.words.WordsError.TheVariants as reasons;
+
+    ghost from_gives = { λ _ reason. reason ≡ reasons.Memory };
+
+    fn from(_error: AllocFailed<T>) -> WordsError {
+        WordsError::Memory
+    }
+}
+
+impl fmt::Display for NotText {
+    fn fmt<W: fmt::Write>(&self, f: &mut fmt::Formatter<W>) -> fmt::Result {
+        let bytes = self.bytes.as_slice();
+        let start = bytes.get(..MAX_SHOWN).unwrap_or(bytes);
+        let rest = if start.len() < bytes.len() { "..." } else { "" };
+        let (number, byte) = (self.number, self.at.saturating_add(1));
+        let start = start.escape_ascii();
+        write!(
+            f,
+            "argument {number}: expected UTF-8, found `{start}{rest}`, wrong at byte {byte}"
+        )
+    }
+}
+
+/// The bytes of the argument of that number, if there are so many.
+fn argument<R: Env>(rt: &R, alloc: Global, number: usize) -> Result<Option<Vec<u8>>, AllocError> {
+    let mut room = FIRST_ROOM;
+    for _ in 0..usize::BITS {
+        let mut bytes = vec![in alloc; 0; room]?;
+        match rt.arg(number, bytes.as_mut_slice()) {
+            Ok(len) => {
+                bytes.truncate(len);
+                return Ok(Some(bytes));
+            }
+            Err(FillError::NotPresent) => return Ok(None),
+            Err(FillError::TooLong) => room = room.saturating_mul(2),
+        }
+    }
+    Err(AllocError)
+}
+
+/// The word that the bytes of the argument of that number are.
+fn word(number: usize, bytes: Vec<u8>) -> Result<String, NotText>
+    ensures answer { IfOk result (λ word. string_bytes word ≡ bytes.items) }
+    ensures refused { IfErr result (IsNoWord number bytes.items) }
+{
+    match String::from_utf8(bytes) {
+        Ok(word) => Ok(word),
+        Err(error) => Err(NotText {
+            number,
+            at: error.utf8_error().valid_up_to(),
+            bytes: error.into_bytes(),
+        }),
+    }
+}
+
+/// The words of the process's command line. The first is `txcache`, by whatever name the program was called; where an
+/// argument is no text, the first such argument is named.
+pub fn read_words<R: Env>(rt: &R, alloc: Global) -> Result<Vec<String>, WordsError>
+    ensures refused { IfErr result IsNoText }
+{
+    let mut words = Vec::new(alloc);
+    words.push(String::from_str(alloc, "txcache")?)?;
+    for number in 1..usize::MAX {
+        let Some(bytes) = argument(rt, alloc, number)? else {
+            break;
+        };
+        match word(number, bytes) {
+            Ok(word) => words.push(word)?,
+            Err(fault) => return Err(WordsError::NotText(fault)),
+        }
+    }
+    Ok(words)
+}
