@@ -1,0 +1,121 @@
+-- How often a number stands among numbers in ascending order.
+use Rattle.std.proofs.Common.{◌≡◌, ◌≢◌, ◌∙◌, ⊎_elim, ℕ, zero, suc, ◌+◌, ◌-◌, ◌==◌, ◌<◌, ◌≤◌, false, cond, List, length, take, drop, refl, sym, ap, subst, arith}
+use Rattle.std.specs.Prelude.{slice_index, IsPermutation, IsSorted}
+use Rattle.std.specs.List.{count_by}
+use Rattle.std.specs.List.Sorted.{IsStrictlyIncreasing}
+use Rattle.std.specs.Ordering.{nat_cmp}
+use Rattle.std.proofs.Math.Seq.{take-length}
+use Rattle.std.proofs.lemmas.Bool.{cases_eq}
+use Rattle.std.proofs.lemmas.Bool.Decides.{eqb_tells, leb_tells}
+use Rattle.std.proofs.lemmas.List.Sorted.{sum_by-IsPermutation, IsNonDecreasingBy-from_sort}
+use Rattle.std.proofs.lemmas.List.Sums.{count_by_more_yes, count_by_more_no, sum_by-take-drop}
+use Rattle.txc_work.specs.Batches.{IsLeastTwice, StandsTwice}
+
+abbrev count_of : ℕ → List ℕ → ℕ
+count_of n s = count_by (λ m. m == n) s
+
+-- up to this place each number is below the next
+abbrev pub RisesTo : List ℕ → ℕ → Type 0
+RisesTo s p = (k : ℕ) → k + 1 < p → slice_index s k < slice_index s (k + 1)
+
+unequal : (a b : ℕ) → a ≢ b → (a == b) ≡ false
+unequal a b other = ⊎_elim (λ h. absurd (other h.1)) (λ h. h.0) (eqb_tells a b)
+
+-- and so below all those after it
+all_below : (s : List ℕ) (p : ℕ) → RisesTo s (p + 1) → (k : ℕ) → k < p → slice_index s k < slice_index s p
+all_below s zero up k lt = absurd (omega (arith, lt))
+all_below s (suc p) up k lt =
+    let on : p + 1 ≡ suc p = omega arith in
+    let last : slice_index s p < slice_index s (suc p) = subst (λ n. slice_index s p < slice_index s n) on (up p (omega arith)) in
+    ⊎_elim
+    (λ e. subst (λ n. slice_index s n < slice_index s (suc p)) (sym e) last)
+    (λ other. let before = all_below s p (λ j h. up j (omega arith)) k (omega arith) in omega arith)
+    (cases_eq k p)
+
+-- a number other than these stands nowhere among them
+stands_nowhere : (s : List ℕ) (m p : ℕ) → p ≤ length s → ((k : ℕ) → k < p → slice_index s k ≢ m) → count_of m (take p s) ≡ 0
+stands_nowhere s m zero le other = refl
+stands_nowhere s m (suc p) le other =
+    let on : p + 1 ≡ suc p = omega arith in
+    let no = unequal (slice_index s p) m (other p (omega arith)) in
+    let before = stands_nowhere s m p (omega arith) (λ k h. other k (omega arith)) in
+    subst (λ n. count_of m (take n s) ≡ 0) on (count_by_more_no (λ x. x == m) s p 0 (omega arith) no ∙ before)
+
+-- where the numbers rise, none stands twice
+stands_once : (s : List ℕ) (m p : ℕ) → p ≤ length s → RisesTo s p → count_of m (take p s) ≤ 1
+stands_once s m zero le up = let none : count_of m (take 0 s) ≡ 0 = refl in omega arith
+stands_once s m (suc p) le up =
+    let on : p + 1 ≡ suc p = omega arith in
+    let rises : RisesTo s (p + 1) = λ k h. up k (omega arith) in
+    subst (λ n. count_of m (take n s) ≤ 1) on
+    (⊎_elim
+    (λ h.
+    let none = stands_nowhere s m p (omega arith) (λ k lt e. let less = all_below s p rises k lt in let same : slice_index s p ≡ m = h.1 in absurd (omega arith)) in
+    let more = count_by_more_yes (λ x. x == m) s p 0 (omega arith) h.0 in
+    omega arith)
+    (λ h.
+    let before = stands_once s m p (omega arith) (λ k lt. up k (omega arith)) in
+    let more = count_by_more_no (λ x. x == m) s p 0 (omega arith) h.0 in
+    omega arith)
+    (eqb_tells (slice_index s p) m))
+
+pub none_twice : (s : List ℕ) (n : ℕ) → IsStrictlyIncreasing s → StandsTwice s n → ⊥
+none_twice s n rising twice =
+    let once = stands_once s n (length s) (omega arith) rising in
+    let whole = ap (count_of n) (take-length s) in
+    absurd (omega arith)
+
+-- numbers from a place on that are all above one add nothing to how often that one stands
+none_later : (s : List ℕ) (m p j : ℕ) → p + j ≤ length s → ((k : ℕ) → p ≤ k → k < length s → slice_index s k ≢ m)
+    → count_of m (take (p + j) s) ≡ count_of m (take p s)
+none_later s m p zero le other = let on : p + 0 ≡ p = omega arith in ap (λ n. count_of m (take n s)) on
+none_later s m p (suc j) le other =
+    let on : p + j + 1 ≡ p + suc j = omega arith in
+    let no = unequal (slice_index s (p + j)) m (other (p + j) (omega arith) (omega arith)) in
+    let before = none_later s m p j (omega arith) other in
+    subst (λ n. count_of m (take n s) ≡ count_of m (take p s)) on
+    (count_by_more_no (λ x. x == m) s (p + j) 0 (omega arith) no ∙ before)
+
+-- a number that stands beside itself stands twice
+beside : (s : List ℕ) (q : ℕ) → q + 1 < length s → slice_index s q ≡ slice_index s (q + 1) → StandsTwice s (slice_index s (q + 1))
+beside s q lt same =
+    let n = slice_index s (q + 1) in
+    let one = count_by_more_yes (λ m. m == n) s q 0 (omega arith) (⊎_elim (λ h. h.0) (λ h. absurd (h.1 same)) (eqb_tells (slice_index s q) n)) in
+    let two = count_by_more_yes (λ m. m == n) s (q + 1) 0 lt (⊎_elim (λ h. h.0) (λ h. absurd (h.1 refl)) (eqb_tells n n)) in
+    let whole = sum_by-take-drop (λ m. cond (m == n) 1 0) s (q + 1 + 1) in
+    omega arith
+
+-- the first number that stands beside itself is the least that stands twice
+pub first_beside : (s : List ℕ) (p : ℕ) → IsSorted nat_cmp s → 1 ≤ p → p < length s → RisesTo s p
+    → slice_index s (p - 1) ≡ slice_index s p → IsLeastTwice s (slice_index s p)
+first_beside s p sorted some lt up same =
+    let on : p - 1 + 1 ≡ p = omega arith in
+    let two = beside s (p - 1) (omega arith) (same ∙ ap (slice_index s) (sym on)) in
+    record {
+      twice = subst (λ k. StandsTwice s (slice_index s k)) on two;
+      least = λ m twice. ⊎_elim
+          (λ h. h.1)
+          (λ h.
+          let rest : p + (length s - p) ≡ length s = omega arith in
+          let later = none_later s m p (length s - p) (omega arith)
+          (λ k le below e. let up : slice_index s p ≤ slice_index s k = IsNonDecreasingBy-from_sort (λ x. x) s sorted p k 0 le below in let less : m < slice_index s p = h.1 in absurd (omega arith)) in
+          let whole = ap (count_of m) (ap (λ n. take n s) rest ∙ take-length s) in
+          let once = stands_once s m p (omega arith) up in
+          absurd (omega arith))
+          (leb_tells (slice_index s p) m);
+    }
+
+-- what stands twice among numbers stands twice among them in another order
+twice_too : (xs ys : List ℕ) (n : ℕ) → IsPermutation xs ys → StandsTwice xs n → StandsTwice ys n
+twice_too xs ys n moved twice = let same = sum_by-IsPermutation (λ m. cond (m == n) 1 0) xs ys moved in omega arith
+
+-- in no order do rising numbers have one that stands twice
+pub none_twice_in : (xs ys : List ℕ) (n : ℕ) → IsPermutation xs ys → IsStrictlyIncreasing ys → IsLeastTwice xs n → ⊥
+none_twice_in xs ys n moved rising least = none_twice ys n rising (twice_too xs ys n moved least.twice)
+
+-- there is one least number that stands twice, in whichever order
+pub same_least : (xs ys : List ℕ) (n m : ℕ) → IsPermutation xs ys → IsPermutation ys xs → IsLeastTwice xs n → IsLeastTwice ys m → m ≡ n
+same_least xs ys n m moved back one other =
+    let up = one.least m (twice_too ys xs m back other.twice) in
+    let down = other.least n (twice_too xs ys n moved one.twice) in
+    omega arith
