@@ -4,7 +4,7 @@ use Rattle.std.proofs.lemmas.Bool.Decides.{nat_tests}
 use Rattle.std.proofs.lemmas.List.{get_or-map, length-map}
 use Rattle.std.proofs.lemmas.List.Elements.{All-weaker, All-contains, All-contains_itself}
 use Rattle.std.proofs.lemmas.List.Sorted.{Contains-permutation}
-use Rattle.txc_work.specs.Batches.{numbers_of, IsResultOf, NamesOneOf}
+use Rattle.txc_work.specs.Batches.{job_numbers, IsResultOf, NamesOneOf}
 use Rattle.txc_work.specs.Workers.{Implies}
 use Rattle.txc_work.specs.declared.error.BatchError.{BatchError}
 use Rattle.txc_work.specs.declared.error.BatchError.TheVariants.{Missing, Twice, Memory}
@@ -22,22 +22,22 @@ of_same_batch jobs others meets also same shared results all =
     all
 
 -- a job's number is one of the numbers
-number_stands : (jobs : List Job) (job : Job) → Contains jobs job → Contains (numbers_of jobs) job.number
+number_stands : (jobs : List Job) (job : Job) → Contains jobs job → Contains (job_numbers jobs) job.number
 number_stands jobs job there =
-    All-contains (λ (j : Job). Contains (numbers_of jobs) j.number) jobs job
-    (λ k d below. subst (Contains (numbers_of jobs)) (get_or-map (λ (j : Job). j.number) jobs k d d.number below)
-    (All-contains_itself (numbers_of jobs) k d.number (rw (length-map jobs (λ (j : Job). j.number)) below)))
+    All-contains (λ (j : Job). Contains (job_numbers jobs) j.number) jobs job
+    (λ k d below. subst (Contains (job_numbers jobs)) (get_or-map (λ (j : Job). j.number) jobs k d d.number below)
+    (All-contains_itself (job_numbers jobs) k d.number (rw (length-map jobs (λ (j : Job). j.number)) below)))
     there
 
 -- the results of a batch have numbers of its jobs
 pub numbers_are_known : (jobs : List Job) (meets : Job → Outcome → Type 0) (numbers given : List ℕ) (came : List Receipted)
-    → IsPermutation (numbers_of jobs) numbers → given ≡ numbers → All (IsResultOf jobs meets) came
+    → IsPermutation (job_numbers jobs) numbers → given ≡ numbers → All (IsResultOf jobs meets) came
     → All (λ (r : Receipted). Contains given r.number) came
 numbers_are_known jobs meets numbers given came once same =
     All-weaker (IsResultOf jobs meets) (λ (r : Receipted). Contains given r.number)
     (λ r h. subst (Contains given) (sym h.2)
     (subst (λ ns. Contains ns h.0.number) (sym same)
-    (Contains-permutation (numbers_of jobs) numbers h.0.number once (number_stands jobs h.0 h.1))))
+    (Contains-permutation (job_numbers jobs) numbers h.0.number once (number_stands jobs h.0 h.1))))
     came
 
 -- an error that names one of the numbers names one of them in another order

@@ -2,11 +2,13 @@
 use Rattle.std.specs.Prelude.{◌≡◌, ℕ, ◌≤◌, ◌==◌, ◌⊎◌, List, ◌∷◌, ◌++◌, map, count_by, All, Contains, Err}
 use Rattle.txc_tags.specs.Keys.{Call}
 use Rattle.txc_shared.specs.Eval.{Next}
+use Rattle.txc_registry.specs.Objects.{numbers_of, AllIdle}
 use Rattle.txc_ports.specs.declared.bounds.Bounds.{Bounds}
 use Rattle.txc_ports.specs.declared.error.TxnError.{TxnError}
 use Rattle.txc_ports.specs.declared.error.TxnError.TheVariants as refusals
 use Rattle.txc_ports.specs.declared.recorded.Recorded.{Recorded}
 use Rattle.txc_txn.specs.Core.{Explains}
+use Rattle.txc_txn.specs.Kept.{IsKept}
 use Rattle.txc_txn.specs.declared.receipt.Receipt.{Receipt}
 use Rattle.txc_client.specs.Run.{turn_of, HasRun}
 use Rattle.txc_client.specs.Txn.{RoTxnValue}
@@ -29,8 +31,9 @@ pub record IsReceiptOf (next : Next) (row : List ℕ) (job : Job) (receipt : Rec
   pub explained : Explains next receipt.seen.history job.bounds receipt.pin receipt.answers.items
   pub events : receipt.seen.events ≡ row
 
--- in a transaction with these bounds the keys before this one were answered, and its call came to this refusal
-pub record IsRefusedAt (next : Next) (row : List ℕ) (node_rows : ℕ → List ℕ) (bounds : Bounds)
+-- In a transaction with these bounds, whose pin set means what it says and whose objects are those of these
+-- functions, all idle, the keys before this one were answered; and the call of this one came to the refusal.
+pub record IsRefusedAt (next : Next) (row : List ℕ) (node_rows : ℕ → List ℕ) (functions : List ℕ) (bounds : Bounds)
     (keys : List Call) (error : TxnError) : Type 0 where
   pub before : List Call
   pub key : Call
@@ -38,15 +41,18 @@ pub record IsRefusedAt (next : Next) (row : List ℕ) (node_rows : ℕ → List 
   pub old : RoTxnValue
   pub new : RoTxnValue
   pub stands : keys ≡ before ++ key ∷ after
+  pub meant : IsKept next old.txn
+  pub idle : AllIdle old.txn.objects
+  pub of_functions : numbers_of old.txn.objects ≡ functions
   pub bounded : old.txn.core.bounds ≡ bounds
   pub answered : keys_of old.txn.core.recorded ≡ before
   pub run : HasRun next row node_rows old key new (turn_of (Err error))
 
 -- A receipt is the job's. A refusal is out of memory, or that of the first of the job's calls that was refused.
-abbrev pub Meets : Next → List ℕ → (ℕ → List ℕ) → Job → Outcome → Type 0
-Meets next row node_rows job (outcomes.Receipt receipt) = IsReceiptOf next row job receipt
-Meets next row node_rows job (outcomes.Refused error) =
-    (error ≡ refusals.Memory) ⊎ IsRefusedAt next row node_rows job.bounds job.keys.items error
+abbrev pub Meets : Next → List ℕ → (ℕ → List ℕ) → List ℕ → Job → Outcome → Type 0
+Meets next row node_rows functions job (outcomes.Receipt receipt) = IsReceiptOf next row job receipt
+Meets next row node_rows functions job (outcomes.Refused error) =
+    (error ≡ refusals.Memory) ⊎ IsRefusedAt next row node_rows functions job.bounds job.keys.items error
 
 -- the result has the number of a job of the batch, and an outcome that meets that job
 abbrev pub IsResultOf : List Job → (Job → Outcome → Type 0) → Receipted → Type 0
@@ -55,8 +61,8 @@ IsResultOf jobs meets told =
 
 -- ---- numbers
 
-abbrev pub numbers_of : List Job → List ℕ
-numbers_of jobs = map (λ (job : Job). job.number) jobs
+abbrev pub job_numbers : List Job → List ℕ
+job_numbers jobs = map (λ (job : Job). job.number) jobs
 
 abbrev pub result_numbers : List Receipted → List ℕ
 result_numbers results = map (λ (told : Receipted). told.number) results

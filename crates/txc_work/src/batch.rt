@@ -1,15 +1,16 @@
 //! A batch of jobs.
 ghost use denote.Param.Send.{IsSend, IsSync};
-ghost use Rattle.std.specs.Prelude.{◌≡◌, ◌+◌, ◌<◌, ◌≤◌, ◌⊎◌, [], ℕ, All, Err, IfErr, IfOk, IsOk, IsPermutation, vec_capacity, vec_len};
+ghost use Rattle.std.specs.Prelude.{◌≡◌, ◌+◌, ◌<◌, ◌≤◌, [], ℕ, List, All, Err, IfErr, IfOk, IsOk, IsPermutation, vec_capacity, vec_len};
 ghost use Rattle.std.specs.List.Sorted.{IsStrictlyIncreasing};
 ghost use Rattle.crossbeam_queue.specs.Passes.{IsPassOf};
-ghost use Rattle.txc_work.specs.Batches.{numbers_of, result_numbers, IsLeastTwice, IsResultOf, Meets, NamesOneOf};
+ghost use Rattle.txc_registry.specs.Objects.{numbers_of};
+ghost use Rattle.txc_work.specs.Batches.{job_numbers, result_numbers, IsLeastTwice, IsResultOf, Meets, NamesOneOf};
 ghost use Rattle.txc_work.specs.Workers.{Implies, IsWorkerOf};
 
 use crate::error::BatchError;
 use crate::gate::Gate;
 use crate::job::{Job, Receipted};
-use crate::numbering::{first_twice, in_order, sorted_numbers};
+use crate::numbering::{distinct_numbers, in_order};
 use crate::queues::{Batch, JobQueue, ResultQueue, next_result, put_jobs};
 use crate::worker::{Worker, equip, work};
 use crossbeam_queue::Pass;
@@ -29,8 +30,8 @@ pub const MAX_CLIENTS: usize = 8;
 ///
 /// Each client has a thread, the last one the caller's, and goes on to the next job whatever the one before
 /// came to. Where no thread can be made for a client, the others run its jobs. Jobs are begun in the order in
-/// which they are given. Where two have one number, and where memory for the batch itself is refused, no job
-/// is run and the gate is not called.
+/// which they are given, each between two calls of the gate. Where two have one number, and where memory for
+/// the batch itself is refused, no job is run and the gate is not called.
 pub fn run_batch<A, C, J, G, R>(
     rt: &R,
     alloc: Global,
@@ -44,31 +45,28 @@ where
     J: Naming + Send + Sync,
     G: Gate + Sync,
     R: Threads + Wait + Sync,
+    ghost functions: { List ℕ }
     requires some { 0 < vec_len clients }
     requires few { vec_len clients ≤ MAX_CLIENTS }
+    requires functions { All (λ client. numbers_of client.objects ≡ functions) clients.items }
     ensures once { IfOk result (λ results.
-        IsPermutation (numbers_of jobs.items) (result_numbers results.items)) }
+        IsPermutation (job_numbers jobs.items) (result_numbers results.items)) }
     ensures in_order { IfOk result (λ results. IsStrictlyIncreasing (result_numbers results.items)) }
     ensures met { IfOk result (λ results.
-        All (IsResultOf jobs.items (Meets A.next J.database_row J.node_rows)) results.items) }
+        All (IsResultOf jobs.items (Meets A.next J.database_row J.node_rows functions)) results.items) }
     ensures none { jobs.items ≡ [] → IsOk result }
-    ensures twice { (number : ℕ) → IsLeastTwice (numbers_of jobs.items) number
-        → (result ≡ Err (BatchError.Twice number)) ⊎ (result ≡ Err BatchError.Memory) }
-    ensures named { IfErr result (NamesOneOf (numbers_of jobs.items)) }
+    ensures twice { (number : ℕ) → IsLeastTwice (job_numbers jobs.items) number
+        → result ≡ Err (BatchError.Twice number) }
+    ensures named { IfErr result (NamesOneOf (job_numbers jobs.items)) }
 {
     if jobs.is_empty() {
         return Ok(Vec::new(alloc));
     }
-    let Ok(numbers) = sorted_numbers(alloc, &jobs) else {
-        return Err(BatchError::Memory);
-    };
-    if let Some(number) = first_twice(numbers.as_slice()) {
-        return Err(BatchError::Twice(number));
-    }
+    let numbers = distinct_numbers(alloc, &jobs)?;
     let Ok(results) = run_all::<Brand, A, C, J, G, R>(rt, alloc, jobs, clients, gate) else {
         return Err(BatchError::Memory);
     };
-    in_order(results, numbers.as_slice())
+    in_order(results, &numbers)
 }
 
 // Runs the jobs, of which there are some, and returns what they came to in the order in which they ended.
@@ -88,10 +86,11 @@ where
     R: Threads + Wait + Sync,
     requires some { 0 < vec_len jobs }
     requires jobs { B.jobs ≡ jobs.items }
-    requires given { Implies (Meets A.next J.database_row J.node_rows) B.meets }
-    requires taken { Implies B.meets (Meets A.next J.database_row J.node_rows) }
+    requires functions { All (λ client. numbers_of client.objects ≡ B.functions) clients.items }
+    requires given { Implies (Meets A.next J.database_row J.node_rows B.functions) B.meets }
+    requires taken { Implies B.meets (Meets A.next J.database_row J.node_rows B.functions) }
     ensures { IfOk result (λ results.
-        All (IsResultOf jobs.items (Meets A.next J.database_row J.node_rows)) results.items) }
+        All (IsResultOf jobs.items (Meets A.next J.database_row J.node_rows B.functions)) results.items) }
 {
     let count = jobs.len();
     let mut results = Vec::with_capacity(alloc, count)?;
@@ -127,8 +126,8 @@ where
     J: Naming + Send + Sync,
     G: Gate + Sync,
     R: Threads + Wait + Sync,
-    requires workers { All (IsWorkerOf jobs.now results.now) workers.items }
-    requires meets { Implies (Meets A.next J.database_row J.node_rows) B.meets }
+    requires workers { All (IsWorkerOf jobs.now results.now B.functions) workers.items }
+    requires meets { Implies (Meets A.next J.database_row J.node_rows B.functions) B.meets }
 {
     let Some(last) = workers.pop() else {
         return;
@@ -140,15 +139,15 @@ where
             requires gate { IsSync G.row }
             requires runtime { IsSync R.row }
             requires functions { IsSend C.row }
-            requires workers { All (IsWorkerOf jobs.now results.now) workers.items }
-            requires last { IsWorkerOf jobs.now results.now last }
-            requires meets { Implies (Meets A.next J.database_row J.node_rows) B.meets }
+            requires workers { All (IsWorkerOf jobs.now results.now B.functions) workers.items }
+            requires last { IsWorkerOf jobs.now results.now B.functions last }
+            requires meets { Implies (Meets A.next J.database_row J.node_rows B.functions) B.meets }
         {
             for worker in workers {
                 let _ = scope.spawn(
                     move ||
-                        requires { IsWorkerOf jobs.now results.now worker
-                            × Implies (Meets A.next J.database_row J.node_rows) B.meets }
+                        requires { IsWorkerOf jobs.now results.now B.functions worker
+                            × Implies (Meets A.next J.database_row J.node_rows B.functions) B.meets }
                     { work(rt, alloc, jobs, results, gate, worker) },
                 );
             }

@@ -1,16 +1,35 @@
 //! The numbers of the jobs of a batch, and of their results.
-ghost use Rattle.std.specs.Prelude.{◌≡◌, All, Contains, IfErr, IfNone, IfOk, IfSome, IsPermutation, IsSorted};
+ghost use Rattle.std.specs.Prelude.{◌≡◌, ◌==◌, ℕ, count_by, All, Contains, Err, IfErr, IfNone, IfOk, IfSome, IsPermutation, IsSorted};
 ghost use Rattle.std.specs.Ordering.{nat_cmp};
 ghost use Rattle.std.specs.List.Sorted.{IsStrictlyIncreasing};
-ghost use Rattle.txc_work.specs.Batches.{numbers_of, result_numbers, IsLeastTwice, NamesOneOf};
+ghost use Rattle.txc_work.specs.Batches.{job_numbers, result_numbers, IsLeastTwice, NamesOneOf, StandsTwice};
 
 use crate::error::BatchError;
 use crate::job::{Job, Receipted};
 use std::alloc::{AllocError, Global};
 
-/// The numbers of the jobs, in ascending order.
-pub(crate) fn sorted_numbers(alloc: Global, jobs: &Vec<Job>) -> Result<Vec<u32>, AllocError>
-    ensures same { IfOk result (λ numbers. IsPermutation (numbers_of jobs.now.items) numbers.items) }
+/// The numbers of the jobs, in ascending order. That two jobs have one number is told out of memory too.
+pub(crate) fn distinct_numbers(alloc: Global, jobs: &[Job]) -> Result<Vec<u32>, BatchError>
+    ensures same { IfOk result (λ numbers. IsPermutation (job_numbers jobs.now) numbers.items) }
+    ensures rising { IfOk result (λ numbers. IsStrictlyIncreasing numbers.items) }
+    ensures twice { (number : ℕ) → IsLeastTwice (job_numbers jobs.now) number
+        → result ≡ Err (BatchError.Twice number) }
+    ensures named { IfErr result (NamesOneOf (job_numbers jobs.now)) }
+{
+    let Ok(numbers) = sorted_numbers(alloc, jobs) else {
+        return match least_twice(jobs) {
+            Some(number) => Err(BatchError::Twice(number)),
+            None => Err(BatchError::Memory),
+        };
+    };
+    match first_twice(&numbers) {
+        Some(number) => Err(BatchError::Twice(number)),
+        None => Ok(numbers),
+    }
+}
+
+fn sorted_numbers(alloc: Global, jobs: &[Job]) -> Result<Vec<u32>, AllocError>
+    ensures same { IfOk result (λ numbers. IsPermutation (job_numbers jobs.now) numbers.items) }
     ensures sorted { IfOk result (λ numbers. IsSorted nat_cmp numbers.items) }
 {
     let mut numbers: Vec<u32> = jobs.iter().map(|job| job.number).collect(alloc)?;
@@ -18,8 +37,8 @@ pub(crate) fn sorted_numbers(alloc: Global, jobs: &Vec<Job>) -> Result<Vec<u32>,
     Ok(numbers)
 }
 
-/// The least number that stands twice. The numbers are in ascending order.
-pub(crate) fn first_twice(numbers: &[u32]) -> Option<u32>
+// The least number that stands twice. The numbers are in ascending order.
+fn first_twice(numbers: &[u32]) -> Option<u32>
     requires { IsSorted nat_cmp numbers.now }
     ensures none { IfNone result (IsStrictlyIncreasing numbers.now) }
     ensures there { IfSome result (Contains numbers.now) }
@@ -31,6 +50,24 @@ pub(crate) fn first_twice(numbers: &[u32]) -> Option<u32>
         }
     }
     None
+}
+
+// The least number that two of the jobs have. They are compared pair by pair, which takes no memory.
+fn least_twice(jobs: &[Job]) -> Option<u32>
+    ensures none { IfNone result ((number : ℕ) → StandsTwice (job_numbers jobs.now) number → ⊥) }
+    ensures least { IfSome result (IsLeastTwice (job_numbers jobs.now)) }
+{
+    jobs.iter()
+        .map(|job| job.number)
+        .filter(|number| 2 <= count_of(jobs, *number))
+        .min()
+}
+
+// How many of the jobs have the number.
+fn count_of(jobs: &[Job], number: u32) -> usize
+    ensures { result ≡ count_by (λ n. n == number) (job_numbers jobs.now) }
+{
+    jobs.iter().filter(|job| job.number == number).count()
 }
 
 /// The results in the order of the numbers, where each number has one.

@@ -1,5 +1,5 @@
 //! The queues of a batch, and what each item of them is.
-ghost use Rattle.std.specs.Prelude.{All, Contains, IfSome, List};
+ghost use Rattle.std.specs.Prelude.{ℕ, All, Contains, IfSome, List};
 ghost use Rattle.crossbeam_queue.specs.Passes.{IsPassOf, IsSamePass};
 ghost use Rattle.txc_work.specs.Batches.{IsResultOf};
 ghost use Rattle.txc_work.specs.declared.job.Job.{Job};
@@ -11,10 +11,12 @@ use crossbeam_queue::{Pass, RuledArrayQueue};
 use std::marker::{Brand, PhantomData};
 use std::sync::Wait;
 
-/// Names the jobs of a batch, and what an outcome says of its job. What is generic in it is called at [`Brand`]
-/// once the jobs are there.
+/// Names the jobs of a batch, the functions of its clients, and what an outcome says of its job. What is
+/// generic in it is called at [`Brand`] once the jobs are there.
 pub(crate) trait Batch {
     ghost jobs: { List Job };
+
+    ghost functions: { List ℕ };
 
     ghost meets: { Job → Outcome → Type 0 };
 }
@@ -23,6 +25,8 @@ impl Batch for Brand {
     ghost use Rattle.std.specs.Prelude.{[], ⊤};
 
     ghost jobs = { [] };
+
+    ghost functions = { [] };
 
     ghost meets = { λ job outcome. ⊤ };
 }

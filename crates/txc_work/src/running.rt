@@ -1,5 +1,6 @@
 //! A job's transaction.
 ghost use Rattle.std.specs.Prelude.{◌≡◌, [], IfErr, OnOk};
+ghost use Rattle.txc_registry.specs.Objects.{numbers_of};
 ghost use Rattle.txc_work.specs.Batches.{keys_of, IsRefusedAt, Meets};
 
 use crate::gate::Gate;
@@ -22,7 +23,8 @@ pub(crate) fn run_job<'a, A: App, C: Cacheable, J: Naming, G: Gate>(
     job: Job,
 ) -> (Receipted, Client<'a, A, C, J>)
     ensures number { result.0.number ≡ job.number }
-    ensures met { Meets A.next J.database_row J.node_rows job result.0.outcome }
+    ensures met { Meets A.next J.database_row J.node_rows (numbers_of client.objects) job result.0.outcome }
+    ensures functions { result.1.objects ≡ client.objects }
 {
     gate.before(&job);
     let (outcome, client) = transact(rt, alloc, client, &job);
@@ -41,7 +43,8 @@ fn transact<'a, A: App, C: Cacheable, J: Naming>(
     client: Client<'a, A, C, J>,
     job: &Job,
 ) -> (Outcome, Client<'a, A, C, J>)
-    ensures { Meets A.next J.database_row J.node_rows job.now result.0 }
+    ensures met { Meets A.next J.database_row J.node_rows (numbers_of client.objects) job.now result.0 }
+    ensures functions { result.1.objects ≡ client.objects }
 {
     let mut txn = match client.begin_ro(rt, alloc, job.bounds) {
         Ok(txn) => txn,
@@ -65,11 +68,13 @@ fn call_each<A: App, C: Cacheable, J: Naming>(
 ) -> Result<(), TxnError>
     requires { txn.old.txn.core.recorded ≡ [] }
     ensures bounds { txn.new.txn.core.bounds ≡ txn.old.txn.core.bounds }
+    ensures functions { txn.new.txn.objects ≡ txn.old.txn.objects }
     ensures answered { OnOk result (keys_of txn.new.txn.core.recorded ≡ keys.now) }
     ensures refused { IfErr result (IsRefusedAt A.next J.database_row J.node_rows
-        txn.old.txn.core.bounds keys.now) }
+        (numbers_of txn.old.txn.objects) txn.old.txn.core.bounds keys.now) }
 {
     for key in keys {
+        txn.is_kept();
         txn.call(rt, alloc, key.copy())?;
     }
     Ok(())

@@ -1,6 +1,7 @@
 //! Workers: clients that run the jobs of a batch.
-ghost use Rattle.std.specs.Prelude.{All, IfOk};
+ghost use Rattle.std.specs.Prelude.{◌≡◌, All, IfOk};
 ghost use Rattle.crossbeam_queue.specs.Passes.{IsPassOf};
+ghost use Rattle.txc_registry.specs.Objects.{numbers_of};
 ghost use Rattle.txc_work.specs.Batches.{Meets};
 ghost use Rattle.txc_work.specs.Workers.{Implies, IsWorkerOf};
 
@@ -28,19 +29,21 @@ pub(crate) struct Worker<K> {
 pub(crate) type Equipped<K> = (Pass<Job, ()>, Pass<Receipted, ()>, Vec<Worker<K>>);
 
 /// Gives each client passes of both queues, split off from these.
-pub(crate) fn equip<B: Batch, K: Drop>(
+pub(crate) fn equip<'a, B: Batch, A: App, C: Cacheable, J: Naming>(
     alloc: Global,
     jobs: &JobQueue<B>,
     mut job_pass: Pass<Job, ()>,
     results: &ResultQueue<B>,
     mut result_pass: Pass<Receipted, ()>,
-    clients: Vec<K>,
-) -> Result<Equipped<K>, AllocError>
+    clients: Vec<Client<'a, A, C, J>>,
+) -> Result<Equipped<Client<'a, A, C, J>>, AllocError>
     requires jobs { IsPassOf jobs.now job_pass }
     requires results { IsPassOf results.now result_pass }
+    requires functions { All (λ client. numbers_of client.objects ≡ B.functions) clients.items }
     ensures jobs { IfOk result (λ equipped. IsPassOf jobs.now equipped.0) }
     ensures results { IfOk result (λ equipped. IsPassOf results.now equipped.1) }
-    ensures workers { IfOk result (λ equipped. All (IsWorkerOf jobs.now results.now) equipped.2.items) }
+    ensures workers { IfOk result (λ equipped.
+        All (IsWorkerOf jobs.now results.now B.functions) equipped.2.items) }
 {
     let mut workers = Vec::with_capacity(alloc, clients.len())?;
     for client in clients {
@@ -62,8 +65,8 @@ pub(crate) fn work<B: Batch, A: App, C: Cacheable, J: Naming, G: Gate, R: Wait>(
     gate: &G,
     worker: Worker<Client<'_, A, C, J>>,
 )
-    requires worker { IsWorkerOf jobs.now results.now worker }
-    requires meets { Implies (Meets A.next J.database_row J.node_rows) B.meets }
+    requires worker { IsWorkerOf jobs.now results.now B.functions worker }
+    requires meets { Implies (Meets A.next J.database_row J.node_rows B.functions) B.meets }
 {
     let Worker {
         mut client,

@@ -8,7 +8,7 @@ use Rattle.txc_work.proofs.batch.run_workers.Goals as goal
 -- what the closure requires, and then what it may send and share
 pub scoped-requires : goal.scoped-requires
 scoped-requires g c =
-    let of = IsWorkerOf c.args.jobs.now c.args.results.now in
+    let of = IsWorkerOf c.args.jobs.now c.args.results.now g.B.Batch.functions in
     let taken = All-pop of c.args.workers.items c.pop.new.self.items c.pop.result c.pop.ensures.items c.requires.workers in
     let last : of c.in-Some.last = subst (λ r. IfSome r of) c.in-Some.is taken.1 in
     let b = c.type_bounds in

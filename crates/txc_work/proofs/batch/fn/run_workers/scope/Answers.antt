@@ -24,7 +24,7 @@ use Rattle.txc_work.proofs.batch.fn.run_workers.scope.Goals as goal
 
 pub loop-worker-init : goal.loop-worker-init
 loop-worker-init g c =
-    All-same (IsWorkerOf c.captures.jobs.now c.captures.results.now) _ _ c.into_iter-worker-iterator.ensures.into_iter_gives.0 c.requires.workers
+    All-same (IsWorkerOf c.captures.jobs.now c.captures.results.now g.B.Batch.functions) _ _ c.into_iter-worker-iterator.ensures.into_iter_gives.0 c.requires.workers
 
 -- the closure borrows the runtime, the queues and the gate, and owns the allocator and a worker
 pub spawn-requires-send-F : goal.spawn-requires-send-F
@@ -43,13 +43,13 @@ spawn-requires-send-F g c κs within =
 
 pub spawn-requires-after_bounds : goal.spawn-requires-after_bounds
 spawn-requires-after_bounds g c κs within =
-    let of = IsWorkerOf c.captures.jobs.now c.captures.results.now in
+    let of = IsWorkerOf c.captures.jobs.now c.captures.results.now g.B.Batch.functions in
     (All-head of _ _ (All-same of _ _ (sym c.in-Some.ensures.steps.0) c.loop-worker.invariant), c.requires.meets)
 
 pub loop-worker-preserved-in-Some : goal.loop-worker-preserved-in-Some
 loop-worker-preserved-in-Some g c =
-    All-rest (IsWorkerOf c.captures.jobs.now c.captures.results.now) _ _ _ c.in-Some.ensures.steps.0 c.loop-worker.invariant
+    All-rest (IsWorkerOf c.captures.jobs.now c.captures.results.now g.B.Batch.functions) _ _ _ c.in-Some.ensures.steps.0 c.loop-worker.invariant
 
 pub loop-worker-preserved : goal.loop-worker-preserved
 loop-worker-preserved g c =
-    All-rest (IsWorkerOf c.captures.jobs.now c.captures.results.now) _ _ _ c.in-Some.ensures.steps.0 c.loop-worker.invariant
+    All-rest (IsWorkerOf c.captures.jobs.now c.captures.results.now g.B.Batch.functions) _ _ _ c.in-Some.ensures.steps.0 c.loop-worker.invariant
