@@ -1,21 +1,23 @@
-# make run SCRIPT=FILE [MODE=report]: the replies to a script, or a report; it builds the program where it has to.
-# make test: every proof, every test, and the wrong bodies that break a cache.
-# make edits [CRATE=NAME]: the wrong bodies that `make test` leaves out for its time.
+# make try SCRIPT=FILE [MODE=report] [SETTINGS=TEXT]: the replies to a script, or to several, from a fresh clone in minutes; nothing is proved.
+# make run SCRIPT=FILE [MODE=report] [SETTINGS=TEXT]: the same by the proved program, which is proved and built where it has to be.
+# make test: the tests, with no proof.
+# make prove: the gate: every proof, every test, and the wrong bodies that break a cache.
+# make edits [CRATE=NAME]: all wrong bodies, also those that `make prove` leaves out for its time.
 # make refusals [TEST=NAME]: every allocation of the tests and of the program, refused in its turn.
 # make docs: the parts of the documents and of the tests that are made by script.
 SCRIPT ?= examples/1_page.txc
-MODE ?= node
+MODE ?=
 
-.PHONY: run test edits refusals docs
+.PHONY: try run test prove edits refusals docs
 
-run:
-	@scripts/run.sh $(SCRIPT) $(MODE)
+try run:
+	@scripts/$@.py $(if $(MODE),--mode "$(MODE)") $(if $(SETTINGS),--settings "$(SETTINGS)") "$(SCRIPT)"
 
 test:
-	scripts/docs.py --check
-	scripts/examples.py --check
-	RT_JOBS=$$(nproc) rt ci
-	@scripts/run_examples.sh
+	@scripts/test.py
+
+prove:
+	@scripts/prove.py
 
 edits:
 	scripts/edits.py $(CRATE)

@@ -118,12 +118,19 @@ def definitions():
     return text
 
 
-def edits(folder):
-    """The names of the edits in a folder by the file that each changes first."""
+def named():
+    """The edits beside must-fail/ that the gate tries: those that edits.txt names, as pairs of crate and name."""
+    rows = [line.split("#")[0].partition(":") for line in (ROOT / "edits.txt").read_text().split("\n")]
+    return {(crate.strip(), name) for crate, _, names in rows for name in names.split()}
+
+
+def edits(crate, is_wanted):
+    """The names of those of a crate's edits that are wanted, by the file that each changes first."""
     found = {}
-    for edit in sorted(folder.glob("*.edit")):
-        file = re.search(r"^file: (\S+)$", edit.read_text(), re.M)[1]
-        found.setdefault(file, []).append(edit.stem)
+    for edit in sorted([*(ROOT / "crates" / crate).glob("must-fail/*.edit"), *(ROOT / "crates" / crate).glob("more-edits/*.edit")]):
+        if is_wanted(edit):
+            file = re.search(r"^file: (\S+)$", edit.read_text(), re.M)[1]
+            found.setdefault(file, []).append(edit.stem)
     return found
 
 
@@ -132,9 +139,10 @@ def rows(found):
 
 
 def lists():
-    text = ""
+    text, in_gate = "", named()
     for name in crates():
-        gate, beside = (edits(ROOT / "crates" / name / it) for it in ("must-fail", "more-edits"))
+        is_named = lambda edit: edit.parent.name == "must-fail" or (name, edit.stem) in in_gate
+        gate, beside = edits(name, is_named), edits(name, lambda edit: not is_named(edit))
         if not gate and not beside:
             continue
         count = [sum(map(len, it.values())) for it in (gate, beside)]

@@ -1,16 +1,19 @@
 #!/usr/bin/env python3
-"""Tries the wrong bodies of crates/*/more-edits, which the gate leaves out for its time: the
-prover must refuse each. It reads what is committed, and works in a temporary folder.
+"""Tries the wrong bodies of crates/*/more-edits: the prover must refuse each.
 
 usage: [JOBS=N] scripts/edits.py [CRATE..]
+       [JOBS=N] scripts/edits.py --named [CRATE..]
   CRATE    tries the wrong bodies of these crates alone
   JOBS     how many checks run side by side, by default one a core (up to 2.7 GB each)
+  --named  tries those that edits.txt names, as the gate does, over the libraries that `rt ci` has just left in
+           crates/*/out: of each crate the functions that they change are checked, and nothing else. Without it, it
+           tries all of what is committed, in a temporary folder, over libraries that it builds where it has to
 
 A function's contract is all that the proofs of others know of it, so the wrong bodies of different
 functions are tried together, in one check: each is refused if the check says that its own function
-has a goal that is not proved. One of which that is not said is tried again, alone.
+has a goal that is not proved. One of which that is not said is tried again, alone; with --named it is bad.
 
-It prints each wrong body that is not plainly refused, and last `N refused, M proved`, with
+It prints each wrong body that is not plainly refused, with --named each, and last `N refused, M proved`, with
 `, K bad` where some could not be tried. The exit status is 0 only if M and K are 0.
 """
 
@@ -24,6 +27,8 @@ import tempfile
 from concurrent.futures import ThreadPoolExecutor
 
 JOBS = int(os.environ.get("JOBS", os.cpu_count()))
+# The toolchain's folder, which `rt doc` names.
+KIT = os.path.dirname(subprocess.run(["rt", "doc"], capture_output=True, text=True).stdout.strip())
 # A check of many edits still fits the memory and ends in some minutes.
 MOST_TOGETHER = 24
 # What is said where a proof file names what an edit took away: this shows little of a contract.
@@ -143,6 +148,71 @@ def try_together(base, edits):
         judge(edit, lines, ran.returncode, len(applied) == 1)
 
 
+def try_named(root, edits):
+    """Checks in a copy of the crate the functions that these edits change, and gives each edit its verdict."""
+    crate = edits[0].crate
+    with tempfile.TemporaryDirectory(prefix="round-") as room:
+        for part in ("src", "specs", "proofs"):
+            if os.path.isdir(f"{root}/crates/{crate}/{part}"):
+                shutil.copytree(f"{root}/crates/{crate}/{part}", f"{room}/{part}")
+        applied = apply(edits, room)
+        # the prover takes the end of a function's name, where no other ends so
+        ends = sorted({path.rpartition("*")[2].removeprefix(f"{crate}::") for edit in applied for path in edit.functions})
+        ran = subprocess.run(["rattle", "check", *check_words(root, crate), *(it for end in ends for it in ("--only", end))],
+                             cwd=room, stdout=subprocess.PIPE, stderr=subprocess.STDOUT, errors="replace", text=True)
+    lines = ran.stdout.split("\n")
+    for edit in applied:
+        judge(edit, lines, ran.returncode, False)
+        if not edit.verdict:
+            path = next(iter(edit.functions), crate)
+            own = [it for it in lines if re.match(rf"fn {path}(?:<.*>)?: ", it)]
+            edit.verdict = "proved" if own and all(it.endswith(": proved") for it in own) else "bad"
+            edit.said = " | ".join(own or [it for it in lines if it][-3:])
+        elif edit.said.startswith("names: "):
+            edit.verdict = "bad"
+
+
+def check_words(root, crate):
+    """What the prover is told to check a crate from nothing over the libraries of crates/*/out, but for what to check."""
+    uses = {}
+    for line in open(f"{root}/crates.txt", encoding="utf-8"):
+        name, colon, below = line.partition("#")[0].partition(":")
+        if colon:
+            uses[name.split()[0]] = below.split()
+    words = ["--crate-name", crate, "src/lib.rt", "--jobs", "1", "--links", f"{crate}="]
+    library = lambda it: f"{root}/crates/{it}/out/rlib/{it}.rlib" if it in uses else f"{KIT}/rlibs/{it}.rlib"
+    words += [it for name in ("std", *uses[crate]) for it in ("--extern", f"{name}={library(name)}")]
+    folders = [f"{KIT}/rlibs", *(f"{root}/crates/{it}/out/rlib" for it in uses)]
+    words += [it for folder in folders for it in ("-L", f"dependency={folder}")]
+    return [*words, "--antt-project", f"{KIT}/rattle/logic/antt-project.json", "--logic-built", f"{KIT}/logic_built"]
+
+
+def named(root, crates):
+    """The wrong bodies that edits.txt names."""
+    edits = []
+    for line in open(f"{root}/edits.txt", encoding="utf-8"):
+        crate, colon, names = line.partition("#")[0].partition(":")
+        if colon and (not crates or crate in crates):
+            edits += [Edit(crate, f"{root}/crates/{crate}/more-edits/{it}.edit") for it in names.split()]
+    for edit in edits:
+        edit.find_functions(f"{root}/crates/{edit.crate}")
+        if not edit.functions:
+            edit.verdict, edit.said = "bad", "it changes no function"
+    return edits
+
+
+def try_all_named(root, crates):
+    edits = named(root, crates)
+    lists = [it for crate in dict.fromkeys(edit.crate for edit in edits)
+             for it in rounds([edit for edit in edits if edit.crate == crate and not edit.verdict])]
+    with ThreadPoolExecutor(JOBS) as pool:
+        for _ in pool.map(lambda it: try_named(root, it), sorted(lists, key=len, reverse=True)):
+            pass
+    for edit in edits:
+        print(f"{edit.name}: {edit.verdict}: {edit.said[:200]}")
+    return told(edits)
+
+
 def apply(edits, folder):
     """Makes the changes of all edits, and returns those that could be applied."""
     applied, places = [], []
@@ -190,6 +260,8 @@ def proof_folder(path):
 
 def main():
     os.chdir(f"{os.path.dirname(os.path.abspath(__file__))}/..")
+    if "--named" in sys.argv[1:]:
+        sys.exit(try_all_named(os.getcwd(), [it for it in sys.argv[1:] if it != "--named"]))
     room = tempfile.mkdtemp(prefix="edits-")
     try:
         sys.exit(try_all(room, sys.argv[1:]))
@@ -223,6 +295,11 @@ def try_all(room, crates):
     for edit in edits:
         if edit.verdict != "refused" or edit.said.startswith(("names: ", "elsewhere: ")):
             print(f"{edit.name}: {edit.verdict}: {edit.said[:300]}")
+    return told(edits)
+
+
+def told(edits):
+    """Prints what the edits came to, and returns the exit status."""
     count = lambda verdict: sum(it.verdict == verdict for it in edits)
     bad = len(edits) - count("refused") - count("proved")
     print(f"{count('refused')} refused, {count('proved')} proved" + (f", {bad} bad" if bad else ""))

@@ -8,16 +8,16 @@ use Rattle.txc_rows.specs.declared.query.Query.{Query}
 use Rattle.txc_rows.specs.States.{RowValue, State, answer}
 use Rattle.txc_db.specs.History.{History}
 use Rattle.txc_node.specs.declared.value.TheConstants.{MAX_VALUE_LEN}
-use Rattle.txc_shared.specs.declared.app.TheConstants.{MAX_ASKS}
-use Rattle.txc_shared.specs.declared.ask.Ask.{Ask}
-use Rattle.txc_shared.specs.declared.ask.Ask.TheVariants as asks
-use Rattle.txc_shared.specs.declared.ask.Answer.{Answer}
-use Rattle.txc_shared.specs.declared.ask.Answer.TheVariants as answers
-use Rattle.txc_shared.specs.Eval.{Next, eval, met}
-use Rattle.txc_shared.specs.Answering.{IsRight, AreRight, queries_of, queries_after, queries_for}
-use Rattle.txc_shared.specs.Claims.{RowsHold, ValueHolds}
-use Rattle.txc_shared.specs.Laws.{RightAnswersGiveTheValue}
-use Rattle.txc_shared.proofs.Offered.{each_push}
+use Rattle.txc_app.specs.declared.app.TheConstants.{MAX_ASKS}
+use Rattle.txc_app.specs.declared.ask.Ask.{Ask}
+use Rattle.txc_app.specs.declared.ask.Ask.TheVariants as asks
+use Rattle.txc_app.specs.declared.ask.Answer.{Answer}
+use Rattle.txc_app.specs.declared.ask.Answer.TheVariants as answers
+use Rattle.txc_app.specs.Eval.{Next, eval, met}
+use Rattle.txc_app.specs.Answering.{IsRight, AreRight, queries_of, queries_after, queries_for}
+use Rattle.txc_app.specs.Claims.{RowsHold, ValueHolds}
+use Rattle.txc_app.specs.Laws.{RightAnswersGiveTheValue}
+use Rattle.txc_app.proofs.Offered.{each_push}
 use Rattle.txc_call.specs.Reaches.{Meets, meet}
 use Rattle.txc_call.specs.Frames.{AnswerHolds, AnswersHold}
 use Rattle.txc_call.proofs.Claims.{both_hold, weaker}

@@ -12,7 +12,7 @@ use Rattle.txc_rows.specs.declared.query.Query.{Query}
 use Rattle.txc_rows.specs.States.{State}
 use Rattle.txc_rows.specs.RowTags.{query_tag, covers_query}
 use Rattle.txc_db.specs.History.{History, state_at}
-use Rattle.txc_shared.specs.Claims.{covers_all, HoldsOver}
+use Rattle.txc_app.specs.Claims.{covers_all, HoldsOver}
 use Rattle.txc_call.specs.Reaches.{InReach, Meets, meet}
 
 -- ---- cover

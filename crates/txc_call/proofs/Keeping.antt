@@ -8,14 +8,14 @@ use Rattle.txc_tags.specs.Keys.{Call}
 use Rattle.txc_rows.specs.declared.query.Query.{Query}
 use Rattle.txc_db.specs.History.{History}
 use Rattle.txc_node.specs.declared.value.TheConstants.{MAX_VALUE_LEN}
-use Rattle.txc_shared.specs.declared.app.TheConstants.{MAX_ASKS}
-use Rattle.txc_shared.specs.declared.ask.Ask.{Ask}
-use Rattle.txc_shared.specs.declared.ask.Ask.TheVariants as asks
-use Rattle.txc_shared.specs.declared.ask.Answer.{Answer}
-use Rattle.txc_shared.specs.declared.ask.Answer.TheVariants as answers
-use Rattle.txc_shared.specs.Eval.{Next}
-use Rattle.txc_shared.specs.Claims.{RowsHold, ValueHolds}
-use Rattle.txc_shared.specs.Laws.{RightAnswersGiveTheValue}
+use Rattle.txc_app.specs.declared.app.TheConstants.{MAX_ASKS}
+use Rattle.txc_app.specs.declared.ask.Ask.{Ask}
+use Rattle.txc_app.specs.declared.ask.Ask.TheVariants as asks
+use Rattle.txc_app.specs.declared.ask.Answer.{Answer}
+use Rattle.txc_app.specs.declared.ask.Answer.TheVariants as answers
+use Rattle.txc_app.specs.Eval.{Next}
+use Rattle.txc_app.specs.Claims.{RowsHold, ValueHolds}
+use Rattle.txc_app.specs.Laws.{RightAnswersGiveTheValue}
 use Rattle.txc_registry.specs.Activity.{Activity, idle}
 use Rattle.txc_registry.specs.Objects.{Objects, activity_of, with_activity}
 use Rattle.txc_call.specs.declared.error.CallError.{CallError}

@@ -8,15 +8,15 @@ use Rattle.txc_tags.specs.Keys.{Call}
 use Rattle.txc_tags.specs.Tags.{with_tags}
 use Rattle.txc_db.specs.History.{History}
 use Rattle.txc_node.specs.declared.value.TheConstants.{MAX_VALUE_LEN}
-use Rattle.txc_shared.specs.declared.app.TheConstants.{MAX_ASKS}
-use Rattle.txc_shared.specs.declared.ask.Ask.{Ask}
-use Rattle.txc_shared.specs.declared.ask.Ask.TheVariants as asks
-use Rattle.txc_shared.specs.declared.ask.Answer.{Answer}
-use Rattle.txc_shared.specs.Eval.{Next}
-use Rattle.txc_shared.specs.Answering.{IsRight}
-use Rattle.txc_shared.specs.Claims.{ValueHolds}
-use Rattle.txc_shared.specs.Laws.{RightAnswersGiveTheValue}
-use Rattle.txc_shared.proofs.Offered.{each_none}
+use Rattle.txc_app.specs.declared.app.TheConstants.{MAX_ASKS}
+use Rattle.txc_app.specs.declared.ask.Ask.{Ask}
+use Rattle.txc_app.specs.declared.ask.Ask.TheVariants as asks
+use Rattle.txc_app.specs.declared.ask.Answer.{Answer}
+use Rattle.txc_app.specs.Eval.{Next}
+use Rattle.txc_app.specs.Answering.{IsRight}
+use Rattle.txc_app.specs.Claims.{ValueHolds}
+use Rattle.txc_app.specs.Laws.{RightAnswersGiveTheValue}
+use Rattle.txc_app.proofs.Offered.{each_none}
 use Rattle.txc_registry.specs.Activity.{Activation, Activity, activation_in, answered, begun, idle, next_of, running, WantsAnswer}
 use Rattle.txc_registry.specs.Objects.{Objects, activation_of, activity_of, with_activity, AllIdle, IsAskingAt}
 use Rattle.txc_registry.proofs.Offered.{here_after, again, restored, elsewhere, idle_there}

@@ -6,13 +6,13 @@ use Rattle.txc_tags.specs.declared.tag.Tag.{Tag}
 use Rattle.txc_tags.specs.Keys.{Call}
 use Rattle.txc_tags.specs.Tags.{with_tags}
 use Rattle.txc_db.specs.History.{History}
-use Rattle.txc_shared.specs.declared.app.TheConstants.{MAX_ASKS}
-use Rattle.txc_shared.specs.declared.ask.Ask.{Ask}
-use Rattle.txc_shared.specs.declared.ask.Ask.TheVariants as asks
-use Rattle.txc_shared.specs.declared.ask.Answer.{Answer}
-use Rattle.txc_shared.specs.Eval.{Next}
-use Rattle.txc_shared.specs.Answering.{IsRight, AreRight, queries_of, queries_for}
-use Rattle.txc_shared.specs.Claims.{HoldsOver}
+use Rattle.txc_app.specs.declared.app.TheConstants.{MAX_ASKS}
+use Rattle.txc_app.specs.declared.ask.Ask.{Ask}
+use Rattle.txc_app.specs.declared.ask.Ask.TheVariants as asks
+use Rattle.txc_app.specs.declared.ask.Answer.{Answer}
+use Rattle.txc_app.specs.Eval.{Next}
+use Rattle.txc_app.specs.Answering.{IsRight, AreRight, queries_of, queries_for}
+use Rattle.txc_app.specs.Claims.{HoldsOver}
 use Rattle.txc_registry.specs.Activity.{idle, running}
 use Rattle.txc_registry.specs.Objects.{Objects, activation_of, activity_of, with_activity, AllIdle}
 use Rattle.txc_call.specs.declared.frame.Frame.{Frame}

@@ -3,8 +3,8 @@ use Rattle.std.specs.Prelude.{◌≡◌, ℕ, List, [], ◌∷◌, Some, IsSome,
 use Rattle.txc_tags.specs.Keys.{Call}
 use Rattle.txc_db.specs.History.{History}
 use Rattle.txc_node.specs.declared.entry.Entry.{Entry}
-use Rattle.txc_shared.specs.Eval.{Next}
-use Rattle.txc_shared.specs.Claims.{IsTrueIn, ValueHolds}
+use Rattle.txc_app.specs.Eval.{Next}
+use Rattle.txc_app.specs.Claims.{IsTrueIn, ValueHolds}
 use Rattle.txc_registry.specs.Objects.{Objects, activity_of, AllIdle}
 use Rattle.txc_call.specs.declared.need.Need.{Need}
 use Rattle.txc_call.specs.declared.need.Need.TheVariants as needs

@@ -1,8 +1,8 @@
 ghost use Rattle.std.specs.Prelude.{◌≡◌, ◌≢◌, ◌+◌, ◌<◌, ◌≤◌, List, [], ◌∷◌};
 ghost use Rattle.std.specs.Prelude.{IfErr, IfOk, IsSome, OnErr, OnOk, Some};
 ghost use Rattle.std.specs.Result.{result_err};
-ghost use Rattle.txc_shared.specs.declared.app.TheConstants.{MAX_ASKS};
-ghost use Rattle.txc_shared.specs.declared.ask.Ask.{Ask};
+ghost use Rattle.txc_app.specs.declared.app.TheConstants.{MAX_ASKS};
+ghost use Rattle.txc_app.specs.declared.ask.Ask.{Ask};
 ghost use Rattle.txc_registry.specs.Activity.{idle, WantsAnswer};
 ghost use Rattle.txc_registry.specs.Objects.{activity_of, numbers_of, with_activity, AllIdle};
 ghost use Rattle.txc_call.specs.declared.frame.Frame.{Frame};
@@ -16,8 +16,8 @@ use crate::error::CallError;
 use crate::frame::Frame;
 use crate::stack::Stack;
 use std::alloc::Global;
+use txc_app::{Answer, App, Ask, MAX_ASKS};
 use txc_registry::{Cacheable, CallFault, Registry};
-use txc_shared::{Answer, App, Ask, MAX_ASKS};
 use txc_stamp::Reach;
 use txc_tags::{Key, TagSet};
 

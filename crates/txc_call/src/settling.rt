@@ -10,9 +10,9 @@ use crate::error::CallError;
 use crate::frame::Frame;
 use crate::frames::Frames;
 use crate::need::{Need, Outcome};
+use txc_app::{Answer, App, Ask};
 use txc_node::{Entry, Value};
 use txc_registry::{Cacheable, Registry};
-use txc_shared::{Answer, App, Ask};
 use txc_tags::Key;
 
 // Whether the innermost frame may make the call.

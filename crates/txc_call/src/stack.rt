@@ -1,5 +1,5 @@
 ghost use Rattle.std.specs.Prelude.{◌≡◌, ◌↔◌, ◌<◌, List, [], ◌∷◌, IsTrue, MatchOption, OnOk, OnErr};
-ghost use Rattle.txc_shared.specs.declared.app.TheConstants.{MAX_ASKS};
+ghost use Rattle.txc_app.specs.declared.app.TheConstants.{MAX_ASKS};
 ghost use Rattle.txc_call.specs.declared.frame.Frame.{Frame};
 ghost use Rattle.txc_call.specs.Reaches.{meet, Meets};
 ghost use Rattle.txc_call.specs.Frames.{given};

@@ -8,9 +8,9 @@ use Rattle.txc_validity.specs.declared.answer.Found.{Found}
 use Rattle.txc_node.specs.declared.hit.Shown.{Shown}
 use Rattle.txc_cushion.specs.declared.pin.Pin.{Pin}
 use Rattle.txc_pinset.specs.Members.{PinSetValue, kept, narrowed}
-use Rattle.txc_shared.specs.declared.ask.Ask.{Ask}
-use Rattle.txc_shared.specs.declared.ask.Ask.TheVariants as asks
-use Rattle.txc_shared.specs.Eval.{Next}
+use Rattle.txc_app.specs.declared.ask.Ask.{Ask}
+use Rattle.txc_app.specs.declared.ask.Ask.TheVariants as asks
+use Rattle.txc_app.specs.Eval.{Next}
 use Rattle.txc_registry.specs.Objects.{Objects}
 use Rattle.txc_call.specs.declared.error.CallError.{CallError}
 use Rattle.txc_call.specs.declared.frame.Frame.{Frame}
@@ -22,7 +22,7 @@ use Rattle.txc_call.specs.declared.reply.Reply.{Reply}
 use Rattle.txc_call.specs.declared.reply.Reply.TheVariants as replies
 use Rattle.txc_call.specs.Turns.{Standing, Onward, UnlessRefused, count_refusal, ask_refusal, AllowedLeads, DoneLeads, AskLeads, AfterValue, AfterAsk, AfterMiss, AfterRows, AfterReply, next_ask, outcome_of, unreached, with_answer, with_begun}
 use Rattle.txc_call.specs.Frames.{begun_frame, given}
-use Rattle.txc_shared.specs.declared.ask.Answer.TheVariants as answers
+use Rattle.txc_app.specs.declared.ask.Answer.TheVariants as answers
 use Rattle.txc_cushion.specs.Pinning.{pin_of}
 use Rattle.txc_call.specs.Turns.{Turn as CallTurn}
 use Rattle.txc_txn.specs.Core.{CoreValue, IsAnswered, IsAsking, IsAt, IsNarrowed, IsTurn, PinningFits, PinsAfter, WaitsForPin}

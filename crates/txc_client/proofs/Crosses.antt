@@ -11,7 +11,7 @@ use Rattle.txc_db.specs.contracts.database.Database as Database
 use Rattle.txc_db.specs.declared.naming.Naming as naming
 use Rattle.txc_cushion.specs.contracts.pincushion.Pincushion as Pincushion
 use Rattle.txc_cushion.proofs.pincushion.Pincushion.TheSendSync as cushion
-use Rattle.txc_shared.specs.declared.app.App as app
+use Rattle.txc_app.specs.declared.app.App as app
 use Rattle.txc_shared.specs.contracts.node_pass.NodePass as NodePass
 use Rattle.txc_shared.specs.contracts.shared_node.SharedNode as SharedNode
 use Rattle.txc_shared.proofs.Crosses.{node_sync}

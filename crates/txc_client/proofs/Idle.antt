@@ -1,6 +1,6 @@
 -- Between two calls all objects are idle, so that they are the same after a call.
 use Rattle.std.proofs.Common.{◌≡◌, Option, subst}
-use Rattle.txc_shared.specs.Eval.{Next}
+use Rattle.txc_app.specs.Eval.{Next}
 use Rattle.txc_registry.specs.Objects.{Objects, numbers_of, AllIdle}
 use Rattle.txc_registry.proofs.Offered.{idle_same}
 use Rattle.txc_call.specs.declared.need.Need.{Need}

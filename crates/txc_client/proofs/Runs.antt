@@ -1,7 +1,7 @@
 -- A run of a call, exchange by exchange.
 use Rattle.std.proofs.Common.{ℕ, List, [], ◌∷◌, ◌++◌, refl, subst}
 use Rattle.txc_tags.specs.Keys.{Call}
-use Rattle.txc_shared.specs.Eval.{Next}
+use Rattle.txc_app.specs.Eval.{Next}
 use Rattle.txc_ports.specs.declared.turn.Turn.{Turn}
 use Rattle.txc_client.specs.Run.{Exchange, HasBegun, HasRun, IsLed, IsStep}
 use Rattle.txc_client.specs.Txn.{RoTxnValue}

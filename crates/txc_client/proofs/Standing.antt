@@ -15,9 +15,9 @@ use Rattle.txc_node.specs.declared.record.Record.{Record}
 use Rattle.txc_node.specs.declared.entry.Entry.{Entry}
 use Rattle.txc_node.specs.declared.reply.Reply.{Reply}
 use Rattle.txc_node.specs.declared.reply.Reply.TheVariants as replies
+use Rattle.txc_app.specs.Eval.{Next}
 use Rattle.txc_shared.specs.declared.error.NodeError.{NodeError}
 use Rattle.txc_shared.specs.declared.error.NodeError.TheVariants.{Broken, EmptyRange, HistoryFull, PassesFull, Memory}
-use Rattle.txc_shared.specs.Eval.{Next}
 use Rattle.txc_shared.specs.Histories.{records_of, next_record}
 use Rattle.txc_shared.specs.Passes.{PassValue, Follows, GrowsByOthers, HasGrown, HasMade, IsPassLeft}
 use Rattle.txc_ports.specs.declared.request.PortRequest.{PortRequest}

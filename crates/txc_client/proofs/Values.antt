@@ -4,7 +4,7 @@ use Rattle.std.proofs.lemmas.List.{get_or_push}
 use Rattle.txc_tags.specs.Keys.{Call}
 use Rattle.txc_db.specs.History.{History, moment_at, state_at, IsAllowed}
 use Rattle.txc_cushion.specs.declared.pin.Pin.{Pin}
-use Rattle.txc_shared.specs.Eval.{Next, eval}
+use Rattle.txc_app.specs.Eval.{Next, eval}
 use Rattle.txc_ports.specs.Answers.{IsFresh, AreConsistent}
 use Rattle.txc_ports.specs.declared.bounds.Bounds.{Bounds}
 use Rattle.txc_ports.specs.declared.recorded.Recorded.{Recorded}

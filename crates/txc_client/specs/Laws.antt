@@ -5,7 +5,7 @@ use Rattle.txc_tags.specs.Keys.{Call}
 use Rattle.txc_node.specs.declared.op.Op.{Op}
 use Rattle.txc_node.specs.declared.op.Op.TheVariants as ops
 use Rattle.txc_node.specs.declared.record.Record.{Record}
-use Rattle.txc_shared.specs.Eval.{Next}
+use Rattle.txc_app.specs.Eval.{Next}
 use Rattle.txc_shared.specs.Passes.{PassValue}
 use Rattle.txc_ports.specs.declared.request.PortRequest.{PortRequest}
 use Rattle.txc_ports.specs.declared.request.PortRequest.TheVariants as requests

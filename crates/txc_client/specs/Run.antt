@@ -6,7 +6,7 @@ use Rattle.txc_db.specs.Calls.{IsPinRefused, IsQueryRefused}
 use Rattle.txc_db.specs.Shared.{MayRefuse}
 use Rattle.txc_cushion.specs.Refusals.{IsAddRefused}
 use Rattle.txc_cushion.specs.Shared.{MayAnswer}
-use Rattle.txc_shared.specs.Eval.{Next}
+use Rattle.txc_app.specs.Eval.{Next}
 use Rattle.txc_registry.specs.Objects.{numbers_of}
 use Rattle.txc_ports.specs.declared.error.TxnError.{TxnError}
 use Rattle.txc_ports.specs.declared.request.PortRequest.{PortRequest}

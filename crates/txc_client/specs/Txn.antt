@@ -2,7 +2,7 @@
 use Rattle.std.specs.Prelude.{◌≡◌, ℕ, List, Some, All, length}
 use Rattle.txc_tags.specs.Keys.{Call}
 use Rattle.txc_db.specs.History.{state_at}
-use Rattle.txc_shared.specs.Eval.{Next, eval}
+use Rattle.txc_app.specs.Eval.{Next, eval}
 use Rattle.txc_shared.specs.Passes.{PassValue}
 use Rattle.txc_registry.specs.Objects.{Objects}
 use Rattle.txc_txn.specs.Core.{CoreValue, IsIdle}

@@ -10,10 +10,10 @@ ghost use Rattle.txc_client.specs.Run.{HasRun};
 use crate::ports::Ports;
 use std::alloc::Global;
 use std::sync::Wait;
+use txc_app::App;
 use txc_db::Naming;
 use txc_ports::{Turn, TxnError};
 use txc_registry::Cacheable;
-use txc_shared::App;
 use txc_tags::Key;
 use txc_txn::RunningTxn;
 

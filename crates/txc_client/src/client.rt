@@ -3,8 +3,8 @@ ghost use Rattle.std.specs.Prelude.{◌≡◌, ◌≤◌, ◌<◌, ◌⊎◌, []
 ghost use Rattle.txc_cushion.specs.Cushion.{front_of, handed_out};
 ghost use Rattle.txc_cushion.specs.Shared.{MayAnswer};
 ghost use Rattle.txc_registry.specs.Objects.{AllIdle};
+ghost use Rattle.txc_app.specs.Eval.{Next};
 ghost use Rattle.txc_shared.specs.Refusals.{IsNewPassRefused, MayRefuse};
-ghost use Rattle.txc_shared.specs.Eval.{Next};
 ghost use Rattle.txc_registry.specs.Objects.{Objects};
 ghost use Rattle.txc_txn.specs.Core.{value_of, CoreHolds, IsCore, IsIdle};
 ghost use Rattle.txc_txn.specs.Kept.{IsKept};
@@ -15,11 +15,12 @@ use crate::ro_txn::RoTxn;
 use std::alloc::{AllocError, Global};
 use std::marker::Model;
 use std::sync::Wait;
+use txc_app::App;
 use txc_cushion::{Pincushion, Pins};
 use txc_db::{Database, Naming};
 use txc_ports::Bounds;
 use txc_registry::{Cacheable, Registry};
-use txc_shared::{App, NodeError, NodePass, SharedNode};
+use txc_shared::{NodeError, NodePass, SharedNode};
 use txc_txn::{RunningTxn, TxnCore};
 
 /// A client of a database, its pincushion and its nodes, with the functions that it calls, all idle.

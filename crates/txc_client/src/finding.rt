@@ -6,9 +6,9 @@ ghost use Rattle.txc_ports.specs.Asking.{IsFoundOver};
 
 use std::alloc::Global;
 use std::sync::Wait;
+use txc_app::laws::found_rows_give_true_entries;
 use txc_db::{Answered, Database, DbError, Naming};
 use txc_rows::Query;
-use txc_shared::laws::found_rows_give_true_entries;
 use txc_stamp::Stamp;
 use txc_validity::Found;
 

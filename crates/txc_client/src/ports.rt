@@ -6,11 +6,12 @@ use crate::finding::find;
 use std::alloc::Global;
 use std::marker::Model;
 use std::sync::Wait;
+use txc_app::App;
 use txc_cushion::Pincushion;
 use txc_db::{Answered, Database, HistoryFront, Naming};
 use txc_node::{Entry, Shown};
 use txc_ports::{PortReply, PortRequest};
-use txc_shared::{App, Finding, NodeError, NodePass, SharedNode};
+use txc_shared::{Finding, NodeError, NodePass, SharedNode};
 use txc_stamp::Stamp;
 use txc_tags::Key;
 
@@ -38,8 +39,7 @@ impl<'a, A: App, J: Naming> Model for Ports<'a, A, J> {
 }
 
 impl<'a, A: App, J: Naming> Ports<'a, A, J> {
-    ghost use Rattle.txc_shared.specs.Claims.{IsTrueIn};
-    ghost use Rattle.txc_shared.specs.Nodes.{entry_shown};
+    ghost use Rattle.txc_app.specs.Claims.{IsTrueIn, entry_shown};
     ghost use Rattle.txc_client.specs.Ports.{HaveGrown, InsertLeaves, IsCallAt, LookupLeaves, PassesAfter};
     ghost use Rattle.txc_client.specs.Run.{IsRefusedSo};
     ghost use Rattle.txc_ports.specs.Asking.{IsOfRow, IsReplyTo, MayAsk};
@@ -176,7 +176,7 @@ impl<'a, A: App, J: Naming> Ports<'a, A, J> {
     }
 }
 
-ghost use Rattle.txc_shared.specs.Claims.{IsTrueIn};
+ghost use Rattle.txc_app.specs.Claims.{IsTrueIn};
 ghost use Rattle.txc_shared.specs.Passes.{shown_of_entry};
 
 // A pass through each of the nodes, in order.

@@ -15,12 +15,12 @@ use crate::ports::Ports;
 use std::alloc::Global;
 use std::marker::Model;
 use std::sync::Wait;
+use txc_app::App;
 use txc_cushion::Pin;
 use txc_db::{HistoryFront, Naming};
 use txc_node::Value;
 use txc_ports::{Recorded, Turn, TxnError};
 use txc_registry::Cacheable;
-use txc_shared::App;
 use txc_tags::Key;
 use txc_txn::{Receipt, RunningTxn};
 

@@ -1,2 +1,2 @@
 pub mod Bodies
-pub mod WorkedNodes
+pub mod WorkedEntries

@@ -2,4 +2,4 @@ pub mod AnyFunction
 pub mod Program
 pub mod Running
 pub mod Worked
-pub mod WorkedNodes
+pub mod WorkedEntries

@@ -4,11 +4,11 @@ use Rattle.std.specs.Fmt.{decimal}
 use Rattle.txc_tags.specs.Keys.{Call as CallValue}
 use Rattle.txc_rows.specs.Values.{RowValue}
 use Rattle.txc_rows.specs.declared.query.Query.TheVariants.{ById, ByGroup, All}
-use Rattle.txc_shared.specs.declared.ask.Ask.{Ask}
-use Rattle.txc_shared.specs.declared.ask.Ask.TheVariants.{Query, Call, Done}
-use Rattle.txc_shared.specs.declared.ask.Answer.{Answer}
-use Rattle.txc_shared.specs.declared.ask.Answer.TheVariants.{Rows, Value}
-use Rattle.txc_shared.specs.Eval.{Next}
+use Rattle.txc_app.specs.declared.ask.Ask.{Ask}
+use Rattle.txc_app.specs.declared.ask.Ask.TheVariants.{Query, Call, Done}
+use Rattle.txc_app.specs.declared.ask.Answer.{Answer}
+use Rattle.txc_app.specs.declared.ask.Answer.TheVariants.{Rows, Value}
+use Rattle.txc_app.specs.Eval.{Next}
 
 -- the table that they ask
 abbrev pub TABLE : ℕ

@@ -7,7 +7,7 @@ use Rattle.txc_rows.specs.States.{State}
 use Rattle.txc_rows.specs.declared.query.Query.TheVariants.{ById, ByGroup}
 use Rattle.txc_db.specs.History.{state_at}
 use Rattle.txc_db.specs.Worked.{worked}
-use Rattle.txc_shared.specs.Eval.{eval, met}
+use Rattle.txc_app.specs.Eval.{eval, met}
 use Rattle.txc_functions.specs.Program.{program, call_of, bodies_of}
 
 -- the value of a call at a stamp

@@ -5,7 +5,7 @@ use crate::definition::Definition;
 use crate::endless::{Again, Itself};
 use crate::row_count::RowCount;
 use std::alloc::{AllocError, Global};
-use txc_shared::{Answer, Ask};
+use txc_app::{Answer, Ask};
 
 /// One of the program's functions.
 #[derive(Drop)]

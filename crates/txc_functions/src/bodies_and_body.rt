@@ -4,8 +4,8 @@ ghost use Rattle.txc_functions.specs.Program.{body_of, bytes_in, rows_in};
 use crate::body_at::{append_body, table};
 use crate::definition::Definition;
 use std::alloc::{AllocError, Global};
+use txc_app::{Answer, Ask, Bytes};
 use txc_rows::Query;
-use txc_shared::{Answer, Ask, Bytes};
 use txc_tags::Key;
 
 /// Function 2: the value of function 1 at a group, a semicolon, and the body at an id.

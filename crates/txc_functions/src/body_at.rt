@@ -3,8 +3,8 @@ ghost use Rattle.txc_functions.specs.Program.{body_of, rows_in, TABLE};
 
 use crate::definition::Definition;
 use std::alloc::{AllocError, Global};
+use txc_app::{Answer, Ask, Bytes};
 use txc_rows::Query;
-use txc_shared::{Answer, Ask, Bytes};
 use txc_tags::Table;
 
 /// The table that the program's functions ask.

@@ -2,7 +2,7 @@ ghost use Rattle.std.specs.Prelude.{◌≡◌, ◌≢◌, ◌↔◌, ℕ, false,
 ghost use Rattle.txc_registry.specs.Activity.{Says, WantsAnswer};
 
 use std::alloc::{AllocError, Global};
-use txc_shared::{Answer, Ask};
+use txc_app::{Answer, Ask};
 
 /// What a function asks and gives, by its arguments and the answers so far.
 pub trait Definition: Drop {

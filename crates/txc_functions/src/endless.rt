@@ -2,8 +2,8 @@
 use crate::body_at::table;
 use crate::definition::Definition;
 use std::alloc::{AllocError, Global};
+use txc_app::{Answer, Ask};
 use txc_rows::Query;
-use txc_shared::{Answer, Ask};
 use txc_tags::Key;
 
 /// Function 4: calls itself.

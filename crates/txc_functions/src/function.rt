@@ -3,9 +3,9 @@ ghost use Rattle.std.specs.Prelude.{◌≡◌};
 use crate::definition::Definition;
 use crate::held::Held;
 use std::alloc::Global;
+use txc_app::{Answer, Ask};
 use txc_permits::PermitPool;
 use txc_registry::{Cacheable, CallFault};
-use txc_shared::{Answer, Ask};
 
 /// The object of a function. A permit of its pool is out while it runs an activation, and only then.
 #[derive(Drop)]

@@ -3,8 +3,8 @@ ghost use Rattle.txc_registry.specs.Activity.{WantsAnswer};
 
 use crate::definition::Definition;
 use std::alloc::{AllocError, Global};
+use txc_app::{Answer, Ask};
 use txc_permits::Permit;
-use txc_shared::{Answer, Ask};
 
 /// What a running object holds: its permit, its arguments and the answers so far.
 #[derive(Drop)]

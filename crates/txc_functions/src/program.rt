@@ -1,4 +1,4 @@
-use txc_shared::App;
+use txc_app::App;
 
 /// The program's application: functions 0 to 5 over table 1.
 pub struct Program;

@@ -5,8 +5,8 @@ ghost use Rattle.txc_functions.specs.Program.{rows_in};
 use crate::body_at::table;
 use crate::definition::Definition;
 use std::alloc::{AllocError, Global};
+use txc_app::{Answer, Ask, Bytes};
 use txc_rows::Query;
-use txc_shared::{Answer, Ask, Bytes};
 
 /// Function 3: the number of rows, in decimal.
 #[derive(Drop)]

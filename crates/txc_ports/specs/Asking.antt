@@ -5,9 +5,8 @@ use Rattle.txc_stamp.specs.Interval.{Holds}
 use Rattle.txc_rows.specs.declared.query.Query.{Query}
 use Rattle.txc_validity.specs.declared.answer.Found.{Found}
 use Rattle.txc_db.specs.History.{History, moment_at}
-use Rattle.txc_shared.specs.Eval.{Next}
-use Rattle.txc_shared.specs.Claims.{IsTrueIn, RowsHold}
-use Rattle.txc_shared.specs.Nodes.{entry_shown}
+use Rattle.txc_app.specs.Eval.{Next}
+use Rattle.txc_app.specs.Claims.{IsTrueIn, RowsHold, entry_shown}
 use Rattle.txc_ports.specs.declared.request.PortRequest.{PortRequest}
 use Rattle.txc_ports.specs.declared.request.PortRequest.TheVariants as requests
 use Rattle.txc_ports.specs.declared.reply.PortReply.{PortReply}

@@ -1,7 +1,7 @@
 -- What an object asks, where its activity and its meaning are known.
 use Rattle.std.proofs.Common.{◌≡◌, Some, refl, ap, ◌∙◌, subst}
-use Rattle.txc_shared.specs.declared.ask.Ask.{Ask}
-use Rattle.txc_shared.specs.declared.ask.Answer.{Answer}
+use Rattle.txc_app.specs.declared.ask.Ask.{Ask}
+use Rattle.txc_app.specs.declared.ask.Answer.{Answer}
 use Rattle.txc_registry.specs.Activity.{Activation, Activity, Says, activation_in, answered, next_of, running, IsAsking, WantsAnswer}
 
 module _ (says means : Says) (activity : Activity) (a : Activation) (here : activity ≡ running a) where

@@ -3,7 +3,7 @@ use Rattle.std.proofs.Common.{◌≡◌, ◌≢◌, ℕ, suc, Bool, true, false,
 use Rattle.std.specs.Prelude.{unwrap_or}
 use Rattle.std.proofs.lemmas.Map.Steps.{set_value_same}
 use Rattle.std.proofs.lemmas.Bool.{eqb-true}
-use Rattle.txc_shared.specs.Eval.{Next}
+use Rattle.txc_app.specs.Eval.{Next}
 use Rattle.txc_registry.specs.Activity.{Activation, Activity, activation_in, idle, next_of, running, WantsAnswer}
 use Rattle.txc_registry.specs.Objects.{Objects, activity_of, numbers_of, with_activity, AllIdle, IsAskingAt}
 

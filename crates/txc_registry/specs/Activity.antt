@@ -1,8 +1,8 @@
 -- What an object does, and what it asks.
 use Rattle.std.specs.Prelude.{◌≡◌, ℕ, List, [], ◌∷◌, ◌++◌, Option, Some, None, unwrap_or}
-use Rattle.txc_shared.specs.declared.ask.Ask.{Ask}
-use Rattle.txc_shared.specs.declared.ask.Ask.TheVariants.{Query, Call, Done}
-use Rattle.txc_shared.specs.declared.ask.Answer.{Answer}
+use Rattle.txc_app.specs.declared.ask.Ask.{Ask}
+use Rattle.txc_app.specs.declared.ask.Ask.TheVariants.{Query, Call, Done}
+use Rattle.txc_app.specs.declared.ask.Answer.{Answer}
 
 -- what a function asks next, or gives, by its arguments and the answers so far; none where it refuses the
 -- arguments

@@ -1,7 +1,7 @@
 -- What a registry holds: its objects in order, each by its number and what it does.
 use Rattle.std.specs.Prelude.{◌≡◌, ℕ, List, Option, Some, eqb, All, map, ◌<◌, length, slice_index, unwrap_or}
 use Rattle.std.specs.Map.{lookup, set_value}
-use Rattle.txc_shared.specs.Eval.{Next}
+use Rattle.txc_app.specs.Eval.{Next}
 use Rattle.txc_registry.specs.Activity.{Activation, Activity, activation_in, idle, next_of, running, WantsAnswer}
 
 -- the objects, each by its number and what it does

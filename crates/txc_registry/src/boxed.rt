@@ -1,6 +1,6 @@
 //! A box is the function that it holds.
 use crate::cacheable::{Cacheable, CallFault};
-use txc_shared::{Answer, Ask};
+use txc_app::{Answer, Ask};
 
 impl Cacheable for Box<dyn Cacheable + Send> {
     ghost number = { λ b. (Cacheable-box b).number b.value };

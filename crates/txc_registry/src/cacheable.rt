@@ -2,7 +2,7 @@ ghost use Rattle.std.specs.Prelude.{◌≡◌, ◌↔◌, ℕ, None, Some, IfErr
 ghost use Rattle.txc_registry.specs.Activity.{Activity, Says, answered, activation_in, begun, idle, next_of, running, IsAsking};
 
 use thiserror::Error;
-use txc_shared::{Answer, Ask};
+use txc_app::{Answer, Ask};
 
 /// Why an activation did not begin or go on.
 #[derive(Clone, Copy, Debug, PartialEq, Eq, Error)]

@@ -7,7 +7,7 @@ use crate::cacheable::{Cacheable, CallFault};
 use std::alloc::AllocError;
 use std::marker::{Model, PhantomData};
 use thiserror::Error;
-use txc_shared::{Answer, App, Ask};
+use txc_app::{Answer, App, Ask};
 
 /// Two objects are of the function of this number.
 #[derive(Clone, Copy, Debug, PartialEq, Eq, Error)]

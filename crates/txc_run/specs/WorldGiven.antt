@@ -1,7 +1,7 @@
 -- What the lines of a world's script give.
 use Rattle.std.specs.Prelude.{◌≡◌, ℕ, Bool, true, false, List, [], ◌∷◌, ◌++◌}
 use Rattle.std.specs.List.{flat_map}
-use Rattle.txc_shared.specs.Eval.{Next}
+use Rattle.txc_app.specs.Eval.{Next}
 use Rattle.txc_world.specs.Told.{Told}
 use Rattle.txc_run.specs.Kinds.{ScriptKind}
 use Rattle.txc_run.specs.Lines.{IsQuiet}

@@ -3,7 +3,7 @@ use Rattle.std.specs.Prelude.{◌≡◌, ◌⊎◌, ◌||◌, ℕ, Bool, true, f
 use Rattle.std.specs.List.{list_any}
 use Rattle.std.specs.Io.KnownBytes.{Appends}
 use Rattle.std.specs.declared.alloc.AllocError.{AllocError}
-use Rattle.txc_shared.specs.Eval.{Next}
+use Rattle.txc_app.specs.Eval.{Next}
 use Rattle.txc_world.specs.declared.step.Act.{Act}
 use Rattle.txc_world.specs.declared.step.Step.{Step}
 use Rattle.txc_world.specs.declared.reply.Reply.{Reply}

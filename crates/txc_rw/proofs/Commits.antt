@@ -10,7 +10,7 @@ use Rattle.txc_db.specs.History.{History, state_at}
 use Rattle.txc_db.specs.Refusals.{NoneMatches}
 use Rattle.txc_db.specs.Laws.{EventTagsAreSound, StatesStay}
 use Rattle.txc_db.specs.Shared.{IsQuietIn, IsEventIn}
-use Rattle.txc_shared.specs.Eval.{Next}
+use Rattle.txc_app.specs.Eval.{Next}
 use Rattle.txc_registry.specs.Objects.{Objects}
 use Rattle.txc_rw.specs.Answers.{AgreeOn, state_of}
 use Rattle.txc_rw.specs.Core.{RwValue, RwHolds, tags_of, tags_read}

@@ -16,9 +16,9 @@ use Rattle.txc_rows.specs.declared.query.Change.{Change}
 use Rattle.txc_rows.specs.States.{RowValue, State, answer}
 use Rattle.txc_db.specs.History.{History, state_at}
 use Rattle.txc_db.specs.Laws.{StatesStay}
-use Rattle.txc_shared.specs.declared.ask.Ask.TheVariants as asks
-use Rattle.txc_shared.specs.Eval.{Next, eval}
-use Rattle.txc_shared.specs.Claims.{RowsHold, ValueHolds}
+use Rattle.txc_app.specs.declared.ask.Ask.TheVariants as asks
+use Rattle.txc_app.specs.Eval.{Next, eval}
+use Rattle.txc_app.specs.Claims.{RowsHold, ValueHolds}
 use Rattle.txc_registry.specs.Objects.{Objects, AllIdle}
 use Rattle.txc_call.specs.declared.frame.Frame.{Frame}
 use Rattle.txc_call.specs.declared.need.Need.{Need}

@@ -5,7 +5,7 @@ use Rattle.txc_rows.specs.declared.query.Change.{Change}
 use Rattle.txc_rows.specs.States.{State, after_changes, answer}
 use Rattle.txc_db.specs.Facts.{commit}
 use Rattle.txc_db.specs.History.{History}
-use Rattle.txc_shared.specs.Eval.{Next, eval}
+use Rattle.txc_app.specs.Eval.{Next, eval}
 use Rattle.txc_rw.specs.declared.given.Given.{Given}
 use Rattle.txc_rw.specs.declared.given.Given.TheVariants.{Value, Rows}
 

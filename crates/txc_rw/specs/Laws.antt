@@ -5,7 +5,7 @@ use Rattle.txc_rows.specs.declared.query.Query.{Query}
 use Rattle.txc_rows.specs.RowTags.{covers_query}
 use Rattle.txc_db.specs.History.{History, state_at}
 use Rattle.txc_db.specs.Shared.{IsQuietIn, IsEventIn}
-use Rattle.txc_shared.specs.Eval.{Next}
+use Rattle.txc_app.specs.Eval.{Next}
 use Rattle.txc_registry.specs.Objects.{Objects}
 use Rattle.txc_rw.specs.Answers.{AreRightIn}
 use Rattle.txc_rw.specs.Core.{RwValue, RwHolds, IsBegun, tags_of, tags_read}

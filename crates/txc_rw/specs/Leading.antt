@@ -8,7 +8,7 @@ use Rattle.txc_db.specs.declared.error.DbError.{DbError}
 use Rattle.txc_db.specs.Calls.{IsQueryRefused}
 use Rattle.txc_db.specs.History.{state_at}
 use Rattle.txc_db.specs.Shared.{MayRefuse}
-use Rattle.txc_shared.specs.Eval.{Next}
+use Rattle.txc_app.specs.Eval.{Next}
 use Rattle.txc_registry.specs.Objects.{Objects}
 use Rattle.txc_call.specs.declared.need.Need.{Need}
 use Rattle.txc_call.specs.declared.need.Need.TheVariants as needs

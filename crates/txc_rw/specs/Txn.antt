@@ -1,7 +1,7 @@
 -- A read-write transaction between two calls.
 use Rattle.std.specs.Prelude.{◌≡◌, [], None}
 use Rattle.txc_db.specs.History.{History}
-use Rattle.txc_shared.specs.Eval.{Next}
+use Rattle.txc_app.specs.Eval.{Next}
 use Rattle.txc_registry.specs.Objects.{Objects}
 use Rattle.txc_rw.specs.Core.{RwValue, RwHolds}
 

@@ -2,7 +2,7 @@
 ghost use Rattle.std.specs.Prelude.{◌≡◌, ◌≤◌, [], None, OnErr, OnOk, Some, IsNone, IsSome};
 ghost use Rattle.txc_rows.specs.States.{State};
 ghost use Rattle.txc_db.specs.History.{History};
-ghost use Rattle.txc_shared.specs.Eval.{Next};
+ghost use Rattle.txc_app.specs.Eval.{Next};
 ghost use Rattle.txc_registry.specs.Objects.{activity_of, numbers_of, Objects};
 ghost use Rattle.txc_call.specs.declared.error.CallError.TheVariants.{NoFunction};
 ghost use Rattle.txc_call.specs.declared.need.Need.{Need};
@@ -14,11 +14,11 @@ use crate::reading::Reading;
 use crate::rw_core::RwCore;
 use crate::uncached::go_on_uncached;
 use std::alloc::{AllocError, Global};
+use txc_app::App;
 use txc_call::{Need, Outcome};
 use txc_ports::{PortRequest, Turn, TxnError};
 use txc_registry::{Cacheable, Registry};
 use txc_rows::Query;
-use txc_shared::App;
 use txc_tags::Key;
 
 impl RwCore {

@@ -12,12 +12,12 @@ use crate::given::Given;
 use crate::rw_core::RwCore;
 use std::alloc::Global;
 use std::sync::Wait;
+use txc_app::App;
 use txc_db::{Database, HistoryFront, Naming};
 use txc_node::Value;
 use txc_ports::{PortRequest, Turn, TxnError};
 use txc_registry::{Cacheable, Registry};
 use txc_rows::{Query, Row};
-use txc_shared::App;
 use txc_stamp::Stamp;
 use txc_tags::Key;
 

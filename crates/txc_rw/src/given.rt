@@ -1,6 +1,6 @@
+use txc_app::Rows;
 use txc_node::Value;
 use txc_rows::Query;
-use txc_shared::Rows;
 use txc_tags::Key;
 
 /// What a read-write transaction was answered.

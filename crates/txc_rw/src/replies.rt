@@ -16,12 +16,12 @@ use crate::reading::Reading;
 use crate::rw_core::RwCore;
 use std::alloc::{AllocError, Global};
 use std::mem;
+use txc_app::{App, Rows};
 use txc_call::{CallMachine, Reply};
 use txc_db::DbError;
 use txc_ports::{Turn, TxnError};
 use txc_registry::{Cacheable, Registry};
 use txc_rows::{Query, Row};
-use txc_shared::{App, Rows};
 use txc_stamp::Reach;
 use txc_validity::Found;
 

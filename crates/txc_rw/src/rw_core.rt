@@ -5,11 +5,11 @@ use crate::given::Given;
 use crate::reading::Reading;
 use std::alloc::Global;
 use std::marker::Model;
+use txc_app::App;
 use txc_call::CallMachine;
 use txc_ports::{PortRequest, TxnError};
 use txc_registry::{Cacheable, Registry};
 use txc_rows::{Change, Query};
-use txc_shared::App;
 use txc_stamp::Stamp;
 use txc_tags::TagSet;
 

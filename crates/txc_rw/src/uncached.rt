@@ -10,9 +10,9 @@ ghost use Rattle.txc_rw.specs.Core.{needs_no_node, HasCounted};
 ghost use Rattle.txc_rw.specs.Leading.{standing_of, IsLedTo};
 
 use std::alloc::Global;
+use txc_app::App;
 use txc_call::{CallError, CallMachine, Need, Reply};
 use txc_registry::{Cacheable, Registry};
-use txc_shared::App;
 
 // The reply of a cache that has nothing and keeps nothing: none where the call needs no node.
 fn reply_of_no_cache(machine: &CallMachine) -> Option<Reply>

@@ -11,7 +11,7 @@ use Rattle.txc_db.specs.declared.naming.Naming as naming
 use Rattle.txc_db.proofs.Crosses.{feed_send}
 use Rattle.txc_node.specs.contracts.record.Record as Record
 use Rattle.txc_node.proofs.record.Record.TheSendSync as record_crosses
-use Rattle.txc_shared.specs.declared.app.App as app
+use Rattle.txc_app.specs.declared.app.App as app
 use Rattle.txc_shared.specs.contracts.held.Held as Held
 use Rattle.txc_shared.specs.contracts.held.Held.TheInside as held_inside
 use Rattle.txc_shared.specs.contracts.shared_node.SharedNode as SharedNode

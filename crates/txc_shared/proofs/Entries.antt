@@ -5,15 +5,14 @@ use Rattle.txc_stamp.specs.Interval.{Interval, closed_at}
 use Rattle.txc_tags.specs.declared.tag.Tag.{Tag}
 use Rattle.txc_tags.specs.Tags.{sets_match}
 use Rattle.txc_db.specs.History.{History, state_at, tags_at}
-use Rattle.txc_db.specs.Laws.{EventTagsAreSound}
 use Rattle.txc_node.specs.declared.entry.Entry.{Entry}
 use Rattle.txc_node.specs.Cache.{is_invalidated, entry_after, last_of, reach_after_replay, replayed_entry}
 use Rattle.txc_node.specs.Laws.{after_events, ReplaysAsIfItHadBeenThere, TrustsNoLostEvent}
-use Rattle.txc_shared.specs.Eval.{Next, Evaluation, evaluation}
-use Rattle.txc_shared.specs.Claims.{covers_all, IsTrueIn, shown_entry, IsShownTrue}
-use Rattle.txc_shared.specs.Runs.{AreTagsAfter}
+use Rattle.txc_app.specs.Eval.{Next, Evaluation, evaluation}
+use Rattle.txc_app.specs.Claims.{covers_all, IsTrueIn}
+use Rattle.txc_app.specs.Laws.{EventLeaves}
+use Rattle.txc_shared.specs.Runs.{shown_entry, IsShownTrue, AreTagsAfter}
 use Rattle.txc_shared.specs.Laws.{TrueAfterEvent, TrueAfterReplay}
-use Rattle.txc_shared.proofs.Claims.{event_leaves}
 
 -- ---- reaches
 
@@ -36,12 +35,12 @@ upto : (t n : ℕ) → t ≤ suc n → (t ≤ n) ⊎ (t ≡ suc n)
 upto t n h = grind arith
 
 -- a still valid entry that the next event does not match is true up to that event
-true_with_event : EventTagsAreSound → (next : Next) (L : History) (e : Entry) (k : ℕ) → IsTrueIn next L (ending e k true) → e.reach.lo ≤ k
+true_with_event : EventLeaves → (next : Next) (L : History) (e : Entry) (k : ℕ) → IsTrueIn next L (ending e k true) → e.reach.lo ≤ k
     → suc k ≤ length L → sets_match (tags_at L (suc k)) e.tags ≡ false
     → IsTrueIn next L (ending e (suc k) true)
 true_with_event law next L e k h some short apart =
     let same : evaluation next e.key (state_at L k) ≡ evaluation next e.key (state_at L (suc k)) =
-    event_leaves law next e.key L k e.tags (h.covered refl k (some, omega arith)) apart in
+    law next e.key L k e.tags (h.covered refl k (some, omega arith)) apart in
     record {
       within = short;
       holds = λ t inside. elim (upto t k inside.1) [
@@ -93,7 +92,7 @@ still_shown next L p e is some h = record { some = some; true_as_shown = subst (
 closed_shown : (next : Next) (L : History) (p : ℕ) (e : Entry) (k : ℕ) → e.reach.lo ≤ k → IsTrueIn next L (ending e k false) → IsShownTrue next L p (ending e k false)
 closed_shown next L p e k some h = record { some = some; true_as_shown = subst (IsTrueIn next L) (sym (shown_closed p (ending e k false) refl)) h }
 
-pub true_after_event : EventTagsAreSound → TrueAfterEvent
+pub true_after_event : EventLeaves → TrueAfterEvent
 true_after_event law next L p e h long = go e.reach.still refl (nat_lt e.reach.known (suc p)) refl (sets_match (tags_at L (suc p)) e.tags) refl
   where
     go : (s : Bool) → e.reach.still ≡ s → (l : Bool) → nat_lt e.reach.known (suc p) ≡ l → (m : Bool) → sets_match (tags_at L (suc p)) e.tags ≡ m
@@ -133,7 +132,7 @@ drop_length zero Ts few = let e : length Ts ≡ length Ts - 0 = omega arith in e
 drop_length (suc n) [] few = absurd (omega arith)
 drop_length (suc n) (T ∷ Ts) few = drop_length n Ts (omega arith) ∙ (let e : length Ts - n ≡ length (T ∷ Ts) - suc n = omega arith in e)
 
-replayed : EventTagsAreSound → (next : Next) (L : History) (q stamp : ℕ) (Ts : List (List Tag)) (e : Entry)
+replayed : EventLeaves → (next : Next) (L : History) (q stamp : ℕ) (Ts : List (List Tag)) (e : Entry)
     → stamp ≡ suc q → IsShownTrue next L q e → AreTagsAfter L q Ts → q + length Ts ≤ length L
     → IsShownTrue next L (q + length Ts) (after_events stamp Ts e)
 replayed law next L q stamp [] e is h tags long = subst (λ (k : ℕ). IsShownTrue next L k e) (let e : q ≡ q + 0 = omega arith in e) h
@@ -160,7 +159,7 @@ none_left (T ∷ Ts) e = absurd (omega (arith, e))
 closed_stays : (i : Interval) (tags : List Tag) (p : ℕ) (recent : List (List Tag)) → i.still ≡ false → reach_after_replay i tags p recent ≡ i
 closed_stays i tags p recent is = rw is refl
 
-pub true_after_replay : EventTagsAreSound → ReplaysAsIfItHadBeenThere → TrustsNoLostEvent → TrueAfterReplay
+pub true_after_replay : EventLeaves → ReplaysAsIfItHadBeenThere → TrustsNoLostEvent → TrueAfterReplay
 true_after_replay law replays lost next L c e h some keeps within = go e.reach.still refl (nat_lt (length c.recent) (c.processed - e.reach.known)) refl
   where
     go : (s : Bool) → e.reach.still ≡ s → (l : Bool) → nat_lt (length c.recent) (c.processed - e.reach.known) ≡ l → IsShownTrue next L c.processed (replayed_entry c e)

@@ -12,9 +12,9 @@ use Rattle.txc_node.specs.declared.op.Op.TheVariants as ops
 use Rattle.txc_node.specs.declared.record.Record.{Record}
 use Rattle.txc_node.specs.Cache.{Cache, found, after_use, is_kept, entries_with}
 use Rattle.txc_node.specs.Steps.{refusal_of, after_step}
+use Rattle.txc_app.proofs.Offered.{each_beginning}
 use Rattle.txc_shared.specs.Histories.{cache_after, IsOfHistory, records_of, IsNext, IsLegal, is_event, events_of}
 use Rattle.txc_shared.specs.Laws.{LegalInLonger, BeginningIsLegal, EventsAreTaken}
-use Rattle.txc_shared.proofs.Offered.{each_beginning}
 
 -- ---- records
 

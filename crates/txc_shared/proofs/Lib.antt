@@ -1,7 +1,3 @@
-pub mod Evals
-pub mod Offered
-pub mod Answers
-pub mod Claims
 pub mod Entries
 pub mod Histories
 pub mod Runs
@@ -10,3 +6,4 @@ pub mod Nodes
 pub mod Passes
 pub mod Locking
 pub mod Crosses
+pub mod Worked

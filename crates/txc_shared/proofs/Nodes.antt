@@ -15,8 +15,8 @@ use Rattle.txc_node.specs.declared.record.Record.{Record}
 use Rattle.txc_node.specs.Cache.{Cache}
 use Rattle.txc_node.specs.Steps.{refusal_of, step_reply, after_step}
 use Rattle.txc_node.proofs.Offered.{entry_is_made}
-use Rattle.txc_shared.specs.Eval.{Next}
-use Rattle.txc_shared.specs.Claims.{IsTrueIn}
+use Rattle.txc_app.specs.Eval.{Next}
+use Rattle.txc_app.specs.Claims.{IsTrueIn}
 use Rattle.txc_shared.specs.Histories.{next_record}
 use Rattle.txc_shared.specs.Runs.{IsNode}
 use Rattle.txc_shared.specs.Nodes.{LogValue, NodeValue, after_call, seeing, HasTags}

@@ -17,12 +17,13 @@ use Rattle.txc_node.specs.Entries.{is_best, others}
 use Rattle.txc_node.specs.Cache.{Cache, empty_cache, found, shown_of, after_use, is_kept, entries_with, entry_after, after_event}
 use Rattle.txc_node.specs.Laws.{FindsTheLongest}
 use Rattle.txc_node.specs.Steps.{refusal_of, step_reply, after_step}
-use Rattle.txc_shared.specs.Eval.{Next}
-use Rattle.txc_shared.specs.Claims.{IsTrueIn, IsShownTrue, shown_entry}
+use Rattle.txc_app.specs.Eval.{Next}
+use Rattle.txc_app.specs.Claims.{IsTrueIn}
+use Rattle.txc_app.specs.Laws.{TrueInLonger}
+use Rattle.txc_app.proofs.Offered.{each_none, each_push}
+use Rattle.txc_shared.specs.Runs.{IsShownTrue, shown_entry, AreTagsAfter, KeepsTags, IsTrueCache, IsRun}
 use Rattle.txc_shared.specs.Histories.{IsNext, next_record}
-use Rattle.txc_shared.specs.Runs.{AreTagsAfter, KeepsTags, IsTrueCache, IsRun}
-use Rattle.txc_shared.specs.Laws.{TrueInLonger, TrueAfterEvent, TrueAfterReplay, NodeBegins, MayStep, NodeGoesOn, NodeBreaks, NodeSeesMore, AnswersAreTrue}
-use Rattle.txc_shared.proofs.Offered.{each_none, each_push}
+use Rattle.txc_shared.specs.Laws.{TrueAfterEvent, TrueAfterReplay, NodeBegins, MayStep, NodeGoesOn, NodeBreaks, NodeSeesMore, AnswersAreTrue}
 use Rattle.txc_shared.proofs.Entries.{drop_tags, drop_length}
 use Rattle.txc_shared.proofs.Histories.{cache_push, legal_in_longer, next_stamp}
 

@@ -8,7 +8,7 @@ use Rattle.txc_node.specs.declared.op.Op.{Op}
 use Rattle.txc_node.specs.declared.op.Op.TheVariants.{Insert, Lookup, Event, Sweep}
 use Rattle.txc_node.specs.declared.reply.Reply.{Reply}
 use Rattle.txc_node.specs.declared.record.Record.{Record}
-use Rattle.txc_shared.specs.Each.{EachAfter}
+use Rattle.txc_app.specs.Each.{EachAfter}
 
 -- the cache after the steps of these records
 abbrev pub cache_after : Cache → List Record → Cache

@@ -1,87 +1,20 @@
--- What is said of calls, of claims and of runs alone.
-use Rattle.std.specs.Prelude.{ℕ, Bool, None, suc, ◌≡◌, ◌<◌, ◌≤◌, ◌+◌, nat_lt, if◌then◌else◌, true, false, List, [], ◌∷◌, ◌++◌, length, Some}
-use Rattle.std.specs.List.{AllByRecursion}
+-- What is said of what nodes show and of runs alone.
+use Rattle.std.specs.Prelude.{ℕ, Bool, None, suc, ◌≡◌, ◌≤◌, ◌+◌, true, false, List, [], ◌∷◌, ◌++◌, length, Some}
 use mathlib.Core.List.{IsPrefix}
-use Rattle.txc_tags.specs.declared.tag.Tag.{Tag}
 use Rattle.txc_tags.specs.Keys.{Call}
-use Rattle.txc_tags.specs.Tags.{sets_match}
-use Rattle.txc_rows.specs.declared.query.Query.{Query}
-use Rattle.txc_rows.specs.States.{RowValue, State, answer as rows_of}
-use Rattle.txc_rows.specs.RowTags.{query_tag}
-use Rattle.txc_validity.specs.declared.answer.Found.{Found}
-use Rattle.txc_validity.specs.Answers.{IsAnswer}
-use Rattle.txc_db.specs.History.{History, state_at, tags_at}
-use Rattle.txc_node.specs.declared.value.TheConstants.{MAX_VALUE_LEN}
+use Rattle.txc_db.specs.History.{History, tags_at}
 use Rattle.txc_node.specs.declared.entry.Entry.{Entry}
 use Rattle.txc_node.specs.declared.hit.Shown.{Shown}
 use Rattle.txc_node.specs.declared.op.Op.{Op}
 use Rattle.txc_node.specs.declared.record.Record.{Record}
 use Rattle.txc_node.specs.Cache.{Cache, empty_cache, entry_after, replayed_entry, answer}
 use Rattle.txc_node.specs.Steps.{refusal_of, step_reply, after_step}
-use Rattle.txc_shared.specs.declared.app.TheConstants.{MAX_ASKS}
-use Rattle.txc_shared.specs.declared.ask.Ask.TheVariants as asks
-use Rattle.txc_shared.specs.declared.ask.Answer.{Answer}
-use Rattle.txc_shared.specs.declared.ask.Answer.TheVariants as answers
-use Rattle.txc_shared.specs.Eval.{Calls, Next, no_value, called_with, evaluation, eval, met}
-use Rattle.txc_shared.specs.Answering.{AreRight, queries_for}
-use Rattle.txc_shared.specs.Claims.{covers_all, RowsHold, IsTrueIn, IsShownTrue}
+use Rattle.txc_app.specs.Eval.{Next}
+use Rattle.txc_app.specs.Claims.{IsTrueIn}
+use Rattle.txc_shared.specs.Runs.{IsShownTrue, KeepsTags, IsTrueCache, IsNode, IsTrueStep}
 use Rattle.txc_shared.specs.Histories.{cache_after, IsOfHistory, IsLegal, events_of, next_record}
-use Rattle.txc_shared.specs.Runs.{KeepsTags, IsTrueCache, IsNode, IsTrueStep}
 
--- ---- calls
-
--- a call comes to what its own activation does, in which a call of a function below its own comes to what
--- it comes to by itself, and any other has no value
-abbrev pub CallsAreOfFunctionsBelow : Type 0
-CallsAreOfFunctionsBelow = (next : Next) (k : Call) (s : State)
-    → evaluation next k s
-    ≡ (let within : Calls = λ g. if nat_lt g.function k.function then evaluation next g s else no_value
-    in called_with next (λ q. rows_of q s) within k)
-
--- where the queries that a call meets have equal answers in two states, it comes to the same in both
-abbrev pub EqualAnswersDecide : Type 0
-EqualAnswersDecide = (next : Next) (k : Call) (s t : State)
-    → AllByRecursion (λ q. rows_of q s ≡ rows_of q t) (met next k s)
-    → evaluation next k s ≡ evaluation next k t
-
--- an event whose tags do not match tags that cover the queries met leaves what the call comes to
-abbrev pub EventLeaves : Type 0
-EventLeaves = (next : Next) (k : Call) (L : History) (t : ℕ) (tags : List Tag)
-    → covers_all tags (met next k (state_at L t)) ≡ true → sets_match (tags_at L (suc t)) tags ≡ false
-    → evaluation next k (state_at L t) ≡ evaluation next k (state_at L (suc t))
-
--- an activation that was given right answers, fewer than it may ask, and is then done with a value that is
--- not too long: the call has this value, and meets the queries met for these answers
-abbrev pub RightAnswersGiveTheValue : Type 0
-RightAnswersGiveTheValue = (next : Next) (k : Call) (s : State) (given : List Answer) (bytes : List ℕ)
-    → AreRight next k s given → length given < MAX_ASKS
-    → next k.function k.args given ≡ Some (asks.Done bytes) → length bytes ≤ MAX_VALUE_LEN
-    → (eval next k s ≡ Some bytes) × (met next k s ≡ queries_for next k s given)
-
--- ---- claims
-
--- a true entry stays true in a longer history
-abbrev pub TrueInLonger : Type 0
-TrueInLonger = (next : Next) (L M : History) (e : Entry)
-    → IsPrefix L M → IsTrueIn next L e → IsTrueIn next M e
-
--- what the database finds for a query holds over its reach
-abbrev pub FoundRowsHold : Type 0
-FoundRowsHold = (L : History) (q : Query) (t horizon : ℕ) (found : Found)
-    → IsAnswer (state_at L) q t horizon (length L) found → found.tags ≡ query_tag q ∷ []
-    → RowsHold L q found.rows.items (Some found.reach) found.tags
-
--- the call asks this query, and is done with these bytes once it has these rows
-pub record IsDoneAfter (next : Next) (k : Call) (q : Query) (rows : List RowValue) (bytes : List ℕ)
-    : Type 0 where
-  pub query : next k.function k.args [] ≡ Some (asks.Query q)
-  pub done : next k.function k.args (answers.Rows rows ∷ []) ≡ Some (asks.Done bytes)
-  pub short : length bytes ≤ MAX_VALUE_LEN
-
--- what such a call is done with holds over the reach of the rows
-abbrev pub DoneAfterIsTrue : Type 0
-DoneAfterIsTrue = (next : Next) (L : History) (q : Query) (rows : List RowValue) (e : Entry)
-    → RowsHold L q rows (Some e.reach) e.tags → IsDoneAfter next e.key q rows e.value → IsTrueIn next L e
+-- ---- entries
 
 -- what a hit shows of an entry stays true when the next event is taken
 abbrev pub TrueAfterEvent : Type 0

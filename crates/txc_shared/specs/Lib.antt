@@ -1,7 +1,3 @@
-pub mod Each
-pub mod Eval
-pub mod Answering
-pub mod Claims
 pub mod Histories
 pub mod Runs
 pub mod Laws
@@ -9,3 +5,4 @@ pub mod Nodes
 pub mod Passes
 pub mod Refusals
 pub mod Locked
+pub mod Worked

@@ -1,12 +1,9 @@
 -- What callers see of a node with its stored history.
 use Rattle.std.specs.Prelude.{◌≡◌, ◌⊎◌, ℕ, ◌+◌, ◌≤◌, Bool, List, [], ◌∷◌, ◌++◌, length}
 use mathlib.Core.List.{IsPrefix}
-use Rattle.txc_tags.specs.Keys.{Call}
 use Rattle.txc_tags.specs.declared.tag.Tag.{Tag}
 use Rattle.txc_db.specs.History.{History, tags_at}
 use Rattle.txc_db.specs.Seen.{FrontValue}
-use Rattle.txc_node.specs.declared.entry.Entry.{Entry}
-use Rattle.txc_node.specs.declared.hit.Shown.{Shown}
 use Rattle.txc_node.specs.declared.node.Inserted.{Inserted}
 use Rattle.txc_node.specs.declared.node.Inserted.TheVariants as inserts
 use Rattle.txc_node.specs.declared.op.Op.{Op}
@@ -72,10 +69,6 @@ abbrev pub HasTags : History → ℕ → List Tag → Type 0
 HasTags L number tags = (number ≤ length L) × (tags ≡ tags_at L number)
 
 -- ---- answers
-
--- the entry of the call that is shown so
-abbrev pub entry_shown : Call → Shown → Entry
-entry_shown key shown = record { key = key; value = shown.value; reach = shown.reach; tags = shown.tags }
 
 -- what an insertion did, without its entries
 abbrev pub insertion_of : Inserted → Insertion

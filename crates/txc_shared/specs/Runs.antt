@@ -1,15 +1,27 @@
 -- Nodes whose entries are all true.
 use Rattle.std.specs.Prelude.{◌≡◌, ℕ, Bool, false, suc, ◌+◌, ◌≤◌, List, [], ◌∷◌, length}
 use Rattle.std.specs.List.{AllByRecursion}
+use Rattle.txc_stamp.specs.Interval.{shown}
 use Rattle.txc_tags.specs.declared.tag.Tag.{Tag}
 use Rattle.txc_db.specs.History.{History, tags_at}
+use Rattle.txc_node.specs.declared.entry.Entry.{Entry}
 use Rattle.txc_node.specs.Cache.{Cache}
 use Rattle.txc_node.specs.declared.record.Record.{Record}
 use Rattle.txc_node.specs.declared.op.Op.{Op}
 use Rattle.txc_node.specs.declared.op.Op.TheVariants.{Insert, Lookup, Event, Sweep}
-use Rattle.txc_shared.specs.Eval.{Next}
-use Rattle.txc_shared.specs.Claims.{IsTrueIn, IsShownTrue}
+use Rattle.txc_app.specs.Eval.{Next}
+use Rattle.txc_app.specs.Claims.{IsTrueIn}
 use Rattle.txc_shared.specs.Histories.{cache_after, IsLegal}
+
+-- the entry as a hit shows it where the first `processed` events were taken: known up to the last stamp of
+-- its span
+abbrev pub shown_entry : ℕ → Entry → Entry
+shown_entry processed e = record e { reach = shown processed e.reach }
+
+-- what a hit shows of the entry is true, where the first `processed` events were taken
+pub record IsShownTrue (next : Next) (L : History) (processed : ℕ) (e : Entry) : Type 0 where
+  pub some : e.reach.lo ≤ e.reach.known
+  pub true_as_shown : IsTrueIn next L (shown_entry processed e)
 
 -- these are the tags of the events after that stamp, one after the other
 abbrev pub AreTagsAfter : History → ℕ → List (List Tag) → Type 0

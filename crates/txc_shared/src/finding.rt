@@ -1,8 +1,8 @@
 ghost use Rattle.std.specs.Prelude.{◌≡◌};
-ghost use Rattle.txc_shared.specs.Claims.{IsTrueIn};
+ghost use Rattle.txc_app.specs.Claims.{IsTrueIn};
 
-use crate::app::App;
 use std::marker::PhantomData;
+use txc_app::App;
 use txc_db::HistoryFront;
 use txc_node::Entry;
 

@@ -10,7 +10,6 @@ ghost use Rattle.txc_shared.specs.Refusals.{IsLookupRefused, IsStepRefused, IsLe
 ghost use Rattle.txc_shared.specs.Locked.{IsAhead, IsAdmitted, IsNamed};
 
 use crate::advanced::Advanced;
-use crate::app::App;
 use crate::error::NodeError;
 use crate::finding::Finding;
 use crate::insertion::Insertion;
@@ -22,6 +21,7 @@ use crate::settings::NodeSettings;
 use crate::stored_node::StoredNode;
 use std::alloc::Global;
 use std::marker::Model;
+use txc_app::App;
 use txc_db::{Event, Feed, Naming};
 use txc_node::Record;
 use txc_stamp::Stamp;

@@ -2,8 +2,6 @@
 #![tactic(auto)]
 
 mod advanced;
-mod app;
-mod ask;
 mod error;
 mod finding;
 mod held;
@@ -17,8 +15,6 @@ mod shared_node;
 mod stored_node;
 
 pub use advanced::Advanced;
-pub use app::{App, MAX_ASKS};
-pub use ask::{Answer, Ask, Bytes, Rows};
 pub use error::NodeError;
 pub use finding::Finding;
 pub use insertion::Insertion;

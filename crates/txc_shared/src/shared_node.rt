@@ -11,7 +11,6 @@ ghost use Rattle.txc_shared.specs.Passes.{HasGrown, HasFound, HasMade, HasInsert
 ghost use Rattle.txc_shared.specs.Refusals.{IsLookupRefused, IsStepRefused, IsRefusedThrough, IsNewPassRefused, MayRefuse};
 
 use crate::advanced::Advanced;
-use crate::app::App;
 use crate::error::NodeError;
 use crate::finding::Finding;
 use crate::held::Held;
@@ -23,6 +22,7 @@ use crate::stored_node::StoredNode;
 use std::alloc::{AllocError, Global};
 use std::marker::Model;
 use std::sync::{Arc, Mutex, Wait};
+use txc_app::App;
 use txc_db::{Database, Naming};
 use txc_node::{MAX_CAPACITY, MAX_RECENT, Record};
 use txc_stamp::Stamp;

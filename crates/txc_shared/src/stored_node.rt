@@ -4,23 +4,25 @@ ghost use Rattle.std.specs.Option.{option_map};
 ghost use Rattle.txc_node.specs.Cache.{answer, outcome, swept_count};
 ghost use Rattle.txc_node.specs.Steps.{found_reply};
 ghost use Rattle.txc_node.specs.declared.op.Op.TheVariants.{Insert, Lookup, Sweep};
-ghost use Rattle.txc_shared.specs.Nodes.{NodeValue, start_of, after_call, seeing, IsLonger, HasTags, entry_shown, insertion_of, HasAdvanced, HasTakenAll};
+ghost use Rattle.txc_app.specs.Claims.{entry_shown};
+ghost use Rattle.txc_shared.specs.Nodes.{NodeValue, start_of, after_call, seeing, IsLonger, HasTags, insertion_of, HasAdvanced, HasTakenAll};
 ghost use Rattle.txc_shared.specs.Histories.{records_of};
 ghost use Rattle.txc_shared.specs.Runs.{IsNode};
 ghost use Rattle.txc_shared.specs.Refusals.{IsOpen, IsStepRefused, IsLookupRefused, IsPassRefused, IsLeft};
 
 use crate::advanced::Advanced;
-use crate::app::App;
 use crate::error::NodeError;
 use crate::finding::Finding;
 use crate::insertion::Insertion;
-use crate::laws::{answers_are_true, entries_stay_true, nodes_go_on};
+use crate::laws::{answers_are_true, nodes_go_on};
 use crate::log::{Log, MAX_PASSES};
 use crate::node_front::NodeFront;
 use crate::settings::NodeSettings;
 use std::alloc::{AllocError, Global};
 use std::marker::{Model, PhantomData};
 use std::sync::Arc;
+use txc_app::App;
+use txc_app::laws::true_entries_stay;
 use txc_db::{HistoryFront, states_stay};
 use txc_node::{Entry, MAX_CAPACITY, MAX_RECENT, NodeCore, Op, Record, Reply, Shown};
 use txc_stamp::Stamp;
@@ -308,7 +310,7 @@ impl<A: App> StoredNode<A> {
         ensures refused { IfErr result (IsStepRefused self.old) }
     {
         nodes_go_on();
-        entries_stay_true();
+        true_entries_stay();
         self.check_whole()?;
         self.check_room()?;
         let Finding { entry, front, .. } = finding;

@@ -2,9 +2,9 @@
 use Rattle.std.specs.Prelude.{ℕ, ◌==◌, ◌&&◌, nat_lt, if◌then◌else◌, List, [], ◌∷◌, length, Option, Some}
 use Rattle.txc_tags.specs.Keys.{Call as Called}
 use Rattle.txc_rows.specs.declared.query.Query.TheVariants.{ById, ByGroup}
-use Rattle.txc_shared.specs.declared.ask.Ask.{Ask}
-use Rattle.txc_shared.specs.declared.ask.Ask.TheVariants.{Query, Call, Done}
-use Rattle.txc_shared.specs.declared.ask.Answer.{Answer}
+use Rattle.txc_app.specs.declared.ask.Ask.{Ask}
+use Rattle.txc_app.specs.declared.ask.Ask.TheVariants.{Query, Call, Done}
+use Rattle.txc_app.specs.declared.ask.Answer.{Answer}
 
 abbrev pub called : ℕ → List ℕ → Called
 called f args = record { function = f; args = args }

@@ -8,12 +8,12 @@ use crate::common::{Obeys, Player, body, is_played, number, room, say_unknown};
 use std::alloc::{AllocError, Global};
 use std::str::SplitWhitespace;
 use std::test::Fail;
+use txc_app::{Answer, App, Ask, Rows};
 use txc_functions::{Again, BodiesAndBody, BodiesIn, BodyAt, Function, Itself, Program, RowCount};
 use txc_node::Value;
 use txc_permits::PermitPool;
 use txc_registry::{Cacheable, CallFault, Registry, enlist};
 use txc_rows::{Query, Row};
-use txc_shared::{Answer, App, Ask, Rows};
 use txc_tags::Table;
 
 /// The functions, with one permit for all of them.

@@ -11,8 +11,8 @@ use Rattle.txc_db.specs.Facts.{EventValue}
 use Rattle.txc_db.specs.History.{History, state_at, moment_at, pinned_moment}
 use Rattle.txc_db.specs.Laws.{StatesStay}
 use Rattle.txc_cushion.specs.declared.pin.Pin.{Pin}
-use Rattle.txc_shared.specs.Eval.{Next, eval, met}
-use Rattle.txc_shared.specs.Claims.{covers_all, HoldsOver, ValueHolds}
+use Rattle.txc_app.specs.Eval.{Next, eval, met}
+use Rattle.txc_app.specs.Claims.{covers_all, HoldsOver, ValueHolds}
 use Rattle.txc_registry.specs.Objects.{Objects}
 use Rattle.txc_call.specs.declared.frame.Frame.{Frame}
 use Rattle.txc_call.specs.declared.need.Need.{Need}
@@ -24,7 +24,7 @@ use Rattle.txc_call.specs.declared.reply.Reply.TheVariants as replies
 use Rattle.txc_ports.specs.declared.reply.PortReply.{PortReply}
 use Rattle.txc_ports.specs.declared.reply.PortReply.TheVariants as ports
 use Rattle.txc_txn.specs.Core.{IsRight}
-use Rattle.txc_shared.specs.Answering.{AreRight, queries_for}
+use Rattle.txc_app.specs.Answering.{AreRight, queries_for}
 use Rattle.txc_ports.specs.declared.bounds.Bounds.{Bounds}
 use Rattle.txc_ports.specs.Answers.{IsFresh}
 

@@ -9,14 +9,14 @@ use Rattle.txc_db.specs.Laws.{StatesStay}
 use Rattle.txc_cushion.specs.declared.pin.Pin.{Pin}
 use Rattle.txc_pinset.specs.Members.{PinSetValue, kept, narrowed}
 use Rattle.txc_pinset.specs.Laws.{KeepsExactlyTheHeld, NeverIsEmpty}
-use Rattle.txc_shared.specs.Eval.{Next, eval}
-use Rattle.txc_shared.specs.Claims.{HoldsOver, ValueHolds}
+use Rattle.txc_app.specs.Eval.{Next, eval}
+use Rattle.txc_app.specs.Claims.{HoldsOver, ValueHolds}
 use Rattle.std.specs.List.{AllByRecursion}
-use Rattle.txc_shared.specs.declared.ask.Ask.{Ask}
-use Rattle.txc_shared.specs.declared.ask.Ask.TheVariants as asks
-use Rattle.txc_shared.specs.declared.ask.Answer.{Answer}
-use Rattle.txc_shared.specs.declared.ask.Answer.TheVariants as answers
-use Rattle.txc_shared.specs.Answering.{AreRight, IsRight, queries_after, queries_for, queries_of}
+use Rattle.txc_app.specs.declared.ask.Ask.{Ask}
+use Rattle.txc_app.specs.declared.ask.Ask.TheVariants as asks
+use Rattle.txc_app.specs.declared.ask.Answer.{Answer}
+use Rattle.txc_app.specs.declared.ask.Answer.TheVariants as answers
+use Rattle.txc_app.specs.Answering.{AreRight, IsRight, queries_after, queries_for, queries_of}
 use Rattle.txc_registry.specs.Objects.{Objects}
 use Rattle.txc_call.specs.declared.frame.Frame.{Frame}
 use Rattle.txc_call.specs.declared.need.Need.{Need}

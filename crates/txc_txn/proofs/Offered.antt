@@ -11,7 +11,7 @@ use Rattle.txc_cushion.specs.declared.pin.Pin.{Pin}
 use Rattle.txc_cushion.specs.Pinning.{is_older}
 use Rattle.txc_pinset.specs.declared.choice.Choice.TheVariants.{Present, At}
 use Rattle.txc_pinset.specs.Members.{choice_among}
-use Rattle.txc_shared.specs.Eval.{Next}
+use Rattle.txc_app.specs.Eval.{Next}
 use Rattle.txc_call.specs.declared.need.Need.{Need}
 use Rattle.txc_call.specs.declared.need.Need.TheVariants as needs
 use Rattle.txc_call.specs.declared.reply.Reply.TheVariants as calls

@@ -7,10 +7,10 @@ use Rattle.txc_db.specs.Worked.{worked}
 use Rattle.txc_db.specs.History.{state_at}
 use Rattle.txc_cushion.specs.declared.pin.Pin.{Pin}
 use Rattle.txc_cushion.specs.Pinning.{Falls}
-use Rattle.txc_shared.specs.declared.ask.Answer.{Answer}
-use Rattle.txc_shared.specs.declared.ask.Answer.TheVariants as answers
-use Rattle.txc_shared.specs.Eval.{activation, call_below, eval}
-use Rattle.txc_shared.specs.Answering.{AreRight, IsRight}
+use Rattle.txc_app.specs.declared.ask.Answer.{Answer}
+use Rattle.txc_app.specs.declared.ask.Answer.TheVariants as answers
+use Rattle.txc_app.specs.Eval.{activation, call_below, eval}
+use Rattle.txc_app.specs.Answering.{AreRight, IsRight}
 use Rattle.txc_functions.specs.Program.{program}
 use Rattle.txc_call.specs.Calling.{InCall}
 use Rattle.txc_ports.specs.declared.recorded.Recorded.{Recorded}

@@ -13,7 +13,7 @@ use Rattle.txc_cushion.specs.Pinning.{pin_of}
 use Rattle.txc_pinset.specs.declared.choice.Choice.TheVariants.{Present, At}
 use Rattle.txc_pinset.specs.Members.{PinSetValue, IsPinSet, AreBounds, begun, choice_of, kept, narrowed}
 use Rattle.txc_pinset.specs.Members.{with_present}
-use Rattle.txc_shared.specs.Eval.{Next}
+use Rattle.txc_app.specs.Eval.{Next}
 use Rattle.txc_registry.specs.Objects.{Objects}
 use Rattle.txc_call.specs.declared.need.Need.{Need}
 use Rattle.txc_call.specs.declared.need.Need.TheVariants as needs

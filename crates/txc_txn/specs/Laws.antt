@@ -10,10 +10,10 @@ use Rattle.txc_db.specs.History.{History, state_at, moment_at}
 use Rattle.txc_cushion.specs.declared.pin.Pin.{Pin}
 use Rattle.txc_cushion.specs.Pinning.{Falls}
 use Rattle.txc_pinset.specs.Members.{PinSetValue, IsPinSet, begun, kept, narrowed, with_present}
-use Rattle.txc_shared.specs.Eval.{Next}
-use Rattle.txc_shared.specs.declared.ask.Answer.{Answer}
-use Rattle.txc_shared.specs.declared.ask.Answer.TheVariants as answers
-use Rattle.txc_shared.specs.Answering.{AreRight}
+use Rattle.txc_app.specs.Eval.{Next}
+use Rattle.txc_app.specs.declared.ask.Answer.{Answer}
+use Rattle.txc_app.specs.declared.ask.Answer.TheVariants as answers
+use Rattle.txc_app.specs.Answering.{AreRight}
 use Rattle.txc_registry.specs.Objects.{Objects}
 use Rattle.txc_call.specs.declared.frame.Frame.{Frame}
 use Rattle.txc_call.specs.declared.need.Need.TheVariants as needs

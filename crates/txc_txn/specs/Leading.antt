@@ -8,7 +8,7 @@ use Rattle.txc_node.specs.declared.hit.Shown.{Shown}
 use Rattle.txc_db.specs.declared.error.DbError.TheVariants.{Full}
 use Rattle.txc_pinset.specs.declared.choice.Choice.TheVariants.{Present}
 use Rattle.txc_pinset.specs.Members.{choice_of, kept}
-use Rattle.txc_shared.specs.Eval.{Next}
+use Rattle.txc_app.specs.Eval.{Next}
 use Rattle.txc_registry.specs.Objects.{Objects, activity_of}
 use Rattle.txc_call.specs.declared.error.CallError.TheVariants.{NoFunction}
 use Rattle.txc_call.specs.declared.need.Need.{Need}

@@ -3,7 +3,7 @@ use Rattle.std.specs.Prelude.{◌≡◌, true, List, All, Contains}
 use Rattle.txc_rows.specs.States.{State}
 use Rattle.txc_db.specs.History.{History, state_at}
 use Rattle.txc_pinset.specs.Members.{PinSetValue, IsPinSet}
-use Rattle.txc_shared.specs.Eval.{Next}
+use Rattle.txc_app.specs.Eval.{Next}
 use Rattle.txc_registry.specs.Objects.{Objects}
 use Rattle.txc_call.specs.Calling.{Calling, CallHolds, InCall, CallIsUnreached}
 use Rattle.txc_ports.specs.declared.bounds.Bounds.{Bounds}

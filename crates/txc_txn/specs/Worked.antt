@@ -8,7 +8,7 @@ use Rattle.txc_rows.specs.declared.query.Query.TheVariants.{ById}
 use Rattle.txc_db.specs.Worked.{worked}
 use Rattle.txc_cushion.specs.declared.pin.Pin.{Pin}
 use Rattle.txc_pinset.specs.Members.{PinSetValue, begun, narrowed}
-use Rattle.txc_shared.specs.declared.ask.Answer.TheVariants as answers
+use Rattle.txc_app.specs.declared.ask.Answer.TheVariants as answers
 use Rattle.txc_functions.specs.Program.{program, call_of}
 use Rattle.txc_registry.specs.Activity.{running}
 use Rattle.txc_registry.specs.Objects.{Objects}

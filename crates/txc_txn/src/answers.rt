@@ -10,13 +10,13 @@ use crate::pinning::{PinStep, Pinning};
 use crate::txn_core::TxnCore;
 use std::alloc::Global;
 use std::mem;
+use txc_app::App;
 use txc_call::Reply;
 use txc_cushion::{AddError, pin_of};
 use txc_db::{Answered, DbError, Pinned};
 use txc_node::Shown;
 use txc_ports::{PortReply, PortRequest, Turn, TxnError};
 use txc_registry::{Cacheable, Registry};
-use txc_shared::App;
 use txc_validity::Found;
 
 impl TxnCore {

@@ -8,10 +8,10 @@ use crate::receipt::{Left, Receipt};
 use crate::txn_core::TxnCore;
 use std::alloc::Global;
 use std::marker::Model;
+use txc_app::App;
 use txc_db::states_stay;
 use txc_ports::{PortReply, Turn};
 use txc_registry::{Cacheable, Registry};
-use txc_shared::App;
 use txc_stamp::Stamp;
 use txc_tags::Key;
 

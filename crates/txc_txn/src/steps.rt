@@ -11,13 +11,14 @@ ghost use Rattle.txc_call.specs.declared.need.Need.{Need};
 ghost use Rattle.txc_call.specs.declared.need.Outcome.{Outcome};
 ghost use Rattle.txc_call.specs.Needs.{reply_reach, ReplyFits, ReplyHolds};
 ghost use Rattle.txc_call.specs.Reaches.{InReach};
-ghost use Rattle.txc_shared.specs.Eval.{Next};
+ghost use Rattle.txc_app.specs.Eval.{Next};
 ghost use Rattle.txc_registry.specs.Objects.{numbers_of, Objects};
 ghost use Rattle.txc_ports.specs.Answers.{IsFresh};
 
 use crate::pinning::{PinStep, Pinning};
 use crate::txn_core::TxnCore;
 use std::alloc::Global;
+use txc_app::App;
 use txc_call::{Need, Outcome, Reply};
 use txc_cushion::pin_of;
 use txc_db::{DbError, Pinned};
@@ -25,7 +26,6 @@ use txc_pinset::laws::{a_pin_set_is_never_empty, narrowing_keeps_exactly_the_hel
 use txc_pinset::{Choice, WouldEmpty};
 use txc_ports::{PortRequest, Recorded, Turn, TxnError};
 use txc_registry::{Cacheable, Registry};
-use txc_shared::App;
 use txc_stamp::{Reach, Stamp};
 use txc_tags::Key;
 

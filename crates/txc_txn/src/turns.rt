@@ -3,7 +3,7 @@ ghost use Rattle.std.specs.Prelude.{◌≡◌, ◌≢◌, ◌≤◌, [], All, If
 ghost use Rattle.std.specs.Option.{ForSome};
 ghost use mathlib.Core.List.{IsPrefix};
 ghost use Rattle.txc_db.specs.History.{History};
-ghost use Rattle.txc_shared.specs.Eval.{Next};
+ghost use Rattle.txc_app.specs.Eval.{Next};
 ghost use Rattle.txc_registry.specs.Objects.{numbers_of, AllIdle, Objects};
 ghost use Rattle.txc_ports.specs.Answers.{IsFresh};
 ghost use Rattle.txc_ports.specs.Fronts.{front_of};
@@ -12,13 +12,13 @@ ghost use Rattle.txc_txn.specs.Core.{receipt_pin};
 use crate::receipt::{Left, Receipt};
 use crate::txn_core::TxnCore;
 use std::alloc::{AllocError, Global};
+use txc_app::App;
 use txc_call::CallMachine;
 use txc_cushion::{Pin, Pins};
 use txc_db::{HistoryFront, states_stay};
 use txc_pinset::PinSet;
 use txc_ports::{Bounds, PortReply, Recorded, Turn};
 use txc_registry::{Cacheable, Registry};
-use txc_shared::App;
 use txc_stamp::Stamp;
 use txc_tags::Key;
 

@@ -21,7 +21,7 @@ use std::thread::{self, Threads};
 use txc_client::Client;
 use txc_db::Naming;
 use txc_registry::Cacheable;
-use txc_shared::App;
+use txc_app::App;
 
 /// The most clients of a batch.
 pub const MAX_CLIENTS: usize = 8;

@@ -11,7 +11,7 @@ use txc_client::{Client, RoTxn};
 use txc_db::Naming;
 use txc_ports::TxnError;
 use txc_registry::Cacheable;
-use txc_shared::App;
+use txc_app::App;
 use txc_tags::Key;
 
 /// Runs the job between the two calls of the gate.

@@ -15,7 +15,7 @@ use std::sync::Wait;
 use txc_client::Client;
 use txc_db::Naming;
 use txc_registry::Cacheable;
-use txc_shared::App;
+use txc_app::App;
 
 /// A client, with its passes of both queues.
 #[derive(Drop)]

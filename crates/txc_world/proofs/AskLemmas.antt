@@ -13,11 +13,11 @@ use Rattle.txc_db.specs.Seen.{FrontValue}
 use Rattle.txc_node.specs.declared.entry.Entry.{Entry}
 use Rattle.txc_node.specs.declared.hit.Shown.{Shown}
 use Rattle.txc_cushion.specs.declared.error.AddError.{AddError}
+use Rattle.txc_app.specs.Claims.{IsTrueIn, entry_shown}
+use Rattle.txc_app.specs.Eval.{Next}
 use Rattle.txc_shared.specs.declared.insertion.Insertion.{Insertion}
 use Rattle.txc_shared.specs.declared.insertion.Insertion.TheVariants as insertions
-use Rattle.txc_shared.specs.Claims.{IsTrueIn}
-use Rattle.txc_shared.specs.Eval.{Next}
-use Rattle.txc_shared.specs.Nodes.{NodeValue, entry_shown}
+use Rattle.txc_shared.specs.Nodes.{NodeValue}
 use Rattle.txc_ports.specs.declared.request.PortRequest.TheVariants as requests
 use Rattle.txc_ports.specs.declared.reply.PortReply.TheVariants as replies
 use Rattle.txc_world.specs.declared.did.Did.{Did}

@@ -14,7 +14,7 @@ use Rattle.txc_db.specs.DatabaseValue.{DatabaseValue, after_commit, after_event_
 use Rattle.txc_db.specs.Calls.{IsCommittable}
 use Rattle.txc_db.specs.Laws.{StatesStay, TagsStay}
 use Rattle.txc_db.specs.Shared.{IsQuietIn, IsEventIn}
-use Rattle.txc_shared.specs.Eval.{Next}
+use Rattle.txc_app.specs.Eval.{Next}
 use Rattle.txc_registry.specs.Objects.{Objects}
 use Rattle.txc_rw.specs.Core.{RwValue, RwHolds, tags_read}
 use Rattle.txc_rw.specs.Laws.{AnswersAreRight, EventCommitsAreRight, HoldsInLonger, QuietCommitsAreRight}

@@ -27,9 +27,9 @@ use Rattle.txc_cushion.specs.Laws.{GiveBackCountsUsers}
 use Rattle.txc_cushion.specs.Pinning.{is_older}
 use Rattle.txc_pinset.specs.declared.choice.Choice.TheVariants.{Present, At}
 use Rattle.txc_pinset.specs.Members.{choice_among}
+use Rattle.txc_app.specs.Eval.{Next}
 use Rattle.txc_shared.specs.declared.insertion.Insertion.{Insertion}
 use Rattle.txc_shared.specs.declared.insertion.Insertion.TheVariants as insertions
-use Rattle.txc_shared.specs.Eval.{Next}
 use Rattle.txc_shared.specs.Nodes.{NodeValue}
 use Rattle.txc_registry.specs.Objects.{Objects}
 use Rattle.txc_ports.specs.declared.request.PortRequest.{PortRequest}

@@ -5,7 +5,7 @@ use Rattle.std.proofs.lemmas.List.Elements.{All-head, All-tail}
 use mathlib.Core.List.{IsPrefix}
 use Rattle.txc_db.specs.History.{History, state_at}
 use Rattle.txc_cushion.specs.declared.pin.Pin.{Pin}
-use Rattle.txc_shared.specs.Eval.{Next}
+use Rattle.txc_app.specs.Eval.{Next}
 use Rattle.txc_ports.specs.declared.bounds.Bounds.{Bounds}
 use Rattle.txc_ports.specs.declared.recorded.Recorded.{Recorded}
 use Rattle.txc_ports.specs.Answers.{AreConsistent, IsFresh}

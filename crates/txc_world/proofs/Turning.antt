@@ -5,7 +5,7 @@ use Rattle.std.specs.Option.{ForSome}
 use Rattle.txc_cushion.specs.declared.pin.Pin.{Pin}
 use Rattle.txc_db.specs.History.{History}
 use Rattle.txc_db.specs.Seen.{FrontValue}
-use Rattle.txc_shared.specs.Eval.{Next}
+use Rattle.txc_app.specs.Eval.{Next}
 use Rattle.txc_ports.specs.Fronts.{front_of}
 use Rattle.txc_ports.specs.declared.request.PortRequest.{PortRequest}
 use Rattle.txc_ports.specs.declared.request.PortRequest.TheVariants as requests

@@ -10,7 +10,7 @@ use Rattle.txc_rows.specs.States.{answer}
 use Rattle.txc_validity.specs.declared.answer.Found.{Found}
 use Rattle.txc_db.specs.declared.error.DbError.{DbError}
 use Rattle.txc_db.specs.History.{History, state_at}
-use Rattle.txc_shared.specs.Eval.{Next}
+use Rattle.txc_app.specs.Eval.{Next}
 use Rattle.txc_registry.specs.Objects.{Objects}
 use Rattle.txc_call.specs.Calling.{Calling}
 use Rattle.txc_call.specs.declared.need.Need.{Need}

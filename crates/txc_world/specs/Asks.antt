@@ -16,9 +16,9 @@ use Rattle.txc_cushion.specs.declared.error.AddError.{AddError}
 use Rattle.txc_cushion.specs.Cushion.{after_add, after_fresh, handed_out}
 use Rattle.txc_cushion.specs.declared.pins.Pins.{Pins}
 use Rattle.txc_cushion.specs.Refusals.{IsAddable, IsAddRefused}
+use Rattle.txc_app.specs.Eval.{Next}
 use Rattle.txc_shared.specs.declared.insertion.Insertion.{Insertion}
 use Rattle.txc_shared.specs.declared.insertion.Insertion.TheVariants as insertions
-use Rattle.txc_shared.specs.Eval.{Next}
 use Rattle.txc_ports.specs.declared.request.PortRequest.{PortRequest}
 use Rattle.txc_ports.specs.declared.request.PortRequest.TheVariants as requests
 use Rattle.txc_ports.specs.declared.reply.PortReply.{PortReply}

@@ -5,7 +5,7 @@ use Rattle.txc_rows.specs.declared.query.Change.{Change}
 use Rattle.txc_db.specs.History.{History, commit_event, pin_event, state_at}
 use Rattle.txc_db.specs.DatabaseValue.{is_held, without}
 use Rattle.txc_cushion.specs.declared.pin.Pin.{Pin}
-use Rattle.txc_shared.specs.Eval.{Next}
+use Rattle.txc_app.specs.Eval.{Next}
 use Rattle.txc_ports.specs.declared.bounds.Bounds.{Bounds}
 use Rattle.txc_ports.specs.declared.recorded.Recorded.{Recorded}
 use Rattle.txc_txn.specs.Core.{Explains}

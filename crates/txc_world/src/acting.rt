@@ -1,7 +1,7 @@
 //! What an actor does, each kind of step by itself.
 ghost use Rattle.std.specs.Prelude.{◌≡◌, ℕ, ◌≤◌, ◌<◌, ◌∷◌, [], All, IfOk, None, OnErr, Some, length, map};
 ghost use Rattle.txc_registry.specs.Objects.{AllIdle, Objects};
-ghost use Rattle.txc_shared.specs.Eval.{Next};
+ghost use Rattle.txc_app.specs.Eval.{Next};
 ghost use Rattle.txc_rw.specs.Core.{IsOfCall};
 ghost use Rattle.txc_txn.specs.Core.{open_call, recorded_after, value_of, CoreHolds, IsAsk, IsAsking, IsCore, IsTurn};
 ghost use Rattle.txc_world.specs.Actors.{counted, holds_any, story_of, AddsPart, HasAsked, HasBegun, IsActor, IsBegun, IsNoted, IsOpenTxn};
@@ -20,11 +20,11 @@ use crate::reply::{End, Refusal, Reply};
 use crate::step::Act;
 use crate::writing::{act_writing, begin_rw};
 use std::alloc::{AllocError, Global};
+use txc_app::App;
 use txc_cushion::Pin;
 use txc_cushion::laws::give_back_counts_users;
 use txc_ports::{Bounds, PortRequest, Turn};
 use txc_registry::{Cacheable, Registry};
-use txc_shared::App;
 use txc_stamp::{Reach, Stamp};
 use txc_tags::Key;
 use txc_txn::{RunningTxn, TxnCore};

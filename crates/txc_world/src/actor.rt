@@ -3,10 +3,10 @@ ghost use Rattle.std.specs.Prelude.{◌≡◌, ◌<◌, map, None, Some, slice_g
 
 use std::alloc::{AllocError, Global};
 use std::mem;
+use txc_app::App;
 use txc_ports::Turn;
 use txc_registry::{Cacheable, Registry};
 use txc_rw::RwCore;
-use txc_shared::App;
 use txc_stamp::Stamp;
 use txc_tags::Key;
 use txc_txn::RunningTxn;

@@ -1,7 +1,7 @@
 //! What a transaction asks, put to the plain ports.
 ghost use Rattle.std.specs.Prelude.{◌≡◌, ◌<◌, ℕ, length, map, Err, IfErr, IfOk, Ok, Some};
 ghost use Rattle.std.specs.Option.{ForSome};
-ghost use Rattle.txc_shared.specs.Claims.{IsTrueIn};
+ghost use Rattle.txc_app.specs.Claims.{IsTrueIn};
 ghost use Rattle.txc_db.specs.declared.pinned.Pinned.{Pinned};
 ghost use Rattle.txc_ports.specs.Fronts.{front_of};
 ghost use Rattle.txc_world.specs.Asks.{did_insert, DoesTell, IsToldOf};
@@ -10,12 +10,13 @@ use crate::asked::Asked;
 use crate::did::{Did, RowsFound};
 use crate::ports::Ports;
 use std::alloc::{AllocError, Global};
+use txc_app::App;
 use txc_cushion::AddError;
 use txc_db::{Answered, DbError, HistoryFront, Pinned};
 use txc_node::{Entry, Shown};
 use txc_ports::{PortReply, PortRequest};
 use txc_rows::{Query, Row};
-use txc_shared::{App, Insertion};
+use txc_shared::Insertion;
 use txc_stamp::Stamp;
 use txc_tags::Key;
 use txc_validity::Found;

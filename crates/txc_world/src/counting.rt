@@ -1,11 +1,11 @@
 //! What keeps holds and users in balance.
 use crate::ports::Ports;
+use txc_app::App;
 use txc_cushion::laws::{
     add_counts_one_pin, each_stamp_is_pinned_once, fresh_counts_users, give_back_counts_users,
     retire_counts_the_unused,
 };
 use txc_db::one_hold_less;
-use txc_shared::App;
 
 impl<A: App> Ports<A> {
     ghost use Rattle.txc_world.specs.Books.{CountRight};

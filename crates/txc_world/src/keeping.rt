@@ -10,9 +10,9 @@ use crate::ports::Ports;
 use crate::reply::{Refusal, Reply};
 use crate::step::Keep;
 use std::alloc::Global;
+use txc_app::App;
 use txc_cushion::AddError;
 use txc_rows::{Change, Query};
-use txc_shared::App;
 use txc_stamp::Stamp;
 
 fn write<A: App>(alloc: Global, ports: &mut Ports<A>, change: &Change) -> Reply

@@ -6,10 +6,11 @@ ghost use Rattle.txc_world.specs.Making.{IsNewNode, AreNewNodes};
 use crate::ports::Ports;
 use crate::settings::WorldSettings;
 use std::alloc::{AllocError, Global};
+use txc_app::App;
 use txc_cushion::CushionCore;
 use txc_db::{DbCore, DbError};
 use txc_node::{MAX_CAPACITY, MAX_RECENT};
-use txc_shared::{App, MAX_PASSES, NodeSettings, StoredNode};
+use txc_shared::{MAX_PASSES, NodeSettings, StoredNode};
 use txc_stamp::Stamp;
 use txc_stream::{EventRow, MAX_CAPACITY as ROW_MOST};
 

@@ -2,16 +2,16 @@
 ghost use Rattle.std.specs.Prelude.{◌≡◌, ◌<◌, IfSome, false};
 ghost use Rattle.std.specs.Option.{option_map};
 ghost use Rattle.txc_db.specs.DatabaseValue.{front_of};
-ghost use Rattle.txc_shared.specs.Claims.{IsTrueIn};
-ghost use Rattle.txc_shared.specs.Nodes.{entry_shown};
+ghost use Rattle.txc_app.specs.Claims.{IsTrueIn, entry_shown};
 ghost use Rattle.txc_shared.specs.Passes.{shown_of_entry};
 ghost use Rattle.txc_world.specs.NodeSteps.{AdvanceLeads, InsertLeads, LookupLeads, SweepLeads};
 ghost use Rattle.txc_world.specs.Parts.{IsPartOf};
 
 use std::alloc::Global;
+use txc_app::App;
 use txc_db::{Answered, DbCore};
 use txc_node::{Entry, Shown};
-use txc_shared::{Advanced, App, Finding, Insertion, NodeError, StoredNode};
+use txc_shared::{Advanced, Finding, Insertion, NodeError, StoredNode};
 use txc_stamp::Stamp;
 use txc_tags::Key;
 

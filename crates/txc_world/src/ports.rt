@@ -1,19 +1,19 @@
 //! The plain ports of a world.
 ghost use Rattle.std.specs.Prelude.{◌≡◌, ◌+◌, false, ◌≤◌, ◌<◌, length, IfSome, IfOk, OnErr, slice_get, Some, All};
 ghost use Rattle.std.specs.Option.{option_map};
-ghost use Rattle.txc_shared.specs.Claims.{IsTrueIn};
-ghost use Rattle.txc_shared.specs.Nodes.{entry_shown};
+ghost use Rattle.txc_app.specs.Claims.{IsTrueIn, entry_shown};
 
 use crate::nodes;
 use std::alloc::{AllocError, Global};
 use std::marker::Model;
+use txc_app::App;
+use txc_app::laws::found_rows_give_true_entries;
 use txc_cushion::laws::give_back_counts_users;
 use txc_cushion::{AddError, CushionCore, Pins};
 use txc_db::{Answered, DbCore, DbError, HistoryFront, Pinned};
 use txc_node::{Entry, Shown};
 use txc_rows::Query;
-use txc_shared::laws::found_rows_give_true_entries;
-use txc_shared::{App, Finding, Insertion, StoredNode};
+use txc_shared::{Finding, Insertion, StoredNode};
 use txc_stamp::Stamp;
 use txc_tags::Key;
 use txc_validity::Found;

@@ -23,12 +23,13 @@ use crate::settings::WorldSettings;
 use crate::step::{Act, Step};
 use std::alloc::{AllocError, Global};
 use std::marker::Model;
+use txc_app::App;
 use txc_cushion::Pin;
 use txc_db::DbError;
 use txc_registry::{Cacheable, Registry};
 use txc_rw::laws::transactions_stay_right;
+use txc_shared::StoredNode;
 use txc_shared::laws::nodes_go_on;
-use txc_shared::{App, StoredNode};
 
 /// Where a read-only transaction may still be serialised.
 #[derive(Clone, Copy, Debug)]

@@ -19,13 +19,13 @@ use crate::ports::Ports;
 use crate::reply::{End, Refusal, Reply};
 use crate::step::Act;
 use std::alloc::Global;
+use txc_app::App;
 use txc_db::states_stay;
 use txc_ports::{PortRequest, Turn, TxnError};
 use txc_registry::{Cacheable, Registry};
 use txc_rows::{Change, Query};
 use txc_rw::laws::{answers_are_right, transactions_stay_right};
 use txc_rw::{MAX_CHANGES, RwCore};
-use txc_shared::App;
 use txc_tags::Key;
 
 /// Begins a transaction at the newest stamp, which is held, or leaves nothing open.

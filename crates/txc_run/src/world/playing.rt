@@ -9,9 +9,9 @@ use crate::world::outcome::{
 use crate::world::printed::Printed;
 use crate::world::task::Task;
 use std::alloc::{AllocError, Global};
+use txc_app::App;
 use txc_cushion::Pin;
 use txc_registry::Cacheable;
-use txc_shared::App;
 use txc_stamp::Stamp;
 use txc_world::{Act, Keep, Reply, Step, World};
 

@@ -14,9 +14,9 @@ use crate::world::playing::give_all_up;
 use crate::world::session::WorldSession;
 use std::alloc::Global;
 use std::io::{Read, Write};
+use txc_app::App;
 use txc_registry::Cacheable;
 use txc_settings::Settings;
-use txc_shared::App;
 use txc_world::{World, WorldSettings};
 
 /// The settings of a run's world.

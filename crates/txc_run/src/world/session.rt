@@ -1,7 +1,7 @@
 //! A run of a world's script in progress: lines are answered one after another.
 ghost use Rattle.std.specs.Prelude.{◌≡◌, true, false, ℕ, ◌+◌, ◌^◌, ◌<◌, ◌≤◌, List, [], ◌∷◌, ◌++◌, length, Err, IfOk, OnOk, OnErr};
 ghost use Rattle.std.specs.Io.KnownBytes.{Appends};
-ghost use Rattle.txc_shared.specs.Eval.{Next};
+ghost use Rattle.txc_app.specs.Eval.{Next};
 ghost use Rattle.txc_run.specs.Script.{HasNoEnd};
 ghost use Rattle.txc_run.specs.Lines.{ArePlain};
 ghost use Rattle.txc_run.specs.Written.{AppendsPrefix};
@@ -27,8 +27,8 @@ use crate::world::task::Task;
 use crate::writer::write_text;
 use std::alloc::{AllocError, Global};
 use std::io::Write;
+use txc_app::App;
 use txc_registry::Cacheable;
-use txc_shared::App;
 use txc_world::World;
 
 /// The replies so far.

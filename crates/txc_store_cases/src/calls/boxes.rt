@@ -7,10 +7,10 @@ use crate::common::{is_played, room};
 use std::alloc::{AllocError, Global};
 use std::process::Abort;
 use std::test::Fail;
+use txc_app::App;
 use txc_functions::{Again, BodiesAndBody, BodiesIn, BodyAt, Function, Itself, Program, RowCount};
 use txc_permits::PermitPool;
 use txc_registry::{Cacheable, Registry, enlist};
-use txc_shared::App;
 
 /// Plays the script to a machine over the objects. A line that differs stays in the answer.
 pub(super) fn play<A: App, C: Cacheable>(

@@ -1,17 +1,17 @@
 //! Functions that do nothing but ask.
 ghost use Rattle.std.specs.Prelude.{◌≡◌, ◌≤◌, length};
-ghost use Rattle.txc_shared.specs.declared.ask.Ask.TheVariants as asks;
+ghost use Rattle.txc_app.specs.declared.ask.Ask.TheVariants as asks;
 ghost use Rattle.txc_store_cases.specs.Counting.{ask_at, called};
 
 use super::boxes::play;
 use crate::common::room;
 use std::alloc::{AllocError, Global};
 use std::test::Fail;
+use txc_app::{Answer, App, Ask, Bytes};
 use txc_functions::{Definition, Function};
 use txc_permits::PermitPool;
 use txc_registry::enlist;
 use txc_rows::Query;
-use txc_shared::{Answer, App, Ask, Bytes};
 use txc_tags::{Key, Table};
 
 /// The function of a number, which asks the same again and again, and is then done with no byte.

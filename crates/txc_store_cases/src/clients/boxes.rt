@@ -13,6 +13,7 @@ use std::process::Abort;
 use std::sync::Wait;
 use std::test::Fail;
 use std::thread::Threads;
+use txc_app::App;
 use txc_client::Client;
 use txc_cushion::Pincushion;
 use txc_db::{Database, DbCore, Naming};
@@ -20,7 +21,7 @@ use txc_functions::{Again, BodiesAndBody, BodiesIn, BodyAt, Function, Itself, Pr
 use txc_node::Record;
 use txc_permits::PermitPool;
 use txc_registry::{Cacheable, Registry, enlist};
-use txc_shared::{App, NodeSettings, SharedNode};
+use txc_shared::{NodeSettings, SharedNode};
 use txc_stream::EventRow;
 
 /// What is done with two clients.

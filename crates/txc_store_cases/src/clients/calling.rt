@@ -4,12 +4,12 @@ ghost use Rattle.txc_txn.specs.Core.{Explains};
 
 use std::alloc::Global;
 use std::sync::Wait;
+use txc_app::App;
 use txc_client::{Client, RoTxn};
 use txc_db::Naming;
 use txc_node::Value;
 use txc_ports::{Bounds, TxnError};
 use txc_registry::Cacheable;
-use txc_shared::App;
 use txc_tags::Key;
 use txc_txn::Receipt;
 

@@ -6,12 +6,13 @@ use super::explained::is_explained;
 use std::alloc::{AllocError, Global};
 use std::sync::Wait;
 use std::thread::{Threads, join};
+use txc_app::App;
 use txc_client::{Client, RoTxn};
 use txc_cushion::Pincushion;
 use txc_db::{Database, Naming};
 use txc_ports::Bounds;
 use txc_registry::Cacheable;
-use txc_shared::{App, NodePass, SharedNode, audit};
+use txc_shared::{NodePass, SharedNode, audit};
 use txc_stamp::Stamp;
 use txc_tags::Key;
 

@@ -4,12 +4,12 @@ ghost use Rattle.txc_functions.specs.Program.{body_of};
 
 use std::alloc::{AllocError, Global};
 use std::sync::Wait;
+use txc_app::laws::found_rows_give_true_entries;
 use txc_db::{Answered, Database, DbError, Naming};
 use txc_functions::Program;
 use txc_node::{Entry, Value};
 use txc_rows::{Query, Row};
 use txc_shared::Finding;
-use txc_shared::laws::found_rows_give_true_entries;
 use txc_stamp::Stamp;
 use txc_tags::{Key, Table};
 use txc_validity::Found;

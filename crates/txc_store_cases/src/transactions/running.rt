@@ -8,11 +8,11 @@ ghost use Rattle.txc_store_cases.specs.Driven.{bounds_of};
 use super::pins::{bounds, two_pins};
 use super::replies::{say_answers, say_stamps};
 use std::alloc::Global;
+use txc_app::App;
 use txc_cushion::Pins;
 use txc_db::DbCore;
 use txc_ports::{PortReply, PortRequest, Turn};
 use txc_registry::{Cacheable, Registry};
-use txc_shared::App;
 use txc_tags::Key;
 use txc_txn::{RunningTxn, TxnCore};
 

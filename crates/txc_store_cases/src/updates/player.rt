@@ -9,9 +9,9 @@ use std::alloc::Global;
 use std::mem;
 use std::str::SplitWhitespace;
 use std::sync::Wait;
+use txc_app::App;
 use txc_db::{Database, DbCore, Naming};
 use txc_registry::{Cacheable, Registry};
-use txc_shared::App;
 use txc_tags::Key;
 
 /// The database, whose own commands come after `db`, and two transactions, which are called by `0` and `1`.

@@ -4,11 +4,11 @@ ghost use Rattle.txc_registry.specs.Objects.{AllIdle};
 use crate::common::say_row;
 use std::alloc::Global;
 use std::sync::Wait;
+use txc_app::App;
 use txc_db::{Database, Naming};
 use txc_registry::{Cacheable, Registry};
 use txc_rows::{Change, Query, Row};
 use txc_rw::{Committed, Given, RwTxn};
-use txc_shared::App;
 use txc_tags::Key;
 
 /// A registry whose objects are idle.

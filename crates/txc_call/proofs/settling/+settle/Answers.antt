@@ -2,8 +2,8 @@ use Rattle.std.proofs.Common.{◌≡◌, ℕ, ◌+◌, ◌<◌, ◌≤◌, true�
 use Rattle.std.specs.Prelude.{vec_len}
 use Rattle.txc_node.specs.declared.value.TheConstants.{MAX_VALUE_LEN}
 use Rattle.txc_registry.specs.Objects.{Objects}
-use Rattle.txc_shared.specs.declared.ask.Ask.{Ask}
-use Rattle.txc_shared.specs.declared.ask.Ask.TheVariants.{Call, Done}
+use Rattle.txc_app.specs.declared.ask.Ask.{Ask}
+use Rattle.txc_app.specs.declared.ask.Ask.TheVariants.{Call, Done}
 use Rattle.txc_call.specs.declared.frame.Frame.{Frame}
 use Rattle.txc_call.specs.Turns.{turn_of, unreached, count_refusal, value_refusal, AfterAsk, AfterValue}
 use Rattle.txc_call.proofs.Leading.{unasked, done_onward, value_onward, given_place, short_by, turn_err}

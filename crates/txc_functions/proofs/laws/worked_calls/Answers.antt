@@ -1,6 +1,6 @@
 use Rattle.std.proofs.Common.{refl}
 use Rattle.std.specs.Fmt.{digits}
-use Rattle.txc_shared.specs.Eval.{activation, call_below}
+use Rattle.txc_app.specs.Eval.{activation, call_below}
 use Rattle.txc_functions.proofs.laws.worked_calls.Goals as goal
 
 pub returns : goal.returns

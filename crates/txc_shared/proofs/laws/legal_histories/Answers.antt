@@ -1,5 +1,5 @@
+use Rattle.txc_app.proofs.Offered.{each_none}
 use Rattle.txc_shared.specs.Histories.{IsNext}
-use Rattle.txc_shared.proofs.Offered.{each_none}
 use Rattle.txc_shared.proofs.Histories
 use Rattle.txc_shared.proofs.laws.legal_histories.Goals as goal
 

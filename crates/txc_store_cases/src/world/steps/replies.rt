@@ -1,9 +1,10 @@
 //! What steps were replied, as text.
 use crate::clients::desk::say_record;
 use crate::common::say_row;
+use txc_app::App;
 use txc_cushion::Pin;
 use txc_rows::Row;
-use txc_shared::{Advanced, App, StoredNode};
+use txc_shared::{Advanced, StoredNode};
 use txc_stamp::Stamp;
 use txc_world::{Did, End, Refusal, Reply, RowsFound};
 

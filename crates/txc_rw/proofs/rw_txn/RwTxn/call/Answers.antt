@@ -5,7 +5,7 @@ use Rattle.txc_rw.specs.declared.given.Given.TheVariants as given
 use Rattle.txc_rw.specs.Core.{RwValue}
 use Rattle.txc_rw.specs.Txn.{TxnValue}
 use Rattle.txc_db.specs.History.{state_at}
-use Rattle.txc_shared.specs.Eval.{eval}
+use Rattle.txc_app.specs.Eval.{eval}
 use Rattle.txc_registry.proofs.Offered.{idle_same}
 use Rattle.txc_rw.proofs.Resting.{called, if_ok, last_right, rested}
 use Rattle.txc_rw.proofs.rw_txn.RwTxn.call.Goals as goal

@@ -4,8 +4,7 @@ use Rattle.txc_db.specs.Seen.{FrontValue}
 use Rattle.txc_db.specs.History.{History}
 use Rattle.txc_node.specs.declared.entry.Entry.{Entry}
 use Rattle.txc_node.specs.Hit.{seen}
-use Rattle.txc_shared.specs.Claims.{IsTrueIn}
-use Rattle.txc_shared.specs.Nodes.{entry_shown}
+use Rattle.txc_app.specs.Claims.{IsTrueIn, entry_shown}
 use Rattle.txc_shared.proofs.stored_node.StoredNode.find.Goals as goal
 
 pub new-requires : goal.new-requires

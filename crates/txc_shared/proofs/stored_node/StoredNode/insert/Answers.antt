@@ -14,7 +14,7 @@ invariant_of-self-then-not-append g c =
     let core = c.self.inside.core in
     let seen = c.longer.new.self.history in
     let held = c.nodes_go_on.ensures.sees g.A.App.next c.self.inside.seen.history seen (start_of c.self.inside.settings) rs core c.self.inside.broken c.longer.ensures.this c.self.invariant in
-    let right = c.entries_stay_true.ensures.longer g.A.App.next c.args.finding.front.history seen e c.longer.ensures.that c.args.finding.is_true in
+    let right = c.true_entries_stay.ensures g.A.App.next c.args.finding.front.history seen e c.longer.ensures.that c.args.finding.is_true in
     broke g.A.App.next seen (start_of c.self.inside.settings) c.nodes_go_on.ensures.breaks rs c.append.new.self.records core c.insert.new.self c.self.inside.broken
     (Insert e) held (may_insert g.A.App.next seen core e c.known-known.ensures.ordered c.bytes-bytes.ensures.bound right)
     (ap (λ (l : LogValue). l.records) (c.if-not-append.ensures.unchanged refl)) c.in_ok-inserted.ensures.after
@@ -26,7 +26,7 @@ invariant_of-self-else-not-append g c =
     let core = c.self.inside.core in
     let seen = c.longer.new.self.history in
     let held = c.nodes_go_on.ensures.sees g.A.App.next c.self.inside.seen.history seen (start_of c.self.inside.settings) rs core c.self.inside.broken c.longer.ensures.this c.self.invariant in
-    let right = c.entries_stay_true.ensures.longer g.A.App.next c.args.finding.front.history seen e c.longer.ensures.that c.args.finding.is_true in
+    let right = c.true_entries_stay.ensures g.A.App.next c.args.finding.front.history seen e c.longer.ensures.that c.args.finding.is_true in
     let whole : c.self.inside.broken ≡ false = ap (λ (n : NodeValue). n.broken) c.self.view_is ∙ c.in_ok-check_whole.ensures.only_if in
     let made = c.deref_mut.ensures.value ∙ (c.in_ok-next.ensures.ok ∙ c.next_record.ensures) in
     let record_is : c.set_reply.new.next ≡ next_record c.args.pass rs (Insert e) (replies.Inserted (outcome core e)) =

@@ -2,8 +2,8 @@ use Rattle.std.proofs.Common.{◌≡◌, [], ◌∷◌, Some, ap, sym, ◌∙◌
 use Rattle.txc_tags.specs.Keys.{Call}
 use Rattle.txc_rows.specs.declared.query.Query.TheVariants.{ById}
 use Rattle.txc_node.specs.declared.entry.Entry.{Entry}
-use Rattle.txc_shared.specs.declared.ask.Answer.TheVariants.{Rows}
-use Rattle.txc_shared.specs.declared.ask.Ask.TheVariants.{Query, Done}
+use Rattle.txc_app.specs.declared.ask.Answer.TheVariants.{Rows}
+use Rattle.txc_app.specs.declared.ask.Ask.TheVariants.{Query, Done}
 use Rattle.txc_functions.specs.Program.{program, body_of}
 use Rattle.txc_store_cases.proofs.shared.findings.find_body.Goals as goal
 

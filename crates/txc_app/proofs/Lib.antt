@@ -1,0 +1,4 @@
+pub mod Evals
+pub mod Offered
+pub mod Answers
+pub mod Claims

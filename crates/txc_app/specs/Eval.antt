@@ -1,0 +1,83 @@
+-- What a call comes to in a state, without a cache.
+use Rattle.std.specs.Prelude.{ℕ, zero, suc, ◌==◌, nat_le, if◌then◌else◌, List, [], ◌∷◌, ◌++◌, length, Option, Some, None}
+use Rattle.txc_tags.specs.Keys.{Call}
+use Rattle.txc_rows.specs.declared.query.Query.{Query}
+use Rattle.txc_rows.specs.States.{RowValue, State, answer}
+use Rattle.txc_node.specs.declared.value.TheConstants.{MAX_VALUE_LEN}
+use Rattle.txc_app.specs.declared.app.TheConstants.{MAX_ASKS}
+use Rattle.txc_app.specs.declared.ask.Ask.{Ask}
+use Rattle.txc_app.specs.declared.ask.Ask.TheVariants as asks
+use Rattle.txc_app.specs.declared.ask.Answer.{Answer}
+use Rattle.txc_app.specs.declared.ask.Answer.TheVariants as answers
+
+-- what a function asks next, or gives, by its number, its arguments and the answers so far; none where it
+-- refuses the arguments
+abbrev pub Next : Type 0
+Next = ℕ → List ℕ → List Answer → Option Ask
+
+-- what a call comes to: its value, where it has one, and the queries met on the way
+pub record Evaluation : Type 0 where
+  pub value : Option (List ℕ)
+  pub met : List Query
+
+-- how queries are answered
+abbrev pub Rows : Type 0
+Rows = Query → List RowValue
+
+-- what calls come to
+abbrev pub Calls : Type 0
+Calls = Call → Evaluation
+
+-- no value, and no query met
+abbrev pub no_value : Evaluation
+no_value = record { value = None; met = [] }
+
+-- done, with these bytes; too many bytes are no value
+abbrev pub done_with : List ℕ → Evaluation
+done_with bytes =
+    record { value = if nat_le (length bytes) MAX_VALUE_LEN then Some bytes else None; met = [] }
+
+-- these queries were met first
+abbrev pub after_meeting : List Query → Evaluation → Evaluation
+after_meeting queries rest = record { value = rest.value; met = queries ++ rest.met }
+
+-- the rest of an activation after the value of a call; without one it has none itself
+abbrev pub after_value : Option (List ℕ) → (Answer → Evaluation) → Evaluation
+after_value None rest = no_value
+after_value (Some bytes) rest = rest (answers.Value bytes)
+
+-- one ask, and the rest of the activation after its answer
+abbrev pub after_ask : Rows → Calls → Option Ask → (Answer → Evaluation) → Evaluation
+after_ask rows calls None rest = no_value
+after_ask rows calls (Some (asks.Done bytes)) rest = done_with bytes
+after_ask rows calls (Some (asks.Query q)) rest = after_meeting (q ∷ []) (rest (answers.Rows (rows q)))
+after_ask rows calls (Some (asks.Call k)) rest =
+    after_meeting (calls k).met (after_value (calls k).value rest)
+
+-- an activation that may make so many asks more, after these answers; being done is an ask too
+unfoldable pub activation : (List Answer → Option Ask) → Rows → Calls → ℕ → List Answer → Evaluation
+activation says rows calls zero given = no_value
+activation says rows calls (suc left) given =
+    after_ask rows calls (says given) (λ a. activation says rows calls left (given ++ a ∷ []))
+
+-- a call, where calls inside it come to these
+abbrev pub called_with : Next → Rows → Calls → Calls
+called_with next rows calls k = activation (next k.function k.args) rows calls MAX_ASKS []
+
+-- a call of a function below f; any other has no value
+unfoldable pub call_below : Next → Rows → ℕ → Calls
+call_below next rows zero k = no_value
+call_below next rows (suc f) k =
+    if k.function == f then called_with next rows (call_below next rows f) k else call_below next rows f k
+
+-- what a call comes to in a state: queries are answered there, and it may call the functions below its own
+abbrev pub evaluation : Next → Call → State → Evaluation
+evaluation next k s = called_with next (λ q. answer q s) (call_below next (λ q. answer q s) k.function) k
+
+-- its value, where it has one
+abbrev pub eval : Next → Call → State → Option (List ℕ)
+eval next k s = (evaluation next k s).value
+
+-- the queries met on the way to it, those of calls inside it too
+abbrev pub met : Next → Call → State → List Query
+met next k s = (evaluation next k s).met

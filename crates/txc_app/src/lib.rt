@@ -1,0 +1,9 @@
+//! What calls of functions mean: what a function asks and is answered, and what a call comes to without a cache.
+#![tactic(auto)]
+
+mod app;
+mod ask;
+pub mod laws;
+
+pub use app::{App, MAX_ASKS};
+pub use ask::{Answer, Ask, Bytes, Rows};

@@ -1,5 +1,0 @@
-use Rattle.txc_shared.proofs.Evals
-use Rattle.txc_shared.proofs.laws.calls_are_of_functions_below.Goals as goal
-
-pub returns : goal.returns
-returns c = Evals.calls_are_of_functions_below

@@ -1,5 +1,0 @@
-use Rattle.txc_shared.proofs.Evals
-use Rattle.txc_shared.proofs.laws.equal_answers_decide.Goals as goal
-
-pub returns : goal.returns
-returns c = Evals.equal_answers_decide

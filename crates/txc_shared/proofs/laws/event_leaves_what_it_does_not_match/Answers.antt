@@ -1,5 +1,0 @@
-use Rattle.txc_shared.proofs.Claims
-use Rattle.txc_shared.proofs.laws.event_leaves_what_it_does_not_match.Goals as goal
-
-pub returns : goal.returns
-returns c = Claims.event_leaves c.tags_are_sound.ensures

@@ -1,5 +1,0 @@
-use Rattle.txc_shared.proofs.Answers
-use Rattle.txc_shared.proofs.laws.right_answers_give_the_value.Goals as goal
-
-pub returns : goal.returns
-returns c = Answers.right_answers_give_the_value

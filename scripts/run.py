@@ -1,0 +1,101 @@
+#!/usr/bin/env python3
+"""Prints what the proved program makes of a script, and proves and builds it first where it has to.
+
+usage: scripts/run.py [--mode MODE] [--settings TEXT] SCRIPT
+  SCRIPT      its mode is told by its ending: .txc node, .txw world, .txb batch
+  MODE        `report` for the report of a .txc script
+  TEXT        the settings; else those of the file SCRIPT.settings beside it, where there is one
+
+The exit status is the program's. While it is built, a line is printed for each crate.
+"""
+
+import argparse
+import os
+import re
+import shutil
+import subprocess
+import sys
+import tempfile
+import time
+
+from script_files import mode_of, refused, scripts_of, settings_of
+
+ROOT = f"{os.path.dirname(os.path.abspath(__file__))}/.."
+PROGRAM = f"{ROOT}/crates/txcache/out/txcache"
+
+
+def main():
+    words = argparse.ArgumentParser(usage=__doc__.partition("usage: ")[2].partition("\n")[0])
+    words.add_argument("--mode", default="")
+    words.add_argument("--settings")
+    words.add_argument("script")
+    given = words.parse_args()
+    scripts = scripts_of([given.script])
+    if len(scripts) > 1:
+        sys.exit(refused(f"{given.script}: one script at a time (`make try` takes several)"))
+    mode, settings = mode_of(scripts[0], given.mode), settings_of(scripts[0], given.settings)
+    if not is_fresh():
+        build()
+    with open(scripts[0], "rb") as script:
+        status = subprocess.run([PROGRAM, mode, *(["--settings", settings] if settings else [])], stdin=script).returncode
+    if status:
+        print(f"run: status {status} (docs/SCRIPTS.md has what it means)", file=sys.stderr)
+    sys.exit(status)
+
+
+def crates():
+    """The program's crates, the lowest first, each with its line of crates.txt."""
+    lines = {}
+    with open(f"{ROOT}/crates.txt", encoding="utf-8") as it:
+        for line in it:
+            name, colon, below = line.partition("#")[0].partition(":")
+            if colon:
+                lines[name.split()[0]] = line
+    needed, left = set(), ["txcache"]
+    while left:
+        name = left.pop()
+        needed.add(name)
+        left += [it for it in lines[name].partition(":")[2].split() if it in lines]
+    return {name: line for name, line in lines.items() if name in needed}
+
+
+def is_fresh():
+    """Whether the program stands, and no source of it is newer."""
+    if not os.access(PROGRAM, os.X_OK):
+        return False
+    made = os.stat(PROGRAM).st_mtime
+    folders = [f"{ROOT}/crates/{name}/{part}" for name in crates() for part in ("src", "specs", "proofs")]
+    files = [f"{at}/{name}" for folder in folders for at, _, names in os.walk(folder) for name in names]
+    return all(os.stat(it).st_mtime <= made for it in [f"{ROOT}/crates.txt", *files])
+
+
+def build():
+    """Proves the program's crates with the gate's command, in a copy that has no others, and takes the program."""
+    lines, begun, number = crates(), time.time(), 0
+    print(f"run: proving {len(lines)} crates: some fifty minutes of one core where nothing is kept, as many crates at once as there are"
+          " cores", file=sys.stderr)
+    with tempfile.TemporaryDirectory(prefix="run-") as room:
+        with open(f"{room}/crates.txt", "w", encoding="utf-8") as it:
+            it.writelines(lines.values())
+        shutil.copy(f"{ROOT}/HANDLES", room)
+        for name in lines:
+            shutil.copytree(f"{ROOT}/crates/{name}", f"{room}/crates/{name}", ignore=shutil.ignore_patterns("out", "must-fail", "more-edits"))
+        jobs = os.environ.get("RT_JOBS", str(os.cpu_count()))
+        ran = subprocess.Popen(["rt", "ci"], cwd=room, env={**os.environ, "RT_JOBS": jobs}, stdout=subprocess.PIPE,
+                               stderr=subprocess.STDOUT, text=True, errors="replace")
+        said = []
+        for line in ran.stdout:
+            said.append(line)
+            proved = re.match(r"rt: (\w+) (proved|is kept)", line)
+            if proved:
+                number += 1
+                print(f"proved {proved[1]}, {number} of {len(lines)}, {time.time() - begun:.0f} s", file=sys.stderr, flush=True)
+        if ran.wait() or not os.path.exists(f"{room}/crates/txcache/out/txcache"):
+            sys.stderr.writelines(said[-20:])
+            sys.exit(refused("run: the program was not built"))
+        os.makedirs(os.path.dirname(PROGRAM), exist_ok=True)
+        shutil.copy(f"{room}/crates/txcache/out/txcache", f"{PROGRAM}.new")
+        os.replace(f"{PROGRAM}.new", PROGRAM)
+
+
+main()

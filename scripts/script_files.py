@@ -1,0 +1,53 @@
+"""What the commands know of a script of TxCache: its mode by its name, its settings, and which replies stand beside which lines."""
+
+import glob
+import os
+import sys
+
+# The modes of a script by the ending of its file, the usual one first.
+MODES = {".txc": ["node", "report"], ".txw": ["world"], ".txb": ["batch"]}
+
+
+def scripts_of(words):
+    """The files that these words name: a word that is no file is a pattern of names."""
+    found = []
+    for word in words:
+        files = [word] if os.path.isfile(word) else sorted(it for it in glob.glob(word) if os.path.isfile(it))
+        if not files:
+            sys.exit(refused(f"{word}: no such script"))
+        found += files
+    return found
+
+
+def mode_of(script, wanted):
+    """The mode in which a script is run: the one that is wanted, where its ending allows it."""
+    modes = MODES.get(os.path.splitext(script)[1])
+    if modes is None:
+        sys.exit(refused(f"{script}: a script's name ends in .txc (node, report), .txw (world) or .txb (batch)"))
+    if wanted and wanted not in modes:
+        sys.exit(refused(f"{script}: its modes are {', '.join(modes)}, and not {wanted}"))
+    return wanted or modes[0]
+
+
+def settings_of(script, wanted):
+    """The settings of a script: those that are wanted, or those of the file beside it."""
+    beside = os.path.splitext(script)[0] + ".settings"
+    if wanted is None and os.path.isfile(beside):
+        with open(beside, encoding="utf-8") as it:
+            return it.read().strip()
+    return wanted or ""
+
+
+def refused(why):
+    """Says on standard error why a command does nothing, and returns its status."""
+    print(why, file=sys.stderr)
+    return 2
+
+
+def beside(script, replies):
+    """The lines of a script, each command with its reply beside it, and then the replies that are left."""
+    left, shown = replies.splitlines(), []
+    for line in script.splitlines():
+        is_command = line.strip() and not line.startswith("#") and left
+        shown.append(f"{line:<37} {left.pop(0)}" if is_command else line)
+    return shown + left
