@@ -2,7 +2,7 @@
 ghost use Rattle.std.specs.Prelude.{◌≡◌};
 
 use crate::judge::{Case, Verdict, jobs, judge, set_of};
-use crate::stage::{clients, events, left, nodes, prepare};
+use crate::stage::{clients, count_left, events, nodes, prepare};
 use crate::watch::Watch;
 use std::alloc::{AllocError, Global};
 use std::marker::Brand;
@@ -43,7 +43,7 @@ fn run_over<J: Naming + Send + Sync, R: Threads + Wait + Sync>(
     let jobs = jobs(alloc, case.jobs)?;
     let watch = Watch::new(alloc, database.events(), set_of(case.jobs), case.holds);
     let batch = run_batch(rt, alloc, jobs, clients, &watch);
-    let left = left(rt, alloc, &database, &cushion, &mut pools)?;
+    let left = count_left(rt, alloc, &database, &cushion, &mut pools)?;
     Some(judge(answer, alloc, case, batch, &watch, (were, pins), &left))
 }
 

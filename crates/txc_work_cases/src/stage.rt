@@ -205,7 +205,7 @@ fn taken(alloc: Global, pool: &mut PermitPool) -> Result<u64, AllocError> {
 }
 
 /// What is there after a batch.
-pub(super) fn left<J: Naming>(
+pub(super) fn count_left<J: Naming>(
     rt: &impl Wait,
     alloc: Global,
     database: &Database<J>,
