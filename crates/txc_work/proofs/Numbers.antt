@@ -1,15 +1,19 @@
 -- How often a number stands among numbers in ascending order.
-use Rattle.std.proofs.Common.{◌≡◌, ◌≢◌, ◌∙◌, ⊎_elim, ℕ, zero, suc, ◌+◌, ◌-◌, ◌==◌, ◌<◌, ◌≤◌, false, cond, List, length, take, drop, refl, sym, ap, subst, arith}
+use Rattle.std.proofs.Common.{Bool, ◌≡◌, ◌≢◌, ◌∙◌, ◌⊎◌, ⊎_elim, inl, inr, ℕ, zero, suc, ◌+◌, ◌-◌, ◌==◌, ◌<◌, ◌≤◌, min, true, false, cond, List, [], ◌∷◌, length, take, drop, Option, Some, None, All, Contains, refl, sym, ap, subst, arith}
+use mathlib.Core.Bool.{true≢false}
 use Rattle.std.specs.Prelude.{slice_index, IsPermutation, IsSorted}
-use Rattle.std.specs.List.{count_by}
+use Rattle.std.specs.List.{count_by, filter, fold, reduce}
 use Rattle.std.specs.List.Sorted.{IsStrictlyIncreasing}
 use Rattle.std.specs.Ordering.{nat_cmp}
 use Rattle.std.proofs.Math.Seq.{take-length}
-use Rattle.std.proofs.lemmas.Bool.{cases_eq}
+use Rattle.std.specs.Prelude.{nat_le}
+use Rattle.std.proofs.Math.Nat.{min_comm, min-eq_left, min-le_left, min-le_right}
+use Rattle.std.proofs.lemmas.Bool.{cases_eq, cond_both}
 use Rattle.std.proofs.lemmas.Bool.Decides.{eqb_tells, leb_tells}
+use Rattle.std.proofs.lemmas.List.Elements.{All-cons, All-contains, All-contains_itself, All-filter, All-head, All-nil, All-tail, All-weaker, Contains-append_right, Contains-get_or, filter_passes}
 use Rattle.std.proofs.lemmas.List.Sorted.{sum_by-IsPermutation, IsNonDecreasingBy-from_sort}
-use Rattle.std.proofs.lemmas.List.Sums.{count_by_more_yes, count_by_more_no, sum_by-take-drop}
-use Rattle.txc_work.specs.Batches.{IsLeastTwice, StandsTwice}
+use Rattle.std.proofs.lemmas.List.Sums.{count_by_more_yes, count_by_more_no, sum_by-cons, sum_by-take-drop}
+use Rattle.txc_work.specs.Batches.{twice_in, IsLeastTwice, StandsTwice}
 
 abbrev count_of : ℕ → List ℕ → ℕ
 count_of n s = count_by (λ m. m == n) s
@@ -119,3 +123,101 @@ same_least xs ys n m moved back one other =
     let up = one.least m (twice_too ys xs m back other.twice) in
     let down = other.least n (twice_too xs ys n moved one.twice) in
     omega arith
+
+-- there is one least number that stands twice
+pub one_least : (s : List ℕ) (n m : ℕ) → IsLeastTwice s n → IsLeastTwice s m → m ≡ n
+one_least s n m one other =
+    let up = one.least m other.twice in
+    let down = other.least n one.twice in
+    omega arith
+
+-- ---- the least of those that stand twice
+
+-- the lesser of two numbers is one of them
+lesser : (a b : ℕ) → (min a b ≡ a) ⊎ (min a b ≡ b)
+lesser a b = ⊎_elim
+    (λ h. inl (min-eq_left h.1))
+    (λ h. let below : b ≤ a = let less = h.1 in omega arith in inr (min_comm a b ∙ min-eq_left below))
+    (leb_tells a b)
+
+-- the least of some numbers is one of them
+fold_keeps : (P : ℕ → Type 0) (x : ℕ) (xs : List ℕ) → P x → All P xs → P (fold min x xs)
+fold_keeps P x [] head all = head
+fold_keeps P x (y ∷ ys) head all =
+    let next = All-head P y ys all in
+    fold_keeps P (min x y) ys (⊎_elim (λ e. subst P (sym e) head) (λ e. subst P (sym e) next) (lesser x y)) (All-tail P y ys all)
+
+-- and none of them is below it
+fold_below : (x : ℕ) (xs : List ℕ) → (fold min x xs ≤ x) × All (λ y. fold min x xs ≤ y) xs
+fold_below x [] = (omega arith, All-nil (λ y. x ≤ y))
+fold_below x (y ∷ ys) =
+    let rest = fold_below (min x y) ys in
+    let least = rest.0 in
+    (
+      omega (arith, least, min-le_left x y),
+      All-cons (λ z. fold min (min x y) ys ≤ z) y ys (omega (arith, least, min-le_right x y)) rest.1,
+    )
+
+of_reduced : (P : ℕ → Type 0) (ys : List ℕ) (n : ℕ) → Some n ≡ reduce min ys → All P ys → P n × All (λ y. n ≤ y) ys
+of_reduced P [] n is all = absurd (cc)
+of_reduced P (y ∷ ys) n is all =
+    let same : n ≡ fold min y ys = cc in
+    let below = fold_below y ys in
+    (
+      subst P (sym same) (fold_keeps P y ys (All-head P y ys all) (All-tail P y ys all)),
+      subst (λ k. All (λ z. k ≤ z) (y ∷ ys)) (sym same) (All-cons (λ z. fold min y ys ≤ z) y ys below.0 below.1),
+    )
+
+none_reduced : (ys : List ℕ) (n : ℕ) → None ≡ reduce min ys → Contains ys n → ⊥
+none_reduced [] n is there = let below = there.1 in absurd (omega arith)
+none_reduced (y ∷ ys) n is there = absurd (cc)
+
+-- a number that stands among these and passes a test is one of those that pass it
+passes_too : (p : ℕ → Bool) (m : ℕ) → p m ≡ true → (xs : List ℕ) → 1 ≤ count_of m xs → Contains (filter p xs) m
+passes_too p m pass [] some = let none : count_of m [] ≡ 0 = refl in absurd (omega arith)
+passes_too p m pass (x ∷ xs) some =
+    let whole : count_of m (x ∷ xs) ≡ cond (x == m) 1 0 + count_of m xs = sum_by-cons (λ y. cond (y == m) 1 0) x xs in
+    ⊎_elim
+    (λ h.
+    let first : p x ≡ true = ap p h.1 ∙ pass in
+    subst (Contains (filter p (x ∷ xs))) h.1
+    (cond_both (p x) (x ∷ filter p xs) (filter p xs) (λ ys. Contains ys x)
+    (λ yes. Contains-get_or (x ∷ filter p xs) 0 x (omega arith))
+    (λ no. absurd (true≢false (sym first ∙ no)))))
+    (λ h.
+    let fewer : count_of m (x ∷ xs) ≡ 0 + count_of m xs = whole ∙ ap (λ b. cond b 1 0 + count_of m xs) h.0 in
+    let rest = passes_too p m pass xs (omega arith) in
+    cond_both (p x) (x ∷ filter p xs) (filter p xs) (λ ys. Contains ys m)
+    (λ yes. Contains-append_right (x ∷ []) (filter p xs) m rest)
+    (λ no. rest))
+    (eqb_tells x m)
+
+module _ (s : List ℕ) where
+  test : ℕ → Bool
+  test n = nat_le 2 (count_of n s)
+
+  all_twice : All (StandsTwice s) (twice_in s)
+  all_twice = All-weaker (λ n. test n ≡ true) (StandsTwice s)
+      (λ n is. ⊎_elim (λ h. h.1) (λ h. absurd (true≢false (sym is ∙ h.0))) (leb_tells 2 (count_of n s)))
+      (twice_in s)
+      (filter_passes test s)
+
+  twice_there : (n : ℕ) → StandsTwice s n → Contains (twice_in s) n
+  twice_there n twice =
+      let passes : test n ≡ true = ⊎_elim (λ h. h.0) (λ h. let few = h.1 in absurd (omega arith)) (leb_tells 2 (count_of n s)) in
+      passes_too test n passes s (omega arith)
+
+  pub least_of_those : (n : ℕ) → Some n ≡ reduce min (twice_in s) → IsLeastTwice s n
+  least_of_those n is =
+      let found = of_reduced (StandsTwice s) (twice_in s) n is all_twice in
+      record {
+        twice = found.0;
+        least = λ m twice. All-contains (λ k. n ≤ k) (twice_in s) m found.1 (twice_there m twice);
+      }
+
+  pub named_of_those : (n : ℕ) → Some n ≡ reduce min (twice_in s) → Contains s n
+  named_of_those n is =
+      (of_reduced (Contains s) (twice_in s) n is (All-filter test (Contains s) s (All-contains_itself s))).0
+
+  pub none_of_those : (n : ℕ) → None ≡ reduce min (twice_in s) → StandsTwice s n → ⊥
+  none_of_those n is twice = none_reduced (twice_in s) n is (twice_there n twice)

@@ -1,5 +1,6 @@
 -- What a batch of jobs comes to.
-use Rattle.std.specs.Prelude.{◌≡◌, ℕ, ◌≤◌, ◌==◌, ◌⊎◌, List, ◌∷◌, ◌++◌, map, count_by, All, Contains, Err}
+use Rattle.std.specs.Prelude.{◌≡◌, ℕ, ◌≤◌, ◌==◌, ◌⊎◌, nat_le, List, ◌∷◌, ◌++◌, map, count_by, All, Contains, Err}
+use Rattle.std.specs.List.{filter}
 use Rattle.txc_tags.specs.Keys.{Call}
 use Rattle.txc_app.specs.Eval.{Next}
 use Rattle.txc_registry.specs.Objects.{numbers_of, AllIdle}
@@ -70,6 +71,10 @@ result_numbers results = map (λ (told : Receipted). told.number) results
 -- the number stands at two places at least
 abbrev pub StandsTwice : List ℕ → ℕ → Type 0
 StandsTwice numbers n = 2 ≤ count_by (λ m. m == n) numbers
+
+-- those of the numbers that stand twice
+abbrev pub twice_in : List ℕ → List ℕ
+twice_in numbers = filter (λ n. nat_le 2 (count_by (λ m. m == n) numbers)) numbers
 
 -- the least of the numbers that stand twice
 pub record IsLeastTwice (numbers : List ℕ) (n : ℕ) : Type 0 where

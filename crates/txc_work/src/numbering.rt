@@ -1,8 +1,9 @@
 //! The numbers of the jobs of a batch, and of their results.
-ghost use Rattle.std.specs.Prelude.{◌≡◌, ◌==◌, ℕ, count_by, All, Contains, Err, IfErr, IfNone, IfOk, IfSome, IsPermutation, IsSorted};
+ghost use Rattle.std.specs.Prelude.{◌≡◌, ◌==◌, ℕ, min, count_by, All, Contains, Err, IfErr, IfNone, IfOk, IfSome, IsPermutation, IsSorted};
+ghost use Rattle.std.specs.List.{reduce};
 ghost use Rattle.std.specs.Ordering.{nat_cmp};
 ghost use Rattle.std.specs.List.Sorted.{IsStrictlyIncreasing};
-ghost use Rattle.txc_work.specs.Batches.{job_numbers, result_numbers, IsLeastTwice, NamesOneOf, StandsTwice};
+ghost use Rattle.txc_work.specs.Batches.{job_numbers, result_numbers, IsLeastTwice, NamesOneOf, twice_in};
 
 use crate::error::BatchError;
 use crate::job::{Job, Receipted};
@@ -54,8 +55,7 @@ fn first_twice(numbers: &[u32]) -> Option<u32>
 
 // The least number that two of the jobs have. They are compared pair by pair, which takes no memory.
 fn least_twice(jobs: &[Job]) -> Option<u32>
-    ensures none { IfNone result ((number : ℕ) → StandsTwice (job_numbers jobs.now) number → ⊥) }
-    ensures least { IfSome result (IsLeastTwice (job_numbers jobs.now)) }
+    ensures { result ≡ reduce min (twice_in (job_numbers jobs.now)) }
 {
     jobs.iter()
         .map(|job| job.number)
