@@ -26,9 +26,9 @@ import sys
 import tempfile
 from concurrent.futures import ThreadPoolExecutor
 
+from check import check_words
+
 JOBS = int(os.environ.get("JOBS", os.cpu_count()))
-# The toolchain's folder, which `rt doc` names.
-KIT = os.path.dirname(subprocess.run(["rt", "doc"], capture_output=True, text=True).stdout.strip())
 # A check of many edits still fits the memory and ends in some minutes.
 MOST_TOGETHER = 24
 # What is said where a proof file names what an edit took away: this shows little of a contract.
@@ -170,21 +170,6 @@ def try_named(root, edits):
             edit.said = " | ".join(own or [it for it in lines if it][-3:])
         elif edit.said.startswith("names: "):
             edit.verdict = "bad"
-
-
-def check_words(root, crate):
-    """What the prover is told to check a crate from nothing over the libraries of crates/*/out, but for what to check."""
-    uses = {}
-    for line in open(f"{root}/crates.txt", encoding="utf-8"):
-        name, colon, below = line.partition("#")[0].partition(":")
-        if colon:
-            uses[name.split()[0]] = below.split()
-    words = ["--crate-name", crate, "src/lib.rt", "--jobs", "1", "--links", f"{crate}="]
-    library = lambda it: f"{root}/crates/{it}/out/rlib/{it}.rlib" if it in uses else f"{KIT}/rlibs/{it}.rlib"
-    words += [it for name in ("std", *uses[crate]) for it in ("--extern", f"{name}={library(name)}")]
-    folders = [f"{KIT}/rlibs", *(f"{root}/crates/{it}/out/rlib" for it in uses)]
-    words += [it for folder in folders for it in ("-L", f"dependency={folder}")]
-    return [*words, "--antt-project", f"{KIT}/rattle/logic/antt-project.json", "--logic-built", f"{KIT}/logic_built"]
 
 
 def named(root, crates):

@@ -1,6 +1,6 @@
 #!/usr/bin/env python3
 """Writes the examples with what they print as constants of the tests: those of mode node, with their reports, in
-crates/txc_store_cases/src/run/examples.rt, and those of mode world in crates/txc_store_cases/src/world/examples.rt.
+crates/txc_run_cases/src/run/examples.rt, and those of mode world in crates/txc_world_cases/src/world/examples.rt.
 
 usage: examples.py [--check]      --check writes nothing, and ends with 1 where a file is not what would be written
 """
@@ -69,9 +69,12 @@ def of_worlds(folder):
 
 def main():
     root = pathlib.Path(__file__).resolve().parent.parent
-    cases = root / "crates/txc_store_cases/src"
+    crates = root / "crates"
     examples = root / "examples"
-    written = {cases / "run/examples.rt": of_nodes(examples), cases / "world/examples.rt": of_worlds(examples)}
+    written = {
+        crates / "txc_run_cases/src/run/examples.rt": of_nodes(examples),
+        crates / "txc_world_cases/src/world/examples.rt": of_worlds(examples),
+    }
     for target, text in written.items():
         if "--check" not in sys.argv[1:]:
             target.write_text(text)

@@ -18,9 +18,9 @@ from typing import Callable, NamedTuple
 # Tests that count to a large limit, and so have as many allocations as that.
 LEFT_OUT = {
     "txc_cases stream::the_largest_row_is_filled_and_walked",
-    "txc_store_cases pins::shared::users_and_pins_have_a_limit",
-    "txc_store_cases run::a_reader_that_never_ends",
-    "txc_store_cases shared::locked::passes_have_a_limit",
+    "txc_db_cases pins::shared::users_and_pins_have_a_limit",
+    "txc_run_cases run::a_reader_that_never_ends",
+    "txc_txn_cases shared::locked::passes_have_a_limit",
 }
 
 # A run with at most so many allocations has each refused, a longer one an evenly spaced sample.

@@ -13,6 +13,7 @@ use std::thread::Threads;
 use txc_cushion::Pincushion;
 use txc_db::{Database, DbCore, Naming};
 use txc_node::Record;
+use txc_players::room;
 use txc_stream::EventRow;
 use txc_work::{MAX_CLIENTS, run_batch};
 
@@ -76,14 +77,6 @@ fn is_answered<R: Threads + Wait + Sync>(
         }
     }
     false
-}
-
-/// An empty text that needs no more memory for an answer.
-fn room(alloc: Global) -> Result<String, AllocError> {
-    match String::with_capacity(alloc, 8192) {
-        Err(_) => String::with_capacity(alloc, 8192),
-        other => other,
-    }
 }
 
 fn play<R: Threads + Wait + Sync + Abort + AllocGlobal>(

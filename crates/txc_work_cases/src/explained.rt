@@ -1,9 +1,9 @@
 //! What a receipt must say, found without pins, reaches or nodes: the events before its stamp are replayed.
 //
 // It stands among the cases of clients too.
-use crate::plain::{say_value, state_after};
 use std::alloc::{AllocError, Global};
 use txc_db::{HistoryFront, What};
+use txc_players::{say_value, state_after};
 use txc_ports::{Bounds, Recorded};
 use txc_rows::Row;
 use txc_txn::Receipt;

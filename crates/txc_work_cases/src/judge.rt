@@ -1,10 +1,10 @@
 //! What a batch came to, beside what it is to come to.
 use crate::explained::is_explained;
-use crate::plain::number;
 use crate::stage::{Left, PERMITS};
 use crate::watch::{Watch, bit};
 use std::alloc::Global;
 use std::str::SplitWhitespace;
+use txc_players::number;
 use txc_ports::Bounds;
 use txc_stamp::Stamp;
 use txc_tags::Key;

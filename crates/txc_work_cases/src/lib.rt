@@ -11,8 +11,6 @@ mod explained;
 #[cfg(test)]
 mod judge;
 #[cfg(test)]
-mod plain;
-#[cfg(test)]
 mod stage;
 #[cfg(test)]
 mod watch;

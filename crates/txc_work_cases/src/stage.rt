@@ -4,7 +4,6 @@ ghost use Rattle.std.specs.Prelude.{◌≡◌, ◌≤◌, All, IfSome, length, v
 ghost use Rattle.txc_registry.specs.Objects.{numbers_of};
 ghost use Rattle.txc_functions.specs.AnyFunction.{ALL_NUMBERS};
 
-use crate::plain::changes;
 use std::alloc::{AllocError, Global};
 use std::sync::Wait;
 use txc_client::Client;
@@ -13,6 +12,7 @@ use txc_db::{Database, Naming};
 use txc_functions::{Object, Program, registry};
 use txc_node::Record;
 use txc_permits::{Permit, PermitPool};
+use txc_players::changes;
 use txc_shared::{NodeSettings, SharedNode};
 use txc_stamp::Stamp;
 use txc_stream::EventRow;
@@ -79,7 +79,7 @@ fn committed<J: Naming>(
     database: &Database<J>,
     text: &str,
 ) -> Option<()> {
-    let changes = changes(alloc, text)?;
+    let changes = changes(alloc, text).ok()?;
     let tags = TagSet::new(alloc);
     let committed = database.commit(rt, alloc, Stamp::ZERO, &tags, &changes);
     let _ = committed.ok()?;

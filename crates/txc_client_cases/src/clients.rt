@@ -1,0 +1,7 @@
+//! Clients and their read-only transactions.
+mod boxes;
+mod calling;
+mod desk;
+mod explained;
+mod rows;
+mod threads;
