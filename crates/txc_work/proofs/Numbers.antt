@@ -152,8 +152,7 @@ fold_below : (x : ℕ) (xs : List ℕ) → (fold min x xs ≤ x) × All (λ y. f
 fold_below x [] = (omega arith, All-nil (λ y. x ≤ y))
 fold_below x (y ∷ ys) =
     let rest = fold_below (min x y) ys in
-    let least = rest.0 in
-    (
+    let least = rest.0 in (
       omega (arith, least, min-le_left x y),
       All-cons (λ z. fold min (min x y) ys ≤ z) y ys (omega (arith, least, min-le_right x y)) rest.1,
     )
@@ -162,8 +161,7 @@ of_reduced : (P : ℕ → Type 0) (ys : List ℕ) (n : ℕ) → Some n ≡ reduc
 of_reduced P [] n is all = absurd (cc)
 of_reduced P (y ∷ ys) n is all =
     let same : n ≡ fold min y ys = cc in
-    let below = fold_below y ys in
-    (
+    let below = fold_below y ys in (
       subst P (sym same) (fold_keeps P y ys (All-head P y ys all) (All-tail P y ys all)),
       subst (λ k. All (λ z. k ≤ z) (y ∷ ys)) (sym same) (All-cons (λ z. fold min y ys ≤ z) y ys below.0 below.1),
     )

@@ -34,8 +34,8 @@ pub record IsReceiptOf (next : Next) (row : List ℕ) (job : Job) (receipt : Rec
 
 -- In a transaction with these bounds, whose pin set means what it says and whose objects are those of these
 -- functions, all idle, the keys before this one were answered; and the call of this one came to the refusal.
-pub record IsRefusedAt (next : Next) (row : List ℕ) (node_rows : ℕ → List ℕ) (functions : List ℕ) (bounds : Bounds)
-    (keys : List Call) (error : TxnError) : Type 0 where
+pub record IsRefusedAt (next : Next) (row : List ℕ) (node_rows : ℕ → List ℕ) (functions : List ℕ)
+    (bounds : Bounds) (keys : List Call) (error : TxnError) : Type 0 where
   pub before : List Call
   pub key : Call
   pub after : List Call
@@ -49,7 +49,8 @@ pub record IsRefusedAt (next : Next) (row : List ℕ) (node_rows : ℕ → List 
   pub answered : keys_of old.txn.core.recorded ≡ before
   pub run : HasRun next row node_rows old key new (turn_of (Err error))
 
--- A receipt is the job's. A refusal is out of memory, or that of the first of the job's calls that was refused.
+-- A receipt is the job's. A refusal is out of memory, or that of the first of the job's calls that was
+-- refused, in a transaction of these functions.
 abbrev pub Meets : Next → List ℕ → (ℕ → List ℕ) → List ℕ → Job → Outcome → Type 0
 Meets next row node_rows functions job (outcomes.Receipt receipt) = IsReceiptOf next row job receipt
 Meets next row node_rows functions job (outcomes.Refused error) =

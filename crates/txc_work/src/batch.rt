@@ -18,10 +18,10 @@ use std::alloc::{AllocError, Global};
 use std::marker::Brand;
 use std::sync::Wait;
 use std::thread::{self, Threads};
+use txc_app::App;
 use txc_client::Client;
 use txc_db::Naming;
 use txc_registry::Cacheable;
-use txc_app::App;
 
 /// The most clients of a batch.
 pub const MAX_CLIENTS: usize = 8;

@@ -7,11 +7,11 @@ use crate::gate::Gate;
 use crate::job::{Job, Outcome, Receipted};
 use std::alloc::Global;
 use std::sync::Wait;
+use txc_app::App;
 use txc_client::{Client, RoTxn};
 use txc_db::Naming;
 use txc_ports::TxnError;
 use txc_registry::Cacheable;
-use txc_app::App;
 use txc_tags::Key;
 
 /// Runs the job between the two calls of the gate.
@@ -23,8 +23,9 @@ pub(crate) fn run_job<'a, A: App, C: Cacheable, J: Naming, G: Gate>(
     job: Job,
 ) -> (Receipted, Client<'a, A, C, J>)
     ensures number { result.0.number ≡ job.number }
-    ensures met { Meets A.next J.database_row J.node_rows (numbers_of client.objects) job result.0.outcome }
-    ensures functions { result.1.objects ≡ client.objects }
+    ensures met { Meets A.next J.database_row J.node_rows (numbers_of client.entry.objects)
+        job result.0.outcome }
+    ensures functions { result.1.objects ≡ client.entry.objects }
 {
     gate.before(&job);
     let (outcome, client) = transact(rt, alloc, client, &job);
@@ -43,8 +44,8 @@ fn transact<'a, A: App, C: Cacheable, J: Naming>(
     client: Client<'a, A, C, J>,
     job: &Job,
 ) -> (Outcome, Client<'a, A, C, J>)
-    ensures met { Meets A.next J.database_row J.node_rows (numbers_of client.objects) job.now result.0 }
-    ensures functions { result.1.objects ≡ client.objects }
+    ensures met { Meets A.next J.database_row J.node_rows (numbers_of client.entry.objects) job.now result.0 }
+    ensures functions { result.1.objects ≡ client.entry.objects }
 {
     let mut txn = match client.begin_ro(rt, alloc, job.bounds) {
         Ok(txn) => txn,

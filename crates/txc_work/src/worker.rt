@@ -12,10 +12,10 @@ use crate::running::run_job;
 use crossbeam_queue::Pass;
 use std::alloc::{AllocError, Global};
 use std::sync::Wait;
+use txc_app::App;
 use txc_client::Client;
 use txc_db::Naming;
 use txc_registry::Cacheable;
-use txc_app::App;
 
 /// A client, with its passes of both queues.
 #[derive(Drop)]
@@ -25,7 +25,7 @@ pub(crate) struct Worker<K> {
     results: Pass<Receipted, ()>,
 }
 
-/// The passes by which the jobs are put into their queue, and the results taken out of theirs; and the workers.
+/// The passes by which jobs are put into their queue and results taken out of theirs, and the workers.
 pub(crate) type Equipped<K> = (Pass<Job, ()>, Pass<Receipted, ()>, Vec<Worker<K>>);
 
 /// Gives each client passes of both queues, split off from these.

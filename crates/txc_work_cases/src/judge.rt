@@ -18,8 +18,8 @@ pub(super) struct Case<'a> {
     pub before: &'a str,
     /// Each line is a job: `NUMBER NOW STALENESS AT_LEAST KEY..`.
     pub jobs: &'a str,
-    /// Each line is what the jobs of some numbers come to: `NUMBER: TEXT` or `FIRST-LAST: TEXT`, where the text
-    /// `explained` is any receipt that the plain evaluator explains. Or it is the refusal of the batch.
+    /// Each line is what the jobs of some numbers come to: `NUMBER: TEXT` or `FIRST-LAST: TEXT`, where the
+    /// text `explained` is any receipt that the plain evaluator explains. Or it is the refusal of the batch.
     pub wanted: &'a str,
     /// How many pins the jobs add, at least and at most.
     pub added: (u64, u64),

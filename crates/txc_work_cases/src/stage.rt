@@ -1,5 +1,5 @@
-//! What a batch runs over: a database, its pincushion, two nodes, and clients. Each client has a pool of permits
-//! of its own, so that none lacks one beside another.
+//! What a batch runs over: a database, its pincushion, two nodes, and clients. Each client has a pool of
+//! permits of its own, so that none lacks one beside another.
 ghost use Rattle.std.specs.Prelude.{◌≡◌, ◌≤◌, All, IfSome, length, vec_len};
 ghost use Rattle.txc_registry.specs.Objects.{numbers_of};
 ghost use Rattle.txc_functions.specs.AnyFunction.{ALL_NUMBERS};
@@ -99,7 +99,8 @@ fn pinned<J: Naming>(
     cushion.give_back(rt, &[pinned.stamp]).ok()
 }
 
-/// Commits and pins: each line has changes, and after an `@` the moment of a pin. Answers how many pins there are.
+/// Commits and pins: each line has changes, and after an `@` the moment of a pin. Answers how many pins there
+/// are.
 pub(super) fn prepare<J: Naming>(
     rt: &impl Wait,
     alloc: Global,

@@ -35,8 +35,8 @@ pub(super) fn bit(number: u32) -> u64 {
 }
 
 impl<'a> Watch<'a> {
-    /// Watches the jobs of this set over these events. Where it holds, job 1 is held until job 2 was answered,
-    /// and job 2 until job 1 is held.
+    /// Watches the jobs of this set over these events. Where it holds, job 1 is held until job 2 was
+    /// answered, and job 2 until job 1 is held.
     pub(super) fn new(
         alloc: Global,
         events: &'a EventRow<Event>,
