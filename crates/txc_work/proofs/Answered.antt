@@ -1,10 +1,11 @@
 -- What is known of the results of a batch.
-use Rattle.std.proofs.Common.{◌≡◌, ℕ, ◌<◌, true, nat_lt, List, length, slice_index_or, All, Contains, IsPermutation, sym, subst, arith}
+use Rattle.std.proofs.Common.{◌≡◌, ℕ, ◌<◌, true, nat_lt, List, length, slice_index_or, All, Contains, IsPermutation, Result, Ok, Err, IsErrAnd, ◌∙◌, sym, ap, subst, arith}
 use Rattle.std.proofs.lemmas.Bool.Decides.{nat_tests}
 use Rattle.std.proofs.lemmas.List.{get_or-map, length-map}
 use Rattle.std.proofs.lemmas.List.Elements.{All-weaker, All-contains, All-contains_itself}
 use Rattle.std.proofs.lemmas.List.Sorted.{Contains-permutation}
-use Rattle.txc_work.specs.Batches.{job_numbers, IsResultOf, NamesOneOf}
+use Rattle.txc_app.specs.Eval.{Next}
+use Rattle.txc_work.specs.Batches.{job_numbers, IsResultOf, Meets, NamesOneOf}
 use Rattle.txc_work.specs.Workers.{Implies}
 use Rattle.txc_work.specs.declared.error.BatchError.{BatchError}
 use Rattle.txc_work.specs.declared.error.BatchError.TheVariants.{Missing, Twice, Memory}
@@ -20,6 +21,23 @@ of_same_batch jobs others meets also same shared results all =
     (λ r h. (h.0, subst (λ js. Contains js h.0) same h.1, h.2, shared h.0 r.outcome h.3))
     results
     all
+
+-- an outcome that meets its job where clients have some functions does so where they have the same
+pub with_functions : (next : Next) (row : List ℕ) (node_rows : ℕ → List ℕ) (given functions : List ℕ) (job : Job) (outcome : Outcome)
+    → given ≡ functions → Meets next row node_rows given job outcome → Meets next row node_rows functions job outcome
+with_functions next row node_rows given functions job outcome same met =
+    subst (λ (fs : List ℕ). Meets next row node_rows fs job outcome) same met
+
+-- what a `?` passes on is the error that was there
+pub passed_err : {T E : Type 0} (r : Result T E) (e f : E) → IsErrAnd r (λ x. x ≡ e) → e ≡ f → r ≡ Err f
+passed_err (Ok x) e f h k = absurd h
+passed_err (Err x) e f h k = ap Err (h ∙ k)
+
+pub err_same : {T E : Type 0} (r : Result T E) (e f : E) → r ≡ Err e → r ≡ Err f → e ≡ f
+err_same r e f one other = cc
+
+pub ok_not_err : {T E : Type 0} (r : Result T E) (x : T) (e : E) → r ≡ Ok x → r ≡ Err e → ⊥
+ok_not_err r x e one other = absurd (cc)
 
 -- a job's number is one of the numbers
 number_stands : (jobs : List Job) (job : Job) → Contains jobs job → Contains (job_numbers jobs) job.number

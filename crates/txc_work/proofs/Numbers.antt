@@ -191,7 +191,7 @@ passes_too p m pass (x ∷ xs) some =
     (eqb_tells x m)
 
 module _ (s : List ℕ) where
-  test : ℕ → Bool
+  abbrev test : ℕ → Bool
   test n = nat_le 2 (count_of n s)
 
   all_twice : All (StandsTwice s) (twice_in s)

@@ -1,5 +1,5 @@
 //! Batches, and what their jobs come to, worked by hand.
-ghost use Rattle.std.specs.Prelude.{◌≡◌};
+ghost use Rattle.std.specs.Prelude.{◌≡◌, ◌≤◌, length};
 
 use crate::judge::{Case, Verdict, jobs, judge, set_of};
 use crate::stage::{clients, count_left, events, nodes, prepare};
@@ -12,13 +12,33 @@ use std::test::Fail;
 use std::thread::Threads;
 use txc_cushion::Pincushion;
 use txc_db::{Database, DbCore, Naming};
+use txc_functions::Program;
 use txc_node::Record;
 use txc_players::room;
+use txc_shared::SharedNode;
 use txc_stream::EventRow;
 use txc_work::{MAX_CLIENTS, run_batch};
 
 /// How many events and records there is room for.
 const ROOM: usize = 256;
+
+/// Runs the jobs by a client of their own, whatever comes of them.
+fn warm_up<J: Naming + Send + Sync, R: Threads + Wait + Sync>(
+    rt: &R,
+    alloc: Global,
+    database: &Database<J>,
+    cushion: &Pincushion<J>,
+    nodes: &[SharedNode<Program, J>],
+    text: &str,
+) -> Option<()>
+    requires { 1 ≤ length nodes.now }
+{
+    let mut pools = Vec::new(alloc);
+    let clients = clients(rt, alloc, database, cushion, nodes, &mut pools, 1)?;
+    let watch = Watch::new(alloc, database.events(), set_of(text), false);
+    let _ = run_batch(rt, alloc, jobs(alloc, text)?, clients, &watch).ok()?;
+    Some(())
+}
 
 /// Runs the jobs over the rows, and judges what comes of it. None where memory for anything else was refused.
 fn run_over<J: Naming + Send + Sync, R: Threads + Wait + Sync>(
@@ -36,7 +56,14 @@ fn run_over<J: Naming + Send + Sync, R: Threads + Wait + Sync>(
     let database = Database::<J>::new(alloc, core).ok()?;
     let cushion = Pincushion::new(alloc, &database).ok()?;
     let nodes = nodes(alloc, one, other, &database)?;
-    let pins = prepare(rt, alloc, &database, &cushion, case.before)?;
+    let mut pins = 0u64;
+    for line in case.before.lines() {
+        prepare(rt, alloc, &database, &cushion, line)?;
+        if pins == 0 && !case.warm.is_empty() {
+            warm_up(rt, alloc, &database, &cushion, &nodes, case.warm)?;
+        }
+        pins = pins.saturating_add(1);
+    }
     let mut pools = Vec::new(alloc);
     let count = case.clients.clamp(1, MAX_CLIENTS);
     let clients = clients(rt, alloc, &database, &cushion, &nodes, &mut pools, count)?;
@@ -98,10 +125,12 @@ put 1 7 3 f, remove 1 8 @ 3000";
 const PLAIN: Case<'static> = Case {
     clients: 1,
     before: ONE_PIN,
+    warm: "",
     jobs: "",
     wanted: "",
     added: (0, 0),
     holds: false,
+    spreads: false,
 };
 
 #[test]
@@ -142,6 +171,19 @@ fn two_workers_run_at_once(rt: HostRuntime) -> Result<(), Fail> {
             jobs: "1 1000 0 0 f0(7)\n2 1000 0 0 f0(8)",
             wanted: "1: 61\n2: 62",
             holds: true,
+            ..PLAIN
+        },
+    )
+}
+
+#[test]
+fn the_gate_is_called_round_the_job(rt: HostRuntime) -> Result<(), Fail> {
+    play(
+        &rt,
+        &Case {
+            jobs: "1 9000 100 0 f0(7)",
+            wanted: "1: 61",
+            added: (1, 1),
             ..PLAIN
         },
     )
@@ -243,9 +285,11 @@ fn forty_jobs_of_eight_clients_are_explained(rt: HostRuntime) -> Result<(), Fail
         &Case {
             clients: 8,
             before: THREE_PINS,
+            warm: "0 1000 0 0 f0(5) f0(6) f0(7) f0(8) f0(9)",
             jobs: &jobs,
             wanted: "0-39: explained",
-            added: (2, 40),
+            added: (1, 40),
+            spreads: true,
             ..PLAIN
         },
     )

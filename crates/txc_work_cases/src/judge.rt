@@ -16,6 +16,8 @@ pub(super) struct Case<'a> {
     pub clients: usize,
     /// What is committed and pinned before.
     pub before: &'a str,
+    /// Jobs that are run by a client of their own between the first pin and the next commit.
+    pub warm: &'a str,
     /// Each line is a job: `NUMBER NOW STALENESS AT_LEAST KEY..`.
     pub jobs: &'a str,
     /// Each line is what the jobs of some numbers come to: `NUMBER: TEXT` or `FIRST-LAST: TEXT`, where the
@@ -25,6 +27,8 @@ pub(super) struct Case<'a> {
     pub added: (u64, u64),
     /// Whether job 1 is held while job 2 runs.
     pub holds: bool,
+    /// Whether the receipts are of several stamps.
+    pub spreads: bool,
 }
 
 /// How a batch is judged.
@@ -185,6 +189,20 @@ fn judge_job(answer: &mut String, alloc: Global, told: &Receipted, case: &Case<'
     })
 }
 
+/// Whether the receipts are of several stamps.
+fn are_spread(results: &[Receipted]) -> bool {
+    let (mut least, mut most) = (u32::MAX, 0);
+    for told in results {
+        if let Outcome::Receipt(receipt) = &told.outcome
+            && let Some(pin) = receipt.pin
+        {
+            least = pin.stamp.number().min(least);
+            most = pin.stamp.number().max(most);
+        }
+    }
+    least < most
+}
+
 /// Writes what the jobs came to, and judges it: each went through the gate once.
 fn judge_results(
     answer: &mut String,
@@ -202,6 +220,10 @@ fn judge_results(
     }
     if case.holds && !watch.has_held() {
         // where no thread could be made
+        verdict = verdict.and(Verdict::Refused);
+    }
+    if case.spreads && !are_spread(results) {
+        // where no node kept what it was to keep
         verdict = verdict.and(Verdict::Refused);
     }
     verdict

@@ -99,23 +99,17 @@ fn pinned<J: Naming>(
     cushion.give_back(rt, &[pinned.stamp]).ok()
 }
 
-/// Commits and pins: each line has changes, and after an `@` the moment of a pin. Answers how many pins there
-/// are.
+/// Commits the changes of the line, and pins the moment after its `@`.
 pub(super) fn prepare<J: Naming>(
     rt: &impl Wait,
     alloc: Global,
     database: &Database<J>,
     cushion: &Pincushion<J>,
-    text: &str,
-) -> Option<u64> {
-    let mut pins = 0u64;
-    for line in text.lines() {
-        let (changes, moment) = line.split_once(" @ ")?;
-        committed(rt, alloc, database, changes)?;
-        pinned(rt, alloc, database, cushion, moment.parse().ok()?)?;
-        pins = pins.saturating_add(1);
-    }
-    Some(pins)
+    line: &str,
+) -> Option<()> {
+    let (changes, moment) = line.split_once(" @ ")?;
+    committed(rt, alloc, database, changes)?;
+    pinned(rt, alloc, database, cushion, moment.parse().ok()?)
 }
 
 /// A client with an object of each function.
