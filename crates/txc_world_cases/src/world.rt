@@ -196,6 +196,14 @@ fn a_request_that_is_refused_ends_its_call(rt: HostRuntime) {
 
 #[test]
 fn a_malformed_line_says_what_is_wrong(rt: HostRuntime) {
-    let other = other_line(rt.alloc()).or(other_word(rt.alloc()));
-    assert_eq!(rt; other, None);
+    if let Some(line) = other_line(rt.alloc()) {
+        assert!(rt; false, "{line}");
+    }
+}
+
+#[test]
+fn a_bad_word_says_what_was_expected(rt: HostRuntime) {
+    if let Some(line) = other_word(rt.alloc()) {
+        assert!(rt; false, "{line}");
+    }
 }

@@ -1,7 +1,7 @@
 //! What is wrong with a malformed line of a world's script, as the program says it on standard error.
 use super::run;
 use std::alloc::Global;
-use txc_script::Status;
+use txc_run::Status;
 use txc_settings::Settings;
 
 const NUMBER: &str = "a number from 0 to 4294967295, without leading zeros";
@@ -27,7 +27,7 @@ aaaaaaaaaaaaaaaaaaaaaaaaaaaaaaaaaaaaaaaaaaaaaaaaaaaaaaaaaaaaaaaaaaaaaaaaaaaaaaaa
 aaaaaaaaaaaaaaaaaaaaaaaaaaaaaaaaaaaaaaaaaaaaaaaaaaaaaaaaaaaaaaaaaaaaaaaaaaaaa";
 
 /// Lines, and what is said of each.
-pub static LINES: [(&str, &str); 16] = [
+static LINES: [(&str, &str); 16] = [
     ("lookup f1(2) 0 9", "unknown command `lookup`"),
     ("puts 1 7 2 a", "unknown command `puts`"),
     (
@@ -67,49 +67,69 @@ pub static LINES: [(&str, &str); 16] = [
     ),
 ];
 
-/// Lines, and of each the number of the word that is said to be bad, what was expected, and what was found.
-pub static WORDS: [(&str, usize, &str, &str); 27] = [
-    ("put 16 1 1 a", 1, TABLE, "`16`"),
-    ("put 1 4294967296 1 a", 2, NUMBER, "`4294967296`"),
-    ("put 1 1 01 a", 3, NUMBER, "`01`"),
+/// Lines, and which word of each is said to be bad, what was expected, and what was found.
+static WORDS: [(&str, &str, &str, &str); 27] = [
+    ("put 16 1 1 a", "line 1: word 1", TABLE, "`16`"),
+    (
+        "put 1 4294967296 1 a",
+        "line 1: word 2",
+        NUMBER,
+        "`4294967296`",
+    ),
+    ("put 1 1 01 a", "line 1: word 3", NUMBER, "`01`"),
     (
         LONG_BODY,
-        4,
+        "line 1: word 4",
         BODY,
         "`aaaaaaaaaaaaaaaaaaaaaaaaaaaaaaaaaaaaaaaa...`",
     ),
-    ("remove x y", 1, TABLE, "`x`"),
-    ("remove 1 -1", 2, NUMBER, "`-1`"),
+    ("remove x y", "line 1: word 1", TABLE, "`x`"),
+    ("remove 1 -1", "line 1: word 2", NUMBER, "`-1`"),
     (
         "pin 18446744073709551616",
-        1,
+        "line 1: word 1",
         MOMENT,
         "`18446744073709551616`",
     ),
-    ("query 1048577 all 1", 1, STAMP, "`1048577`"),
-    ("query 5 by-table 1", 2, QUERY, "`by-table`"),
-    ("query 5 by-id 16 1", 3, TABLE, "`16`"),
-    ("query 5 by-group 1 x", 4, NUMBER, "`x`"),
-    ("query 5 all x", 3, TABLE, "`x`"),
-    ("query x by-table", 1, STAMP, "`x`"),
-    ("ro x 0 0 0", 1, NUMBER, "`x`"),
-    ("ro 0 00 0 0", 2, MOMENT, "`00`"),
-    ("ro 0 0 s 0", 3, MOMENT, "`s`"),
-    ("ro 0 0 0 1048577", 4, STAMP, "`1048577`"),
-    ("rw 4294967296", 1, NUMBER, "`4294967296`"),
-    ("call 0 f1(02)", 2, KEY, "`f1(02)`, wrong at byte 5"),
-    ("call 0 f1(2", 2, KEY, "`f1(2`, which ends too early"),
-    ("ask 0 some 1", 2, QUERY, "`some`"),
-    ("ask x all 1", 1, NUMBER, "`x`"),
-    ("write 0 change 1 7 2 a", 2, CHANGE, "`change`"),
-    ("write 0 put 1 7 x a", 5, NUMBER, "`x`"),
-    ("sweep 0 1048577", 2, STAMP, "`1048577`"),
-    ("advance f0()", 1, NUMBER, "`f0()`"),
-    ("tidy 1 1.5", 2, MOMENT, "`1.5`"),
+    ("query 1048577 all 1", "line 1: word 1", STAMP, "`1048577`"),
+    ("query 5 by-table 1", "line 1: word 2", QUERY, "`by-table`"),
+    ("query 5 by-id 16 1", "line 1: word 3", TABLE, "`16`"),
+    ("query 5 by-group 1 x", "line 1: word 4", NUMBER, "`x`"),
+    ("query 5 all x", "line 1: word 3", TABLE, "`x`"),
+    ("query x by-table", "line 1: word 1", STAMP, "`x`"),
+    ("ro x 0 0 0", "line 1: word 1", NUMBER, "`x`"),
+    ("ro 0 00 0 0", "line 1: word 2", MOMENT, "`00`"),
+    ("ro 0 0 s 0", "line 1: word 3", MOMENT, "`s`"),
+    ("ro 0 0 0 1048577", "line 1: word 4", STAMP, "`1048577`"),
+    ("rw 4294967296", "line 1: word 1", NUMBER, "`4294967296`"),
+    (
+        "call 0 f1(02)",
+        "line 1: word 2",
+        KEY,
+        "`f1(02)`, wrong at byte 5",
+    ),
+    (
+        "call 0 f1(2",
+        "line 1: word 2",
+        KEY,
+        "`f1(2`, which ends too early",
+    ),
+    ("ask 0 some 1", "line 1: word 2", QUERY, "`some`"),
+    ("ask x all 1", "line 1: word 1", NUMBER, "`x`"),
+    (
+        "write 0 change 1 7 2 a",
+        "line 1: word 2",
+        CHANGE,
+        "`change`",
+    ),
+    ("write 0 put 1 7 x a", "line 1: word 5", NUMBER, "`x`"),
+    ("sweep 0 1048577", "line 1: word 2", STAMP, "`1048577`"),
+    ("advance f0()", "line 1: word 1", NUMBER, "`f0()`"),
+    ("tidy 1 1.5", "line 1: word 2", MOMENT, "`1.5`"),
 ];
 
-/// What is said of the last line of the script; none where memory was refused for the world.
-fn said(alloc: Global, script: &str) -> Option<String> {
+/// What the program says of a line that is malformed.
+fn try_said(alloc: Global, script: &str) -> Option<String> {
     let settings = Settings::read(alloc, "").ok()?;
     let mut written = Vec::new(alloc);
     match run(alloc, settings, script, &mut written) {
@@ -118,13 +138,29 @@ fn said(alloc: Global, script: &str) -> Option<String> {
     }
 }
 
-/// Whether that is said of the line; once more where memory was refused.
-fn says(alloc: Global, script: &str, text: &str) -> bool {
-    let line = match said(alloc, script) {
-        Some(line) => Some(line),
-        None => said(alloc, script),
+/// The same; it is run once more where memory was refused.
+fn said(alloc: Global, script: &str) -> Option<String> {
+    match try_said(alloc, script) {
+        Some(text) => Some(text),
+        None => try_said(alloc, script),
+    }
+}
+
+fn says(alloc: Global, script: &str, wanted: &str) -> bool {
+    match said(alloc, script) {
+        Some(text) => text.split_once("line 1: ") == Some(("", wanted)),
+        None => false,
+    }
+}
+
+fn says_word(alloc: Global, script: &str, word: &str, expected: &str, found: &str) -> bool {
+    let Some(text) = said(alloc, script) else {
+        return false;
     };
-    line.is_some_and(|line| line.as_str().strip_prefix("line 1: ") == Some(text))
+    let Some((start, rest)) = text.split_once(" after the command: expected ") else {
+        return false;
+    };
+    start == word && rest.split_once(", found ") == Some((expected, found))
 }
 
 /// The first of the lines of which something else is said.
@@ -137,23 +173,10 @@ pub fn other_line(alloc: Global) -> Option<&'static str> {
     None
 }
 
-fn says_word(alloc: Global, script: &str, number: usize, kind: &str, found: &str) -> bool {
-    let text = format!(in alloc; "word {number} after the command: expected {kind}, found {found}");
-    match text {
-        Ok(text) => says(alloc, script, text.as_str()),
-        Err(_) => says_word_again(alloc, script, number, kind, found),
-    }
-}
-
-fn says_word_again(alloc: Global, script: &str, number: usize, kind: &str, found: &str) -> bool {
-    let text = format!(in alloc; "word {number} after the command: expected {kind}, found {found}");
-    text.is_ok_and(|text| says(alloc, script, text.as_str()))
-}
-
 /// The first of the lines of whose words something else is said.
 pub fn other_word(alloc: Global) -> Option<&'static str> {
-    for (script, number, kind, found) in &WORDS {
-        if !says_word(alloc, script, *number, kind, found) {
+    for (script, word, expected, found) in &WORDS {
+        if !says_word(alloc, script, word, expected, found) {
             return Some(*script);
         }
     }
