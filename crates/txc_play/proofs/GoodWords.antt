@@ -1,14 +1,10 @@
 -- Words that are all of their kinds ask for something, and those of a line that asks for something are.
-use Rattle.std.proofs.Common.{◌≡◌, ◌≤◌, ℕ, Bool, true, false, List, [], ◌∷◌, ◌++◌, Option, Some, None, length, refl, sym, ap, subst, inl, inr, ◌∙◌}
+use Rattle.std.proofs.Common.{◌≡◌, ℕ, Bool, true, false, List, [], ◌∷◌, Some, None, refl, sym, ap, subst, ◌∙◌}
 use Rattle.std.specs.Prelude.{codes, if◌then◌else◌}
 use Rattle.std.specs.Fmt.{decimal}
 use Rattle.std.specs.Str.{bytes_eq}
 use Rattle.std.proofs.lemmas.Slice.Eq.{bytes_eq-Decides}
-use Rattle.txc_stamp.specs.declared.stamp.TheConstants.{LAST_STAMP}
-use Rattle.txc_tags.specs.Keys.{Call}
-use Rattle.txc_tags.specs.TextKey.{key_text, IsKeyInRange}
-use Rattle.txc_tags.specs.declared.tag.TheConstants.{LAST_TABLE}
-use Rattle.txc_tags.specs.declared.text.number.TheConstants.{LAST_NUMBER}
+use Rattle.txc_tags.specs.TextKey.{key_text}
 use Rattle.txc_rows.specs.Values.{RowValue, IsBody, IsRow}
 use Rattle.txc_rows.specs.declared.query.Change.{Change}
 use Rattle.txc_rows.specs.declared.query.Change.TheVariants as changes
@@ -19,24 +15,18 @@ use Rattle.txc_ports.specs.declared.bounds.Bounds.{Bounds}
 use Rattle.txc_world.specs.declared.step.Act.TheVariants as acts
 use Rattle.txc_world.specs.declared.step.Keep.TheVariants as keeps
 use Rattle.txc_world.specs.declared.step.Step.TheVariants.{Actor, Keeper}
-use Rattle.txc_script.specs.LineFaults.{AreOfKinds, IsBadWord, IsOfKind}
-use Rattle.txc_script.specs.Lines.{IsNumberWord, IsTextWord}
-use Rattle.txc_script.specs.declared.line_fault.CommandFault.{CommandFault}
-use Rattle.txc_script.specs.declared.line_fault.CommandFault.TheVariants as faults
-use Rattle.txc_script.specs.declared.line_fault.WordFault.{WordFault}
+use Rattle.txc_script.specs.LineFaults.{AreOfKinds, IsOfKind}
+use Rattle.txc_script.specs.Lines.{IsTextWord}
 use Rattle.txc_script.specs.declared.line_fault.WordKind.{WordKind}
-use Rattle.txc_script.specs.declared.line_fault.WordKind.TheVariants.{Key, Stamp, Number, QueryName, ChangeName}
+use Rattle.txc_script.specs.declared.line_fault.WordKind.TheVariants.{Key, Stamp, QueryName, ChangeName}
 use Rattle.txc_script.specs.declared.line_name.LineName.{LineName}
 use Rattle.txc_script.specs.declared.line_name.LineName.TheVariants as names
 use Rattle.txc_play.specs.TaskReading.{ArePairWords}
-use Rattle.txc_play.specs.Tasks.{AreAfterPlace, AreBoundsInRange, AreChangeWords, AreQueryWords, IsChangeInRange, IsPair, IsQueryInRange, Says, bounds_words, change_words, name_text, query_words, row_words}
-use Rattle.txc_play.specs.WorldFaults.{IsFaultAfter, IsFirstBad, IsWorldFault, change_line, kinds_after, moment, number, pair_kinds, place, query_line, row_kinds, second_of, table}
-use Rattle.txc_play.specs.declared.parts.TheConstants.{LAST_MOMENT}
+use Rattle.txc_play.specs.Tasks.{AreAfterPlace, AreBoundsInRange, AreChangeWords, AreQueryWords, Says, bounds_words, change_words, query_words, row_words}
+use Rattle.txc_play.specs.WorldFaults.{change_line, kinds_after, moment, number, pair_kinds, place, query_line, row_kinds, second_of, table}
 use Rattle.txc_play.specs.declared.task.Task.{Task}
 use Rattle.txc_play.specs.declared.task.Task.TheVariants as tasks
-use Rattle.txc_play.proofs.TaskNames.{same_name}
-use Rattle.txc_play.proofs.TaskParts.{apart, first_is, others_are, by_id, by_group, by_table, pair_words, put_words, remove_words, row_of}
-use Rattle.txc_play.proofs.WordKinds.{some_kinds}
+use Rattle.txc_play.proofs.TaskParts.{by_id, by_group, by_table, pair_words, put_words, remove_words, row_of}
 
 none_kinds : (kinds : List WordKind) → None ≡ Some kinds → ⊥
 none_kinds kinds e = cc

@@ -6,6 +6,5 @@ pub mod GivingUp
 pub mod TaskParts
 pub mod WorldTexts
 pub mod Answering
-pub mod WordKinds
 pub mod GoodWords
 pub mod NothingWrong

@@ -1,29 +1,28 @@
 -- Nothing is wrong with the words of a line that asks for something.
-use Rattle.std.proofs.Common.{◌≡◌, ◌≤◌, ℕ, suc, List, [], ◌∷◌, ◌++◌, Option, Some, None, length, refl, sym, ap, subst, inl, inr, ◌∙◌}
+use Rattle.std.proofs.Common.{◌≡◌, ℕ, suc, List, [], ◌∷◌, ◌++◌, Option, Some, None, length, refl, sym, ap, subst, inl, inr, ◌∙◌}
 use Rattle.std.specs.Prelude.{codes}
 use Rattle.std.specs.Fmt.{decimal}
-use Rattle.txc_tags.specs.declared.tag.TheConstants.{LAST_TABLE}
 use Rattle.txc_rows.specs.Values.{RowValue, IsRow}
 use Rattle.txc_rows.specs.declared.query.Change.{Change}
 use Rattle.txc_rows.specs.declared.query.Change.TheVariants as changes
 use Rattle.txc_rows.specs.declared.query.Query.{Query}
 use Rattle.txc_rows.specs.declared.query.Query.TheVariants as queries
-use Rattle.txc_rows.specs.declared.row.TheConstants.{MAX_BODY_LEN}
 use Rattle.txc_script.specs.LineFaults.{AreOfKinds, IsBadWord, IsOfKind}
-use Rattle.txc_script.specs.Lines.{IsTextWord}
 use Rattle.txc_script.specs.declared.line_fault.CommandFault.{CommandFault}
 use Rattle.txc_script.specs.declared.line_fault.CommandFault.TheVariants as faults
 use Rattle.txc_script.specs.declared.line_fault.WordFault.{WordFault}
 use Rattle.txc_script.specs.declared.line_fault.WordKind.{WordKind}
-use Rattle.txc_script.specs.declared.line_fault.WordKind.TheVariants.{Key, Stamp, Number, QueryName, ChangeName}
+use Rattle.txc_script.specs.declared.line_fault.WordKind.TheVariants.{Key, Stamp, QueryName, ChangeName}
 use Rattle.txc_script.specs.declared.line_name.LineName.{LineName}
 use Rattle.txc_script.specs.declared.line_name.LineName.TheVariants as names
 use Rattle.txc_play.specs.Tasks.{AreAfterPlace, AreChangeWords, IsChangeInRange, IsPair, IsQueryInRange, Says, change_words, name_text, query_words, row_words}
-use Rattle.txc_play.specs.WorldFaults.{IsFaultAfter, IsFirstBad, IsWorldFault, change_line, kinds_after, moment, number, pair_kinds, place, query_line, row_kinds, second_of, table}
+use Rattle.txc_play.specs.WorldFaults.{IsFaultAfter, IsFirstBad, IsWorldFault, change_line, kinds_after, moment, pair_kinds, place, query_line, row_kinds, second_of, table}
 use Rattle.txc_play.specs.declared.task.Task.{Task}
 use Rattle.txc_play.proofs.TaskNames.{same_name}
 use Rattle.txc_play.proofs.TaskParts.{apart, first_is, others_are}
-use Rattle.txc_play.proofs.WordKinds.{some_kinds}
+
+some_kinds : (kinds : List WordKind) → Some kinds ≡ None → ⊥
+some_kinds kinds e = cc
 
 -- ---- words that ask for something are of known kinds
 
