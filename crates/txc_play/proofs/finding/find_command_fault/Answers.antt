@@ -1,4 +1,4 @@
-use Rattle.std.proofs.Common.{◌≡◌, ℕ, List, ◌∷◌, length, sym, ap, arith, ◌∙◌}
+use Rattle.std.proofs.Common.{ℕ, List, ◌∷◌, length, sym, ap, arith, ◌∙◌}
 use Rattle.std.proofs.lemmas.List.Splits.{length-slice_split}
 use Rattle.txc_script.specs.Words.{is_blank, words_left}
 use Rattle.txc_play.proofs.GoodWords.{good_words}
