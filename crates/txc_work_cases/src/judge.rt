@@ -280,8 +280,9 @@ pub(super) fn judge(
     batch: Result<Vec<Receipted>, BatchError>,
     watch: &Watch<'_>,
     before: (u64, u64),
-    left: &Left,
-) -> Verdict {
+    left: Option<Left>,
+) -> Option<Verdict> {
+    let left = left?;
     let is_refused = batch.is_err();
     let verdict = match batch {
         Ok(results) => judge_results(answer, alloc, &results, case, watch),
@@ -293,10 +294,10 @@ pub(super) fn judge(
         retired,
         kept,
         free,
-    } = *left;
+    } = left;
     let _ = write!(
         answer,
         "; gate {befores} {afters}, events {events}, retired {retired}, kept {kept}, free {free}"
     );
-    verdict.and(judge_left(case, is_refused, before, left, watch))
+    Some(verdict.and(judge_left(case, is_refused, before, &left, watch)))
 }

@@ -1,6 +1,6 @@
 //! What a batch runs over: a database, its pincushion, two nodes, and clients. Each client has a pool of
 //! permits of its own, so that none lacks one beside another.
-ghost use Rattle.std.specs.Prelude.{◌≡◌, ◌≤◌, All, IfSome, length, vec_len};
+ghost use Rattle.std.specs.Prelude.{◌≡◌, ◌≤◌, All, IfOk, IfSome, length, vec_len};
 ghost use Rattle.txc_registry.specs.Objects.{numbers_of};
 ghost use Rattle.txc_functions.specs.AnyFunction.{ALL_NUMBERS};
 
@@ -120,12 +120,15 @@ fn client<'a, J: Naming>(
     cushion: &'a Pincushion<J>,
     nodes: &'a [SharedNode<Program, J>],
     pool: &mut PermitPool,
-) -> Option<Client<'a, Program, Object, J>>
+) -> Result<Client<'a, Program, Object, J>, AllocError>
     requires { 1 ≤ length nodes.now }
-    ensures { IfSome result (λ client. numbers_of client.objects ≡ ALL_NUMBERS) }
+    ensures { IfOk result (λ client. numbers_of client.objects ≡ ALL_NUMBERS) }
 {
-    let registry = registry(alloc, pool).ok()?;
-    Client::new(rt, alloc, database, cushion, nodes, registry, RENEW_AFTER).ok()
+    let registry = registry(alloc, pool)?;
+    match Client::new(rt, alloc, database, cushion, nodes, registry, RENEW_AFTER) {
+        Ok(client) => Ok(client),
+        Err(_) => Err(AllocError),
+    }
 }
 
 /// So many clients.
@@ -137,20 +140,20 @@ pub(super) fn clients<'a, J: Naming>(
     nodes: &'a [SharedNode<Program, J>],
     pools: &mut Vec<PermitPool>,
     count: usize,
-) -> Option<Vec<Client<'a, Program, Object, J>>>
+) -> Result<Vec<Client<'a, Program, Object, J>>, AllocError>
     requires { 1 ≤ length nodes.now }
-    ensures functions { IfSome result (λ clients.
+    ensures functions { IfOk result (λ clients.
         All (λ client. numbers_of client.objects ≡ ALL_NUMBERS) clients.items) }
-    ensures each { IfSome result (λ clients. vec_len clients ≡ count) }
+    ensures each { IfOk result (λ clients. vec_len clients ≡ count) }
 {
-    let mut clients = Vec::new(alloc);
+    let mut clients = Vec::with_capacity(alloc, count)?;
     for _ in 0..count {
-        let mut pool = PermitPool::new(alloc, PERMITS).ok()?;
+        let mut pool = PermitPool::new(alloc, PERMITS)?;
         let client = client(rt, alloc, database, cushion, nodes, &mut pool)?;
-        pools.push(pool).ok()?;
-        clients.push(client).ok()?;
+        pools.push(pool)?;
+        clients.push(client)?;
     }
-    Some(clients)
+    Ok(clients)
 }
 
 /// How many events there are.
