@@ -33,7 +33,7 @@ fn run_jobs<A, C, J, R>(
     alloc: Global,
     jobs: Vec<Job>,
     clients: Vec<Client<'_, A, C, J>>,
-    watch: &Watch<'_>,
+    watch: &Watch,
 ) -> Result<Vec<Receipted>, BatchError>
 where
     A: App + Send + Sync,
@@ -53,7 +53,7 @@ fn run_by<C, J, R>(
     alloc: Global,
     jobs: Vec<Job>,
     clients: Vec<Client<'_, Program, C, J>>,
-    watch: &Watch<'_>,
+    watch: &Watch,
 ) -> Result<Vec<Receipted>, BatchError>
 where
     C: Cacheable + Send,
@@ -80,7 +80,7 @@ fn warm_up<J: Naming + Send + Sync, R: Threads + Wait + Sync>(
     let jobs = jobs(alloc, text)?;
     let mut pools = Vec::new(alloc);
     let clients = clients(rt, alloc, database, cushion, nodes, &mut pools, 1).ok()?;
-    let watch = Watch::new(alloc, database.events(), set_of(text), false);
+    let watch = Watch::new(set_of(text), false);
     let batch = run_by::<Object, J, R>(rt, alloc, jobs, clients, &watch);
     if batch.is_ok() { Some(()) } else { None }
 }
@@ -125,7 +125,7 @@ fn run_on<J: Naming + Send + Sync, R: Threads + Wait + Sync>(
     let mut pools = Vec::new(alloc);
     let count = case.clients.clamp(1, 8);
     let clients = clients(rt, alloc, database, cushion, nodes, &mut pools, count).ok()?;
-    let watch = Watch::new(alloc, database.events(), set_of(case.jobs), case.holds);
+    let watch = Watch::new(set_of(case.jobs), case.holds);
     let batch = run_by::<Object, J, R>(rt, alloc, jobs, clients, &watch);
     let left = count_left(rt, alloc, database, cushion, &mut pools);
     judge(answer, alloc, case, batch, &watch, (were, pins), left)
@@ -253,7 +253,7 @@ fn two_workers_run_at_once(rt: HostRuntime) -> Result<(), Fail> {
 }
 
 #[test]
-fn the_gate_is_called_round_the_job(rt: HostRuntime) -> Result<(), Fail> {
+fn a_job_without_a_fresh_pin_adds_one(rt: HostRuntime) -> Result<(), Fail> {
     play(
         &rt,
         &Case {

@@ -112,19 +112,21 @@ pub(super) fn prepare<J: Naming>(
     pinned(rt, alloc, database, cushion, moment.parse().ok()?)
 }
 
-/// A client with an object of each function.
+/// A client with an object of each function, and a pool of its own.
 fn client<'a, J: Naming>(
     rt: &impl Wait,
     alloc: Global,
     database: &'a Database<J>,
     cushion: &'a Pincushion<J>,
     nodes: &'a [SharedNode<Program, J>],
-    pool: &mut PermitPool,
+    pools: &mut Vec<PermitPool>,
 ) -> Result<Client<'a, Program, Object, J>, AllocError>
     requires { 1 ≤ length nodes.now }
     ensures { IfOk result (λ client. numbers_of client.objects ≡ ALL_NUMBERS) }
 {
-    let registry = registry(alloc, pool)?;
+    let mut pool = PermitPool::new(alloc, PERMITS)?;
+    let registry = registry(alloc, &mut pool)?;
+    pools.push(pool)?;
     match Client::new(rt, alloc, database, cushion, nodes, registry, RENEW_AFTER) {
         Ok(client) => Ok(client),
         Err(_) => Err(AllocError),
@@ -148,9 +150,7 @@ pub(super) fn clients<'a, J: Naming>(
 {
     let mut clients = Vec::with_capacity(alloc, count)?;
     for _ in 0..count {
-        let mut pool = PermitPool::new(alloc, PERMITS)?;
-        let client = client(rt, alloc, database, cushion, nodes, &mut pool)?;
-        pools.push(pool)?;
+        let client = client(rt, alloc, database, cushion, nodes, pools)?;
         clients.push(client)?;
     }
     Ok(clients)

@@ -1,5 +1,0 @@
-use Rattle.std.proofs.Common.{◌≡◌}
-use Rattle.txc_work_cases.proofs.watch.Watch.look.Given as goal
-
-abbrev pub invariant-loop : goal.invariant-loop
-invariant-loop l = l.front.row ≡ l.self.events.now
