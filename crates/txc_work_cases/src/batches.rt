@@ -40,6 +40,52 @@ fn warm_up<J: Naming + Send + Sync, R: Threads + Wait + Sync>(
     Some(())
 }
 
+/// Plays the lines before the batch, of which each makes a pin, and returns how many there are.
+fn prepare_all<J: Naming + Send + Sync, R: Threads + Wait + Sync>(
+    rt: &R,
+    alloc: Global,
+    database: &Database<J>,
+    cushion: &Pincushion<J>,
+    nodes: &[SharedNode<Program, J>],
+    case: &Case<'_>,
+) -> Option<u64>
+    requires { 1 ≤ length nodes.now }
+{
+    let mut pins = 0u64;
+    for line in case.before.lines() {
+        prepare(rt, alloc, database, cushion, line)?;
+        if pins == 0 && !case.warm.is_empty() {
+            warm_up(rt, alloc, database, cushion, nodes, case.warm)?;
+        }
+        pins = pins.saturating_add(1);
+    }
+    Some(pins)
+}
+
+/// Runs the jobs by clients over so many pins, and judges what comes of it.
+fn run_by_clients<J: Naming + Send + Sync, R: Threads + Wait + Sync>(
+    rt: &R,
+    alloc: Global,
+    database: &Database<J>,
+    cushion: &Pincushion<J>,
+    nodes: &[SharedNode<Program, J>],
+    pinned: (&Case<'_>, u64),
+    answer: &mut String,
+) -> Option<Verdict>
+    requires { 1 ≤ length nodes.now }
+{
+    let (case, pins) = pinned;
+    let were = events(rt, alloc, database)?;
+    let jobs = jobs(alloc, case.jobs)?;
+    let mut pools = Vec::new(alloc);
+    let count = case.clients.clamp(1, MAX_CLIENTS);
+    let clients = clients(rt, alloc, database, cushion, nodes, &mut pools, count)?;
+    let watch = Watch::new(alloc, database.events(), set_of(case.jobs), case.holds);
+    let batch = run_batch(rt, alloc, jobs, clients, &watch);
+    let left = count_left(rt, alloc, database, cushion, &mut pools)?;
+    Some(judge(answer, alloc, case, batch, &watch, (were, pins), &left))
+}
+
 /// Runs the jobs over the rows, and judges what comes of it. None where memory for anything else was refused.
 fn run_over<J: Naming + Send + Sync, R: Threads + Wait + Sync>(
     rt: &R,
@@ -56,23 +102,8 @@ fn run_over<J: Naming + Send + Sync, R: Threads + Wait + Sync>(
     let database = Database::<J>::new(alloc, core).ok()?;
     let cushion = Pincushion::new(alloc, &database).ok()?;
     let nodes = nodes(alloc, one, other, &database)?;
-    let mut pins = 0u64;
-    for line in case.before.lines() {
-        prepare(rt, alloc, &database, &cushion, line)?;
-        if pins == 0 && !case.warm.is_empty() {
-            warm_up(rt, alloc, &database, &cushion, &nodes, case.warm)?;
-        }
-        pins = pins.saturating_add(1);
-    }
-    let mut pools = Vec::new(alloc);
-    let count = case.clients.clamp(1, MAX_CLIENTS);
-    let clients = clients(rt, alloc, &database, &cushion, &nodes, &mut pools, count)?;
-    let were = events(rt, alloc, &database)?;
-    let jobs = jobs(alloc, case.jobs)?;
-    let watch = Watch::new(alloc, database.events(), set_of(case.jobs), case.holds);
-    let batch = run_batch(rt, alloc, jobs, clients, &watch);
-    let left = count_left(rt, alloc, &database, &cushion, &mut pools)?;
-    Some(judge(answer, alloc, case, batch, &watch, (were, pins), &left))
+    let pins = prepare_all(rt, alloc, &database, &cushion, &nodes, case)?;
+    run_by_clients(rt, alloc, &database, &cushion, &nodes, (case, pins), answer)
 }
 
 /// Makes the rows, and runs the jobs over them.

@@ -1,5 +1,5 @@
 use Rattle.txc_functions.specs.AnyFunction.{ALL_NUMBERS}
-use Rattle.txc_work_cases.proofs.batches.run_over.Given as goal
+use Rattle.txc_work_cases.proofs.batches.run_by_clients.Given as goal
 
 -- the program's functions
 abbrev pub ghost-run_batch : goal.ghost-run_batch
