@@ -1,6 +1,5 @@
 -- Lines of a world's script are answered.
-use Rattle.std.proofs.Common.{◌≡◌, ◌⊎◌, ℕ, List, Result, Ok, Err, IfErr, OnErr, refl, subst, inl, inr}
-use Rattle.std.specs.declared.alloc.AllocError.{AllocError}
+use Rattle.std.proofs.Common.{ℕ, List, refl, inl, inr}
 use Rattle.txc_app.specs.Eval.{Next}
 use Rattle.txc_world.specs.Worlds.{WorldValue}
 use Rattle.txc_script.specs.Answers.{IsUnanswered}
@@ -9,7 +8,7 @@ use Rattle.txc_script.specs.declared.unread.Unread.{Unread}
 use Rattle.txc_script.specs.declared.unread.Unread.TheVariants.{Malformed, Memory}
 use Rattle.txc_play.specs.Playing.{IsCutShort}
 use Rattle.txc_play.specs.Tasks.{SpellsTask}
-use Rattle.txc_play.specs.WorldScripts.{BreaksOffTask, world_script}
+use Rattle.txc_play.specs.WorldScripts.{world_script}
 use Rattle.txc_play.specs.declared.task.Task.{Task}
 
 -- a line that was not read left the world as it was

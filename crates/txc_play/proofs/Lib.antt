@@ -6,3 +6,5 @@ pub mod GivingUp
 pub mod TaskParts
 pub mod WorldTexts
 pub mod Answering
+pub mod GoodWords
+pub mod NothingWrong

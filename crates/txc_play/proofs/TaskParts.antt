@@ -13,7 +13,8 @@ use Rattle.txc_rows.specs.declared.query.Change.{Change}
 use Rattle.txc_rows.specs.declared.query.Change.TheVariants as changes
 use Rattle.txc_play.specs.Tasks.{query_words, row_words, AreChangeWords, AreQueryWords}
 use Rattle.txc_script.specs.Unread.{IsNone}
-use Rattle.txc_play.specs.TaskReading.{IsNumberWord, ArePairWords}
+use Rattle.txc_play.specs.TaskReading.{ArePairWords}
+use Rattle.txc_script.specs.Lines.{IsNumberWord}
 use Rattle.txc_script.specs.declared.unread.Unread.{Unread}
 use Rattle.txc_script.specs.declared.unread.Unread.TheVariants as reasons
 

@@ -7,3 +7,4 @@ pub mod WorldFaults
 pub mod WorldScripts
 pub mod WorldRuns
 pub mod Playing
+pub mod FaultLaws

@@ -1,17 +1,12 @@
 -- Only private functions need this file: what reading a line of a world's script gives.
-use Rattle.std.specs.Prelude.{◌≡◌, ◌≤◌, ℕ, List, [], ◌∷◌}
+use Rattle.std.specs.Prelude.{◌≡◌, ℕ, List, [], ◌∷◌}
 use Rattle.std.specs.Fmt.{decimal}
-use Rattle.txc_tags.specs.TextGrammar.{IsTextOf}
 use Rattle.txc_rows.specs.declared.query.Change.{Change}
 use Rattle.txc_world.specs.declared.step.Keep.TheVariants as keeps
 use Rattle.txc_world.specs.declared.step.Step.TheVariants.{Keeper}
 use Rattle.txc_play.specs.Tasks.{AreChangeWords, IsPair}
 use Rattle.txc_play.specs.declared.task.Task.{Task}
 use Rattle.txc_play.specs.declared.task.Task.TheVariants as tasks
-
--- the word is a number of at most so much
-abbrev pub IsNumberWord : ℕ → List ℕ → ℕ → Type 0
-IsNumberWord most word number = IsTextOf (λ n. n ≤ most) decimal word number
 
 -- the words are a table, and an id or a group
 abbrev pub ArePairWords : List (List ℕ) → ℕ → ℕ → Type 0

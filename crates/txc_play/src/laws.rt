@@ -1,4 +1,5 @@
-//! What is written of the lines of a world's script. Each is a lemma: it has no code.
+//! What the lines of a world's script are, and what is written of them. Each is a lemma: it has no code.
+ghost use Rattle.txc_play.specs.FaultLaws.{NothingIsWrongWithTasks};
 ghost use Rattle.txc_play.specs.TaskLaws.{ArePinsWrittenByPinSet, AreWrittenByReplies};
 
 /// What is written of a line that takes steps is said by their replies alone, and what `pins` shows by the pin
@@ -6,4 +7,9 @@ ghost use Rattle.txc_play.specs.TaskLaws.{ArePinsWrittenByPinSet, AreWrittenByRe
 pub fn a_line_of_a_world_is_written_one_way()
     ensures by_replies { AreWrittenByReplies }
     ensures by_pin_set { ArePinsWrittenByPinSet }
+{}
+
+/// What is said to be wrong with the words of a line is said of no line that asks for something.
+pub fn nothing_is_wrong_with_a_good_line()
+    ensures { NothingIsWrongWithTasks }
 {}

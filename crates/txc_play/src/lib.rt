@@ -3,6 +3,7 @@
 #![tactic(auto)]
 
 mod finding;
+mod kinds;
 mod laws;
 mod name;
 mod outcome;
@@ -16,5 +17,5 @@ mod script;
 mod task;
 mod texts;
 
-pub use laws::a_line_of_a_world_is_written_one_way;
+pub use laws::{a_line_of_a_world_is_written_one_way, nothing_is_wrong_with_a_good_line};
 pub use script::{run_world, world_settings};

@@ -10,7 +10,8 @@ ghost use Rattle.txc_ports.specs.declared.bounds.Bounds.{Bounds};
 ghost use Rattle.txc_script.specs.Words.{words_of};
 ghost use Rattle.txc_play.specs.Tasks.{row_words, AreBoundsWords, AreChangeWords, AreQueryWords, IsPair};
 ghost use Rattle.txc_script.specs.Unread.{IsNone};
-ghost use Rattle.txc_play.specs.TaskReading.{IsNumberWord, ArePairWords};
+ghost use Rattle.txc_play.specs.TaskReading.{ArePairWords};
+ghost use Rattle.txc_script.specs.Lines.{IsNumberWord};
 ghost use Rattle.txc_play.specs.declared.parts.TheConstants.{LAST_MOMENT};
 
 use std::alloc::Global;

@@ -73,7 +73,7 @@ impl<A: App, C: Cacheable> Script for WorldScript<A, C> {
     }
 
     fn find_fault(&self, alloc: Global, line: &[u8]) -> CommandFault {
-        find_command_fault(line)
+        find_command_fault(alloc, line)
     }
 
     fn close(

@@ -95,6 +95,12 @@ pub some_left : (n : ℕ) (words : List (List ℕ)) → 0 < length (take n words
 some_left zero words h = h
 some_left (suc n) words h = omega arith
 
+-- no more words are taken than are asked for
+pub taken_few : (n : ℕ) (words : List (List ℕ)) → length (take n words) ≤ n
+taken_few zero words = omega arith
+taken_few (suc n) [] = omega arith
+taken_few (suc n) (w ∷ words) = omega (arith, taken_few n words)
+
 pub take_first : (n : ℕ) (w : List ℕ) (words : List (List ℕ)) → 0 < n → take n (w ∷ words) ≡ w ∷ take (n - 1) words
 take_first zero w words h = absurd (omega arith)
 take_first (suc n) w words h = let same : suc n - 1 ≡ n = omega arith in ap (λ (k : ℕ). w ∷ take k words) (sym same)

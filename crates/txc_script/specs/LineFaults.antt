@@ -9,10 +9,10 @@ use Rattle.txc_tags.specs.declared.tag.Tag.{Tag}
 use Rattle.txc_node.specs.Texts.{digits_of}
 use Rattle.txc_script.specs.Excerpts.{excerpt_of}
 use Rattle.txc_script.specs.Hex.{IsBytes, IsHexWord}
-use Rattle.txc_script.specs.Lines.{IsPlain, IsKeyWord, IsStampWord, IsTagsWord, still_text}
+use Rattle.txc_script.specs.Lines.{IsPlain, IsChangeName, IsKeyWord, IsNumberWord, IsQueryName, IsStampWord, IsTagsWord, IsTextWord, still_text}
 use Rattle.txc_script.specs.Words.{words_of}
 use Rattle.txc_script.specs.declared.line_fault.WordKind.{WordKind}
-use Rattle.txc_script.specs.declared.line_fault.WordKind.TheVariants.{Key, Stamp, Reach, Tags, Bytes}
+use Rattle.txc_script.specs.declared.line_fault.WordKind.TheVariants.{Key, Stamp, Reach, Tags, Bytes, Number, Text, QueryName, ChangeName}
 use Rattle.txc_script.specs.declared.line_fault.WordFault.{WordFault}
 use Rattle.txc_script.specs.declared.line_fault.CommandFault.{CommandFault}
 use Rattle.txc_script.specs.declared.line_fault.CommandFault.TheVariants.{Unknown, Count, Word}
@@ -30,6 +30,10 @@ IsOfKind Stamp word = (stamp : ℕ) × IsStampWord word stamp
 IsOfKind Reach word = (still : Bool) × (word ≡ still_text still)
 IsOfKind Tags word = (tags : List Tag) × IsTagsWord word tags
 IsOfKind Bytes word = IsHex word
+IsOfKind (Number most) word = (n : ℕ) × IsNumberWord most word n
+IsOfKind (Text most) word = IsTextWord most word
+IsOfKind QueryName word = IsQueryName word
+IsOfKind ChangeName word = IsChangeName word
 
 -- each of the words is of its kind
 abbrev pub AreOfKinds : List WordKind → List (List ℕ) → Type 0
@@ -41,10 +45,8 @@ AreOfKinds (kind ∷ kinds) (word ∷ words) = IsOfKind kind word × AreOfKinds 
 -- where a key or tags go wrong: no longer prefix of the word begins a key's text, or the text of tags
 abbrev pub StopsAt : WordKind → List ℕ → Option ℕ → Type 0
 StopsAt Key word at = (n : ℕ) × (at ≡ Some n) × IsLongestPrefix IsKeyInRange key_text word n
-StopsAt Stamp word at = at ≡ None
-StopsAt Reach word at = at ≡ None
 StopsAt Tags word at = (n : ℕ) × (at ≡ Some n) × IsLongestPrefix AreTagsInRange tags_text word n
-StopsAt Bytes word at = at ≡ None
+StopsAt kind word at = at ≡ None
 
 -- the first word that is not of its kind: each before it is of its own
 pub record IsBadWord (kinds : List WordKind) (words : List (List ℕ)) (fault : WordFault) : Type 0 where

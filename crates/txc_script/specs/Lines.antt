@@ -1,6 +1,6 @@
 -- What a line is, and what some of its words are, by how each is written.
-use Rattle.std.specs.Prelude.{◌≡◌, ℕ, ◌≤◌, Bool, true, false, List, [], ◌∷◌, length, codes}
-use Rattle.std.specs.List.{All}
+use Rattle.std.specs.Prelude.{◌≡◌, ◌⊎◌, ℕ, ◌≤◌, Bool, true, false, List, [], ◌∷◌, length, codes}
+use Rattle.std.specs.List.{All, AllByRecursion}
 use Rattle.std.specs.Fmt.{decimal}
 use Rattle.txc_stamp.specs.declared.stamp.TheConstants.{LAST_STAMP}
 use Rattle.txc_tags.specs.declared.tag.Tag.{Tag}
@@ -19,6 +19,24 @@ IsKeyWord word key = IsTextOf IsKeyInRange key_text word key
 -- a stamp is a number of at most the last one
 abbrev pub IsStampWord : List ℕ → ℕ → Type 0
 IsStampWord word stamp = IsTextOf (λ n. n ≤ LAST_STAMP) decimal word stamp
+
+-- a number of at most so much
+abbrev pub IsNumberWord : ℕ → List ℕ → ℕ → Type 0
+IsNumberWord most word number = IsTextOf (λ n. n ≤ most) decimal word number
+
+-- one byte to so many, each of those that print and are no blank
+pub record IsTextWord (limit : ℕ) (word : List ℕ) : Type 0 where
+  pub some : 1 ≤ length word
+  pub most : length word ≤ limit
+  pub each : AllByRecursion (λ byte. (33 ≤ byte) × (byte ≤ 126)) word
+
+-- the name of a query
+abbrev pub IsQueryName : List ℕ → Type 0
+IsQueryName word = (word ≡ codes "by-id") ⊎ ((word ≡ codes "by-group") ⊎ (word ≡ codes "all"))
+
+-- the name of a change
+abbrev pub IsChangeName : List ℕ → Type 0
+IsChangeName word = (word ≡ codes "put") ⊎ (word ≡ codes "remove")
 
 -- tags in any order and with repeats; the set is what adding them one after the other gives
 abbrev pub IsTagsWord : List ℕ → List Tag → Type 0

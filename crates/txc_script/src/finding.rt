@@ -2,6 +2,7 @@
 ghost use Rattle.std.specs.Prelude.{◌≡◌, ◌↔◌, ℕ, List, Some, None, IfSome, IfNone, IfOk, IfErr, OnOk, OnErr, position, length, IsTrue};
 ghost use Rattle.std.specs.List.{list_any};
 ghost use Rattle.txc_script.specs.Kinds.{IsFaultOf, IsMalformed};
+ghost use Rattle.txc_script.specs.Lines.{IsTextWord};
 ghost use Rattle.txc_script.specs.Words.{words_of, words_left};
 ghost use Rattle.txc_script.specs.LineFaults.{IsOfKind, AreOfKinds, is_foreign, is_empty, IsHex, IsRun, StopsAt, IsBadWord};
 
@@ -13,7 +14,7 @@ use crate::line_fault::{LineFault, WordFault, WordKind};
 use crate::word::{read_stamp, read_still};
 use crate::words::{WordsLeft, all_words, count_words};
 use std::alloc::Global;
-use txc_tags::{Key, SetError, TagSet};
+use txc_tags::{Key, SetError, TagSet, read_number};
 
 /// Whether the text is digits in pairs.
 fn are_digits(text: &[u8]) -> bool
@@ -106,6 +107,68 @@ fn test_hex(word: &[u8]) -> Result<(), Option<usize>>
     if is_hex(word) { Ok(()) } else { Err(None) }
 }
 
+/// Whether the word is a number of at most so much.
+fn test_number(most: u64, word: &[u8]) -> Result<(), Option<usize>>
+    ensures answer { OnOk result (IsOfKind (WordKind.Number most) word.now) }
+    ensures refused { OnErr result (IsOfKind (WordKind.Number most) word.now → ⊥) }
+    ensures stop { IfErr result (StopsAt (WordKind.Number most) word.now) }
+{
+    match read_number(word, most) {
+        Some(_) => Ok(()),
+        None => Err(None),
+    }
+}
+
+/// Whether the word has at most so many bytes, each of which prints.
+fn is_text(most: usize, word: &[u8]) -> bool
+    ensures { IsTrue result ↔ IsTextWord most word.now }
+{
+    if word.is_empty() || word.len() > most {
+        return false;
+    }
+    word.iter().all(|byte| *byte >= 0x21 && *byte <= 0x7e)
+}
+
+/// Whether the word has at most so many bytes, each of which prints.
+fn test_text(most: usize, word: &[u8]) -> Result<(), Option<usize>>
+    ensures answer { OnOk result (IsOfKind (WordKind.Text most) word.now) }
+    ensures refused { OnErr result (IsOfKind (WordKind.Text most) word.now → ⊥) }
+    ensures stop { IfErr result (StopsAt (WordKind.Text most) word.now) }
+{
+    if is_text(most, word) {
+        Ok(())
+    } else {
+        Err(None)
+    }
+}
+
+/// Whether the word is the name of a query.
+fn test_query_name(word: &[u8]) -> Result<(), Option<usize>>
+    ensures answer { OnOk result (IsOfKind WordKind.QueryName word.now) }
+    ensures refused { OnErr result (IsOfKind WordKind.QueryName word.now → ⊥) }
+    ensures stop { IfErr result (StopsAt WordKind.QueryName word.now) }
+{
+    match word {
+        b"by-id" => Ok(()),
+        b"by-group" => Ok(()),
+        b"all" => Ok(()),
+        _ => Err(None),
+    }
+}
+
+/// Whether the word is the name of a change.
+fn test_change_name(word: &[u8]) -> Result<(), Option<usize>>
+    ensures answer { OnOk result (IsOfKind WordKind.ChangeName word.now) }
+    ensures refused { OnErr result (IsOfKind WordKind.ChangeName word.now → ⊥) }
+    ensures stop { IfErr result (StopsAt WordKind.ChangeName word.now) }
+{
+    match word {
+        b"put" => Ok(()),
+        b"remove" => Ok(()),
+        _ => Err(None),
+    }
+}
+
 /// Whether the word is of its kind; if not, where a key or tags go wrong.
 fn test_word(alloc: Global, kind: WordKind, word: &[u8]) -> Result<(), Option<usize>>
     ensures answer { OnOk result (IsOfKind kind word.now) }
@@ -118,6 +181,10 @@ fn test_word(alloc: Global, kind: WordKind, word: &[u8]) -> Result<(), Option<us
         WordKind::Reach => test_still(word),
         WordKind::Tags => test_tags(alloc, word),
         WordKind::Bytes => test_hex(word),
+        WordKind::Number(most) => test_number(most, word),
+        WordKind::Text(most) => test_text(most, word),
+        WordKind::QueryName => test_query_name(word),
+        WordKind::ChangeName => test_change_name(word),
     }
 }
 

@@ -18,6 +18,14 @@ pub enum WordKind {
     Tags,
     /// Bytes: `-`, or two lower-case hexadecimal digits for each.
     Bytes,
+    /// A number of at most so much.
+    Number(u64),
+    /// A text of at most so many bytes, each of which prints.
+    Text(usize),
+    /// The name of a query: `by-id`, `by-group` or `all`.
+    QueryName,
+    /// The name of a change: `put` or `remove`.
+    ChangeName,
 }
 
 /// A word that is not of its kind.
@@ -44,7 +52,7 @@ pub enum CommandFault {
         given: usize,
     },
     Word(WordFault),
-    /// Of a world's script: its words are not those of a line of this name.
+    /// Of a world's script: it ends before the word that names its query or its change.
     Usage(LineName),
 }
 
@@ -83,6 +91,10 @@ impl fmt::Display for WordKind {
             WordKind::Bytes => f.write_str(
                 "bytes as pairs of lower-case hexadecimal digits, or `-`",
             ),
+            WordKind::Number(most) => write!(f, "a number from 0 to {most}, without leading zeros"),
+            WordKind::Text(most) => write!(f, "1 to {most} bytes"),
+            WordKind::QueryName => f.write_str("`by-id`, `by-group` or `all`"),
+            WordKind::ChangeName => f.write_str("`put` or `remove`"),
         }
     }
 }

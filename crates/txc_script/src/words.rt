@@ -1,5 +1,5 @@
 //! The words of a line.
-ghost use Rattle.std.specs.Prelude.{◌≡◌, ◌≢◌, ◌<◌, [], ◌∷◌, ◌++◌, count_by, length, IfOk, OnErr, IfSome, IfNone};
+ghost use Rattle.std.specs.Prelude.{◌≡◌, ◌≢◌, ◌<◌, ◌≤◌, [], ◌∷◌, ◌++◌, count_by, length, take, IfOk, OnErr, IfSome, IfNone};
 ghost use Rattle.txc_script.specs.Words.{HasNoBlank, words_of, words_left, is_blank};
 
 use crate::scan::word_len;
@@ -109,6 +109,17 @@ pub fn six_words(text: &[u8]) -> Result<(&[u8], &[u8], &[u8], &[u8], &[u8], &[u8
 }
 
 impl<'a> WordsLeft<'a> {
+    /// The first of the words, so many of them.
+    pub fn first(self, count: usize) -> WordsLeft<'a>
+        requires { count ≤ length (words_left self) }
+        ensures { words_left result ≡ take count (words_left self.entry) }
+    {
+        WordsLeft {
+            rest: self.rest,
+            count,
+        }
+    }
+
     /// The next word.
     pub fn next(&mut self) -> &'a [u8]
         requires { 0 < length (words_left self.old) }

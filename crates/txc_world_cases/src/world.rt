@@ -1,10 +1,12 @@
 //! Whole runs of worlds' scripts, with the program's functions. Where a run is refused memory, the first line
 //! that is not wanted is compared with what may stand there then, and it is run once more.
 mod examples;
+mod faults;
 mod refused;
 mod steps;
 
 use examples::EXAMPLES;
+use faults::{other_line, other_word};
 use refused::{HISTORY, REFUSED};
 use std::alloc::{AllocError, Global};
 use std::process::Abort;
@@ -190,4 +192,18 @@ fn examples_give_their_replies(rt: HostRuntime) {
 #[test]
 fn a_request_that_is_refused_ends_its_call(rt: HostRuntime) {
     say_played(&rt, play_refused(rt.alloc()));
+}
+
+#[test]
+fn a_malformed_line_says_what_is_wrong(rt: HostRuntime) {
+    if let Some(line) = other_line(rt.alloc()) {
+        assert!(rt; false, "{line}");
+    }
+}
+
+#[test]
+fn a_bad_word_says_what_was_expected(rt: HostRuntime) {
+    if let Some(line) = other_word(rt.alloc()) {
+        assert!(rt; false, "{line}");
+    }
 }
