@@ -1,0 +1,40 @@
+-- How a job's calls go.
+use Rattle.std.proofs.Common.{◌≡◌, ◌∙◌, ℕ, suc, ◌<◌, List, ◌∷◌, ◌++◌, length, get_or, take, drop, Result, Ok, Err, IfErr, IsErrAnd, sym, ap, subst}
+use Rattle.std.proofs.lemmas.List.{take-append-drop}
+use Rattle.std.proofs.Math.Seq.{drop-cons}
+use Rattle.txc_tags.specs.Keys.{Call}
+use Rattle.txc_app.specs.Eval.{Next}
+use Rattle.txc_registry.specs.Objects.{Objects, numbers_of, AllIdle}
+use Rattle.txc_ports.specs.declared.bounds.Bounds.{Bounds}
+use Rattle.txc_ports.specs.declared.error.TxnError.{TxnError}
+use Rattle.txc_txn.specs.Kept.{IsKept}
+use Rattle.txc_client.specs.Run.{turn_of, HasRun}
+use Rattle.txc_client.specs.Txn.{RoTxnValue}
+use Rattle.txc_work.specs.Batches.{keys_of, IsRefusedAt}
+
+-- what a `?` passes on
+pub passed_on : {T E : Type 0} (r : Result T E) (e : E) (P : E → Type 0) → IsErrAnd r (λ x. x ≡ e) → P e → IfErr r P
+passed_on (Ok x) e P h k = absurd h
+passed_on (Err x) e P h k = subst P (sym h) k
+
+-- where the keys before this one were answered, its call is the first that was refused
+pub refused_at : (next : Next) (row : List ℕ) (node_rows : ℕ → List ℕ) (objects : Objects) (bounds : Bounds) (keys : List Call) (i : ℕ) (key copy : Call)
+    (old new : RoTxnValue) (result : Result (List ℕ) TxnError) (error : TxnError)
+    → IsKept next old.txn → AllIdle old.txn.objects → old.txn.objects ≡ objects
+    → i < length keys → key ≡ get_or keys i key → copy ≡ key → keys_of old.txn.core.recorded ≡ take i keys
+    → old.txn.core.bounds ≡ bounds → result ≡ Err error → HasRun next row node_rows old copy new (turn_of result)
+    → IsRefusedAt next row node_rows (numbers_of objects) bounds keys error
+refused_at next row node_rows objects bounds keys i key copy old new result error meant idle of below at same answered bounded is run = record {
+  before = take i keys;
+  key = key;
+  after = drop (suc i) keys;
+  old = old;
+  new = new;
+  stands = sym (take-append-drop i keys) ∙ ap (λ l. take i keys ++ l) (drop-cons keys i key below ∙ ap (λ k. k ∷ drop (suc i) keys) (sym at));
+  meant = meant;
+  idle = idle;
+  of_functions = ap numbers_of of;
+  bounded = bounded;
+  answered = answered;
+  run = subst (λ r. HasRun next row node_rows old key new (turn_of r)) is (subst (λ k. HasRun next row node_rows old k new (turn_of result)) same run);
+}
