@@ -1,5 +1,7 @@
 //! Batches, and what their jobs come to, worked by hand.
-ghost use Rattle.std.specs.Prelude.{◌≡◌, ◌≤◌, length};
+ghost use Rattle.std.specs.Prelude.{◌≡◌, ◌<◌, ◌≤◌, All, length, vec_len};
+ghost use Rattle.txc_registry.specs.Objects.{numbers_of};
+ghost use Rattle.txc_functions.specs.AnyFunction.{ALL_NUMBERS};
 
 use crate::judge::{Case, Verdict, jobs, judge, set_of};
 use crate::stage::{clients, count_left, events, nodes, prepare};
@@ -10,17 +12,59 @@ use std::process::Abort;
 use std::sync::Wait;
 use std::test::Fail;
 use std::thread::Threads;
+use txc_app::App;
+use txc_client::Client;
 use txc_cushion::Pincushion;
 use txc_db::{Database, DbCore, Naming};
-use txc_functions::Program;
+use txc_functions::{Object, Program};
 use txc_node::Record;
 use txc_players::room;
+use txc_registry::Cacheable;
 use txc_shared::SharedNode;
 use txc_stream::EventRow;
-use txc_work::{MAX_CLIENTS, run_batch};
+use txc_work::{BatchError, Job, Receipted, run_batch};
 
 /// How many events and records there is room for.
 const ROOM: usize = 256;
+
+/// Runs the jobs.
+fn run_jobs<A, C, J, R>(
+    rt: &R,
+    alloc: Global,
+    jobs: Vec<Job>,
+    clients: Vec<Client<'_, A, C, J>>,
+    watch: &Watch,
+) -> Result<Vec<Receipted>, BatchError>
+where
+    A: App + Send + Sync,
+    C: Cacheable + Send,
+    J: Naming + Send + Sync,
+    R: Threads + Wait + Sync,
+    requires some { 0 < vec_len clients }
+    requires few { vec_len clients ≤ 8 }
+    requires functions { All (λ client. numbers_of client.objects ≡ ALL_NUMBERS) clients.items }
+{
+    run_batch(rt, alloc, jobs, clients, watch)
+}
+
+/// Runs the jobs by clients of the program's functions.
+fn run_by<C, J, R>(
+    rt: &R,
+    alloc: Global,
+    jobs: Vec<Job>,
+    clients: Vec<Client<'_, Program, C, J>>,
+    watch: &Watch,
+) -> Result<Vec<Receipted>, BatchError>
+where
+    C: Cacheable + Send,
+    J: Naming + Send + Sync,
+    R: Threads + Wait + Sync,
+    requires some { 0 < vec_len clients }
+    requires few { vec_len clients ≤ 8 }
+    requires functions { All (λ client. numbers_of client.objects ≡ ALL_NUMBERS) clients.items }
+{
+    run_jobs::<Program, C, J, R>(rt, alloc, jobs, clients, watch)
+}
 
 /// Runs the jobs by a client of their own, whatever comes of them.
 fn warm_up<J: Naming + Send + Sync, R: Threads + Wait + Sync>(
@@ -33,14 +77,61 @@ fn warm_up<J: Naming + Send + Sync, R: Threads + Wait + Sync>(
 ) -> Option<()>
     requires { 1 ≤ length nodes.now }
 {
+    let jobs = jobs(alloc, text)?;
     let mut pools = Vec::new(alloc);
-    let clients = clients(rt, alloc, database, cushion, nodes, &mut pools, 1)?;
-    let watch = Watch::new(alloc, database.events(), set_of(text), false);
-    let _ = run_batch(rt, alloc, jobs(alloc, text)?, clients, &watch).ok()?;
-    Some(())
+    let clients = clients(rt, alloc, database, cushion, nodes, &mut pools, 1).ok()?;
+    let watch = Watch::new(set_of(text), false);
+    let batch = run_by::<Object, J, R>(rt, alloc, jobs, clients, &watch);
+    if batch.is_ok() { Some(()) } else { None }
 }
 
-/// Runs the jobs over the rows, and judges what comes of it. None where memory for anything else was refused.
+/// Commits and pins what comes before the jobs, and answers how many pins there are.
+fn prepare_all<J: Naming + Send + Sync, R: Threads + Wait + Sync>(
+    rt: &R,
+    alloc: Global,
+    database: &Database<J>,
+    cushion: &Pincushion<J>,
+    nodes: &[SharedNode<Program, J>],
+    case: &Case<'_>,
+) -> Option<u64>
+    requires { 1 ≤ length nodes.now }
+{
+    let mut pins = 0u64;
+    for line in case.before.lines() {
+        prepare(rt, alloc, database, cushion, line)?;
+        if pins == 0 && !case.warm.is_empty() {
+            warm_up(rt, alloc, database, cushion, nodes, case.warm)?;
+        }
+        pins = pins.saturating_add(1);
+    }
+    Some(pins)
+}
+
+/// Runs the jobs, and judges what comes of it.
+fn run_on<J: Naming + Send + Sync, R: Threads + Wait + Sync>(
+    rt: &R,
+    alloc: Global,
+    database: &Database<J>,
+    cushion: &Pincushion<J>,
+    nodes: &[SharedNode<Program, J>],
+    pins: u64,
+    case: &Case<'_>,
+    answer: &mut String,
+) -> Option<Verdict>
+    requires { 1 ≤ length nodes.now }
+{
+    let were = events(rt, alloc, database)?;
+    let jobs = jobs(alloc, case.jobs)?;
+    let mut pools = Vec::new(alloc);
+    let count = case.clients.clamp(1, 8);
+    let clients = clients(rt, alloc, database, cushion, nodes, &mut pools, count).ok()?;
+    let watch = Watch::new(set_of(case.jobs), case.holds);
+    let batch = run_by::<Object, J, R>(rt, alloc, jobs, clients, &watch);
+    let left = count_left(rt, alloc, database, cushion, &mut pools);
+    judge(answer, alloc, case, batch, &watch, (were, pins), left)
+}
+
+/// Runs the jobs over the rows. None where memory for anything else was refused.
 fn run_over<J: Naming + Send + Sync, R: Threads + Wait + Sync>(
     rt: &R,
     alloc: Global,
@@ -56,23 +147,8 @@ fn run_over<J: Naming + Send + Sync, R: Threads + Wait + Sync>(
     let database = Database::<J>::new(alloc, core).ok()?;
     let cushion = Pincushion::new(alloc, &database).ok()?;
     let nodes = nodes(alloc, one, other, &database)?;
-    let mut pins = 0u64;
-    for line in case.before.lines() {
-        prepare(rt, alloc, &database, &cushion, line)?;
-        if pins == 0 && !case.warm.is_empty() {
-            warm_up(rt, alloc, &database, &cushion, &nodes, case.warm)?;
-        }
-        pins = pins.saturating_add(1);
-    }
-    let mut pools = Vec::new(alloc);
-    let count = case.clients.clamp(1, MAX_CLIENTS);
-    let clients = clients(rt, alloc, &database, &cushion, &nodes, &mut pools, count)?;
-    let were = events(rt, alloc, &database)?;
-    let jobs = jobs(alloc, case.jobs)?;
-    let watch = Watch::new(alloc, database.events(), set_of(case.jobs), case.holds);
-    let batch = run_batch(rt, alloc, jobs, clients, &watch);
-    let left = count_left(rt, alloc, &database, &cushion, &mut pools)?;
-    Some(judge(answer, alloc, case, batch, &watch, (were, pins), &left))
+    let pins = prepare_all(rt, alloc, &database, &cushion, &nodes, case)?;
+    run_on(rt, alloc, &database, &cushion, &nodes, pins, case, answer)
 }
 
 /// Makes the rows, and runs the jobs over them.
@@ -177,7 +253,7 @@ fn two_workers_run_at_once(rt: HostRuntime) -> Result<(), Fail> {
 }
 
 #[test]
-fn the_gate_is_called_round_the_job(rt: HostRuntime) -> Result<(), Fail> {
+fn a_job_without_a_fresh_pin_adds_one(rt: HostRuntime) -> Result<(), Fail> {
     play(
         &rt,
         &Case {

@@ -1,6 +1,6 @@
 //! What a batch runs over: a database, its pincushion, two nodes, and clients. Each client has a pool of
 //! permits of its own, so that none lacks one beside another.
-ghost use Rattle.std.specs.Prelude.{◌≡◌, ◌≤◌, All, IfSome, length, vec_len};
+ghost use Rattle.std.specs.Prelude.{◌≡◌, ◌≤◌, All, IfOk, IfSome, length, vec_len};
 ghost use Rattle.txc_registry.specs.Objects.{numbers_of};
 ghost use Rattle.txc_functions.specs.AnyFunction.{ALL_NUMBERS};
 
@@ -112,20 +112,25 @@ pub(super) fn prepare<J: Naming>(
     pinned(rt, alloc, database, cushion, moment.parse().ok()?)
 }
 
-/// A client with an object of each function.
+/// A client with an object of each function, and a pool of its own.
 fn client<'a, J: Naming>(
     rt: &impl Wait,
     alloc: Global,
     database: &'a Database<J>,
     cushion: &'a Pincushion<J>,
     nodes: &'a [SharedNode<Program, J>],
-    pool: &mut PermitPool,
-) -> Option<Client<'a, Program, Object, J>>
+    pools: &mut Vec<PermitPool>,
+) -> Result<Client<'a, Program, Object, J>, AllocError>
     requires { 1 ≤ length nodes.now }
-    ensures { IfSome result (λ client. numbers_of client.objects ≡ ALL_NUMBERS) }
+    ensures { IfOk result (λ client. numbers_of client.objects ≡ ALL_NUMBERS) }
 {
-    let registry = registry(alloc, pool).ok()?;
-    Client::new(rt, alloc, database, cushion, nodes, registry, RENEW_AFTER).ok()
+    let mut pool = PermitPool::new(alloc, PERMITS)?;
+    let registry = registry(alloc, &mut pool)?;
+    pools.push(pool)?;
+    match Client::new(rt, alloc, database, cushion, nodes, registry, RENEW_AFTER) {
+        Ok(client) => Ok(client),
+        Err(_) => Err(AllocError),
+    }
 }
 
 /// So many clients.
@@ -137,20 +142,18 @@ pub(super) fn clients<'a, J: Naming>(
     nodes: &'a [SharedNode<Program, J>],
     pools: &mut Vec<PermitPool>,
     count: usize,
-) -> Option<Vec<Client<'a, Program, Object, J>>>
+) -> Result<Vec<Client<'a, Program, Object, J>>, AllocError>
     requires { 1 ≤ length nodes.now }
-    ensures functions { IfSome result (λ clients.
+    ensures functions { IfOk result (λ clients.
         All (λ client. numbers_of client.objects ≡ ALL_NUMBERS) clients.items) }
-    ensures each { IfSome result (λ clients. vec_len clients ≡ count) }
+    ensures each { IfOk result (λ clients. vec_len clients ≡ count) }
 {
-    let mut clients = Vec::new(alloc);
+    let mut clients = Vec::with_capacity(alloc, count)?;
     for _ in 0..count {
-        let mut pool = PermitPool::new(alloc, PERMITS).ok()?;
-        let client = client(rt, alloc, database, cushion, nodes, &mut pool)?;
-        pools.push(pool).ok()?;
-        clients.push(client).ok()?;
+        let client = client(rt, alloc, database, cushion, nodes, pools)?;
+        clients.push(client)?;
     }
-    Some(clients)
+    Ok(clients)
 }
 
 /// How many events there are.

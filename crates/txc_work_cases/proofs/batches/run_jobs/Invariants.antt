@@ -1,5 +1,5 @@
 use Rattle.txc_functions.specs.AnyFunction.{ALL_NUMBERS}
-use Rattle.txc_work_cases.proofs.batches.warm_up.Given as goal
+use Rattle.txc_work_cases.proofs.batches.run_jobs.Given as goal
 
 -- the program's functions
 abbrev pub ghost-run_batch : goal.ghost-run_batch
