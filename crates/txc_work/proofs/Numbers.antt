@@ -1,5 +1,5 @@
 -- How often a number stands among numbers in ascending order.
-use Rattle.std.proofs.Common.{Bool, ◌≡◌, ◌≢◌, ◌∙◌, ◌⊎◌, ⊎_elim, inl, inr, ℕ, zero, suc, ◌+◌, ◌-◌, ◌==◌, ◌<◌, ◌≤◌, min, true, false, cond, List, [], ◌∷◌, length, take, drop, Option, Some, None, All, Contains, refl, sym, ap, subst, arith}
+use Rattle.std.proofs.Common.{Bool, ◌≡◌, ◌≢◌, ◌∙◌, ◌⊎◌, ⊎_elim, inl, inr, ℕ, zero, suc, ◌+◌, ◌-◌, ◌==◌, ◌<◌, ◌≤◌, min, true, false, cond, List, [], ◌∷◌, length, take, Some, None, All, Contains, refl, sym, ap, subst, arith}
 use mathlib.Core.Bool.{true≢false}
 use Rattle.std.specs.Prelude.{slice_index, IsPermutation, IsSorted}
 use Rattle.std.specs.List.{count_by, filter, fold, reduce}

@@ -1,5 +1,5 @@
 -- What a batch of jobs comes to.
-use Rattle.std.specs.Prelude.{◌≡◌, ℕ, ◌≤◌, ◌==◌, ◌⊎◌, nat_le, List, ◌∷◌, ◌++◌, map, count_by, All, Contains, Err}
+use Rattle.std.specs.Prelude.{◌≡◌, ℕ, ◌≤◌, ◌==◌, ◌⊎◌, nat_le, List, ◌∷◌, ◌++◌, map, count_by, Contains, Err}
 use Rattle.std.specs.List.{filter}
 use Rattle.txc_tags.specs.Keys.{Call}
 use Rattle.txc_app.specs.Eval.{Next}

@@ -22,18 +22,39 @@ use txc_players::room;
 use txc_registry::Cacheable;
 use txc_shared::SharedNode;
 use txc_stream::EventRow;
-use txc_work::{BatchError, Job, Receipted, run_batch};
+use txc_work::{BatchError, Gate, Job, Receipted, run_batch};
 
 /// How many events and records there is room for.
 const ROOM: usize = 256;
 
 /// Runs the jobs.
-fn run_jobs<A, C, J, R>(
+fn run_jobs<A, C, J, G, R>(
     rt: &R,
     alloc: Global,
     jobs: Vec<Job>,
     clients: Vec<Client<'_, A, C, J>>,
-    watch: &Watch,
+    gate: &G,
+) -> Result<Vec<Receipted>, BatchError>
+where
+    A: App + Send + Sync,
+    C: Cacheable + Send,
+    J: Naming + Send + Sync,
+    G: Gate + Sync,
+    R: Threads + Wait + Sync,
+    requires some { 0 < vec_len clients }
+    requires few { vec_len clients ≤ 8 }
+    requires functions { All (λ client. numbers_of client.objects ≡ ALL_NUMBERS) clients.items }
+{
+    run_batch(rt, alloc, jobs, clients, gate)
+}
+
+/// Runs the jobs beside the gate that watches them.
+fn run_watched<A, C, J, R>(
+    rt: &R,
+    alloc: Global,
+    jobs: Vec<Job>,
+    clients: Vec<Client<'_, A, C, J>>,
+    watch: &Watch<'_>,
 ) -> Result<Vec<Receipted>, BatchError>
 where
     A: App + Send + Sync,
@@ -44,7 +65,7 @@ where
     requires few { vec_len clients ≤ 8 }
     requires functions { All (λ client. numbers_of client.objects ≡ ALL_NUMBERS) clients.items }
 {
-    run_batch(rt, alloc, jobs, clients, watch)
+    run_jobs(rt, alloc, jobs, clients, watch)
 }
 
 /// Runs the jobs by clients of the program's functions.
@@ -53,7 +74,7 @@ fn run_by<C, J, R>(
     alloc: Global,
     jobs: Vec<Job>,
     clients: Vec<Client<'_, Program, C, J>>,
-    watch: &Watch,
+    watch: &Watch<'_>,
 ) -> Result<Vec<Receipted>, BatchError>
 where
     C: Cacheable + Send,
@@ -63,7 +84,7 @@ where
     requires few { vec_len clients ≤ 8 }
     requires functions { All (λ client. numbers_of client.objects ≡ ALL_NUMBERS) clients.items }
 {
-    run_jobs::<Program, C, J, R>(rt, alloc, jobs, clients, watch)
+    run_watched::<Program, C, J, R>(rt, alloc, jobs, clients, watch)
 }
 
 /// Runs the jobs by a client of their own, whatever comes of them.
@@ -80,7 +101,7 @@ fn warm_up<J: Naming + Send + Sync, R: Threads + Wait + Sync>(
     let jobs = jobs(alloc, text)?;
     let mut pools = Vec::new(alloc);
     let clients = clients(rt, alloc, database, cushion, nodes, &mut pools, 1).ok()?;
-    let watch = Watch::new(set_of(text), false);
+    let watch = Watch::new(alloc, database.events(), set_of(text), false);
     let batch = run_by::<Object, J, R>(rt, alloc, jobs, clients, &watch);
     if batch.is_ok() { Some(()) } else { None }
 }
@@ -125,7 +146,7 @@ fn run_on<J: Naming + Send + Sync, R: Threads + Wait + Sync>(
     let mut pools = Vec::new(alloc);
     let count = case.clients.clamp(1, 8);
     let clients = clients(rt, alloc, database, cushion, nodes, &mut pools, count).ok()?;
-    let watch = Watch::new(set_of(case.jobs), case.holds);
+    let watch = Watch::new(alloc, database.events(), set_of(case.jobs), case.holds);
     let batch = run_by::<Object, J, R>(rt, alloc, jobs, clients, &watch);
     let left = count_left(rt, alloc, database, cushion, &mut pools);
     judge(answer, alloc, case, batch, &watch, (were, pins), left)

@@ -209,7 +209,7 @@ fn judge_results(
     alloc: Global,
     results: &[Receipted],
     case: &Case<'_>,
-    watch: &Watch,
+    watch: &Watch<'_>,
 ) -> Verdict {
     let count = case.jobs.lines().count() as u64;
     let mut verdict = Verdict::unless(
@@ -234,7 +234,7 @@ fn judge_refusal(
     answer: &mut String,
     error: BatchError,
     case: &Case<'_>,
-    watch: &Watch,
+    watch: &Watch<'_>,
 ) -> Verdict {
     let from = answer.len();
     let _ = write!(answer, "{error}");
@@ -254,6 +254,7 @@ fn judge_left(
     is_refused: bool,
     (events, pins): (u64, u64),
     left: &Left,
+    watch: &Watch<'_>,
 ) -> Verdict {
     let all = PERMITS.saturating_mul(case.clients as u64);
     let added = left.events.saturating_sub(events);
@@ -261,6 +262,8 @@ fn judge_left(
     if is_refused {
         return verdict.and(Verdict::unless(added == 0 && left.retired == pins));
     }
+    let is_round = case.jobs.is_empty() || watch.was_round(events, left.events);
+    let verdict = verdict.and(Verdict::unless(is_round));
     let (least, most) = case.added;
     if least <= added && added <= most && left.retired == pins.saturating_add(added) {
         verdict
@@ -275,7 +278,7 @@ pub(super) fn judge(
     alloc: Global,
     case: &Case<'_>,
     batch: Result<Vec<Receipted>, BatchError>,
-    watch: &Watch,
+    watch: &Watch<'_>,
     before: (u64, u64),
     left: Option<Left>,
 ) -> Option<Verdict> {
@@ -296,5 +299,5 @@ pub(super) fn judge(
         answer,
         "; gate {befores} {afters}, events {events}, retired {retired}, kept {kept}, free {free}"
     );
-    Some(verdict.and(judge_left(case, is_refused, before, &left)))
+    Some(verdict.and(judge_left(case, is_refused, before, &left, watch)))
 }

@@ -1,4 +1,4 @@
-use Rattle.std.proofs.Common.{◌≡◌, sym, subst, IsPermutation}
+use Rattle.std.proofs.Common.{sym, subst, IsPermutation}
 use Rattle.std.proofs.lemmas.List.Sorted.{All-permutation, IsPermutation-sym}
 use Rattle.std.proofs.lemmas.Result.{IfErr-weaker, IfOk-weaker}
 use Rattle.txc_work.specs.Batches.{job_numbers, IsLeastTwice, IsResultOf, Meets, NamesOneOf}

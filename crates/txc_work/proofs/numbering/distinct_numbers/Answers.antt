@@ -1,4 +1,4 @@
-use Rattle.std.proofs.Common.{◌≡◌, ◌∙◌, Contains, Err, sym, ap, subst}
+use Rattle.std.proofs.Common.{◌∙◌, Contains, Err, sym, ap, subst}
 use Rattle.std.proofs.lemmas.List.Sorted.{Contains-permutation, IsPermutation-sym}
 use Rattle.std.specs.List.Sorted.{IsStrictlyIncreasing}
 use Rattle.txc_work.specs.Batches.{job_numbers, IsLeastTwice}
