@@ -18,6 +18,8 @@ import time
 from concurrent.futures import ThreadPoolExecutor, as_completed
 
 ROOT = f"{os.path.dirname(os.path.abspath(__file__))}/.."
+# The test that fills the largest row takes longest: a minute or two, by how much else the machine does.
+SECONDS = "600"
 
 
 def lines_of(crate):
@@ -28,7 +30,7 @@ def lines_of(crate):
 def run(crate):
     """What its tests came to: how many passed, those that failed, the seconds, and all that was said."""
     begun = time.time()
-    ran = subprocess.run(["rt", "try", "--test"], cwd=crate, stdout=subprocess.PIPE, stderr=subprocess.STDOUT, text=True, errors="replace")
+    ran = subprocess.run(["rt", "try", "--test", "--seconds", SECONDS], cwd=crate, stdout=subprocess.PIPE, stderr=subprocess.STDOUT, text=True, errors="replace")
     ends = dict(re.findall(r"^test (\S+) \.\.\. (.*)$", ran.stdout, re.M))
     failed = sorted(name for name, end in ends.items() if end != "ok")
     if not ends or ran.returncode and not failed:
