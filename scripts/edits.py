@@ -163,9 +163,7 @@ def try_named(root, edits):
     lines = ran.stdout.split("\n")
     for edit in applied:
         judge(edit, lines, ran.returncode, False)
-        if edit.said.startswith("names: "):
-            edit.verdict = "bad"
-        elif not edit.verdict and len(applied) == 1:
+        if not edit.verdict and len(applied) == 1:
             own = [it for it in lines if any(re.match(rf"fn {path}(?:<.*>)?: ", it) for path in edit.functions)]
             edit.verdict = "proved" if own and all(it.endswith(": proved") for it in own) else "bad"
             edit.said = " | ".join(own or [it for it in lines if it][-3:])
