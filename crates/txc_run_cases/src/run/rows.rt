@@ -19,7 +19,7 @@ pub const REPLIES: &str = "stored [0,1) still\n\
     hit [0,2) closed 0a\n";
 
 /// What is shown, the settings, the script, the replies, and the status of the program.
-pub const ROWS: [(&str, &str, &str, &str, &str); 28] = [
+pub const ROWS: [(&str, &str, &str, &str, &str); 29] = [
     ("an empty script", "", "", "", "0"),
     (
         "empty lines and comments",
@@ -138,6 +138,21 @@ pub const ROWS: [(&str, &str, &str, &str, &str); 28] = [
          miss\n\
          closed 2\n\
          hit [0,2) closed 0a0b0c\n",
+        "0",
+    ),
+    (
+        "slashed tags name what others name",
+        "",
+        "insert f1(2) 0 0 still 1/id/2 0a\n\
+         insert f3() 0 0 still t2:id=1,1/? ff\n\
+         event 1 t1:id=2\n\
+         insert f0(7) 1 1 still t1:id=7 0b\n\
+         event 2 2/?,1/id/7\n",
+        "stored [0,1) still\n\
+         stored [0,1) still\n\
+         closed 2\n\
+         stored [1,2) still\n\
+         closed 1\n",
         "0",
     ),
     (
