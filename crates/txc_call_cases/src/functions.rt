@@ -105,6 +105,7 @@ fn say_ask(out: &mut String, ask: &Ask) {
         Ask::Query(Query::ById(_, id)) => write!(out, "id {id}"),
         Ask::Query(Query::ByGroup(_, group)) => write!(out, "group {group}"),
         Ask::Query(Query::All(_)) => write!(out, "all"),
+        Ask::Query(Query::Range(_, first, last)) => write!(out, "range {first} {last}"),
         Ask::Call(key) => write!(out, "{key}"),
         Ask::Done(bytes) => {
             let text = str::from_utf8(bytes.as_slice()).unwrap_or("?");
