@@ -144,6 +144,8 @@ none_after name words (faults.Count wanted given) h k =
 none_after name words (faults.Word fault) h k =
     let bad = subst (λ (o : Option (List WordKind)). IsFirstBad name words o fault) k.known h in
     none_bad k.kinds words fault bad.1 k.good
+none_after name words (faults.Few least given) h k = h
+none_after name words faults.AfterJob h k = h
 
 none_said : (all : List (List ℕ)) (other name : LineName) (others words : List (List ℕ)) (fault : CommandFault) → all ≡ name_text other ∷ others → IsFaultAfter other others fault
     → all ≡ name_text name ∷ words → HasKinds name words → ⊥
@@ -158,3 +160,5 @@ nothing_wrong all (faults.Unknown text) name words h e k = h.3 name (first_is h.
 nothing_wrong all (faults.Usage line) name words h e k = none_said all h.0 name h.1 words (faults.Usage line) h.2 h.3 e k
 nothing_wrong all (faults.Count wanted given) name words h e k = none_said all h.0 name h.1 words (faults.Count wanted given) h.2 h.3 e k
 nothing_wrong all (faults.Word fault) name words h e k = none_said all h.0 name h.1 words (faults.Word fault) h.2 h.3 e k
+nothing_wrong all (faults.Few least given) name words h e k = h.3
+nothing_wrong all faults.AfterJob name words h e k = h.3

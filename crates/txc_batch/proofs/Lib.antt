@@ -1,0 +1,5 @@
+pub mod JobWords
+pub mod OrderWords
+pub mod JobFaults
+pub mod Crews
+pub mod NodeRows

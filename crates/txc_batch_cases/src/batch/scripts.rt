@@ -1,0 +1,138 @@
+//! Scripts of batches, and what their runs write.
+
+/// Each script: its name, its settings, its lines, what is written, and the status of the program after it.
+pub const SCRIPTS: [(&str, &str, &str, &str, u8); 27] = [
+    (
+        "two jobs",
+        "workers = 1",
+        "put 1 7 2 a\npin 1000\njob 1000 0 f1(2) f0(7)\njob 1000 0 f2(2,7)\n",
+        "at 1\nat 2\njob 0 61 61\njob 1 613b61\n",
+        0,
+    ),
+    ("an empty script", "", "", "", 0),
+    ("no job", "", "put 1 7 2 a\npin 1000\n", "at 1\nat 2\n", 0),
+    ("a job over an empty database", "", "job 1000 0 f0(7) f3()\n", "job 0 - 30\n", 0),
+    ("no such function", "", "job 1000 0 f9()\n", "job 0 refused K1 9\n", 1),
+    (
+        "a job is refused at its second key",
+        "workers = 1",
+        "put 1 7 2 a\npin 1000\njob 1000 0 f0(7) f9() f0(7)\njob 1000 0 f0(7)\n",
+        "at 1\nat 2\njob 0 refused K1 9\njob 1 61\n",
+        1,
+    ),
+    (
+        "a change is refused before a job",
+        "row_cap = 2\nworkers = 1",
+        "put 1 7 2 a\npin 1000\nput 1 8 2 b\njob 1000 0 f0(7)\n",
+        "at 1\nat 2\nrefused B3\njob 0 61\n",
+        1,
+    ),
+    (
+        "a job that cannot pin the present",
+        "row_cap = 1\nworkers = 1",
+        "put 1 7 2 a\njob 1000 0 f0(7)\n",
+        "at 1\njob 0 refused B3\n",
+        1,
+    ),
+    (
+        "the last line has no line feed",
+        "workers = 1",
+        "put 1 7 2 a\npin 1000\njob 1000 0 f0(7)",
+        "at 1\nat 2\njob 0 61\n",
+        0,
+    ),
+    (
+        "comments and empty lines",
+        "workers = 1",
+        "# first\n\nput 1 7 2 a\n#\npin 1000\njob 1000 0 f0(7)\n# job 1000 0 f9()\n\njob 1000 0 f0(8)\n#",
+        "at 1\nat 2\njob 0 61\njob 1 -\n",
+        0,
+    ),
+    (
+        "a change after a job",
+        "",
+        "put 1 7 2 a\njob 1000 0 f0(7)\nput 1 8 2 b\njob 1000 0 f0(8)\n",
+        "at 1\nline 3: malformed\n",
+        1,
+    ),
+    (
+        "a removal after a job",
+        "",
+        "job 1000 0 f0(7)\nremove 1 7\n",
+        "line 2: malformed\n",
+        1,
+    ),
+    ("a pin after a job", "", "job 1000 0 f0(7)\npin 1000\n", "line 2: malformed\n", 1),
+    (
+        "the last line is malformed",
+        "",
+        "pin 1000\njob 1000 0 f0(7)\njob 1000 0",
+        "at 1\nline 3: malformed\n",
+        1,
+    ),
+    ("a query", "", "pin 1000\nquery 1 all 1\n", "at 1\nline 2: malformed\n", 1),
+    ("a transaction", "", "ro 0 1000 0 0\n", "line 1: malformed\n", 1),
+    ("a tidy", "", "tidy 1000 0\n", "line 1: malformed\n", 1),
+    ("a lookup", "", "\nlookup f1(2) 0\n", "line 2: malformed\n", 1),
+    ("a job without a key", "", "job 1000 0\n", "line 1: malformed\n", 1),
+    (
+        "jobs have bounds of their own",
+        "workers = 1",
+        "put 1 7 2 a\npin 1000\nput 1 7 2 b\njob 1500 500 f0(7)\njob 9000 100 f0(7)\njob 1001 0 f0(7)\n",
+        "at 1\nat 2\nat 3\njob 0 61\njob 1 62\njob 2 62\n",
+        0,
+    ),
+    (
+        "a job is one snapshot",
+        "workers = 1",
+        "put 1 7 2 a\nput 1 8 3 b\npin 1000\nremove 1 7\nput 1 8 3 c\njob 1000 0 f0(7) f1(3) f2(2,8) f3()\n",
+        "at 1\nat 2\nat 3\nat 4\nat 5\njob 0 61 62 613b62 32\n",
+        0,
+    ),
+    (
+        "a job calls a key twice",
+        "workers = 1",
+        "put 1 7 2 a\npin 1000\njob 1000 0 f0(7) f0(7)\n",
+        "at 1\nat 2\njob 0 61 61\n",
+        0,
+    ),
+    (
+        "a call of itself, and asks without end",
+        "workers = 1",
+        "pin 1000\njob 1000 0 f4()\njob 1000 0 f5(3)\njob 1000 0 f0()\njob 1000 0 f0(1)\n",
+        "at 1\njob 0 refused K2 4 4\njob 1 refused K3\njob 2 refused K8 0\njob 3 -\n",
+        1,
+    ),
+    (
+        "eight workers and five nodes",
+        "workers = 8\nnodes = 5",
+        "put 1 7 2 a\nput 1 8 2 b\nput 1 9 3 c\npin 1000\n\
+         job 1000 0 f0(7)\njob 1000 0 f0(8)\njob 1000 0 f0(9)\njob 1000 0 f1(2)\njob 1000 0 f1(3)\n\
+         job 1000 0 f2(2,9)\njob 1000 0 f2(3,7)\njob 1000 0 f3()\njob 1000 0 f1(4)\n",
+        "at 1\nat 2\nat 3\nat 4\n\
+         job 0 61\njob 1 62\njob 2 63\njob 3 612c62\njob 4 63\n\
+         job 5 612c623b63\njob 6 633b61\njob 7 33\njob 8 -\n",
+        0,
+    ),
+    (
+        "more workers than jobs",
+        "workers = 8",
+        "put 1 7 2 a\npin 1000\njob 1000 0 f0(7)\n",
+        "at 1\nat 2\njob 0 61\n",
+        0,
+    ),
+    (
+        "one permit and one worker",
+        "permits = 1\nworkers = 1",
+        "put 1 7 2 a\npin 1000\njob 1000 0 f0(7)\njob 1000 0 f2(2,7)\n",
+        "at 1\nat 2\njob 0 61\njob 1 refused K5\n",
+        1,
+    ),
+    (
+        "a full node",
+        "capacity = 1\nworkers = 1",
+        "put 1 7 2 a\nput 1 8 2 b\npin 1000\njob 1000 0 f0(7) f0(8) f0(7)\n",
+        "at 1\nat 2\nat 3\njob 0 61 62 61\n",
+        0,
+    ),
+];
