@@ -1,6 +1,7 @@
 -- Workers that have the same functions.
 use Rattle.std.proofs.Common.{◌≡◌, ◌<◌, ◌≤◌, ℕ, List, [], ◌∷◌, Result, Ok, Err, IfOk, length, sym, subst, arith, vec_len}
 use Rattle.std.specs.List.{All}
+use Rattle.std.specs.declared.alloc.Global.{Global}
 use Rattle.std.specs.declared.vec.Vec.{Vec}
 use Rattle.std.proofs.lemmas.List.Elements.{All-head}
 use Rattle.txc_registry.specs.Objects.{Objects, numbers_of, AllIdle}
@@ -20,7 +21,7 @@ crew_of crew functions some few idle all = record {
 }
 
 -- as many registries as there are to be workers
-pub crew_made : {E : Type 0} (r : Result (Vec Objects) E) (functions : List ℕ) (count : ℕ) → 1 ≤ count → count ≤ MAX_CLIENTS → IfOk r (λ v. All (λ objects. numbers_of objects ≡ functions) v.items)
+pub crew_made : {E : Type 0} (r : Result (Vec Objects Global) E) (functions : List ℕ) (count : ℕ) → 1 ≤ count → count ≤ MAX_CLIENTS → IfOk r (λ v. All (λ objects. numbers_of objects ≡ functions) v.items)
     → IfOk r (λ v. All AllIdle v.items) → IfOk r (λ v. vec_len v ≡ count) → IfOk r (λ v. IsCrew v.items)
 crew_made (Ok v) functions count some few all idle each = crew_of v.items functions (omega (arith, each, v.ok.0)) (omega (arith, each, v.ok.0)) idle all
 crew_made (Err e) functions count some few all idle each = tt

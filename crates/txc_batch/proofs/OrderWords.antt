@@ -8,7 +8,7 @@ use Rattle.txc_script.proofs.Offered.{words_alone}
 use Rattle.txc_play.specs.Tasks.{name_text, Says}
 use Rattle.txc_play.specs.declared.task.Task.{Task}
 use Rattle.txc_play.proofs.TaskNames.{same_name, some_words}
-use Rattle.txc_play.proofs.TaskParts.{first_is, others_are}
+use Rattle.txc_play.proofs.TaskParts.{apart, first_is, others_are}
 use Rattle.txc_work.specs.declared.job.Job.{Job}
 use Rattle.txc_batch.specs.Orders.{AreJobWords, AsksFor, IsPreparing, SpellsJob, SpellsPreparing}
 use Rattle.txc_batch.specs.Queueing.{QueuedValue}
@@ -18,9 +18,9 @@ use Rattle.txc_batch.proofs.JobWords.{no_words}
 
 -- no change and no pin is called so
 no_job_name : (name : LineName) → IsPreparing name → name_text name ≡ codes "job" → ⊥
-no_job_name names.Put is e = cc
-no_job_name names.Remove is e = cc
-no_job_name names.Pin is e = cc
+no_job_name names.Put is e = apart (codes "put") (codes "job") refl e
+no_job_name names.Remove is e = apart (codes "remove") (codes "job") refl e
+no_job_name names.Pin is e = apart (codes "pin") (codes "job") refl e
 no_job_name name is e = absurd is
 
 -- the words of a change or of a pin

@@ -1,5 +1,6 @@
 -- Scripts of a batch: what their lines ask for and what they give, and the jobs that are run after them.
 use Rattle.std.specs.Prelude.{◌≡◌, ◌⊎◌, ℕ, Bool, false, List, [], ◌∷◌, ◌++◌, Option, Some, None, Result, length}
+use Rattle.std.specs.declared.alloc.Global.{Global}
 use Rattle.std.specs.declared.vec.Vec.{Vec}
 use Rattle.txc_app.specs.Eval.{Next}
 use Rattle.txc_script.specs.Kinds.{ScriptKind, Closing}
@@ -60,7 +61,7 @@ is_refused_order (Some printed) = is_refused_line printed
 -- what they came to, and it holds a refusal where a job was refused, or the batch
 pub record RunsJobs (next : Next) (s : BatchState) (closing : Closing) (end : BatchState) : Type 0 where
   pub stage : StageValue
-  pub batch : Result (Vec Receipted) BatchError
+  pub batch : Result (Vec Receipted Global) BatchError
   pub before : s.stage ≡ Some stage
   pub ran : EndsSo next stage.world.ports.database stage.functions s.jobs batch
   pub text : closing.text ≡ batch_text batch

@@ -2,6 +2,7 @@
 use Rattle.std.specs.Prelude.{ℕ, Bool, true, false, List, [], ◌∷◌, ◌++◌, Result, Ok, Err, codes}
 use Rattle.std.specs.Fmt.{decimal}
 use Rattle.std.specs.List.{flat_map, list_any}
+use Rattle.std.specs.declared.alloc.Global.{Global}
 use Rattle.std.specs.declared.vec.Vec.{Vec}
 use Rattle.txc_node.specs.Texts.{hex_text}
 use Rattle.txc_play.specs.TaskTexts.{transaction_text}
@@ -27,7 +28,7 @@ refusal_text (Twice number) = codes "refused J2 " ++ (decimal number ++ 10 ∷ [
 refusal_text Memory = []
 
 -- the lines of the jobs; or that of the batch
-abbrev pub batch_text : Result (Vec Receipted) BatchError → List ℕ
+abbrev pub batch_text : Result (Vec Receipted Global) BatchError → List ℕ
 batch_text (Ok results) = flat_map result_text results.items
 batch_text (Err error) = refusal_text error
 
@@ -37,6 +38,6 @@ is_refused_outcome (outcomes.Receipt receipt) = false
 is_refused_outcome (outcomes.Refused error) = true
 
 -- a job was refused, or the batch
-abbrev pub is_refused_batch : Result (Vec Receipted) BatchError → Bool
+abbrev pub is_refused_batch : Result (Vec Receipted Global) BatchError → Bool
 is_refused_batch (Ok results) = list_any (λ told. is_refused_outcome told.outcome) results.items
 is_refused_batch (Err error) = true

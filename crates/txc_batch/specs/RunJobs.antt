@@ -1,6 +1,7 @@
 -- What jobs come to that are run over the database and the pincushion of a world.
 use Rattle.std.specs.Prelude.{◌≡◌, ◌⊎◌, ℕ, List, All, Contains, IsPermutation, Result, Ok, Err}
 use Rattle.std.specs.List.Sorted.{IsStrictlyIncreasing}
+use Rattle.std.specs.declared.alloc.Global.{Global}
 use Rattle.std.specs.declared.vec.Vec.{Vec}
 use mathlib.Core.List.{IsPrefix}
 use Rattle.txc_db.specs.DatabaseValue.{DatabaseValue}
@@ -31,7 +32,7 @@ pub record HaveRun (next : Next) (database : DatabaseValue) (functions : List �
   pub agree : All (λ told. AgreesWith database.history told.outcome) results
 
 -- the jobs ran, and have results; or one of them has none, or two; it is not that memory was refused
-abbrev pub EndsSo : Next → DatabaseValue → List ℕ → List Job → Result (Vec Receipted) BatchError → Type 0
+abbrev pub EndsSo : Next → DatabaseValue → List ℕ → List Job → Result (Vec Receipted Global) BatchError → Type 0
 EndsSo next database functions jobs (Ok results) = HaveRun next database functions jobs results.items
 EndsSo next database functions jobs (Err (Missing number)) = Contains (job_numbers jobs) number
 EndsSo next database functions jobs (Err (Twice number)) = Contains (job_numbers jobs) number
