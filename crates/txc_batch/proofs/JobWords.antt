@@ -18,8 +18,11 @@ pub record HasReadKeys (words : List (List ℕ)) (keys : List Call) (left : List
   pub words_are : words ≡ map key_text keys ++ left
   pub keys_are : All IsKeyInRange keys
 
-pub none_read : (words : List (List ℕ)) → HasReadKeys words [] words
-none_read words = record { words_are = refl; keys_are = All-nil IsKeyInRange }
+pub none_read : (words left : List (List ℕ)) (keys : List Call) → keys ≡ [] → left ≡ words → HasReadKeys words keys left
+none_read words left keys none same = record {
+  words_are = sym same ∙ ap (λ (ks : List Call). map key_text ks ++ left) (sym none);
+  keys_are = All-same IsKeyInRange keys [] none (All-nil IsKeyInRange);
+}
 
 more_keys : (keys : List Call) (key : Call) (left : List (List ℕ)) → map key_text keys ++ key_text key ∷ left ≡ map key_text (keys ++ key ∷ []) ++ left
 more_keys [] key left = refl
@@ -33,11 +36,9 @@ one_more_read words keys more key word left others h e is more_is = record {
   keys_are = All-same IsKeyInRange more (keys ++ key ∷ []) more_is (All-push IsKeyInRange keys key h.keys_are is.0);
 }
 
-pub all_read : (words : List (List ℕ)) (keys : List Call) (left : List (List ℕ)) → HasReadKeys words keys left → left ≡ [] → AreKeyWords words keys
-all_read words keys left h none = record {
-  words_are = h.words_are ∙ ap (λ (ws : List (List ℕ)). map key_text keys ++ ws) none ∙ append-nil (map key_text keys);
-  keys_are = h.keys_are;
-}
+pub all_read : (words : List (List ℕ)) (keys : List Call) (left : List (List ℕ)) → HasReadKeys words keys left → length left ≡ 0 → AreKeyWords words keys
+all_read words keys [] h none = record { words_are = h.words_are ∙ append-nil (map key_text keys); keys_are = h.keys_are }
+all_read words keys (word ∷ left) h none = absurd (omega (arith, none))
 
 -- a word after keys that is none
 not_keys : (read keys : List Call) (word : List ℕ) (rest : List (List ℕ)) → map key_text read ++ word ∷ rest ≡ map key_text keys → All IsKeyInRange keys → ((k : Call) → IsKeyWord word k → ⊥) → ⊥

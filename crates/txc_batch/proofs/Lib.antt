@@ -3,3 +3,4 @@ pub mod OrderWords
 pub mod JobFaults
 pub mod Crews
 pub mod NodeRows
+pub mod Preparing

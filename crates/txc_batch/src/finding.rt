@@ -31,13 +31,16 @@ fn bad_key(words: WordsLeft<'_>, count: usize) -> Option<WordFault>
     let mut keys = words;
     for before in 0..count {
         let word = keys.next();
-        if let Err(bad) = Key::read(word) {
-            return Some(WordFault {
-                number: before + LEAST_WORDS,
-                kind: WordKind::Key,
-                at: Some(bad.at),
-                text: Excerpt::new(word),
-            });
+        match Key::read(word) {
+            Ok(_key) => {}
+            Err(bad) => {
+                return Some(WordFault {
+                    number: before + LEAST_WORDS,
+                    kind: WordKind::Key,
+                    at: Some(bad.at),
+                    text: Excerpt::new(word),
+                });
+            }
         }
     }
     None
