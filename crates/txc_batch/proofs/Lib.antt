@@ -4,3 +4,4 @@ pub mod JobFaults
 pub mod Crews
 pub mod NodeRows
 pub mod Preparing
+pub mod Closing

@@ -1,5 +1,4 @@
 //! Scripts of a batch, whose lines are changes and pins, and then jobs, which run after all lines.
-ghost use Rattle.std.specs.Prelude.{◌≡◌, ◌++◌, IfOk, OnOk, OnErr};
 ghost use Rattle.txc_batch.specs.BatchScripts.{batch_script};
 
 use crate::finding::find_batch_fault;
@@ -47,12 +46,8 @@ where
         text: &mut Vec<u8>,
     ) -> Result<bool, Unread> {
         match read_order(alloc, state.jobs(), line) {
-            Ok(Order::Prepare(task)) => match state.prepare(alloc, task, text) {
+            Ok(order) => match state.obey(alloc, order, text) {
                 Ok(is_refused) => Ok(is_refused),
-                Err(_) => Err(Unread::Memory),
-            },
-            Ok(Order::Run(queued)) => match state.queue(queued) {
-                Ok(()) => Ok(false),
                 Err(_) => Err(Unread::Memory),
             },
             Err(reason) => Err(reason),

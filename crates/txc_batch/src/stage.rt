@@ -2,10 +2,10 @@
 ghost use Rattle.std.specs.Prelude.{◌≡◌, Some, IfOk, OnOk, OnErr};
 ghost use Rattle.txc_batch.specs.BatchScripts.{LeadsWorld, Queues};
 ghost use Rattle.txc_batch.specs.Crews.{numbers_in, IsCrew};
-ghost use Rattle.txc_batch.specs.Preparing.{IsCutOff, IsPrepared};
+ghost use Rattle.txc_batch.specs.Preparing.{IsBrokenOff, IsCutOff, IsObeyed, IsPrepared};
 ghost use Rattle.txc_batch.specs.Stages.{begun, spent};
 
-use crate::order::Queued;
+use crate::order::{Order, Queued};
 use std::alloc::{AllocError, Global};
 use std::marker::Model;
 use std::mem;
@@ -72,7 +72,7 @@ impl<A: App, C: Cacheable> Batch<A, C> {
 
     /// Makes a change or a pin, and puts what is written of it after the text. Returns whether that holds a
     /// refusal.
-    pub fn prepare(
+    fn prepare(
         &mut self,
         alloc: Global,
         task: Task,
@@ -91,7 +91,7 @@ impl<A: App, C: Cacheable> Batch<A, C> {
     }
 
     /// Puts a job behind the others.
-    pub fn queue(&mut self, queued: Queued) -> Result<(), AllocError>
+    fn queue(&mut self, queued: Queued) -> Result<(), AllocError>
         ensures after { OnOk result (Queues queued self.old self.new) }
         ensures unchanged { OnErr result (self.new ≡ self.old) }
     {
@@ -114,6 +114,27 @@ impl<A: App, C: Cacheable> Batch<A, C> {
             keys,
         })?;
         Ok(())
+    }
+
+    /// Does what a line asks for, and puts what is written of it after the text. Returns whether that holds a
+    /// refusal.
+    pub fn obey(
+        &mut self,
+        alloc: Global,
+        order: Order,
+        text: &mut Vec<u8>,
+    ) -> Result<bool, AllocError>
+        ensures after { IfOk result (IsObeyed A.next self.old order self.new text.old.items text.new.items) }
+        ensures broke { OnErr result (IsBrokenOff A.next self.old order self.new) }
+        ensures unchanged { OnErr result (text.new.items ≡ text.old.items) }
+    {
+        match order {
+            Order::Prepare(task) => self.prepare(alloc, task, text),
+            Order::Run(queued) => {
+                self.queue(queued)?;
+                Ok(false)
+            }
+        }
     }
 
     /// Takes all out of it: what the jobs are to run over, and the jobs.
