@@ -1,5 +1,5 @@
 -- What is wrong with the words of a malformed line of a batch's script.
-use Rattle.std.proofs.Common.{◌≡◌, ◌≢◌, ℕ, ◌+◌, ◌≤◌, List, [], ◌∷◌, ◌++◌, map, length, refl, sym, ap, subst, ◌∙◌, inl, inr, append_assoc, arith}
+use Rattle.std.proofs.Common.{◌≡◌, ◌≢◌, ℕ, ◌+◌, ◌≤◌, List, [], ◌∷◌, ◌++◌, Option, None, Some, IfNone, IfSome, map, length, take, refl, sym, ap, subst, ◌∙◌, inl, inr, append_assoc, arith}
 use Rattle.std.specs.Prelude.{codes}
 use Rattle.std.specs.List.{All}
 use Rattle.std.specs.Fmt.{decimal}
@@ -205,3 +205,23 @@ all_kinds words q h = subst (λ (ws : List (List ℕ)). AreOfKinds (job_kinds ws
     keys_good : (keys : List Call) → All IsKeyInRange keys → AreOfKinds (map (λ word. Key) (map key_text keys)) (map key_text keys)
     keys_good [] all = tt
     keys_good (k ∷ keys) all = ((k, (All-head IsKeyInRange k keys all, refl)), keys_good keys (All-tail IsKeyInRange k keys all))
+
+-- ---- the first two words, and the keys
+
+pub bad_first : (words : List (List ℕ)) (fault : WordFault) → 3 ≤ length words → IsBadWord (moment ∷ moment ∷ []) (take 2 words) fault → IsBadWord (job_kinds words) words fault
+bad_first [] fault few h = absurd (omega arith)
+bad_first (a ∷ []) fault few h = absurd (omega arith)
+bad_first (a ∷ b ∷ keys) fault few h = bad_moment (a ∷ b ∷ keys) keys a b fault refl h
+
+moments_of : (words keys : List (List ℕ)) (now staleness : List ℕ) → words ≡ now ∷ staleness ∷ keys → AreOfKinds (moment ∷ moment ∷ []) (take 2 words) → AreOfKinds (moment ∷ moment ∷ []) (now ∷ staleness ∷ [])
+moments_of words keys now staleness e h = subst (λ (ws : List (List ℕ)). AreOfKinds (moment ∷ moment ∷ []) (take 2 ws)) e h
+
+pub bad_after : (words keys : List (List ℕ)) (now staleness : List ℕ) (r : Option WordFault) → words ≡ now ∷ staleness ∷ keys → AreOfKinds (moment ∷ moment ∷ []) (take 2 words) → IfSome r (IsBadKey keys)
+    → IfSome r (IsBadWord (job_kinds words) words)
+bad_after words keys now staleness None e moments h = tt
+bad_after words keys now staleness (Some fault) e moments h = bad_key words keys now staleness fault e (moments_of words keys now staleness e moments) h
+
+pub good_after : (words keys : List (List ℕ)) (now staleness : List ℕ) (r : Option WordFault) → words ≡ now ∷ staleness ∷ keys → AreOfKinds (moment ∷ moment ∷ []) (take 2 words) → IfNone r (All (IsOfKind Key) keys)
+    → IfNone r (AreOfKinds (job_kinds words) words)
+good_after words keys now staleness None e moments h = job_of_kinds words keys now staleness e (moments_of words keys now staleness e moments) h
+good_after words keys now staleness (Some fault) e moments h = tt

@@ -1,7 +1,10 @@
 -- What the lines of a batch's script ask for, by their first word.
-use Rattle.std.proofs.Common.{◌≡◌, ℕ, List, [], ◌∷◌, refl, sym, ap, subst, ◌∙◌}
-use Rattle.std.specs.Prelude.{codes}
+use Rattle.std.proofs.Common.{◌≡◌, ℕ, List, [], ◌∷◌, Result, Ok, Err, IfErr, refl, sym, ap, subst, ◌∙◌}
+use Rattle.std.specs.Prelude.{codes, IsErr, IsErrAnd}
+use Rattle.txc_script.specs.Unread.{IsNone}
 use Rattle.txc_script.specs.Words.{HasNoBlank, words_of}
+use Rattle.txc_script.specs.declared.unread.Unread.{Unread}
+use Rattle.txc_script.specs.declared.unread.Unread.TheVariants as reasons
 use Rattle.txc_script.specs.declared.line_name.LineName.{LineName}
 use Rattle.txc_script.specs.declared.line_name.LineName.TheVariants as names
 use Rattle.txc_script.proofs.Offered.{words_alone}
@@ -71,3 +74,21 @@ pub not_named : (jobs : List Job) (line word : List ℕ) (words : List (List ℕ
     → ((task : Task) → Says name words task → ⊥) → AsksFor jobs line order → ⊥
 not_named jobs line word words name (Prepare task) e other is none h = none task (says_named line word words name task e is h.1)
 not_named jobs line word words name (Run q) e other is none h = other (job_word line word words q e h)
+
+-- ---- what was refused
+
+-- what was refused for a reason is refused for it too where there would be what was asked for
+pub none_like : {T V W : Type 0} (r : Result T Unread) (e : Unread) (Is : V → Type 0) (Js : W → Type 0) → IsErr r × IsErrAnd r (λ x. x ≡ e) → IsNone Is e → ((w : W) → Js w → (v : V) × Is v)
+    → IfErr r (IsNone Js)
+none_like (Ok x) e Is Js h none there = tt
+none_like (Err x) reasons.Malformed Is Js h none there = subst (IsNone Js) (sym h.1) (λ w js. none (there w js).0 (there w js).1)
+none_like (Err x) reasons.Memory Is Js h none there = subst (IsNone Js) (sym h.1) tt
+
+pub job_asked : (jobs : List Job) (line word : List ℕ) (words : List (List ℕ)) (order : Order) → words_of line ≡ word ∷ words → word ≡ codes "job" → AsksFor jobs line order → (q : QueuedValue) × AreJobWords words q
+job_asked jobs line word words (Prepare task) e is h = absurd (no_job_name h.1.name h.1.preparing (sym (first_of line word words task e h.1) ∙ is))
+job_asked jobs line word words (Run q) e is h = (q, job_said line word words q e h)
+
+pub task_asked : (jobs : List Job) (line word : List ℕ) (words : List (List ℕ)) (name : LineName) (order : Order) → words_of line ≡ word ∷ words → (word ≡ codes "job" → ⊥) → word ≡ name_text name
+    → AsksFor jobs line order → (task : Task) × Says name words task
+task_asked jobs line word words name (Prepare task) e other is h = (task, says_named line word words name task e is h.1)
+task_asked jobs line word words name (Run q) e other is h = absurd (other (job_word line word words q e h))

@@ -1,5 +1,5 @@
 //! Finding what is wrong with the words of a malformed line of a batch's script.
-ghost use Rattle.std.specs.Prelude.{◌≡◌, ◌≤◌, All, IfSome, IfNone, length};
+ghost use Rattle.std.specs.Prelude.{◌≡◌, ◌≤◌, ◌<◌, ◌+◌, ◌^◌, All, IfSome, IfNone, length};
 ghost use Rattle.txc_script.specs.LineFaults.{AreOfKinds, IsBadWord, IsOfKind};
 ghost use Rattle.txc_script.specs.Words.{words_left, words_of};
 ghost use Rattle.txc_batch.specs.BatchFaults.{job_kinds, IsBadKey, IsBatchFault, IsJobFault};
@@ -24,7 +24,8 @@ static MOMENTS: [WordKind; 2] = [WordKind::Number(LAST_MOMENT), WordKind::Number
 
 /// The first of the keys of a job, of which there are so many, that is none.
 fn bad_key(words: WordsLeft<'_>, count: usize) -> Option<WordFault>
-    requires { count ≡ length (words_left words) }
+    requires counted { count ≡ length (words_left words) }
+    requires few { count + LEAST_WORDS < 2 ^ 64 }
     ensures answer { IfSome result (IsBadKey (words_left words.entry)) }
     ensures refused { IfNone result (All (IsOfKind WordKind.Key) (words_left words.entry)) }
 {
@@ -50,6 +51,7 @@ fn bad_key(words: WordsLeft<'_>, count: usize) -> Option<WordFault>
 fn bad_job_word(alloc: Global, words: WordsLeft<'_>, count: usize) -> Option<WordFault>
     requires counted { count ≡ length (words_left words) }
     requires some { LEAST_WORDS ≤ count }
+    requires few { count + 1 < 2 ^ 64 }
     ensures answer { IfSome result (IsBadWord (job_kinds (words_left words.entry)) (words_left words.entry)) }
     ensures refused { IfNone result (AreOfKinds (job_kinds (words_left words.entry)) (words_left words.entry)) }
 {
@@ -65,6 +67,7 @@ fn bad_job_word(alloc: Global, words: WordsLeft<'_>, count: usize) -> Option<Wor
 /// What is wrong with the words after the name of a job, of which there are so many.
 fn find_job_fault(alloc: Global, words: WordsLeft<'_>, count: usize) -> CommandFault
     requires counted { count ≡ length (words_left words) }
+    requires few { count + 1 < 2 ^ 64 }
     requires no_job { (q : QueuedValue) → AreJobWords (words_left words) q → ⊥ }
     ensures { IsJobFault (words_left words.entry) result }
 {

@@ -9,8 +9,8 @@ loop-before-init c = record { tested = none_tested (words_left c.args.words); le
 pub next-word-requires : goal.next-word-requires
 next-word-requires c = omega (arith, c.loop-before.invariant.left)
 
-pub returns-in-Err : goal.returns-in-Err
-returns-in-Err c =
+pub returns-in-Err-clause-answer : goal.returns-in-Err-clause-answer
+returns-in-Err-clause-answer c =
     let tested = c.loop-before.invariant.tested in
     record {
       good = tested.good;
@@ -19,7 +19,7 @@ returns-in-Err c =
       keys_are = tested.words_are ∙ ap (λ (ws : List (List ℕ)). tested.good ++ ws) c.next-word.ensures;
       are_good = tested.are_good;
       kind = refl;
-      is_bad = λ h. c.in-Err.ensures.only_if.1 h;
+      is_bad = λ h. let bad = c.in-Err.ensures.only_if.1 h in cc;
       number = ap (λ (n : ℕ). n + 3) tested.counted;
       text = c.new.ensures;
       stops = (c.in-Err.bad.at, refl, c.in-Err.ensures.refused);
@@ -31,3 +31,6 @@ loop-before-preserved c =
       tested = more_tested (words_left c.args.words) (words_left c.loop-before.keys) words c.next-word.result.now c.loop-before.before c.loop-before.invariant.tested c.next-word.ensures (c.in-Ok._key, c.in-Ok.ensures.answer);
       left = omega (arith, c.loop-before.invariant.left, ap length c.next-word.ensures);
     }
+
+pub returns-clause-refused : goal.returns-clause-refused
+returns-clause-refused c = all_tested (words_left c.args.words) (words_left c.loop-before.keys) c.loop-before.before c.loop-before.invariant.tested (omega (arith, c.loop-before.invariant.left))

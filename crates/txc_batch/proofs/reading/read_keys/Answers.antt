@@ -17,7 +17,7 @@ next-requires c = omega (arith, c.loop.invariant.left)
 pub returns-in-Err-clause-refused : goal.returns-in-Err-clause-refused
 returns-in-Err-clause-refused c = λ keys h.
     no_key_there (words_of c.args.text.now) c.loop.keys.items keys c.next.result.now (words_left c.loop.words) (words_left c.next.new.self) c.loop.invariant.read c.next.ensures
-    (λ k is. c.in-Err.ensures.only_if.1 (k, is)) h
+    (λ k is. let bad = c.in-Err.ensures.only_if.1 (k, is) in cc) h
 
 pub loop-preserved : goal.loop-preserved
 loop-preserved c = record {
