@@ -197,15 +197,6 @@ pub fault_after : (jobs : List Job) (all words : List (List ℕ)) (word : List �
     → IsBatchFault jobs all faults.AfterJob
 fault_after jobs all words word name some is e named = inr (name, words, is, e ∙ ap (λ (w : List ℕ). w ∷ words) named, after_some jobs name words some)
 
--- ---- nothing is wrong with a line that asks for something
-
-all_kinds : (words : List (List ℕ)) (q : QueuedValue) → AreJobWords words q → AreOfKinds (job_kinds words) words
-all_kinds words q h = subst (λ (ws : List (List ℕ)). AreOfKinds (job_kinds ws) ws) (sym h.words_are) ((q.now, (h.now, refl)), ((q.staleness, (h.staleness, refl)), keys_good q.keys h.keys))
-  where
-    keys_good : (keys : List Call) → All IsKeyInRange keys → AreOfKinds (map (λ word. Key) (map key_text keys)) (map key_text keys)
-    keys_good [] all = tt
-    keys_good (k ∷ keys) all = ((k, (All-head IsKeyInRange k keys all, refl)), keys_good keys (All-tail IsKeyInRange k keys all))
-
 -- ---- the first two words, and the keys
 
 pub bad_first : (words : List (List ℕ)) (fault : WordFault) → 3 ≤ length words → IsBadWord (moment ∷ moment ∷ []) (take 2 words) fault → IsBadWord (job_kinds words) words fault

@@ -5,3 +5,4 @@ pub mod Crews
 pub mod NodeRows
 pub mod Preparing
 pub mod Closing
+pub mod NothingWrong

@@ -1,5 +1,6 @@
 -- What the lines of a batch's script ask for, by their first word.
-use Rattle.std.proofs.Common.{◌≡◌, ℕ, List, [], ◌∷◌, Result, Ok, Err, IfErr, refl, sym, ap, subst, ◌∙◌}
+use Rattle.std.proofs.Common.{◌≡◌, ℕ, Bool, true, false, not, eqb, List, [], ◌∷◌, length, Result, Ok, Err, IfErr, refl, sym, ap, subst, ◌∙◌, arith}
+use Rattle.std.proofs.lemmas.Bool.Decides.{nat_tests}
 use Rattle.std.specs.Prelude.{codes, IsErr, IsErrAnd}
 use Rattle.txc_script.specs.Unread.{IsNone}
 use Rattle.txc_script.specs.Words.{HasNoBlank, words_of}
@@ -20,14 +21,14 @@ use Rattle.txc_batch.specs.declared.order.Order.TheVariants.{Prepare, Run}
 use Rattle.txc_batch.proofs.JobWords.{no_words}
 
 -- no change and no pin is called so
-no_job_name : (name : LineName) → IsPreparing name → name_text name ≡ codes "job" → ⊥
+pub no_job_name : (name : LineName) → IsPreparing name → name_text name ≡ codes "job" → ⊥
 no_job_name names.Put is e = apart (codes "put") (codes "job") refl e
 no_job_name names.Remove is e = apart (codes "remove") (codes "job") refl e
 no_job_name names.Pin is e = apart (codes "pin") (codes "job") refl e
 no_job_name name is e = absurd is
 
 -- the words of a change or of a pin
-first_of : (line word : List ℕ) (words : List (List ℕ)) (task : Task) → words_of line ≡ word ∷ words → (h : SpellsPreparing line task) → word ≡ name_text h.name
+pub first_of : (line word : List ℕ) (words : List (List ℕ)) (task : Task) → words_of line ≡ word ∷ words → (h : SpellsPreparing line task) → word ≡ name_text h.name
 first_of line word words task e h = first_is word (name_text h.name) words h.words (sym e ∙ h.line_is)
 
 pub says_named : (line word : List ℕ) (words : List (List ℕ)) (name : LineName) (task : Task) → words_of line ≡ word ∷ words → word ≡ name_text name → SpellsPreparing line task → Says name words task
@@ -36,7 +37,7 @@ says_named line word words name task e is h =
     let others : h.words ≡ words = others_are (name_text h.name) word h.words words (sym h.line_is ∙ e) in
     subst (λ (n : LineName). Says n words task) same (subst (λ (ws : List (List ℕ)). Says h.name ws task) others h.says)
 
-job_word : (line word : List ℕ) (words : List (List ℕ)) (q : QueuedValue) → words_of line ≡ word ∷ words → (h : SpellsJob line q) → word ≡ codes "job"
+pub job_word : (line word : List ℕ) (words : List (List ℕ)) (q : QueuedValue) → words_of line ≡ word ∷ words → (h : SpellsJob line q) → word ≡ codes "job"
 job_word line word words q e h = first_is word (codes "job") words h.words (sym e ∙ h.line_is)
 
 pub job_said : (line word : List ℕ) (words : List (List ℕ)) (q : QueuedValue) → words_of line ≡ word ∷ words → SpellsJob line q → AreJobWords words q
@@ -92,3 +93,22 @@ pub task_asked : (jobs : List Job) (line word : List ℕ) (words : List (List �
     → AsksFor jobs line order → (task : Task) × Says name words task
 task_asked jobs line word words name (Prepare task) e other is h = (task, says_named line word words name task e is h.1)
 task_asked jobs line word words name (Run q) e other is h = absurd (other (job_word line word words q e h))
+
+-- ---- whether there is a job
+
+pub no_jobs : (jobs : List Job) (r : Bool) → r ≡ eqb (length jobs) 0 → not r ≡ false → jobs ≡ []
+no_jobs [] r e h = refl
+no_jobs (job ∷ jobs) r e h =
+    let yes : eqb (length (job ∷ jobs)) 0 ≡ true = sym e ∙ not_false r h in
+    let none : length (job ∷ jobs) ≡ 0 = grind (arith, nat_tests, yes) in
+    absurd (omega (arith, none))
+  where
+    not_false : (b : Bool) → not b ≡ false → b ≡ true
+    not_false true h = refl
+    not_false false h = cc
+
+pub some_jobs : (jobs : List Job) (r : Bool) → r ≡ eqb (length jobs) 0 → not r ≡ true → jobs ≡ [] → ⊥
+some_jobs jobs r e h none =
+    let yes : r ≡ true = e ∙ ap (λ (js : List Job). eqb (length js) 0) none in
+    let bad : not true ≡ true = subst (λ (b : Bool). not b ≡ true) yes h in
+    cc

@@ -1,9 +1,8 @@
 //! The jobs run: a world's database and pincushion stand under their locks, beside new nodes, and each worker has
 //! a client of them.
-ghost use Rattle.std.specs.Prelude.{◌≡◌, ◌≤◌, ◌<◌, ℕ, All, IfErr, IfOk, length, vec_len};
-ghost use Rattle.txc_db.specs.History.{History};
+ghost use Rattle.std.specs.Prelude.{◌≡◌, ◌≤◌, ℕ, List, All, IfErr, IfOk, length, vec_len};
 ghost use Rattle.txc_stream.specs.declared.row.TheConstants.{MAX_CAPACITY as MAX_ROW};
-ghost use Rattle.txc_registry.specs.Objects.{numbers_of, AllIdle};
+ghost use Rattle.txc_registry.specs.Objects.{numbers_of};
 ghost use Rattle.txc_work.specs.Batches.{job_numbers, NamesOneOf};
 ghost use Rattle.txc_batch.specs.Crews.{numbers_in, IsCrew};
 ghost use Rattle.txc_batch.specs.RunJobs.{AgreesWith, HaveRun};
@@ -131,13 +130,14 @@ where
     C: Cacheable + Send,
     J: Naming + Send + Sync,
     H: Threads + Wait + Sync,
+    ghost functions: { List ℕ }
     requires database { parts.database.events ≡ J.database_row }
     requires cushion { parts.cushion.events ≡ J.database_row }
     requires some { 1 ≤ vec_len parts.rows }
     requires rows { AreRowsOf J.node_rows 0 parts.rows.items }
     requires crew { IsCrew crew.items }
-    ensures ran { IfOk result (λ results. HaveRun A.next parts.database (numbers_in crew.items) jobs.items
-        results.items) }
+    requires functions { numbers_in crew.items ≡ functions }
+    ensures ran { IfOk result (λ results. HaveRun A.next parts.database functions jobs.items results.items) }
     ensures named { IfErr result (NamesOneOf (job_numbers jobs.items)) }
 {
     let Parts {

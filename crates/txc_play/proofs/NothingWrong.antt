@@ -126,7 +126,7 @@ word_at [] (g ∷ good) kind word kinds words h all = absurd h
 word_at (b ∷ before) [] kind word kinds words h all = absurd h
 word_at (b ∷ before) (g ∷ good) kind word kinds words h all = word_at before good kind word kinds words h.1 all.1
 
-none_bad : (kinds : List WordKind) (words : List (List ℕ)) (fault : WordFault) → IsBadWord kinds words fault → AreOfKinds kinds words → ⊥
+pub none_bad : (kinds : List WordKind) (words : List (List ℕ)) (fault : WordFault) → IsBadWord kinds words fault → AreOfKinds kinds words → ⊥
 none_bad kinds words fault b all =
     let here = subst (λ (ks : List WordKind). AreOfKinds ks words) b.kinds_are all in
     let there = subst (λ (ws : List (List ℕ)). AreOfKinds (b.good_kinds ++ fault.kind ∷ b.other_kinds) ws) b.words_are here in
@@ -135,7 +135,7 @@ none_bad kinds words fault b all =
 same_kinds : (kinds others : List WordKind) → Some kinds ≡ Some others → kinds ≡ others
 same_kinds kinds others e = cc
 
-none_after : (name : LineName) (words : List (List ℕ)) (fault : CommandFault) → IsFaultAfter name words fault → HasKinds name words → ⊥
+pub none_after : (name : LineName) (words : List (List ℕ)) (fault : CommandFault) → IsFaultAfter name words fault → HasKinds name words → ⊥
 none_after name words (faults.Unknown text) h k = h
 none_after name words (faults.Usage line) h k = some_kinds k.kinds (sym k.known ∙ h.1)
 none_after name words (faults.Count wanted given) h k =

@@ -44,6 +44,7 @@ const BEGINNINGS: [(&[u8], &[u8]); 8] = [
 ];
 
 /// Gives the bytes one a read, and fails at one read.
+#[derive(Clone, Copy)]
 struct Feeder<'a> {
     left: &'a [u8],
     fails_at: usize,
