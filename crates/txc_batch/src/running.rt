@@ -103,16 +103,25 @@ fn clients<'a, A: App, C: Cacheable, J: Naming>(
     Ok(clients)
 }
 
-/// What each receipt shows of the history agrees with what this front shows. This is a lemma: it does nothing
-/// when it runs.
+/// What a receipt shows of the history agrees with what this front shows. This is a lemma: it does nothing when
+/// it runs.
+fn outcome_agrees(told: &HistoryFront, outcome: &Outcome)
+    requires { IsOfRow told.now.events outcome.now }
+    ensures { AgreesWith told.now.history outcome.now }
+{
+    match outcome {
+        Outcome::Receipt(receipt) => told.agree(&receipt.seen),
+        Outcome::Refused(_) => {}
+    }
+}
+
+/// The same of each result.
 fn results_agree(told: &HistoryFront, results: &[Receipted])
     requires { All (λ r. IsOfRow told.now.events r.outcome) results.now }
     ensures { All (λ r. AgreesWith told.now.history r.outcome) results.now }
 {
     for result in results {
-        if let Outcome::Receipt(receipt) = &result.outcome {
-            told.agree(&receipt.seen);
-        }
+        outcome_agrees(told, &result.outcome);
     }
 }
 

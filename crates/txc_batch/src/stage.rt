@@ -72,12 +72,7 @@ impl<A: App, C: Cacheable> Batch<A, C> {
 
     /// Makes a change or a pin, and puts what is written of it after the text. Returns whether that holds a
     /// refusal.
-    fn prepare(
-        &mut self,
-        alloc: Global,
-        task: Task,
-        text: &mut Vec<u8>,
-    ) -> Result<bool, AllocError>
+    fn prepare(&mut self, alloc: Global, task: Task, text: &mut Vec<u8>) -> Result<bool, AllocError>
         ensures after { IfOk result (IsPrepared A.next self.old task self.new text.old.items text.new.items) }
         ensures broke { OnErr result (IsCutOff A.next self.old task self.new) }
         ensures unchanged { OnErr result (text.new.items ≡ text.old.items) }

@@ -137,7 +137,10 @@ impl fmt::Display for CommandFault {
             CommandFault::Word(fault) => write!(f, "{fault}"),
             CommandFault::Usage(name) => write!(f, "expected `{name}`"),
             CommandFault::Few { least, given } => {
-                write!(f, "at least {least} words must follow the command, not {given}")
+                write!(
+                    f,
+                    "at least {least} words must follow the command, not {given}"
+                )
             }
             CommandFault::AfterJob => f.write_str("changes and pins stand before the first job"),
         }

@@ -10,13 +10,22 @@ static FAULTS: [(&str, &str); 15] = [
     ("query 0 all 1", "line 1: unknown command `query`"),
     ("abort 0", "line 1: unknown command `abort`"),
     ("jobs 1 0 f0(7)", "line 1: unknown command `jobs`"),
-    ("put 1 7 2", "line 1: 4 words must follow the command, not 3"),
+    (
+        "put 1 7 2",
+        "line 1: 4 words must follow the command, not 3",
+    ),
     (
         "pin x",
         "line 1: word 1 after the command: expected a number from 0 to 18446744073709551615, without leading zeros, found `x`",
     ),
-    ("job", "line 1: at least 3 words must follow the command, not 0"),
-    ("job 1000 0", "line 1: at least 3 words must follow the command, not 2"),
+    (
+        "job",
+        "line 1: at least 3 words must follow the command, not 0",
+    ),
+    (
+        "job 1000 0",
+        "line 1: at least 3 words must follow the command, not 2",
+    ),
     (
         "job x 0 f0(7)",
         "line 1: word 1 after the command: expected a number from 0 to 18446744073709551615, without leading zeros, found `x`",
@@ -37,9 +46,18 @@ static FAULTS: [(&str, &str); 15] = [
         "job 1000 0  f0(7)",
         "line 1: a blank at the start or the end, or two blanks in a row",
     ),
-    ("job 1000 0 f0(7)\nput 1 7 2 a", "line 2: changes and pins stand before the first job"),
-    ("job 1000 0 f0(7)\nremove 1", "line 2: changes and pins stand before the first job"),
-    ("job 1000 0 f0(7)\njob 1000 0 f0(7)\npin 1", "line 3: changes and pins stand before the first job"),
+    (
+        "job 1000 0 f0(7)\nput 1 7 2 a",
+        "line 2: changes and pins stand before the first job",
+    ),
+    (
+        "job 1000 0 f0(7)\nremove 1",
+        "line 2: changes and pins stand before the first job",
+    ),
+    (
+        "job 1000 0 f0(7)\njob 1000 0 f0(7)\npin 1",
+        "line 3: changes and pins stand before the first job",
+    ),
 ];
 
 /// What the program says of a line that is malformed.

@@ -23,7 +23,7 @@ returns-in_err-now-clause-refused c =
     let staleness = c.in-Some-first_word.staleness.now in
     let keys = c.in-Some-first_word.text.now in
     let cut = words_cut c.args.text.now now c.in-Some.text.now c.in-Some.ensures.answer.0 c.in-Some.ensures.answer.1 ∙ ap (λ (ws : List (List ℕ)). now ∷ ws)
-        (words_cut c.in-Some.text.now staleness keys c.in-Some-first_word.ensures.answer.0 c.in-Some-first_word.ensures.answer.1) in
+    (words_cut c.in-Some.text.now staleness keys c.in-Some-first_word.ensures.answer.0 c.in-Some-first_word.ensures.answer.1) in
     none_of c.from_residual.result (AreJobWords (words_of c.args.text.now)) c.from_residual.ensures
     (λ q h. c.in_err-now.ensures.refused q.now (job_in (words_of c.args.text.now) (words_of keys) now staleness q cut h).now)
 
@@ -33,7 +33,7 @@ returns-in_err-staleness-clause-refused c =
     let staleness = c.in-Some-first_word.staleness.now in
     let keys = c.in-Some-first_word.text.now in
     let cut = words_cut c.args.text.now now c.in-Some.text.now c.in-Some.ensures.answer.0 c.in-Some.ensures.answer.1 ∙ ap (λ (ws : List (List ℕ)). now ∷ ws)
-        (words_cut c.in-Some.text.now staleness keys c.in-Some-first_word.ensures.answer.0 c.in-Some-first_word.ensures.answer.1) in
+    (words_cut c.in-Some.text.now staleness keys c.in-Some-first_word.ensures.answer.0 c.in-Some-first_word.ensures.answer.1) in
     none_of c.from_residual-in_err-staleness.result (AreJobWords (words_of c.args.text.now)) c.from_residual-in_err-staleness.ensures
     (λ q h. c.in_err-staleness.ensures.refused q.staleness (job_in (words_of c.args.text.now) (words_of keys) now staleness q cut h).staleness)
 
@@ -43,7 +43,7 @@ returns-in_err-keys-clause-refused c =
     let staleness = c.in-Some-first_word.staleness.now in
     let keys = c.in-Some-first_word.text.now in
     let cut = words_cut c.args.text.now now c.in-Some.text.now c.in-Some.ensures.answer.0 c.in-Some.ensures.answer.1 ∙ ap (λ (ws : List (List ℕ)). now ∷ ws)
-        (words_cut c.in-Some.text.now staleness keys c.in-Some-first_word.ensures.answer.0 c.in-Some-first_word.ensures.answer.1) in
+    (words_cut c.in-Some.text.now staleness keys c.in-Some-first_word.ensures.answer.0 c.in-Some-first_word.ensures.answer.1) in
     none_like c.from_residual-in_err-keys.result c.in_err-keys.field-0.0 (AreKeyWords (words_of keys)) (AreJobWords (words_of c.args.text.now)) c.from_residual-in_err-keys.ensures c.in_err-keys.ensures.refused
     (λ q h. (q.keys, (job_in (words_of c.args.text.now) (words_of keys) now staleness q cut h).keys))
 
@@ -53,5 +53,5 @@ returns-clause-answer c =
     let staleness = c.in-Some-first_word.staleness.now in
     let keys = c.in-Some-first_word.text.now in
     let cut = words_cut c.args.text.now now c.in-Some.text.now c.in-Some.ensures.answer.0 c.in-Some.ensures.answer.1 ∙ ap (λ (ws : List (List ℕ)). now ∷ ws)
-        (words_cut c.in-Some.text.now staleness keys c.in-Some-first_word.ensures.answer.0 c.in-Some-first_word.ensures.answer.1) in
+    (words_cut c.in-Some.text.now staleness keys c.in-Some-first_word.ensures.answer.0 c.in-Some-first_word.ensures.answer.1) in
     job_words (words_of c.args.text.now) (words_of keys) now staleness _ cut (some_word keys) c.in_ok-now.ensures.answer c.in_ok-staleness.ensures.answer c.in_ok-keys.ensures.answer
