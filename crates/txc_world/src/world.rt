@@ -28,8 +28,8 @@ use crate::step::{Act, Step};
 use std::alloc::{AllocError, Global};
 use std::marker::Model;
 use txc_app::App;
-use txc_cushion::Pin;
-use txc_db::DbError;
+use txc_cushion::{CushionCore, Pin};
+use txc_db::{DbCore, DbError};
 use txc_node::Counts;
 use txc_ports::Bounds;
 use txc_registry::{Cacheable, Registry};
@@ -106,6 +106,22 @@ impl<A: App, C: Cacheable> World<A, C> {
             actors,
             sessions,
         })
+    }
+
+    /// Its database and its pincushion, as they stand, for the calls under locks. All else is dropped: what is
+    /// open, and the holds and the users that it has, which nobody gives back then.
+    pub fn into_parts(self) -> (DbCore, CushionCore)
+        ensures database { result.0 ≡ self.ports.database }
+        ensures cushion { result.1 ≡ self.ports.cushion }
+        ensures row { result.1.events ≡ result.0.events }
+    {
+        let World {
+            settings: _,
+            ports,
+            actors: _,
+            sessions: _,
+        } = self;
+        ports.into_parts()
     }
 
     /// How many actors there are.
