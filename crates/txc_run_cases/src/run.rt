@@ -4,7 +4,7 @@ mod examples;
 mod rows;
 
 use examples::EXAMPLES;
-use rows::{LONG, REPLIES, REPORTS, ROWS, SCRIPT};
+use rows::{FRONTS, LONG, LONG_REPORTS, LongLine, REPLIES, REPORTS, ROWS, SCRIPT};
 use std::alloc::{AllocError, Global};
 use std::io::{self, Read, Write};
 use std::process::Abort;
@@ -284,44 +284,73 @@ fn long_script(alloc: Global, start: &str, byte: u8, count: usize) -> Result<Vec
     Ok(script)
 }
 
-fn play_long(alloc: Global) -> Result<(), &'static str> {
-    for (start, byte, count, replies, end) in &LONG {
+fn play_long(alloc: Global, mode: Mode, lines: &[LongLine]) -> Result<(), &'static str> {
+    for (start, byte, count, replies, end) in lines {
         let script = match long_script(alloc, start, *byte, *count) {
             Ok(script) => script,
             Err(_) => long_script(alloc, start, *byte, *count).or(Err("no room"))?,
         };
-        let case = default_case(alloc, Mode::Node, &script, replies.as_bytes(), end)?;
+        let case = default_case(alloc, mode, &script, replies.as_bytes(), end)?;
         play(alloc, case, start)?;
     }
     Ok(())
 }
 
-/// The front of the stored script up to a length gives the replies up to another; a line that is cut is
-/// malformed.
+/// The text up to the end of so many lines.
+fn front_of(text: &str, lines: usize) -> &str {
+    let mut len = 0usize;
+    for line in text.lines().take(lines) {
+        len = len.saturating_add(line.len()).saturating_add(1);
+    }
+    text.get(..len).unwrap_or(text)
+}
+
+/// What a mode gives for so many lines of the stored script.
+fn output_of(mode: Mode, lines: usize) -> &'static str {
+    if mode != Mode::Report {
+        return front_of(REPLIES, lines);
+    }
+    match FRONTS.get(lines) {
+        Some(report) => *report,
+        None => "",
+    }
+}
+
+/// The front of the stored script up to a length, of so many whole lines. A line that is cut is malformed, and
+/// all that a report has.
 fn play_front(
     alloc: Global,
+    mode: Mode,
     len: usize,
-    known: usize,
-    cut_line: Option<usize>,
+    lines: usize,
+    is_cut: bool,
 ) -> Result<(), &'static str> {
     let front = SCRIPT.get(..len).unwrap_or(SCRIPT);
-    let mut replies = match String::with_capacity(alloc, ROOM) {
-        Ok(replies) => replies,
+    let mut output = match String::with_capacity(alloc, ROOM) {
+        Ok(output) => output,
         Err(_) => String::with_capacity(alloc, ROOM).or(Err("no room"))?,
     };
-    let _ = replies.push_str(REPLIES.get(..known).unwrap_or(""));
-    if let Some(line) = cut_line {
-        let _ = write!(replies, "line {line}: malformed\n");
+    if !(is_cut && mode == Mode::Report) {
+        let _ = output.push_str(output_of(mode, lines));
     }
-    let end = status_of(cut_line.is_some());
-    let case = default_case(alloc, Mode::Node, front.as_bytes(), replies.as_bytes(), end)?;
+    if is_cut {
+        let line = lines.saturating_add(1);
+        let _ = write!(output, "line {line}: malformed\n");
+    }
+    let end = status_of(is_cut);
+    let case = default_case(alloc, mode, front.as_bytes(), output.as_bytes(), end)?;
     play(alloc, case, "a cut script")
 }
 
-/// A reader that fails after so many bytes of the stored script leaves the replies up to a length.
-fn play_broken(alloc: Global, len: usize, known: usize) -> Result<(), &'static str> {
-    let replies = REPLIES.get(..known).unwrap_or("").as_bytes();
-    let case = default_case(alloc, Mode::Node, SCRIPT.as_bytes(), replies, "read fault")?;
+/// A reader that fails after so many bytes of the stored script, of so many whole lines. A report is written at
+/// the end alone.
+fn play_broken(alloc: Global, mode: Mode, len: usize, lines: usize) -> Result<(), &'static str> {
+    let output = match mode {
+        Mode::Report => "",
+        _ => output_of(mode, lines),
+    };
+    let script = SCRIPT.as_bytes();
+    let case = default_case(alloc, mode, script, output.as_bytes(), "read fault")?;
     let read_fails = len.saturating_add(1);
     play(
         alloc,
@@ -335,39 +364,34 @@ fn play_broken(alloc: Global, len: usize, known: usize) -> Result<(), &'static s
 }
 
 /// The stored script is cut after each byte, by its end and by a reader that fails.
-fn play_cuts(alloc: Global) -> Result<(), &'static str> {
+fn play_cuts(alloc: Global, mode: Mode) -> Result<(), &'static str> {
     let script = SCRIPT.as_bytes();
-    let mut replies = REPLIES.lines();
-    let (mut line, mut known, mut next) = (1usize, 0usize, 0usize);
     for len in 0..=script.len() {
         let front = script.get(..len).unwrap_or(script);
-        let is_begun = !front.is_empty() && !front.ends_with(b"\n");
-        if front.ends_with(b"\n") {
-            line = line.saturating_add(1);
-            known = next;
-        }
+        let lines = count_lines(front);
+        play_broken(alloc, mode, len, lines)?;
         // The last line needs no line end.
-        let is_whole = script.get(len) == Some(&b'\n');
-        if is_whole && let Some(reply) = replies.next() {
-            next = known.saturating_add(reply.len()).saturating_add(1);
+        if script.get(len) == Some(&b'\n') {
+            play_front(alloc, mode, len, lines.saturating_add(1), false)?;
+        } else {
+            let is_cut = !front.is_empty() && !front.ends_with(b"\n");
+            play_front(alloc, mode, len, lines, is_cut)?;
         }
-        play_front(alloc, len, next, (is_begun && !is_whole).then_some(line))?;
-        play_broken(alloc, len, known)?;
     }
     Ok(())
 }
 
 /// Readers and writers of one byte at a time, and a writer that fails at each byte and at the flush.
-fn play_slow(alloc: Global) -> Result<(), &'static str> {
-    let (script, replies) = (SCRIPT.as_bytes(), REPLIES.as_bytes());
+fn play_slow(alloc: Global, mode: Mode) -> Result<(), &'static str> {
+    let output = output_of(mode, count_lines(SCRIPT.as_bytes())).as_bytes();
     let slow = Case {
         reads: 1,
         writes: 1,
-        ..default_case(alloc, Mode::Node, script, replies, "0")?
+        ..default_case(alloc, mode, SCRIPT.as_bytes(), output, "0")?
     };
     play(alloc, slow, "one byte at a time")?;
-    for (write_fails, len) in (1usize..).zip(0..=replies.len()) {
-        let replies = replies.get(..len).unwrap_or(replies);
+    for (write_fails, len) in (1usize..).zip(0..=output.len()) {
+        let replies = output.get(..len).unwrap_or(output);
         let fails = Case {
             write_fails,
             replies,
@@ -390,21 +414,27 @@ fn scripts_give_their_replies(rt: HostRuntime) {
     say_played(&rt, play_rows(rt.alloc(), Mode::Node, &ROWS));
     say_played(&rt, play_rows(rt.alloc(), Mode::Report, &REPORTS));
     say_played(&rt, play_examples(rt.alloc()));
-    say_played(&rt, play_long(rt.alloc()));
+    say_played(&rt, play_long(rt.alloc(), Mode::Node, &LONG));
+    say_played(&rt, play_long(rt.alloc(), Mode::Report, &LONG_REPORTS));
 }
 
 #[test]
 fn every_cut_of_a_script(rt: HostRuntime) {
-    say_played(&rt, play_cuts(rt.alloc()));
+    say_played(&rt, play_cuts(rt.alloc(), Mode::Node));
+}
+
+#[test]
+fn every_cut_of_a_script_that_is_reported(rt: HostRuntime) {
+    say_played(&rt, play_cuts(rt.alloc(), Mode::Report));
 }
 
 #[test]
 fn slow_ways_and_a_writer_that_fails(rt: HostRuntime) {
-    say_played(&rt, play_slow(rt.alloc()));
+    say_played(&rt, play_slow(rt.alloc(), Mode::Node));
+    say_played(&rt, play_slow(rt.alloc(), Mode::Report));
 }
 
-#[test]
-fn a_reader_that_never_ends(rt: HostRuntime) -> Result<(), &'static str> {
+fn never_ends<R: Abort + AllocGlobal>(rt: &R, mode: Mode) -> Result<(), &'static str> {
     let settings = settings_of(rt.alloc(), "")?;
     for line in ["\n", "a", "event 5 -\n"] {
         let mut reader = Feeder {
@@ -415,17 +445,17 @@ fn a_reader_that_never_ends(rt: HostRuntime) -> Result<(), &'static str> {
             is_endless: true,
             reads: 0,
         };
-        let ended = run(
-            rt.alloc(),
-            Mode::Node,
-            settings,
-            &mut reader,
-            &mut io::sink(),
-        );
+        let ended = run(rt.alloc(), mode, settings, &mut reader, &mut io::sink());
         assert!(rt;
             end_of(ended) == "read fault" && reader.reads as u64 == MAX_READS,
             "{line}"
         );
     }
     Ok(())
+}
+
+#[test]
+fn a_reader_that_never_ends(rt: HostRuntime) -> Result<(), &'static str> {
+    never_ends(&rt, Mode::Node)?;
+    never_ends(&rt, Mode::Report)
 }

@@ -19,8 +19,15 @@ pub const REPLIES: &str = "stored [0,1) still\n\
     hit [0,2) closed 0a\n";
 
 /// What is shown, the settings, the script, the replies, and the status of the program.
-pub const ROWS: [(&str, &str, &str, &str, &str); 28] = [
+pub const ROWS: [(&str, &str, &str, &str, &str); 29] = [
     ("an empty script", "", "", "", "0"),
+    (
+        "a carriage return in a comment",
+        "",
+        "# a comment\r\n",
+        "line 1: malformed\n",
+        "1",
+    ),
     (
         "empty lines and comments",
         "",
@@ -296,7 +303,14 @@ pub const ROWS: [(&str, &str, &str, &str, &str); 28] = [
 ];
 
 /// What is shown of reports, the settings, the script, the report, and the status of the program.
-pub const REPORTS: [(&str, &str, &str, &str, &str); 7] = [
+pub const REPORTS: [(&str, &str, &str, &str, &str); 8] = [
+    (
+        "a carriage return in a comment",
+        "",
+        "# a comment\r\n",
+        "line 1: malformed\n",
+        "1",
+    ),
     (
         "an empty script",
         "",
@@ -373,8 +387,11 @@ pub const REPORTS: [(&str, &str, &str, &str, &str); 7] = [
     ),
 ];
 
-/// Long lines: a start, and a byte so many times; the replies, and the status.
-pub const LONG: [(&str, u8, usize, &str, &str); 6] = [
+/// A long line: a start, and a byte so many times; the output, and the status.
+pub type LongLine = (&'static str, u8, usize, &'static str, &'static str);
+
+/// Long lines in a script whose replies are written.
+pub const LONG: [LongLine; 6] = [
     ("", b'#', 4095, "", "0"),
     ("", b'#', 4096, "", "0"),
     ("", b'#', 4097, "line 1: malformed\n", "1"),
@@ -387,4 +404,22 @@ pub const LONG: [(&str, u8, usize, &str, &str); 6] = [
         "0",
     ),
     ("insert f1(2) 0 0 still - ", b'f', 2050, "refused N4\n", "1"),
+];
+
+/// Long lines in a script that is reported.
+pub const LONG_REPORTS: [LongLine; 2] = [
+    ("", b'#', 4096, "total events 0 closed 0 swept 0\n", "0"),
+    ("", b'#', 4097, "line 1: malformed\n", "1"),
+];
+
+/// The reports of the first lines of the stored script, from none of them on.
+pub const FRONTS: [&str; 8] = [
+    "total events 0 closed 0 swept 0\n",
+    "f1 lookups 0 hits 0 stored 1 kept 0 evicted 0\ntotal events 0 closed 0 swept 0\n",
+    "f1 lookups 1 hits 1 stored 1 kept 0 evicted 0\ntotal events 0 closed 0 swept 0\n",
+    "f1 lookups 1 hits 1 stored 1 kept 0 evicted 0\ntotal events 1 closed 0 swept 0\n",
+    "f1 lookups 2 hits 2 stored 1 kept 0 evicted 0\ntotal events 1 closed 0 swept 0\n",
+    "f1 lookups 2 hits 2 stored 1 kept 0 evicted 0\ntotal events 2 closed 1 swept 0\n",
+    "f1 lookups 3 hits 2 stored 1 kept 0 evicted 0\ntotal events 2 closed 1 swept 0\n",
+    "f1 lookups 4 hits 3 stored 1 kept 0 evicted 0\ntotal events 2 closed 1 swept 0\n",
 ];
