@@ -8,6 +8,7 @@ mod faults;
 mod judge;
 mod refused;
 mod steps;
+mod streams;
 
 use anew::anew_of;
 use examples::EXAMPLES;
@@ -15,8 +16,10 @@ use faults::{other_line, other_word};
 use judge::Judge;
 use refused::{HISTORY, REFUSED};
 use std::alloc::{AllocError, Global};
+use std::io::{Read, Write};
 use std::process::Abort;
 use std::test::Fail;
+use streams::{comments_give, cuts_give, endless_readers_fail, failing_writers_take};
 use txc_functions::{Object, Program, registries};
 use txc_permits::{Permit, PermitPool};
 use txc_play::{run_world, world_settings};
@@ -103,17 +106,16 @@ impl Stage {
 }
 
 /// Runs a script in a new world.
-fn run(
+fn run<R: Read, W: Write>(
     alloc: Global,
     settings: Settings,
-    script: &str,
-    written: &mut Vec<u8>,
+    reader: &mut R,
+    writer: &mut W,
 ) -> Result<Status, RunFault> {
     let Some(mut stage) = Stage::new(alloc, settings) else {
         return Err(RunFault::Memory);
     };
-    let mut reader = script.as_bytes();
-    run_world(alloc, &mut stage.world, &mut reader, written)
+    run_world(alloc, &mut stage.world, reader, writer)
 }
 
 /// Runs a script in a new world, and then another one twice. None where memory was refused beside the runs.
@@ -360,6 +362,32 @@ fn a_request_that_is_refused_ends_its_call(rt: HostRuntime) -> Result<(), Fail> 
     let played = play_refused(rt.alloc(), &mut answer);
     assert!(rt; played == Some(24), "{answer}");
     Ok(())
+}
+
+fn say_given(rt: &impl Abort, given: Result<(), &'static str>) {
+    if let Err(what) = given {
+        assert!(rt; false, "{what}");
+    }
+}
+
+#[test]
+fn every_cut_of_a_script(rt: HostRuntime) {
+    say_given(&rt, cuts_give(rt.alloc()));
+}
+
+#[test]
+fn a_writer_that_fails(rt: HostRuntime) {
+    say_given(&rt, failing_writers_take(rt.alloc()));
+}
+
+#[test]
+fn a_reader_that_never_ends(rt: HostRuntime) {
+    say_given(&rt, endless_readers_fail(rt.alloc()));
+}
+
+#[test]
+fn comments_may_be_long(rt: HostRuntime) {
+    say_given(&rt, comments_give(rt.alloc()));
 }
 
 #[test]
