@@ -67,9 +67,9 @@ module _ (next : Next) (L M : History) (n : ℕ) (on : IsPrefix M L) (within : n
       go : (pin : Option Pin) → receipt.pin ≡ pin → IsNoNewer (take n M) (noted_receipt receipt)
       go None none = rw none tt
       go (Some pin) some = rw some (
-        one_history L receipt.seen.history M pin.stamp n of.1.seen on
-        (explained_within next receipt.seen.history of.0 pin receipt.answers.items (subst (λ (p : Option Pin). Explains next receipt.seen.history of.0 p receipt.answers.items) some of.1.explained))
-        within (low pin.stamp (ap (λ (p : Option Pin). option_map (λ (q : Pin). q.stamp) p) some)))
+          one_history L receipt.seen.history M pin.stamp n of.1.seen on
+          (explained_within next receipt.seen.history of.0 pin receipt.answers.items (subst (λ (p : Option Pin). Explains next receipt.seen.history of.0 p receipt.answers.items) some of.1.explained))
+          within (low pin.stamp (ap (λ (p : Option Pin). option_map (λ (q : Pin). q.stamp) p) some)))
 
   none_newer : (deeds : List Deed) → AllByRecursion (IsOfDatabase next L) deeds → ((stamp : ℕ) → HasNoted deeds stamp → stamp ≤ n)
       → AllByRecursion (IsNoNewer (take n M)) deeds

@@ -1,6 +1,8 @@
 //! A caller with one session, who uses two clients over two nodes and commits changes, as commands.
 use super::calling::{Read, read_in};
-use super::desk::{committed, long, pinned, say, say_call, say_pins, say_receipt, say_stamp, say_text};
+use super::desk::{
+    committed, long, pinned, say, say_call, say_pins, say_receipt, say_stamp, say_text,
+};
 use std::alloc::{AllocError, Global};
 use std::str::SplitWhitespace;
 use std::sync::Wait;

@@ -57,7 +57,10 @@ fn bounds(words: &mut SplitWhitespace<'_>) -> Bounds {
 }
 
 /// A star for the present, and the members, the newest first.
-pub(super) fn say_pins<A: App, C: Cacheable, J: Naming>(answer: &mut String, txn: &RoTxn<'_, A, C, J>) {
+pub(super) fn say_pins<A: App, C: Cacheable, J: Naming>(
+    answer: &mut String,
+    txn: &RoTxn<'_, A, C, J>,
+) {
     say_text(answer, "pins");
     if txn.has_present() {
         say_text(answer, " *");

@@ -123,7 +123,10 @@ fn is_answered(rt: &impl Wait, alloc: Global, script: &str, answer: &mut String)
 fn nobody_goes_back_in_a_session(rt: HostRuntime) -> Result<(), Fail> {
     let mut answer = room(rt.alloc())?;
     for script in SCRIPTS {
-        assert!(&rt; is_answered(&rt, rt.alloc(), script, &mut answer), "{answer}");
+        assert!(&rt;
+            is_answered(&rt, rt.alloc(), script, &mut answer),
+            "{answer}"
+        );
     }
     Ok(())
 }

@@ -539,7 +539,7 @@ between_low next L told [] place pin none h receipt = tt
 between_low next L told (x ∷ xs) place pin none h receipt =
     let now = after told x.0 x.1 in (
       told_none next now.history told place pin.stamp x.0 x.1 h.0 (λ ended.
-        (receipt_from next L (told_through now xs) place (λ n. ⊥) pin receipt (through_reads (λ n. ⊥) place now xs none.1 ended)).1),
+          (receipt_from next L (told_through now xs) place (λ n. ⊥) pin receipt (through_reads (λ n. ⊥) place now xs none.1 ended)).1),
       between_low next L now xs place pin none.1 h.1 receipt,
     )
 
