@@ -3,9 +3,11 @@
 
 usage: text_scripts.py KIND LINES
 
-KIND: hits, misses, events (of three tags), empty_events, insertions (of 80 bytes) or comments.
+KIND: hits, misses, events (of three tags), empty_events, insertions (of 80 bytes) or comments; slashed_events or
+slashed_insertions, with tags in their second spelling.
 """
 import random
+import re
 import sys
 
 ENTRIES = 10
@@ -57,6 +59,11 @@ def comments(rng):
         yield f"# {rng.randrange(10**9)} of this line nothing but its bytes is looked at"
 
 
+def slashed(lines):
+    for line in lines:
+        yield re.sub(r"t(\d+):(id|grp)=", r"\1/\2/", line)
+
+
 KINDS = {
     "hits": hits,
     "misses": misses,
@@ -69,7 +76,10 @@ KINDS = {
 
 def main():
     kind, lines = sys.argv[1], int(sys.argv[2])
-    written = KINDS[kind](random.Random(kind))
+    usual = kind.removeprefix("slashed_")
+    written = KINDS[usual](random.Random(usual))
+    if kind != usual:
+        written = slashed(written)
     for _ in range(lines):
         sys.stdout.write(next(written) + "\n")
 

@@ -5,8 +5,8 @@ usage: times.py PROGRAM ROWS.. / EVENTS..
   ROWS     the sizes of the first table, the least first
   EVENTS   the lengths of the history, at the first size
 
-Each line: the operation, and the processor time of one run of it. Queries by id and by group name few different
-ids again and again, or all of the table in turn. A commit stands beside the store's own write of the same changes,
+Each line: the operation, and the processor time of one run of it. Queries by id, by group and of a range name few different
+ids again and again, or all of the table in turn; a range has the ids of a group. A commit stands beside the store's own write of the same changes,
 and the same commit once more, which changes nothing, shows what it reads; all three without what it takes to make
 the changes. Last comes what the greatest size and the longest history take, as multiples of what the least take.
 """
@@ -22,6 +22,8 @@ QUERIES = {
     "all ids": ("id", 20000, False),
     "few groups": ("group", 5000, True),
     "all groups": ("group", 5000, False),
+    "few ranges": ("range", 5000, True),
+    "all ranges": ("range", 5000, False),
     "a table": ("table", 50, False),
     "the large": ("refused", 50, False),
 }
@@ -75,12 +77,13 @@ def line(name, nanoseconds, more=""):
 
 def queries(bench, rows):
     """The time of each kind of query, by its name."""
-    found = {"id": 1, "group": 10, "table": 1000, "refused": int(rows > 1024)}
+    found = {"id": 1, "group": 10, "range": 10, "table": 1000, "refused": int(rows > 1024)}
     spent = {}
     for name, (operation, times, few) in QUERIES.items():
         bench.run(f"ids {FEW if few else rows}", FEW if few else rows)
         spent[name] = bench.least(operation, times, found[operation])
         line(name + (", refused" if name == "the large" and found[operation] else ""), spent[name])
+    print(f"  a range is {spent['all ranges'] / spent['all groups']:.2f} times as dear as a group", flush=True)
     return spent
 
 

@@ -8,7 +8,9 @@ use std::alloc::{AllocError, Global};
 use std::str::SplitWhitespace;
 use std::test::Fail;
 use txc_app::{Answer, App, Ask, Rows};
-use txc_functions::{Again, BodiesAndBody, BodiesIn, BodyAt, Function, Itself, Program, RowCount};
+use txc_functions::{
+    Again, BodiesAndBody, BodiesIn, BodyAt, Function, IdsIn, Itself, Program, RowCount,
+};
 use txc_node::Value;
 use txc_permits::PermitPool;
 use txc_players::{Obeys, Player, body, is_played, number, room, say_unknown};
@@ -26,6 +28,7 @@ struct Functions {
     row_count: Function<RowCount>,
     itself: Function<Itself>,
     again: Function<Again>,
+    ids_in: Function<IdsIn>,
 }
 
 fn new_functions(alloc: Global) -> Result<Functions, AllocError> {
@@ -37,6 +40,7 @@ fn new_functions(alloc: Global) -> Result<Functions, AllocError> {
         row_count: Function::new(alloc, pool.share()?, RowCount),
         itself: Function::new(alloc, pool.share()?, Itself),
         again: Function::new(alloc, pool.share()?, Again),
+        ids_in: Function::new(alloc, pool.share()?, IdsIn),
         pool,
     })
 }
@@ -105,6 +109,7 @@ fn say_ask(out: &mut String, ask: &Ask) {
         Ask::Query(Query::ById(_, id)) => write!(out, "id {id}"),
         Ask::Query(Query::ByGroup(_, group)) => write!(out, "group {group}"),
         Ask::Query(Query::All(_)) => write!(out, "all"),
+        Ask::Query(Query::Range(_, first, last)) => write!(out, "range {first} {last}"),
         Ask::Call(key) => write!(out, "{key}"),
         Ask::Done(bytes) => {
             let text = str::from_utf8(bytes.as_slice()).unwrap_or("?");
@@ -151,7 +156,8 @@ impl Functions {
             2 => call(&mut self.bodies_and_body, alloc, words, text, out),
             3 => call(&mut self.row_count, alloc, words, text, out),
             4 => call(&mut self.itself, alloc, words, text, out),
-            _ => call(&mut self.again, alloc, words, text, out),
+            5 => call(&mut self.again, alloc, words, text, out),
+            _ => call(&mut self.ids_in, alloc, words, text, out),
         }
     }
 
@@ -162,7 +168,8 @@ impl Functions {
             2 => self.bodies_and_body.release(),
             3 => self.row_count.release(),
             4 => self.itself.release(),
-            _ => self.again.release(),
+            5 => self.again.release(),
+            _ => self.ids_in.release(),
         }
     }
 }
@@ -225,6 +232,14 @@ release 4 =>
 call 5 3 => id 3
 call 5 3: rows a, rows a => id 3
 release 5 =>
+call 6 7 9 => range 7 9
+call 6 9 7 => range 9 7
+call 6 7 9: rows => done<>
+call 6 7 9: rows a => done<7>
+call 6 7 9: rows a b c => done<7,7,7>
+call 6 7 => the function takes no such arguments
+call 6 7 8 9 => the function takes no such arguments
+release 6 =>
 take => true
 ";
 

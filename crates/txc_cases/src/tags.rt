@@ -138,8 +138,25 @@ tag t1:?x = no text of a tag: it goes wrong after 4 bytes
 tag t1:?, = no text of a tag: it goes wrong after 4 bytes
 tag t01:? = no text of a tag: it goes wrong after 2 bytes
 tag t1:gid=1 = no text of a tag: it goes wrong after 4 bytes
-tag 1 = no text of a tag: it goes wrong after 0 bytes
+tag 1 = no text of a tag: it goes wrong after 1 bytes
 tag  t1:? = no text of a tag: it goes wrong after 0 bytes
+
+Slashed tags are read, written as before, and go wrong after the longer of both beginnings
+tag 15/? = t15:?
+tag 0/id/4294967295 = t0:id=4294967295
+tag 1/id/7 = t1:id=7
+tag 1/grp/2 = t1:grp=2
+tag 16/? = no text of a tag: it goes wrong after 1 bytes
+tag 1/id/4294967296 = no text of a tag: it goes wrong after 14 bytes
+tag 1/id/ = no text of a tag: it goes wrong after 5 bytes
+tag 1/id=2 = no text of a tag: it goes wrong after 4 bytes
+tag t1/id = no text of a tag: it goes wrong after 2 bytes
+tag 01/? = no text of a tag: it goes wrong after 1 bytes
+tag 1:? = no text of a tag: it goes wrong after 1 bytes
+tag 1/gid/1 = no text of a tag: it goes wrong after 3 bytes
+tag 1/?x = no text of a tag: it goes wrong after 3 bytes
+tag 1/?, = no text of a tag: it goes wrong after 3 bytes
+tag /? = no text of a tag: it goes wrong after 0 bytes
 
 Sets are refused where they go wrong
 bad_set  = no text of a tag: it goes wrong after 0 bytes
@@ -148,6 +165,12 @@ bad_set -, = no text of a tag: it goes wrong after 1 bytes
 bad_set t1:id=1,- = no text of a tag: it goes wrong after 8 bytes
 bad_set ,t1:? = no text of a tag: it goes wrong after 0 bytes
 bad_set t1:?;t2:? = no text of a tag: it goes wrong after 4 bytes
+bad_set 1/?, = no text of a tag: it goes wrong after 4 bytes
+bad_set 1/id/1;t1:? = no text of a tag: it goes wrong after 6 bytes
+bad_set 1/id/1,- = no text of a tag: it goes wrong after 7 bytes
+bad_set 1/id/1,t1/? = no text of a tag: it goes wrong after 9 bytes
+bad_set t1:?,1/grp = no text of a tag: it goes wrong after 10 bytes
+bad_set t1:?,1/grp=1 = no text of a tag: it goes wrong after 10 bytes
 no_memory = memory allocation failed
 ";
 
@@ -240,6 +263,21 @@ set t1:id=0,t1:id=1,t1:id=2,t1:id=3,t1:id=4,t1:id=5,t1:id=6,t1:id=7,t1:id=8,t1:i
     t1:id=6,t1:id=7,t1:id=8,t1:id=9,t1:id=10,t1:id=11,t1:id=12,t1:id=13,t1:id=14,t1:id=15
 set t1:id=0,t1:id=1,t1:id=2,t1:id=3,t1:id=4,t1:id=5,t1:id=6,t1:id=7,t1:id=8,t1:id=9,t1:id=10,\
     t1:id=11,t1:id=12,t1:id=13,t1:id=14,t1:id=15,t1:id=16 = t1:?
+
+Both spellings stand in a set, side by side
+set 1/id/7 = t1:id=7
+is t1:id=7 = true
+set t1:id=7,1/id/7 = t1:id=7
+set 2/?,t1:grp=2,1/id/7 = t1:id=7,t1:grp=2,t2:?
+is t2:?,1/grp/2,t1:id=7,1/id/7 = true
+covers 2/id/9 = true
+set 1/id/7,1/?,t1:grp=2 = t1:?
+matches 1/id/8 = true
+set t1:id=0,1/id/1,t1:id=2,1/id/3,t1:id=4,1/id/5,t1:id=6,1/id/7,t1:id=8,1/id/9,t1:id=10,\
+    1/id/11,t1:id=12,1/id/13,t1:id=14,1/id/15,1/id/2 = t1:id=0,t1:id=1,t1:id=2,t1:id=3,t1:id=4,\
+    t1:id=5,t1:id=6,t1:id=7,t1:id=8,t1:id=9,t1:id=10,t1:id=11,t1:id=12,t1:id=13,t1:id=14,t1:id=15
+set t1:id=0,1/id/1,t1:id=2,1/id/3,t1:id=4,1/id/5,t1:id=6,1/id/7,t1:id=8,1/id/9,t1:id=10,\
+    1/id/11,t1:id=12,1/id/13,t1:id=14,1/id/15,1/id/16 = t1:?
 
 Tags stand by table and number
 set - = -

@@ -1,5 +1,5 @@
 /// The most pins that are handed out at a time.
-pub const MAX_HANDED_OUT: usize = 16;
+pub const MAX_HANDED_OUT: usize = 32;
 
 /// The most pins of a pincushion.
 pub const MAX_PINS: usize = 1_024;

@@ -26,10 +26,16 @@ pub struct Pincushion<J: Naming> {
 impl<J: Naming> Pincushion<J> {
     /// A pincushion with no pin, for the pins of the database.
     pub fn new(alloc: Global, database: &Database<J>) -> Result<Pincushion<J>, AllocError> {
-        let core = CushionCore::new(alloc, database.reader(alloc)?);
-        Ok(Pincushion {
+        Ok(Pincushion::of_core(CushionCore::new(alloc, database.reader(alloc)?)))
+    }
+
+    /// A pincushion with what the core has, whose pins are those of the named row.
+    pub fn of_core(core: CushionCore) -> Pincushion<J>
+        requires { core.events ≡ J.database_row }
+    {
+        Pincushion {
             lock: Mutex::new(Locked::new(core)),
-        })
+        }
     }
 
     /// Hands out the newest of the fresh pins, at most [`crate::MAX_HANDED_OUT`], and counts one user more

@@ -137,6 +137,13 @@ list all 1 => 7:a [2,5) 7:d [6,) 8:b [1,4) 8:c [4,)
 list group 1 2 => 7:a [2,5) 7:d [6,) 8:b [1,4) 8:c [4,)
 list id 1 7 => 7:a [2,5) 7:d [6,)
 list group 1 3 =>
+list range 1 7 8 => 7:a [2,5) 7:d [6,) 8:b [1,4) 8:c [4,)
+list range 1 7 7 => 7:a [2,5) 7:d [6,)
+list range 1 8 4294967295 => 8:b [1,4) 8:c [4,)
+list range 1 0 6 =>
+list range 1 9 20 =>
+list range 1 8 7 =>
+list range 2 0 9 =>
 purge 3 =>
 list all 1 => 7:a [2,5) 7:d [6,) 8:b [1,4) 8:c [4,)
 purge 4 =>
@@ -186,9 +193,14 @@ list all 1 => 5:y [10,) 6:x [9,) 7:a [1,2) 7:b [2,3) 7:c [3,4) 7:d [4,5) 7:e [5,
 const MANY: &str = "write 1: put 1 0-1023 2 a =>
 count all 1 => 1024
 count group 1 2 => 1024
+count range 1 0 1023 => 1024
 write 2: put 1 1024 2 a =>
 count all 1 => over 1,024 versions match
 count group 1 2 => over 1,024 versions match
+count range 1 0 1024 => over 1,024 versions match
+count range 1 1 1024 => 1024
+count range 1 1015 1024 => 10
+count range 1 1025 4294967295 => 0
 list id 1 1024 => 1024:a [2,)
 ";
 

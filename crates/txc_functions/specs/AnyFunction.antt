@@ -13,6 +13,7 @@ number_of (functions.BodiesAndBody f) = 2
 number_of (functions.RowCount f) = 3
 number_of (functions.Itself f) = 4
 number_of (functions.Again f) = 5
+number_of (functions.IdsIn f) = 6
 
 -- what it asks, and gives
 abbrev pub says_of : AnyFunction → Says
@@ -20,4 +21,4 @@ says_of f = program (number_of f)
 
 -- the numbers of all functions, in order
 abbrev pub ALL_NUMBERS : List ℕ
-ALL_NUMBERS = 0 ∷ 1 ∷ 2 ∷ 3 ∷ 4 ∷ 5 ∷ []
+ALL_NUMBERS = 0 ∷ 1 ∷ 2 ∷ 3 ∷ 4 ∷ 5 ∷ 6 ∷ []

@@ -1,9 +1,10 @@
 -- The functions of the program: what each asks, and gives, by its arguments and the answers so far.
-use Rattle.std.specs.Prelude.{ℕ, ◌==◌, if◌then◌else◌, List, [], ◌∷◌, ◌++◌, length, Option, Some, None}
+use Rattle.std.specs.Prelude.{ℕ, ◌==◌, if◌then◌else◌, List, [], ◌∷◌, ◌++◌, length, map, Option, Some, None}
 use Rattle.std.specs.Fmt.{decimal}
+use Rattle.std.specs.List.{join_with_byte}
 use Rattle.txc_tags.specs.Keys.{Call as CallValue}
 use Rattle.txc_rows.specs.Values.{RowValue}
-use Rattle.txc_rows.specs.declared.query.Query.TheVariants.{ById, ByGroup, All}
+use Rattle.txc_rows.specs.declared.query.Query.TheVariants.{ById, ByGroup, All, Range}
 use Rattle.txc_app.specs.declared.ask.Ask.{Ask}
 use Rattle.txc_app.specs.declared.ask.Ask.TheVariants.{Query, Call, Done}
 use Rattle.txc_app.specs.declared.ask.Answer.{Answer}
@@ -28,6 +29,10 @@ abbrev pub bodies_of : List RowValue → List ℕ
 bodies_of [] = []
 bodies_of (r ∷ []) = r.body
 bodies_of (r ∷ s ∷ rows) = r.body ++ 44 ∷ bodies_of (s ∷ rows)
+
+-- the ids in decimal, with a comma between two of them
+abbrev pub ids_of : List RowValue → List ℕ
+ids_of rows = join_with_byte 44 (map (λ r. decimal r.id) rows)
 
 -- the rows of an answer
 abbrev pub rows_in : Answer → List RowValue
@@ -74,6 +79,12 @@ abbrev pub again : List ℕ → List Answer → Option Ask
 again (id ∷ []) given = Some (Query (ById TABLE id))
 again args given = None
 
+-- 6: the ids from one to another, with a comma between two of them
+abbrev pub ids_in : List ℕ → List Answer → Option Ask
+ids_in (first ∷ last ∷ []) [] = Some (Query (Range TABLE first last))
+ids_in (first ∷ last ∷ []) (a ∷ more) = Some (Done (ids_of (rows_in a)))
+ids_in args given = None
+
 -- no function has this number
 abbrev pub refuses : List ℕ → List Answer → Option Ask
 refuses args given = None
@@ -87,4 +98,5 @@ program f =
     else (if f == 3 then row_count
     else (if f == 4 then itself
     else (if f == 5 then again
-    else refuses)))))
+    else (if f == 6 then ids_in
+    else refuses))))))

@@ -4,7 +4,7 @@ use Rattle.std.specs.Prelude.{◌≡◌, ℕ, List, [], ◌∷◌, length, repli
 use Rattle.txc_tags.specs.Keys.{Call}
 use Rattle.txc_rows.specs.Values.{RowValue}
 use Rattle.txc_rows.specs.States.{State}
-use Rattle.txc_rows.specs.declared.query.Query.TheVariants.{ById, ByGroup}
+use Rattle.txc_rows.specs.declared.query.Query.TheVariants.{ById, ByGroup, Range}
 use Rattle.txc_db.specs.History.{state_at}
 use Rattle.txc_db.specs.Worked.{worked}
 use Rattle.txc_app.specs.Eval.{eval, met}
@@ -30,9 +30,13 @@ pub record WorkedCalls : Type 0 where
   pub more_bodies : value_at 4 (call_of 1 (2 ∷ [])) ≡ Some (97 ∷ 44 ∷ 98 ∷ [])
   pub nested : value_at 2 (call_of 2 (2 ∷ 7 ∷ [])) ≡ Some (97 ∷ 59 ∷ 97 ∷ [])
   pub count : value_at 4 (call_of 3 []) ≡ Some (50 ∷ [])
+  pub ids : value_at 4 (call_of 6 (7 ∷ 8 ∷ [])) ≡ Some (55 ∷ 44 ∷ 56 ∷ [])
+  pub last_id : value_at 4 (call_of 6 (8 ∷ 9 ∷ [])) ≡ Some (56 ∷ [])
+  pub no_ids : value_at 4 (call_of 6 (8 ∷ 7 ∷ [])) ≡ Some []
   pub one_query : met program (call_of 0 (9 ∷ [])) (state_at worked 4) ≡ ById 1 9 ∷ []
   pub nested_queries : met program (call_of 2 (2 ∷ 9 ∷ [])) (state_at worked 2)
       ≡ ByGroup 1 2 ∷ ById 1 9 ∷ []
+  pub range_query : met program (call_of 6 (7 ∷ 8 ∷ [])) (state_at worked 4) ≡ Range 1 7 8 ∷ []
   pub longest : eval program (call_of 1 (2 ∷ [])) (long_rows 253) ≡ Some (bodies_of (long_rows 253))
   pub longest_length : length (bodies_of (long_rows 253)) ≡ 1024
 
@@ -40,7 +44,8 @@ pub record WorkedCalls : Type 0 where
 -- value is too long; there is no such function
 pub record WorkedRefusals : Type 0 where
   pub arguments : value_at 4 (call_of 0 []) ≡ None
+  pub one_end : value_at 4 (call_of 6 (7 ∷ [])) ≡ None
   pub itself : value_at 4 (call_of 4 []) ≡ None
   pub endless : value_at 4 (call_of 5 (7 ∷ [])) ≡ None
   pub too_long : eval program (call_of 1 (2 ∷ [])) (long_rows 254) ≡ None
-  pub no_function : value_at 4 (call_of 6 []) ≡ None
+  pub no_function : value_at 4 (call_of 7 []) ≡ None

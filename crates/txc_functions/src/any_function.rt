@@ -3,6 +3,7 @@ use crate::bodies_in::BodiesIn;
 use crate::body_at::BodyAt;
 use crate::definition::Definition;
 use crate::endless::{Again, Itself};
+use crate::ids_in::IdsIn;
 use crate::row_count::RowCount;
 use std::alloc::{AllocError, Global};
 use txc_app::{Answer, Ask};
@@ -16,6 +17,7 @@ pub enum AnyFunction {
     RowCount(RowCount),
     Itself(Itself),
     Again(Again),
+    IdsIn(IdsIn),
 }
 
 impl Definition for AnyFunction {
@@ -33,6 +35,7 @@ impl Definition for AnyFunction {
             AnyFunction::RowCount(_) => 3,
             AnyFunction::Itself(_) => 4,
             AnyFunction::Again(_) => 5,
+            AnyFunction::IdsIn(_) => 6,
         }
     }
 
@@ -44,6 +47,7 @@ impl Definition for AnyFunction {
             AnyFunction::RowCount(function) => function.accepts(args),
             AnyFunction::Itself(function) => function.accepts(args),
             AnyFunction::Again(function) => function.accepts(args),
+            AnyFunction::IdsIn(function) => function.accepts(args),
         }
     }
 
@@ -55,6 +59,7 @@ impl Definition for AnyFunction {
             AnyFunction::RowCount(function) => function.first(alloc, args),
             AnyFunction::Itself(function) => function.first(alloc, args),
             AnyFunction::Again(function) => function.first(alloc, args),
+            AnyFunction::IdsIn(function) => function.first(alloc, args),
         }
     }
 
@@ -72,6 +77,7 @@ impl Definition for AnyFunction {
             AnyFunction::RowCount(function) => function.next(alloc, args, answers, answer),
             AnyFunction::Itself(function) => function.next(alloc, args, answers, answer),
             AnyFunction::Again(function) => function.next(alloc, args, answers, answer),
+            AnyFunction::IdsIn(function) => function.next(alloc, args, answers, answer),
         }
     }
 }

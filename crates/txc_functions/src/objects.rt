@@ -9,6 +9,7 @@ use crate::bodies_in::BodiesIn;
 use crate::body_at::BodyAt;
 use crate::endless::{Again, Itself};
 use crate::function::Function;
+use crate::ids_in::IdsIn;
 use crate::program::Program;
 use crate::row_count::RowCount;
 use std::alloc::{AllocError, Global};
@@ -43,6 +44,8 @@ pub fn registry(
     enlist::<Program, Object>(&mut objects, itself)?;
     let again = Function::new(alloc, pool.share()?, AnyFunction::Again(Again));
     enlist::<Program, Object>(&mut objects, again)?;
+    let ids_in = Function::new(alloc, pool.share()?, AnyFunction::IdsIn(IdsIn));
+    enlist::<Program, Object>(&mut objects, ids_in)?;
     match Registry::<Program, Object>::new(objects) {
         Ok(registry) => Ok(registry),
         Err(_) => Err(AllocError),

@@ -1,6 +1,6 @@
 use txc_app::App;
 
-/// The program's application: functions 0 to 5 over table 1.
+/// The program's application: functions 0 to 6 over table 1.
 pub struct Program;
 
 impl App for Program {

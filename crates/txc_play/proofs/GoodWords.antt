@@ -21,12 +21,12 @@ use Rattle.txc_script.specs.declared.line_fault.WordKind.{WordKind}
 use Rattle.txc_script.specs.declared.line_fault.WordKind.TheVariants.{Key, Stamp, QueryName, ChangeName}
 use Rattle.txc_script.specs.declared.line_name.LineName.{LineName}
 use Rattle.txc_script.specs.declared.line_name.LineName.TheVariants as names
-use Rattle.txc_play.specs.TaskReading.{ArePairWords}
+use Rattle.txc_play.specs.TaskReading.{ArePairWords, AreRangeWords}
 use Rattle.txc_play.specs.Tasks.{AreAfterPlace, AreBoundsInRange, AreChangeWords, AreQueryWords, Says, bounds_words, change_words, query_words, row_words}
-use Rattle.txc_play.specs.WorldFaults.{change_line, kinds_after, moment, number, pair_kinds, place, query_line, row_kinds, second_of, table}
+use Rattle.txc_play.specs.WorldFaults.{change_line, kinds_after, moment, number, pair_kinds, place, query_line, range_kinds, row_kinds, second_of, table}
 use Rattle.txc_play.specs.declared.task.Task.{Task}
 use Rattle.txc_play.specs.declared.task.Task.TheVariants as tasks
-use Rattle.txc_play.proofs.TaskParts.{by_id, by_group, by_table, pair_words, put_words, remove_words, row_of}
+use Rattle.txc_play.proofs.TaskParts.{by_id, by_group, by_range, by_table, pair_words, put_words, range_words, remove_words, row_of}
 
 none_kinds : (kinds : List WordKind) → None ≡ Some kinds → ⊥
 none_kinds kinds e = cc
@@ -87,6 +87,20 @@ has_pair words h =
     let two = has_two table number words h in
     record { t = two.first_is.0; n = two.second_is.0; are = pair_words words two.first two.second two.first_is.0 two.second_is.0 two.words_are two.first_is.1 two.second_is.1 }
 
+record HasRange (words : List (List ℕ)) : Type 0 where
+  pub t : ℕ
+  pub a : ℕ
+  pub b : ℕ
+  pub are : AreRangeWords words t a b
+
+has_range : (words : List (List ℕ)) → AreOfKinds range_kinds words → HasRange words
+has_range [] h = absurd h
+has_range (x ∷ []) h = absurd h.1
+has_range (x ∷ y ∷ []) h = absurd h.1.1
+has_range (x ∷ y ∷ z ∷ []) h =
+    record { t = h.0.0; a = h.1.0.0; b = h.1.1.0.0; are = range_words (x ∷ y ∷ z ∷ []) x y z h.0.0 h.1.0.0 h.1.1.0.0 refl h.0.1 h.1.0.1 h.1.1.0.1 }
+has_range (x ∷ y ∷ z ∷ w ∷ words) h = absurd h.1.1.1
+
 body_is : (body : List ℕ) → IsTextWord MAX_BODY_LEN body → IsBody body
 body_is body h = record { some = h.some; most = h.most; each = h.each }
 
@@ -117,18 +131,18 @@ record HasQuery (first : WordKind) (words : List (List ℕ)) : Type 0 where
   pub query : Query
   pub query_is : AreQueryWords others query
 
-query_by : (first : WordKind) (a b : List ℕ) (words : List (List ℕ)) (kinds : List WordKind) (i g l : Bool) → bytes_eq b (codes "by-id") ≡ i → bytes_eq b (codes "by-group") ≡ g → bytes_eq b (codes "all") ≡ l
-    → (if i then Some (first ∷ QueryName ∷ pair_kinds) else (if g then Some (first ∷ QueryName ∷ pair_kinds) else (if l then Some (first ∷ QueryName ∷ table ∷ []) else None))) ≡ Some kinds
+query_by : (first : WordKind) (a b : List ℕ) (words : List (List ℕ)) (kinds : List WordKind) (i g l r : Bool) → bytes_eq b (codes "by-id") ≡ i → bytes_eq b (codes "by-group") ≡ g → bytes_eq b (codes "all") ≡ l → bytes_eq b (codes "range") ≡ r
+    → (if i then Some (first ∷ QueryName ∷ pair_kinds) else (if g then Some (first ∷ QueryName ∷ pair_kinds) else (if l then Some (first ∷ QueryName ∷ table ∷ []) else (if r then Some (first ∷ QueryName ∷ range_kinds) else None)))) ≡ Some kinds
     → AreOfKinds kinds (a ∷ b ∷ words) → HasQuery first (a ∷ b ∷ words)
-query_by first a b words kinds true g l is_i is_g is_l e h =
+query_by first a b words kinds true g l r is_i is_g is_l is_r e h =
     let good = of_kinds kinds (first ∷ QueryName ∷ pair_kinds) (a ∷ b ∷ words) e h in
     let pair = has_pair words good.1.1 in
     record { word = a; others = b ∷ words; words_are = refl; first_is = good.0; query = queries.ById pair.t pair.n; query_is = by_id (b ∷ words) words b pair.t pair.n refl ((bytes_eq-Decides b (codes "by-id")).0 is_i) pair.are }
-query_by first a b words kinds false true l is_i is_g is_l e h =
+query_by first a b words kinds false true l r is_i is_g is_l is_r e h =
     let good = of_kinds kinds (first ∷ QueryName ∷ pair_kinds) (a ∷ b ∷ words) e h in
     let pair = has_pair words good.1.1 in
     record { word = a; others = b ∷ words; words_are = refl; first_is = good.0; query = queries.ByGroup pair.t pair.n; query_is = by_group (b ∷ words) words b pair.t pair.n refl ((bytes_eq-Decides b (codes "by-group")).0 is_g) pair.are }
-query_by first a b words kinds false false true is_i is_g is_l e h =
+query_by first a b words kinds false false true r is_i is_g is_l is_r e h =
     let good = of_kinds kinds (first ∷ QueryName ∷ table ∷ []) (a ∷ b ∷ words) e h in
     let one = has_one table words good.1.1 in
     record {
@@ -139,12 +153,23 @@ query_by first a b words kinds false false true is_i is_g is_l e h =
       query = queries.All one.is.0;
       query_is = by_table (b ∷ words) words b one.word one.is.0 refl ((bytes_eq-Decides b (codes "all")).0 is_l) one.words_are one.is.1;
     }
-query_by first a b words kinds false false false is_i is_g is_l e h = absurd (none_kinds kinds e)
+query_by first a b words kinds false false false true is_i is_g is_l is_r e h =
+    let good = of_kinds kinds (first ∷ QueryName ∷ range_kinds) (a ∷ b ∷ words) e h in
+    let range = has_range words good.1.1 in
+    record {
+      word = a;
+      others = b ∷ words;
+      words_are = refl;
+      first_is = good.0;
+      query = queries.Range range.t range.a range.b;
+      query_is = by_range (b ∷ words) words b range.t range.a range.b refl ((bytes_eq-Decides b (codes "range")).0 is_r) range.are;
+    }
+query_by first a b words kinds false false false false is_i is_g is_l is_r e h = absurd (none_kinds kinds e)
 
 has_query : (first : WordKind) (words : List (List ℕ)) (kinds : List WordKind) → query_line first (second_of words) ≡ Some kinds → AreOfKinds kinds words → HasQuery first words
 has_query first [] kinds e h = absurd (none_kinds kinds e)
 has_query first (a ∷ []) kinds e h = absurd (none_kinds kinds e)
-has_query first (a ∷ b ∷ words) kinds e h = query_by first a b words kinds _ _ _ refl refl refl e h
+has_query first (a ∷ b ∷ words) kinds e h = query_by first a b words kinds _ _ _ _ refl refl refl refl e h
 
 record HasChange (words : List (List ℕ)) : Type 0 where
   pub word : List ℕ

@@ -15,8 +15,8 @@ use Rattle.txc_script.specs.declared.line_fault.WordKind.{WordKind}
 use Rattle.txc_script.specs.declared.line_fault.WordKind.TheVariants.{Key, Stamp, QueryName, ChangeName}
 use Rattle.txc_script.specs.declared.line_name.LineName.{LineName}
 use Rattle.txc_script.specs.declared.line_name.LineName.TheVariants as names
-use Rattle.txc_play.specs.Tasks.{AreAfterPlace, AreChangeWords, IsChangeInRange, IsPair, IsQueryInRange, Says, change_words, name_text, query_words, row_words}
-use Rattle.txc_play.specs.WorldFaults.{IsFaultAfter, IsFirstBad, IsWorldFault, change_line, kinds_after, moment, pair_kinds, place, query_line, row_kinds, second_of, table}
+use Rattle.txc_play.specs.Tasks.{AreAfterPlace, AreChangeWords, IsChangeInRange, IsIdRange, IsPair, IsQueryInRange, Says, change_words, name_text, query_words, row_words}
+use Rattle.txc_play.specs.WorldFaults.{IsFaultAfter, IsFirstBad, IsWorldFault, change_line, kinds_after, moment, pair_kinds, place, query_line, range_kinds, row_kinds, second_of, table}
 use Rattle.txc_play.specs.declared.task.Task.{Task}
 use Rattle.txc_play.proofs.TaskNames.{same_name}
 use Rattle.txc_play.proofs.TaskParts.{apart, first_is, others_are}
@@ -36,6 +36,9 @@ as_words name words others e h = subst (HasKinds name) (sym e) h
 
 pair_good : (t n : ℕ) → IsPair t n → AreOfKinds pair_kinds (decimal t ∷ decimal n ∷ [])
 pair_good t n h = ((t, (h.is_table, refl)), ((n, (h.is_number, refl)), tt))
+
+range_good : (t a b : ℕ) → IsIdRange t a b → AreOfKinds range_kinds (decimal t ∷ decimal a ∷ decimal b ∷ [])
+range_good t a b h = ((t, (h.is_table, refl)), ((a, (h.is_first, refl)), ((b, (h.is_last, refl)), tt)))
 
 row_good : (row : RowValue) → IsRow row → AreOfKinds row_kinds (row_words row)
 row_good row h = (
@@ -63,7 +66,8 @@ record QueryKinds (first : WordKind) (words : List (List ℕ)) : Type 0 where
 query_kinds : (first : WordKind) (word : List ℕ) (q : Query) → IsOfKind first word → IsQueryInRange q → QueryKinds first (word ∷ query_words q)
 query_kinds first word (queries.ById t n) is h = record { kinds = first ∷ QueryName ∷ pair_kinds; known = refl; good = (is, (inl refl, pair_good t n h)) }
 query_kinds first word (queries.ByGroup t n) is h = record { kinds = first ∷ QueryName ∷ pair_kinds; known = refl; good = (is, (inr (inl refl), pair_good t n h)) }
-query_kinds first word (queries.All t) is h = record { kinds = first ∷ QueryName ∷ table ∷ []; known = refl; good = (is, (inr (inr refl), ((t, (h, refl)), tt))) }
+query_kinds first word (queries.All t) is h = record { kinds = first ∷ QueryName ∷ table ∷ []; known = refl; good = (is, (inr (inr (inl refl)), ((t, (h, refl)), tt))) }
+query_kinds first word (queries.Range t a b) is h = record { kinds = first ∷ QueryName ∷ range_kinds; known = refl; good = (is, (inr (inr (inr refl)), range_good t a b h)) }
 
 -- an actor, and a change
 record ChangeKinds (words : List (List ℕ)) : Type 0 where

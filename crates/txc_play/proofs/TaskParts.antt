@@ -13,7 +13,7 @@ use Rattle.txc_rows.specs.declared.query.Change.{Change}
 use Rattle.txc_rows.specs.declared.query.Change.TheVariants as changes
 use Rattle.txc_play.specs.Tasks.{query_words, row_words, AreChangeWords, AreQueryWords}
 use Rattle.txc_script.specs.Unread.{IsNone}
-use Rattle.txc_play.specs.TaskReading.{ArePairWords}
+use Rattle.txc_play.specs.TaskReading.{ArePairWords, AreRangeWords}
 use Rattle.txc_script.specs.Lines.{IsNumberWord}
 use Rattle.txc_script.specs.declared.unread.Unread.{Unread}
 use Rattle.txc_script.specs.declared.unread.Unread.TheVariants as reasons
@@ -46,6 +46,12 @@ pair_number words a b t n e h =
     let same : a ∷ b ∷ [] ≡ decimal t ∷ decimal n ∷ [] = sym e ∙ h.0 in
     (h.1.is_number, first_is b (decimal n) [] [] (others_are a (decimal t) (b ∷ []) (decimal n ∷ []) same))
 
+-- ---- three words
+
+pub range_words : (words : List (List ℕ)) (x y z : List ℕ) (t a b : ℕ) → words ≡ x ∷ y ∷ z ∷ [] → IsNumberWord LAST_TABLE x t → IsNumberWord LAST_NUMBER y a → IsNumberWord LAST_NUMBER z b → AreRangeWords words t a b
+range_words words x y z t a b e is_t is_a is_b =
+    (e ∙ ap (λ (w : List ℕ). w ∷ y ∷ z ∷ []) is_t.1 ∙ ap (λ (w : List ℕ). decimal t ∷ w ∷ z ∷ []) is_a.1 ∙ ap (λ (w : List ℕ). decimal t ∷ decimal a ∷ w ∷ []) is_b.1, record { is_table = is_t.0; is_first = is_a.0; is_last = is_b.0 })
+
 -- ---- queries
 
 pub by_id : (words rest : List (List ℕ)) (name : List ℕ) (t n : ℕ) → words ≡ name ∷ rest → name ≡ codes "by-id" → ArePairWords rest t n → AreQueryWords words (queries.ById t n)
@@ -58,37 +64,23 @@ pub by_table : (words rest : List (List ℕ)) (name word : List ℕ) (t : ℕ) �
     → AreQueryWords words (queries.All t)
 by_table words rest name word t e is f h = (e ∙ ap (λ (w : List ℕ). w ∷ rest) is ∙ ap (λ (ws : List (List ℕ)). codes "all" ∷ ws) f ∙ ap (λ (w : List ℕ). codes "all" ∷ w ∷ []) h.1, h.0)
 
-pub no_id : (words rest : List (List ℕ)) (name : List ℕ) (q : Query) → words ≡ name ∷ rest → name ≡ codes "by-id" → ((t n : ℕ) → ArePairWords rest t n → ⊥) → AreQueryWords words q → ⊥
-no_id words rest name (queries.ById t n) e is none h =
-    let same : name ∷ rest ≡ codes "by-id" ∷ decimal t ∷ decimal n ∷ [] = sym e ∙ h.0 in
-    none t n (others_are name (codes "by-id") rest (decimal t ∷ decimal n ∷ []) same, h.1)
-no_id words rest name (queries.ByGroup t n) e is none h = apart (codes "by-id") (codes "by-group") refl (sym is ∙ first_is name (codes "by-group") rest (decimal t ∷ decimal n ∷ []) (sym e ∙ h.0))
-no_id words rest name (queries.All t) e is none h = apart (codes "by-id") (codes "all") refl (sym is ∙ first_is name (codes "all") rest (decimal t ∷ []) (sym e ∙ h.0))
-
-pub no_group : (words rest : List (List ℕ)) (name : List ℕ) (q : Query) → words ≡ name ∷ rest → name ≡ codes "by-group" → ((t n : ℕ) → ArePairWords rest t n → ⊥) → AreQueryWords words q → ⊥
-no_group words rest name (queries.ById t n) e is none h = apart (codes "by-group") (codes "by-id") refl (sym is ∙ first_is name (codes "by-id") rest (decimal t ∷ decimal n ∷ []) (sym e ∙ h.0))
-no_group words rest name (queries.ByGroup t n) e is none h =
-    let same : name ∷ rest ≡ codes "by-group" ∷ decimal t ∷ decimal n ∷ [] = sym e ∙ h.0 in
-    none t n (others_are name (codes "by-group") rest (decimal t ∷ decimal n ∷ []) same, h.1)
-no_group words rest name (queries.All t) e is none h = apart (codes "by-group") (codes "all") refl (sym is ∙ first_is name (codes "all") rest (decimal t ∷ []) (sym e ∙ h.0))
-
-pub no_table : (words rest : List (List ℕ)) (name : List ℕ) (q : Query) → words ≡ name ∷ rest → name ≡ codes "all" → ((t : ℕ) → rest ≡ decimal t ∷ [] → t ≤ LAST_TABLE → ⊥) → AreQueryWords words q → ⊥
-no_table words rest name (queries.ById t n) e is none h = apart (codes "all") (codes "by-id") refl (sym is ∙ first_is name (codes "by-id") rest (decimal t ∷ decimal n ∷ []) (sym e ∙ h.0))
-no_table words rest name (queries.ByGroup t n) e is none h = apart (codes "all") (codes "by-group") refl (sym is ∙ first_is name (codes "by-group") rest (decimal t ∷ decimal n ∷ []) (sym e ∙ h.0))
-no_table words rest name (queries.All t) e is none h = none t (others_are name (codes "all") rest (decimal t ∷ []) (sym e ∙ h.0)) h.1
+pub by_range : (words rest : List (List ℕ)) (name : List ℕ) (t a b : ℕ) → words ≡ name ∷ rest → name ≡ codes "range" → AreRangeWords rest t a b → AreQueryWords words (queries.Range t a b)
+by_range words rest name t a b e is h = (e ∙ ap (λ (w : List ℕ). w ∷ rest) is ∙ ap (λ (ws : List (List ℕ)). codes "range" ∷ ws) h.0, h.1)
 
 -- no query begins with another word
 pub no_query : (words rest : List (List ℕ)) (name : List ℕ) (q : Query) → words ≡ name ∷ rest → (name ≡ codes "by-id" → ⊥) → (name ≡ codes "by-group" → ⊥) → (name ≡ codes "all" → ⊥)
-    → AreQueryWords words q → ⊥
-no_query words rest name (queries.ById t n) e i g a h = i (first_is name (codes "by-id") rest (decimal t ∷ decimal n ∷ []) (sym e ∙ h.0))
-no_query words rest name (queries.ByGroup t n) e i g a h = g (first_is name (codes "by-group") rest (decimal t ∷ decimal n ∷ []) (sym e ∙ h.0))
-no_query words rest name (queries.All t) e i g a h = a (first_is name (codes "all") rest (decimal t ∷ []) (sym e ∙ h.0))
+    → (name ≡ codes "range" → ⊥) → AreQueryWords words q → ⊥
+no_query words rest name (queries.ById t n) e i g a r h = i (first_is name (codes "by-id") rest (decimal t ∷ decimal n ∷ []) (sym e ∙ h.0))
+no_query words rest name (queries.ByGroup t n) e i g a r h = g (first_is name (codes "by-group") rest (decimal t ∷ decimal n ∷ []) (sym e ∙ h.0))
+no_query words rest name (queries.All t) e i g a r h = a (first_is name (codes "all") rest (decimal t ∷ []) (sym e ∙ h.0))
+no_query words rest name (queries.Range t m n) e i g a r h = r (first_is name (codes "range") rest (decimal t ∷ decimal m ∷ decimal n ∷ []) (sym e ∙ h.0))
 
 -- no query is one word
 pub no_lone_query : (words : List (List ℕ)) (word : List ℕ) (q : Query) → words ≡ word ∷ [] → AreQueryWords words q → ⊥
 no_lone_query words word (queries.ById t n) e h = let same : word ∷ [] ≡ codes "by-id" ∷ decimal t ∷ decimal n ∷ [] = sym e ∙ h.0 in cc
 no_lone_query words word (queries.ByGroup t n) e h = let same : word ∷ [] ≡ codes "by-group" ∷ decimal t ∷ decimal n ∷ [] = sym e ∙ h.0 in cc
 no_lone_query words word (queries.All t) e h = let same : word ∷ [] ≡ codes "all" ∷ decimal t ∷ [] = sym e ∙ h.0 in cc
+no_lone_query words word (queries.Range t m n) e h = let same : word ∷ [] ≡ codes "range" ∷ decimal t ∷ decimal m ∷ decimal n ∷ [] = sym e ∙ h.0 in cc
 
 -- ---- rows and changes
 
@@ -172,6 +164,7 @@ no_words : (q : Query) → [] ≡ query_words q → ⊥
 no_words (queries.ById t n) e = cc
 no_words (queries.ByGroup t n) e = cc
 no_words (queries.All t) e = cc
+no_words (queries.Range t m n) e = cc
 
 -- a query has words after a stamp
 pub query_alone : (words : List (List ℕ)) (word stamp : List ℕ) (q : Query) → words ≡ word ∷ [] → words ≡ stamp ∷ query_words q → ⊥

@@ -29,15 +29,24 @@ pub record IsPair (table number : ℕ) : Type 0 where
   pub is_table : table ≤ LAST_TABLE
   pub is_number : number ≤ LAST_NUMBER
 
+-- a table, and the first and the last of some ids
+pub record IsIdRange (table first last : ℕ) : Type 0 where
+  pub is_table : table ≤ LAST_TABLE
+  pub is_first : first ≤ LAST_NUMBER
+  pub is_last : last ≤ LAST_NUMBER
+
 abbrev pub query_words : Query → List (List ℕ)
 query_words (queries.ById table id) = codes "by-id" ∷ decimal table ∷ decimal id ∷ []
 query_words (queries.ByGroup table group) = codes "by-group" ∷ decimal table ∷ decimal group ∷ []
 query_words (queries.All table) = codes "all" ∷ decimal table ∷ []
+query_words (queries.Range table first last) =
+    codes "range" ∷ decimal table ∷ decimal first ∷ decimal last ∷ []
 
 abbrev pub IsQueryInRange : Query → Type 0
 IsQueryInRange (queries.ById table id) = IsPair table id
 IsQueryInRange (queries.ByGroup table group) = IsPair table group
 IsQueryInRange (queries.All table) = table ≤ LAST_TABLE
+IsQueryInRange (queries.Range table first last) = IsIdRange table first last
 
 abbrev pub row_words : RowValue → List (List ℕ)
 row_words row = decimal row.table ∷ decimal row.id ∷ decimal row.group ∷ row.body ∷ []

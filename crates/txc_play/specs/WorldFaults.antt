@@ -37,6 +37,10 @@ moment = Number LAST_MOMENT
 abbrev pub pair_kinds : List WordKind
 pair_kinds = table ∷ number ∷ []
 
+-- a table, and the first and the last of some ids
+abbrev pub range_kinds : List WordKind
+range_kinds = table ∷ number ∷ number ∷ []
+
 abbrev pub row_kinds : List WordKind
 row_kinds = table ∷ number ∷ number ∷ Text MAX_BODY_LEN ∷ []
 
@@ -45,7 +49,8 @@ abbrev pub query_line : WordKind → List ℕ → Option (List WordKind)
 query_line first name =
     if bytes_eq name (codes "by-id") then Some (first ∷ QueryName ∷ pair_kinds)
     else (if bytes_eq name (codes "by-group") then Some (first ∷ QueryName ∷ pair_kinds)
-    else (if bytes_eq name (codes "all") then Some (first ∷ QueryName ∷ table ∷ []) else None))
+    else (if bytes_eq name (codes "all") then Some (first ∷ QueryName ∷ table ∷ [])
+    else (if bytes_eq name (codes "range") then Some (first ∷ QueryName ∷ range_kinds) else None)))
 
 -- an actor, and a change of this name, if it is one
 abbrev pub change_line : List ℕ → Option (List WordKind)

@@ -33,6 +33,8 @@ static QUERY_PAIR: [WordKind; 4] = [WordKind::Stamp, WordKind::QueryName, TABLE,
 
 static QUERY_TABLE: [WordKind; 3] = [WordKind::Stamp, WordKind::QueryName, TABLE];
 
+static QUERY_RANGE: [WordKind; 5] = [WordKind::Stamp, WordKind::QueryName, TABLE, NUMBER, NUMBER];
+
 static RO: [WordKind; 4] = [PLACE, MOMENT, MOMENT, WordKind::Stamp];
 
 static CALL: [WordKind; 2] = [PLACE, WordKind::Key];
@@ -42,6 +44,8 @@ static ASK: [WordKind; 2] = [PLACE, WordKind::QueryName];
 static ASK_PAIR: [WordKind; 4] = [PLACE, WordKind::QueryName, TABLE, NUMBER];
 
 static ASK_TABLE: [WordKind; 3] = [PLACE, WordKind::QueryName, TABLE];
+
+static ASK_RANGE: [WordKind; 5] = [PLACE, WordKind::QueryName, TABLE, NUMBER, NUMBER];
 
 static WRITE: [WordKind; 2] = [PLACE, WordKind::ChangeName];
 
@@ -71,6 +75,9 @@ fn query_kinds(name: &[u8]) -> Option<&'static [WordKind]>
     if name == b"all".as_slice() {
         return Some(QUERY_TABLE.as_slice());
     }
+    if name == b"range".as_slice() {
+        return Some(QUERY_RANGE.as_slice());
+    }
     None
 }
 
@@ -87,6 +94,9 @@ fn ask_kinds(name: &[u8]) -> Option<&'static [WordKind]>
     }
     if name == b"all".as_slice() {
         return Some(ASK_TABLE.as_slice());
+    }
+    if name == b"range".as_slice() {
+        return Some(ASK_RANGE.as_slice());
     }
     None
 }

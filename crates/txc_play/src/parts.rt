@@ -10,7 +10,7 @@ ghost use Rattle.txc_ports.specs.declared.bounds.Bounds.{Bounds};
 ghost use Rattle.txc_script.specs.Words.{words_of};
 ghost use Rattle.txc_play.specs.Tasks.{row_words, AreBoundsWords, AreChangeWords, AreQueryWords, IsPair};
 ghost use Rattle.txc_script.specs.Unread.{IsNone};
-ghost use Rattle.txc_play.specs.TaskReading.{ArePairWords};
+ghost use Rattle.txc_play.specs.TaskReading.{ArePairWords, AreRangeWords};
 ghost use Rattle.txc_script.specs.Lines.{IsNumberWord};
 ghost use Rattle.txc_play.specs.declared.parts.TheConstants.{LAST_MOMENT};
 
@@ -81,6 +81,19 @@ fn read_pair(text: &[u8]) -> Result<(Table, u32), Malformed>
     Ok((table, number))
 }
 
+/// A table, and the first and the last of some ids.
+fn read_range(text: &[u8]) -> Result<(Table, u32, u32), Malformed>
+    ensures answer { IfOk result (λ r. AreRangeWords (words_of text.now) r.0 r.1 r.2) }
+    ensures refused { IfErr result (λ _. (table first last : ℕ)
+        → AreRangeWords (words_of text.now) table first last → ⊥) }
+{
+    let (table, first, last) = three_words(text)?;
+    let table = read_table(table)?;
+    let first = read_id(first)?;
+    let last = read_id(last)?;
+    Ok((table, first, last))
+}
+
 /// A query.
 pub fn read_query(text: &[u8]) -> Result<Query, Malformed>
     ensures answer { IfOk result (AreQueryWords (words_of text.now)) }
@@ -100,6 +113,10 @@ pub fn read_query(text: &[u8]) -> Result<Query, Malformed>
     if name == b"all".as_slice() {
         let table = one_word(text)?;
         return Ok(Query::All(read_table(table)?));
+    }
+    if name == b"range".as_slice() {
+        let (table, first, last) = read_range(text)?;
+        return Ok(Query::Range(table, first, last));
     }
     Err(Malformed)
 }

@@ -67,7 +67,16 @@ pub fn say_matching(text: &mut String, rows: &[Row], query: &Query) {
     }
 }
 
-/// What the program's functions 0 to 3 come to in the state.
+/// The ids of the rows that match, with a comma after each.
+fn say_ids(text: &mut String, rows: &[Row], query: &Query) {
+    for row in rows {
+        if query.matches(row) {
+            let _ = write!(text, "{},", row.id());
+        }
+    }
+}
+
+/// What the program's functions 0 to 3 and 6 come to in the state.
 pub fn say_value(text: &mut String, rows: &[Row], key: &Key) {
     let Some(table) = Table::new(1) else {
         return;
@@ -88,6 +97,7 @@ pub fn say_value(text: &mut String, rows: &[Row], key: &Key) {
             let count = rows.iter().filter(|row| row.table() == table).count();
             let _ = write!(text, "{count},");
         }
+        (6, [first, last]) => say_ids(text, rows, &Query::Range(table, *first, *last)),
         _ => {}
     }
     if text.as_str().ends_with(',') {

@@ -48,12 +48,14 @@ fn table(words: &mut SplitWhitespace<'_>) -> Option<Table> {
     Table::new(number(words).min(15) as u8)
 }
 
-/// What the words ask for: `id TABLE ID`, `group TABLE GROUP` or `all TABLE`; none for a `-`.
+/// What the words ask for: `id TABLE ID`, `group TABLE GROUP`, `all TABLE` or `range TABLE FIRST LAST`; none
+/// for a `-`.
 pub fn query(words: &mut SplitWhitespace<'_>) -> Option<Query> {
     match words.next()? {
         "id" => Some(Query::ById(table(words)?, number(words))),
         "group" => Some(Query::ByGroup(table(words)?, number(words))),
         "all" => Some(Query::All(table(words)?)),
+        "range" => Some(Query::Range(table(words)?, number(words), number(words))),
         _ => None,
     }
 }

@@ -8,14 +8,14 @@ use Rattle.sqlite.specs.Source.TheVariants.{Values}
 use Rattle.sqlite_schema.specs.declared.program.Program.{Program}
 use Rattle.sqlite.specs.Command.TheVariants.{Insert, Select, Update, Delete, CreateTable}
 use Rattle.sqlite_sql.specs.declared.ops.BinaryOp.TheVariants.{Compare, Is}
-use Rattle.sqlite_sql.specs.declared.ops.CompareOp.TheVariants.{Eq, Le}
+use Rattle.sqlite_sql.specs.declared.ops.CompareOp.TheVariants.{Eq, Ge, Le}
 use Rattle.sqlite.specs.Collation.TheVariants.{Binary}
 use Rattle.sqlite_value.specs.Keys.{ascending}
 use Rattle.sqlite_value.specs.declared.keys.Key.{Key}
 use Rattle.sqlite_tied.specs.Compute.{everything}
 use Rattle.sqlite.specs.Listing.{understood, reads_listing}
 use Rattle.sqlite.proofs.Callers.{command_of, statement_of, IsPlain}
-use Rattle.txc_rows.specs.declared.statements.TheConstants.{CREATE_TABLE, ADD_VERSION, END_VERSION, DELETE_DEAD, READ_TABLE, READ_ROW, READ_GROUP}
+use Rattle.txc_rows.specs.declared.statements.TheConstants.{CREATE_TABLE, ADD_VERSION, END_VERSION, DELETE_DEAD, READ_TABLE, READ_ROW, READ_GROUP, READ_RANGE}
 use Rattle.txc_rows.specs.Texts.{version_table, version_schema, no_schema}
 
 abbrev pub create_text : List ℕ
@@ -38,6 +38,9 @@ row_text = READ_ROW.now
 
 abbrev pub group_text : List ℕ
 group_text = READ_GROUP.now
+
+abbrev pub range_text : List ℕ
+range_text = READ_RANGE.now
 
 pub create_is : (command_of (understood no_schema create_text) ≡ CreateTable) × (statement_of create_text (understood no_schema create_text) ≡ create_text) × (table_defined_by create_text ≡ Ok version_table)
 unfolding understood everything
@@ -150,3 +153,10 @@ group_filter = op2 (Compare Eq Binary) (col 1 1) (col 0 0) ∷ op2 (Compare Eq B
 pub group_is : IsListingOf group_filter group_text
 unfolding understood everything
 group_is = record { command = refl; rows = refl; plain = (refl, refl) }
+
+abbrev pub range_filter : List Term
+range_filter = op2 (Compare Eq Binary) (col 1 1) (col 0 0) ∷ op2 (Compare Ge Binary) (col 1 2) (col 0 2) ∷ op2 (Compare Le Binary) (col 1 2) (col 0 3) ∷ []
+
+pub range_is : IsListingOf range_filter range_text
+unfolding understood everything
+range_is = record { command = refl; rows = refl; plain = (refl, refl) }

@@ -16,7 +16,7 @@ use Rattle.std.proofs.lemmas.List.Sorted.{IsPermutation-refl, IsPermutation-tran
 use Rattle.sqlite_trees.proofs.ListLemmas.{along_permutation, all-permutation}
 use Rattle.txc_rows.specs.declared.version.Versioned.{Versioned}
 use Rattle.txc_rows.specs.declared.query.Query.{Query}
-use Rattle.txc_rows.specs.declared.query.Query.TheVariants.{ById, ByGroup, All}
+use Rattle.txc_rows.specs.declared.query.Query.TheVariants.{ById, ByGroup, All, Range}
 use Rattle.txc_rows.specs.Values.{RowValue}
 use Rattle.txc_rows.specs.States.{query_table}
 use Rattle.txc_rows.specs.Found.{Finds}
@@ -38,6 +38,7 @@ pub of_its_table : (q : Query) (v : Versioned) → suits q v ≡ true → v.row.
 of_its_table (ById t i) v e = eqb-true _ _ (front _ _ e)
 of_its_table (ByGroup t g) v e = eqb-true _ _ (front _ _ e)
 of_its_table (All t) v e = eqb-true _ _ e
+of_its_table (Range t a b) v e = eqb-true _ _ (front _ _ e)
 
 -- ---- in the order of the query too, each version follows those before it
 

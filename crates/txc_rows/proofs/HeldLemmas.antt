@@ -24,7 +24,7 @@ use Rattle.std.specs.declared.cmp.Ordering.TheVariants.{Less}
 use Rattle.txc_rows.specs.declared.version.Versioned.{Versioned}
 use Rattle.txc_rows.specs.States.{is_at}
 use Rattle.txc_rows.specs.declared.query.Query.{Query}
-use Rattle.txc_rows.specs.declared.query.Query.TheVariants.{ById, ByGroup, All}
+use Rattle.txc_rows.specs.declared.query.Query.TheVariants.{ById, ByGroup, All, Range}
 use Rattle.txc_rows.specs.declared.statements.TheConstants.{MOST_READ}
 use Rattle.txc_rows.specs.Versions.{suits, is_current, closed, removed, purged, has_died_by, Pairwise}
 use Rattle.txc_rows.proofs.Members.{bool_cases}
@@ -33,9 +33,9 @@ use Rattle.txc_rows.specs.Texts.{version_schema, no_schema}
 use Rattle.txc_rows.specs.Stored.{stored, number, version_in, versions_in, IsStored, AreStored}
 use Rattle.txc_rows.specs.Holdable.{AreHeld, HasEnded}
 use Rattle.txc_rows.specs.Kept.{rows_in, versions_of, HasTable, IsKept, IsStep, IsCall, IsReading}
-use Rattle.txc_rows.proofs.Commands.{insert_text, close_text, create_text, create_is, create_plain, purge_text, purge_is, purge_plain, IsListingOf, most_shown, table_text, table_filter, table_is, row_text, row_filter, row_is, group_text, group_filter, group_is}
+use Rattle.txc_rows.proofs.Commands.{insert_text, close_text, create_text, create_is, create_plain, purge_text, purge_is, purge_plain, IsListingOf, most_shown, table_text, table_filter, table_is, row_text, row_filter, row_is, group_text, group_filter, group_is, range_text, range_filter, range_is}
 use Rattle.txc_rows.proofs.Steps.{insert_params, inserts, creates}
-use Rattle.txc_rows.proofs.StoredRows.{version_again, table_test, row_test, group_test}
+use Rattle.txc_rows.proofs.StoredRows.{version_again, table_test, row_test, group_test, range_test}
 use Rattle.txc_rows.proofs.Tables.{next_above, put_row_last}
 use Rattle.txc_rows.proofs.Writes.{keyed_all, is_hit, ended, close_params, closes, purges}
 use Rattle.txc_rows.proofs.Answering.{Refused, execute_refused, query_refused, shown_same, selects, listing}
@@ -244,3 +244,8 @@ pub lists_group : (t g : ℕ) (old new : Held MemStore) → IsKept old → (r : 
     → IfOk r (λ rows. Shown group_text (number t ∷ number MOST_READ ∷ number g ∷ []) (state over_memory old) (state over_memory new) rows.items)
     → IfErr r (FailsToQuery group_text (number t ∷ number MOST_READ ∷ number g ∷ []) (state over_memory old) (state over_memory new)) → IsReading (ByGroup t g) old new r
 lists_group t g old new kept = lists (ByGroup t g) group_filter group_text group_is (number t ∷ number MOST_READ ∷ number g ∷ []) (group_test t MOST_READ g) refl old new kept
+
+pub lists_range : (t a b : ℕ) (old new : Held MemStore) → IsKept old → (r : Result (Vec Row Global) Error)
+    → IfOk r (λ rows. Shown range_text (number t ∷ number MOST_READ ∷ number a ∷ number b ∷ []) (state over_memory old) (state over_memory new) rows.items)
+    → IfErr r (FailsToQuery range_text (number t ∷ number MOST_READ ∷ number a ∷ number b ∷ []) (state over_memory old) (state over_memory new)) → IsReading (Range t a b) old new r
+lists_range t a b old new kept = lists (Range t a b) range_filter range_text range_is (number t ∷ number MOST_READ ∷ number a ∷ number b ∷ []) (range_test t MOST_READ a b) refl old new kept

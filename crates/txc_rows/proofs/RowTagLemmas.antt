@@ -1,16 +1,16 @@
 -- The tags of what changes cover each answer that changes.
-use Rattle.std.proofs.Common.{◌≡◌, inl, inr, List, [], ◌∷◌, ◌++◌, filter, Bool, true, false, true≢false, not, ◌==◌, refl, sym, ap, subst, ◌∙◌}
+use Rattle.std.proofs.Common.{◌≡◌, inl, inr, List, [], ◌∷◌, ◌++◌, filter, Bool, true, false, true≢false, not, ◌&&◌, ◌==◌, nat_le, refl, sym, ap, subst, ◌∙◌}
 use Rattle.std.specs.List.{flat_map}
 use Rattle.txc_tags.specs.declared.tag.Tag.{Tag}
 use Rattle.txc_tags.specs.Tags.{id_tag, group_tag, tags_match, sets_match}
 use Rattle.txc_tags.proofs.Offered.{all_covered, covered_match}
 use Rattle.txc_rows.specs.declared.query.Query.{Query}
-use Rattle.txc_rows.specs.declared.query.Query.TheVariants.{ById, ByGroup, All}
+use Rattle.txc_rows.specs.declared.query.Query.TheVariants.{ById, ByGroup, All, Range}
 use Rattle.txc_rows.specs.Values.{same_row}
 use Rattle.txc_rows.specs.States.{RowValue, State, matches, answer}
 use Rattle.txc_rows.specs.RowTags.{query_tag, covers_query, has_row, lost, tags_of_row, tags_between}
 use Rattle.txc_rows.specs.Laws.{TagsAreSound, NoTagsBetween}
-use Rattle.txc_rows.proofs.Members.{IsIn, bool_cases, and_true, any_there, in_filter, from_filter, in_left, in_right}
+use Rattle.txc_rows.proofs.Members.{IsIn, bool_cases, both_true, and_true, any_there, in_filter, from_filter, in_left, in_right}
 use Rattle.txc_rows.proofs.RowTests.{has_row_in, row_itself}
 use Rattle.txc_rows.proofs.Rising.{filter_state, same_rows}
 
@@ -24,6 +24,7 @@ tag_met : (q : Query) (r : RowValue) → matches q r ≡ true → (tag : Tag) ×
 tag_met (ById table id) r e = (id_tag r.table r.id, inl refl, e)
 tag_met (ByGroup table group) r e = (group_tag r.table r.group, inr (inl refl), e)
 tag_met (All table) r e = (id_tag r.table r.id, inl refl, and_true (r.table == table) _ e refl)
+tag_met (Range table first last) r e = (id_tag r.table r.id, inl refl, and_true (r.table == table) _ (both_true (r.table == table) (nat_le first r.id && nat_le r.id last) e).0 refl)
 
 -- a row that one state lost and that the query matches shows itself in the tags
 shown : (old new : State) (q : Query) (set : List Tag) (r : RowValue) → IsIn r (lost old new ++ lost new old) → matches q r ≡ true → covers_query set q ≡ true → sets_match (tags_between old new) set ≡ true

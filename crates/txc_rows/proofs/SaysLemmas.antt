@@ -4,7 +4,7 @@ use Rattle.std.proofs.lemmas.Bool.Decides.{nat_tests}
 use borrow.Author.Tests.{eqb-true}
 use Rattle.std.specs.List.{AllByRecursion, Contains}
 use Rattle.txc_rows.specs.declared.query.Query.{Query}
-use Rattle.txc_rows.specs.declared.query.Query.TheVariants.{ById, ByGroup, All}
+use Rattle.txc_rows.specs.declared.query.Query.TheVariants.{ById, ByGroup, All, Range}
 use Rattle.txc_rows.specs.declared.query.Change.{Change}
 use Rattle.txc_rows.specs.declared.query.Change.TheVariants.{Put, Remove}
 use Rattle.txc_rows.specs.States.{RowValue, State, IsState, row_before, is_at, query_table, matches, answer, after_change, after_changes}
@@ -306,6 +306,7 @@ of_table : (q : Query) (r : RowValue) → matches q r ≡ true → r.table ≡ q
 of_table (ById table id) r e = eqb-true _ _ (both_true (r.table == table) (r.id == id) e).0
 of_table (ByGroup table group) r e = eqb-true _ _ (both_true (r.table == table) (r.group == group) e).0
 of_table (All table) r e = eqb-true _ _ e
+of_table (Range table first last) r e = eqb-true _ _ (both_true (r.table == table) (nat_le first r.id && nat_le r.id last) e).0
 
 by_id : (t i u j : ℕ) → t ≡ u → i < j → (nat_lt t u || ((t == u) && nat_lt i j)) ≡ true
 by_id t i u j e low = grind (arith, nat_tests)

@@ -1,14 +1,14 @@
 -- What the tests of the statements say of a stored row.
 use Rattle.std.proofs.Common.{◌≡◌, ℕ, ℤ, pos, List, [], ◌∷◌, ◌++◌, map, filter, Bool, true, false, cond, ◌&&◌, ◌==◌, nat_lt, nat_le, Some, None, Option, is_none, refl, ap, subst, ◌∙◌, arith}
 use Rattle.std.proofs.lemmas.Bool.Decides.{nat_tests}
-use Rattle.std.specs.Ordering.{int_cmp, nat_cmp, is_eq, is_le, is_lt}
+use Rattle.std.specs.Ordering.{int_cmp, nat_cmp, is_eq, is_ge, is_le, is_lt}
 use Rattle.std.specs.List.{flat_map, list_all, AllByRecursion}
 use Rattle.std.specs.List.Sorted.{IsPermutation, IsSorted}
 use Rattle.sqlite.specs.declared.types.Value.TheVariants.{Null}
 use Rattle.sqlite.specs.Order.{Row, value_cmp}
 use Rattle.sqlite.specs.Collation.TheVariants.{Binary}
 use Rattle.sqlite_sql.specs.declared.ops.BinaryOp.TheVariants.{Compare, Is}
-use Rattle.sqlite_sql.specs.declared.ops.CompareOp.TheVariants.{Eq, Le}
+use Rattle.sqlite_sql.specs.declared.ops.CompareOp.TheVariants.{Eq, Ge, Le}
 use Rattle.sqlite_value.specs.declared.keys.Key.{Key}
 use Rattle.sqlite.specs.Tree.{rowid}
 use Rattle.sqlite.specs.Edit.{id_in}
@@ -22,9 +22,9 @@ use Rattle.sqlite_value.proofs.OrderLemmas.{value_cmp-Int, value_cmp-apart, valu
 use Rattle.txc_rows.specs.declared.version.Versioned.{Versioned}
 use Rattle.txc_rows.specs.States.{is_at}
 use Rattle.txc_rows.specs.Versions.{suits, is_current, has_died_by, died_by}
-use Rattle.txc_rows.specs.declared.query.Query.TheVariants.{ById, ByGroup, All}
+use Rattle.txc_rows.specs.declared.query.Query.TheVariants.{ById, ByGroup, All, Range}
 use Rattle.txc_rows.specs.Stored.{stored, number, death, IsStored, death_in, version_in, shown, version_shown}
-use Rattle.txc_rows.proofs.Commands.{close_filter, purge_filter, table_filter, row_filter, group_filter, whole, alone}
+use Rattle.txc_rows.proofs.Commands.{close_filter, purge_filter, table_filter, row_filter, group_filter, range_filter, whole, alone}
 
 pub int_cmp-pos : (a b : ℕ) → int_cmp (pos a) (pos b) ≡ nat_cmp a b
 int_cmp-pos a b = grind (arith, nat_tests)
@@ -89,6 +89,26 @@ row_test t n i id v = both _ _ _ _ (eq_test v.row.table t) (eq_test v.row.id i)
 
 pub group_test : (t n g : ℕ) (id : ℤ) (v : Versioned) → list_all (holds ((number t ∷ number n ∷ number g ∷ []) ∷ stored id v ∷ [])) group_filter ≡ suits (ByGroup t g) v
 group_test t n g id v = both _ _ _ _ (eq_test v.row.table t) (eq_test v.row.group g)
+
+is_ge-nat_cmp : (a b : ℕ) → is_ge (nat_cmp a b) ≡ nat_le b a
+is_ge-nat_cmp a b = grind (arith, nat_tests)
+
+from_test : (a b : ℕ) → is_true (binary (Compare Ge Binary) (number a) (number b)) ≡ nat_le b a
+unfolding binary
+from_test a b = true_of _ ∙ ap is_ge (number_cmp a b) ∙ is_ge-nat_cmp a b
+
+to_test : (a b : ℕ) → is_true (binary (Compare Le Binary) (number a) (number b)) ≡ nat_le a b
+unfolding binary
+to_test a b = true_of _ ∙ ap is_le (number_cmp a b) ∙ is_le-nat_cmp a b
+
+within : (A B C a b c : Bool) → A ≡ a → B ≡ b → C ≡ c → (A && (B && (C && true))) ≡ (a && (b && c))
+within A B C true true true p q r = rw (p, q, r) refl
+within A B C true true false p q r = rw (p, q, r) refl
+within A B C true false c p q r = rw (p, q) refl
+within A B C false b c p q r = rw p refl
+
+pub range_test : (t n a b : ℕ) (id : ℤ) (v : Versioned) → list_all (holds ((number t ∷ number n ∷ number a ∷ number b ∷ []) ∷ stored id v ∷ [])) range_filter ≡ suits (Range t a b) v
+range_test t n a b id v = within _ _ _ _ _ _ (eq_test v.row.table t) (from_test v.row.id a) (to_test v.row.id b)
 
 -- ---- rows that are stored versions
 

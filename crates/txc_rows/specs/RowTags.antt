@@ -4,7 +4,7 @@ use Rattle.std.specs.List.{list_any, flat_map}
 use Rattle.txc_tags.specs.declared.tag.Tag.{Tag}
 use Rattle.txc_tags.specs.Tags.{wildcard, id_tag, group_tag, covers, set_of}
 use Rattle.txc_rows.specs.declared.query.Query.{Query}
-use Rattle.txc_rows.specs.declared.query.Query.TheVariants.{ById, ByGroup, All}
+use Rattle.txc_rows.specs.declared.query.Query.TheVariants.{ById, ByGroup, All, Range}
 use Rattle.txc_rows.specs.Values.{same_row}
 use Rattle.txc_rows.specs.States.{RowValue, State}
 
@@ -13,6 +13,7 @@ abbrev pub query_tag : Query → Tag
 query_tag (ById table id) = id_tag table id
 query_tag (ByGroup table group) = group_tag table group
 query_tag (All table) = wildcard table
+query_tag (Range table first last) = wildcard table
 
 -- a set covers a query where it covers its tag
 abbrev pub covers_query : List Tag → Query → Bool

@@ -1,8 +1,8 @@
 -- The state of the tables, what changes make of it, and the answers of queries in it.
-use Rattle.std.specs.Prelude.{ℕ, Bool, ◌&&◌, ◌||◌, ◌==◌, nat_lt, not, ◌≡◌, true, List, [], ◌∷◌, ◌++◌, filter, if◌then◌else◌, Option, Some, None}
+use Rattle.std.specs.Prelude.{ℕ, Bool, ◌&&◌, ◌||◌, ◌==◌, nat_le, nat_lt, not, ◌≡◌, true, List, [], ◌∷◌, ◌++◌, filter, if◌then◌else◌, Option, Some, None}
 use Rattle.std.specs.List.{AllByRecursion}
 use Rattle.txc_rows.specs.declared.query.Query.{Query}
-use Rattle.txc_rows.specs.declared.query.Query.TheVariants.{ById, ByGroup, All}
+use Rattle.txc_rows.specs.declared.query.Query.TheVariants.{ById, ByGroup, All, Range}
 use Rattle.txc_rows.specs.declared.query.Change.{Change}
 use Rattle.txc_rows.specs.declared.query.Change.TheVariants.{Put, Remove}
 pub use Rattle.txc_rows.specs.Values.{RowValue}
@@ -44,12 +44,14 @@ abbrev pub query_table : Query → ℕ
 query_table (ById table id) = table
 query_table (ByGroup table group) = table
 query_table (All table) = table
+query_table (Range table first last) = table
 
 -- the row is one of those that the query asks for
 abbrev pub matches : Query → RowValue → Bool
 matches (ById table id) r = (r.table == table) && (r.id == id)
 matches (ByGroup table group) r = (r.table == table) && (r.group == group)
 matches (All table) r = r.table == table
+matches (Range table first last) r = (r.table == table) && (nat_le first r.id && nat_le r.id last)
 
 -- the answer of a query: the rows that match, by id
 abbrev pub answer : Query → State → List RowValue

@@ -15,6 +15,8 @@ pub enum Query {
     ByGroup(Table, u32),
     /// Every row of the table.
     All(Table),
+    /// The rows of the table with ids from the first to the second, both included.
+    Range(Table, u32, u32),
 }
 
 impl Query {
@@ -26,6 +28,7 @@ impl Query {
             Query::ById(table, _) => table,
             Query::ByGroup(table, _) => table,
             Query::All(table) => table,
+            Query::Range(table, _, _) => table,
         }
     }
 
@@ -37,6 +40,9 @@ impl Query {
             Query::ById(table, id) => row.table() == table && row.id() == id,
             Query::ByGroup(table, group) => row.table() == table && row.group() == group,
             Query::All(table) => row.table() == table,
+            Query::Range(table, first, last) => {
+                row.table() == table && first <= row.id() && row.id() <= last
+            }
         }
     }
 
@@ -48,6 +54,7 @@ impl Query {
             Query::ById(table, id) => Tag::id(table, id),
             Query::ByGroup(table, group) => Tag::group(table, group),
             Query::All(table) => Tag::wildcard(table),
+            Query::Range(table, _, _) => Tag::wildcard(table),
         }
     }
 }

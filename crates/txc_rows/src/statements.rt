@@ -7,7 +7,7 @@ ghost use Rattle.txc_stamp.specs.declared.stamp.TheConstants.{LAST_STAMP};
 ghost use Rattle.txc_rows.specs.Values.{IsRow};
 ghost use Rattle.txc_rows.specs.Versions.{removed, purged, after_write, after_net};
 ghost use Rattle.txc_rows.specs.Holdable.{AreHeld, IsWritable};
-ghost use Rattle.txc_rows.specs.declared.query.Query.TheVariants.{ById, ByGroup, All};
+ghost use Rattle.txc_rows.specs.declared.query.Query.TheVariants.{ById, ByGroup, All, Range};
 ghost use Rattle.txc_rows.specs.Kept.{versions_of, HasTable, IsKept, IsStep, IsCall, IsReading};
 
 use crate::query::{Change, Query};
@@ -54,6 +54,8 @@ const READ_TABLE: &str = read_where!("");
 const READ_ROW: &str = read_where!(" AND id = ?3");
 
 const READ_GROUP: &str = read_where!(" AND group_number = ?3");
+
+const READ_RANGE: &str = read_where!(" AND id >= ?3 AND id <= ?4");
 
 /// So many versions are read at most: one more than may match shows that too many do.
 const MOST_READ: u32 = MAX_MATCHING as u32 + 1;
@@ -193,6 +195,21 @@ fn read_group(
     )
 }
 
+fn read_range(
+    conn: &mut Connection<MemStore>,
+    table: Table,
+    first: u32,
+    last: u32,
+) -> Result<Vec<sqlite::Row>, Error>
+    requires { IsKept conn.old }
+    ensures { IsReading (Range table first last) conn.old conn.new result }
+{
+    conn.query_all(
+        READ_RANGE,
+        params![u32::from(table.number()), MOST_READ, first, last],
+    )
+}
+
 /// The versions that match, by id and birth: at most one more of them than may match.
 pub(crate) fn read(
     conn: &mut Connection<MemStore>,
@@ -205,5 +222,6 @@ pub(crate) fn read(
         Query::ById(table, id) => read_row(conn, table, id),
         Query::ByGroup(table, group) => read_group(conn, table, group),
         Query::All(table) => read_table(conn, table),
+        Query::Range(table, first, last) => read_range(conn, table, first, last),
     }
 }

@@ -8,7 +8,9 @@ use Rattle.txc_stamp.specs.Interval.{Interval}
 use Rattle.txc_tags.specs.declared.tag.Tag.{Tag}
 use Rattle.txc_tags.specs.Keys.{Call}
 use Rattle.txc_tags.specs.Tags.{set_of}
-use Rattle.txc_tags.proofs.Offered.{same_key_text, same_tags_text}
+use Rattle.txc_tags.specs.TextTag.{SpeltTag}
+use Rattle.txc_tags.specs.TextSet.{tags_spelt}
+use Rattle.txc_tags.proofs.Offered.{same_key_text, same_spelt_text}
 use Rattle.txc_node.specs.declared.entry.Entry.{Entry}
 use Rattle.txc_node.specs.declared.entry.EntryError.{EntryError}
 use Rattle.txc_node.specs.declared.entry.EntryError.TheVariants as errors
@@ -31,7 +33,7 @@ stamp_known : (v w : List ℕ) (a b : ℕ) → v ≡ w → IsStampWord v a → I
 stamp_known v w a b e h k = decimal_injective a b (omega (arith, h.0)) (omega (arith, k.0)) (sym h.1 ∙ e ∙ k.1)
 
 tags_known : (v w : List ℕ) (a b : List Tag) → v ≡ w → IsTagsWord v a → IsTagsWord w b → a ≡ b
-tags_known v w a b e h k = h.2 ∙ ap set_of (same_tags_text h.0 k.0 h.1.0 k.1.0 (sym h.1.1 ∙ e ∙ k.1.1)) ∙ sym k.2
+tags_known v w a b e h k = h.2 ∙ ap (λ (ts : List SpeltTag). set_of (tags_spelt ts)) (same_spelt_text h.0 k.0 h.1.0 k.1.0 (sym h.1.1 ∙ e ∙ k.1.1)) ∙ sym k.2
 
 still_known : (a b : Bool) → still_text a ≡ still_text b → a ≡ b
 still_known true true e = refl

@@ -70,7 +70,7 @@ const TAGS: &str = "tags such as `t1:id=7,t2:?`, or `-`";
 const BYTES: &str = "bytes as pairs of lower-case hexadecimal digits, or `-`";
 
 /// Scripts, and which word of each is said to be bad, what was expected, and what was found.
-static WORDS: [(&str, &str, &str, &str); 16] = [
+static WORDS: [(&str, &str, &str, &str); 18] = [
     (
         "lookup f1(02) 0 x",
         "line 1: word 1",
@@ -131,6 +131,18 @@ static WORDS: [(&str, &str, &str, &str); 16] = [
         "line 1: word 2",
         TAGS,
         "`t1:id=1,t1:id=2,t1:id=3,t1:id=4,t1:id=5,...`, wrong at byte 43",
+    ),
+    (
+        "event 1 t1:id=1,1/id=2",
+        "line 1: word 2",
+        TAGS,
+        "`t1:id=1,1/id=2`, wrong at byte 13",
+    ),
+    (
+        "insert f1(2) 0 0 closed 1/id/ 0a",
+        "line 1: word 5",
+        TAGS,
+        "`1/id/`, which ends too early",
     ),
     (
         "insert f1(2) 0 0 still - 0A",

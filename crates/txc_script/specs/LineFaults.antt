@@ -4,7 +4,7 @@ use Rattle.std.specs.List.{list_any, flat_map}
 use Rattle.txc_tags.specs.Keys.{Call}
 use Rattle.txc_tags.specs.TextGrammar.{IsLongestPrefix}
 use Rattle.txc_tags.specs.TextKey.{key_text, IsKeyInRange}
-use Rattle.txc_tags.specs.TextSet.{AreTagsInRange, tags_text}
+use Rattle.txc_tags.specs.TextSet.{AreSpeltInRange, spelt_tags_text}
 use Rattle.txc_tags.specs.declared.tag.Tag.{Tag}
 use Rattle.txc_node.specs.Texts.{digits_of}
 use Rattle.txc_script.specs.Excerpts.{excerpt_of}
@@ -45,7 +45,7 @@ AreOfKinds (kind ∷ kinds) (word ∷ words) = IsOfKind kind word × AreOfKinds 
 -- where a key or tags go wrong: no longer prefix of the word begins a key's text, or the text of tags
 abbrev pub StopsAt : WordKind → List ℕ → Option ℕ → Type 0
 StopsAt Key word at = (n : ℕ) × (at ≡ Some n) × IsLongestPrefix IsKeyInRange key_text word n
-StopsAt Tags word at = (n : ℕ) × (at ≡ Some n) × IsLongestPrefix AreTagsInRange tags_text word n
+StopsAt Tags word at = (n : ℕ) × (at ≡ Some n) × IsLongestPrefix AreSpeltInRange spelt_tags_text word n
 StopsAt kind word at = at ≡ None
 
 -- the first word that is not of its kind: each before it is of its own

@@ -32,7 +32,8 @@ pub record IsTextWord (limit : ℕ) (word : List ℕ) : Type 0 where
 
 -- the name of a query
 abbrev pub IsQueryName : List ℕ → Type 0
-IsQueryName word = (word ≡ codes "by-id") ⊎ ((word ≡ codes "by-group") ⊎ (word ≡ codes "all"))
+IsQueryName word =
+    (word ≡ codes "by-id") ⊎ ((word ≡ codes "by-group") ⊎ ((word ≡ codes "all") ⊎ (word ≡ codes "range")))
 
 -- the name of a change
 abbrev pub IsChangeName : List ℕ → Type 0

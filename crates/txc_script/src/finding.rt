@@ -152,6 +152,7 @@ fn test_query_name(word: &[u8]) -> Result<(), Option<usize>>
         b"by-id" => Ok(()),
         b"by-group" => Ok(()),
         b"all" => Ok(()),
+        b"range" => Ok(()),
         _ => Err(None),
     }
 }

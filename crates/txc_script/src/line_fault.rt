@@ -22,7 +22,7 @@ pub enum WordKind {
     Number(u64),
     /// A text of at most so many bytes, each of which prints.
     Text(usize),
-    /// The name of a query: `by-id`, `by-group` or `all`.
+    /// The name of a query: `by-id`, `by-group`, `all` or `range`.
     QueryName,
     /// The name of a change: `put` or `remove`.
     ChangeName,
@@ -93,7 +93,7 @@ impl fmt::Display for WordKind {
             ),
             WordKind::Number(most) => write!(f, "a number from 0 to {most}, without leading zeros"),
             WordKind::Text(most) => write!(f, "1 to {most} bytes"),
-            WordKind::QueryName => f.write_str("`by-id`, `by-group` or `all`"),
+            WordKind::QueryName => f.write_str("`by-id`, `by-group`, `all` or `range`"),
             WordKind::ChangeName => f.write_str("`put` or `remove`"),
         }
     }

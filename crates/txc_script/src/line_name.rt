@@ -30,13 +30,17 @@ impl fmt::Display for LineName {
             LineName::Put => "put TABLE ID GROUP BODY",
             LineName::Remove => "remove TABLE ID",
             LineName::Pin => "pin NOW",
-            LineName::Query => "query STAMP by-id TABLE ID (or by-group TABLE GROUP, or all TABLE)",
+            LineName::Query => {
+                "query STAMP by-id TABLE ID (or by-group TABLE GROUP, or all TABLE, or range TABLE FROM TO)"
+            }
             LineName::Ro => "ro ACTOR NOW STALENESS STAMP",
             LineName::Rw => "rw ACTOR",
             LineName::Call => "call ACTOR KEY",
             LineName::Step => "step ACTOR",
             LineName::Finish => "finish ACTOR",
-            LineName::Ask => "ask ACTOR by-id TABLE ID (or by-group TABLE GROUP, or all TABLE)",
+            LineName::Ask => {
+                "ask ACTOR by-id TABLE ID (or by-group TABLE GROUP, or all TABLE, or range TABLE FROM TO)"
+            }
             LineName::Write => "write ACTOR put TABLE ID GROUP BODY (or remove TABLE ID)",
             LineName::Pins => "pins ACTOR",
             LineName::Commit => "commit ACTOR",

@@ -8,6 +8,7 @@ pub fn say_query(answer: &mut String, query: &Query) {
         Query::ById(_, id) => write!(answer, "id {id}"),
         Query::ByGroup(_, group) => write!(answer, "group {group}"),
         Query::All(_) => write!(answer, "all"),
+        Query::Range(_, first, last) => write!(answer, "range {first} {last}"),
     };
 }
 

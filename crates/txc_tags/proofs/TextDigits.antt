@@ -74,6 +74,14 @@ module _ (most : ℕ) (text rest : List ℕ) (l : most < 2 ^ 64) where
   })
   no_digits (Some m) parts none r e = absurd (let q = e.0 in cc)
 
+-- what begins with a number begins with a digit
+pub digit_first : (n : ℕ) → n < 2 ^ 64 → (b : ℕ) (r s : List ℕ) → decimal n ++ r ≡ b ∷ s → IsDigit b
+digit_first n l b r s e = go (decimal n) refl e
+  where
+    go : (xs : List ℕ) → decimal n ≡ xs → xs ++ r ≡ b ∷ s → IsDigit b
+    go [] is f = let z : length (decimal n) ≡ 0 = ap length is in absurd (omega (arith, decimal_nonempty n l, z))
+    go (x ∷ xs) is f = let same : x ≡ b = cc in subst IsDigit same (digit_within [] xs x (subst (AllDigits 10) is (decimal_is_IsNumeral n l).0.1))
+
 -- ---- a word and a number
 
 pub numbered_solid : (word : List ℕ) (most : ℕ) → most < 2 ^ 64 → Solid (IsNumbered word most)

@@ -134,7 +134,7 @@ abbrev IsKey : List ℕ → Type 0
 IsKey = IsText IsKeyInRange key_text
 
 abbrev Opened : List ℕ → Type 0
-Opened = IsNumbered (102 ∷ []) 31
+Opened = IsNumbered (102 ∷ []) 63
 
 abbrev KeyPieces : List ℕ → Type 0
 KeyPieces = Then Opened Args
@@ -152,7 +152,7 @@ paren_first : (b : ℕ) (z : List ℕ) → Args (b ∷ z) → IsDigit b → ⊥
 paren_first b z (x, y, w, h, e) d = let f : b ∷ z ≡ 40 ∷ y = e ∙ ap (λ t. t ++ y) w in let g : b ≡ 40 = cc in omega (arith, d.0, g)
 
 opened_apart : Apart Opened Args
-opened_apart = solid_apart Opened Args (numbered_solid (102 ∷ []) 31 (omega arith)) paren_first
+opened_apart = solid_apart Opened Args (numbered_solid (102 ∷ []) 63 (omega arith)) paren_first
 
 open_apart : Apart (IsWord (40 ∷ [])) IsArguments
 open_apart = word_apart (40 ∷ []) IsArguments
@@ -191,7 +191,7 @@ args_known (x ∷ xs) (y ∷ ys) h k e =
 
 pub same_key_text : (a b : Call) → IsKeyInRange a → IsKeyInRange b → key_text a ≡ key_text b → a ≡ b
 same_key_text a b h k e =
-    let p = numbered_known (102 ∷ []) 31 (omega arith) Args paren_first a.function b.function (40 ∷ closed_text a.args) (40 ∷ closed_text b.args) h.function k.function
+    let p = numbered_known (102 ∷ []) 63 (omega arith) Args paren_first a.function b.function (40 ∷ closed_text a.args) (40 ∷ closed_text b.args) h.function k.function
     (40 ∷ [], closed_text a.args, refl, (a.args, ((h.few, h.args), refl)), refl) (40 ∷ [], closed_text b.args, refl, (b.args, ((k.few, k.args), refl)), refl) e in
     let q : 40 ∷ closed_text a.args ≡ 40 ∷ closed_text b.args = p.1 in
     let r : closed_text a.args ≡ closed_text b.args = cc in

@@ -7,31 +7,38 @@ use Rattle.txc_tags.specs.declared.tag.Rows.{Rows}
 use Rattle.txc_tags.specs.declared.tag.Rows.TheVariants as rows
 use Rattle.txc_tags.specs.declared.tag.Tag.{Tag}
 use Rattle.txc_tags.specs.declared.text.tag.Spelling.{Spelling}
-use Rattle.txc_tags.specs.declared.text.tag.Spelling.TheVariants.{Usual}
+use Rattle.txc_tags.specs.declared.text.tag.Spelling.TheVariants.{Usual, Slashed}
 use Rattle.txc_tags.specs.TextNumber.{IsDigit, BeginsWithNoDigit}
 use Rattle.txc_tags.specs.TextReading.{IsWord, IsNumbered, Then, Either, Reads, GoesWrong}
-use Rattle.txc_tags.specs.TextTag.{opening, all_word, id_word, group_word, rows_text, spelled, AreRowsInRange, IsTagInRange}
+use Rattle.txc_tags.specs.TextTag.{opening, all_word, id_word, group_word, rows_text, spelled, SpeltTag, spelt_text, AreRowsInRange, IsTagInRange, IsSpeltInRange}
+use Rattle.txc_tags.specs.TextGrammar.{IsText}
 use Rattle.txc_tags.specs.TextTagReading.{IsRows, IsSpelled}
 use Rattle.txc_tags.proofs.TextReading.{IsFurther, Apart, Distinct, Differ, Solid, distinct, word_begins, then_begins, solid_apart, word_solid, then_solid, either_solid, alike_reads, alike_wrong, first_reads, second_reads, further_wrong, then_reads, then_wrong, first_wrong}
-use Rattle.txc_tags.proofs.TextDigits.{numbered_solid, numbered_known}
+use Rattle.txc_tags.proofs.TextDigits.{numbered_solid, numbered_known, digit_first}
 
 -- ---- the rows
 
 -- the words after a table's number differ
 all_from_id : (s : Spelling) → Differ (all_word s) (id_word s)
 all_from_id Usual r t e = let w : ◌≡◌ {A = ℕ} 63 105 = cc in omega (arith, w)
+all_from_id Slashed r t e = let w : ◌≡◌ {A = ℕ} 63 105 = cc in omega (arith, w)
 
 all_from_group : (s : Spelling) → Differ (all_word s) (group_word s)
 all_from_group Usual r t e = let w : ◌≡◌ {A = ℕ} 63 103 = cc in omega (arith, w)
+all_from_group Slashed r t e = let w : ◌≡◌ {A = ℕ} 63 103 = cc in omega (arith, w)
 
 id_from_group : (s : Spelling) → Differ (id_word s) (group_word s)
 id_from_group Usual r t e = let w : ◌≡◌ {A = ℕ} 105 103 = cc in omega (arith, w)
+id_from_group Slashed r t e = let w : ◌≡◌ {A = ℕ} 105 103 = cc in omega (arith, w)
 
 -- and begin with no digit
 rows_begin : (s : Spelling) (r : Rows) (more : List ℕ) → BeginsWithNoDigit (rows_text s r ++ more)
 rows_begin Usual rows.All more = λ d. omega (arith, d.0, d.1)
 rows_begin Usual (rows.Id id) more = λ d. omega (arith, d.0, d.1)
 rows_begin Usual (rows.Group group) more = λ d. omega (arith, d.0, d.1)
+rows_begin Slashed rows.All more = λ d. omega (arith, d.0, d.1)
+rows_begin Slashed (rows.Id id) more = λ d. omega (arith, d.0, d.1)
+rows_begin Slashed (rows.Group group) more = λ d. omega (arith, d.0, d.1)
 
 other_way : (u v : List ℕ) → Differ u v → Differ v u
 other_way u v differ r s e = differ s r (sym e)
@@ -157,3 +164,75 @@ module _ (s : Spelling) where
     where
       tag : ℕ → Rows → Tag
       tag n r = record { table = n; rows = r }
+
+-- ---- a tag in either spelling
+
+-- one spelling begins with a digit, the other with a letter
+slashed_digit : (tag : Tag) → IsTagInRange tag → (b : ℕ) (r s : List ℕ) → spelled Slashed tag ++ r ≡ b ∷ s → IsDigit b
+slashed_digit tag h b r s e = digit_first tag.table (omega (arith, h.0)) b (rows_text Slashed tag.rows ++ r) s (sym (append_assoc (decimal tag.table) (rows_text Slashed tag.rows) r) ∙ e)
+
+usual_apart : Distinct (IsSpelled Usual) (IsSpelled Slashed)
+usual_apart x y (t, (h, e)) (u, (k, f)) =
+    let d = slashed_digit u k 116 [] ((decimal t.table ++ rows_text Usual t.rows) ++ y) (append-nil (spelled Slashed u) ∙ sym f ∙ ap (λ z. z ++ y) e) in
+    omega (arith, d.1)
+
+slashed_apart : Distinct (IsSpelled Slashed) (IsSpelled Usual)
+slashed_apart x y (t, (h, e)) (u, (k, f)) =
+    let d = slashed_digit t h 116 y (decimal u.table ++ rows_text Usual u.rows) (ap (λ z. z ++ y) (sym e) ∙ f) in
+    omega (arith, d.1)
+
+abbrev pub IsSpelt : List ℕ → Type 0
+IsSpelt = IsText IsSpeltInRange spelt_text
+
+abbrev Spellings : List ℕ → Type 0
+Spellings = Either (IsSpelled Usual) (IsSpelled Slashed)
+
+to_spellings : (text : List ℕ) → IsSpelt text → Spellings text
+to_spellings text (t, h) = by t.spelling h.0 h.1
+  where
+    by : (s : Spelling) → IsTagInRange t.tag → text ≡ spelled s t.tag → Spellings text
+    by Usual r e = inl (t.tag, (r, e))
+    by Slashed r e = inr (t.tag, (r, e))
+
+from_spellings : (text : List ℕ) → Spellings text → IsSpelt text
+from_spellings text (inl (tag, h)) = (record { spelling = Usual; tag = tag }, h)
+from_spellings text (inr (tag, h)) = (record { spelling = Slashed; tag = tag }, h)
+
+pub spelt_solid : Solid IsSpelt
+spelt_solid x y b h k = either_solid (IsSpelled Usual) (IsSpelled Slashed) usual_apart slashed_apart (spelled_solid Usual) (spelled_solid Slashed) x y b (to_spellings x h) (to_spellings (x ++ b ∷ y) k)
+
+-- ---- what `read_tag` answers
+
+pub reads_usual : (text piece rest : List ℕ) → Reads (IsSpelled Usual) text piece rest → Reads IsSpelt text piece rest
+reads_usual text piece rest r = alike_reads Spellings IsSpelt from_spellings to_spellings text piece rest (first_reads (IsSpelled Usual) (IsSpelled Slashed) usual_apart text piece rest r)
+
+pub reads_slashed : (text piece rest : List ℕ) → Reads (IsSpelled Slashed) text piece rest → Reads IsSpelt text piece rest
+reads_slashed text piece rest r = alike_reads Spellings IsSpelt from_spellings to_spellings text piece rest (second_reads (IsSpelled Usual) (IsSpelled Slashed) slashed_apart text piece rest r)
+
+pub spelt_wrong : (text usual slashed rest : List ℕ) → GoesWrong (IsSpelled Usual) text usual → GoesWrong (IsSpelled Slashed) text slashed → IsFurther usual slashed rest → GoesWrong IsSpelt text rest
+spelt_wrong text usual slashed rest g h later = alike_wrong Spellings IsSpelt from_spellings to_spellings text rest (further_wrong (IsSpelled Usual) (IsSpelled Slashed) text usual slashed rest g h later)
+
+-- ---- it is known by its text
+
+pub same_spelt : (a b : SpeltTag) → IsSpeltInRange a → IsSpeltInRange b → spelt_text a ≡ spelt_text b → a ≡ b
+same_spelt a b h k e = by a.spelling b.spelling a.tag b.tag h k e
+  where
+    by : (s u : Spelling) (x y : Tag) → IsTagInRange x → IsTagInRange y → spelled s x ≡ spelled u y → ◌≡◌ {A = SpeltTag} (record { spelling = s; tag = x }) (record { spelling = u; tag = y })
+    by Usual Usual x y h k e = ap (λ (t : Tag). spelt Usual t) (same_spelled Usual x y h k e)
+      where
+        spelt : Spelling → Tag → SpeltTag
+        spelt s t = record { spelling = s; tag = t }
+    by Slashed Slashed x y h k e = ap (λ (t : Tag). spelt Slashed t) (same_spelled Slashed x y h k e)
+      where
+        spelt : Spelling → Tag → SpeltTag
+        spelt s t = record { spelling = s; tag = t }
+    by Usual Slashed x y h k e = absurd (usual_apart (spelled Usual x) [] (x, (h, refl)) (y, (k, append-nil (spelled Usual x) ∙ e)))
+    by Slashed Usual x y h k e = absurd (slashed_apart (spelled Slashed x) [] (x, (h, refl)) (y, (k, append-nil (spelled Slashed x) ∙ e)))
+
+-- neither spelling begins with a dash
+pub spelt_begins : (t : SpeltTag) → IsSpeltInRange t → (r s : List ℕ) → spelt_text t ++ r ≡ 45 ∷ s → ⊥
+spelt_begins t h r s e = by t.spelling e
+  where
+    by : (u : Spelling) → spelled u t.tag ++ r ≡ 45 ∷ s → ⊥
+    by Usual e = let w : ◌≡◌ {A = ℕ} 116 45 = cc in omega (arith, w)
+    by Slashed e = let d = slashed_digit t.tag h 45 r s e in omega (arith, d.0)

@@ -1,29 +1,35 @@
--- The text of a tag: `t`, the table's number, `:`, and then `?`, or `id=` or `grp=` and a number.
-use Rattle.std.specs.Prelude.{ℕ, ◌≤◌, ⊤, List, ◌++◌, codes}
+-- The text of a tag: `t`, the table's number, `:`, and then `?`, or `id=` or `grp=` and a number. Or the table's
+-- number, `/`, and then `?`, or `id/` or `grp/` and a number, which is read and never written.
+use Rattle.std.specs.Prelude.{ℕ, ◌≤◌, ⊤, List, [], ◌++◌, codes}
 use Rattle.std.specs.Fmt.{decimal}
 use Rattle.txc_tags.specs.declared.tag.Rows.{Rows}
 use Rattle.txc_tags.specs.declared.tag.Rows.TheVariants.{All, Id, Group}
 use Rattle.txc_tags.specs.declared.tag.Tag.{Tag}
 use Rattle.txc_tags.specs.declared.tag.TheConstants.{LAST_TABLE}
 use Rattle.txc_tags.specs.declared.text.tag.Spelling.{Spelling}
-use Rattle.txc_tags.specs.declared.text.tag.Spelling.TheVariants.{Usual}
+use Rattle.txc_tags.specs.declared.text.tag.Spelling.TheVariants.{Usual, Slashed}
 use Rattle.txc_tags.specs.declared.text.number.TheConstants.{LAST_NUMBER}
+use Rattle.txc_tags.specs.TextGrammar.{IsTextOf}
 
 -- what stands before the table's number
 abbrev pub opening : Spelling → List ℕ
 opening Usual = codes "t"
+opening Slashed = []
 
 -- what stands after it: for every row
 abbrev pub all_word : Spelling → List ℕ
 all_word Usual = codes ":?"
+all_word Slashed = codes "/?"
 
 -- and before an id
 abbrev pub id_word : Spelling → List ℕ
 id_word Usual = codes ":id="
+id_word Slashed = codes "/id/"
 
 -- and before a group
 abbrev pub group_word : Spelling → List ℕ
 group_word Usual = codes ":grp="
+group_word Slashed = codes "/grp/"
 
 -- the text of the rows of a table
 abbrev pub rows_text : Spelling → Rows → List ℕ
@@ -35,7 +41,16 @@ rows_text spelling (Group group) = group_word spelling ++ decimal group
 abbrev pub spelled : Spelling → Tag → List ℕ
 spelled spelling tag = opening spelling ++ (decimal tag.table ++ rows_text spelling tag.rows)
 
--- the text of a tag
+-- a tag as it stands in a text
+pub record SpeltTag : Type 0 where
+  pub spelling : Spelling
+  pub tag : Tag
+
+-- its text
+abbrev pub spelt_text : SpeltTag → List ℕ
+spelt_text s = spelled s.spelling s.tag
+
+-- the text of a tag that is written
 abbrev pub tag_text : Tag → List ℕ
 tag_text = spelled Usual
 
@@ -48,3 +63,11 @@ AreRowsInRange (Group group) = group ≤ LAST_NUMBER
 -- the table is one of the tables, and the rows are in range
 abbrev pub IsTagInRange : Tag → Type 0
 IsTagInRange tag = (tag.table ≤ LAST_TABLE) × AreRowsInRange tag.rows
+
+-- and so of a tag in a text
+abbrev pub IsSpeltInRange : SpeltTag → Type 0
+IsSpeltInRange s = IsTagInRange s.tag
+
+-- the text is one of the tag's
+abbrev pub IsTextOfTag : List ℕ → Tag → Type 0
+IsTextOfTag text tag = (spelling : Spelling) × IsTextOf IsTagInRange (spelled spelling) text tag

@@ -5,6 +5,8 @@ ghost use Rattle.txc_tags.specs.Tags.{tags_match, sets_match, has_tag, covers, t
 ghost use Rattle.txc_tags.specs.Keys.{Call, same_call};
 ghost use Rattle.txc_tags.specs.TextGrammar.{IsTextOf};
 ghost use Rattle.txc_tags.specs.TextKey.{IsKeyInRange, key_text};
+ghost use Rattle.txc_tags.specs.TextTag.{IsTextOfTag};
+ghost use Rattle.txc_tags.specs.TextSet.{IsSetOfText};
 
 /// Of two tags one stands before the other or they are equal.
 pub fn tags_stand_in_order()
@@ -60,6 +62,13 @@ pub fn the_same_tags_make_the_same_set()
 /// Two keys are the same exactly where they are equal.
 pub fn same_calls_are_equal()
     ensures { (a b : Call) → (same_call a b ≡ true) ↔ (a ≡ b) }
+{}
+
+/// A text names one tag, and one set of tags: in one spelling or the other.
+pub fn a_text_names_one_tag()
+    ensures tag { (text : List ℕ) (a b : Tag) → IsTextOfTag text a → IsTextOfTag text b → a ≡ b }
+    ensures set { (text : List ℕ) (a b : List Tag)
+        → IsSetOfText text a → IsSetOfText text b → a ≡ b }
 {}
 
 /// A key's text is the only one of that key, and no other key has it.

@@ -65,6 +65,23 @@ impl<A: App> Ports<A> {
     ghost use Rattle.txc_world.specs.Parts.{IsPartOf};
     ghost use Rattle.txc_world.specs.Ports.{whole_of, HasLedNode, KeepsRow};
 
+    /// The database and the pincushion; all else is dropped.
+    pub(crate) fn into_parts(self) -> (DbCore, CushionCore)
+        ensures database { result.0 ≡ self.entry.database }
+        ensures cushion { result.1 ≡ self.entry.cushion }
+        ensures row { result.1.events ≡ result.0.events }
+    {
+        let Ports {
+            database,
+            cushion,
+            nodes: _,
+            spare: _,
+            actors: _,
+            newest: _,
+        } = self;
+        (database, cushion)
+    }
+
     /// How many nodes there are.
     pub(crate) fn len(&self) -> usize
         ensures { result ≡ length self.now.nodes }

@@ -24,8 +24,8 @@ use crate::step::{Act, Step};
 use std::alloc::{AllocError, Global};
 use std::marker::Model;
 use txc_app::App;
-use txc_cushion::Pin;
-use txc_db::DbError;
+use txc_cushion::{CushionCore, Pin};
+use txc_db::{DbCore, DbError};
 use txc_registry::{Cacheable, Registry};
 use txc_rw::laws::transactions_stay_right;
 use txc_shared::StoredNode;
@@ -94,6 +94,21 @@ impl<A: App, C: Cacheable> World<A, C> {
             ports,
             actors,
         })
+    }
+
+    /// Its database and its pincushion, as they stand, for the calls under locks. All else is dropped: what is
+    /// open, and the holds and the users that it has, which nobody gives back then.
+    pub fn into_parts(self) -> (DbCore, CushionCore)
+        ensures database { result.0 ≡ self.entry.ports.database }
+        ensures cushion { result.1 ≡ self.entry.ports.cushion }
+        ensures row { result.1.events ≡ result.0.events }
+    {
+        let World {
+            settings: _,
+            ports,
+            actors: _,
+        } = self;
+        ports.into_parts()
     }
 
     /// How many actors there are.

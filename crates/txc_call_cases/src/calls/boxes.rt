@@ -7,7 +7,9 @@ use std::alloc::{AllocError, Global};
 use std::process::Abort;
 use std::test::Fail;
 use txc_app::App;
-use txc_functions::{Again, BodiesAndBody, BodiesIn, BodyAt, Function, Itself, Program, RowCount};
+use txc_functions::{
+    Again, BodiesAndBody, BodiesIn, BodyAt, Function, IdsIn, Itself, Program, RowCount,
+};
 use txc_permits::PermitPool;
 use txc_players::{is_played, room};
 use txc_registry::{Cacheable, Registry, enlist};
@@ -46,6 +48,7 @@ fn play_program(
     let row_count = Function::new(alloc, pool.share()?, RowCount);
     let itself = Function::new(alloc, pool.share()?, Itself);
     let again = Function::new(alloc, pool.share()?, Again);
+    let ids_in = Function::new(alloc, pool.share()?, IdsIn);
     let mut objects: Vec<Box<dyn Cacheable + Send>> = Vec::new(alloc);
     enlist::<Program, Box<dyn Cacheable + Send>>(&mut objects, Box::new(alloc, body_at)?)?;
     enlist::<Program, Box<dyn Cacheable + Send>>(&mut objects, Box::new(alloc, bodies_in)?)?;
@@ -53,6 +56,7 @@ fn play_program(
     enlist::<Program, Box<dyn Cacheable + Send>>(&mut objects, Box::new(alloc, row_count)?)?;
     enlist::<Program, Box<dyn Cacheable + Send>>(&mut objects, Box::new(alloc, itself)?)?;
     enlist::<Program, Box<dyn Cacheable + Send>>(&mut objects, Box::new(alloc, again)?)?;
+    enlist::<Program, Box<dyn Cacheable + Send>>(&mut objects, Box::new(alloc, ids_in)?)?;
     Ok(play::<Program, Box<dyn Cacheable + Send>>(alloc, objects, pool, script, answer))
 }
 
@@ -95,12 +99,16 @@ cancel =>
 free => 3
 call f0(9): miss, found 0 4 still t1:id=9 c, inserted => value f0(9) [0,5) still t1:id=9 63
 call f3(): miss, found 0 4 still t1:? a b, inserted => value f3() [0,5) still t1:? 32
+call f6(7,9): miss => range 7 9
+call f6(7,9): miss, found 0 4 still t1:? a b, inserted => value f6(7,9) [0,5) still t1:? 372c37
 ";
 
 /// What is refused, and that all permits are back after it.
 const REFUSED: &str = "call f9() => there is no function 9
 call f1() => lookup f1()
+call f7() => there is no function 7
 call f1(): miss => function 1 takes no such arguments
+call f6(7): miss => function 6 takes no such arguments
 free => 3
 call f4(): miss => function 4 may not call function 4
 free => 3

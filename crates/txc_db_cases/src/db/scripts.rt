@@ -37,6 +37,10 @@ events => ; 7:a t1:id=7,t1:grp=2; pin 1000; 8:b t1:id=8,t1:grp=2; pin 2000
 query group 1 2 2 => 1 7:a 7:a [1,2]
 query group 1 2 4 => 2 7:a 8:b [3,4] still
 query id 1 9 4 => 0 [0,4] still
+query range 1 7 8 2 => 1 7:a 7:a [1,2]
+query range 1 7 7 4 => 1 7:a 7:a [1,4] still
+query range 1 9 8 4 => 0 [0,4] still
+query range 1 8 9 5 => the newest stamp is 4
 query all 1 5 => the newest stamp is 4
 commit 4 -: put 1 7 2 a => 4
 commit 4 -: remove 1 9 => 4
@@ -51,8 +55,10 @@ unpin 2 =>
 unpin 2 => stamp 2 is not held
 vacuum => 4
 query group 1 2 3 => the snapshot is gone: the horizon is 4
+query range 1 9 8 3 => the snapshot is gone: the horizon is 4
 query group 1 2 4 => 2 7:a 8:b [4,5] still
 commit 2 group 1 2: remove 1 8 => event 3 conflicts with what was read
+commit 2 range 1 0 7: remove 1 8 => event 3 conflicts with what was read
 commit 2 id 1 7: remove 1 8 => 6
 query all 1 6 => 1 7:a 7:a [6,6] still
 commit 6 -: put 1 7 3 c, put 1 9 2 d, remove 1 9, put 1 10 2 e, put 1 8 2 b => 7
@@ -105,6 +111,10 @@ query group 1 4 0-8 => 0 [0,8] still; 0 [0,8] still; 0 [0,8] still; 0 [0,8] stil
 query all 1 0-8 => 0 [0,0]; 2 7:a 9:z [1,1]; 3 7:a 9:z [2,2]; 2 8:b 9:z [3,3]; 2 8:b 9:z [4,4]; 3 7:a 9:z [5,5]; 3 7:a 9:z [6,6]; 3 7:a 9:y [7,7]; 3 6:c 8:b [8,8] still
 query all 2 0-8 => 0 [0,1]; 0 [0,1]; 1 7:x 7:x [2,4]; 1 7:x 7:x [2,4]; 1 7:x 7:x [2,4]; 0 [5,8] still; 0 [5,8] still; 0 [5,8] still; 0 [5,8] still
 query all 3 0-8 => 0 [0,8] still; 0 [0,8] still; 0 [0,8] still; 0 [0,8] still; 0 [0,8] still; 0 [0,8] still; 0 [0,8] still; 0 [0,8] still; 0 [0,8] still
+query range 1 7 8 0-8 => 0 [0,0]; 1 7:a 7:a [1,1]; 2 7:a 8:b [2,2]; 1 8:b 8:b [3,3]; 1 8:b 8:b [4,4]; 2 7:a 8:b [5,5]; 2 7:a 8:b [6,8] still; 2 7:a 8:b [6,8] still; 2 7:a 8:b [6,8] still
+query range 1 8 9 0-8 => 0 [0,0]; 1 9:z 9:z [1,1]; 2 8:b 9:z [2,3]; 2 8:b 9:z [2,3]; 2 8:b 9:z [4,5]; 2 8:b 9:z [4,5]; 2 8:b 9:z [6,6]; 2 8:b 9:y [7,7]; 1 8:b 8:b [8,8] still
+query range 1 0 6 0-8 => 0 [0,7]; 0 [0,7]; 0 [0,7]; 0 [0,7]; 0 [0,7]; 0 [0,7]; 0 [0,7]; 0 [0,7]; 1 6:c 6:c [8,8] still
+query range 1 8 7 0-8 => 0 [0,8] still; 0 [0,8] still; 0 [0,8] still; 0 [0,8] still; 0 [0,8] still; 0 [0,8] still; 0 [0,8] still; 0 [0,8] still; 0 [0,8] still
 vacuum => 4
 query id 1 7 4-8 => 0 [4,4]; 1 7:a 7:a [5,8] still; 1 7:a 7:a [5,8] still; 1 7:a 7:a [5,8] still; 1 7:a 7:a [5,8] still
 query id 1 8 4-8 => 1 8:b 8:b [4,5]; 1 8:b 8:b [4,5]; 1 8:b 8:b [6,8] still; 1 8:b 8:b [6,8] still; 1 8:b 8:b [6,8] still
@@ -115,6 +125,9 @@ query group 1 4 4-8 => 0 [4,8] still; 0 [4,8] still; 0 [4,8] still; 0 [4,8] stil
 query all 1 4-8 => 2 8:b 9:z [4,4]; 3 7:a 9:z [5,5]; 3 7:a 9:z [6,6]; 3 7:a 9:y [7,7]; 3 6:c 8:b [8,8] still
 query all 2 4-8 => 1 7:x 7:x [4,4]; 0 [5,8] still; 0 [5,8] still; 0 [5,8] still; 0 [5,8] still
 query all 3 4-8 => 0 [4,8] still; 0 [4,8] still; 0 [4,8] still; 0 [4,8] still; 0 [4,8] still
+query range 1 7 8 4-8 => 1 8:b 8:b [4,4]; 2 7:a 8:b [5,5]; 2 7:a 8:b [6,8] still; 2 7:a 8:b [6,8] still; 2 7:a 8:b [6,8] still
+query range 1 8 9 4-8 => 2 8:b 9:z [4,5]; 2 8:b 9:z [4,5]; 2 8:b 9:z [6,6]; 2 8:b 9:y [7,7]; 1 8:b 8:b [8,8] still
+query range 1 8 7 4-8 => 0 [4,8] still; 0 [4,8] still; 0 [4,8] still; 0 [4,8] still; 0 [4,8] still
 ";
 
 /// The store refuses where more than 1,024 versions match, and the database goes on. What was removed is
@@ -123,6 +136,8 @@ const MANY: &str = "commit 0 -: put 1 0-1023 2 a => 1
 query all 1 1 => 1024 0:a 1023:a [1,1] still
 commit 1 -: put 1 1024 2 a => 2
 query all 1 2 => over 1,024 versions match
+query range 1 0 1024 2 => over 1,024 versions match
+query range 1 1015 4294967295 2 => 10 1015:a 1024:a [2,2] still
 query id 1 1024 2 => 1 1024:a 1024:a [2,2] still
 commit 2 -: remove 1 3 => 3
 query all 1 3 => over 1,024 versions match

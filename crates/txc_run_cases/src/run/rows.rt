@@ -148,6 +148,21 @@ pub const ROWS: [(&str, &str, &str, &str, &str); 29] = [
         "0",
     ),
     (
+        "slashed tags name what others name",
+        "",
+        "insert f1(2) 0 0 still 1/id/2 0a\n\
+         insert f3() 0 0 still t2:id=1,1/? ff\n\
+         event 1 t1:id=2\n\
+         insert f0(7) 1 1 still t1:id=7 0b\n\
+         event 2 2/?,1/id/7\n",
+        "stored [0,1) still\n\
+         stored [0,1) still\n\
+         closed 2\n\
+         stored [1,2) still\n\
+         closed 1\n",
+        "0",
+    ),
+    (
         "nothing is known beyond the processed stamp",
         "",
         "event 1 -\n\

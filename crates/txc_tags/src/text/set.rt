@@ -1,10 +1,10 @@
-//! Texts of sets of tags: `-`, `t1:id=7,t1:grp=2,t2:?`.
+//! Texts of sets of tags: `-`, `t1:id=7,t1:grp=2,t2:?`; either spelling of a tag may stand in them.
 ghost use Rattle.std.specs.Prelude.{◌≡◌, ℕ, ◌∷◌, List, None, codes, IsOk, IfOk, IfErr, IfNone, string_bytes};
 ghost use Rattle.txc_tags.specs.declared.tag.Tag.{Tag};
 ghost use Rattle.txc_tags.specs.Tags.{with_tag, IsCanonical};
 ghost use Rattle.txc_tags.specs.TextGrammar.{IsText, IsTextOf};
 ghost use Rattle.txc_tags.specs.TextReading.{IsRefused};
-ghost use Rattle.txc_tags.specs.TextSet.{tags_text, AreTagsInRange, IsSetOfText, IsSetRefusal};
+ghost use Rattle.txc_tags.specs.TextSet.{tags_text, spelt_tags_text, AreTagsInRange, AreSpeltInRange, IsSetOfText, IsSetRefusal};
 
 use crate::set::TagSet;
 use crate::tag::Tag;
@@ -27,7 +27,7 @@ pub enum SetError {
 
 /// The refusal of a text that goes wrong where the rest begins.
 fn bad_tag(text: &[u8], rest: &[u8]) -> SetError
-    requires { IsRefused (IsText AreTagsInRange tags_text) text.now rest.now }
+    requires { IsRefused (IsText AreSpeltInRange spelt_tags_text) text.now rest.now }
     ensures { IsSetRefusal text.now result }
 {
     SetError::BadTag(BadTag {

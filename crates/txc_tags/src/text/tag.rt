@@ -1,9 +1,10 @@
-//! Texts of tags: `t1:?`, `t1:id=7`, `t1:grp=2`.
+//! Texts of tags: `t1:?`, `t1:id=7`, `t1:grp=2`; or `1/?`, `1/id/7`, `1/grp/2`.
 ghost use Rattle.std.specs.Prelude.{◌≡◌, ◌≤◌, ◌++◌, ◌↔◌, IsOk, IfOk, IfErr, string_bytes};
 ghost use Rattle.txc_tags.specs.TextGrammar.{IsText, IsTextOf, IsLongestPrefix};
 ghost use Rattle.txc_tags.specs.TextReading.{GoesWrong, IsRefused, Reads};
-ghost use Rattle.txc_tags.specs.TextTag.{opening, all_word, id_word, group_word, rows_text, spelled, tag_text, AreRowsInRange, IsTagInRange};
+ghost use Rattle.txc_tags.specs.TextTag.{opening, all_word, id_word, group_word, rows_text, spelled, tag_text, spelt_text, AreRowsInRange, IsTagInRange, IsSpeltInRange, IsTextOfTag};
 ghost use Rattle.txc_tags.specs.TextTagReading.{IsRows, IsSpelled};
+ghost use Rattle.txc_tags.specs.declared.text.tag.Spelling.{Spelling};
 
 use crate::tag::{LAST_TABLE, Rows, Table, Tag};
 use crate::text::number::{LAST_NUMBER, read_numbered};
@@ -26,6 +27,8 @@ pub struct BadTag {
 pub(crate) enum Spelling {
     /// `t1:?`, `t1:id=7` and `t1:grp=2`.
     Usual,
+    /// `1/?`, `1/id/7` and `1/grp/2`.
+    Slashed,
 }
 
 impl Spelling {
@@ -34,6 +37,7 @@ impl Spelling {
     {
         match self {
             Spelling::Usual => b"t",
+            Spelling::Slashed => b"",
         }
     }
 
@@ -42,6 +46,7 @@ impl Spelling {
     {
         match self {
             Spelling::Usual => b":?",
+            Spelling::Slashed => b"/?",
         }
     }
 
@@ -50,6 +55,7 @@ impl Spelling {
     {
         match self {
             Spelling::Usual => b":id=",
+            Spelling::Slashed => b"/id/",
         }
     }
 
@@ -58,6 +64,7 @@ impl Spelling {
     {
         match self {
             Spelling::Usual => b":grp=",
+            Spelling::Slashed => b"/grp/",
         }
     }
 }
@@ -95,19 +102,27 @@ fn read_spelled<'a>(text: &'a [u8], spelling: Spelling) -> Result<(Tag, &'a [u8]
     Ok((Tag { table, rows }, rest))
 }
 
-/// The tag at the text's beginning.
+/// The tag at the text's beginning, in either spelling.
 pub(crate) fn read_tag<'a>(text: &'a [u8]) -> Result<(Tag, &'a [u8]), &'a [u8]>
-    ensures answer { IfOk result (λ r. IsTagInRange r.0
-        × Reads (IsText IsTagInRange tag_text) text.now (tag_text r.0) r.1.now) }
-    ensures refused { IfErr result (λ rest. GoesWrong (IsText IsTagInRange tag_text) text.now rest.now) }
+    ensures answer { IfOk result (λ r. (s : Spelling) × IsTagInRange r.0
+        × Reads (IsText IsSpeltInRange spelt_text) text.now (spelled s r.0) r.1.now) }
+    ensures refused { IfErr result (λ rest. GoesWrong (IsText IsSpeltInRange spelt_text) text.now rest.now) }
 {
-    read_spelled(text, Spelling::Usual)
+    let usual = match read_spelled(text, Spelling::Usual) {
+        Ok(read) => return Ok(read),
+        Err(rest) => rest,
+    };
+    let slashed = match read_spelled(text, Spelling::Slashed) {
+        Ok(read) => return Ok(read),
+        Err(rest) => rest,
+    };
+    Err(further(usual, slashed))
 }
 
 /// The tag that the whole text is.
 fn read_whole(text: &[u8]) -> Result<Tag, &[u8]>
-    ensures answer { IfOk result (IsTextOf IsTagInRange tag_text text.now) }
-    ensures refused { IfErr result (λ rest. IsRefused (IsText IsTagInRange tag_text) text.now rest.now) }
+    ensures answer { IfOk result (IsTextOfTag text.now) }
+    ensures refused { IfErr result (λ rest. IsRefused (IsText IsSpeltInRange spelt_text) text.now rest.now) }
 {
     match read_tag(text) {
         Err(rest) => Err(rest),
@@ -139,11 +154,12 @@ impl fmt::Display for Tag {
 impl Tag {
     ghost use Rattle.txc_tags.specs.declared.tag.Tag.{Tag};
 
-    /// The tag that the whole text is: `t1:?`, `t1:id=7` or `t1:grp=2`. It takes no memory.
+    /// The tag that the whole text is: `t1:?`, `t1:id=7` or `t1:grp=2`, or `1/?`, `1/id/7` or `1/grp/2`. It
+    /// takes no memory.
     pub fn read(text: &[u8]) -> Result<Tag, BadTag>
-        ensures answer { IfOk result (IsTextOf IsTagInRange tag_text text.now) }
-        ensures only_if { IsOk result ↔ IsText IsTagInRange tag_text text.now }
-        ensures refused { IfErr result (λ bad. IsLongestPrefix IsTagInRange tag_text text.now bad.at) }
+        ensures answer { IfOk result (IsTextOfTag text.now) }
+        ensures only_if { IsOk result ↔ IsText IsSpeltInRange spelt_text text.now }
+        ensures refused { IfErr result (λ bad. IsLongestPrefix IsSpeltInRange spelt_text text.now bad.at) }
         ensures read_back { (tag : Tag) → IsTextOf IsTagInRange tag_text text.now tag → result ≡ Ok tag }
     {
         match read_whole(text) {
@@ -154,7 +170,7 @@ impl Tag {
         }
     }
 
-    /// The tag's text. [`Tag::read`] gives the tag back. It is refused only where memory was.
+    /// The tag's text: `t1:id=7`, and never `1/id/7`. [`Tag::read`] gives the tag back. It is refused only where memory was.
     pub fn write(&self, alloc: Global) -> Result<String, AllocError>
         ensures { IfOk result (λ text. IsTextOf IsTagInRange tag_text (string_bytes text) self.now) }
     {

@@ -1,7 +1,7 @@
 //! The scripts of worlds in examples/ with their replies: written by scripts/examples.py, which the gate compares.
 
 /// Each example: its name, its settings, its script, its replies, and the status of the program after it.
-pub const EXAMPLES: [(&str, &str, &str, &str, u8); 24] = [
+pub const EXAMPLES: [(&str, &str, &str, &str, u8); 26] = [
     (
         "9_transactions",
         "",
@@ -197,6 +197,78 @@ pub const EXAMPLES: [(&str, &str, &str, &str, u8); 24] = [
         1,
     ),
     (
+        "a_range_of_ids",
+        "",
+        "# A range has both of its ends, and nothing where it begins above its end. What reads it ends with any event of its table.\n\
+         put 1 7 2 a\n\
+         pin 1000\n\
+         put 1 8 2 b\n\
+         pin 2000\n\
+         query 4 range 1 7 8\n\
+         query 4 range 1 7 7\n\
+         query 2 range 1 8 9\n\
+         query 4 range 1 9 8\n\
+         query 5 range 1 7 8\n\
+         ro 0 2500 1500 0\n\
+         call 0 f6(7,8)\n\
+         finish 0\n\
+         call 0 f6(7,8)\n\
+         step 0\n\
+         call 0 f6(9,8)\n\
+         finish 0\n\
+         commit 0\n\
+         advance 0\n\
+         advance 0\n\
+         advance 0\n\
+         advance 0\n\
+         put 2 7 2 z\n\
+         advance 0\n\
+         put 1 20 3 z\n\
+         advance 0\n\
+         pin 3000\n\
+         ro 0 3000 0 7\n\
+         call 0 f6(7,8)\n\
+         finish 0\n\
+         commit 0\n\
+         advance 0\n\
+         put 1 7 2 c\n\
+         advance 0\n",
+        "at 1\n\
+         at 2\n\
+         at 3\n\
+         at 4\n\
+         rows 7,8 [3,5) still t1:?\n\
+         rows 7 [1,5) still t1:?\n\
+         rows - [0,3) closed t1:?\n\
+         rows - [0,5) still t1:?\n\
+         refused B7 4\n\
+         open\n\
+         started\n\
+         value 372c38\n\
+         started\n\
+         hit [3,5) still value 372c38\n\
+         started\n\
+         value -\n\
+         receipt 4 2000\n\
+         advanced 1 closed 0\n\
+         advanced 2 closed 0\n\
+         advanced 3 closed 0\n\
+         advanced 4 closed 0\n\
+         at 5\n\
+         advanced 5 closed 0\n\
+         at 6\n\
+         advanced 6 closed 2\n\
+         at 7\n\
+         open\n\
+         started\n\
+         value 372c38\n\
+         receipt 7 3000\n\
+         advanced 7 closed 0\n\
+         at 8\n\
+         advanced 8 closed 1\n",
+        1,
+    ),
+    (
         "a_transaction_that_pins_the_present_beside_its_pins",
         "",
         "put 1 7 2 a\n\
@@ -300,6 +372,44 @@ pub const EXAMPLES: [(&str, &str, &str, &str, u8); 24] = [
          started\n\
          refused K7\n\
          pins 7\n",
+        1,
+    ),
+    (
+        "a_writer_that_read_a_range",
+        "",
+        "# A writer that read a range is in conflict with any event of its table.\n\
+         put 1 7 2 a\n\
+         put 1 8 2 b\n\
+         rw 0\n\
+         call 0 f6(7,8)\n\
+         step 0\n\
+         ask 0 range 1 8 4294967295\n\
+         write 0 put 1 9 2 c\n\
+         put 1 20 3 z\n\
+         commit 0\n\
+         abort 0\n\
+         rw 0\n\
+         ask 0 range 1 9 8\n\
+         write 0 put 1 9 2 c\n\
+         put 2 7 2 z\n\
+         commit 0\n\
+         query 5 range 1 8 20\n",
+        "at 1\n\
+         at 2\n\
+         open 2\n\
+         started\n\
+         rows 7,8 [2,3) still t1:? value 372c38\n\
+         rows 8\n\
+         kept\n\
+         at 3\n\
+         refused B2 3\n\
+         aborted\n\
+         open 3\n\
+         rows -\n\
+         kept\n\
+         at 4\n\
+         at 5\n\
+         rows 8,9,20 [5,6) still t1:?\n",
         1,
     ),
     (

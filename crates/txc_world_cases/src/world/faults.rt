@@ -16,7 +16,7 @@ const KEY: &str = "a key such as `f1(2,3)`";
 
 const BODY: &str = "1 to 256 bytes";
 
-const QUERY: &str = "`by-id`, `by-group` or `all`";
+const QUERY: &str = "`by-id`, `by-group`, `all` or `range`";
 
 const CHANGE: &str = "`put` or `remove`";
 
@@ -27,7 +27,7 @@ aaaaaaaaaaaaaaaaaaaaaaaaaaaaaaaaaaaaaaaaaaaaaaaaaaaaaaaaaaaaaaaaaaaaaaaaaaaaaaaa
 aaaaaaaaaaaaaaaaaaaaaaaaaaaaaaaaaaaaaaaaaaaaaaaaaaaaaaaaaaaaaaaaaaaaaaaaaaaaa";
 
 /// Lines, and what is said of each.
-static LINES: [(&str, &str); 16] = [
+static LINES: [(&str, &str); 18] = [
     ("lookup f1(2) 0 9", "unknown command `lookup`"),
     ("puts 1 7 2 a", "unknown command `puts`"),
     (
@@ -41,6 +41,14 @@ static LINES: [(&str, &str); 16] = [
     ("query 5 all 1 2", "3 words must follow the command, not 4"),
     ("query x by-id 1", "4 words must follow the command, not 3"),
     (
+        "query 5 range 1 7",
+        "5 words must follow the command, not 4",
+    ),
+    (
+        "ask 0 range 1 7 8 9",
+        "5 words must follow the command, not 6",
+    ),
+    (
         "write 0 put 1 7 2",
         "6 words must follow the command, not 5",
     ),
@@ -51,15 +59,15 @@ static LINES: [(&str, &str); 16] = [
     ("tidy 1 2 3", "2 words must follow the command, not 3"),
     (
         "query",
-        "expected `query STAMP by-id TABLE ID (or by-group TABLE GROUP, or all TABLE)`",
+        "expected `query STAMP by-id TABLE ID (or by-group TABLE GROUP, or all TABLE, or range TABLE FROM TO)`",
     ),
     (
         "query x",
-        "expected `query STAMP by-id TABLE ID (or by-group TABLE GROUP, or all TABLE)`",
+        "expected `query STAMP by-id TABLE ID (or by-group TABLE GROUP, or all TABLE, or range TABLE FROM TO)`",
     ),
     (
         "ask 0",
-        "expected `ask ACTOR by-id TABLE ID (or by-group TABLE GROUP, or all TABLE)`",
+        "expected `ask ACTOR by-id TABLE ID (or by-group TABLE GROUP, or all TABLE, or range TABLE FROM TO)`",
     ),
     (
         "write 0",
@@ -68,7 +76,7 @@ static LINES: [(&str, &str); 16] = [
 ];
 
 /// Lines, and which word of each is said to be bad, what was expected, and what was found.
-static WORDS: [(&str, &str, &str, &str); 27] = [
+static WORDS: [(&str, &str, &str, &str); 31] = [
     ("put 16 1 1 a", "line 1: word 1", TABLE, "`16`"),
     (
         "put 1 4294967296 1 a",
@@ -96,6 +104,14 @@ static WORDS: [(&str, &str, &str, &str); 27] = [
     ("query 5 by-id 16 1", "line 1: word 3", TABLE, "`16`"),
     ("query 5 by-group 1 x", "line 1: word 4", NUMBER, "`x`"),
     ("query 5 all x", "line 1: word 3", TABLE, "`x`"),
+    ("query 5 range x 1 2", "line 1: word 3", TABLE, "`x`"),
+    ("query 5 range 1 01 2", "line 1: word 4", NUMBER, "`01`"),
+    (
+        "query 5 range 1 1 4294967296",
+        "line 1: word 5",
+        NUMBER,
+        "`4294967296`",
+    ),
     ("query x by-table", "line 1: word 1", STAMP, "`x`"),
     ("ro x 0 0 0", "line 1: word 1", NUMBER, "`x`"),
     ("ro 0 00 0 0", "line 1: word 2", MOMENT, "`00`"),
@@ -116,6 +132,7 @@ static WORDS: [(&str, &str, &str, &str); 27] = [
     ),
     ("ask 0 some 1", "line 1: word 2", QUERY, "`some`"),
     ("ask x all 1", "line 1: word 1", NUMBER, "`x`"),
+    ("ask 0 range 16 1 2", "line 1: word 3", TABLE, "`16`"),
     (
         "write 0 change 1 7 2 a",
         "line 1: word 2",

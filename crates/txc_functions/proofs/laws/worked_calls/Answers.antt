@@ -13,10 +13,14 @@ returns c = record {
     more_bodies = refl;
     nested = refl;
     count = refl;
+    ids = refl;
+    last_id = refl;
+    no_ids = refl;
     one_query = refl;
     nested_queries = refl;
+    range_query = refl;
     longest = refl;
     longest_length = refl;
   };
-  refusals = record { arguments = refl; itself = refl; endless = refl; too_long = refl; no_function = refl };
+  refusals = record { arguments = refl; one_end = refl; itself = refl; endless = refl; too_long = refl; no_function = refl };
 }

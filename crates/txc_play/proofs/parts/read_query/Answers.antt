@@ -13,4 +13,5 @@ returns-clause-refused c q h =
     no_query _ _ c.in-Some.name.now q cut
     (other_text c.in-Some.name.now c.as_slice.result.now (codes "by-id") c.eq.result c.as_slice.ensures c.eq.ensures c.if-eq.false)
     (other_text c.in-Some.name.now c.as_slice-2.result.now (codes "by-group") c.eq-2.result c.as_slice-2.ensures c.eq-2.ensures c.if-eq-2.false)
-    (other_text c.in-Some.name.now c.as_slice-3.result.now (codes "all") c.eq-3.result c.as_slice-3.ensures c.eq-3.ensures c.if-eq-3.false) h
+    (other_text c.in-Some.name.now c.as_slice-3.result.now (codes "all") c.eq-3.result c.as_slice-3.ensures c.eq-3.ensures c.if-eq-3.false)
+    (other_text c.in-Some.name.now c.as_slice-4.result.now (codes "range") c.eq-4.result c.as_slice-4.ensures c.eq-4.ensures c.if-eq-4.false) h

@@ -10,21 +10,21 @@ bad_tag-requires c = tag_wrong c.args.text.now c.loop-read.rest.now c.loop-read.
 
 pub bad_tag-requires-in-Err-read_word : goal.bad_tag-requires-in-Err-read_word
 bad_tag-requires-in-Err-read_word c =
-    comma_wrong c.args.text.now c.loop-read.rest.now c.loop-read.invariant.0 c.loop-read.invariant.1 c.requires c.in-Ok.read.0 c.in-Ok.read.1.now c.in-Ok.ensures.answer.0 c.in-Ok.ensures.answer.1 c.in-Err-read_word.wrong.now c.if-is_empty.ensures c.in-Err-read_word.ensures.refused
+    comma_wrong c.args.text.now c.loop-read.rest.now c.loop-read.invariant.0 c.loop-read.invariant.1 c.requires c.in-Ok.ensures.answer.0 c.in-Ok.read.0 c.in-Ok.read.1.now c.in-Ok.ensures.answer.1 c.in-Ok.ensures.answer.2 c.in-Err-read_word.wrong.now c.if-is_empty.ensures c.in-Err-read_word.ensures.refused
 
 pub loop-read-preserved : goal.loop-read-preserved
 loop-read-preserved c = (
   with_tag c.in-Ok.read.0 c.loop-read.invariant.0,
-  one_more c.args.text.now c.loop-read.rest.now c.loop-read.invariant.0 c.loop-read.invariant.1 c.requires c.in-Ok.read.0 c.in-Ok.read.1.now c.in-Ok.ensures.answer.0 c.in-Ok.ensures.answer.1 c.in-Ok-read_word.more.now c.in-Ok-read_word.ensures.answer.parts,
+  one_more c.args.text.now c.loop-read.rest.now c.loop-read.invariant.0 c.loop-read.invariant.1 c.requires c.in-Ok.ensures.answer.0 c.in-Ok.read.0 c.in-Ok.read.1.now c.in-Ok.ensures.answer.1 c.in-Ok.ensures.answer.2 c.in-Ok-read_word.more.now c.in-Ok-read_word.ensures.answer.parts,
   carried c.in-Ok.read.0 c.loop-read.invariant.0 c.loop-read.set c.add_unless-refused.new.set c.loop-read.refused c.add_unless-refused.result c.add_unless-refused.ensures c.loop-read.invariant.2,
 )
 
 pub returns-in-None-clause-answer : goal.returns-in-None-clause-answer
 returns-in-None-clause-answer c =
     subst (IsSetOfText c.args.text.now) (sym (carried c.in-Ok.read.0 c.loop-read.invariant.0 c.loop-read.set c.add_unless-refused.new.set c.loop-read.refused None c.in-None.ensures c.loop-read.invariant.2))
-    (all_tags c.args.text.now c.loop-read.rest.now c.loop-read.invariant.0 c.loop-read.invariant.1 c.requires c.in-Ok.read.0 c.in-Ok.read.1.now c.in-Ok.ensures.answer.0 c.in-Ok.ensures.answer.1 (empty c.in-Ok.read.1.now c.if-is_empty.ensures))
+    (all_tags c.args.text.now c.loop-read.rest.now c.loop-read.invariant.0 c.loop-read.invariant.1 c.requires c.in-Ok.ensures.answer.0 c.in-Ok.read.0 c.in-Ok.read.1.now c.in-Ok.ensures.answer.1 c.in-Ok.ensures.answer.2 (empty c.in-Ok.read.1.now c.if-is_empty.ensures))
 
 pub returns-in-Some-clause-refused : goal.returns-in-Some-clause-refused
 returns-in-Some-clause-refused c =
-    let p = all_tags c.args.text.now c.loop-read.rest.now c.loop-read.invariant.0 c.loop-read.invariant.1 c.requires c.in-Ok.read.0 c.in-Ok.read.1.now c.in-Ok.ensures.answer.0 c.in-Ok.ensures.answer.1 (empty c.in-Ok.read.1.now c.if-is_empty.ensures) in
+    let p = all_tags c.args.text.now c.loop-read.rest.now c.loop-read.invariant.0 c.loop-read.invariant.1 c.requires c.in-Ok.ensures.answer.0 c.in-Ok.read.0 c.in-Ok.read.1.now c.in-Ok.ensures.answer.1 c.in-Ok.ensures.answer.2 (empty c.in-Ok.read.1.now c.if-is_empty.ensures) in
     (p.0, p.1)
