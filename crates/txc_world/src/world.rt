@@ -99,8 +99,8 @@ impl<A: App, C: Cacheable> World<A, C> {
     /// Its database and its pincushion, as they stand, for the calls under locks. All else is dropped: what is
     /// open, and the holds and the users that it has, which nobody gives back then.
     pub fn into_parts(self) -> (DbCore, CushionCore)
-        ensures database { result.0 ≡ self.entry.ports.database }
-        ensures cushion { result.1 ≡ self.entry.ports.cushion }
+        ensures database { result.0 ≡ self.ports.database }
+        ensures cushion { result.1 ≡ self.ports.cushion }
         ensures row { result.1.events ≡ result.0.events }
     {
         let World {
