@@ -7,7 +7,7 @@ usage: examples.py [--check]      --check writes nothing, and ends with 1 where 
 import pathlib, re, sys
 
 # Longer scripts are no constants of a test: the gate runs the program itself over them (scripts/run_examples.sh).
-MOST_BYTES = 4_096
+MOST_BYTES = 1_500
 
 # Nor are the worlds that are written for a reader, but for the first one: the prover goes over all constants of a table in one function.
 FOR_READERS = {"a_session_line_by_line"}
