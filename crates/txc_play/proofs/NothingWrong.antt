@@ -130,7 +130,7 @@ word_at [] (g ∷ good) kind word kinds words h all = absurd h
 word_at (b ∷ before) [] kind word kinds words h all = absurd h
 word_at (b ∷ before) (g ∷ good) kind word kinds words h all = word_at before good kind word kinds words h.1 all.1
 
-none_bad : (kinds : List WordKind) (words : List (List ℕ)) (fault : WordFault) → IsBadWord kinds words fault → AreOfKinds kinds words → ⊥
+pub none_bad : (kinds : List WordKind) (words : List (List ℕ)) (fault : WordFault) → IsBadWord kinds words fault → AreOfKinds kinds words → ⊥
 none_bad kinds words fault b all =
     let here = subst (λ (ks : List WordKind). AreOfKinds ks words) b.kinds_are all in
     let there = subst (λ (ws : List (List ℕ)). AreOfKinds (b.good_kinds ++ fault.kind ∷ b.other_kinds) ws) b.words_are here in
@@ -139,7 +139,7 @@ none_bad kinds words fault b all =
 same_kinds : (kinds others : List WordKind) → Some kinds ≡ Some others → kinds ≡ others
 same_kinds kinds others e = cc
 
-none_after : (name : LineName) (words : List (List ℕ)) (fault : CommandFault) → IsFaultAfter name words fault → HasKinds name words → ⊥
+pub none_after : (name : LineName) (words : List (List ℕ)) (fault : CommandFault) → IsFaultAfter name words fault → HasKinds name words → ⊥
 none_after name words (faults.Unknown text) h k = h
 none_after name words (faults.Usage line) h k = some_kinds k.kinds (sym k.known ∙ h.1)
 none_after name words (faults.Count wanted given) h k =
@@ -148,6 +148,8 @@ none_after name words (faults.Count wanted given) h k =
 none_after name words (faults.Word fault) h k =
     let bad = subst (λ (o : Option (List WordKind)). IsFirstBad name words o fault) k.known h in
     none_bad k.kinds words fault bad.1 k.good
+none_after name words (faults.Few least given) h k = h
+none_after name words faults.AfterJob h k = h
 
 none_said : (all : List (List ℕ)) (other name : LineName) (others words : List (List ℕ)) (fault : CommandFault) → all ≡ name_text other ∷ others → IsFaultAfter other others fault
     → all ≡ name_text name ∷ words → HasKinds name words → ⊥
@@ -162,3 +164,5 @@ nothing_wrong all (faults.Unknown text) name words h e k = h.3 name (first_is h.
 nothing_wrong all (faults.Usage line) name words h e k = none_said all h.0 name h.1 words (faults.Usage line) h.2 h.3 e k
 nothing_wrong all (faults.Count wanted given) name words h e k = none_said all h.0 name h.1 words (faults.Count wanted given) h.2 h.3 e k
 nothing_wrong all (faults.Word fault) name words h e k = none_said all h.0 name h.1 words (faults.Word fault) h.2 h.3 e k
+nothing_wrong all (faults.Few least given) name words h e k = h.3
+nothing_wrong all faults.AfterJob name words h e k = h.3

@@ -110,6 +110,8 @@ IsFaultAfter name words (faults.Count wanted given) =
     (kinds : List WordKind) × (kinds_after name (second_of words) ≡ Some kinds)
     × (wanted ≡ length kinds) × (given ≡ length words) × (given ≢ wanted)
 IsFaultAfter name words (faults.Word fault) = IsFirstBad name words (kinds_after name (second_of words)) fault
+IsFaultAfter name words (faults.Few least given) = ⊥
+IsFaultAfter name words faults.AfterJob = ⊥
 
 -- What is wrong with a line's words: the first is no line's name; else it is in the words after that name.
 abbrev pub IsWorldFault : List (List ℕ) → CommandFault → Type 0

@@ -19,12 +19,12 @@ BreaksOffTask next s line end =
 -- nothing comes after all lines.
 abbrev pub world_script : Next → ScriptKind WorldValue Task Printed
 world_script next = record {
-  asks = SpellsTask;
+  asks = λ s. SpellsTask;
   does = IsDone next;
   breaks_off = BreaksOffTask next;
   text = λ printed. printed_text printed ++ 10 ∷ [];
   is_refused = is_refused_line;
-  is_wrong = IsWorldFault;
+  is_wrong = λ s. IsWorldFault;
   closes = λ s given closing end. (closing ≡ no_closing) × (end ≡ s);
   breaks_at_end = λ s end. ⊥;
 }

@@ -45,8 +45,9 @@ fn find_without_kinds(
     }
 }
 
-/// What is wrong with the words after the name of a line, of which there are so many.
-fn find_after_name(
+/// What is wrong with the words after the name of a line, of which there are so many. Where memory is refused the
+/// answer is the same.
+pub fn find_after_name(
     alloc: Global,
     name: LineName,
     words: WordsLeft<'_>,

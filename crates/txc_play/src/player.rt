@@ -33,7 +33,7 @@ fn push_printed(alloc: Global, text: &mut Vec<u8>, printed: &Printed) -> Result<
 
 /// Does what a line asks for, and puts what is written of it after the text. Returns whether that holds a
 /// refusal.
-fn do_task<A: App, C: Cacheable>(
+pub fn do_task<A: App, C: Cacheable>(
     alloc: Global,
     world: &mut World<A, C>,
     task: Task,
@@ -72,7 +72,7 @@ impl<A: App, C: Cacheable> Script for WorldScript<A, C> {
         }
     }
 
-    fn find_fault(&self, alloc: Global, line: &[u8]) -> CommandFault {
+    fn find_fault(&self, alloc: Global, state: &World<A, C>, line: &[u8]) -> CommandFault {
         find_command_fault(alloc, line)
     }
 

@@ -123,8 +123,8 @@ fn read_keeper_change(alloc: Global, line: &[u8]) -> Result<Task, Unread>
     Ok(Task::One(Step::Keeper(Keep::Write(change))))
 }
 
-/// What the words after the name ask for.
-fn read_named(alloc: Global, name: LineName, line: &[u8], text: &[u8]) -> Result<Task, Unread>
+/// What the words after a line's name ask for.
+pub fn read_named(alloc: Global, name: LineName, line: &[u8], text: &[u8]) -> Result<Task, Unread>
     requires { words_of line.now ≡ name_text name ∷ words_of text.now }
     ensures answer { IfOk result (Says name (words_of text.now)) }
     ensures refused { IfErr result (IsNone (Says name (words_of text.now))) }

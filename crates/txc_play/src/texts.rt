@@ -81,8 +81,9 @@ impl fmt::Display for OfCall<'_> {
     }
 }
 
+/// A refusal of a transaction.
 #[derive(Drop)]
-struct OfTransaction<'a>(&'a TxnError);
+pub struct OfTransaction<'a>(pub &'a TxnError);
 
 impl fmt::Display for OfTransaction<'_> {
     ghost use Rattle.std.specs.Prelude.{Some};

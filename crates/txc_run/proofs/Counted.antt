@@ -25,13 +25,13 @@ use Rattle.txc_run.proofs.Reporting.{steps_more}
 
 -- ---- one line
 
-same_malformed : (line : List ℕ) → IsMalformed counted_script line → IsMalformed (node_script Report) line
-same_malformed line h = record { not_quiet = h.not_quiet; asks_nothing = h.asks_nothing }
+same_malformed : (s : Counted) (line : List ℕ) → IsMalformed counted_script s line → IsMalformed (node_script Report) s.node line
+same_malformed s line h = record { not_quiet = h.not_quiet; asks_nothing = h.asks_nothing }
 
 same_gives : (s : Counted) (n : ℕ) (line : List ℕ) (g : Given Op (Reply Shown)) (next : Counted) → Gives counted_script s n line g next → Gives (node_script Report) s.node n line g next.node
 same_gives s n line Nothing next h = (h.0, ap (λ (x : Counted). x.node) h.1)
 same_gives s n line (Replied op reply) next h = (h.0, h.1.0)
-same_gives s n line (Malformed k) next h = (same_malformed line h.0, h.1, ap (λ (x : Counted). x.node) h.2)
+same_gives s n line (Malformed k) next h = (same_malformed s line h.0, h.1, ap (λ (x : Counted). x.node) h.2)
 
 -- a line that names no step counts nothing
 none_counted : (s : Counted) (g : Given Op (Reply Shown)) (next : Counted) (before : List (Given Op (Reply Shown))) → steps_in g ≡ [] → next ≡ s → HasReport before s.report → HasReport (before ++ g ∷ []) next.report
@@ -87,17 +87,17 @@ any_refused [] = refl
 any_refused (g ∷ given) =
     ap (λ (b : Bool). b || list_any (is_refused counted_script) given) (same_refused g) ∙ ap (λ (b : Bool). is_refused (node_script Report) g || b) (any_refused given)
 
-same_fault : (line : List ℕ) (fault : LineFault) → IsFaultOf counted_script line fault → IsFaultOf (node_script Report) line fault
-same_fault line TooLong h = h
-same_fault line (Byte at byte) h = h
-same_fault line Blanks h = h
-same_fault line (Command fault) h = h
+same_fault : (s : Counted) (line : List ℕ) (fault : LineFault) → IsFaultOf counted_script s line fault → IsFaultOf (node_script Report) s.node line fault
+same_fault s line TooLong h = h
+same_fault s line (Byte at byte) h = h
+same_fault s line Blanks h = h
+same_fault s line (Command fault) h = h
 
-same_status : (lines : List (List ℕ)) (given : List (Given Op (Reply Shown))) (closing : Closing) (status : Status) → IsStatusOf counted_script lines given closing status
-    → IsStatusOf (node_script Report) lines given closing status
-same_status lines given closing statuses.Done h = ap (λ (b : Bool). b || closing.is_refused) (sym (any_refused given)) ∙ h
-same_status lines given closing statuses.Refused h = (ap (λ (b : Bool). b || closing.is_refused) (sym (any_refused given)) ∙ h.0, h.1)
-same_status lines given closing (statuses.Malformed bad) h = (h.0, (h.1.0, (h.1.1.0, h.1.1.1, h.1.1.2, same_fault h.1.1.1 bad.fault h.1.1.3)))
+same_status : (left : Counted) (lines : List (List ℕ)) (given : List (Given Op (Reply Shown))) (closing : Closing) (status : Status) → IsStatusOf counted_script left lines given closing status
+    → IsStatusOf (node_script Report) left.node lines given closing status
+same_status left lines given closing statuses.Done h = ap (λ (b : Bool). b || closing.is_refused) (sym (any_refused given)) ∙ h
+same_status left lines given closing statuses.Refused h = (ap (λ (b : Bool). b || closing.is_refused) (sym (any_refused given)) ∙ h.0, h.1)
+same_status left lines given closing (statuses.Malformed bad) h = (h.0, (h.1.0, (h.1.1.0, h.1.1.1, h.1.1.2, same_fault left h.1.1.1 bad.fault h.1.1.3)))
 
 -- ---- the end of a run
 
@@ -137,7 +137,7 @@ same_written start read at_end written (Ok status) left none h = (
   h.2,
   same_ends start read at_end h.0 h.1 h.2 left none h.3,
   h.4 ∙ ap (λ (xs : List ℕ). xs ++ h.2.text) (same_text h.1),
-  same_status h.0 h.1 h.2 status h.5,
+  same_status left h.0 h.1 h.2 status h.5,
 )
 same_written start read at_end written (Err faults.Read) left none h =
     (h.0, h.1, h.2, (given_counted start 1 h.0 [] h.1 left h.3 none).answers, h.4, h.5, h.6 ∙ same_text h.1, h.7)

@@ -26,12 +26,12 @@ Counts old op reply new =
 -- a script of a node's lines whose replies are counted
 abbrev pub counted_script : ScriptKind Counted Op (Reply Shown)
 counted_script = record {
-  asks = Spells;
+  asks = λ s. Spells;
   does = λ s op reply next. MayReply s.node op reply next.node × Counts s.report op reply next.report;
   breaks_off = λ s line next. Unit {0};
   text = reply_line Report;
   is_refused = is_refusal;
-  is_wrong = IsCommandFault kinds_after;
+  is_wrong = λ s. IsCommandFault kinds_after;
   closes = λ s given closing next. HasReport given s.report → CloseNode Report s.node given closing next.node;
   breaks_at_end = λ s next. Unit {0};
 }

@@ -60,12 +60,12 @@ MayBreakAtEnd Report = Unit {0}
 -- nothing is said: no line finds it.
 abbrev pub node_script : Mode → ScriptKind Cache Op (Reply Shown)
 node_script mode = record {
-  asks = Spells;
+  asks = λ c. Spells;
   does = MayReply;
   breaks_off = λ c line next. Unit {0};
   text = reply_line mode;
   is_refused = is_refusal;
-  is_wrong = IsCommandFault kinds_after;
+  is_wrong = λ c. IsCommandFault kinds_after;
   closes = CloseNode mode;
   breaks_at_end = λ c next. MayBreakAtEnd mode;
 }

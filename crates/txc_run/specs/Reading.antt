@@ -2,6 +2,7 @@
 use Rattle.std.specs.Prelude.{◌≡◌, ⊤, ℕ, List, Some, None}
 use Rattle.txc_tags.specs.declared.text.set.SetError.{SetError}
 use Rattle.txc_tags.specs.declared.text.set.SetError.TheVariants as sets
+use Rattle.txc_node.specs.Cache.{Cache}
 use Rattle.txc_node.specs.declared.entry.Entry.{Entry}
 use Rattle.txc_node.specs.declared.entry.EntryError.{EntryError}
 use Rattle.txc_node.specs.declared.op.Op.{Op}
@@ -70,4 +71,4 @@ abbrev pub IsLine : List ℕ → Line → Type 0
 IsLine bytes Quiet = IsQuiet bytes
 IsLine bytes (Step op) = NamesStep (IsStepLine bytes) op
 IsLine bytes (Unmade error) = IsUnmade (IsStepLine bytes) error
-IsLine bytes Malformed = IsMalformed (node_script Node) bytes
+IsLine bytes Malformed = (c : Cache) × IsMalformed (node_script Node) c bytes

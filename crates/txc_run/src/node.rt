@@ -41,7 +41,7 @@ impl Script for Replying {
         make_step(alloc, state, line, text)
     }
 
-    fn find_fault(&self, alloc: Global, line: &[u8]) -> CommandFault {
+    fn find_fault(&self, alloc: Global, state: &NodeCore, line: &[u8]) -> CommandFault {
         find_command_fault(alloc, line)
     }
 
@@ -76,7 +76,7 @@ impl Script for Counting {
         make_step(alloc, &mut state.node, line, &mut state.report)
     }
 
-    fn find_fault(&self, alloc: Global, line: &[u8]) -> CommandFault {
+    fn find_fault(&self, alloc: Global, state: &Counted, line: &[u8]) -> CommandFault {
         find_command_fault(alloc, line)
     }
 

@@ -23,19 +23,19 @@ use Rattle.txc_script.proofs.EachLine.{all_read, any_more, begins_longer, begins
 
 -- ---- one line
 
-pub not_plain : {S A R : Type 0} (kind : ScriptKind S A R) (line : List ℕ) → (IsPlain line → ⊥) → IsMalformed kind line
-not_plain kind line none = record { not_quiet = λ quiet. none quiet.0; asks_nothing = λ asked is. none is.0 }
+pub not_plain : {S A R : Type 0} (kind : ScriptKind S A R) (s : S) (line : List ℕ) → (IsPlain line → ⊥) → IsMalformed kind s line
+not_plain kind s line none = record { not_quiet = λ quiet. none quiet.0; asks_nothing = λ asked is. none is.0 }
 
-pub asks_nothing : {S A R : Type 0} (kind : ScriptKind S A R) (line : List ℕ) → (IsBlankOrComment line → ⊥) → ((asked : A) → kind.asks line asked → ⊥) → IsMalformed kind line
-asks_nothing kind line bare none = record { not_quiet = λ quiet. bare quiet.1; asks_nothing = λ asked is. none asked is.1 }
+pub asks_nothing : {S A R : Type 0} (kind : ScriptKind S A R) (s : S) (line : List ℕ) → (IsBlankOrComment line → ⊥) → ((asked : A) → kind.asks s line asked → ⊥) → IsMalformed kind s line
+asks_nothing kind s line bare none = record { not_quiet = λ quiet. bare quiet.1; asks_nothing = λ asked is. none asked is.1 }
 
 either_true : (b : Bool) → true ≡ (b || true)
 either_true true = refl
 either_true false = refl
 
 -- a malformed line was answered after a look that changed nothing
-pub malformed_answered : {S A R : Type 0} (kind : ScriptKind S A R) (s next : S) (old new : Replies) (seen : List ℕ) (number : ℕ) (line : List ℕ) (r : Result Flow AllocError) → IsMalformed kind line → next ≡ s
-    → seen ≡ old.text.items → IfOk r (IsStoppedAt kind number line) → OnOk r (new.text.items ≡ seen ++ malformed_text number) → OnOk r (new.is_refused ≡ true)
+pub malformed_answered : {S A R : Type 0} (kind : ScriptKind S A R) (s next : S) (old new : Replies) (seen : List ℕ) (number : ℕ) (line : List ℕ) (r : Result Flow AllocError) → IsMalformed kind s line → next ≡ s
+    → seen ≡ old.text.items → IfOk r (IsStoppedAt kind next number line) → OnOk r (new.text.items ≡ seen ++ malformed_text number) → OnOk r (new.is_refused ≡ true)
     → IfOk r (AnswersLine kind s next old new number line)
 malformed_answered kind s next old new seen number line (Ok GoesOn) bad same kept stops text refused = absurd stops
 malformed_answered kind s next old new seen number line (Ok (Stopped fault)) bad same kept stops text refused = record {
@@ -119,7 +119,7 @@ answered_line kind start read written before x s next r q (Stopped bad) h bare r
       whole = inr ([], begins_more read h.lines h.rest before h.begins h.not_ended bare, malformed);
       text = added.text;
       malformed = malformed;
-      wrong = (a.answers.flow_is.1.0 ∙ sym a.count ∙ added.count, (h.lines, line, refl, reads.fault bad.fault a.answers.flow_is.1.1));
+      wrong = (a.answers.flow_is.1.0 ∙ sym a.count ∙ added.count, (h.lines, line, refl, reads.fault next bad.fault a.answers.flow_is.1.1));
     }
 
 -- ---- memory ran out
@@ -277,7 +277,7 @@ ended_line kind start read written s next r q (Stopped bad) h some a =
       whole = inl (whole_last kind start read written s r h some, tt);
       text = added.text;
       malformed = malformed;
-      wrong = (a.answers.flow_is.1.0 ∙ sym a.count ∙ added.count, (h.lines, line, refl, reads.fault bad.fault a.answers.flow_is.1.1));
+      wrong = (a.answers.flow_is.1.0 ∙ sym a.count ∙ added.count, (h.lines, line, refl, reads.fault next bad.fault a.answers.flow_is.1.1));
     }
 
 pub answered_last : {S A R : Type 0} (kind : ScriptKind S A R) (start : S) (read written : List ℕ) (s next : S) (r q : Running) (res : Result Flow AllocError) → HasAnswered kind start read written (progress_of s r)

@@ -137,21 +137,21 @@ short_kept line h = take_all MAX_KEPT line (omega (arith, length-take MAX_KEPT l
 
 gives_whole : {S A R : Type 0} (kind : ScriptKind S A R) (c : S) (n : ℕ) (line : List ℕ) (g : Given A R) (next : S) → Gives kind c n (kept_of line) g next → Gives kind c n line g next
 gives_whole kind c n line Nothing next h = (subst IsQuiet (plain_kept line h.0.0) h.0, h.1)
-gives_whole kind c n line (Replied asked reply) next h = (subst (λ (l : List ℕ). Asks kind l asked) (plain_kept line h.0.0) h.0, h.1)
+gives_whole kind c n line (Replied asked reply) next h = (subst (λ (l : List ℕ). Asks kind c l asked) (plain_kept line h.0.0) h.0, h.1)
 gives_whole kind c n line (Malformed k) next h = (
   record {
     not_quiet = λ quiet. h.0.not_quiet (subst IsQuiet (sym (plain_whole line quiet.0)) quiet);
-    asks_nothing = λ asked is. h.0.asks_nothing asked (subst (λ (l : List ℕ). Asks kind l asked) (sym (plain_whole line is.0)) is);
+    asks_nothing = λ asked is. h.0.asks_nothing asked (subst (λ (l : List ℕ). Asks kind c l asked) (sym (plain_whole line is.0)) is);
   },
   h.1,
   h.2,
 )
 
-fault_whole : {S A R : Type 0} (kind : ScriptKind S A R) (line : List ℕ) (fault : LineFault) → IsFaultOf kind (kept_of line) fault → IsFaultOf kind line fault
-fault_whole kind line TooLong h = omega (arith, length-take MAX_KEPT line, h)
-fault_whole kind line (Byte at byte) h = subst (λ (l : List ℕ). IsFaultOf kind l (Byte at byte)) (short_kept line h.0) h
-fault_whole kind line Blanks h = subst (λ (l : List ℕ). IsFaultOf kind l Blanks) (plain_kept line h.0) h
-fault_whole kind line (Command fault) h = subst (λ (l : List ℕ). IsFaultOf kind l (Command fault)) (plain_kept line h.0.plain) h
+fault_whole : {S A R : Type 0} (kind : ScriptKind S A R) (c : S) (line : List ℕ) (fault : LineFault) → IsFaultOf kind c (kept_of line) fault → IsFaultOf kind c line fault
+fault_whole kind c line TooLong h = omega (arith, length-take MAX_KEPT line, h)
+fault_whole kind c line (Byte at byte) h = subst (λ (l : List ℕ). IsFaultOf kind c l (Byte at byte)) (short_kept line h.0) h
+fault_whole kind c line Blanks h = subst (λ (l : List ℕ). IsFaultOf kind c l Blanks) (plain_kept line h.0) h
+fault_whole kind c line (Command fault) h = subst (λ (l : List ℕ). IsFaultOf kind c l (Command fault)) (plain_kept line h.0.plain) h
 
 breaks_whole : {S A R : Type 0} (kind : ScriptKind S A R) (c : S) (line : List ℕ) (next : S) → MayBreakOff kind c (kept_of line) next → MayBreakOff kind c line next
 breaks_whole kind c line next (inl same) = inl same
@@ -162,20 +162,20 @@ breaks_whole kind c line next (inr (plain, broke)) =
 -- what is read of a line as these bytes is read of the whole line too
 pub record ReadsAs {S A R : Type 0} (kind : ScriptKind S A R) (read line : List ℕ) : Type 0 where
   pub gives : (c : S) (n : ℕ) (g : Given A R) (next : S) → Gives kind c n read g next → Gives kind c n line g next
-  pub fault : (fault : LineFault) → IsFaultOf kind read fault → IsFaultOf kind line fault
+  pub fault : (c : S) (fault : LineFault) → IsFaultOf kind c read fault → IsFaultOf kind c line fault
   pub breaks : (c next : S) → MayBreakOff kind c read next → MayBreakOff kind c line next
 
 pub whole_reads : {S A R : Type 0} (kind : ScriptKind S A R) (read line : List ℕ) → read ≡ line → ReadsAs kind read line
 whole_reads kind read line is = record {
   gives = λ c n g next h. subst (λ (l : List ℕ). Gives kind c n l g next) is h;
-  fault = λ fault h. subst (λ (l : List ℕ). IsFaultOf kind l fault) is h;
+  fault = λ c fault h. subst (λ (l : List ℕ). IsFaultOf kind c l fault) is h;
   breaks = λ c next h. subst (λ (l : List ℕ). MayBreakOff kind c l next) is h;
 }
 
 pub kept_reads : {S A R : Type 0} (kind : ScriptKind S A R) (read line : List ℕ) → read ≡ kept_of line → ReadsAs kind read line
 kept_reads kind read line is = record {
   gives = λ c n g next h. gives_whole kind c n line g next (subst (λ (l : List ℕ). Gives kind c n l g next) is h);
-  fault = λ fault h. fault_whole kind line fault (subst (λ (l : List ℕ). IsFaultOf kind l fault) is h);
+  fault = λ c fault h. fault_whole kind c line fault (subst (λ (l : List ℕ). IsFaultOf kind c l fault) is h);
   breaks = λ c next h. breaks_whole kind c line next (subst (λ (l : List ℕ). MayBreakOff kind c l next) is h);
 }
 
@@ -185,10 +185,10 @@ kept_reads kind read line is = record {
 pub prefix_of : (written out all : List ℕ) (n : ℕ) → written ++ out ≡ all → written ++ take n out ≡ take (length written + n) all
 prefix_of written out all n e = sym (take-append-add written out n) ∙ ap (take (length written + n)) e
 
-pub status_is : {S A R : Type 0} (kind : ScriptKind S A R) (lines : List (List ℕ)) (given : List (Given A R)) (closing : Closing) (refused : Bool)
-    → refused ≡ (list_any (is_refused kind) given || closing.is_refused) → list_any is_malformed given ≡ false → IsStatusOf kind lines given closing (status_after refused flows.GoesOn)
-status_is kind lines given closing true same none = (sym same, none)
-status_is kind lines given closing false same none = sym same
+pub status_is : {S A R : Type 0} (kind : ScriptKind S A R) (left : S) (lines : List (List ℕ)) (given : List (Given A R)) (closing : Closing) (refused : Bool)
+    → refused ≡ (list_any (is_refused kind) given || closing.is_refused) → list_any is_malformed given ≡ false → IsStatusOf kind left lines given closing (status_after refused flows.GoesOn)
+status_is kind left lines given closing true same none = (sym same, none)
+status_is kind left lines given closing false same none = sym same
 
 pub whole_at : {A R : Type 0} (P Q : Type 0) (read : List ℕ) (lines : List (List ℕ)) (given : List (Given A R)) → (P → Q) → IsWhole read P lines given → IsWhole read Q lines given
 whole_at P Q read lines given f (inl h) = inl (h.0, f h.1)

@@ -113,7 +113,7 @@ closed_ends_lines kind start read written p h = record { end = h.end; answers = 
 pub finish_done : {S A R : Type 0} (kind : ScriptKind S A R) (start : S) (read written : List ℕ) (p : Progress S) (refused : Bool) (flow : Flow) (old new : Option (List ℕ)) → Appends old new p.text → refused ≡ p.refused
     → EndsAs kind start read written p (Ok flow) → EndsWith kind start read (Unit {0}) written old new (Ok (status_after refused flow)) p.state
 finish_done kind start read written p refused GoesOn old new all same k =
-    (p.text, all, (k.lines, k.given, k.closing, closed_ends_lines kind start read written p k, k.text, status_is kind k.lines k.given k.closing refused (same ∙ k.refused) k.well_formed))
+    (p.text, all, (k.lines, k.given, k.closing, closed_ends_lines kind start read written p k, k.text, status_is kind p.state k.lines k.given k.closing refused (same ∙ k.refused) k.well_formed))
 finish_done kind start read written p refused (Stopped bad) old new all same k = stops kind start read (Unit {0}) written bad p old new all k
 
 pub finish_faults : {S A R : Type 0} (kind : ScriptKind S A R) (start : S) (read written : List ℕ) (p : Progress S) (r : Result Flow AllocError) (old new : Option (List ℕ)) → AppendsPrefix old new p.text

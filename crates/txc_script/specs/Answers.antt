@@ -10,7 +10,7 @@ pub record IsAnswered {S A R : Type 0} (kind : ScriptKind S A R) (s : S) (line :
     (old new : List ℕ) (refused : Bool) : Type 0 where
   pub asked : A
   pub reply : R
-  pub asks : kind.asks line asked
+  pub asks : kind.asks s line asked
   pub does : kind.does s asked reply end
   pub text : new ≡ old ++ kind.text reply
   pub is_refused : refused ≡ kind.is_refused reply
@@ -18,7 +18,7 @@ pub record IsAnswered {S A R : Type 0} (kind : ScriptKind S A R) (s : S) (line :
 -- the line asks for nothing, and nothing changed; or memory was refused, before anything was done or while it
 -- was
 abbrev pub IsUnanswered : {S A R : Type 0} → ScriptKind S A R → S → List ℕ → S → Unread → Type 0
-IsUnanswered {S} {A} {R} kind s line end Malformed = ((asked : A) → kind.asks line asked → ⊥) × (end ≡ s)
+IsUnanswered {S} {A} {R} kind s line end Malformed = ((asked : A) → kind.asks s line asked → ⊥) × (end ≡ s)
 IsUnanswered kind s line end Memory = (end ≡ s) ⊎ kind.breaks_off s line end
 
 -- what comes after lines that left this state was done, whatever they gave, and what is written of it was put

@@ -6,17 +6,17 @@ use Rattle.txc_script.specs.declared.fault.Status.TheVariants.{Done, Refused, Ma
 use Rattle.txc_script.specs.declared.running.Flow.{Flow}
 use Rattle.txc_script.specs.declared.running.Flow.TheVariants.{GoesOn, Stopped}
 
--- the run stops at a malformed line, for its number and its fault
-abbrev pub IsStoppedAt : {S A R : Type 0} → ScriptKind S A R → ℕ → List ℕ → Flow → Type 0
-IsStoppedAt kind number line GoesOn = ⊥
-IsStoppedAt kind number line (Stopped malformed) =
-    (malformed.number ≡ number) × IsFaultOf kind line malformed.fault
+-- the run stops at a malformed line, for its number and its fault in this state
+abbrev pub IsStoppedAt : {S A R : Type 0} → ScriptKind S A R → S → ℕ → List ℕ → Flow → Type 0
+IsStoppedAt kind s number line GoesOn = ⊥
+IsStoppedAt kind s number line (Stopped malformed) =
+    (malformed.number ≡ number) × IsFaultOf kind s line malformed.fault
 
--- the run goes on after a line that is not malformed, and stops at a malformed one
-abbrev pub IsFlowAfter : {S A R : Type 0} → ScriptKind S A R → ℕ → List ℕ → Given A R → Flow → Type 0
-IsFlowAfter kind number line given GoesOn = is_malformed given ≡ false
-IsFlowAfter kind number line given (Stopped malformed) =
-    (is_malformed given ≡ true) × IsStoppedAt kind number line (Stopped malformed)
+-- the run goes on after a line that is not malformed, and stops at a malformed one, which leaves the state
+abbrev pub IsFlowAfter : {S A R : Type 0} → ScriptKind S A R → S → ℕ → List ℕ → Given A R → Flow → Type 0
+IsFlowAfter kind s number line given GoesOn = is_malformed given ≡ false
+IsFlowAfter kind s number line given (Stopped malformed) =
+    (is_malformed given ≡ true) × IsStoppedAt kind s number line (Stopped malformed)
 
 -- the status of a run that ends so, in which a refusal was written or none was
 abbrev pub status_after : Bool → Flow → Status

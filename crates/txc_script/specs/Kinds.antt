@@ -33,39 +33,39 @@ abbrev pub no_closing : Closing
 no_closing = record { text = []; is_refused = false }
 
 -- A kind of script, by the states that its lines find and leave, by what they ask for and by the replies: what
--- a line asks for; what it is replied in a state, and the state that it leaves; the states in which it breaks
--- off where memory is refused; what is written of a reply, and whether it holds a refusal; what is wrong with
--- the words of a line that asks for nothing; what comes after all lines, by what they gave, in the state that
--- they left; and the states in which that breaks off.
+-- a line asks for that finds a state; what it is replied, and the state that it leaves; the states in which it
+-- breaks off where memory is refused; what is written of a reply, and whether it holds a refusal; what is wrong
+-- with the words of a line that asks for nothing; what comes after all lines, by what they gave, in the state
+-- that they left; and the states in which that breaks off.
 pub record ScriptKind (S A R : Type 0) : Type 1 where
-  pub asks : List ℕ → A → Type 0
+  pub asks : S → List ℕ → A → Type 0
   pub does : S → A → R → S → Type 0
   pub breaks_off : S → List ℕ → S → Type 0
   pub text : R → List ℕ
   pub is_refused : R → Bool
-  pub is_wrong : List (List ℕ) → CommandFault → Type 0
+  pub is_wrong : S → List (List ℕ) → CommandFault → Type 0
   pub closes : S → List (Given A R) → Closing → S → Type 0
   pub breaks_at_end : S → S → Type 0
 
 -- ---- lines
 
--- a line that asks for this
-abbrev pub Asks : {S A R : Type 0} → ScriptKind S A R → List ℕ → A → Type 0
-Asks kind line asked = IsPlain line × kind.asks line asked
+-- a line that asks for this in a state
+abbrev pub Asks : {S A R : Type 0} → ScriptKind S A R → S → List ℕ → A → Type 0
+Asks kind s line asked = IsPlain line × kind.asks s line asked
 
--- a line that has a reply, and asks for nothing
-pub record IsMalformed {S A R : Type 0} (kind : ScriptKind S A R) (line : List ℕ) : Type 0 where
+-- a line that is not to be passed over, and asks for nothing in the state that it finds
+pub record IsMalformed {S A R : Type 0} (kind : ScriptKind S A R) (s : S) (line : List ℕ) : Type 0 where
   pub not_quiet : IsQuiet line → ⊥
-  pub asks_nothing : (asked : A) → Asks kind line asked → ⊥
+  pub asks_nothing : (asked : A) → Asks kind s line asked → ⊥
 
 -- What is wrong with a malformed line: there are too many bytes; else a foreign one; else an empty word; else
--- it is in its words.
-abbrev pub IsFaultOf : {S A R : Type 0} → ScriptKind S A R → List ℕ → LineFault → Type 0
-IsFaultOf kind line faults.TooLong = MAX_LINE_LEN < length line
-IsFaultOf kind line (faults.Byte at byte) =
+-- it is in its words, in the state that it finds.
+abbrev pub IsFaultOf : {S A R : Type 0} → ScriptKind S A R → S → List ℕ → LineFault → Type 0
+IsFaultOf kind s line faults.TooLong = MAX_LINE_LEN < length line
+IsFaultOf kind s line (faults.Byte at byte) =
     (length line ≤ MAX_LINE_LEN) × (position is_foreign line ≡ Some at) × (slice_index line at ≡ byte)
-IsFaultOf kind line faults.Blanks = IsPlain line × (list_any is_empty (words_of line) ≡ true)
-IsFaultOf kind line (faults.Command fault) = HasWholeWords line × kind.is_wrong (words_of line) fault
+IsFaultOf kind s line faults.Blanks = IsPlain line × (list_any is_empty (words_of line) ≡ true)
+IsFaultOf kind s line (faults.Command fault) = HasWholeWords line × kind.is_wrong s (words_of line) fault
 
 -- ---- what the lines give
 
@@ -97,8 +97,8 @@ lines_text kind given = flat_map (line_text kind) given
 -- what a line, which has this number, gives in a state, and the state that it leaves
 abbrev pub Gives : {S A R : Type 0} → ScriptKind S A R → S → ℕ → List ℕ → Given A R → S → Type 0
 Gives kind s number line Nothing next = IsQuiet line × (next ≡ s)
-Gives kind s number line (Replied asked reply) next = Asks kind line asked × kind.does s asked reply next
-Gives kind s number line (Malformed k) next = IsMalformed kind line × (k ≡ number) × (next ≡ s)
+Gives kind s number line (Replied asked reply) next = Asks kind s line asked × kind.does s asked reply next
+Gives kind s number line (Malformed k) next = IsMalformed kind s line × (k ≡ number) × (next ≡ s)
 
 -- no line is read after a malformed one
 abbrev pub GoesOn : Bool → List (List ℕ) → Type 0
@@ -135,19 +135,20 @@ abbrev pub AreFirstLines : List ℕ → Type 0 → List (List ℕ) → Type 0
 AreFirstLines read at_end lines =
     ((others : List ℕ) × BeginsWithLines read lines others) ⊎ (AreLinesOf read lines × at_end)
 
--- the last of the lines, which are counted from 1, has this number, and this is wrong with it
-abbrev pub EndInFault : {S A R : Type 0} → ScriptKind S A R → List (List ℕ) → MalformedLine → Type 0
-EndInFault kind lines malformed =
+-- the last of the lines, which are counted from 1, has this number, and this is wrong with it in this state
+abbrev pub EndInFault : {S A R : Type 0} → ScriptKind S A R → S → List (List ℕ) → MalformedLine → Type 0
+EndInFault kind s lines malformed =
     (malformed.number ≡ length lines)
     × ((before : List (List ℕ)) × (line : List ℕ) × (lines ≡ before ++ line ∷ [])
-    × IsFaultOf kind line malformed.fault)
+    × IsFaultOf kind s line malformed.fault)
 
 -- no refusal was written; or one was, and no line was malformed; or the last one was malformed, for this
--- fault
-abbrev pub IsStatusOf : {S A R : Type 0} → ScriptKind S A R → List (List ℕ) → List (Given A R) → Closing
+-- fault in the state that it found, which is the one that is left
+abbrev pub IsStatusOf : {S A R : Type 0} → ScriptKind S A R → S → List (List ℕ) → List (Given A R) → Closing
     → Status → Type 0
-IsStatusOf kind lines given closing Done = (list_any (is_refused kind) given || closing.is_refused) ≡ false
-IsStatusOf kind lines given closing Refused =
+IsStatusOf kind left lines given closing Done =
+    (list_any (is_refused kind) given || closing.is_refused) ≡ false
+IsStatusOf kind left lines given closing Refused =
     ((list_any (is_refused kind) given || closing.is_refused) ≡ true) × (list_any is_malformed given ≡ false)
-IsStatusOf kind lines given closing (statuses.Malformed malformed) =
-    (list_any is_malformed given ≡ true) × EndInFault kind lines malformed
+IsStatusOf kind left lines given closing (statuses.Malformed malformed) =
+    (list_any is_malformed given ≡ true) × EndInFault kind left lines malformed

@@ -48,7 +48,7 @@ pub record AnswersLine {S A R : Type 0} (kind : ScriptKind S A R) (s next : S) (
   pub gives : Gives kind s number line given next
   pub text : new.text.items ≡ old.text.items ++ line_text kind given
   pub refused : new.is_refused ≡ (old.is_refused || is_refused kind given)
-  pub flow_is : IsFlowAfter kind number line given flow
+  pub flow_is : IsFlowAfter kind next number line given flow
 
 -- nothing was done of what a line asks for, or it broke off
 abbrev pub MayBreakOff : {S A R : Type 0} → ScriptKind S A R → S → List ℕ → S → Type 0
@@ -79,7 +79,7 @@ pub record IsStopped {S A R : Type 0} (kind : ScriptKind S A R) (start : S) (rea
   pub whole : IsWhole read at_end lines given
   pub text : written ++ p.text ≡ lines_text kind given
   pub malformed : list_any is_malformed given ≡ true
-  pub wrong : EndInFault kind lines malformed_line
+  pub wrong : EndInFault kind p.state lines malformed_line
 
 -- lines were answered, none of them malformed, and the run broke off
 pub record IsHalted {S A R : Type 0} (kind : ScriptKind S A R) (start : S) (read : List ℕ) (at_end : Type 0)

@@ -47,7 +47,7 @@ abbrev pub HasWritten : {S A R : Type 0} → ScriptKind S A R → S → List ℕ
 HasWritten {S} {A} {R} kind start read at_end written (Ok status) left =
     (lines : List (List ℕ)) × (given : List (Given A R)) × (closing : Closing)
     × Ends kind start read at_end lines given closing left
-    × (written ≡ lines_text kind given ++ closing.text) × IsStatusOf kind lines given closing status
+    × (written ≡ lines_text kind given ++ closing.text) × IsStatusOf kind left lines given closing status
 HasWritten {S} {A} {R} kind start read at_end written (Err Read) left =
     (lines : List (List ℕ)) × (given : List (Given A R)) × (rest : List ℕ)
     × Answers kind start lines given left × BeginsWithLines read lines rest × HasNoEnd rest

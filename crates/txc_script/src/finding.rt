@@ -238,10 +238,10 @@ fn has_empty_word(line: &[u8]) -> bool
     false
 }
 
-/// What is wrong with a malformed line. Where memory is refused the answer is the same.
-pub fn find_fault<K: Script>(alloc: Global, kind: &K, line: &[u8]) -> LineFault
-    requires { IsMalformed (K.kind kind.now) line.now }
-    ensures { IsFaultOf (K.kind kind.now) line.now result }
+/// What is wrong with a line that is malformed in a state. Where memory is refused the answer is the same.
+pub fn find_fault<K: Script>(alloc: Global, kind: &K, state: &K::State, line: &[u8]) -> LineFault
+    requires { IsMalformed (K.kind kind.now) state.now line.now }
+    ensures { IsFaultOf (K.kind kind.now) state.now line.now result }
 {
     if line.len() > MAX_LINE_LEN {
         return LineFault::TooLong;
@@ -252,5 +252,5 @@ pub fn find_fault<K: Script>(alloc: Global, kind: &K, line: &[u8]) -> LineFault
     if has_empty_word(line) {
         return LineFault::Blanks;
     }
-    LineFault::Command(kind.find_fault(alloc, line))
+    LineFault::Command(kind.find_fault(alloc, state, line))
 }

@@ -39,12 +39,12 @@ pub trait Script {
         ensures refused { IfErr result (IsUnanswered (kind self.now) state.old line.now state.new) }
         ensures unchanged { OnErr result (text.new.items ≡ text.old.items) };
 
-    /// What is wrong with the words of a line that asks for nothing. Where memory is refused the answer is the
-    /// same.
-    fn find_fault(&self, alloc: Global, line: &[u8]) -> CommandFault
+    /// What is wrong with the words of a line that asks for nothing in a state. Where memory is refused the
+    /// answer is the same.
+    fn find_fault(&self, alloc: Global, state: &Self::State, line: &[u8]) -> CommandFault
         requires whole { HasWholeWords line.now }
-        requires asks_nothing { (asked : Self.Asked) → (kind self.now).asks line.now asked → ⊥ }
-        ensures { (kind self.now).is_wrong (words_of line.now) result };
+        requires asks_nothing { (asked : Self.Asked) → (kind self.now).asks state.now line.now asked → ⊥ }
+        ensures { (kind self.now).is_wrong state.now (words_of line.now) result };
 
     /// Does what comes after all lines, none of which was malformed, and puts what is written of it after the
     /// text. Returns whether that holds a refusal.

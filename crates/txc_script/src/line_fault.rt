@@ -54,6 +54,15 @@ pub enum CommandFault {
     Word(WordFault),
     /// Of a world's script: it ends before the word that names its query or its change.
     Usage(LineName),
+    /// Of a batch's script: too few words are after the command.
+    Few {
+        /// How many there are to be at least.
+        least: usize,
+        /// How many there are.
+        given: usize,
+    },
+    /// Of a batch's script: it is a change or a pin, and stands after a job.
+    AfterJob,
 }
 
 /// What is wrong with a malformed line: the first of these.
@@ -127,6 +136,13 @@ impl fmt::Display for CommandFault {
             }
             CommandFault::Word(fault) => write!(f, "{fault}"),
             CommandFault::Usage(name) => write!(f, "expected `{name}`"),
+            CommandFault::Few { least, given } => {
+                write!(
+                    f,
+                    "at least {least} words must follow the command, not {given}"
+                )
+            }
+            CommandFault::AfterJob => f.write_str("changes and pins stand before the first job"),
         }
     }
 }

@@ -63,23 +63,24 @@ impl Replies {
     }
 }
 
-/// Answers a malformed line that has this number.
+/// Answers a line that is malformed in this state, and has this number.
 #[cold]
 #[inline(never)]
 fn answer_malformed<K: Script>(
     alloc: Global,
     kind: &K,
+    state: &K::State,
     replies: &mut Replies,
     number: u64,
     line: &[u8],
 ) -> Result<Flow, AllocError>
-    requires { IsMalformed (K.kind kind.now) line.now }
-    ensures stopped { IfOk result (IsStoppedAt (K.kind kind.now) number line.now) }
+    requires { IsMalformed (K.kind kind.now) state.now line.now }
+    ensures stopped { IfOk result (IsStoppedAt (K.kind kind.now) state.now number line.now) }
     ensures text { OnOk result (replies.new.text.items ≡ replies.old.text.items ++ malformed_text number) }
     ensures refused { OnOk result (replies.new.is_refused ≡ true) }
     ensures unchanged { OnErr result (replies.new.text.items ≡ replies.old.text.items) }
 {
-    let fault = find_fault(alloc, kind, line);
+    let fault = find_fault(alloc, kind, state, line);
     replies.take_malformed(alloc, number)?;
     Ok(Flow::Stopped(MalformedLine { number, fault }))
 }
@@ -101,7 +102,7 @@ fn answer<K: Script>(
     ensures unchanged { OnErr result (replies.new.text.items ≡ replies.old.text.items) }
 {
     if !is_plain(line, known_plain) {
-        return answer_malformed(alloc, kind, replies, number, line);
+        return answer_malformed(alloc, kind, state, replies, number, line);
     }
     if is_quiet(line) {
         return Ok(Flow::GoesOn);
@@ -111,7 +112,7 @@ fn answer<K: Script>(
             replies.is_refused |= is_refused;
             Ok(Flow::GoesOn)
         }
-        Err(Unread::Malformed) => answer_malformed(alloc, kind, replies, number, line),
+        Err(Unread::Malformed) => answer_malformed(alloc, kind, state, replies, number, line),
         Err(Unread::Memory) => Err(AllocError),
     }
 }

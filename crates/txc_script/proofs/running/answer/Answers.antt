@@ -10,7 +10,7 @@ pub returns-then-not-is_plain-clause-answered : goal.returns-then-not-is_plain-c
 returns-then-not-is_plain-clause-answered g c =
     let ended = c.answer_malformed in
     malformed_answered (g.K.Script.kind c.args.kind.now) c.args.state.now c.args.state.now c.args.replies.now ended.new.replies c.args.replies.now.text.items c.args.number c.args.line.now ended.result
-    (not_plain (g.K.Script.kind c.args.kind.now) c.args.line.now (λ plain. let yes = c.is_plain.ensures.1 plain in let no = c.if-not-is_plain.true in cc)) refl refl ended.ensures.stopped ended.ensures.text ended.ensures.refused
+    (not_plain (g.K.Script.kind c.args.kind.now) c.args.state.now c.args.line.now (λ plain. let yes = c.is_plain.ensures.1 plain in let no = c.if-not-is_plain.true in cc)) refl refl ended.ensures.stopped ended.ensures.text ended.ensures.refused
 
 pub returns-in-Ok-clause-answered : goal.returns-in-Ok-clause-answered
 returns-in-Ok-clause-answered g c =
@@ -25,4 +25,4 @@ returns-in-Err-Malformed-clause-answered g c =
     let none : IsUnanswered kind c.args.state.now c.args.line.now c.answer.new.state Malformed =
     subst (IsUnanswered kind c.args.state.now c.args.line.now c.answer.new.state) c.in-Err-Malformed.field-0-is c.in-Err-Malformed.ensures.refused in
     malformed_answered kind c.args.state.now c.answer.new.state c.args.replies.now ended.new.replies c.answer.new.text.items c.args.number c.args.line.now ended.result
-    (asks_nothing kind c.args.line.now (λ quiet. let yes = c.is_quiet.ensures.1 quiet in let no = c.if-is_quiet.false in cc) none.0) none.1 c.in-Err-Malformed.ensures.unchanged ended.ensures.stopped ended.ensures.text ended.ensures.refused
+    (asks_nothing kind c.args.state.now c.args.line.now (λ quiet. let yes = c.is_quiet.ensures.1 quiet in let no = c.if-is_quiet.false in cc) none.0) none.1 c.in-Err-Malformed.ensures.unchanged ended.ensures.stopped ended.ensures.text ended.ensures.refused
