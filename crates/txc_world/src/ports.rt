@@ -67,8 +67,8 @@ impl<A: App> Ports<A> {
 
     /// The database and the pincushion; all else is dropped.
     pub(crate) fn into_parts(self) -> (DbCore, CushionCore)
-        ensures database { result.0 ≡ self.entry.database }
-        ensures cushion { result.1 ≡ self.entry.cushion }
+        ensures database { result.0 ≡ self.database }
+        ensures cushion { result.1 ≡ self.cushion }
         ensures row { result.1.events ≡ result.0.events }
     {
         let Ports {
