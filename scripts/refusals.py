@@ -23,6 +23,7 @@ LEFT_OUT = {
     "txc_db_cases pins::shared::users_and_pins_have_a_limit",
     "txc_run_cases run::a_reader_that_never_ends",
     "txc_txn_cases shared::locked::passes_have_a_limit",
+    "txc_world_cases world::a_reader_that_never_ends",
 }
 
 # A run with at most so many allocations has each refused, a longer one an evenly spaced sample.
