@@ -44,7 +44,7 @@ fn joined(alloc: Global, rows: &[Row]) -> Result<Bytes, AllocError>
     Ok(Bytes::new(text.into_bytes()))
 }
 
-fn ids(alloc: Global, answer: &Answer) -> Result<Bytes, AllocError>
+fn ids_of_answer(alloc: Global, answer: &Answer) -> Result<Bytes, AllocError>
     ensures { IfOk result (λ bytes. bytes ≡ ids_of (rows_in answer.now)) }
 {
     match answer {
@@ -84,6 +84,6 @@ impl Definition for IdsIn {
             unreachable!()
         };
         let [] = answers else { unreachable!() };
-        Ok(Ask::Done(ids(alloc, answer)?))
+        Ok(Ask::Done(ids_of_answer(alloc, answer)?))
     }
 }

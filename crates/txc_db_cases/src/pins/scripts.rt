@@ -21,7 +21,7 @@ pub(super) const SCRIPTS: [Script; 5] = [
     (TWO_PINS, FRESH),
     (TWO_PINS, NARROWED),
     (TWO_PINS, CHOSEN),
-    ("", SEVENTEEN),
+    ("", THIRTY_THREE),
 ];
 
 pub(super) const LIMITS: [Script; 2] = [("", CROWDED), ("", FULL)];
@@ -80,8 +80,8 @@ choose 90000 0 => 5
 narrow 0 4 => 4 2
 ";
 
-/// Of 17 fresh pins the 16 with the greatest stamps.
-const SEVENTEEN: &str = "pin 1000 => 1
+/// Of 33 fresh pins the 32 with the greatest stamps.
+const THIRTY_THREE: &str = "pin 1000 => 1
 add =>
 pin 1000 => 2
 add =>
@@ -115,10 +115,42 @@ pin 1000 => 16
 add =>
 pin 1000 => 17
 add =>
-fresh 1000 0 0 => 17 16 15 14 13 12 11 10 9 8 7 6 5 4 3 2
+pin 1000 => 18
+add =>
+pin 1000 => 19
+add =>
+pin 1000 => 20
+add =>
+pin 1000 => 21
+add =>
+pin 1000 => 22
+add =>
+pin 1000 => 23
+add =>
+pin 1000 => 24
+add =>
+pin 1000 => 25
+add =>
+pin 1000 => 26
+add =>
+pin 1000 => 27
+add =>
+pin 1000 => 28
+add =>
+pin 1000 => 29
+add =>
+pin 1000 => 30
+add =>
+pin 1000 => 31
+add =>
+pin 1000 => 32
+add =>
+pin 1000 => 33
+add =>
+fresh 1000 0 0 => 33 32 31 30 29 28 27 26 25 24 23 22 21 20 19 18 17 16 15 14 13 12 11 10 9 8 7 6 5 4 3 2
 give 1 1 => stamp 1 has no user to give back
-give 17 17 =>
-retire 2000 0 => 17
+give 33 33 =>
+retire 2000 0 => 33
 ";
 
 /// A pin with as many users as there may be is passed over, until one is given back.
