@@ -46,3 +46,6 @@ returns-clause-leads g c =
     (c.take_out.ensures.actor ∙ ap Some c.in-Some.is) c.put_back.new.actors.items c.args.self.now _ c.args.doing.now c.act-actor.result.1
     (c.put_back.ensures ∙ ap (λ (l : List (Option (Actor g.row.A.Denot g.row.C.Denot))). slice_set l c.args.place (Some c.act-actor.result.0)) c.take_out.ensures.after)
     c.act-actor.ensures.leads c.self.view_is refl
+
+pub note-requires : goal.note-requires
+note-requires g c = omega (arith, c.self.invariant.sessions, c.self.inside.sessions.ok.0)
