@@ -44,7 +44,7 @@ impl<A: App, C: Cacheable> Script for BatchScript<A, C> {
         find_batch_fault(alloc, state.jobs(), line)
     }
 
-    // What jobs write comes after all lines too, but a method of a kind of script may start no thread.
+    // The jobs run after it: a method of a trait may start no thread.
     fn close(
         &self,
         alloc: Global,

@@ -189,7 +189,9 @@ fn fails_so<H: Threads + Wait + Sync>(
 fn written_before(call: usize) -> &'static [u8] {
     let of_lines = ENDED[2].len();
     let flushes = usize::from(call > of_lines + 1);
-    REPLIES.get(..call.saturating_sub(1).saturating_sub(flushes)).unwrap_or(REPLIES)
+    REPLIES
+        .get(..call.saturating_sub(1).saturating_sub(flushes))
+        .unwrap_or(REPLIES)
 }
 
 /// The first read or write at whose failure a run does something else. After a failed read that is what was
