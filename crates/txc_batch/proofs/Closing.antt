@@ -1,24 +1,20 @@
 -- Lines of a batch's script are answered, and the jobs run after them.
-use Rattle.std.proofs.Common.{◌≡◌, ◌≢◌, ◌++◌, ℕ, Bool, List, Some, Vec, Result, Ok, Err, IfErr, IfOk, OnOk, refl, subst, inl, inr}
-use Rattle.std.specs.declared.alloc.AllocError.{AllocError}
+use Rattle.std.proofs.Common.{◌≡◌, ◌≢◌, List, Vec, Result, Ok, Err, IfErr, IfOk, ℕ, refl, subst, inl, inr}
 use Rattle.std.specs.declared.alloc.Global.{Global}
 use Rattle.txc_app.specs.Eval.{Next}
-use Rattle.txc_db.specs.DatabaseValue.{DatabaseValue}
-use Rattle.txc_script.specs.Answers.{IsClosed, IsUnanswered}
+use Rattle.txc_script.specs.Answers.{IsUnanswered}
 use Rattle.txc_script.specs.Unread.{IsNone}
 use Rattle.txc_script.specs.declared.unread.Unread.{Unread}
 use Rattle.txc_script.specs.declared.unread.Unread.TheVariants as reasons
 use Rattle.txc_work.specs.Batches.{job_numbers, NamesOneOf}
 use Rattle.txc_work.specs.declared.error.BatchError.{BatchError}
 use Rattle.txc_work.specs.declared.error.BatchError.TheVariants.{Missing, Twice, Memory}
-use Rattle.txc_work.specs.declared.job.Job.{Job}
 use Rattle.txc_work.specs.declared.job.Receipted.{Receipted}
 use Rattle.txc_batch.specs.BatchScripts.{batch_script}
+use Rattle.txc_batch.specs.BatchStates.{BatchState}
 use Rattle.txc_batch.specs.Orders.{AsksFor}
-use Rattle.txc_batch.specs.OutcomeTexts.{batch_text, is_refused_batch}
 use Rattle.txc_batch.specs.Preparing.{IsBrokenOff}
 use Rattle.txc_batch.specs.RunJobs.{EndsSo, HaveRun}
-use Rattle.txc_batch.specs.Stages.{spent, BatchState, StageValue}
 use Rattle.txc_batch.specs.declared.order.Order.{Order}
 use Rattle.txc_batch.specs.declared.order.Order.TheVariants.{Prepare}
 
@@ -32,28 +28,10 @@ pub broke : (next : Next) (s end : BatchState) (line : List ℕ) (order : Order)
 broke next s end line order asks (inl same) = inr (inl same)
 broke next s end line order asks (inr (task, is, led)) = inr (inr (task, subst (AsksFor s.jobs line) is asks, led))
 
-ends_so : (next : Next) (database : DatabaseValue) (functions : List ℕ) (jobs : List Job) (batch : Result (Vec Receipted Global) BatchError) → IfOk batch (λ results. HaveRun next database functions jobs results.items)
-    → IfErr batch (NamesOneOf (job_numbers jobs)) → batch ≢ Err Memory → EndsSo next database functions jobs batch
-ends_so next database functions jobs (Ok results) ran named other = ran
-ends_so next database functions jobs (Err (Missing n)) ran named other = named
-ends_so next database functions jobs (Err (Twice n)) ran named other = named
-ends_so next database functions jobs (Err Memory) ran named other = absurd (other refl)
-
--- the jobs ran, and what they came to was put after the text
-pub closed : (next : Next) (s end : BatchState) (stage : StageValue) (batch : Result (Vec Receipted Global) BatchError) (r : Result Bool AllocError) (old new : List ℕ) → s.stage ≡ Some stage → end ≡ spent
-    → IfOk batch (λ results. HaveRun next stage.world.ports.database stage.functions s.jobs results.items) → IfErr batch (NamesOneOf (job_numbers s.jobs)) → OnOk r (new ≡ old ++ batch_text batch)
-    → IfOk r (λ refused. refused ≡ is_refused_batch batch) → OnOk r (batch ≢ Err Memory) → IfOk r (IsClosed (batch_script next) s end old new)
-closed next s end stage batch (Ok refused) old new before after ran named text is other = record {
-  more = batch_text batch;
-  text = text;
-  closes = λ given none. record {
-    stage = stage;
-    batch = batch;
-    before = before;
-    ran = ends_so next stage.world.ports.database stage.functions s.jobs batch ran named other;
-    text = refl;
-    is_refused = is;
-    after = after;
-  };
-}
-closed next s end stage batch (Err e) old new before after ran named text is other = tt
+-- of the jobs there is a text, so it is not that memory was refused
+pub ends_so : (next : Next) (s : BatchState) (batch : Result (Vec Receipted Global) BatchError) → IfOk batch (λ results. HaveRun next s.world.ports.database s.functions s.jobs results.items) → IfErr batch (NamesOneOf (job_numbers s.jobs))
+    → batch ≢ Err Memory → EndsSo next s batch
+ends_so next s (Ok results) ran named other = ran
+ends_so next s (Err (Missing n)) ran named other = named
+ends_so next s (Err (Twice n)) ran named other = named
+ends_so next s (Err Memory) ran named other = absurd (other refl)

@@ -8,29 +8,22 @@ use Rattle.txc_world.specs.Worlds.{WorldValue}
 use Rattle.txc_batch.specs.BatchScripts.{Queues}
 use Rattle.txc_batch.specs.Preparing.{IsBrokenOff, IsCutOff, IsObeyed, IsPrepared}
 use Rattle.txc_batch.specs.Queueing.{QueuedValue}
-use Rattle.txc_batch.specs.Stages.{BatchState, StageValue}
+use Rattle.txc_batch.specs.BatchStates.{BatchState}
 use Rattle.txc_batch.specs.declared.order.Order.TheVariants.{Prepare, Run}
 
 -- the state with another world
-abbrev pub with_world : BatchState → StageValue → WorldValue → BatchState
-with_world s stage world = record s { stage = Some (record stage { world = world }) }
+abbrev pub with_world : BatchState → WorldValue → BatchState
+with_world s world = record s { world = world }
 
-pub prepared : (next : Next) (s : BatchState) (stage : StageValue) (world : WorldValue) (task : Task) (r : Result Bool AllocError) (old new : List ℕ) → s.stage ≡ Some stage
-    → IfOk r (IsTaskDone next stage.world task world old new) → IfOk r (IsPrepared next s task (with_world s stage world) old new)
-prepared next s stage world task (Ok refused) old new before h = record {
-  printed = h.printed;
-  led = record { stage = stage; world = world; before = before; led = h.done; after = refl };
-  text = h.text;
-  is_refused = h.is_refused;
-}
-prepared next s stage world task (Err e) old new before h = tt
+pub prepared : (next : Next) (s : BatchState) (world : WorldValue) (task : Task) (r : Result Bool AllocError) (old new : List ℕ) → IfOk r (IsTaskDone next s.world task world old new)
+    → IfOk r (IsPrepared next s task (with_world s world) old new)
+prepared next s world task (Ok refused) old new h = record { printed = h.printed; led = (world, h.done, refl); text = h.text; is_refused = h.is_refused }
+prepared next s world task (Err e) old new h = tt
 
-pub cut_off : (next : Next) (s : BatchState) (stage : StageValue) (world : WorldValue) (task : Task) (r : Result Bool AllocError) → s.stage ≡ Some stage
-    → OnErr r (IsCutShort next stage.world task world) → OnErr r (IsCutOff next s task (with_world s stage world))
-cut_off next s stage world task (Ok refused) before h = tt
-cut_off next s stage world task (Err e) before (inl same) =
-    inl (ap (λ (w : WorldValue). with_world s stage w) same ∙ ap (λ (o : Option StageValue). record s { stage = o }) (sym before))
-cut_off next s stage world task (Err e) before (inr begun) = inr (record { stage = stage; world = world; before = before; led = begun; after = refl })
+pub cut_off : (next : Next) (s : BatchState) (world : WorldValue) (task : Task) (r : Result Bool AllocError) → OnErr r (IsCutShort next s.world task world) → OnErr r (IsCutOff next s task (with_world s world))
+cut_off next s world task (Ok refused) h = tt
+cut_off next s world task (Err e) (inl same) = inl (ap (λ (w : WorldValue). with_world s w) same)
+cut_off next s world task (Err e) (inr begun) = inr (world, begun, refl)
 
 -- ---- orders
 

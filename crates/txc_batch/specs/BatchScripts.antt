@@ -1,33 +1,23 @@
--- Scripts of a batch: what their lines ask for and what they give, and the jobs that are run after them.
-use Rattle.std.specs.Prelude.{◌≡◌, ◌⊎◌, ℕ, Bool, false, List, [], ◌∷◌, ◌++◌, Option, Some, None, Result, length}
-use Rattle.std.specs.declared.alloc.Global.{Global}
-use Rattle.std.specs.declared.vec.Vec.{Vec}
+-- Scripts of a batch: what their lines ask for and what they give.
+use Rattle.std.specs.Prelude.{◌≡◌, ◌⊎◌, ℕ, Bool, false, List, [], ◌∷◌, ◌++◌, Option, Some, None, length}
 use Rattle.txc_app.specs.Eval.{Next}
-use Rattle.txc_script.specs.Kinds.{ScriptKind, Closing}
+use Rattle.txc_script.specs.Kinds.{ScriptKind, no_closing}
 use Rattle.txc_play.specs.TaskSteps.{HasBegun, IsDone}
 use Rattle.txc_play.specs.TaskTexts.{printed_text, is_refused_line}
 use Rattle.txc_play.specs.declared.printed.Printed.{Printed}
 use Rattle.txc_play.specs.declared.task.Task.{Task}
-use Rattle.txc_work.specs.declared.error.BatchError.{BatchError}
 use Rattle.txc_work.specs.declared.job.Job.{Job}
-use Rattle.txc_work.specs.declared.job.Receipted.{Receipted}
 use Rattle.txc_world.specs.Worlds.{WorldValue}
 use Rattle.txc_batch.specs.BatchFaults.{IsBatchFault}
-use Rattle.txc_batch.specs.OutcomeTexts.{batch_text, is_refused_batch}
+use Rattle.txc_batch.specs.BatchStates.{BatchState}
 use Rattle.txc_batch.specs.Orders.{AsksFor}
 use Rattle.txc_batch.specs.Queueing.{QueuedValue, IsJobOf}
-use Rattle.txc_batch.specs.RunJobs.{EndsSo}
-use Rattle.txc_batch.specs.Stages.{spent, BatchState, StageValue}
 use Rattle.txc_batch.specs.declared.order.Order.{Order}
 use Rattle.txc_batch.specs.declared.order.Order.TheVariants.{Prepare, Run}
 
 -- steps led the world of the one state to that of the other, and all else stayed
-pub record LeadsWorld (leads : WorldValue → WorldValue → Type 0) (s end : BatchState) : Type 0 where
-  pub stage : StageValue
-  pub world : WorldValue
-  pub before : s.stage ≡ Some stage
-  pub led : leads stage.world world
-  pub after : end ≡ record s { stage = Some (record stage { world = world }) }
+abbrev pub LeadsWorld : (WorldValue → WorldValue → Type 0) → BatchState → BatchState → Type 0
+LeadsWorld leads s end = (world : WorldValue) × leads s.world world × (end ≡ record s { world = world })
 
 -- the job stands behind the others, and has the number of its place among them
 pub record Queues (q : QueuedValue) (s end : BatchState) : Type 0 where
@@ -57,19 +47,8 @@ abbrev pub is_refused_order : Option Printed → Bool
 is_refused_order None = false
 is_refused_order (Some printed) = is_refused_line printed
 
--- the jobs that the lines asked for, and no others, ran over the world that the lines left; what is written is
--- what they came to, and it holds a refusal where a job was refused, or the batch
-pub record RunsJobs (next : Next) (s : BatchState) (closing : Closing) (end : BatchState) : Type 0 where
-  pub stage : StageValue
-  pub batch : Result (Vec Receipted Global) BatchError
-  pub before : s.stage ≡ Some stage
-  pub ran : EndsSo next stage.world.ports.database stage.functions s.jobs batch
-  pub text : closing.text ≡ batch_text batch
-  pub is_refused : closing.is_refused ≡ is_refused_batch batch
-  pub after : end ≡ spent
-
--- A script of a batch, whose functions compute this: its lines are changes and pins, and then jobs, which run
--- after all lines.
+-- The lines of a batch's script, whose functions compute this: changes and pins, and then jobs. No line runs a
+-- job.
 abbrev pub batch_script : Next → ScriptKind BatchState Order (Option Printed)
 batch_script next = record {
   asks = λ s. AsksFor s.jobs;
@@ -78,6 +57,6 @@ batch_script next = record {
   text = order_text;
   is_refused = is_refused_order;
   is_wrong = λ s. IsBatchFault s.jobs;
-  closes = λ s given closing end. RunsJobs next s closing end;
-  breaks_at_end = λ s end. end ≡ spent;
+  closes = λ s given closing end. (closing ≡ no_closing) × (end ≡ s);
+  breaks_at_end = λ s end. ⊥;
 }

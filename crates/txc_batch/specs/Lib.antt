@@ -1,6 +1,6 @@
 pub mod Queueing
 pub mod Crews
-pub mod Stages
+pub mod BatchStates
 pub mod Orders
 pub mod BatchFaults
 pub mod OutcomeTexts

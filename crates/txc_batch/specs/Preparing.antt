@@ -6,7 +6,7 @@ use Rattle.txc_play.specs.TaskTexts.{printed_text, is_refused_line}
 use Rattle.txc_play.specs.declared.printed.Printed.{Printed}
 use Rattle.txc_play.specs.declared.task.Task.{Task}
 use Rattle.txc_batch.specs.BatchScripts.{order_text, is_refused_order, DoesOrder, LeadsWorld}
-use Rattle.txc_batch.specs.Stages.{BatchState}
+use Rattle.txc_batch.specs.BatchStates.{BatchState}
 use Rattle.txc_batch.specs.declared.order.Order.{Order}
 use Rattle.txc_batch.specs.declared.order.Order.TheVariants.{Prepare}
 

@@ -14,6 +14,7 @@ use Rattle.txc_work.specs.declared.job.Job.{Job}
 use Rattle.txc_work.specs.declared.job.Outcome.{Outcome}
 use Rattle.txc_work.specs.declared.job.Outcome.TheVariants as outcomes
 use Rattle.txc_work.specs.declared.job.Receipted.{Receipted}
+use Rattle.txc_batch.specs.BatchStates.{BatchState}
 
 -- what a receipt shows of the history and this history agree: one of them is a prefix of the other
 abbrev pub AgreesWith : History → Outcome → Type 0
@@ -31,9 +32,10 @@ pub record HaveRun (next : Next) (database : DatabaseValue) (functions : List �
   pub met : All (IsResultOf jobs (Meets next database.events node_rows functions)) results
   pub agree : All (λ told. AgreesWith database.history told.outcome) results
 
--- the jobs ran, and have results; or one of them has none, or two; it is not that memory was refused
-abbrev pub EndsSo : Next → DatabaseValue → List ℕ → List Job → Result (Vec Receipted Global) BatchError → Type 0
-EndsSo next database functions jobs (Ok results) = HaveRun next database functions jobs results.items
-EndsSo next database functions jobs (Err (Missing number)) = Contains (job_numbers jobs) number
-EndsSo next database functions jobs (Err (Twice number)) = Contains (job_numbers jobs) number
-EndsSo next database functions jobs (Err Memory) = ⊥
+-- the jobs ran over the world, and have results; or one of them has none, or two; it is not that memory was
+-- refused
+abbrev pub EndsSo : Next → BatchState → Result (Vec Receipted Global) BatchError → Type 0
+EndsSo next s (Ok results) = HaveRun next s.world.ports.database s.functions s.jobs results.items
+EndsSo next s (Err (Missing number)) = Contains (job_numbers s.jobs) number
+EndsSo next s (Err (Twice number)) = Contains (job_numbers s.jobs) number
+EndsSo next s (Err Memory) = ⊥

@@ -1,35 +1,21 @@
-//! Scripts of a batch, whose lines are changes and pins, and then jobs, which run after all lines.
+//! The lines of a batch's script: changes and pins, and then jobs.
 ghost use Rattle.txc_batch.specs.BatchScripts.{batch_script};
 
+use crate::batch::Batch;
 use crate::finding::find_batch_fault;
 use crate::order::Order;
-use crate::outcomes::push_batch;
 use crate::reading::read_order;
-use crate::running::run_jobs;
-use crate::stage::Batch;
 use std::alloc::{AllocError, Global};
 use std::marker::PhantomData;
-use std::sync::Wait;
-use std::thread::Threads;
 use txc_app::App;
 use txc_play::Printed;
 use txc_registry::Cacheable;
 use txc_script::{CommandFault, Script, Unread};
-use txc_settings::Settings;
 
-/// A script of a batch: the runtime that its workers' threads are made by, and how the nodes are made.
-pub struct BatchScript<'a, A, C, H> {
-    pub rt: &'a H,
-    pub settings: Settings,
-    pub of: PhantomData<(A, C)>,
-}
+/// A batch's script, of which the jobs are run when all lines were answered.
+pub struct BatchScript<A, C>(pub PhantomData<(A, C)>);
 
-impl<'a, A, C, H> Script for BatchScript<'a, A, C, H>
-where
-    A: App + Send + Sync,
-    C: Cacheable + Send,
-    H: Threads + Wait + Sync,
-{
+impl<A: App, C: Cacheable> Script for BatchScript<A, C> {
     type State = Batch<A, C>;
 
     type Asked = Order;
@@ -58,17 +44,13 @@ where
         find_batch_fault(alloc, state.jobs(), line)
     }
 
+    // The jobs run after it: a method of a trait may start no thread.
     fn close(
         &self,
         alloc: Global,
         state: &mut Batch<A, C>,
         text: &mut Vec<u8>,
     ) -> Result<bool, AllocError> {
-        let (stage, jobs) = state.take(alloc);
-        let Some(stage) = stage else {
-            return Err(AllocError);
-        };
-        let batch = run_jobs(self.rt, alloc, self.settings, stage, jobs);
-        push_batch(alloc, text, &batch)
+        Ok(false)
     }
 }

@@ -8,7 +8,7 @@ ghost use Rattle.txc_batch.specs.Crews.{numbers_in, IsCrew};
 ghost use Rattle.txc_batch.specs.RunJobs.{AgreesWith, HaveRun};
 ghost use Rattle.txc_batch.specs.Rows.{AreRowsOf, IsOfRow};
 
-use crate::stage::Stage;
+use crate::batch::Batch;
 use std::alloc::{AllocError, Global};
 use std::marker::Brand;
 use std::sync::Wait;
@@ -173,24 +173,23 @@ where
     Ok(results)
 }
 
-/// Runs the jobs over the database and the pincushion of a world, each once, by one of the workers. Out of memory
-/// no job was run.
+/// Runs the jobs over the database and the pincushion of the world, each once, by one of the workers. Out of
+/// memory no job was run.
 pub fn run_jobs<A, C, H>(
     rt: &H,
     alloc: Global,
     settings: Settings,
-    stage: Stage<A, C>,
-    jobs: Vec<Job>,
+    batch: Batch<A, C>,
 ) -> Result<Vec<Receipted>, BatchError>
 where
     A: App + Send + Sync,
     C: Cacheable + Send,
     H: Threads + Wait + Sync,
-    ensures ran { IfOk result (λ results. HaveRun A.next stage.world.ports.database stage.functions jobs.items
+    ensures ran { IfOk result (λ results. HaveRun A.next batch.world.ports.database batch.functions batch.jobs
         results.items) }
-    ensures named { IfErr result (NamesOneOf (job_numbers jobs.items)) }
+    ensures named { IfErr result (NamesOneOf (job_numbers batch.jobs)) }
 {
-    let Stage { world, crew } = stage;
+    let Batch { world, crew, jobs } = batch;
     let (database, cushion) = world.into_parts();
     let Ok(rows) = node_rows(alloc, settings.nodes, settings.row_cap) else {
         return Err(BatchError::Memory);

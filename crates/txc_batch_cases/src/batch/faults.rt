@@ -39,8 +39,8 @@ static FAULTS: [(&str, &str); 15] = [
         "line 1: word 4 after the command: expected a key such as `f1(2,3)`, found `f1(02)`, wrong at byte 5",
     ),
     (
-        "job 1000 0 f0(7) f1(2) f32()",
-        "line 1: word 5 after the command: expected a key such as `f1(2,3)`, found `f32()`, wrong at byte 3",
+        "job 1000 0 f0(7) f1(2) f64()",
+        "line 1: word 5 after the command: expected a key such as `f1(2,3)`, found `f64()`, wrong at byte 3",
     ),
     (
         "job 1000 0  f0(7)",

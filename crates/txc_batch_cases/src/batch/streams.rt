@@ -184,6 +184,16 @@ fn fails_so<H: Threads + Wait + Sync>(
     false
 }
 
+/// What is written where this call of the writer fails: it takes the replies to the lines byte by byte, is
+/// flushed, takes what the jobs came to, and is flushed again.
+fn written_before(call: usize) -> &'static [u8] {
+    let of_lines = ENDED[2].len();
+    let flushes = usize::from(call > of_lines + 1);
+    REPLIES
+        .get(..call.saturating_sub(1).saturating_sub(flushes))
+        .unwrap_or(REPLIES)
+}
+
 /// The first read or write at whose failure a run does something else. After a failed read that is what was
 /// written of the lines that had ended; no job is run then.
 pub fn other_stream<H: Threads + Wait + Sync>(rt: &H, alloc: Global) -> Option<usize> {
@@ -194,9 +204,8 @@ pub fn other_stream<H: Threads + Wait + Sync>(rt: &H, alloc: Global) -> Option<u
             return Some(read);
         }
     }
-    for write in 1..REPLIES.len().saturating_add(2) {
-        let replies = REPLIES.get(..write.saturating_sub(1)).unwrap_or(REPLIES);
-        if !fails_so(rt, alloc, 0, write, replies, 4) {
+    for write in 1..REPLIES.len().saturating_add(3) {
+        if !fails_so(rt, alloc, 0, write, written_before(write), 4) {
             return Some(write);
         }
     }

@@ -1,14 +1,13 @@
-//! What the lines of a batch's script find and leave: a world, and the jobs that are to be run.
-ghost use Rattle.std.specs.Prelude.{◌≡◌, Some, IfOk, OnOk, OnErr};
-ghost use Rattle.txc_batch.specs.BatchScripts.{LeadsWorld, Queues};
+//! What the lines of a batch's script find and leave: a world, and the jobs that are to be run over it.
+ghost use Rattle.std.specs.Prelude.{◌≡◌, IfOk, OnOk, OnErr};
+ghost use Rattle.txc_batch.specs.BatchScripts.{Queues};
+ghost use Rattle.txc_batch.specs.BatchStates.{begun};
 ghost use Rattle.txc_batch.specs.Crews.{numbers_in, IsCrew};
 ghost use Rattle.txc_batch.specs.Preparing.{IsBrokenOff, IsCutOff, IsObeyed, IsPrepared};
-ghost use Rattle.txc_batch.specs.Stages.{begun, spent};
 
 use crate::order::{Order, Queued};
 use std::alloc::{AllocError, Global};
 use std::marker::Model;
-use std::mem;
 use txc_app::App;
 use txc_play::{Task, do_task};
 use txc_ports::Bounds;
@@ -17,38 +16,26 @@ use txc_stamp::Stamp;
 use txc_work::Job;
 use txc_world::World;
 
-/// What jobs are to run over: a world, for its database and its pincushion, and the functions of each worker.
-#[derive(Drop)]
-pub struct Stage<A: App, C: Cacheable> {
-    pub(crate) world: World<A, C>,
-    pub(crate) crew: Vec<Registry<A, C>>,
-}
-
-impl<A: App, C: Cacheable> Model for Stage<A, C> {
-    ghost use Rattle.txc_batch.specs.Crews.{numbers_in, IsCrew};
-    ghost use Rattle.txc_batch.specs.Stages.{StageValue};
-
-    ghost Value = { StageValue };
-
-    ghost view = { λ s. record { world = s.world; functions = numbers_in s.crew.items } };
-
-    ghost invariant = { λ s. IsCrew s.crew.items };
-}
-
 /// What jobs are to run over, and the jobs.
 #[derive(Drop)]
 pub struct Batch<A: App, C: Cacheable> {
-    // None once the jobs have run.
-    stage: Option<Stage<A, C>>,
-    jobs: Vec<Job>,
+    /// It is there for its database and its pincushion.
+    pub(crate) world: World<A, C>,
+    /// The functions of each worker.
+    pub(crate) crew: Vec<Registry<A, C>>,
+    /// In the order of their lines.
+    pub(crate) jobs: Vec<Job>,
 }
 
 impl<A: App, C: Cacheable> Model for Batch<A, C> {
-    ghost use Rattle.txc_batch.specs.Stages.{BatchState};
+    ghost use Rattle.txc_batch.specs.BatchStates.{BatchState};
+    ghost use Rattle.txc_batch.specs.Crews.{numbers_in, IsCrew};
 
     ghost Value = { BatchState };
 
-    ghost view = { λ b. record { stage = b.stage; jobs = b.jobs.items } };
+    ghost view = { λ b. record { world = b.world; functions = numbers_in b.crew.items; jobs = b.jobs.items } };
+
+    ghost invariant = { λ b. IsCrew b.crew.items };
 }
 
 impl<A: App, C: Cacheable> Batch<A, C> {
@@ -58,7 +45,8 @@ impl<A: App, C: Cacheable> Batch<A, C> {
         ensures { result ≡ begun world (numbers_in crew.items) }
     {
         Batch {
-            stage: Some(Stage { world, crew }),
+            world,
+            crew,
             jobs: Vec::new(alloc),
         }
     }
@@ -77,12 +65,7 @@ impl<A: App, C: Cacheable> Batch<A, C> {
         ensures broke { OnErr result (IsCutOff A.next self.old task self.new) }
         ensures unchanged { OnErr result (text.new.items ≡ text.old.items) }
     {
-        let Some(mut stage) = mem::replace(&mut self.stage, None) else {
-            return Err(AllocError);
-        };
-        let done = do_task(alloc, &mut stage.world, task, text);
-        self.stage = Some(stage);
-        done
+        do_task(alloc, &mut self.world, task, text)
     }
 
     /// Puts a job behind the others.
@@ -130,16 +113,5 @@ impl<A: App, C: Cacheable> Batch<A, C> {
                 Ok(false)
             }
         }
-    }
-
-    /// Takes all out of it: what the jobs are to run over, and the jobs.
-    pub fn take(&mut self, alloc: Global) -> (Option<Stage<A, C>>, Vec<Job>)
-        ensures stage { result.0 ≡ self.old.stage }
-        ensures jobs { result.1.items ≡ self.old.jobs }
-        ensures spent { self.new ≡ spent }
-    {
-        let stage = mem::replace(&mut self.stage, None);
-        let jobs = mem::replace(&mut self.jobs, Vec::new(alloc));
-        (stage, jobs)
     }
 }

@@ -2,7 +2,7 @@ use Rattle.std.proofs.Common.{IfOk, OnErr, false, refl, sym, subst}
 use Rattle.txc_batch.specs.Preparing.{IsBrokenOff, IsObeyed}
 use Rattle.txc_batch.specs.declared.order.Order.{Order}
 use Rattle.txc_batch.proofs.Preparing.{cut_order, prepared_order, queued_order}
-use Rattle.txc_batch.proofs.stage.Batch.obey.Goals as goal
+use Rattle.txc_batch.proofs.batch.Batch.obey.Goals as goal
 
 pub returns-in-Prepare-clause-after : goal.returns-in-Prepare-clause-after
 returns-in-Prepare-clause-after g c =
