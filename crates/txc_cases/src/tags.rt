@@ -100,26 +100,27 @@ u32 1  = none
 Keys are refused where they go wrong, and a function before its arguments
 key f0() = f0()
 key f3(1,2) = f3(1,2)
-key f31(0,1,20,4294967295) = f31(0,1,20,4294967295)
+key f63(0,1,20,4294967295) = f63(0,1,20,4294967295)
 key  = no text of a key: it goes wrong after 0 bytes
 key f1(1,2,3,4,5) = no text of a key: it goes wrong after 10 bytes
-key f32() = no text of a key: it goes wrong after 2 bytes
+key f64() = no text of a key: it goes wrong after 2 bytes
 key f1(02) = no text of a key: it goes wrong after 4 bytes
 key f1(1,) = no text of a key: it goes wrong after 5 bytes
 key f1(,1) = no text of a key: it goes wrong after 3 bytes
 key f1(1 = no text of a key: it goes wrong after 4 bytes
 key f1()x = no text of a key: it goes wrong after 4 bytes
 key f1(4294967296) = no text of a key: it goes wrong after 12 bytes
-new_key 32 5 = there is no function 32
-new_key 31 5 = a call has at most 4 arguments
-new_key 31 4 = f31(1,2,3,4)
+new_key 64 0 = there is no function 64
+new_key 64 5 = there is no function 64
+new_key 63 5 = a call has at most 4 arguments
+new_key 63 4 = f63(1,2,3,4)
 new_key 0 0 = f0()
-same_key f31(1,2,3,4) f31(1,2,3,4) = true
-same_key f31(1,2,3,4) f31(1,2,3) = false
-same_key f31(1,2,3,4) f30(1,2,3,4) = false
-node_of f31(1,2,3,4) 4 = 1
+same_key f63(1,2,3,4) f63(1,2,3,4) = true
+same_key f63(1,2,3,4) f63(1,2,3) = false
+same_key f63(1,2,3,4) f62(1,2,3,4) = false
+node_of f63(1,2,3,4) 4 = 1
 node_of f0() 4 = 0
-node_of f31(4294967295,4294967295) 7 = 2
+node_of f63(4294967295,4294967295) 7 = 6
 
 Tags are read up to where they go wrong
 id 15 4294967295 = t15:id=4294967295

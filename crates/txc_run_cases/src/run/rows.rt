@@ -248,7 +248,7 @@ pub const ROWS: [(&str, &str, &str, &str, &str); 29] = [
     (
         "a function past the last",
         "",
-        "lookup f32() 0 1\n",
+        "lookup f64() 0 1\n",
         "line 1: malformed\n",
         "1",
     ),
@@ -344,13 +344,13 @@ pub const REPORTS: [(&str, &str, &str, &str, &str); 8] = [
     (
         "functions stand in the order in which they are first named",
         "",
-        "lookup f30() 0 9\n\
+        "lookup f63() 0 9\n\
          insert f2(1) 0 0 still - -\n\
          lookup f1() 0 0\n\
          lookup f2(1) 0 0\n\
-         lookup f30() 0 0\n\
+         lookup f63() 0 0\n\
          insert f2(1) 0 0 still - -\n",
-        "f30 lookups 2 hits 0 stored 0 kept 0 evicted 0\n\
+        "f63 lookups 2 hits 0 stored 0 kept 0 evicted 0\n\
          f2 lookups 1 hits 1 stored 1 kept 1 evicted 0\n\
          f1 lookups 1 hits 0 stored 0 kept 0 evicted 0\n\
          total events 0 closed 0 swept 0\n",
