@@ -19,7 +19,7 @@ pub const REPLIES: &str = "stored [0,1) still\n\
     hit [0,2) closed 0a\n";
 
 /// What is shown, the settings, the script, the replies, and the status of the program.
-pub const ROWS: [(&str, &str, &str, &str, &str); 29] = [
+pub const ROWS: [(&str, &str, &str, &str, &str); 30] = [
     ("an empty script", "", "", "", "0"),
     (
         "a carriage return in a comment",
