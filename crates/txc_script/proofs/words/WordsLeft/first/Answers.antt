@@ -1,4 +1,4 @@
-use Rattle.std.proofs.Common.{length, sym, arith}
+use Rattle.std.proofs.Common.{sym, arith}
 use Rattle.std.proofs.lemmas.List.{take-take}
 use Rattle.txc_script.specs.Words.{words_of}
 use Rattle.txc_script.proofs.Blanks.{taken_few}
