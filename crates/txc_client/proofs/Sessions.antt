@@ -28,11 +28,7 @@ at_least_explained next L bounds (Some pin) answers h = h.1.allowed.late
 -- the shorter of two beginnings is a beginning of the longer one
 take_longer : {A : Type 0} (xs : List A) (m n : ℕ) → m ≤ n → IsPrefix (take m xs) (take n xs)
 take_longer xs zero n below = (take n xs, refl)
-take_longer [] (suc m) n below = rw (take_none n) ([], refl)
-  where
-    take_none : (k : ℕ) → take k [] ≡ []
-    take_none zero = refl
-    take_none (suc k) = refl
+take_longer [] (suc m) n below = (take n [], refl)
 take_longer (x ∷ xs) (suc m) zero below = absurd (omega (arith, below))
 take_longer (x ∷ xs) (suc m) (suc n) below =
     let rest = take_longer xs m n (omega (arith, below)) in (rest.0, ap (λ (l : List _). x ∷ l) rest.1)

@@ -83,7 +83,7 @@ step_raises told (Keeper keep) reply place = omega arith
 
 -- ---- one after another
 
-told_through : Told → List (Step × Reply) → Told
+abbrev pub told_through : Told → List (Step × Reply) → Told
 told_through told [] = told
 told_through told (x ∷ xs) = told_through (after told x.0 x.1) xs
 
@@ -175,13 +175,13 @@ before_low next told (x ∷ xs) place most has h low =
 -- ---- what an actor reads
 
 -- a read-only transaction that the actor has open begins where this holds of the least stamp that it may read
-ReadsFrom : (ℕ → Type 0) → Story → Type 0
+abbrev pub ReadsFrom : (ℕ → Type 0) → Story → Type 0
 ReadsFrom P idle = Unit {0}
 ReadsFrom P (reading r) = P r.bounds.at_least
 ReadsFrom P (writing w) = Unit {0}
 ReadsFrom P (leaving stamp) = Unit {0}
 
-NotBegun : Reply → Type 0
+abbrev pub NotBegun : Reply → Type 0
 NotBegun replies.Begun = ⊥
 NotBegun reply = Unit {0}
 
@@ -502,35 +502,35 @@ module _ (next : Next) (L : History) (told : Told) (place : ℕ) where
 
   told_none : (most : ℕ) (step : Step) (reply : Reply) → IsExplainedIn next L told step reply → (Reads (λ n. ⊥) place (after told step reply) → ⊥)
       → ToldAtMost place most step reply
-  told_none most (Keeper keep) reply h no = tt
-  told_none most (BeginIn at now staleness) reply h no = tt
-  told_none most (Actor at (BeginRo bounds)) reply h no = tt
-  told_none most (Actor at BeginRw) reply h no = tt
-  told_none most (Actor at (Start key)) reply h no = tt
-  told_none most (Actor at Request) reply h no = tt
-  told_none most (Actor at (Ask query)) reply h no = tt
-  told_none most (Actor at (Write change)) reply h no = tt
-  told_none most (Actor at Abort) reply h no = tt
-  told_none most (Actor at Commit) replies.Begun h no = tt
-  told_none most (Actor at Commit) (replies.Based base) h no = tt
-  told_none most (Actor at Commit) replies.Started h no = tt
-  told_none most (Actor at Commit) (replies.Asked did end) h no = tt
-  told_none most (Actor at Commit) (replies.Ended end) h no = tt
-  told_none most (Actor at Commit) (replies.Answered rows) h no = tt
-  told_none most (Actor at Commit) replies.Kept h no = tt
-  told_none most (Actor at Commit) (replies.Receipt None) h no = tt
-  told_none most (Actor at Commit) (replies.Receipt (Some pin)) h no = λ same. absurd (no (receipt_ends at (Some pin) same h))
-  told_none most (Actor at Commit) (replies.Aborted left) h no = tt
-  told_none most (Actor at Commit) (replies.At stamp) h no = λ same. absurd (no (commit_ends at stamp same h))
-  told_none most (Actor at Commit) replies.Added h no = tt
-  told_none most (Actor at Commit) replies.GivenBack h no = tt
-  told_none most (Actor at Commit) (replies.Retired stamps) h no = tt
-  told_none most (Actor at Commit) replies.Unpinned h no = tt
-  told_none most (Actor at Commit) (replies.Vacuumed horizon) h no = tt
-  told_none most (Actor at Commit) (replies.Rows found) h no = tt
-  told_none most (Actor at Commit) (replies.Advanced advanced) h no = tt
-  told_none most (Actor at Commit) (replies.Swept count) h no = tt
-  told_none most (Actor at Commit) (replies.Refused refusal) h no = tt
+  told_none most (Keeper keep) reply h ends = tt
+  told_none most (BeginIn at now staleness) reply h ends = tt
+  told_none most (Actor at (BeginRo bounds)) reply h ends = tt
+  told_none most (Actor at BeginRw) reply h ends = tt
+  told_none most (Actor at (Start key)) reply h ends = tt
+  told_none most (Actor at Request) reply h ends = tt
+  told_none most (Actor at (Ask query)) reply h ends = tt
+  told_none most (Actor at (Write change)) reply h ends = tt
+  told_none most (Actor at Abort) reply h ends = tt
+  told_none most (Actor at Commit) replies.Begun h ends = tt
+  told_none most (Actor at Commit) (replies.Based base) h ends = tt
+  told_none most (Actor at Commit) replies.Started h ends = tt
+  told_none most (Actor at Commit) (replies.Asked did end) h ends = tt
+  told_none most (Actor at Commit) (replies.Ended end) h ends = tt
+  told_none most (Actor at Commit) (replies.Answered rows) h ends = tt
+  told_none most (Actor at Commit) replies.Kept h ends = tt
+  told_none most (Actor at Commit) (replies.Receipt None) h ends = tt
+  told_none most (Actor at Commit) (replies.Receipt (Some pin)) h ends = λ same. absurd (ends (receipt_ends at (Some pin) same h))
+  told_none most (Actor at Commit) (replies.Aborted left) h ends = tt
+  told_none most (Actor at Commit) (replies.At stamp) h ends = λ same. absurd (ends (commit_ends at stamp same h))
+  told_none most (Actor at Commit) replies.Added h ends = tt
+  told_none most (Actor at Commit) replies.GivenBack h ends = tt
+  told_none most (Actor at Commit) (replies.Retired stamps) h ends = tt
+  told_none most (Actor at Commit) replies.Unpinned h ends = tt
+  told_none most (Actor at Commit) (replies.Vacuumed horizon) h ends = tt
+  told_none most (Actor at Commit) (replies.Rows found) h ends = tt
+  told_none most (Actor at Commit) (replies.Advanced advanced) h ends = tt
+  told_none most (Actor at Commit) (replies.Swept count) h ends = tt
+  told_none most (Actor at Commit) (replies.Refused refusal) h ends = tt
 
 -- a transaction that is committed has been open since it began
 between_low : (next : Next) (L : History) (told : Told) (xs : List (Step × Reply)) (place : ℕ) (pin : Pin) → HaveBegunNone place xs → AreExplainedThrough next told xs

@@ -1,4 +1,4 @@
-use Rattle.std.proofs.Common.{Option, List, Some, refl, ap, ◌∙◌, slice_set}
+use Rattle.std.proofs.Common.{Option, List, Some, refl, ap, ◌∙◌, slice_set, arith}
 use Rattle.txc_world.specs.declared.actor.Actor.{Actor}
 use Rattle.txc_world.specs.Worlds.{WorldValue}
 use Rattle.txc_world.proofs.Balancing.{world_balanced}

@@ -1,4 +1,4 @@
-use Rattle.std.proofs.Common.{refl, sym, ◌∙◌, ap, length, Some}
+use Rattle.std.proofs.Common.{ℕ, refl, sym, ◌∙◌, ap, length, Some}
 use Rattle.std.proofs.lemmas.List.{length-map}
 use Rattle.std.proofs.lemmas.Simd.{map-map}
 use Rattle.std.proofs.lemmas.List.Elements.{All-map}
@@ -14,7 +14,7 @@ invariant_of-result g c = record {
   nodes = c.in_ok-ports.ensures.new.count;
   some = c.requires.nodes;
   passes = ap length c.in_ok-actors.ensures ∙ length-map c.args.registries.items (λ r. Some (Idle r)) ∙ sym (c.len.ensures ∙ c.args.registries.ok.0) ∙ sym c.in_ok-ports.ensures.new.actors_are;
-  sessions = ap length c.in_ok-sessions.ensures ∙ length-map c.args.registries.items (λ r. 0)
+  sessions = ap length c.in_ok-sessions.ensures ∙ length-map {B = ℕ} c.deref.result.now (λ r. 0) ∙ ap length c.deref.ensures.value
       ∙ sym (ap length c.in_ok-actors.ensures ∙ length-map c.args.registries.items (λ r. Some (Idle r)));
   there = rw c.in_ok-actors.ensures (All-map (IsThere g.A.App.next (whole_of c.in_ok-ports.ports) c.args.settings.nodes) (λ r. Some (Idle r)) c.args.registries.items c.requires.all_idle);
 }
