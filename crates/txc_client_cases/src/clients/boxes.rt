@@ -16,7 +16,7 @@ use txc_app::App;
 use txc_client::Client;
 use txc_cushion::Pincushion;
 use txc_db::{Database, DbCore, Naming};
-use txc_functions::{Again, BodiesAndBody, BodiesIn, BodyAt, Function, IdsIn, Itself, Program};
+use txc_functions::{Again, BodiesAndBody, BodiesIn, BodyAt, Function, Itself, Program};
 use txc_node::Record;
 use txc_permits::PermitPool;
 use txc_players::{is_played, room};
@@ -150,8 +150,6 @@ fn started<R: Threads + Wait + Sync>(
     enlist::<Program, Boxed>(&mut one, Box::new(alloc, itself)?)?;
     let again = Function::new(alloc, pool.share()?, Again);
     enlist::<Program, Boxed>(&mut one, Box::new(alloc, again)?)?;
-    let ids_in = Function::new(alloc, pool.share()?, IdsIn);
-    enlist::<Program, Boxed>(&mut one, Box::new(alloc, ids_in)?)?;
     let mut other: Vec<Boxed> = Vec::new(alloc);
     let body_at = Function::new(alloc, pool.share()?, BodyAt);
     enlist::<Program, Boxed>(&mut other, Box::new(alloc, body_at)?)?;

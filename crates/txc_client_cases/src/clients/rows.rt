@@ -61,7 +61,6 @@ pin 2000 => 4
 ro 0 8000 7000 0: pins, f0(9), pins, commit => pins * 4 2; -; pins 5 4 2; receipt 5 8000
 ro 0 7000 6000 0: pins, f0(8), pins, commit => pins * 5 4 2; 62; pins 5 4; receipt 5 8000
 page 7000 6000 0 f1(2) f0(7) => 612c62 61 receipt 5 8000
-page 7000 6000 0 f6(7,9) f6(8,7) => 372c38 - receipt 5 8000
 page 7000 6000 0 f4() f0(7) => function 4 may not call function 4
 ";
 
