@@ -8,3 +8,4 @@ pub mod Runs
 pub mod Idle
 pub mod Standing
 pub mod Called
+pub mod Sessions

@@ -2,3 +2,4 @@ pub mod Ports
 pub mod Txn
 pub mod Run
 pub mod Laws
+pub mod Sessions

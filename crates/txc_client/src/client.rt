@@ -1,5 +1,6 @@
 //! Clients, and the beginning of their transactions.
-ghost use Rattle.std.specs.Prelude.{◌≡◌, ◌≤◌, ◌<◌, ◌⊎◌, [], get_or, true, All, Any, IfErr, IfOk, length, map};
+ghost use Rattle.std.specs.Prelude.{◌≡◌, ◌≤◌, ◌<◌, ◌⊎◌, ◌↔◌, [], get_or, slice_get, true, All, Any, IfErr, IfOk, IfSome, IsSome, MatchOption, None, length, map};
+ghost use Rattle.txc_node.specs.Counts.{AreCountsOf};
 ghost use Rattle.txc_cushion.specs.Cushion.{front_of, handed_out};
 ghost use Rattle.txc_cushion.specs.Shared.{MayAnswer};
 ghost use Rattle.txc_registry.specs.Objects.{AllIdle};
@@ -18,10 +19,11 @@ use std::sync::Wait;
 use txc_app::App;
 use txc_cushion::{Pincushion, Pins};
 use txc_db::{Database, Naming};
+use txc_node::Counts;
 use txc_ports::Bounds;
 use txc_registry::{Cacheable, Registry};
-use txc_shared::{NodeError, NodePass, SharedNode};
-use txc_txn::{RunningTxn, TxnCore};
+use txc_shared::{NodeError, NodePass, SharedNode, audit};
+use txc_txn::{RunningTxn, Session, TxnCore};
 
 /// A client of a database, its pincushion and its nodes, with the functions that it calls, all idle.
 ///
@@ -124,6 +126,37 @@ impl<'a, A: App, C: Cacheable, J: Naming> Client<'a, A, C, J> {
         }
     }
 
+    /// Begins a transaction in a session: one that reads nothing older than the session's floor. The session
+    /// is one that was used with this database alone.
+    pub fn begin_in(
+        self,
+        rt: &impl Wait,
+        alloc: Global,
+        session: &Session,
+        now: u64,
+        staleness: u64,
+    ) -> Result<RoTxn<'a, A, C, J>, (AllocError, Client<'a, A, C, J>)>
+        ensures bounds { IfOk result (λ txn. txn.txn.core.bounds
+            ≡ record { now = now; staleness = staleness; at_least = session.now }) }
+        ensures recorded { IfOk result (λ txn. txn.txn.core.recorded ≡ []) }
+        ensures meant { IfOk result (λ txn. IsKept A.next txn.txn) }
+        ensures members { IfOk result (MayAnswer J.database_row (λ c txn. (txn.txn.core.seen ≡ front_of c)
+            × (txn.txn.core.pins.members ≡ handed_out c now staleness session.now))) }
+        ensures taken { IfOk result (λ txn. txn.txn.core.taken
+            ≡ map (λ pin. pin.stamp) txn.txn.core.pins.members) }
+        ensures present { IfOk result (λ txn. txn.txn.core.pins.has_present ≡ true) }
+        ensures row { IfOk result (λ txn. txn.txn.core.seen.events ≡ J.database_row) }
+        ensures client { IfOk result (λ txn. client_of txn ≡ self.entry) }
+        ensures handed_back { IfErr result (λ e. e.1 ≡ self.entry) }
+    {
+        let bounds = Bounds {
+            now,
+            staleness,
+            at_least: session.floor(),
+        };
+        self.begin_ro(rt, alloc, bounds)
+    }
+
     /// How many nodes there are.
     pub fn node_count(&self) -> usize
         ensures answer { result ≡ length self.now.passes }
@@ -138,6 +171,19 @@ impl<'a, A: App, C: Cacheable, J: Naming> Client<'a, A, C, J> {
         ensures { result.now ≡ get_or self.now.passes node result.now }
     {
         self.ports.pass(node)
+    }
+
+    /// The counts of what its pass through a node has seen; none where there is no such node. It takes no lock
+    /// and no memory.
+    pub fn counts(&self, node: usize) -> Option<Counts>
+        ensures answer { MatchOption (slice_get self.now.passes node) (result ≡ None)
+            (λ pass. IfSome result (AreCountsOf pass.records)) }
+        ensures only_if { IsSome result ↔ (node < length self.now.passes) }
+    {
+        if node >= self.ports.len() {
+            return None;
+        }
+        Some(audit(self.ports.pass(node)))
     }
 }
 

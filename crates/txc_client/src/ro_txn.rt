@@ -5,6 +5,7 @@ ghost use Rattle.txc_registry.specs.Objects.{activity_of, AllIdle};
 ghost use Rattle.txc_call.specs.declared.error.CallError.TheVariants.{NoFunction};
 ghost use Rattle.txc_txn.specs.Core.{receipt_pin, Explains, KeepsSettings};
 ghost use Rattle.txc_txn.specs.Kept.{IsKept};
+ghost use Rattle.txc_txn.specs.Sessions.{IsAtLeast};
 ghost use Rattle.txc_client.specs.Ports.{HaveGrown};
 ghost use Rattle.txc_client.specs.Run.{turn_of, HasRun};
 ghost use Rattle.txc_client.specs.Txn.{client_of, IsValueOf};
@@ -114,14 +115,15 @@ impl<'a, A: App, C: Cacheable, J: Naming> RoTxn<'a, A, C, J> {
         self.txn.is_kept();
     }
 
-    /// Ends the transaction, and returns what explains its answers, and the client. It can't be refused, and
-    /// takes no memory.
+    /// Ends the transaction, and returns what explains its answers, and the client. Its pin, where it has one,
+    /// is not below the stamp that the bounds name. It can't be refused, and takes no memory.
     pub fn commit(self, rt: &impl Wait) -> (Receipt, Client<'a, A, C, J>)
         ensures answers { result.0.answers.items ≡ self.entry.txn.core.recorded }
         ensures pin { result.0.pin
             ≡ receipt_pin self.entry.txn.core.recorded self.entry.txn.core.pins.members }
         ensures explained { Explains A.next result.0.seen.history self.entry.txn.core.bounds result.0.pin
             result.0.answers.items }
+        ensures not_before { IsAtLeast self.entry.txn.core.bounds.at_least result.0.pin }
         ensures seen { result.0.seen ≡ self.entry.txn.core.seen }
         ensures row { result.0.seen.events ≡ J.database_row }
         ensures client { result.1 ≡ client_of self.entry }

@@ -3,3 +3,4 @@ pub mod Meanings
 pub mod Cores
 pub mod Worked
 pub mod Offered
+pub mod Sessions

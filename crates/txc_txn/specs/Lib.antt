@@ -4,3 +4,4 @@ pub mod Core
 pub mod Leading
 pub mod Kept
 pub mod Worked
+pub mod Sessions

@@ -37,9 +37,9 @@ module _ {A C X : Type 0} (start : X → Option (Actor A C)) (starts : (x : X) �
       let rest = none_have count none xs in
       omega (arith, all, first, rest, none)
 
-  pub new_balanced : (settings : WorldSettings) (ports : PortsValue) (actors : List (Option (Actor A C))) (xs : List X)
-      → ports.database.holds ≡ [] → ports.cushion.entries ≡ [] → ports.spare ≡ [] → actors ≡ map start xs → IsBalanced (value_of settings ports actors) empty_purse
-  new_balanced settings ports actors xs holds entries spare is = rw (holds, entries, spare, is) (record {
+  pub new_balanced : (settings : WorldSettings) (ports : PortsValue) (floors : List ℕ) (actors : List (Option (Actor A C))) (xs : List X)
+      → ports.database.holds ≡ [] → ports.cushion.entries ≡ [] → ports.spare ≡ [] → actors ≡ map start xs → IsBalanced (value_of settings ports floors actors) empty_purse
+  new_balanced settings ports floors actors xs holds entries spare is = rw (holds, entries, spare, is) (record {
     held = λ t. let none = none_have (λ (a : Account). times t a.own) refl xs in omega (arith, none);
     used = λ t. let none = none_have (λ (a : Account). times t a.taken) refl xs in omega (arith, none);
   })
@@ -134,7 +134,7 @@ module _ (old new : PortsValue) (accounts : List Account) (place : ℕ) (before 
   loses_nothing (replies.Refused (refusals.Transaction txns.BufferFull)) right h counts = tt
   loses_nothing (replies.Refused (refusals.Transaction txns.Memory)) right h counts = tt
 
-module _ {A C : Type 0} (settings : WorldSettings) (old new : PortsValue) (actors : List (Option (Actor A C))) (place : ℕ) (actor actor' : Actor A C)
+module _ {A C : Type 0} (settings : WorldSettings) (old new : PortsValue) (floors floors' : List ℕ) (actors : List (Option (Actor A C))) (place : ℕ) (actor actor' : Actor A C)
     (is : slice_get actors place ≡ Some (Some actor)) where
   account_there : slice_get (map account_at actors) place ≡ Some (account_of actor)
   account_there = slice_get-map account_at actors place ∙ ap (λ (o : Option (Option (Actor A C))). option_map account_at o) is
@@ -142,7 +142,7 @@ module _ {A C : Type 0} (settings : WorldSettings) (old new : PortsValue) (actor
   pub world_balanced : (actors' : List (Option (Actor A C))) (was now : WorldValue) (reply : Reply) (purse : Purse)
       → actors' ≡ slice_set (slice_set actors place None) place (Some actor') → new.spare ≡ old.spare → CountRight old
       → ActCounts old new (account_of actor) (account_of actor') reply
-      → value_of settings old actors ≡ was → value_of settings new actors' ≡ now → IsBalanced was purse → IsBalanced now purse × LosesNothing reply
+      → value_of settings old floors actors ≡ was → value_of settings new floors' actors' ≡ now → IsBalanced was purse → IsBalanced now purse × LosesNothing reply
   world_balanced actors' was now reply purse put spare right counts shows shows' h =
       let h' = subst (λ (w : WorldValue). IsBalanced w purse) (sym shows) h in
       let b = acts_balanced old new (map account_at actors) place (account_of actor) (account_of actor') account_there (stamps_of_pins old.spare) purse counts.fair h' in (

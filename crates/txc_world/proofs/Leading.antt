@@ -50,7 +50,7 @@ noted_seen see opened (turns.At stamp) call end h = absurd h
 
 -- ---- a step of an actor
 
-module _ {A C : Type 0} (next : Next) (settings : WorldSettings) (old new : PortsValue) (actors : List (Option (Actor A C))) (place : ℕ) (actor actor' : Actor A C)
+module _ {A C : Type 0} (next : Next) (settings : WorldSettings) (old new : PortsValue) (floors floors' : List ℕ) (actors : List (Option (Actor A C))) (place : ℕ) (actor actor' : Actor A C)
     (is : slice_get actors place ≡ Some (Some actor)) where
   actor_there : slice_get (map actor_at actors) place ≡ Some (actor_value actor)
   actor_there = slice_get-map actor_at actors place ∙ ap (λ (o : Option (Option (Actor A C))). option_map actor_at o) is
@@ -58,15 +58,15 @@ module _ {A C : Type 0} (next : Next) (settings : WorldSettings) (old new : Port
   pub world_led : (actors' : List (Option (Actor A C))) (was now : WorldValue) (act : Act) (reply : Reply)
       → actors' ≡ slice_set (slice_set actors place None) place (Some actor')
       → ActLeads next settings.renew_after place act old new (actor_value actor) (actor_value actor') reply
-      → value_of settings old actors ≡ was → value_of settings new actors' ≡ now → StepLeads next was (steps.Actor place act) reply now
+      → value_of settings old floors actors ≡ was → value_of settings new floors' actors' ≡ now → StepLeads next was (steps.Actor place act) reply now
   world_led actors' was now act reply put leads shows shows' =
-      let led : StepLeads next (value_of settings old actors) (steps.Actor place act) reply (value_of settings new actors') = rw actor_there (record {
+      let led : StepLeads next (value_of settings old floors actors) (steps.Actor place act) reply (value_of settings new floors' actors') = rw actor_there (record {
         actor = actor_value actor';
         others = rw (put, set_twice actors place None (Some actor')) (map-set actor_at actors place (Some actor'));
         leads = leads;
       })
       in subst (λ (w : WorldValue). StepLeads next was (steps.Actor place act) reply w) shows'
-      (subst (λ (w : WorldValue). StepLeads next w (steps.Actor place act) reply (value_of settings new actors')) shows led)
+      (subst (λ (w : WorldValue). StepLeads next w (steps.Actor place act) reply (value_of settings new floors' actors')) shows led)
 
 -- what is seen of an actor with a read-only transaction open
 pub seen_there : {A C : Type 0} → (actors : List (Option (Actor A C))) (place : ℕ) (o : OpenTxn A C) (r : ReadingValue) → slice_get actors place ≡ Some (Some (Reading o))

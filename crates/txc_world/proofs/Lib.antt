@@ -19,3 +19,4 @@ pub mod Balancing
 pub mod WritingCounts
 pub mod Giving
 pub mod Leading
+pub mod Forward

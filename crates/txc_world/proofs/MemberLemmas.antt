@@ -64,15 +64,15 @@ module _ {A C : Type 0} (next : Next) (o : OpenTxn A C) (kept : IsKept next o.tx
   }
 
 -- the actor at the place is as it is told
-pub members_there : {A C : Type 0} (next : Next) (settings : WorldSettings) (ports : PortsValue) (cast : List (Option (Actor A C))) (place : ℕ)
-    (o : OpenTxn A C) (now : Told) (r : Reading) → IsKept next o.txn → IsWorld next settings ports cast
-    → slice_get cast place ≡ Some (Some (actors.Reading o)) → told_of settings ports cast ≡ now → slice_get now.actors place ≡ Some (reading r)
+pub members_there : {A C : Type 0} (next : Next) (settings : WorldSettings) (ports : PortsValue) (floors : List ℕ) (cast : List (Option (Actor A C))) (place : ℕ)
+    (o : OpenTxn A C) (now : Told) (r : Reading) → IsKept next o.txn → IsWorld next settings ports floors cast
+    → slice_get cast place ≡ Some (Some (actors.Reading o)) → told_of settings ports floors cast ≡ now → slice_get now.actors place ≡ Some (reading r)
     → AreMembersOf next now.history r o.txn.core.pins.has_present o.txn.core.pins.members
-members_there next settings ports cast place o now r kept world is shows at =
+members_there next settings ports floors cast place o now r kept world is shows at =
     let open_there : IsThere next (whole_of ports) settings.nodes (Some (actors.Reading o)) =
     all_get (IsThere next (whole_of ports) settings.nodes) cast place (Some (actors.Reading o)) world.there is in
-    let there : slice_get (told_of settings ports cast).actors place ≡ Some (story_of (actors.Reading o)) =
-    story_there settings ports cast place (actors.Reading o) is in
+    let there : slice_get (told_of settings ports floors cast).actors place ≡ Some (story_of (actors.Reading o)) =
+    story_there settings ports floors cast place (actors.Reading o) is in
     let same : told_reading o ≡ r =
     reading_is (told_reading o) r (sym there ∙ ap (λ (t : Told). slice_get t.actors place) shows ∙ at) in
     let members : AreMembersOf next ports.database.history (told_reading o) o.txn.core.pins.has_present o.txn.core.pins.members =

@@ -17,7 +17,7 @@ use Rattle.txc_world.specs.declared.reply.Reply.{Reply}
 use Rattle.txc_world.specs.declared.settings.WorldSettings.{WorldSettings}
 use Rattle.txc_world.specs.declared.step.Act.{Act}
 use Rattle.txc_world.specs.declared.step.Step.TheVariants as steps
-use Rattle.txc_world.specs.Told.{Told, act_in, after, story_after, IsActDue, IsDue, IsExplainedIn, ReplyExplains}
+use Rattle.txc_world.specs.Told.{Told, act_in, after, floor_at, floor_by, story_after, IsActDue, IsDue, IsExplainedIn, ReplyExplains}
 use Rattle.txc_world.specs.Ports.{PortsValue, whole_of, KeepsRow}
 use Rattle.txc_world.specs.Actors.{story_at, story_of, AddsPart, HasCall, IsActor, IsThere}
 use Rattle.txc_world.specs.Worlds.{told_of, IsWorld}
@@ -31,7 +31,7 @@ module _ {X : Type 0} where
   set_twice (x ∷ xs) zero a b = refl
   set_twice (x ∷ xs) (suc i) a b = ap (λ (l : List X). x ∷ l) (set_twice xs i a b)
 
-  set_length : (xs : List X) (i : ℕ) (a : X) → length (slice_set xs i a) ≡ length xs
+  pub set_length : (xs : List X) (i : ℕ) (a : X) → length (slice_set xs i a) ≡ length xs
   set_length [] i a = refl
   set_length (x ∷ xs) zero a = refl
   set_length (x ∷ xs) (suc i) a = ap suc (set_length xs i a)
@@ -81,60 +81,63 @@ module _ (old new : PortsValue) (keeps : KeepsRow old new) where
 
 -- ---- a step
 
-module _ {A C : Type 0} (longer : HoldsInLonger) (next : Next) (settings : WorldSettings) (ports new : PortsValue) (actors : List (Option (Actor A C))) where
-  still_there : IsWorld next settings ports actors → KeepsRow ports new → All (IsThere next (whole_of new) settings.nodes) actors
+module _ {A C : Type 0} (longer : HoldsInLonger) (next : Next) (settings : WorldSettings) (ports new : PortsValue) (floors : List ℕ) (actors : List (Option (Actor A C))) where
+  still_there : IsWorld next settings ports floors actors → KeepsRow ports new → All (IsThere next (whole_of new) settings.nodes) actors
   still_there h keeps =
       All-weaker (IsThere next (whole_of ports) settings.nodes) (IsThere next (whole_of new) settings.nodes) (there_later ports new keeps longer next settings.nodes) actors h.there
 
   -- the keeper steps
-  pub world_keeps : IsWorld next settings ports actors → KeepsRow ports new → IsWorld next settings new actors
+  pub world_keeps : IsWorld next settings ports floors actors → KeepsRow ports new → IsWorld next settings new floors actors
   world_keeps h keeps = record {
     nodes = keeps.count ∙ h.nodes;
     some = h.some;
     passes = h.passes ∙ sym keeps.actors;
+    sessions = h.sessions;
     there = still_there h keeps;
   }
 
   -- an actor steps
-  pub world_acts : (place : ℕ) (actor' : Actor A C) → IsWorld next settings ports actors → KeepsRow ports new → IsActor next (whole_of new) (length new.nodes) actor'
-      → IsWorld next settings new (slice_set (slice_set actors place None) place (Some actor'))
-  world_acts place actor' h keeps kept =
+  pub world_acts : (place floor : ℕ) (actor' : Actor A C) → IsWorld next settings ports floors actors → KeepsRow ports new → IsActor next (whole_of new) (length new.nodes) actor'
+      → IsWorld next settings new (slice_set floors place floor) (slice_set (slice_set actors place None) place (Some actor'))
+  world_acts place floor actor' h keeps kept =
       let same : length new.nodes ≡ settings.nodes = keeps.count ∙ h.nodes in
       rw (set_twice actors place None (Some actor')) (record {
         nodes = same;
         some = h.some;
         passes = set_length actors place (Some actor') ∙ h.passes ∙ sym keeps.actors;
+        sessions = set_length floors place floor ∙ h.sessions ∙ sym (set_length actors place (Some actor'));
         there = All-set (IsThere next (whole_of new) settings.nodes) actors place (Some actor') (subst (λ (n : ℕ). IsActor next (whole_of new) n actor') same kept)
             (still_there h keeps);
       })
 
 -- ---- what is told of an actor's step
 
-module _ {A C : Type 0} (settings : WorldSettings) (ports : PortsValue) (actors : List (Option (Actor A C))) (place : ℕ) (actor : Actor A C)
+module _ {A C : Type 0} (settings : WorldSettings) (ports : PortsValue) (floors : List ℕ) (actors : List (Option (Actor A C))) (place : ℕ) (actor : Actor A C)
     (is : slice_get actors place ≡ Some (Some actor)) where
-  pub story_there : slice_get (told_of settings ports actors).actors place ≡ Some (story_of actor)
+  pub story_there : slice_get (told_of settings ports floors actors).actors place ≡ Some (story_of actor)
   story_there = slice_get-map story_at actors place ∙ ap (λ (o : Option (Option (Actor A C))). option_map story_at o) is
 
   -- what the world shows after the step is what is told
-  pub told_act : (new : PortsValue) (actors' : List (Option (Actor A C))) (actor' : Actor A C) (act : Act) (reply : Reply) (now : Told)
+  pub told_act : (new : PortsValue) (floors' : List ℕ) (actors' : List (Option (Actor A C))) (actor' : Actor A C) (act : Act) (reply : Reply) (now : Told)
+      → floors' ≡ slice_set floors place (floor_by reply (floor_at floors place))
       → actors' ≡ slice_set (slice_set actors place None) place (Some actor')
       → story_of actor' ≡ story_after act reply (story_of actor)
       → new.database.history ≡ act_in act reply (story_of actor) ports.database.history → new.spare ≡ ports.spare
-      → told_of settings ports actors ≡ now → told_of settings new actors' ≡ after now (steps.Actor place act) reply
-  told_act new actors' actor' act reply now put story history spare shows =
-      let told : told_of settings new actors' ≡ after (told_of settings ports actors) (steps.Actor place act) reply =
-      rw (put, set_twice actors place None (Some actor'), story_there, history, spare, map-set story_at actors place (Some actor'), story) refl
+      → told_of settings ports floors actors ≡ now → told_of settings new floors' actors' ≡ after now (steps.Actor place act) reply
+  told_act new floors' actors' actor' act reply now noted put story history spare shows =
+      let told : told_of settings new floors' actors' ≡ after (told_of settings ports floors actors) (steps.Actor place act) reply =
+      rw (noted, put, set_twice actors place None (Some actor'), story_there, history, spare, map-set story_at actors place (Some actor'), story) refl
       in told ∙ ap (λ (t : Told). after t (steps.Actor place act) reply) shows
 
-  pub due_act : (act : Act) (reply : Reply) (now : Told) → IsActDue (story_of actor) act reply → told_of settings ports actors ≡ now
+  pub due_act : (act : Act) (reply : Reply) (now : Told) → IsActDue (story_of actor) act reply → told_of settings ports floors actors ≡ now
       → IsDue now (steps.Actor place act) reply
   due_act act reply now h shows =
-      let due : IsDue (told_of settings ports actors) (steps.Actor place act) reply = rw story_there h in
+      let due : IsDue (told_of settings ports floors actors) (steps.Actor place act) reply = rw story_there h in
       subst (λ (t : Told). IsDue t (steps.Actor place act) reply) shows due
 
   pub explained_act : (next : Next) (new : PortsValue) (act : Act) (reply : Reply) (now : Told)
       → ReplyExplains next new.database.history (length ports.database.history) (story_of actor) reply
-      → told_of settings ports actors ≡ now → IsExplainedIn next new.database.history now (steps.Actor place act) reply
+      → told_of settings ports floors actors ≡ now → IsExplainedIn next new.database.history now (steps.Actor place act) reply
   explained_act next new act reply now h shows =
-      let explained : IsExplainedIn next new.database.history (told_of settings ports actors) (steps.Actor place act) reply = rw story_there h in
+      let explained : IsExplainedIn next new.database.history (told_of settings ports floors actors) (steps.Actor place act) reply = rw story_there h in
       subst (λ (t : Told). IsExplainedIn next new.database.history t (steps.Actor place act) reply) shows explained

@@ -15,12 +15,12 @@ use Rattle.txc_world.specs.declared.step.Act.TheVariants.{BeginRo, BeginRw, Star
 use Rattle.txc_world.specs.declared.step.Keep.{Keep}
 use Rattle.txc_world.specs.declared.step.Keep.TheVariants as keeps
 use Rattle.txc_world.specs.declared.step.Step.{Step}
-use Rattle.txc_world.specs.declared.step.Step.TheVariants.{Actor, Keeper}
+use Rattle.txc_world.specs.declared.step.Step.TheVariants.{Actor, BeginIn, Keeper}
 use Rattle.txc_world.specs.declared.did.Did.{Did}
 use Rattle.txc_world.specs.declared.did.Did.TheVariants as dids
 use Rattle.txc_world.specs.declared.reply.Reply.{Reply}
 use Rattle.txc_world.specs.declared.reply.Reply.TheVariants as replies
-use Rattle.txc_world.specs.Told.{Writing, Story, idle, reading, writing, leaving, Told, act_in, act_at, after, commit_in, did_in, keep_in, told_by, AreDue, AreExplained, AreExplainedIn, CommitExplains, CommitMakes, IsCommitOf, IsDue, IsExplainedIn, IsNoCommit, IsReceiptOf, ReplyExplains}
+use Rattle.txc_world.specs.Told.{Writing, Story, idle, reading, writing, leaving, Told, act_in, act_at, after, begin_at, commit_in, floor_at, did_in, keep_in, told_by, AreDue, AreExplained, AreExplainedIn, CommitExplains, CommitMakes, IsCommitOf, IsDue, IsExplainedIn, IsNoCommit, IsReceiptOf, ReplyExplains}
 use Rattle.txc_stream.proofs.Offered.{prefix_self, prefix_take, prefix_trans}
 use Rattle.txc_world.proofs.Explaining.{explained_later, state_later}
 
@@ -186,6 +186,8 @@ act_at_goes_on place act reply told (Some story) = act_goes_on act reply story t
 
 pub after_goes_on : (told : Told) (step : Step) (reply : Reply) → IsPrefix told.history (after told step reply).history
 after_goes_on told (Actor place act) reply = act_at_goes_on place act reply told (slice_get told.actors place)
+after_goes_on told (BeginIn place now staleness) reply =
+    act_at_goes_on place (begin_at (floor_at told.floors place) now staleness) reply told (slice_get told.actors place)
 after_goes_on told (Keeper keep) reply = keep_goes_on keep reply told.history
 
 pub told_goes_on : (told : Told) (steps : List Step) (replies : List Reply) → IsPrefix told.history (told_by told steps replies).history
@@ -266,6 +268,7 @@ module _ (next : Next) (L M : History) (on : IsPrefix L M) where
 
   step_later : (told : Told) (step : Step) (reply : Reply) → IsExplainedIn next L told step reply → IsExplainedIn next M told step reply
   step_later told (Actor place act) reply h = place_later (length told.history) reply (slice_get told.actors place) h
+  step_later told (BeginIn place now staleness) reply h = place_later (length told.history) reply (slice_get told.actors place) h
   step_later told (Keeper keep) reply h = h
 
 -- what is explained as it is told is explained in the whole history

@@ -7,7 +7,7 @@ use Rattle.txc_world.specs.declared.did.Did.{Did}
 use Rattle.txc_world.specs.declared.step.Act.{Act}
 use Rattle.txc_world.specs.declared.step.Act.TheVariants.{BeginRo, BeginRw, Start, Request, Ask, Write, Commit, Abort}
 use Rattle.txc_world.specs.declared.step.Step.{Step}
-use Rattle.txc_world.specs.declared.step.Step.TheVariants.{Actor, Keeper}
+use Rattle.txc_world.specs.declared.step.Step.TheVariants.{Actor, BeginIn, Keeper}
 use Rattle.txc_world.specs.declared.reply.Reply.{Reply}
 use Rattle.txc_world.specs.declared.reply.Reply.TheVariants.{Asked, Aborted, Receipt}
 use Rattle.txc_world.specs.Ports.{PortsValue}
@@ -16,7 +16,7 @@ use Rattle.txc_world.specs.Kept.{KeepLeads}
 use Rattle.txc_world.specs.Cast.{ActorValue, ReadingValue, WritingValue, resting, reads, writes, leaves}
 use Rattle.txc_world.specs.Actors.{BeginLeads, HasGivenBack, HasStarted, IsGivenUp, RequestLeads}
 use Rattle.txc_world.specs.Writing.{BeginRwLeads, CommitLeadsRw, HasFoundRw, HasStartedRw, RequestLeadsRw, WriteLeadsRw}
-use Rattle.txc_world.specs.Told.{after}
+use Rattle.txc_world.specs.Told.{after, begin_at, floor_at}
 use Rattle.txc_world.specs.Worlds.{WorldValue}
 
 -- ---- a step of an actor
@@ -106,11 +106,13 @@ pub record HasActed (next : Next) (place : ℕ) (act : Act) (old new : WorldValu
   pub others : new.actors ≡ slice_set old.actors place actor
   pub leads : ActLeads next old.told.settings.renew_after place act old.ports new.ports before actor reply
 
--- A step of an actor leads that actor; where there is no such actor, nothing changes. A step of the keeper
--- leads the ports, and every actor stays as it is.
+-- A step of an actor leads that actor, in its session from the session's floor; where there is no such actor,
+-- nothing changes. A step of the keeper leads the ports, and every actor stays as it is.
 abbrev pub StepLeads : Next → WorldValue → Step → Reply → WorldValue → Type 0
 StepLeads next old (Actor place act) reply new = MatchOption (slice_get old.actors place) (new ≡ old)
     (λ before. HasActed next place act old new reply before)
+StepLeads next old (BeginIn place now staleness) reply new = MatchOption (slice_get old.actors place) (new ≡ old)
+    (λ before. HasActed next place (begin_at (floor_at old.told.floors place) now staleness) old new reply before)
 StepLeads next old (Keeper keep) reply new = KeepLeads keep old.ports new.ports reply
     × (new.actors ≡ old.actors)
 

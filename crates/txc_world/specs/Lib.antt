@@ -13,3 +13,4 @@ pub mod Tidy
 pub mod Writing
 pub mod Worlds
 pub mod Acts
+pub mod Sessions

@@ -7,7 +7,7 @@ use Rattle.txc_cushion.specs.Entries.{stamps_of, times, users_of}
 use Rattle.txc_world.specs.declared.step.Keep.{Keep}
 use Rattle.txc_world.specs.declared.step.Keep.TheVariants as keeps
 use Rattle.txc_world.specs.declared.step.Step.{Step}
-use Rattle.txc_world.specs.declared.step.Step.TheVariants.{Actor, Keeper}
+use Rattle.txc_world.specs.declared.step.Step.TheVariants.{Actor, BeginIn, Keeper}
 use Rattle.txc_world.specs.declared.did.Did.TheVariants as dids
 use Rattle.txc_world.specs.declared.reply.Reply.{Reply}
 use Rattle.txc_world.specs.declared.reply.Reply.TheVariants as replies
@@ -41,6 +41,7 @@ purse_kept keep reply purse = purse
 
 abbrev pub purse_after : Step → Reply → Purse → Purse
 purse_after (Actor place act) reply purse = purse
+purse_after (BeginIn place now staleness) reply purse = purse
 purse_after (Keeper keep) reply purse = purse_kept keep reply purse
 
 -- what a list of steps and their replies make of it, one after another
@@ -59,6 +60,7 @@ IsTidyKeep keep reply purse = Unit {0}
 
 abbrev pub IsTidy : Step → Reply → Purse → Type 0
 IsTidy (Actor place act) reply purse = Unit {0}
+IsTidy (BeginIn place now staleness) reply purse = Unit {0}
 IsTidy (Keeper keep) reply purse = IsTidyKeep keep reply purse
 
 -- each step is tidy after those before it
@@ -79,6 +81,7 @@ LosesNothing reply = Unit {0}
 -- nor is it one of an actor; the keeper may ask for what is gone
 abbrev pub LosesNoSnapshot : Step → Reply → Type 0
 LosesNoSnapshot (Actor place act) reply = LosesNothing reply
+LosesNoSnapshot (BeginIn place now staleness) reply = LosesNothing reply
 LosesNoSnapshot (Keeper keep) reply = Unit {0}
 
 abbrev pub LoseNoSnapshot : List Step → List Reply → Type 0

@@ -1,5 +1,5 @@
 -- What a list of steps and replies tells of a world.
-use Rattle.std.specs.Prelude.{◌≡◌, ◌⊎◌, ℕ, ◌+◌, ◌<◌, ◌≤◌, nat_lt, if◌then◌else◌, List, [], ◌∷◌, ◌++◌, length, take, Option, Some, None, slice_get, slice_set, MatchOption}
+use Rattle.std.specs.Prelude.{◌≡◌, ◌⊎◌, ℕ, ◌+◌, ◌<◌, ◌≤◌, max, nat_lt, if◌then◌else◌, List, [], ◌∷◌, ◌++◌, length, take, Option, Some, None, slice_get, slice_index_or, slice_set, MatchOption}
 use Rattle.txc_tags.specs.Keys.{Call}
 use Rattle.txc_rows.specs.declared.query.Change.{Change}
 use Rattle.txc_db.specs.History.{History, commit_event, pin_event, state_at}
@@ -9,6 +9,7 @@ use Rattle.txc_app.specs.Eval.{Next}
 use Rattle.txc_ports.specs.declared.bounds.Bounds.{Bounds}
 use Rattle.txc_ports.specs.declared.recorded.Recorded.{Recorded}
 use Rattle.txc_txn.specs.Core.{Explains}
+use Rattle.txc_txn.specs.Sessions.{floor_after}
 use Rattle.txc_rw.specs.declared.given.Given.{Given}
 use Rattle.txc_rw.specs.declared.given.Given.TheVariants as given
 use Rattle.txc_rw.specs.declared.rw_core.TheConstants.{MAX_CHANGES}
@@ -21,7 +22,7 @@ use Rattle.txc_world.specs.declared.step.Act.TheVariants.{BeginRo, BeginRw, Star
 use Rattle.txc_world.specs.declared.step.Keep.{Keep}
 use Rattle.txc_world.specs.declared.step.Keep.TheVariants as keeps
 use Rattle.txc_world.specs.declared.step.Step.{Step}
-use Rattle.txc_world.specs.declared.step.Step.TheVariants.{Actor, Keeper}
+use Rattle.txc_world.specs.declared.step.Step.TheVariants.{Actor, BeginIn, Keeper}
 use Rattle.txc_world.specs.declared.did.Did.{Did}
 use Rattle.txc_world.specs.declared.did.Did.TheVariants.{Pinned}
 use Rattle.txc_world.specs.declared.reply.End.{End}
@@ -56,12 +57,13 @@ pub data Story : Type 0 where
   writing : Writing → Story
   leaving : ℕ → Story
 
--- a world: its settings, its history, the stamps of the pins that the keeper has and did not add, and what
--- each actor has open
+-- a world: its settings, its history, the stamps of the pins that the keeper has and did not add, the floor of
+-- each actor's session, and what each actor has open
 pub record Told : Type 0 where
   pub settings : WorldSettings
   pub history : History
   pub spare : List ℕ
+  pub floors : List ℕ
   pub actors : List Story
 
 -- ---- what an actor's step tells
@@ -142,6 +144,22 @@ spare_after (keeps.Add stamp) replies.Added spare = without stamp spare
 spare_after (keeps.Add stamp) (Refused (refusals.Pincushion error)) spare = without stamp spare
 spare_after keep reply spare = spare
 
+-- ---- what an actor's session tells
+
+-- the floor of the session of the actor of that number
+abbrev pub floor_at : List ℕ → ℕ → ℕ
+floor_at floors place = slice_index_or floors place 0
+
+-- a receipt with a pin, and the stamp of a commit, raise the floor of the actor that is replied so
+abbrev pub floor_by : Reply → ℕ → ℕ
+floor_by (Receipt pin) floor = floor_after floor pin
+floor_by (At stamp) floor = max floor stamp
+floor_by reply floor = floor
+
+-- who begins in its session begins with the session's floor among the bounds
+abbrev pub begin_at : ℕ → ℕ → ℕ → Act
+begin_at floor now staleness = BeginRo (record { now = now; staleness = staleness; at_least = floor })
+
 -- ---- a whole list
 
 -- the actor's step tells nothing where there is no such actor
@@ -149,12 +167,15 @@ abbrev pub act_at : ℕ → Act → Reply → Told → Option Story → Told
 act_at place act reply told None = told
 act_at place act reply told (Some story) = record told {
   history = act_in act reply story told.history;
+  floors = slice_set told.floors place (floor_by reply (floor_at told.floors place));
   actors = slice_set told.actors place (story_after act reply story);
 }
 
 -- what one step and its reply make of what was told before
 abbrev pub after : Told → Step → Reply → Told
 after told (Actor place act) reply = act_at place act reply told (slice_get told.actors place)
+after told (BeginIn place now staleness) reply =
+    act_at place (begin_at (floor_at told.floors place) now staleness) reply told (slice_get told.actors place)
 after told (Keeper keep) reply = record told {
   history = keep_in keep reply told.history;
   spare = spare_after keep reply told.spare;
@@ -211,6 +232,9 @@ ReplyExplains next L count story reply = Unit {0}
 -- history
 abbrev pub IsExplainedIn : Next → History → Told → Step → Reply → Type 0
 IsExplainedIn next L told (Actor place act) reply =
+    MatchOption (slice_get told.actors place) (IsNoCommit reply)
+    (λ story. ReplyExplains next L (length told.history) story reply)
+IsExplainedIn next L told (BeginIn place now staleness) reply =
     MatchOption (slice_get told.actors place) (IsNoCommit reply)
     (λ story. ReplyExplains next L (length told.history) story reply)
 IsExplainedIn next L told (Keeper keep) reply = IsNoReceipt reply
@@ -325,6 +349,9 @@ IsKeepDue nodes spare keep reply = IsDueOr (due_keep nodes spare keep) (IsKeepRe
 abbrev pub IsDue : Told → Step → Reply → Type 0
 IsDue told (Actor place act) reply =
     MatchOption (slice_get told.actors place) (reply ≡ Refused NoActor) (λ story. IsActDue story act reply)
+IsDue told (BeginIn place now staleness) reply =
+    MatchOption (slice_get told.actors place) (reply ≡ Refused NoActor)
+    (λ story. IsActDue story (begin_at (floor_at told.floors place) now staleness) reply)
 IsDue told (Keeper keep) reply = IsKeepDue told.settings.nodes told.spare keep reply
 
 -- each step is replied what is due after those before it

@@ -1,5 +1,5 @@
 -- What a world keeps, and how it is told.
-use Rattle.std.specs.Prelude.{◌≡◌, ◌≤◌, Bool, true, List, [], All, Option, None, Some, length, map}
+use Rattle.std.specs.Prelude.{◌≡◌, ℕ, ◌≤◌, Bool, true, List, [], All, Option, None, Some, length, map}
 use Rattle.txc_db.specs.History.{History, state_at}
 use Rattle.txc_cushion.specs.declared.pin.Pin.{Pin}
 use Rattle.txc_app.specs.Eval.{Next}
@@ -15,13 +15,14 @@ use Rattle.txc_world.specs.Actors.{story_at, IsThere}
 use Rattle.txc_world.specs.Books.{account_at, books_of, Books}
 use Rattle.txc_world.specs.Tidy.{AreBalanced, Purse}
 
--- its settings, its history, the stamps of the pins that its keeper has yet to add, and what each actor has
--- open
-abbrev pub told_of : {A C : Type 0} → WorldSettings → PortsValue → List (Option (Actor A C)) → Told
-told_of settings ports actors = record {
+-- its settings, its history, the stamps of the pins that its keeper has yet to add, the floor of each actor's
+-- session, and what each actor has open
+abbrev pub told_of : {A C : Type 0} → WorldSettings → PortsValue → List ℕ → List (Option (Actor A C)) → Told
+told_of settings ports floors actors = record {
   settings = settings;
   history = ports.database.history;
   spare = map (λ p. p.stamp) ports.spare;
+  floors = floors;
   actors = map story_at actors;
 }
 
@@ -32,9 +33,9 @@ pub record WorldValue : Type 0 where
   pub ports : PortsValue
   pub actors : List ActorValue
 
-abbrev pub value_of : {A C : Type 0} → WorldSettings → PortsValue → List (Option (Actor A C)) → WorldValue
-value_of settings ports actors = record {
-  told = told_of settings ports actors;
+abbrev pub value_of : {A C : Type 0} → WorldSettings → PortsValue → List ℕ → List (Option (Actor A C)) → WorldValue
+value_of settings ports floors actors = record {
+  told = told_of settings ports floors actors;
   books = books_of ports (map account_at actors);
   ports = ports;
   actors = map actor_at actors;
@@ -45,12 +46,13 @@ abbrev pub IsBalanced : WorldValue → Purse → Type 0
 IsBalanced world purse = AreBalanced world.told.spare world.books purse
 
 -- what is true of every world: it has the nodes of its settings, at least one; each actor has its pass
--- through each; and no actor is in the middle of a step
+-- through each, and its session; and no actor is in the middle of a step
 pub record IsWorld {A C : Type 0} (next : Next) (settings : WorldSettings) (ports : PortsValue)
-    (actors : List (Option (Actor A C))) : Type 0 where
+    (floors : List ℕ) (actors : List (Option (Actor A C))) : Type 0 where
   pub nodes : length ports.nodes ≡ settings.nodes
   pub some : 1 ≤ settings.nodes
   pub passes : length actors ≡ ports.actors
+  pub sessions : length floors ≡ length actors
   pub there : All (IsThere next (whole_of ports) settings.nodes) actors
 
 -- ---- pin sets

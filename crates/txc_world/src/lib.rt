@@ -18,6 +18,7 @@ mod making;
 mod nodes;
 mod ports;
 mod reply;
+mod sessions;
 mod settings;
 mod step;
 mod world;

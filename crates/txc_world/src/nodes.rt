@@ -1,5 +1,6 @@
 //! Steps at a node, for one thread.
 ghost use Rattle.std.specs.Prelude.{◌≡◌, ◌<◌, IfSome, false};
+ghost use Rattle.txc_node.specs.Counts.{AreCountsOf};
 ghost use Rattle.std.specs.Option.{option_map};
 ghost use Rattle.txc_db.specs.DatabaseValue.{front_of};
 ghost use Rattle.txc_app.specs.Claims.{IsTrueIn, entry_shown};
@@ -10,8 +11,8 @@ ghost use Rattle.txc_world.specs.Parts.{IsPartOf};
 use std::alloc::Global;
 use txc_app::App;
 use txc_db::{Answered, DbCore};
-use txc_node::{Entry, Shown};
-use txc_shared::{Advanced, Finding, Insertion, NodeError, StoredNode};
+use txc_node::{Counts, Entry, Shown};
+use txc_shared::{Advanced, Finding, Insertion, NodeError, NodeFront, StoredNode};
 use txc_stamp::Stamp;
 use txc_tags::Key;
 
@@ -108,4 +109,15 @@ pub(crate) fn sweep<A: App>(
     ensures { SweepLeads pass horizon node.old node.new result }
 {
     node.sweep(alloc, pass, horizon)
+}
+
+/// The counts of the records that a front shows.
+pub(crate) fn counts_of(front: &NodeFront) -> Counts
+    ensures { AreCountsOf front.now.records result }
+{
+    let mut counts = Counts::new();
+    for at in 0..front.len() {
+        counts.add(front.get(at));
+    }
+    counts
 }

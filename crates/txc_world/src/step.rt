@@ -54,5 +54,12 @@ pub enum Keep {
 #[derive(Drop)]
 pub enum Step {
     Actor(usize, Act),
+    /// The actor of that number begins a read-only transaction in its session, which reads nothing older than
+    /// the session's floor.
+    BeginIn {
+        actor: usize,
+        now: u64,
+        staleness: u64,
+    },
     Keeper(Keep),
 }

@@ -1,5 +1,6 @@
 //! Every interleaving of the steps of actors and of the keeper.
 ghost use Rattle.std.specs.Prelude.{◌≡◌, ◌<◌, ◌≤◌, ◌+◌, [], false, length, map, slice_get, vec_len, All, Err, IfErr, IfOk, IsOk, MatchOption, OnErr, Some};
+ghost use Rattle.txc_node.specs.Counts.{AreCountsOf};
 ghost use Rattle.txc_node.specs.declared.node.TheConstants.{MAX_CAPACITY, MAX_RECENT};
 ghost use Rattle.txc_stream.specs.declared.row.TheConstants.{MAX_CAPACITY as MAX_ROW};
 ghost use Rattle.txc_shared.specs.declared.log.TheConstants.{MAX_PASSES};
@@ -10,6 +11,7 @@ ghost use Rattle.txc_world.specs.Acts.{AreLed, StepLeads};
 ghost use Rattle.txc_world.specs.Worlds.{due_of_pins, AreMembersOf, IsBalanced};
 ghost use Rattle.txc_world.specs.Cast.{reads, resting, ReadingValue};
 ghost use Rattle.txc_world.specs.Making.{AreNewPorts};
+ghost use Rattle.txc_world.specs.Sessions.{NobodyGoesBack};
 ghost use Rattle.txc_db.specs.Refusals.{IsWant};
 ghost use Rattle.txc_world.specs.Tidy.{empty_purse, purse_after, purse_by, AreTidy, IsTidy, LoseNoSnapshot, LosesNoSnapshot, LosesNothing, Purse};
 ghost use Rattle.txc_world.specs.Told.{after, idle, reading, told_by, AreDue, AreExplained, AreExplainedIn, IsDue, IsExplainedIn, Reading};
@@ -17,8 +19,10 @@ ghost use Rattle.txc_world.specs.Told.{after, idle, reading, told_by, AreDue, Ar
 use crate::acting::act;
 use crate::actor::{Actor, idle_actors, put_back, take_out};
 use crate::keeping::keep;
+use crate::nodes::counts_of;
 use crate::ports::Ports;
 use crate::reply::{Refusal, Reply};
+use crate::sessions::{floor_at, new_sessions, note};
 use crate::settings::WorldSettings;
 use crate::step::{Act, Step};
 use std::alloc::{AllocError, Global};
@@ -26,10 +30,13 @@ use std::marker::Model;
 use txc_app::App;
 use txc_cushion::{CushionCore, Pin};
 use txc_db::{DbCore, DbError};
+use txc_node::Counts;
+use txc_ports::Bounds;
 use txc_registry::{Cacheable, Registry};
 use txc_rw::laws::transactions_stay_right;
 use txc_shared::StoredNode;
 use txc_shared::laws::nodes_go_on;
+use txc_txn::Session;
 
 /// Where a read-only transaction may still be serialised.
 #[derive(Clone, Copy, Debug)]
@@ -44,7 +51,7 @@ pub struct Members<'a> {
 /// database, one pincushion and the nodes.
 ///
 /// Contracts see what is told of it: its settings; its history; the stamps of the pins that the keeper has
-/// and did not add yet; and what each actor has open. They see its books too: the holds of the database, the
+/// and did not add yet; the floor of each actor's session; and what each actor has open. They see its books too: the holds of the database, the
 /// pins of the pincushion with their users, and what each actor has of both.
 #[derive(Drop)]
 pub struct World<A: App, C: Cacheable> {
@@ -52,6 +59,8 @@ pub struct World<A: App, C: Cacheable> {
     ports: Ports<A>,
     // None but in the middle of a step of it.
     actors: Vec<Option<Actor<A, C>>>,
+    // One for each actor.
+    sessions: Vec<Session>,
 }
 
 impl<A: App, C: Cacheable> Model for World<A, C> {
@@ -59,14 +68,14 @@ impl<A: App, C: Cacheable> Model for World<A, C> {
 
     ghost Value = { WorldValue };
 
-    ghost view = { λ w. value_of w.settings w.ports w.actors.items };
+    ghost view = { λ w. value_of w.settings w.ports w.sessions.items w.actors.items };
 
-    ghost invariant = { λ w. IsWorld A.next w.settings w.ports w.actors.items };
+    ghost invariant = { λ w. IsWorld A.next w.settings w.ports w.sessions.items w.actors.items };
 }
 
 impl<A: App, C: Cacheable> World<A, C> {
     /// An empty history, an empty pincushion and empty nodes, and an actor for each registry, with nothing
-    /// open.
+    /// open and nothing noted in its session.
     pub fn new(
         alloc: Global,
         settings: WorldSettings,
@@ -81,6 +90,7 @@ impl<A: App, C: Cacheable> World<A, C> {
         ensures settings { IfOk result (λ world. world.told.settings ≡ settings) }
         ensures history { IfOk result (λ world. world.told.history ≡ []) }
         ensures spare { IfOk result (λ world. world.told.spare ≡ []) }
+        ensures floors { IfOk result (λ world. world.told.floors ≡ map (λ registry. 0) registries.items) }
         ensures actors { IfOk result (λ world. world.told.actors ≡ map (λ registry. idle) registries.items) }
         ensures balanced { IfOk result (λ world. IsBalanced world empty_purse) }
         ensures ports { IfOk result (λ world. AreNewPorts settings (vec_len registries) world.ports) }
@@ -88,11 +98,13 @@ impl<A: App, C: Cacheable> World<A, C> {
         ensures refused { IfErr result IsWant }
     {
         let ports = Ports::new(alloc, &settings, registries.len())?;
+        let sessions = new_sessions(alloc, &registries)?;
         let actors = idle_actors(alloc, registries)?;
         Ok(World {
             settings,
             ports,
             actors,
+            sessions,
         })
     }
 
@@ -107,6 +119,7 @@ impl<A: App, C: Cacheable> World<A, C> {
             settings: _,
             ports,
             actors: _,
+            sessions: _,
         } = self;
         ports.into_parts()
     }
@@ -158,6 +171,25 @@ impl<A: App, C: Cacheable> World<A, C> {
         node
     }
 
+    /// The counts of a node's records, as it is between two steps. It takes no memory.
+    pub fn counts(&self, at: usize) -> Result<Counts, Refusal>
+        ensures due { MatchOption (slice_get self.now.ports.nodes at) (result ≡ Err Refusal.NoNode)
+            (λ node. IfOk result (AreCountsOf node.records) × IsOk result) }
+        ensures only_if { IsOk result → at < self.now.told.settings.nodes }
+    {
+        if at >= self.settings.nodes {
+            return Err(Refusal::NoNode);
+        }
+        Ok(counts_of(self.ports.node(at).front()))
+    }
+
+    // Each actor has a session. It does nothing when it runs.
+    fn has_sessions(&self)
+        ensures { length self.now.told.floors ≡ length self.now.told.actors }
+    {
+        let _count = self.actors.len();
+    }
+
     // One step of an actor.
     fn act(&mut self, alloc: Global, place: usize, doing: &Act) -> Reply
         ensures told { self.new.told ≡ after self.old.told (Step.Actor place doing.now) result }
@@ -178,7 +210,27 @@ impl<A: App, C: Cacheable> World<A, C> {
         let renew_after = self.settings.renew_after;
         let (actor, reply) = act(alloc, &mut self.ports, renew_after, place, actor, doing);
         put_back(&mut self.actors, place, actor);
+        note(&mut self.sessions, place, &reply);
         reply
+    }
+
+    // The actor begins a transaction in its session.
+    fn begin_in(&mut self, alloc: Global, place: usize, now: u64, staleness: u64) -> Reply
+        ensures told { self.new.told ≡ after self.old.told (Step.BeginIn place now staleness) result }
+        ensures leads { StepLeads A.next self.old (Step.BeginIn place now staleness) result self.new }
+        ensures due { IsDue self.old.told (Step.BeginIn place now staleness) result }
+        ensures explained { IsExplainedIn A.next self.new.told.history self.old.told
+            (Step.BeginIn place now staleness) result }
+        ensures balanced { (purse : Purse) → IsBalanced self.old purse
+            → IsBalanced self.new purse × LosesNothing result }
+    {
+        let at_least = floor_at(&self.sessions, place);
+        let bounds = Bounds {
+            now,
+            staleness,
+            at_least,
+        };
+        self.act(alloc, place, &Act::BeginRo(bounds))
     }
 
     /// Takes one step, as `run` does, and returns what it was replied.
@@ -193,6 +245,11 @@ impl<A: App, C: Cacheable> World<A, C> {
         transactions_stay_right();
         match step {
             Step::Actor(place, doing) => self.act(alloc, *place, doing),
+            Step::BeginIn {
+                actor,
+                now,
+                staleness,
+            } => self.begin_in(alloc, *actor, *now, *staleness),
             Step::Keeper(doing) => keep(alloc, &mut self.ports, doing),
         }
     }
@@ -206,6 +263,9 @@ impl<A: App, C: Cacheable> World<A, C> {
     /// the stamp before the event of the commit, or, where there is none, at the newest stamp. Both hold in
     /// the history as it was told by then, and in that of the whole run.
     ///
+    /// A receipt of a transaction that an actor began in its session, in the list, is not below any stamp that
+    /// the list told that actor before, of a receipt or of the commit of a read-write transaction.
+    ///
     /// Where each has what is its own, as in a new world, and the list is tidy, each has so after it, and no
     /// query of an open transaction is refused for a snapshot that is gone.
     pub fn run(&mut self, alloc: Global, steps: &[Step]) -> Result<Vec<Reply>, AllocError>
@@ -215,6 +275,7 @@ impl<A: App, C: Cacheable> World<A, C> {
         ensures explained_in_the_end { IfOk result (λ replies.
             AreExplainedIn A.next self.new.told.history self.old.told steps.now replies.items) }
         ensures due { IfOk result (λ replies. AreDue self.old.told steps.now replies.items) }
+        ensures sessions { IfOk result (λ replies. NobodyGoesBack steps.now replies.items) }
         ensures balanced { IfOk result (λ replies. (purse : Purse) → IsBalanced self.old purse
             → AreTidy purse steps.now replies.items
             → IsBalanced self.new (purse_by purse steps.now replies.items)) }
@@ -223,6 +284,7 @@ impl<A: App, C: Cacheable> World<A, C> {
         ensures each { IfOk result (λ replies. length replies.items ≡ length steps.now) }
         ensures unchanged { OnErr result (self.new ≡ self.old) }
     {
+        self.has_sessions();
         let mut replies = Vec::with_capacity(alloc, steps.len())?;
         for step in steps {
             let reply = self.step(alloc, step);

@@ -3,7 +3,7 @@ use Rattle.std.proofs.Common.{◌≡◌, ℕ, List, [], ◌∷◌, Option, Some,
 use Rattle.txc_world.specs.Told.{after, act_at, told_by, Told, Story}
 use Rattle.txc_world.specs.declared.step.Act.{Act}
 use Rattle.txc_world.specs.declared.step.Step.{Step}
-use Rattle.txc_world.specs.declared.step.Step.TheVariants.{Actor, Keeper}
+use Rattle.txc_world.specs.declared.step.Step.TheVariants.{Actor, BeginIn, Keeper}
 use Rattle.txc_world.specs.declared.reply.Reply.{Reply}
 
 act_settings : (place : ℕ) (act : Act) (reply : Reply) (told : Told) (story : Option Story)
@@ -13,6 +13,7 @@ act_settings place act reply told (Some story) = refl
 
 step_settings : (told : Told) (step : Step) (reply : Reply) → (after told step reply).settings ≡ told.settings
 step_settings told (Actor place act) reply = act_settings place act reply told _
+step_settings told (BeginIn place now staleness) reply = act_settings place _ reply told _
 step_settings told (Keeper keep) reply = refl
 
 pub settings_stay : (told : Told) (steps : List Step) (replies : List Reply)

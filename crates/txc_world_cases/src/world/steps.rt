@@ -5,7 +5,7 @@ mod scripts;
 
 ghost use Rattle.std.specs.Prelude.{◌≡◌, ◌<◌, length};
 
-use replies::{say_members, say_node, say_refusal, say_replies};
+use replies::{say_counts, say_members, say_node, say_refusal, say_replies};
 use scripts::{HISTORY, SCRIPTS};
 use std::alloc::Global;
 use std::marker::Model;
@@ -15,7 +15,7 @@ use txc_functions::{Object, Program, registries};
 use txc_permits::PermitPool;
 use txc_players::{Obeys, Player, change_in, is_played, number, query, room, say_unknown, stamp};
 use txc_ports::Bounds;
-use txc_tags::Key;
+use txc_tags::{Key, LAST_FUNCTION};
 use txc_world::{Act, Keep, Step, World, WorldSettings};
 
 /// No list of a script has more steps.
@@ -62,8 +62,8 @@ fn key(words: &mut SplitWhitespace<'_>) -> Option<Key> {
     Key::read(words.next()?.as_bytes()).ok()
 }
 
-fn act(alloc: Global, words: &mut SplitWhitespace<'_>) -> Option<Act> {
-    match words.next()? {
+fn act(alloc: Global, name: &str, words: &mut SplitWhitespace<'_>) -> Option<Act> {
+    match name {
         "read" => Some(Act::BeginRo(bounds(words))),
         "update" => Some(Act::BeginRw),
         "start" => Some(Act::Start(key(words)?)),
@@ -100,7 +100,17 @@ fn step(alloc: Global, who: &str, words: &mut SplitWhitespace<'_>) -> Option<Ste
     if who == "keeper" {
         return Some(Step::Keeper(keep(alloc, words)?));
     }
-    Some(Step::Actor(who.parse().ok()?, act(alloc, words)?))
+    let actor = who.parse().ok()?;
+    let name = words.next()?;
+    if name == "session" {
+        let (now, staleness) = (moment(words), moment(words));
+        return Some(Step::BeginIn {
+            actor,
+            now,
+            staleness,
+        });
+    }
+    Some(Step::Actor(actor, act(alloc, name, words)?))
 }
 
 /// The steps, with semicolons between them. None where a word is unknown, or memory was refused.
@@ -142,6 +152,14 @@ impl Stage {
         }
     }
 
+    /// The counts of a function over the records of a node.
+    fn show_counts(&self, words: &mut SplitWhitespace<'_>, answer: &mut String) {
+        match self.world.counts(number(words) as usize) {
+            Ok(counts) => say_counts(answer, counts.of((number(words) as u8).min(LAST_FUNCTION))),
+            Err(refusal) => say_refusal(answer, &refusal),
+        }
+    }
+
     fn show_node(&self, answer: &mut String) {
         say_node(answer, self.world.node(0));
     }
@@ -158,6 +176,7 @@ impl Obeys for Stage {
         match words.next().unwrap_or("") {
             "pins" => self.show_pins(words, answer),
             "node" => self.show_node(answer),
+            "counts" => self.show_counts(words, answer),
             first => match steps(alloc, first, words) {
                 Some(steps) => self.run(alloc, &steps, answer),
                 None => say_unknown(answer),

@@ -1,6 +1,7 @@
 //! What steps were replied, as text.
 use txc_app::App;
 use txc_cushion::Pin;
+use txc_node::FunctionCounts;
 use txc_players::say_row;
 use txc_rows::Row;
 use txc_shared::{Advanced, StoredNode};
@@ -173,6 +174,12 @@ pub(super) fn say_members(answer: &mut String, has_present: bool, pins: &[Pin]) 
         let _ = answer.push_str(" *");
     }
     say_pins(answer, pins);
+}
+
+/// How often something was replied about a function.
+pub(super) fn say_counts(answer: &mut String, counts: FunctionCounts) {
+    let (lookups, hits, stored) = (counts.lookups, counts.hits, counts.stored);
+    let _ = write!(answer, "lookups {lookups} hits {hits} stored {stored}");
 }
 
 /// What the node has done: each record with its pass.

@@ -7,7 +7,7 @@ keeper write put 1 8 2 b => at 3
 keeper pin 2000 ; keeper add 4 ; keeper give 4 => at 4; added; given back
 ";
 
-pub const SCRIPTS: [&str; 10] = [
+pub const SCRIPTS: [&str; 11] = [
     KEEPER,
     NOT_THERE,
     READERS,
@@ -18,6 +18,7 @@ pub const SCRIPTS: [&str; 10] = [
     LOST_SNAPSHOT,
     LOST_IN_A_CALL,
     LOST_BASE,
+    SESSIONS,
 ];
 
 /// Each step of the keeper.
@@ -159,4 +160,34 @@ keeper write put 1 9 2 c ; keeper vacuum => at 5; horizon 5
 0 request => refused: stamp 4 is not held
 1 update ; 1 ask group 1 2 => based on 6; rows 7:a 8:b 9:c 10:d
 1 abort => aborted, 6 is left
+";
+
+/// What an actor reads in its session is not older than what it has read or made, and no other actor's concern. A
+/// refused commit makes nothing.
+const SESSIONS: &str = "0 session 2500 1500 => begun
+pins 0 => * 4 2
+0 start f0(9) ; 0 request ; 0 request ; 0 request => started; miss; rows over [0,5) still t1:id=9; stored [0,5) still, value -
+0 commit => receipt 4 of 2000
+0 session 2500 1500 => begun
+pins 0 => * 4
+1 session 2500 1500 => begun
+pins 1 => * 4 2
+0 commit => no receipt
+0 update ; 0 write put 1 9 2 c ; 0 commit => based on 4; kept; at 5
+0 session 2500 1500 => refused: a transaction is open already
+0 request => unpinned
+0 session 2500 1500 => begun
+pins 0 => *
+0 start f0(9) ; 0 request ; 0 request => started; pinned 6; added
+0 request ; 0 request ; 0 request => miss; rows 9 over [5,7) still t1:id=9; stored [5,7) still, value 63
+0 commit => receipt 6 of 2500
+1 commit ; 1 update ; 1 ask id 1 9 ; 1 write put 1 10 2 d => no receipt; based on 6; rows 9:c; kept
+keeper write put 1 9 2 e => at 7
+1 commit ; 1 abort ; 1 request => refused: event 7 conflicts with what was read; aborted, 6 is left; unpinned
+1 session 2500 1500 => begun
+pins 1 => * 6 4 2
+2 session 2500 1500 => refused: there is no such actor
+counts 0 0 => lookups 2 hits 0 stored 2
+counts 0 1 => lookups 0 hits 0 stored 0
+counts 1 0 => refused: there is no such node
 ";

@@ -1,4 +1,4 @@
-use Rattle.std.proofs.Common.{refl, sym, ◌∙◌, ap, length, Some}
+use Rattle.std.proofs.Common.{ℕ, refl, sym, ◌∙◌, ap, length, Some}
 use Rattle.std.proofs.lemmas.List.{length-map}
 use Rattle.std.proofs.lemmas.Simd.{map-map}
 use Rattle.std.proofs.lemmas.List.Elements.{All-map}
@@ -14,6 +14,8 @@ invariant_of-result g c = record {
   nodes = c.in_ok-ports.ensures.new.count;
   some = c.requires.nodes;
   passes = ap length c.in_ok-actors.ensures ∙ length-map c.args.registries.items (λ r. Some (Idle r)) ∙ sym (c.len.ensures ∙ c.args.registries.ok.0) ∙ sym c.in_ok-ports.ensures.new.actors_are;
+  sessions = ap length c.in_ok-sessions.ensures ∙ length-map {B = ℕ} c.deref.result.now (λ r. 0) ∙ ap length c.deref.ensures.value
+      ∙ sym (ap length c.in_ok-actors.ensures ∙ length-map c.args.registries.items (λ r. Some (Idle r)));
   there = rw c.in_ok-actors.ensures (All-map (IsThere g.A.App.next (whole_of c.in_ok-ports.ports) c.args.settings.nodes) (λ r. Some (Idle r)) c.args.registries.items c.requires.all_idle);
 }
 
@@ -25,5 +27,5 @@ returns-clause-idle g c = rw c.in_ok-actors.ensures (map-map actor_at (λ r. Som
 
 pub returns-clause-balanced : goal.returns-clause-balanced
 returns-clause-balanced g c =
-    new_balanced (λ r. Some (Idle r)) (λ r. refl) c.args.settings c.in_ok-ports.ports c.in_ok-actors.actors.items c.args.registries.items
+    new_balanced (λ r. Some (Idle r)) (λ r. refl) c.args.settings c.in_ok-ports.ports c.in_ok-sessions.sessions.items c.in_ok-actors.actors.items c.args.registries.items
     c.in_ok-ports.ensures.new.holds c.in_ok-ports.ensures.new.entries c.in_ok-ports.ensures.new.spare c.in_ok-actors.ensures

@@ -20,7 +20,7 @@ returns-clause-members g c = λ r at.
     (sym (c.has_present.ensures ∙ ap (λ v. v.pins.has_present) c.core-core.ensures))
     (subst (λ (ms : List Pin). AreMembersOf g.A.App.next c.args.self.now.told.history r c.in-Reading.current.txn.core.pins.has_present ms)
     (sym (c.members.ensures ∙ ap (λ v. v.pins.members) c.core-core.ensures))
-    (members_there g.A.App.next c.self.inside.settings c.self.inside.ports c.self.inside.actors.items c.args.place c.in-Reading.current c.args.self.now.told r
+    (members_there g.A.App.next c.self.inside.settings c.self.inside.ports c.self.inside.sessions.items c.self.inside.actors.items c.args.place c.in-Reading.current c.args.self.now.told r
     c.is_kept.ensures c.self.invariant lies (ap (λ (w : WorldValue). w.told) c.self.view_is) at))
 
 pub returns-clause-pin_set : goal.returns-clause-pin_set

@@ -1,6 +1,7 @@
 use Rattle.txc_world.proofs.Tellings.{length_more, loop_due, loop_explained, loop_told, loop_whole}
 use Rattle.txc_world.proofs.Balancing.{loop_tidy, loop_tidy_end}
 use Rattle.txc_world.proofs.Leading.{loop_led, loop_led_end}
+use Rattle.txc_world.proofs.Forward.{loop_back}
 use Rattle.txc_world.proofs.world.World.run.Goals as goal
 
 pub loop-step-preserved : goal.loop-step-preserved
@@ -45,3 +46,8 @@ pub returns-clause-leads : goal.returns-clause-leads
 returns-clause-leads g c =
     loop_led_end g.A.App.next c.args.self.now c.args.steps.now c.loop-step.step-index c.loop-step.replies.items c.loop-step-test.false c.loop-step.auto.step-index-end
     c.loop-step.self c.loop-step.invariant.led
+
+pub returns-clause-sessions : goal.returns-clause-sessions
+returns-clause-sessions g c =
+    loop_back g.A.App.next c.args.self.now.told c.args.steps.now c.loop-step.step-index c.loop-step.replies.items c.loop-step-test.false c.loop-step.auto.step-index-end
+    c.has_sessions.ensures c.loop-step.invariant.explained

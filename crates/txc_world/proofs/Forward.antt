@@ -1,0 +1,572 @@
+-- What actors are told of transactions that begin in their sessions.
+use Rattle.std.proofs.Common.{◌≡◌, ◌∙◌, ℕ, zero, suc, ◌+◌, ◌<◌, ◌≤◌, max, List, [], ◌∷◌, ◌++◌, length, Option, Some, None, refl, sym, ap, subst, take, arith, slice_get, slice_set}
+use Rattle.std.proofs.Math.Seq.{take-length}
+use Rattle.std.specs.Prelude.{MatchOption}
+use Rattle.std.specs.List.{AllByRecursion}
+use Rattle.std.proofs.lemmas.Option.{slice_get_within}
+use Rattle.txc_db.specs.History.{History}
+use Rattle.txc_cushion.specs.declared.pin.Pin.{Pin}
+use Rattle.txc_app.specs.Eval.{Next}
+use Rattle.txc_world.specs.declared.step.Act.{Act}
+use Rattle.txc_world.specs.declared.step.Act.TheVariants.{BeginRo, BeginRw, Start, Request, Ask, Write, Commit, Abort}
+use Rattle.txc_world.specs.declared.step.Step.{Step}
+use Rattle.txc_world.specs.declared.step.Step.TheVariants.{Actor, BeginIn, Keeper}
+use Rattle.txc_world.specs.declared.reply.End.{End}
+use Rattle.txc_world.specs.declared.reply.End.TheVariants as ends
+use Rattle.txc_world.specs.declared.reply.Reply.{Reply}
+use Rattle.txc_world.specs.declared.reply.Reply.TheVariants as replies
+use Rattle.txc_world.specs.Told.{Reading, Writing, Story, idle, reading, writing, leaving, Told, act_at, after, after_end, begin_at, floor_at, floor_by, story_after, AreExplained, IsCommitOf, IsExplainedIn, IsNoCommit, IsReceiptOf, ReplyExplains}
+use Rattle.txc_world.specs.Sessions.{replied, BeganNone, HaveBegunNone, HaveToldAtMost, NobodyGoesBack, ToldAtMost}
+use Rattle.txc_world.proofs.Stepping.{set_length}
+
+-- ---- floors
+
+floor_set : (floors : List ℕ) (place floor : ℕ) → place < length floors → floor_at (slice_set floors place floor) place ≡ floor
+floor_set [] place floor within = absurd (omega (arith, within))
+floor_set (f ∷ fs) zero floor within = refl
+floor_set (f ∷ fs) (suc place) floor within = floor_set fs place floor (omega (arith, within))
+
+floors_rise : (floors : List ℕ) (at place : ℕ) (raise : ℕ → ℕ) → ((n : ℕ) → n ≤ raise n)
+    → floor_at floors place ≤ floor_at (slice_set floors at (raise (floor_at floors at))) place
+floors_rise [] at place raise up = omega arith
+floors_rise (f ∷ fs) zero zero raise up = up f
+floors_rise (f ∷ fs) zero (suc place) raise up = omega arith
+floors_rise (f ∷ fs) (suc at) zero raise up = omega arith
+floors_rise (f ∷ fs) (suc at) (suc place) raise up = floors_rise fs at place raise up
+
+reply_raises : (reply : Reply) (floor : ℕ) → floor ≤ floor_by reply floor
+reply_raises replies.Begun floor = omega arith
+reply_raises (replies.Based base) floor = omega arith
+reply_raises replies.Started floor = omega arith
+reply_raises (replies.Asked did end) floor = omega arith
+reply_raises (replies.Ended end) floor = omega arith
+reply_raises (replies.Answered rows) floor = omega arith
+reply_raises replies.Kept floor = omega arith
+reply_raises (replies.Receipt None) floor = omega arith
+reply_raises (replies.Receipt (Some pin)) floor = omega arith
+reply_raises (replies.Aborted left) floor = omega arith
+reply_raises (replies.At stamp) floor = omega arith
+reply_raises replies.Added floor = omega arith
+reply_raises replies.GivenBack floor = omega arith
+reply_raises (replies.Retired stamps) floor = omega arith
+reply_raises replies.Unpinned floor = omega arith
+reply_raises (replies.Vacuumed horizon) floor = omega arith
+reply_raises (replies.Rows found) floor = omega arith
+reply_raises (replies.Advanced advanced) floor = omega arith
+reply_raises (replies.Swept count) floor = omega arith
+reply_raises (replies.Refused refusal) floor = omega arith
+
+-- each actor has a session
+abbrev pub HasSessions : Told → Type 0
+HasSessions told = length told.floors ≡ length told.actors
+
+module _ (told : Told) (at : ℕ) (act : Act) (reply : Reply) where
+  act_has : (story : Option Story) → HasSessions told → HasSessions (act_at at act reply told story)
+  act_has None h = h
+  act_has (Some story) h =
+      set_length told.floors at (floor_by reply (floor_at told.floors at)) ∙ h ∙ sym (set_length told.actors at (story_after act reply story))
+
+  act_raises : (story : Option Story) (place : ℕ) → floor_at told.floors place ≤ floor_at (act_at at act reply told story).floors place
+  act_raises None place = omega arith
+  act_raises (Some story) place = floors_rise told.floors at place (floor_by reply) (reply_raises reply)
+
+step_has : (told : Told) (step : Step) (reply : Reply) → HasSessions told → HasSessions (after told step reply)
+step_has told (Actor at act) reply h = act_has told at act reply (slice_get told.actors at) h
+step_has told (BeginIn at now staleness) reply h = act_has told at (begin_at (floor_at told.floors at) now staleness) reply (slice_get told.actors at) h
+step_has told (Keeper keep) reply h = h
+
+step_raises : (told : Told) (step : Step) (reply : Reply) (place : ℕ) → floor_at told.floors place ≤ floor_at (after told step reply).floors place
+step_raises told (Actor at act) reply place = act_raises told at act reply (slice_get told.actors at) place
+step_raises told (BeginIn at now staleness) reply place =
+    act_raises told at (begin_at (floor_at told.floors at) now staleness) reply (slice_get told.actors at) place
+step_raises told (Keeper keep) reply place = omega arith
+
+-- ---- one after another
+
+abbrev pub told_through : Told → List (Step × Reply) → Told
+told_through told [] = told
+told_through told (x ∷ xs) = told_through (after told x.0 x.1) xs
+
+abbrev pub AreExplainedThrough : Next → Told → List (Step × Reply) → Type 0
+AreExplainedThrough next told [] = Unit {0}
+AreExplainedThrough next told (x ∷ xs) =
+    IsExplainedIn next (after told x.0 x.1).history told x.0 x.1 × AreExplainedThrough next (after told x.0 x.1) xs
+
+through_raises : (told : Told) (xs : List (Step × Reply)) (place : ℕ) → floor_at told.floors place ≤ floor_at (told_through told xs).floors place
+through_raises told [] place = omega arith
+through_raises told (x ∷ xs) place =
+    let first = step_raises told x.0 x.1 place in
+    let rest = through_raises (after told x.0 x.1) xs place in
+    omega (arith, first, rest)
+
+explained_through : (next : Next) (told : Told) (steps : List Step) (replies : List Reply) → AreExplained next told steps replies
+    → AreExplainedThrough next told (replied steps replies)
+explained_through next told [] replies h = tt
+explained_through next told (s ∷ ss) [] h = tt
+explained_through next told (s ∷ ss) (r ∷ rs) h = (h.0, explained_through next (after told s r) ss rs h.1)
+
+explained_apart : (next : Next) (told : Told) (xs ys : List (Step × Reply)) → AreExplainedThrough next told (xs ++ ys)
+    → AreExplainedThrough next told xs × AreExplainedThrough next (told_through told xs) ys
+explained_apart next told [] ys h = (tt, h)
+explained_apart next told (x ∷ xs) ys h =
+    let rest = explained_apart next (after told x.0 x.1) xs ys h.1 in ((h.0, rest.0), rest.1)
+
+all_of_both : {X : Type 0} (P : X → Type 0) (xs ys : List X) → AllByRecursion P xs → AllByRecursion P ys → AllByRecursion P (xs ++ ys)
+all_of_both P [] ys a b = b
+all_of_both P (x ∷ xs) ys a b = (a.0, all_of_both P xs ys a.1 b)
+
+-- ---- what is told is at most the floor
+
+module _ (next : Next) (L : History) (told : Told) (has : HasSessions told) (place most : ℕ) where
+  stamp_low : (at stamp : ℕ) (reply : Reply) → ((floor : ℕ) → stamp ≤ floor_by reply floor) → (story : Option Story) → slice_get told.actors at ≡ story
+      → MatchOption story ⊥ (λ s. ReplyExplains next L (length told.history) s reply) → floor_at (act_at at Commit reply told story).floors place ≤ most
+      → at ≡ place → stamp ≤ most
+  stamp_low at stamp reply raises None is h low same = absurd h
+  stamp_low at stamp reply raises (Some story) is h low same =
+      let within = slice_get_within told.actors at story is in
+      let below : at < length told.floors = omega (arith, within, has) in
+      let low' = subst (λ (n : ℕ). floor_at (slice_set told.floors at (floor_by reply (floor_at told.floors at))) n ≤ most) (sym same) low in
+      let set = floor_set told.floors at (floor_by reply (floor_at told.floors at)) below in
+      let up = raises (floor_at told.floors at) in
+      omega (arith, low', set, up)
+
+  told_low : (step : Step) (reply : Reply) → IsExplainedIn next L told step reply → floor_at (after told step reply).floors place ≤ most
+      → ToldAtMost place most step reply
+  told_low (Keeper keep) reply h low = tt
+  told_low (BeginIn at now staleness) reply h low = tt
+  told_low (Actor at (BeginRo bounds)) reply h low = tt
+  told_low (Actor at BeginRw) reply h low = tt
+  told_low (Actor at (Start key)) reply h low = tt
+  told_low (Actor at Request) reply h low = tt
+  told_low (Actor at (Ask query)) reply h low = tt
+  told_low (Actor at (Write change)) reply h low = tt
+  told_low (Actor at Abort) reply h low = tt
+  told_low (Actor at Commit) replies.Begun h low = tt
+  told_low (Actor at Commit) (replies.Based base) h low = tt
+  told_low (Actor at Commit) replies.Started h low = tt
+  told_low (Actor at Commit) (replies.Asked did end) h low = tt
+  told_low (Actor at Commit) (replies.Ended end) h low = tt
+  told_low (Actor at Commit) (replies.Answered rows) h low = tt
+  told_low (Actor at Commit) replies.Kept h low = tt
+  told_low (Actor at Commit) (replies.Receipt None) h low = tt
+  told_low (Actor at Commit) (replies.Receipt (Some pin)) h low =
+      stamp_low at pin.stamp (replies.Receipt (Some pin)) (λ floor. omega arith) (slice_get told.actors at) refl h low
+  told_low (Actor at Commit) (replies.Aborted left) h low = tt
+  told_low (Actor at Commit) (replies.At stamp) h low = stamp_low at stamp (replies.At stamp) (λ floor. omega arith) (slice_get told.actors at) refl h low
+  told_low (Actor at Commit) replies.Added h low = tt
+  told_low (Actor at Commit) replies.GivenBack h low = tt
+  told_low (Actor at Commit) (replies.Retired stamps) h low = tt
+  told_low (Actor at Commit) replies.Unpinned h low = tt
+  told_low (Actor at Commit) (replies.Vacuumed horizon) h low = tt
+  told_low (Actor at Commit) (replies.Rows found) h low = tt
+  told_low (Actor at Commit) (replies.Advanced advanced) h low = tt
+  told_low (Actor at Commit) (replies.Swept count) h low = tt
+  told_low (Actor at Commit) (replies.Refused refusal) h low = tt
+
+before_low : (next : Next) (told : Told) (xs : List (Step × Reply)) (place most : ℕ) → HasSessions told → AreExplainedThrough next told xs
+    → floor_at (told_through told xs).floors place ≤ most → HaveToldAtMost place most xs
+before_low next told [] place most has h low = tt
+before_low next told (x ∷ xs) place most has h low =
+    let up = through_raises (after told x.0 x.1) xs place in (
+      told_low next (after told x.0 x.1).history told has place most x.0 x.1 h.0 (omega (arith, up, low)),
+      before_low next (after told x.0 x.1) xs place most (step_has told x.0 x.1 has) h.1 low,
+    )
+
+-- ---- what an actor reads
+
+-- a read-only transaction that the actor has open begins where this holds of the least stamp that it may read
+abbrev pub ReadsFrom : (ℕ → Type 0) → Story → Type 0
+ReadsFrom P idle = Unit {0}
+ReadsFrom P (reading r) = P r.bounds.at_least
+ReadsFrom P (writing w) = Unit {0}
+ReadsFrom P (leaving stamp) = Unit {0}
+
+abbrev pub NotBegun : Reply → Type 0
+NotBegun replies.Begun = ⊥
+NotBegun reply = Unit {0}
+
+module _ (P : ℕ → Type 0) where
+  end_reads : (end : Option End) (r : Reading) → P r.bounds.at_least → ReadsFrom P (reading (after_end end r))
+  end_reads None r h = h
+  end_reads (Some (ends.Value value)) r h = h
+  end_reads (Some (ends.Refused error)) r h = h
+
+  act_reads : (act : Act) (reply : Reply) (story : Story) → NotBegun reply → ReadsFrom P story → ReadsFrom P (story_after act reply story)
+  act_reads (BeginRo bounds) replies.Begun story new h = absurd new
+  act_reads (BeginRo bounds) (replies.Based base) story new h = h
+  act_reads (BeginRo bounds) replies.Started story new h = h
+  act_reads (BeginRo bounds) (replies.Asked did end) story new h = h
+  act_reads (BeginRo bounds) (replies.Ended end) story new h = h
+  act_reads (BeginRo bounds) (replies.Answered rows) story new h = h
+  act_reads (BeginRo bounds) replies.Kept story new h = h
+  act_reads (BeginRo bounds) (replies.Receipt pin) story new h = h
+  act_reads (BeginRo bounds) (replies.Aborted left) story new h = h
+  act_reads (BeginRo bounds) (replies.At stamp) story new h = h
+  act_reads (BeginRo bounds) replies.Added story new h = h
+  act_reads (BeginRo bounds) replies.GivenBack story new h = h
+  act_reads (BeginRo bounds) (replies.Retired stamps) story new h = h
+  act_reads (BeginRo bounds) replies.Unpinned story new h = h
+  act_reads (BeginRo bounds) (replies.Vacuumed horizon) story new h = h
+  act_reads (BeginRo bounds) (replies.Rows found) story new h = h
+  act_reads (BeginRo bounds) (replies.Advanced advanced) story new h = h
+  act_reads (BeginRo bounds) (replies.Swept count) story new h = h
+  act_reads (BeginRo bounds) (replies.Refused refusal) story new h = h
+  act_reads BeginRw replies.Begun story new h = h
+  act_reads BeginRw (replies.Based base) story new h = tt
+  act_reads BeginRw replies.Started story new h = h
+  act_reads BeginRw (replies.Asked did end) story new h = h
+  act_reads BeginRw (replies.Ended end) story new h = h
+  act_reads BeginRw (replies.Answered rows) story new h = h
+  act_reads BeginRw replies.Kept story new h = h
+  act_reads BeginRw (replies.Receipt pin) story new h = h
+  act_reads BeginRw (replies.Aborted left) story new h = h
+  act_reads BeginRw (replies.At stamp) story new h = h
+  act_reads BeginRw replies.Added story new h = h
+  act_reads BeginRw replies.GivenBack story new h = h
+  act_reads BeginRw (replies.Retired stamps) story new h = h
+  act_reads BeginRw replies.Unpinned story new h = h
+  act_reads BeginRw (replies.Vacuumed horizon) story new h = h
+  act_reads BeginRw (replies.Rows found) story new h = h
+  act_reads BeginRw (replies.Advanced advanced) story new h = h
+  act_reads BeginRw (replies.Swept count) story new h = h
+  act_reads BeginRw (replies.Refused refusal) story new h = h
+  act_reads (Start key) replies.Begun story new h = h
+  act_reads (Start key) (replies.Based base) story new h = h
+  act_reads (Start key) replies.Started idle new h = h
+  act_reads (Start key) replies.Started (reading r) new h = h
+  act_reads (Start key) replies.Started (writing w) new h = tt
+  act_reads (Start key) replies.Started (leaving held) new h = h
+  act_reads (Start key) (replies.Asked did end) story new h = h
+  act_reads (Start key) (replies.Ended end) story new h = h
+  act_reads (Start key) (replies.Answered rows) story new h = h
+  act_reads (Start key) replies.Kept story new h = h
+  act_reads (Start key) (replies.Receipt pin) story new h = h
+  act_reads (Start key) (replies.Aborted left) story new h = h
+  act_reads (Start key) (replies.At stamp) story new h = h
+  act_reads (Start key) replies.Added story new h = h
+  act_reads (Start key) replies.GivenBack story new h = h
+  act_reads (Start key) (replies.Retired stamps) story new h = h
+  act_reads (Start key) replies.Unpinned story new h = h
+  act_reads (Start key) (replies.Vacuumed horizon) story new h = h
+  act_reads (Start key) (replies.Rows found) story new h = h
+  act_reads (Start key) (replies.Advanced advanced) story new h = h
+  act_reads (Start key) (replies.Swept count) story new h = h
+  act_reads (Start key) (replies.Refused refusal) story new h = h
+  act_reads Request replies.Begun story new h = h
+  act_reads Request (replies.Based base) story new h = h
+  act_reads Request replies.Started story new h = h
+  act_reads Request (replies.Asked did end) idle new h = h
+  act_reads Request (replies.Asked did end) (reading r) new h = end_reads end r h
+  act_reads Request (replies.Asked did end) (writing w) new h = tt
+  act_reads Request (replies.Asked did end) (leaving held) new h = tt
+  act_reads Request (replies.Ended end) idle new h = h
+  act_reads Request (replies.Ended end) (reading r) new h = end_reads (Some end) r h
+  act_reads Request (replies.Ended end) (writing w) new h = tt
+  act_reads Request (replies.Ended end) (leaving held) new h = h
+  act_reads Request (replies.Answered rows) story new h = h
+  act_reads Request replies.Kept story new h = h
+  act_reads Request (replies.Receipt pin) story new h = h
+  act_reads Request (replies.Aborted left) story new h = h
+  act_reads Request (replies.At stamp) story new h = h
+  act_reads Request replies.Added story new h = h
+  act_reads Request replies.GivenBack story new h = h
+  act_reads Request (replies.Retired stamps) story new h = h
+  act_reads Request replies.Unpinned story new h = h
+  act_reads Request (replies.Vacuumed horizon) story new h = h
+  act_reads Request (replies.Rows found) story new h = h
+  act_reads Request (replies.Advanced advanced) story new h = h
+  act_reads Request (replies.Swept count) story new h = h
+  act_reads Request (replies.Refused refusal) story new h = h
+  act_reads (Ask query) replies.Begun story new h = h
+  act_reads (Ask query) (replies.Based base) story new h = h
+  act_reads (Ask query) replies.Started story new h = h
+  act_reads (Ask query) (replies.Asked did end) story new h = h
+  act_reads (Ask query) (replies.Ended end) story new h = h
+  act_reads (Ask query) (replies.Answered rows) idle new h = h
+  act_reads (Ask query) (replies.Answered rows) (reading r) new h = h
+  act_reads (Ask query) (replies.Answered rows) (writing w) new h = tt
+  act_reads (Ask query) (replies.Answered rows) (leaving held) new h = h
+  act_reads (Ask query) replies.Kept story new h = h
+  act_reads (Ask query) (replies.Receipt pin) story new h = h
+  act_reads (Ask query) (replies.Aborted left) story new h = h
+  act_reads (Ask query) (replies.At stamp) story new h = h
+  act_reads (Ask query) replies.Added story new h = h
+  act_reads (Ask query) replies.GivenBack story new h = h
+  act_reads (Ask query) (replies.Retired stamps) story new h = h
+  act_reads (Ask query) replies.Unpinned story new h = h
+  act_reads (Ask query) (replies.Vacuumed horizon) story new h = h
+  act_reads (Ask query) (replies.Rows found) story new h = h
+  act_reads (Ask query) (replies.Advanced advanced) story new h = h
+  act_reads (Ask query) (replies.Swept count) story new h = h
+  act_reads (Ask query) (replies.Refused refusal) story new h = h
+  act_reads (Write change) replies.Begun story new h = h
+  act_reads (Write change) (replies.Based base) story new h = h
+  act_reads (Write change) replies.Started story new h = h
+  act_reads (Write change) (replies.Asked did end) story new h = h
+  act_reads (Write change) (replies.Ended end) story new h = h
+  act_reads (Write change) (replies.Answered rows) story new h = h
+  act_reads (Write change) replies.Kept idle new h = h
+  act_reads (Write change) replies.Kept (reading r) new h = h
+  act_reads (Write change) replies.Kept (writing w) new h = tt
+  act_reads (Write change) replies.Kept (leaving held) new h = h
+  act_reads (Write change) (replies.Receipt pin) story new h = h
+  act_reads (Write change) (replies.Aborted left) story new h = h
+  act_reads (Write change) (replies.At stamp) story new h = h
+  act_reads (Write change) replies.Added story new h = h
+  act_reads (Write change) replies.GivenBack story new h = h
+  act_reads (Write change) (replies.Retired stamps) story new h = h
+  act_reads (Write change) replies.Unpinned story new h = h
+  act_reads (Write change) (replies.Vacuumed horizon) story new h = h
+  act_reads (Write change) (replies.Rows found) story new h = h
+  act_reads (Write change) (replies.Advanced advanced) story new h = h
+  act_reads (Write change) (replies.Swept count) story new h = h
+  act_reads (Write change) (replies.Refused refusal) story new h = h
+  act_reads Commit replies.Begun story new h = h
+  act_reads Commit (replies.Based base) story new h = h
+  act_reads Commit replies.Started story new h = h
+  act_reads Commit (replies.Asked did end) story new h = h
+  act_reads Commit (replies.Ended end) story new h = h
+  act_reads Commit (replies.Answered rows) story new h = h
+  act_reads Commit replies.Kept story new h = h
+  act_reads Commit (replies.Receipt pin) story new h = tt
+  act_reads Commit (replies.Aborted left) story new h = h
+  act_reads Commit (replies.At stamp) idle new h = h
+  act_reads Commit (replies.At stamp) (reading r) new h = h
+  act_reads Commit (replies.At stamp) (writing w) new h = tt
+  act_reads Commit (replies.At stamp) (leaving held) new h = h
+  act_reads Commit replies.Added story new h = h
+  act_reads Commit replies.GivenBack story new h = h
+  act_reads Commit (replies.Retired stamps) story new h = h
+  act_reads Commit replies.Unpinned story new h = h
+  act_reads Commit (replies.Vacuumed horizon) story new h = h
+  act_reads Commit (replies.Rows found) story new h = h
+  act_reads Commit (replies.Advanced advanced) story new h = h
+  act_reads Commit (replies.Swept count) story new h = h
+  act_reads Commit (replies.Refused refusal) story new h = h
+  act_reads Abort replies.Begun story new h = h
+  act_reads Abort (replies.Based base) story new h = h
+  act_reads Abort replies.Started story new h = h
+  act_reads Abort (replies.Asked did end) story new h = h
+  act_reads Abort (replies.Ended end) story new h = h
+  act_reads Abort (replies.Answered rows) story new h = h
+  act_reads Abort replies.Kept story new h = h
+  act_reads Abort (replies.Receipt pin) story new h = h
+  act_reads Abort (replies.Aborted None) story new h = tt
+  act_reads Abort (replies.Aborted (Some held)) story new h = tt
+  act_reads Abort (replies.At stamp) story new h = h
+  act_reads Abort replies.Added story new h = h
+  act_reads Abort replies.GivenBack story new h = h
+  act_reads Abort (replies.Retired stamps) story new h = h
+  act_reads Abort replies.Unpinned story new h = h
+  act_reads Abort (replies.Vacuumed horizon) story new h = h
+  act_reads Abort (replies.Rows found) story new h = h
+  act_reads Abort (replies.Advanced advanced) story new h = h
+  act_reads Abort (replies.Swept count) story new h = h
+  act_reads Abort (replies.Refused refusal) story new h = h
+
+-- what is set at a place is there
+set_there : (stories : List Story) (at : ℕ) (new story : Story) → slice_get (slice_set stories at new) at ≡ Some story → new ≡ story
+set_there [] at new story is = absurd (cc is)
+set_there (s ∷ ss) zero new story is = cc is
+set_there (s ∷ ss) (suc at) new story is = set_there ss at new story is
+
+set_reads : (P : Story → Type 0) (stories : List Story) (at place : ℕ) (new : Story) → (at ≡ place → P new)
+    → ((story : Story) → slice_get stories place ≡ Some story → P story)
+    → (story : Story) → slice_get (slice_set stories at new) place ≡ Some story → P story
+set_reads P [] at place new own others story is = others story is
+set_reads P (s ∷ ss) zero zero new own others story is = let same : new ≡ story = cc is in subst P same (own refl)
+set_reads P (s ∷ ss) zero (suc place) new own others story is = others story is
+set_reads P (s ∷ ss) (suc at) zero new own others story is = others story is
+set_reads P (s ∷ ss) (suc at) (suc place) new own others story is = set_reads P ss at place new (λ e. own (ap suc e)) others story is
+
+module _ (P : ℕ → Type 0) (place : ℕ) where
+  -- a read-only transaction that the actor of the number has open begins so
+  abbrev pub Reads : Told → Type 0
+  Reads told = (story : Story) → slice_get told.actors place ≡ Some story → ReadsFrom P story
+
+  place_reads : (told : Told) (at : ℕ) (act : Act) (reply : Reply) → (at ≡ place → NotBegun reply) → Reads told
+      → (story : Option Story) → slice_get told.actors at ≡ story → Reads (act_at at act reply told story)
+  place_reads told at act reply new h None is = h
+  place_reads told at act reply new h (Some was) is =
+      set_reads (ReadsFrom P) told.actors at place (story_after act reply was)
+      (λ same. act_reads P act reply was (new same) (h was (subst (λ (n : ℕ). slice_get told.actors n ≡ Some was) same is))) h
+
+  not_begun : (at : ℕ) (act : Act) (reply : Reply) → BeganNone place (Actor at act) reply → at ≡ place → NotBegun reply
+  not_begun at act replies.Begun none same = absurd (none same)
+  not_begun at act (replies.Based base) none same = tt
+  not_begun at act replies.Started none same = tt
+  not_begun at act (replies.Asked did end) none same = tt
+  not_begun at act (replies.Ended end) none same = tt
+  not_begun at act (replies.Answered rows) none same = tt
+  not_begun at act replies.Kept none same = tt
+  not_begun at act (replies.Receipt pin) none same = tt
+  not_begun at act (replies.Aborted left) none same = tt
+  not_begun at act (replies.At stamp) none same = tt
+  not_begun at act replies.Added none same = tt
+  not_begun at act replies.GivenBack none same = tt
+  not_begun at act (replies.Retired stamps) none same = tt
+  not_begun at act replies.Unpinned none same = tt
+  not_begun at act (replies.Vacuumed horizon) none same = tt
+  not_begun at act (replies.Rows found) none same = tt
+  not_begun at act (replies.Advanced advanced) none same = tt
+  not_begun at act (replies.Swept count) none same = tt
+  not_begun at act (replies.Refused refusal) none same = tt
+
+  not_begun_in : (at now staleness : ℕ) (reply : Reply) → BeganNone place (BeginIn at now staleness) reply → at ≡ place → NotBegun reply
+  not_begun_in at now staleness replies.Begun none same = absurd (none same)
+  not_begun_in at now staleness (replies.Based base) none same = tt
+  not_begun_in at now staleness replies.Started none same = tt
+  not_begun_in at now staleness (replies.Asked did end) none same = tt
+  not_begun_in at now staleness (replies.Ended end) none same = tt
+  not_begun_in at now staleness (replies.Answered rows) none same = tt
+  not_begun_in at now staleness replies.Kept none same = tt
+  not_begun_in at now staleness (replies.Receipt pin) none same = tt
+  not_begun_in at now staleness (replies.Aborted left) none same = tt
+  not_begun_in at now staleness (replies.At stamp) none same = tt
+  not_begun_in at now staleness replies.Added none same = tt
+  not_begun_in at now staleness replies.GivenBack none same = tt
+  not_begun_in at now staleness (replies.Retired stamps) none same = tt
+  not_begun_in at now staleness replies.Unpinned none same = tt
+  not_begun_in at now staleness (replies.Vacuumed horizon) none same = tt
+  not_begun_in at now staleness (replies.Rows found) none same = tt
+  not_begun_in at now staleness (replies.Advanced advanced) none same = tt
+  not_begun_in at now staleness (replies.Swept count) none same = tt
+  not_begun_in at now staleness (replies.Refused refusal) none same = tt
+
+  step_reads : (told : Told) (step : Step) (reply : Reply) → BeganNone place step reply → Reads told → Reads (after told step reply)
+  step_reads told (Actor at act) reply none h = place_reads told at act reply (not_begun at act reply none) h (slice_get told.actors at) refl
+  step_reads told (BeginIn at now staleness) reply none h =
+      place_reads told at (begin_at (floor_at told.floors at) now staleness) reply (not_begun_in at now staleness reply none) h (slice_get told.actors at) refl
+  step_reads told (Keeper keep) reply none h = h
+
+  through_reads : (told : Told) (xs : List (Step × Reply)) → HaveBegunNone place xs → Reads told → Reads (told_through told xs)
+  through_reads told [] none h = h
+  through_reads told (x ∷ xs) none h = through_reads (after told x.0 x.1) xs none.1 (step_reads told x.0 x.1 none.0 h)
+
+-- who begins in its session begins at its floor
+begun_reads : (told : Told) (place now staleness : ℕ) → Reads (λ n. n ≡ floor_at told.floors place) place (after told (BeginIn place now staleness) replies.Begun)
+begun_reads told place now staleness = go (slice_get told.actors place) refl
+  where
+    P : ℕ → Type 0
+    P n = n ≡ floor_at told.floors place
+
+    go : (story : Option Story) → slice_get told.actors place ≡ story
+        → Reads P place (act_at place (begin_at (floor_at told.floors place) now staleness) replies.Begun told story)
+    go None none = λ story is. let no : None ≡ Some story = sym none ∙ is in absurd (cc no)
+    go (Some was) some = λ story is. subst (ReadsFrom P)
+        (set_there told.actors place (story_after (begin_at (floor_at told.floors place) now staleness) replies.Begun was) story is) refl
+
+-- ---- what a receipt is of
+
+module _ (next : Next) (L : History) (told : Told) (place : ℕ) where
+  receipt_from : (P : ℕ → Type 0) (pin : Pin) → IsExplainedIn next L told (Actor place Commit) (replies.Receipt (Some pin)) → Reads P place told
+      → (n : ℕ) × P n × (n ≤ pin.stamp)
+  receipt_from P pin h reads = go (slice_get told.actors place) refl h
+    where
+      of : (story : Story) → slice_get told.actors place ≡ Some story → IsReceiptOf next L story (Some pin) → (n : ℕ) × P n × (n ≤ pin.stamp)
+      of idle is x = absurd x
+      of (reading r) is x = (r.bounds.at_least, reads (reading r) is, x.1.allowed.late)
+      of (writing w) is x = absurd x
+      of (leaving stamp) is x = absurd x
+
+      go : (story : Option Story) → slice_get told.actors place ≡ story → MatchOption story ⊥ (λ s. IsReceiptOf next L s (Some pin)) → (n : ℕ) × P n × (n ≤ pin.stamp)
+      go None is x = absurd x
+      go (Some story) is x = of story is x
+
+  -- once it is told so, it has nothing open to read with
+  receipt_ends : (at : ℕ) (pin : Option Pin) → at ≡ place → IsExplainedIn next L told (Actor at Commit) (replies.Receipt pin)
+      → Reads (λ n. ⊥) place (after told (Actor at Commit) (replies.Receipt pin))
+  receipt_ends at pin same h = go (slice_get told.actors at) refl h
+    where
+      go : (story : Option Story) → slice_get told.actors at ≡ story → MatchOption story ⊥ (λ s. IsReceiptOf next L s pin)
+          → Reads (λ n. ⊥) place (act_at at Commit (replies.Receipt pin) told story)
+      go None is x = absurd x
+      go (Some was) is x = λ story there. subst (ReadsFrom (λ n. ⊥))
+          (set_there told.actors at idle story (subst (λ (n : ℕ). slice_get (slice_set told.actors at idle) n ≡ Some story) (sym same) there)) tt
+
+  commit_ends : (at stamp : ℕ) → at ≡ place → IsExplainedIn next L told (Actor at Commit) (replies.At stamp)
+      → Reads (λ n. ⊥) place (after told (Actor at Commit) (replies.At stamp))
+  commit_ends at stamp same h = go (slice_get told.actors at) refl h
+    where
+      of : (was : Story) → IsCommitOf next L (length told.history) was stamp → Reads (λ n. ⊥) place (act_at at Commit (replies.At stamp) told (Some was))
+      of idle x = absurd x
+      of (reading r) x = absurd x
+      of (writing w) x = λ story there. subst (ReadsFrom (λ n. ⊥))
+          (set_there told.actors at (leaving w.base) story (subst (λ (n : ℕ). slice_get (slice_set told.actors at (leaving w.base)) n ≡ Some story) (sym same) there)) tt
+      of (leaving held) x = absurd x
+
+      go : (story : Option Story) → slice_get told.actors at ≡ story → MatchOption story ⊥ (λ s. IsCommitOf next L (length told.history) s stamp)
+          → Reads (λ n. ⊥) place (act_at at Commit (replies.At stamp) told story)
+      go None is x = absurd x
+      go (Some was) is x = of was x
+
+  told_none : (most : ℕ) (step : Step) (reply : Reply) → IsExplainedIn next L told step reply → (Reads (λ n. ⊥) place (after told step reply) → ⊥)
+      → ToldAtMost place most step reply
+  told_none most (Keeper keep) reply h ends = tt
+  told_none most (BeginIn at now staleness) reply h ends = tt
+  told_none most (Actor at (BeginRo bounds)) reply h ends = tt
+  told_none most (Actor at BeginRw) reply h ends = tt
+  told_none most (Actor at (Start key)) reply h ends = tt
+  told_none most (Actor at Request) reply h ends = tt
+  told_none most (Actor at (Ask query)) reply h ends = tt
+  told_none most (Actor at (Write change)) reply h ends = tt
+  told_none most (Actor at Abort) reply h ends = tt
+  told_none most (Actor at Commit) replies.Begun h ends = tt
+  told_none most (Actor at Commit) (replies.Based base) h ends = tt
+  told_none most (Actor at Commit) replies.Started h ends = tt
+  told_none most (Actor at Commit) (replies.Asked did end) h ends = tt
+  told_none most (Actor at Commit) (replies.Ended end) h ends = tt
+  told_none most (Actor at Commit) (replies.Answered rows) h ends = tt
+  told_none most (Actor at Commit) replies.Kept h ends = tt
+  told_none most (Actor at Commit) (replies.Receipt None) h ends = tt
+  told_none most (Actor at Commit) (replies.Receipt (Some pin)) h ends = λ same. absurd (ends (receipt_ends at (Some pin) same h))
+  told_none most (Actor at Commit) (replies.Aborted left) h ends = tt
+  told_none most (Actor at Commit) (replies.At stamp) h ends = λ same. absurd (ends (commit_ends at stamp same h))
+  told_none most (Actor at Commit) replies.Added h ends = tt
+  told_none most (Actor at Commit) replies.GivenBack h ends = tt
+  told_none most (Actor at Commit) (replies.Retired stamps) h ends = tt
+  told_none most (Actor at Commit) replies.Unpinned h ends = tt
+  told_none most (Actor at Commit) (replies.Vacuumed horizon) h ends = tt
+  told_none most (Actor at Commit) (replies.Rows found) h ends = tt
+  told_none most (Actor at Commit) (replies.Advanced advanced) h ends = tt
+  told_none most (Actor at Commit) (replies.Swept count) h ends = tt
+  told_none most (Actor at Commit) (replies.Refused refusal) h ends = tt
+
+-- a transaction that is committed has been open since it began
+between_low : (next : Next) (L : History) (told : Told) (xs : List (Step × Reply)) (place : ℕ) (pin : Pin) → HaveBegunNone place xs → AreExplainedThrough next told xs
+    → IsExplainedIn next L (told_through told xs) (Actor place Commit) (replies.Receipt (Some pin)) → HaveToldAtMost place pin.stamp xs
+between_low next L told [] place pin none h receipt = tt
+between_low next L told (x ∷ xs) place pin none h receipt =
+    let now = after told x.0 x.1 in (
+      told_none next now.history told place pin.stamp x.0 x.1 h.0 (λ ended.
+          (receipt_from next L (told_through now xs) place (λ n. ⊥) pin receipt (through_reads (λ n. ⊥) place now xs none.1 ended)).1),
+      between_low next L now xs place pin none.1 h.1 receipt,
+    )
+
+pub nobody_goes_back : (next : Next) (told : Told) (steps : List Step) (answers : List Reply) → HasSessions told → AreExplained next told steps answers
+    → NobodyGoesBack steps answers
+nobody_goes_back next told steps answers has explained place now staleness pin before between more apart none =
+    let receipt : Step × Reply = (Actor place Commit, replies.Receipt (Some pin)) in
+    let rest : List (Step × Reply) = (BeginIn place now staleness, replies.Begun) ∷ (between ++ (receipt ∷ more)) in
+    let all : AreExplainedThrough next told (before ++ rest) = subst (AreExplainedThrough next told) apart (explained_through next told steps answers explained) in
+    let first = explained_apart next told before rest all in
+    let start = told_through told before in
+    let begun = after start (BeginIn place now staleness) replies.Begun in
+    let second = explained_apart next begun between (receipt ∷ more) first.1.1 in
+    let open_at = told_through begun between in
+    let end = (after open_at (Actor place Commit) (replies.Receipt (Some pin))).history in
+    let reads = through_reads (λ n. n ≡ floor_at start.floors place) place begun between none (begun_reads start place now staleness) in
+    let from = receipt_from next end open_at place (λ n. n ≡ floor_at start.floors place) pin second.1.0 reads in
+    let at = from.1 in
+    let late = from.2 in
+    all_of_both (λ (x : Step × Reply). ToldAtMost place pin.stamp x.0 x.1) before between
+    (before_low next told before place pin.stamp has first.0 (omega (arith, at, late)))
+    (between_low next end begun between place pin none second.0 second.1.0)
+
+-- at the end of the loop over the steps
+pub loop_back : (next : Next) (start : Told) (steps : List Step) (i : ℕ) (answers : List Reply) → length steps ≤ i → i ≤ length steps
+    → HasSessions start → AreExplained next start (take i steps) answers → NobodyGoesBack steps answers
+loop_back next start steps i answers past within has explained =
+    let at : i ≡ length steps = omega (arith, past, within) in
+    let all : take i steps ≡ steps = ap (λ n. take n steps) at ∙ take-length steps in
+    nobody_goes_back next start steps answers has (subst (λ (ss : List Step). AreExplained next start ss answers) all explained)

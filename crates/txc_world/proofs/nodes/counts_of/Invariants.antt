@@ -1,0 +1,6 @@
+use Rattle.std.proofs.Common.{take}
+use Rattle.txc_node.specs.Counts.{AreCountsOf}
+use Rattle.txc_world.proofs.nodes.counts_of.Given as goal
+
+abbrev pub invariant-loop-at : goal.invariant-loop-at
+invariant-loop-at l = AreCountsOf (take l.at l.front.records) l.counts
