@@ -1,9 +1,7 @@
 //! Clients and their read-only transactions.
 mod boxes;
-mod caller;
 mod calling;
 mod desk;
 mod explained;
 mod rows;
-mod sessions;
 mod threads;

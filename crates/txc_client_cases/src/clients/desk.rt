@@ -35,16 +35,16 @@ pub(super) struct Desk<'a, A: App, C: Cacheable, J: Naming, R: Wait> {
     taken: Option<Permit>,
 }
 
-pub(super) fn say<E: Display>(answer: &mut String, what: &E) {
+fn say<E: Display>(answer: &mut String, what: &E) {
     let _ = write!(answer, "{what}");
 }
 
-pub(super) fn say_text(answer: &mut String, text: &str) {
+fn say_text(answer: &mut String, text: &str) {
     let _ = answer.push_str(text);
 }
 
 /// Any number of 64 bits.
-pub(super) fn long(words: &mut SplitWhitespace<'_>) -> u64 {
+fn long(words: &mut SplitWhitespace<'_>) -> u64 {
     words.next().unwrap_or("").parse().unwrap_or(0)
 }
 
@@ -57,10 +57,7 @@ fn bounds(words: &mut SplitWhitespace<'_>) -> Bounds {
 }
 
 /// A star for the present, and the members, the newest first.
-pub(super) fn say_pins<A: App, C: Cacheable, J: Naming>(
-    answer: &mut String,
-    txn: &RoTxn<'_, A, C, J>,
-) {
+fn say_pins<A: App, C: Cacheable, J: Naming>(answer: &mut String, txn: &RoTxn<'_, A, C, J>) {
     say_text(answer, "pins");
     if txn.has_present() {
         say_text(answer, " *");
@@ -71,7 +68,7 @@ pub(super) fn say_pins<A: App, C: Cacheable, J: Naming>(
     }
 }
 
-pub(super) fn say_call<A: App, C: Cacheable, J: Naming>(
+fn say_call<A: App, C: Cacheable, J: Naming>(
     answer: &mut String,
     rt: &impl Wait,
     alloc: Global,
@@ -88,7 +85,7 @@ pub(super) fn say_call<A: App, C: Cacheable, J: Naming>(
 }
 
 /// The pin's stamp and moment; and whether the receipt is not explained.
-pub(super) fn say_receipt(answer: &mut String, alloc: Global, receipt: &Receipt, bounds: &Bounds) {
+fn say_receipt(answer: &mut String, alloc: Global, receipt: &Receipt, bounds: &Bounds) {
     match receipt.pin {
         Some(pin) => {
             let (stamp, moment) = (pin.stamp, pin.moment);
@@ -186,7 +183,7 @@ fn say_advanced(answer: &mut String, advanced: &Result<Advanced, NodeError>) {
     }
 }
 
-pub(super) fn say_stamp(answer: &mut String, stamp: Option<Stamp>) {
+fn say_stamp(answer: &mut String, stamp: Option<Stamp>) {
     match stamp {
         Some(stamp) => say(answer, &stamp),
         None => say_text(answer, "refused"),
