@@ -155,7 +155,10 @@ impl Stage {
     /// The counts of a function over the records of a node.
     fn show_counts(&self, words: &mut SplitWhitespace<'_>, answer: &mut String) {
         match self.world.counts(number(words) as usize) {
-            Ok(counts) => say_counts(answer, counts.of((number(words) as u8).min(LAST_FUNCTION))),
+            Ok(counts) => {
+                let function = number(words).min(255) as u8;
+                say_counts(answer, counts.of(function.min(LAST_FUNCTION)));
+            }
             Err(refusal) => say_refusal(answer, &refusal),
         }
     }
