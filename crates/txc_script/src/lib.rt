@@ -4,6 +4,7 @@
 mod excerpt;
 mod fault;
 mod finding;
+mod function_line;
 mod hex;
 mod kind;
 mod line;
@@ -22,6 +23,7 @@ mod writer;
 pub use excerpt::{Excerpt, MAX_SHOWN};
 pub use fault::{RunFault, Status, exit_of};
 pub use finding::bad_word;
+pub use function_line::FunctionLine;
 pub use hex::read_hex;
 pub use kind::Script;
 pub use line::MAX_LINE_LEN;
@@ -34,3 +36,4 @@ pub use word::{read_stamp, read_still};
 pub use words::{
     WordsLeft, all_words, count_words, first_word, one_word, six_words, three_words, two_words,
 };
+pub use writer::write_text;
