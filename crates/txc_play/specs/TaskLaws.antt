@@ -17,7 +17,8 @@ use Rattle.txc_play.specs.declared.task.Task.TheVariants.{Pins, Counts}
 abbrev pub AreWrittenByReplies : Type 0
 AreWrittenByReplies = (next other : Next) (world elsewhere : WorldValue) (task : Task) (steps others : List Step)
     (replied : List Reply) (a b : Printed) → ((actor : ℕ) → task ≢ Pins actor)
-    → ((node function : ℕ) → task ≢ Counts node function) → Does next world task steps replied a → Does other elsewhere task others replied b → a ≡ b
+    → ((node function : ℕ) → task ≢ Counts node function)
+    → Does next world task steps replied a → Does other elsewhere task others replied b → a ≡ b
 
 -- what is written of the pins of an actor's read-only transaction is said by its pin set
 abbrev pub ArePinsWrittenByPinSet : Type 0
