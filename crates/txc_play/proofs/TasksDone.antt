@@ -224,10 +224,18 @@ counted_at (Some n) function r t counts due is same =
     let all : IfOk {E = Refusal} (Ok t) (AreCountsOf n.records) = subst (λ (x : Result Totals Refusal). IfOk x (AreCountsOf n.records)) is due.0 in
     ap (λ (c : FunctionCounts). Counted (record { function = function; counts = c })) (same ∙ counted_in n.records t all function)
 
-pub counted_done : (world : WorldValue) (node function : ℕ) (r : Result Totals Refusal) (t : Totals) (counts : FunctionCounts)
+counted_done : (world : WorldValue) (node function : ℕ) (r : Result Totals Refusal) (t : Totals) (counts : FunctionCounts)
     → MatchOption (slice_get world.ports.nodes node) (r ≡ Err NoNode) (λ n. IfOk r (AreCountsOf n.records) × IsOk r) → r ≡ Ok t → counts ≡ counts_of t.functions function
     → DoesCounts world node function (Counted (record { function = function; counts = counts }))
 counted_done world node function r t counts = counted_at (slice_get world.ports.nodes node) function r t counts
+
+-- the same, where the function is named by an equal number
+pub counted_as : (world : WorldValue) (node function number : ℕ) (r : Result Totals Refusal) (t : Totals) (counts : FunctionCounts)
+    → MatchOption (slice_get world.ports.nodes node) (r ≡ Err NoNode) (λ n. IfOk r (AreCountsOf n.records) × IsOk r) → r ≡ Ok t → number ≡ function
+    → counts ≡ counts_of t.functions number → DoesCounts world node function (Counted (record { function = number; counts = counts }))
+counted_as world node function number r t counts due is same =
+    subst (λ (n : ℕ). counts ≡ counts_of t.functions n → DoesCounts world node function (Counted (record { function = n; counts = counts })))
+    (sym same) (counted_done world node function r t counts due is)
 
 -- there is no such node
 not_counted_at : (there : Option NodeValue) (function : ℕ) (r : Result Totals Refusal) (refusal : Refusal) → MatchOption there (r ≡ Err NoNode) (λ n. IfOk r (AreCountsOf n.records) × IsOk r)
