@@ -165,34 +165,22 @@ module _ (next : Next) (row : List ℕ) (node_rows : ℕ → List ℕ) (olds new
 
   request_adds : (request : PortRequest) (reply : PortReply) → IsReplyTo next request reply → PassesAfter node_rows olds request reply news
       → slice_get olds node ≡ Some p → AddsAt node p (step_at node request) news
-  request_adds (requests.Fresh bounds) reply to h is = stays_at node p olds news h is
   request_adds (requests.Pin now at_least) reply to h is = stays_at node p olds news h is
   request_adds (requests.AddPin pinned) reply to h is = stays_at node p olds news h is
   request_adds (requests.Unpin stamp) reply to h is = stays_at node p olds news h is
   request_adds (requests.Lookup at key lo hi) (answers.Lookup found) to h is = lookup_adds at key lo hi found h is
-  request_adds (requests.Lookup at key lo hi) (answers.Fresh pins) to h is = absurd to
   request_adds (requests.Lookup at key lo hi) (answers.Pin pinned) to h is = absurd to
   request_adds (requests.Lookup at key lo hi) (answers.AddPin given added) to h is = absurd to
   request_adds (requests.Lookup at key lo hi) answers.Unpin to h is = absurd to
   request_adds (requests.Lookup at key lo hi) (answers.Query found) to h is = absurd to
-  request_adds (requests.Lookup at key lo hi) answers.GiveBack to h is = absurd to
-  request_adds (requests.Lookup at key lo hi) (answers.Hold held) to h is = absurd to
-  request_adds (requests.Lookup at key lo hi) (answers.Commit committed) to h is = absurd to
   request_adds (requests.Lookup at key lo hi) answers.Insert to h is = absurd to
   request_adds (requests.Query query stamp) reply to h is = stays_at node p olds news h is
   request_adds (requests.Insert at entry) answers.Insert to h is = insert_adds at entry h is
-  request_adds (requests.Insert at entry) (answers.Fresh pins) to h is = absurd to
   request_adds (requests.Insert at entry) (answers.Pin pinned) to h is = absurd to
   request_adds (requests.Insert at entry) (answers.AddPin given added) to h is = absurd to
   request_adds (requests.Insert at entry) answers.Unpin to h is = absurd to
   request_adds (requests.Insert at entry) (answers.Query found) to h is = absurd to
-  request_adds (requests.Insert at entry) answers.GiveBack to h is = absurd to
-  request_adds (requests.Insert at entry) (answers.Hold held) to h is = absurd to
-  request_adds (requests.Insert at entry) (answers.Commit committed) to h is = absurd to
   request_adds (requests.Insert at entry) (answers.Lookup found) to h is = absurd to
-  request_adds (requests.GiveBack stamps) reply to h is = stays_at node p olds news h is
-  request_adds requests.Hold reply to h is = stays_at node p olds news h is
-  request_adds (requests.Commit base read changes) reply to h is = stays_at node p olds news h is
 
 -- ---- a run
 

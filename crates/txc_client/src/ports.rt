@@ -171,7 +171,6 @@ impl<'a, A: App, J: Naming> Ports<'a, A, J> {
                 self.insert(rt, alloc, node, entry, seen);
                 PortReply::Insert
             }
-            _ => unreachable!(),
         }
     }
 }

@@ -22,7 +22,6 @@ MayAsk next row nodes L (requests.Unpin stamp) = Unit {0}
 MayAsk next row nodes L (requests.Lookup node key lo hi) = node < nodes
 MayAsk next row nodes L (requests.Query query stamp) = Unit {0}
 MayAsk next row nodes L (requests.Insert node entry) = (node < nodes) × IsTrueIn next L entry
-MayAsk next row nodes L request = ⊥
 
 -- what was found for the query at the stamp, over a reach that holds it
 pub record IsFoundOver (L : History) (query : Query) (stamp : ℕ) (found : Found) : Type 0 where

@@ -20,7 +20,7 @@ use Rattle.txc_call.specs.Calling.{Calling}
 use Rattle.txc_call.specs.Turns.{Turn as CallTurn, AfterReply}
 use Rattle.txc_ports.specs.declared.error.TxnError.{TxnError}
 use Rattle.txc_ports.specs.declared.turn.Turn.{Turn}
-use Rattle.txc_ports.specs.declared.turn.Turn.TheVariants.{Ask, Begun, Value, Rows, At, Refused}
+use Rattle.txc_ports.specs.declared.turn.Turn.TheVariants.{Ask, Value, Rows, Refused}
 use Rattle.txc_ports.specs.Refusals.{refused_call, refused_request}
 use Rattle.txc_rw.specs.declared.given.Given.{Given}
 use Rattle.txc_rw.specs.declared.given.Given.TheVariants as given
@@ -173,10 +173,8 @@ run_asks next row s from old core objects (Ask r) queries (Ok standing) led (inl
 run_asks next row s from old core objects (Ask r) queries (Ok standing) led (inr does) asks = absurd does
 run_asks next row s from old core objects (Ask r) queries (Err e) led (inl does) asks = absurd (cc does)
 run_asks next row s from old core objects (Ask r) queries (Err e) led (inr does) asks = absurd does
-run_asks next row s from old core objects Begun queries stands led does asks = absurd asks
 run_asks next row s from old core objects (Value v) queries stands led does asks = absurd asks
 run_asks next row s from old core objects (Rows rows) queries stands led does asks = absurd asks
-run_asks next row s from old core objects (At n) queries stands led does asks = absurd asks
 run_asks next row s from old core objects (Refused e) queries stands led does asks = absurd asks
 
 -- and goes on with the database's answer

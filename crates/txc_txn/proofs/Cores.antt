@@ -299,10 +299,8 @@ core_begun next objects nodes renew_after bounds pins call idle empty none some 
 pub need_stands : (old new : CoreValue) (objects objects' : Objects) (turn : Turn) → NeedLeads old objects new objects' turn
     → StandingLeads (Ok (record { frames = old.call.frames; asked = old.call.asked; need = old.call.need; objects = objects })) new objects' turn
 need_stands old new objects objects' (turns.Ask request) h = (ap (λ (call : Calling). call.frames) h.0, ap (λ (call : Calling). call.asked) h.0, ap (λ (call : Calling). call.need) h.0, h.1)
-need_stands old new objects objects' turns.Begun h = absurd h
 need_stands old new objects objects' (turns.Value value) h = h
 need_stands old new objects objects' (turns.Rows rows) h = absurd h
-need_stands old new objects objects' (turns.At stamp) h = absurd h
 need_stands old new objects objects' (turns.Refused error) h = h
 
 -- what comes of a pin does not depend on what was seen of the history
@@ -321,7 +319,6 @@ pin_seen c seen objects (Some k) new objects' turn h = record {
 -- nor does what comes of any reply
 pub leads_seen : (next : Next) (c : CoreValue) (seen : FrontValue) (objects : Objects) (reply : PortReply) (new : CoreValue) (objects' : Objects) (turn : Turn)
     → ReplyLeads next (record c { seen = seen }) objects reply new objects' turn → ReplyLeads next c objects reply new objects' turn
-leads_seen next c seen objects (ports.Fresh pins) new objects' turn h = h
 leads_seen next c seen objects (ports.Pin (Ok pinned)) new objects' turn h = h
 leads_seen next c seen objects (ports.Pin (Err error)) new objects' turn h = h
 leads_seen next c seen objects (ports.AddPin pinned (Ok added)) new objects' turn h = pin_seen c seen objects (first_call c.pinning) new objects' turn h
@@ -332,15 +329,11 @@ leads_seen next c seen objects (ports.Lookup (Some hit)) new objects' turn h = �
 leads_seen next c seen objects (ports.Query (Ok found)) new objects' turn h = h
 leads_seen next c seen objects (ports.Query (Err error)) new objects' turn h = h
 leads_seen next c seen objects ports.Insert new objects' turn h = h
-leads_seen next c seen objects ports.GiveBack new objects' turn h = h
-leads_seen next c seen objects (ports.Hold held) new objects' turn h = h
-leads_seen next c seen objects (ports.Commit committed) new objects' turn h = h
 
 -- ---- with a registry
 
 -- a reply that shows nothing of the history says nothing of it
 no_front : (next : Next) (need : Option Need) (reply : PortReply) (M : History) → front_of reply ≡ None → IsRight next M need reply
-no_front next need (ports.Fresh pins) M none = tt
 no_front next need (ports.Pin (Ok pinned)) M none = absurd (cc none)
 no_front next need (ports.Pin (Err error)) M none = tt
 no_front next need (ports.AddPin pinned added) M none = tt
@@ -350,9 +343,6 @@ no_front next need (ports.Lookup (Some hit)) M none = absurd (cc none)
 no_front next need (ports.Query (Ok found)) M none = absurd (cc none)
 no_front next need (ports.Query (Err error)) M none = tt
 no_front next need ports.Insert M none = tt
-no_front next need ports.GiveBack M none = tt
-no_front next need (ports.Hold held) M none = tt
-no_front next need (ports.Commit committed) M none = tt
 
 -- a reply that is right in the history that it shows is right in what is seen after it
 pub right_seen : StatesStay → (next : Next) (need : Option Need) (reply : PortReply) (M : History) → ForSome (front_of reply) (λ front. IsPrefix front.history M)

@@ -34,20 +34,14 @@ AddsOf row (turns.Ask (requests.AddPin pinned)) = pinned.front.events ≡ row
 AddsOf row turn = Unit {0}
 
 no_adding : (row : List ℕ) (turn : Turn) → IsNoAdding turn → AddsOf row turn
-no_adding row (turns.Ask (requests.Fresh bounds)) none = tt
 no_adding row (turns.Ask (requests.Pin now at_least)) none = tt
 no_adding row (turns.Ask (requests.AddPin pinned)) none = absurd none
 no_adding row (turns.Ask (requests.Unpin stamp)) none = tt
 no_adding row (turns.Ask (requests.Lookup node key lo hi)) none = tt
 no_adding row (turns.Ask (requests.Query query stamp)) none = tt
 no_adding row (turns.Ask (requests.Insert node entry)) none = tt
-no_adding row (turns.Ask (requests.GiveBack stamps)) none = tt
-no_adding row (turns.Ask requests.Hold) none = tt
-no_adding row (turns.Ask (requests.Commit base read changes)) none = tt
-no_adding row turns.Begun none = tt
 no_adding row (turns.Value value) none = tt
 no_adding row (turns.Rows rows) none = tt
-no_adding row (turns.At stamp) none = tt
 no_adding row (turns.Refused error) none = tt
 
 pub adds_at_first : (row : List ℕ) (turn : Turn) → IsNoAdding turn → AddsOf row turn
@@ -56,7 +50,6 @@ adds_at_first = no_adding
 module _ (next : Next) (row : List ℕ) (old new : TxnValue) (turn : Turn) where
   pub adds_next : (reply : PortReply) → IsOfRow row reply → AddsOnly reply turn
       → ReplyLeads next old.core old.objects reply new.core new.objects turn → AddsOf row turn
-  adds_next (replies.Fresh pins) of only leads = no_adding row turn only
   adds_next (replies.Pin (Ok pinned)) of only leads = subst (AddsOf row) (sym leads) (of pinned.front refl)
   adds_next (replies.Pin (Err error)) of only leads = no_adding row turn only
   adds_next (replies.AddPin pinned added) of only leads = no_adding row turn only
@@ -64,9 +57,6 @@ module _ (next : Next) (row : List ℕ) (old new : TxnValue) (turn : Turn) where
   adds_next (replies.Lookup hit) of only leads = no_adding row turn only
   adds_next (replies.Query found) of only leads = no_adding row turn only
   adds_next replies.Insert of only leads = no_adding row turn only
-  adds_next replies.GiveBack of only leads = no_adding row turn only
-  adds_next (replies.Hold held) of only leads = no_adding row turn only
-  adds_next (replies.Commit committed) of only leads = no_adding row turn only
 
 -- ---- what is asked may be asked
 
@@ -77,7 +67,6 @@ module _ (next : Next) (row : List ℕ) (t : TxnValue) (kept : IsKept next t) wh
 
   pub may_ask : (nodes : ℕ) → t.core.nodes ≡ nodes → (request : PortRequest) → IsAsking t.core request
       → AddsOf row (turns.Ask request) → MayAsk next row nodes t.core.seen.history request
-  may_ask nodes same (requests.Fresh bounds) asking adds = absurd asking
   may_ask nodes same (requests.Pin now at_least) asking adds = tt
   may_ask nodes same (requests.AddPin pinned) asking adds = adds
   may_ask nodes same (requests.Unpin stamp) asking adds = tt
@@ -87,9 +76,6 @@ module _ (next : Next) (row : List ℕ) (t : TxnValue) (kept : IsKept next t) wh
     node_there entry.key node nodes asking.1 same,
     (subst (λ (n : Option Need). NeedHolds next t.core.seen.history t.objects n t.core.call.frames) asking.0.1 kept.holds.meant.right).0,
   )
-  may_ask nodes same (requests.GiveBack stamps) asking adds = absurd asking
-  may_ask nodes same requests.Hold asking adds = absurd asking
-  may_ask nodes same (requests.Commit base read changes) asking adds = absurd asking
 
 -- ---- the reply is one to it
 
@@ -116,64 +102,36 @@ module _ (next : Next) (c : CoreValue) where
       (query, asking.0, chosen c.bounds.now c.renew_after c.pins.has_present c.pins.members stamp found.answer.reach asking.1 to.around)
   is_answered (requests.Query query stamp) (replies.Query (Err error)) asking to = (query, asking.0)
   is_answered (requests.Insert node entry) replies.Insert asking to = (entry, asking.0)
-  is_answered (requests.Pin now at_least) (replies.Fresh pins) asking to = absurd to
   is_answered (requests.Pin now at_least) (replies.AddPin given added) asking to = absurd to
   is_answered (requests.Pin now at_least) replies.Unpin asking to = absurd to
   is_answered (requests.Pin now at_least) (replies.Lookup hit) asking to = absurd to
   is_answered (requests.Pin now at_least) (replies.Query answer) asking to = absurd to
   is_answered (requests.Pin now at_least) replies.Insert asking to = absurd to
-  is_answered (requests.Pin now at_least) replies.GiveBack asking to = absurd to
-  is_answered (requests.Pin now at_least) (replies.Hold held) asking to = absurd to
-  is_answered (requests.Pin now at_least) (replies.Commit committed) asking to = absurd to
-  is_answered (requests.AddPin pinned) (replies.Fresh pins) asking to = absurd to
   is_answered (requests.AddPin pinned) (replies.Pin answer) asking to = absurd to
   is_answered (requests.AddPin pinned) replies.Unpin asking to = absurd to
   is_answered (requests.AddPin pinned) (replies.Lookup hit) asking to = absurd to
   is_answered (requests.AddPin pinned) (replies.Query answer) asking to = absurd to
   is_answered (requests.AddPin pinned) replies.Insert asking to = absurd to
-  is_answered (requests.AddPin pinned) replies.GiveBack asking to = absurd to
-  is_answered (requests.AddPin pinned) (replies.Hold held) asking to = absurd to
-  is_answered (requests.AddPin pinned) (replies.Commit committed) asking to = absurd to
-  is_answered (requests.Unpin stamp) (replies.Fresh pins) asking to = absurd to
   is_answered (requests.Unpin stamp) (replies.Pin answer) asking to = absurd to
   is_answered (requests.Unpin stamp) (replies.AddPin given added) asking to = absurd to
   is_answered (requests.Unpin stamp) (replies.Lookup hit) asking to = absurd to
   is_answered (requests.Unpin stamp) (replies.Query answer) asking to = absurd to
   is_answered (requests.Unpin stamp) replies.Insert asking to = absurd to
-  is_answered (requests.Unpin stamp) replies.GiveBack asking to = absurd to
-  is_answered (requests.Unpin stamp) (replies.Hold held) asking to = absurd to
-  is_answered (requests.Unpin stamp) (replies.Commit committed) asking to = absurd to
-  is_answered (requests.Lookup node key lo hi) (replies.Fresh pins) asking to = absurd to
   is_answered (requests.Lookup node key lo hi) (replies.Pin answer) asking to = absurd to
   is_answered (requests.Lookup node key lo hi) (replies.AddPin given added) asking to = absurd to
   is_answered (requests.Lookup node key lo hi) replies.Unpin asking to = absurd to
   is_answered (requests.Lookup node key lo hi) (replies.Query answer) asking to = absurd to
   is_answered (requests.Lookup node key lo hi) replies.Insert asking to = absurd to
-  is_answered (requests.Lookup node key lo hi) replies.GiveBack asking to = absurd to
-  is_answered (requests.Lookup node key lo hi) (replies.Hold held) asking to = absurd to
-  is_answered (requests.Lookup node key lo hi) (replies.Commit committed) asking to = absurd to
-  is_answered (requests.Query query stamp) (replies.Fresh pins) asking to = absurd to
   is_answered (requests.Query query stamp) (replies.Pin answer) asking to = absurd to
   is_answered (requests.Query query stamp) (replies.AddPin given added) asking to = absurd to
   is_answered (requests.Query query stamp) replies.Unpin asking to = absurd to
   is_answered (requests.Query query stamp) (replies.Lookup hit) asking to = absurd to
   is_answered (requests.Query query stamp) replies.Insert asking to = absurd to
-  is_answered (requests.Query query stamp) replies.GiveBack asking to = absurd to
-  is_answered (requests.Query query stamp) (replies.Hold held) asking to = absurd to
-  is_answered (requests.Query query stamp) (replies.Commit committed) asking to = absurd to
-  is_answered (requests.Insert node entry) (replies.Fresh pins) asking to = absurd to
   is_answered (requests.Insert node entry) (replies.Pin answer) asking to = absurd to
   is_answered (requests.Insert node entry) (replies.AddPin given added) asking to = absurd to
   is_answered (requests.Insert node entry) replies.Unpin asking to = absurd to
   is_answered (requests.Insert node entry) (replies.Lookup hit) asking to = absurd to
   is_answered (requests.Insert node entry) (replies.Query answer) asking to = absurd to
-  is_answered (requests.Insert node entry) replies.GiveBack asking to = absurd to
-  is_answered (requests.Insert node entry) (replies.Hold held) asking to = absurd to
-  is_answered (requests.Insert node entry) (replies.Commit committed) asking to = absurd to
-  is_answered (requests.Fresh bounds) reply asking to = absurd asking
-  is_answered (requests.GiveBack stamps) reply asking to = absurd asking
-  is_answered requests.Hold reply asking to = absurd asking
-  is_answered (requests.Commit base read changes) reply asking to = absurd asking
 
 -- ---- it is right in the history that it shows
 
@@ -199,61 +157,33 @@ module _ (next : Next) (t : TxnValue) where
       (subst (λ (m : Need). ReplyHolds next found.front.history m (calls.Found found.answer)) (needs_this (needs.Query query) n asking.0.1 at) to.rows)
   is_right (requests.Query query stamp) (replies.Query (Err error)) asking to = λ front is. absurd (cc is)
   is_right (requests.Insert node entry) replies.Insert asking to = λ front is. absurd (cc is)
-  is_right (requests.Pin now at_least) (replies.Fresh pins) asking to = absurd to
   is_right (requests.Pin now at_least) (replies.AddPin given added) asking to = absurd to
   is_right (requests.Pin now at_least) replies.Unpin asking to = absurd to
   is_right (requests.Pin now at_least) (replies.Lookup hit) asking to = absurd to
   is_right (requests.Pin now at_least) (replies.Query answer) asking to = absurd to
   is_right (requests.Pin now at_least) replies.Insert asking to = absurd to
-  is_right (requests.Pin now at_least) replies.GiveBack asking to = absurd to
-  is_right (requests.Pin now at_least) (replies.Hold held) asking to = absurd to
-  is_right (requests.Pin now at_least) (replies.Commit committed) asking to = absurd to
-  is_right (requests.AddPin pinned) (replies.Fresh pins) asking to = absurd to
   is_right (requests.AddPin pinned) (replies.Pin answer) asking to = absurd to
   is_right (requests.AddPin pinned) replies.Unpin asking to = absurd to
   is_right (requests.AddPin pinned) (replies.Lookup hit) asking to = absurd to
   is_right (requests.AddPin pinned) (replies.Query answer) asking to = absurd to
   is_right (requests.AddPin pinned) replies.Insert asking to = absurd to
-  is_right (requests.AddPin pinned) replies.GiveBack asking to = absurd to
-  is_right (requests.AddPin pinned) (replies.Hold held) asking to = absurd to
-  is_right (requests.AddPin pinned) (replies.Commit committed) asking to = absurd to
-  is_right (requests.Unpin stamp) (replies.Fresh pins) asking to = absurd to
   is_right (requests.Unpin stamp) (replies.Pin answer) asking to = absurd to
   is_right (requests.Unpin stamp) (replies.AddPin given added) asking to = absurd to
   is_right (requests.Unpin stamp) (replies.Lookup hit) asking to = absurd to
   is_right (requests.Unpin stamp) (replies.Query answer) asking to = absurd to
   is_right (requests.Unpin stamp) replies.Insert asking to = absurd to
-  is_right (requests.Unpin stamp) replies.GiveBack asking to = absurd to
-  is_right (requests.Unpin stamp) (replies.Hold held) asking to = absurd to
-  is_right (requests.Unpin stamp) (replies.Commit committed) asking to = absurd to
-  is_right (requests.Lookup node key lo hi) (replies.Fresh pins) asking to = absurd to
   is_right (requests.Lookup node key lo hi) (replies.Pin answer) asking to = absurd to
   is_right (requests.Lookup node key lo hi) (replies.AddPin given added) asking to = absurd to
   is_right (requests.Lookup node key lo hi) replies.Unpin asking to = absurd to
   is_right (requests.Lookup node key lo hi) (replies.Query answer) asking to = absurd to
   is_right (requests.Lookup node key lo hi) replies.Insert asking to = absurd to
-  is_right (requests.Lookup node key lo hi) replies.GiveBack asking to = absurd to
-  is_right (requests.Lookup node key lo hi) (replies.Hold held) asking to = absurd to
-  is_right (requests.Lookup node key lo hi) (replies.Commit committed) asking to = absurd to
-  is_right (requests.Query query stamp) (replies.Fresh pins) asking to = absurd to
   is_right (requests.Query query stamp) (replies.Pin answer) asking to = absurd to
   is_right (requests.Query query stamp) (replies.AddPin given added) asking to = absurd to
   is_right (requests.Query query stamp) replies.Unpin asking to = absurd to
   is_right (requests.Query query stamp) (replies.Lookup hit) asking to = absurd to
   is_right (requests.Query query stamp) replies.Insert asking to = absurd to
-  is_right (requests.Query query stamp) replies.GiveBack asking to = absurd to
-  is_right (requests.Query query stamp) (replies.Hold held) asking to = absurd to
-  is_right (requests.Query query stamp) (replies.Commit committed) asking to = absurd to
-  is_right (requests.Insert node entry) (replies.Fresh pins) asking to = absurd to
   is_right (requests.Insert node entry) (replies.Pin answer) asking to = absurd to
   is_right (requests.Insert node entry) (replies.AddPin given added) asking to = absurd to
   is_right (requests.Insert node entry) replies.Unpin asking to = absurd to
   is_right (requests.Insert node entry) (replies.Lookup hit) asking to = absurd to
   is_right (requests.Insert node entry) (replies.Query answer) asking to = absurd to
-  is_right (requests.Insert node entry) replies.GiveBack asking to = absurd to
-  is_right (requests.Insert node entry) (replies.Hold held) asking to = absurd to
-  is_right (requests.Insert node entry) (replies.Commit committed) asking to = absurd to
-  is_right (requests.Fresh bounds) reply asking to = absurd asking
-  is_right (requests.GiveBack stamps) reply asking to = absurd asking
-  is_right requests.Hold reply asking to = absurd asking
-  is_right (requests.Commit base read changes) reply asking to = absurd asking

@@ -161,7 +161,6 @@ IsAsking c (requests.Query query stamp) = IsNeeding c (needs.Query query)
     × (choice_of c.bounds.now c.renew_after c.pins ≡ At stamp)
 IsAsking c (requests.Insert node entry) = IsNeeding c (needs.Insert entry)
     × (node ≡ node_of c.nodes entry.key)
-IsAsking c request = ⊥
 
 -- the core asks, or its call has ended
 abbrev pub IsTurn : CoreValue → Turn → Type 0
@@ -190,7 +189,6 @@ IsAnswered c (ports.Query (Ok found)) = (query : Query) × IsNeeding c (needs.Qu
     × HoldsNewest found.answer.reach c.pins.members
 IsAnswered c (ports.Query (Err error)) = (query : Query) × IsNeeding c (needs.Query query)
 IsAnswered c ports.Insert = (entry : Entry) × IsNeeding c (needs.Insert entry)
-IsAnswered c reply = ⊥
 
 -- the reply to what the call needs is right in the history
 abbrev pub IsRight : Next → History → Option Need → PortReply → Type 0

@@ -40,20 +40,14 @@ module _ {X : Type 0} where
 
 module _ (old new : PortsValue) (keeps : KeepsRow old new) where
   adds_later : (turn : Turn) → AddsPart (whole_of old) turn → AddsPart (whole_of new) turn
-  adds_later (turns.Ask (requests.Fresh bounds)) part = tt
   adds_later (turns.Ask (requests.Pin now at_least)) part = tt
   adds_later (turns.Ask (requests.AddPin pinned)) part = part_kept old new pinned.front keeps part
   adds_later (turns.Ask (requests.Unpin stamp)) part = tt
   adds_later (turns.Ask (requests.Lookup node key lo hi)) part = tt
   adds_later (turns.Ask (requests.Query query stamp)) part = tt
   adds_later (turns.Ask (requests.Insert node entry)) part = tt
-  adds_later (turns.Ask (requests.GiveBack stamps)) part = tt
-  adds_later (turns.Ask requests.Hold) part = tt
-  adds_later (turns.Ask (requests.Commit base read changes)) part = tt
-  adds_later turns.Begun part = tt
   adds_later (turns.Value value) part = tt
   adds_later (turns.Rows rows) part = tt
-  adds_later (turns.At stamp) part = tt
   adds_later (turns.Refused error) part = tt
 
   call_later : (c : CoreValue) (call : Option OpenCall) → HasCall (whole_of old) c call → HasCall (whole_of new) c call

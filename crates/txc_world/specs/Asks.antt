@@ -132,7 +132,6 @@ DoesTell (replies.Query (Ok found)) did = (rows : RowsFound) × (did ≡ dids.Ro
     × IsToldOf found.answer rows
 DoesTell (replies.Query (Err e)) did = did ≡ dids.Refused e
 DoesTell replies.Insert did = (made : Option Insertion) × (did ≡ did_insert made)
-DoesTell reply did = ⊥
 
 -- of a hold, by what is told
 abbrev pub UnpinTold : ℕ → PortsValue → PortsValue → Did → Type 0

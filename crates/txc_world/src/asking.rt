@@ -277,7 +277,6 @@ impl<A: App> Ports<A> {
             ),
             PortRequest::Query { query, stamp } => self.ask_query(alloc, pass, &query, stamp),
             PortRequest::Insert { node, entry } => self.ask_insert(alloc, pass, node, entry, seen),
-            _ => unreachable!(),
         }
     }
 }
