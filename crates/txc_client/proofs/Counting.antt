@@ -118,20 +118,9 @@ module _ (next : Next) (s : Standing) where
   pub reply_counts : (frames : List Frame) (asked : ℕ) (os : Objects) (need : Need) (reply : Reply) → AfterReply next frames asked os need reply (Ok s) → Counts asked s
   reply_counts frames asked os (needs.Lookup k) replies.Miss leads = miss_counts frames asked k os leads
   reply_counts frames asked os (needs.Lookup k) (replies.Hit hit) leads = value_counts frames asked (outcome_of k hit.value hit.reach hit.tags) os leads
-  reply_counts frames asked os (needs.Lookup k) (replies.Found found) leads = absurd leads
-  reply_counts frames asked os (needs.Lookup k) replies.Inserted leads = absurd leads
-  reply_counts frames asked os (needs.Query q) replies.Miss leads = absurd leads
-  reply_counts frames asked os (needs.Query q) (replies.Hit hit) leads = absurd leads
   reply_counts frames asked os (needs.Query q) (replies.Found found) leads = rows_count frames asked found os leads
-  reply_counts frames asked os (needs.Query q) replies.Inserted leads = absurd leads
-  reply_counts frames asked os (needs.Insert e) replies.Miss leads = absurd leads
-  reply_counts frames asked os (needs.Insert e) (replies.Hit hit) leads = absurd leads
-  reply_counts frames asked os (needs.Insert e) (replies.Found found) leads = absurd leads
   reply_counts frames asked os (needs.Insert e) replies.Inserted leads = value_counts frames asked (outcome_of e.key e.value e.reach e.tags) os leads
-  reply_counts frames asked os (needs.Value o) replies.Miss leads = absurd leads
-  reply_counts frames asked os (needs.Value o) (replies.Hit hit) leads = absurd leads
-  reply_counts frames asked os (needs.Value o) (replies.Found found) leads = absurd leads
-  reply_counts frames asked os (needs.Value o) replies.Inserted leads = absurd leads
+  reply_counts frames asked os need reply leads = absurd leads
 
 -- ---- requests that may follow
 

@@ -45,16 +45,12 @@ fewer_turns (Ask r) (Ask s) before after asks more most = let less = more tt in 
 fewer_turns (Ask r) (Value v) before after asks more most = omega arith
 fewer_turns (Ask r) (Rows rows) before after asks more most = omega arith
 fewer_turns (Ask r) (Refused error) before after asks more most = omega arith
-fewer_turns (Value v) new before after asks more most = absurd asks
-fewer_turns (Rows rows) new before after asks more most = absurd asks
-fewer_turns (Refused error) new before after asks more most = absurd asks
+fewer_turns old new before after asks more most = absurd asks
 
 -- a refusal asks nothing
 pub no_refusal : (turn : Turn) (error : TxnError) → IsAsk turn → turn ≢ Refused error
 no_refusal (Ask request) error asks is = absurd (cc is)
-no_refusal (Value v) error asks is = absurd asks
-no_refusal (Rows rows) error asks is = absurd asks
-no_refusal (Refused other) error asks is = absurd asks
+no_refusal turn error asks is = absurd asks
 
 -- what was found for the query that is asked, at the stamp that is asked, is a right reply
 pub right_reply : (L : History) (c : RwValue) (reply : Result Found DbError) (q : Query) (stamp : ℕ) → c.reading ≡ Some q → stamp ≡ c.base
@@ -72,9 +68,7 @@ answers_on before now k top reading (Ask r) (Ask s) is asks same of = is
 answers_on before now k top reading (Ask r) (Value v) is asks same of = rw (is, same) refl
 answers_on before now k top reading (Ask r) (Refused error) is asks same of = is
 answers_on before now k top reading (Ask r) (Rows rows) is asks same of = absurd of
-answers_on before now k top reading (Value v) new is asks same of = absurd asks
-answers_on before now k top reading (Rows rows) new is asks same of = absurd asks
-answers_on before now k top reading (Refused error) new is asks same of = absurd asks
+answers_on before now k top reading old new is asks same of = absurd asks
 
 -- the turn of an open call
 pub kind_of_call : (need : Option Need) (turn : Turn) → IsSome need → IsOfNeed need turn → IsOfCall turn

@@ -135,25 +135,6 @@ value_fits next objects top need frames o is h =
     (done.1, subst (λ (fs : List Frame). AllIdle (released fs objects)) done.1 done.0.open_frames.free, cc)
 
 module _ (next : Next) (objects : Objects) (c : CoreValue) (o : Outcome) (is : c.call.need ≡ Some (needs.Value o)) where
-  pub value_key : IsCore next objects c → o.key ≡ c.call.top
-  value_key h = (value_fits next objects c.call.top c.call.need c.call.frames o is h.call).2
-
-  -- the call is done, and its value recorded, or not
-  pub core_done : (recorded : List Recorded) → c.pinning ≡ None → IsCore next objects c → IsCore next objects (record c { recorded = recorded; call = record c.call { need = None } })
-  core_done recorded none h =
-      let at_rest = value_fits next objects c.call.top c.call.need c.call.frames o is h.call in
-      record {
-        set = h.set;
-        call = (at_rest.0, at_rest.1);
-        within = All-weaker (λ (p : Pin). InCall p.stamp c.call) (λ (p : Pin). InCall p.stamp (record c.call { need = None })) (λ p inside. (tt, inside.1)) c.pins.members h.within;
-        unreached = λ present. (refl, (h.unreached present).1);
-        pinning = rw none tt;
-        member = λ calling. absurd (calling refl);
-        answered = λ some. h.member (λ gone. absurd (let both = sym is ∙ gone in cc both));
-        taken = h.taken;
-        nodes = h.nodes;
-      }
-
   pub holds_recorded : (L : History) → CoreHolds next L objects c → CoreHolds next L objects (record c { recorded = c.recorded ++ record { key = o.key; value = o.value } ∷ []; call = record c.call { need = None } })
   holds_recorded L h = record {
     meant = value_is_recorded next L c.bounds c.pins c.recorded objects c.call o h.meant is;

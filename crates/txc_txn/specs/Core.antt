@@ -30,6 +30,7 @@ use Rattle.txc_ports.specs.declared.reply.PortReply.TheVariants as ports
 use Rattle.txc_ports.specs.declared.turn.Turn.{Turn}
 use Rattle.txc_ports.specs.declared.turn.Turn.TheVariants.{Ask, Value, Refused}
 use Rattle.txc_ports.specs.Answers.{IsFresh, AreConsistent}
+use Rattle.txc_ports.specs.Asking.{AddsSuch}
 use Rattle.txc_txn.specs.declared.pinning.Pinning.{Pinning}
 use Rattle.txc_txn.specs.declared.pinning.PinStep.{PinStep}
 use Rattle.txc_txn.specs.declared.pinning.PinStep.TheVariants.{Asked, Adding, Dropping}
@@ -252,8 +253,7 @@ IsAsk turn = ⊥
 
 -- the turn does not ask the pincushion to add a pin
 abbrev pub IsNoAdding : Turn → Type 0
-IsNoAdding (Ask (requests.AddPin pinned)) = ⊥
-IsNoAdding turn = Unit {0}
+IsNoAdding turn = AddsSuch (λ front. ⊥) turn
 
 -- a pin is to be added only as soon as the database has given it
 abbrev pub AddsOnly : PortReply → Turn → Type 0

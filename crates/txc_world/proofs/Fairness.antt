@@ -287,11 +287,7 @@ module _ (next : Next) (objects : Objects) (p : PortsValue) (c : CoreValue) (fit
     had = let some = newest_taken c.bounds.now c.renew_after c.pins.has_present c.pins.members c.taken stamp asking.1 fits.taken in omega (arith, some);
     lost = gone;
   }
-  lost (requests.Pin now at_least) horizon asking gone = absurd gone
-  lost (requests.AddPin pinned) horizon asking gone = absurd gone
-  lost (requests.Unpin stamp) horizon asking gone = absurd gone
-  lost (requests.Lookup node key lo hi) horizon asking gone = absurd gone
-  lost (requests.Insert node entry) horizon asking gone = absurd gone
+  lost request horizon asking gone = absurd gone
 
   lost_refused : (request : PortRequest) (e : DbError) → IsAsking c request → IsGone request p (dids.Refused e) → IsLossOf p (account_of_core c) (dids.Refused e)
   lost_refused request (errors.SnapshotGone horizon) asking gone = lost request horizon asking gone

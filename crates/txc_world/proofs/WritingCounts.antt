@@ -102,8 +102,7 @@ module _ (p : PortsValue) (base : ℕ) where
       told_lost b txns.PinsFull l = tt
       told_lost b txns.BufferFull l = tt
       told_lost b txns.Memory l = tt
-  loss_rows a (turns.Ask request) reply told loss = absurd told
-  loss_rows a (turns.Value value) reply told loss = absurd told
+  loss_rows a turn reply told loss = absurd told
 
 -- a write is not refused so
 pub loss_write : (p : PortsValue) (a : Account) (count : ℕ) (e : TxnError) → IsWriteRefused count e → ReplyIsLossOf p a (replies.Refused (refusals.Transaction e))

@@ -91,8 +91,7 @@ of_query need turn none kind = subst (λ (n : Option Need). IsOfNeed n turn) non
 pub idle_after : (c : RwValue) (turn : Turn) → IsTurn c turn → IsOfQuery turn → IsIdle c
 idle_after c (turns.Rows rows) is kind = is
 idle_after c (turns.Refused error) is kind = is
-idle_after c (turns.Ask request) is kind = absurd kind
-idle_after c (turns.Value value) is kind = absurd kind
+idle_after c turn is kind = absurd kind
 
 -- ---- changes
 
@@ -139,23 +138,13 @@ found_leads query base p (Ok f) (turns.Ask request) leads on off = absurd (on f 
 found_leads query base p (Ok f) (turns.Value value) leads on off = absurd (on f refl)
 found_leads query base p (Err e) turn leads on off = subst (λ (t : Turn). FindLeadsRw query base p t) (sym (off e refl)) (inr (e, leads, refl))
 
--- one that was not asked, as it is out of memory
-pub not_asked : (c : RwValue) (query : Query) (base : ℕ) (p : PortsValue) (stamp : ℕ) (turn : Turn) → IsTurn c turn → IsAsked query stamp turn → asked_query turn ≡ None → FindLeadsRw query base p turn
-not_asked c query base p stamp (turns.Ask request) is asked none =
-    let some : asked_query (turns.Ask request) ≡ Some query = ap (λ (r : PortRequest). asked_query (turns.Ask r)) asked in
-    let both : Some query ≡ None = sym some ∙ none in absurd (cc both)
-not_asked c query base p stamp (turns.Refused e) is asked none = inl asked
-not_asked c query base p stamp (turns.Value value) is asked none = absurd asked
-not_asked c query base p stamp (turns.Rows rows) is asked none = absurd asked
-
 -- the query that is asked is the one
 pub asks_it : (query q : Query) (stamp : ℕ) (turn : Turn) → IsAsked query stamp turn → asked_query turn ≡ Some q → query ≡ q
 asks_it query q stamp (turns.Ask request) asked is =
     let some : asked_query (turns.Ask request) ≡ Some query = ap (λ (r : PortRequest). asked_query (turns.Ask r)) asked in
     let both : Some query ≡ Some q = sym some ∙ is in cc both
 asks_it query q stamp (turns.Refused e) asked is = absurd (cc is)
-asks_it query q stamp (turns.Value value) asked is = absurd asked
-asks_it query q stamp (turns.Rows rows) asked is = absurd asked
+asks_it query q stamp turn asked is = absurd asked
 
 -- ---- what is left as it was
 

@@ -40,7 +40,7 @@ use Rattle.txc_world.specs.declared.reply.Refusal.TheVariants.{Memory, Transacti
 use Rattle.txc_world.specs.Parts.{IsPartOf}
 use Rattle.txc_world.specs.Books.{KeepsUsers}
 use Rattle.txc_world.specs.Ports.{PortsValue}
-use Rattle.txc_ports.specs.Asking.{IsReplyTo}
+use Rattle.txc_ports.specs.Asking.{AddsSuch, IsReplyTo}
 use Rattle.txc_world.specs.Asks.{AskLeads, DoesTell, FreshLeads}
 use Rattle.txc_world.specs.Cast.{called, ActorValue, CallValue, reads, resting, leaves}
 use Rattle.txc_world.specs.Keeping.{GiveBackLeads}
@@ -48,8 +48,7 @@ use Rattle.txc_world.specs.Told.{Story, idle, reading, writing, leaving}
 
 -- a pin that is to be added is of the whole
 abbrev pub AddsPart : FrontValue → Turn → Type 0
-AddsPart whole (Ask (requests.AddPin pinned)) = IsPartOf whole pinned.front
-AddsPart whole turn = Unit {0}
+AddsPart whole turn = AddsSuch (IsPartOf whole) turn
 
 -- the call's next turn is one of the core's, which has it open under its key while it asks; it is no value,
 -- and asks to add only what the whole shows

@@ -162,11 +162,6 @@ abbrev pub IsAskedAt : ℕ → PortRequest → Type 0
 IsAskedAt now (requests.Pin moment at_least) = moment ≡ now
 IsAskedAt now request = Unit {0}
 
--- what the request hands in is part of the whole: a pin that is to be added
-abbrev pub ShowsPart : FrontValue → PortRequest → Type 0
-ShowsPart whole (requests.AddPin pinned) = IsPartOf whole pinned.front
-ShowsPart whole request = Unit {0}
-
 -- The reply is one to the request, right in the history that it shows, which is part of the whole; it is
 -- what is told of the port, and of the history.
 pub record IsAsked (next : Next) (request : PortRequest) (old new : PortsValue) (asked : Asked) : Type 0 where
