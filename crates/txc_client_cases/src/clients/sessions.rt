@@ -52,7 +52,10 @@ counts 0 1 1 => lookups 2 hits 1 stored 1
 counts 0 2 1 => no such node
 ";
 
-const SCRIPTS: [&str; 2] = [SEEN, COUNTS];
+/// How many permits there are for all functions, and the commands.
+type Script = (u64, &'static str);
+
+const SCRIPTS: [Script; 2] = [(4, SEEN), (4, COUNTS)];
 
 /// After how long a pin is renewed.
 const RENEW_AFTER: u64 = 5000;
@@ -78,7 +81,7 @@ fn play<J: Naming>(
     rt: &impl Wait,
     alloc: Global,
     rows: (DbCore, EventRow<Record>, EventRow<Record>),
-    script: &str,
+    script: Script,
     answer: &mut String,
 ) -> Option<bool>
     requires database { rows.0.events ≡ J.database_row }
@@ -91,7 +94,7 @@ fn play<J: Naming>(
     let mut nodes = Vec::new(alloc);
     nodes.push(node(alloc, 0, one, &database)?).ok()?;
     nodes.push(node(alloc, 1, other, &database)?).ok()?;
-    let mut pool = PermitPool::new(alloc, 4).ok()?;
+    let mut pool = PermitPool::new(alloc, script.0.clamp(1, 16)).ok()?;
     let Ok(one) = registry(alloc, &mut pool) else {
         return None;
     };
@@ -101,11 +104,11 @@ fn play<J: Naming>(
     let one = Client::new(rt, alloc, &database, &cushion, &nodes, one, RENEW_AFTER).ok()?;
     let other = Client::new(rt, alloc, &database, &cushion, &nodes, other, RENEW_AFTER).ok()?;
     let mut caller = Caller::new(rt, (&database, &cushion), pool, (one, other));
-    Some(is_played(&mut caller, alloc, "", script, answer))
+    Some(is_played(&mut caller, alloc, "", script.1, answer))
 }
 
 /// Makes the rows, and plays the script.
-fn start(rt: &impl Wait, alloc: Global, script: &str, answer: &mut String) -> Option<bool> {
+fn start(rt: &impl Wait, alloc: Global, script: Script, answer: &mut String) -> Option<bool> {
     let core = DbCore::new(alloc, 64).ok()?;
     let one = EventRow::new(alloc, 64).ok()?;
     let other = EventRow::new(alloc, 64).ok()?;
@@ -113,7 +116,7 @@ fn start(rt: &impl Wait, alloc: Global, script: &str, answer: &mut String) -> Op
 }
 
 /// Whether all is answered as wanted: anew where memory was refused, since then a call may be made twice.
-fn is_answered(rt: &impl Wait, alloc: Global, script: &str, answer: &mut String) -> bool {
+fn is_answered(rt: &impl Wait, alloc: Global, script: Script, answer: &mut String) -> bool {
     for _ in 0..2u32 {
         answer.clear();
         if let Some(true) = start(rt, alloc, script, answer) {
