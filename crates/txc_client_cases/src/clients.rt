@@ -1,7 +1,9 @@
 //! Clients and their read-only transactions.
 mod boxes;
+mod caller;
 mod calling;
 mod desk;
 mod explained;
 mod rows;
+mod sessions;
 mod threads;
