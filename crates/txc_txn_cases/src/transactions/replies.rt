@@ -51,9 +51,6 @@ fn say_request(answer: &mut String, request: &PortRequest) {
             let (key, value, reach, tags) = (&entry.key, &entry.value, entry.reach, &entry.tags);
             let _ = write!(answer, "insert {key} {reach} {tags} {value}");
         }
-        _ => {
-            let _ = write!(answer, "another request");
-        }
     }
 }
 
