@@ -5,4 +5,6 @@ pub mod Crews
 pub mod NodeRows
 pub mod Preparing
 pub mod Closing
+pub mod Ending
+pub mod Running
 pub mod NothingWrong

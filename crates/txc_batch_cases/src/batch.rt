@@ -1,27 +1,20 @@
 //! Whole runs of batches' scripts. Where a run is refused memory, the first line that is not wanted is compared
 //! with what may stand there then, and it is run once more.
+mod calling;
 mod faults;
 mod scripts;
 mod streams;
 
-ghost use Rattle.std.specs.Prelude.{IfOk};
-ghost use Rattle.txc_batch.specs.Crews.{IsCrew};
-
+use calling::run;
 use faults::other_fault;
 use scripts::SCRIPTS;
-use std::alloc::{AllocError, Global};
-use std::io::{Read, Write};
+use std::alloc::Global;
 use std::process::Abort;
 use std::sync::Wait;
 use std::thread::Threads;
 use streams::{other_cut, other_stream};
-use txc_batch::{run_batch_script, stage_settings};
-use txc_functions::{Object, Program, registries};
-use txc_permits::PermitPool;
-use txc_registry::Registry;
-use txc_script::{RunFault, Status, exit_of};
+use txc_script::exit_of;
 use txc_settings::Settings;
-use txc_world::World;
 
 /// More than a run of a case writes.
 const ROOM: usize = 1 << 14;
@@ -39,23 +32,6 @@ struct Case<'a> {
     script: &'a [u8],
     replies: &'a [u8],
     status: u8,
-}
-
-/// Runs a script over a new world.
-fn run<R: Read, W: Write, H: Threads + Wait + Sync>(
-    rt: &H,
-    alloc: Global,
-    settings: Settings,
-    reader: &mut R,
-    writer: &mut W,
-) -> Result<Status, RunFault> {
-    let Ok(crew) = workers(alloc, settings) else {
-        return Err(RunFault::Memory);
-    };
-    match World::<Program, Object>::new(alloc, stage_settings(settings), Vec::new(alloc)) {
-        Ok(world) => run_batch_script(rt, alloc, settings, world, crew, reader, writer),
-        Err(_) => Err(RunFault::Memory),
-    }
 }
 
 /// The settings of a document that is one.
@@ -94,14 +70,6 @@ fn is_left(written: &[u8], replies: &[u8], status: u8) -> bool {
         }
     }
     false
-}
-
-/// The registries of the workers, which share the permits.
-fn workers(alloc: Global, settings: Settings) -> Result<Vec<Registry<Program, Object>>, AllocError>
-    ensures { IfOk result (λ crew. IsCrew crew.items) }
-{
-    let mut pool = PermitPool::new(alloc, settings.permits as u64)?;
-    registries(alloc, &mut pool, settings.workers)
 }
 
 /// Whether a run gives what is wanted; `Some(false)` where it was refused memory, and wrote what it may then.

@@ -1,5 +1,6 @@
 //! What is wrong with a malformed line of a batch's script, as the program says it on standard error.
-use super::{room, run, settings_of};
+use super::calling::run;
+use super::{room, settings_of};
 use std::alloc::Global;
 use std::sync::Wait;
 use std::thread::Threads;

@@ -1,5 +1,6 @@
 //! Runs of a batch's script that ends early, and whose reader or writer fails.
-use super::{Case, OUT_OF_MEMORY, is_played, room, run, settings_of};
+use super::calling::run;
+use super::{Case, OUT_OF_MEMORY, is_played, room, settings_of};
 use std::alloc::Global;
 use std::io::{self, Read, Write};
 use std::sync::Wait;
