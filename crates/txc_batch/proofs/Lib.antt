@@ -6,5 +6,6 @@ pub mod NodeRows
 pub mod Preparing
 pub mod Closing
 pub mod Ending
-pub mod Running
+pub mod JobsRun
 pub mod NothingWrong
+pub mod Offered

@@ -89,9 +89,9 @@ pub fn find_batch_fault(alloc: Global, jobs: &[Job], line: &[u8]) -> CommandFaul
     requires { (order : Order) → AsksFor jobs.now line.now order → ⊥ }
     ensures { IsBatchFault jobs.now (words_of line.now) result }
 {
+    let count = count_words(line) - 1;
     let mut words = all_words(line);
     let word = words.next();
-    let count = count_words(line) - 1;
     if word == b"job".as_slice() {
         return find_job_fault(alloc, words, count);
     }

@@ -1,6 +1,6 @@
 use Rattle.std.proofs.Common.{arith}
 use Rattle.txc_functions.specs.AnyFunction.{ALL_NUMBERS}
-use Rattle.txc_batch.proofs.Crews.{crew_made}
+use Rattle.txc_batch.proofs.Offered.{crew_made}
 use Rattle.txcache.proofs.workers.Goals as goal
 
 pub returns : goal.returns

@@ -1,7 +1,6 @@
 use Rattle.std.proofs.Common.{◌≡◌, ◌∷◌, [], ℕ, List, length, rules, arith, sym, ap, ◌∙◌}
 use Rattle.std.specs.Prelude.{codes}
 use Rattle.txc_script.specs.Words.{words_left, words_of}
-use Rattle.txc_script.proofs.Blanks.{some_word}
 use Rattle.txc_script.proofs.Offered.{same_text}
 use Rattle.txc_play.proofs.GoodWords.{good_words}
 use Rattle.txc_batch.specs.declared.order.Order.TheVariants.{Prepare, Run}
@@ -9,7 +8,7 @@ use Rattle.txc_batch.proofs.OrderWords.{no_jobs}
 use Rattle.txc_batch.proofs.finding.find_batch_fault.Goals as goal
 
 pub next-word-requires : goal.next-word-requires
-next-word-requires c = omega (arith, ap length c.all_words-words.ensures, some_word c.args.line.now)
+next-word-requires c = omega (arith, ap length c.all_words-words.ensures, c.count_words.ensures.count, c.count_words.ensures.some)
 
 pub find_job_fault-requires-clause-no_job : goal.find_job_fault-requires-clause-no_job
 find_job_fault-requires-clause-no_job c = λ q h.

@@ -1,6 +1,6 @@
-use Rattle.std.proofs.Common.{◌≡◌, ◌∷◌, ℕ, List, ap, ◌∙◌}
-use Rattle.txc_script.specs.Words.{words_of}
-use Rattle.txc_script.proofs.Blanks.{some_word}
+use Rattle.std.proofs.Common.{◌≡◌, ◌∷◌, ℕ, List, ap, ◌∙◌, arith}
+use Rattle.std.proofs.lemmas.List.Splits.{length-slice_split}
+use Rattle.txc_script.specs.Words.{is_blank, words_of}
 use Rattle.txc_script.proofs.Offered.{words_alone, words_cut}
 use Rattle.txc_play.proofs.TaskParts.{none_of}
 use Rattle.txc_batch.specs.Orders.{AreJobWords, AreKeyWords}
@@ -54,4 +54,4 @@ returns-clause-answer c =
     let keys = c.in-Some-first_word.text.now in
     let cut = words_cut c.args.text.now now c.in-Some.text.now c.in-Some.ensures.answer.0 c.in-Some.ensures.answer.1 ∙ ap (λ (ws : List (List ℕ)). now ∷ ws)
     (words_cut c.in-Some.text.now staleness keys c.in-Some-first_word.ensures.answer.0 c.in-Some-first_word.ensures.answer.1) in
-    job_words (words_of c.args.text.now) (words_of keys) now staleness _ cut (some_word keys) c.in_ok-now.ensures.answer c.in_ok-staleness.ensures.answer c.in_ok-keys.ensures.answer
+    job_words (words_of c.args.text.now) (words_of keys) now staleness _ cut (omega (arith, length-slice_split is_blank keys)) c.in_ok-now.ensures.answer c.in_ok-staleness.ensures.answer c.in_ok-keys.ensures.answer
