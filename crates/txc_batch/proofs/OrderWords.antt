@@ -1,5 +1,5 @@
 -- What the lines of a batch's script ask for, by their first word.
-use Rattle.std.proofs.Common.{◌≡◌, ℕ, Bool, true, false, not, eqb, List, [], ◌∷◌, length, Result, Ok, Err, IfErr, refl, sym, ap, subst, ◌∙◌, arith}
+use Rattle.std.proofs.Common.{◌≡◌, ℕ, Bool, true, false, eqb, List, [], ◌∷◌, length, Result, Ok, Err, IfErr, refl, sym, ap, subst, ◌∙◌, arith}
 use Rattle.std.proofs.lemmas.Bool.Decides.{nat_tests}
 use Rattle.std.specs.Prelude.{codes, IsErr, IsErrAnd}
 use Rattle.txc_script.specs.Unread.{IsNone}
@@ -96,19 +96,14 @@ task_asked jobs line word words name (Run q) e other is h = absurd (other (job_w
 
 -- ---- whether there is a job
 
-pub no_jobs : (jobs : List Job) (r : Bool) → r ≡ eqb (length jobs) 0 → not r ≡ false → jobs ≡ []
-no_jobs [] r e h = refl
-no_jobs (job ∷ jobs) r e h =
-    let yes : eqb (length (job ∷ jobs)) 0 ≡ true = sym e ∙ not_false r h in
-    let none : length (job ∷ jobs) ≡ 0 = grind (arith, nat_tests, yes) in
+pub no_jobs : (jobs : List Job) (r : Bool) → r ≡ eqb (length jobs) 0 → r ≡ true → jobs ≡ []
+no_jobs [] r e yes = refl
+no_jobs (job ∷ jobs) r e yes =
+    let same : eqb (length (job ∷ jobs)) 0 ≡ true = sym e ∙ yes in
+    let none : length (job ∷ jobs) ≡ 0 = grind (arith, nat_tests, same) in
     absurd (omega (arith, none))
-  where
-    not_false : (b : Bool) → not b ≡ false → b ≡ true
-    not_false true h = refl
-    not_false false h = cc
 
-pub some_jobs : (jobs : List Job) (r : Bool) → r ≡ eqb (length jobs) 0 → not r ≡ true → jobs ≡ [] → ⊥
-some_jobs jobs r e h none =
-    let yes : r ≡ true = e ∙ ap (λ (js : List Job). eqb (length js) 0) none in
-    let bad : not true ≡ true = subst (λ (b : Bool). not b ≡ true) yes h in
+pub some_jobs : (jobs : List Job) (r : Bool) → r ≡ eqb (length jobs) 0 → r ≡ false → jobs ≡ [] → ⊥
+some_jobs jobs r e no none =
+    let yes : true ≡ false = sym (e ∙ ap (λ (js : List Job). eqb (length js) 0) none) ∙ no in
     cc

@@ -8,7 +8,7 @@ use Rattle.txc_batch.proofs.OrderWords.{no_jobs}
 use Rattle.txc_batch.proofs.finding.find_batch_fault.Goals as goal
 
 pub next-word-requires : goal.next-word-requires
-next-word-requires c = omega (arith, ap length c.all_words-words.ensures, c.count_words.ensures.count, c.count_words.ensures.some)
+next-word-requires c = omega (arith, ap length c.all_words-words.ensures, c.count_words-count.ensures.count, c.count_words-count.ensures.some)
 
 pub find_job_fault-requires-clause-no_job : goal.find_job_fault-requires-clause-no_job
 find_job_fault-requires-clause-no_job c = λ q h.

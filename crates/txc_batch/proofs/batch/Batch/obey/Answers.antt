@@ -19,4 +19,4 @@ returns-in-Prepare-clause-broke g c =
 pub returns-in_ok-queue-in-Run-clause-after : goal.returns-in_ok-queue-in-Run-clause-after
 returns-in_ok-queue-in-Run-clause-after g c =
     subst (λ (o : Order). IsObeyed g.A.App.next c.args.self.now o c.queue.new.self c.args.text.now.items c.args.text.now.items false) (sym c.in-Run.is)
-    (queued_order g.A.App.next c.args.self.now c.queue.new.self c.in-Run.queued c.args.text.now.items c.args.text.now.items c.in_ok-queue.ensures.after refl)
+    (queued_order g.A.App.next c.args.self.now c.queue.new.self c.in-Run.queued c.args.text.now.items c.args.text.now.items c.in_ok-queue-in-Run.ensures.after refl)
