@@ -1,6 +1,7 @@
 -- The jobs of a script run after its lines, and what they came to is written.
 use Rattle.std.proofs.Common.{◌≡◌, ◌||◌, ℕ, Bool, List, Option, Result, Ok, Err, Vec, length, take, sym, ap, subst, ◌∙◌, arith}
 use Rattle.std.specs.Prelude.{IsErr, IsErrAnd}
+use Rattle.std.proofs.lemmas.Bool.{false≢true}
 use Rattle.std.proofs.lemmas.List.{take_all}
 use Rattle.std.proofs.KnownBytes.{Appends-kept}
 use Rattle.std.specs.Io.KnownBytes.{Appends, Keeps}
@@ -43,7 +44,7 @@ jobs_not_flushed next s was_refused batch old mid new text ends text_is wrote ke
 -- a prefix of it was written
 pub jobs_cut : (next : Next) (s : BatchState) (was_refused : Bool) (batch : Result (Vec Receipted Global) BatchError) (old new : Option (List ℕ)) (text : List ℕ) (fault : RunFault) (r : Result Status RunFault) → EndsSo next s batch
     → text ≡ batch_text batch → AppendsPrefix old new text → fault ≡ Write → IsErr r × IsErrAnd r (λ x. x ≡ fault) → EndsInJobs next s was_refused old new r
-jobs_cut next s was_refused batch old new text fault (Ok status) ends text_is cut is h = absurd h.0
+jobs_cut next s was_refused batch old new text fault (Ok status) ends text_is cut is h = absurd (false≢true h.0)
 jobs_cut next s was_refused batch old new text fault (Err x) ends text_is cut is h =
     subst (λ (e : RunFault). EndsInJobs next s was_refused old new (Err e)) (sym (h.1 ∙ is)) (batch, ends, subst (AppendsPrefix old new) text_is cut)
 

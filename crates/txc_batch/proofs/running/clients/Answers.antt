@@ -15,6 +15,6 @@ loop-registry-preserved g c =
     record {
       idle = All-rest AllIdle _ _ _ c.in-Some.ensures.steps.0 before.idle;
       left = All-rest of _ _ _ c.in-Some.ensures.steps.0 before.left;
-      functions = All-same has _ _ c.in_ok-push.ensures.items (All-push has _ _ before.functions (ap numbers_of c.in-Ok.ensures.functions ∙ its));
+      functions = All-same has _ _ c.in_ok-push-in-Ok.ensures.items (All-push has _ _ before.functions (ap numbers_of c.in-Ok.ensures.functions ∙ its));
       each = grind (arith, common_steps, before.each, ap length c.in-Some.ensures.steps.0);
     }

@@ -1,6 +1,4 @@
 use Rattle.std.proofs.KnownBytes.{Keeps-refl}
-use Rattle.txc_batch.proofs.Closing.{ends_so}
-use Rattle.txc_batch.proofs.Ending.{jobs_cut, jobs_not_flushed, jobs_written}
 use Rattle.txc_batch.proofs.script.end_in_jobs.Goals as goal
 
 pub returns-in_default : goal.returns-in_default
