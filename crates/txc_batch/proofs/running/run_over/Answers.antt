@@ -1,11 +1,22 @@
-use Rattle.std.proofs.Common.{◌≡◌, ℕ, List, sym, ap, subst, ◌∙◌}
+use Rattle.std.proofs.Common.{◌≡◌, ℕ, List, sym, ap, subst, ◌∙◌, arith}
 use Rattle.std.specs.List.{All}
 use Rattle.txc_db.specs.Seen.{FrontValue}
+use Rattle.txc_registry.specs.Objects.{numbers_of}
+use Rattle.txc_client.specs.Txn.{ClientValue}
 use Rattle.txc_work.specs.Batches.{IsResultOf, Meets}
 use Rattle.txc_work.specs.declared.job.Receipted.{Receipted}
 use Rattle.txc_batch.specs.RunJobs.{AgreesWith}
 use Rattle.txc_batch.proofs.JobsRun.{all_of_row, have_run}
 use Rattle.txc_batch.proofs.running.run_over.Goals as goal
+
+pub run_batch-requires : goal.run_batch-requires
+run_batch-requires g c =
+    let clients = c.in-Ok-clients.clients in
+    record {
+      some = omega (arith, c.in-Ok-clients.ensures.each, c.requires.crew.some, c.args.crew.ok.0);
+      few = omega (arith, c.in-Ok-clients.ensures.each, c.requires.crew.few, c.args.crew.ok.0);
+      functions = subst (λ (fs : List ℕ). All (λ (client : ClientValue). numbers_of client.objects ≡ fs) clients.items) c.requires.functions c.in-Ok-clients.ensures.functions;
+    }
 
 pub results_agree-requires : goal.results_agree-requires
 results_agree-requires g c =
