@@ -97,13 +97,13 @@ task_asked jobs line word words name (Run q) e other is h = absurd (other (job_w
 -- ---- whether there is a job
 
 pub no_jobs : (jobs : List Job) (r : Bool) → r ≡ eqb (length jobs) 0 → r ≡ true → jobs ≡ []
-no_jobs [] r e yes = refl
-no_jobs (job ∷ jobs) r e yes =
-    let same : eqb (length (job ∷ jobs)) 0 ≡ true = sym e ∙ yes in
+no_jobs [] r e empty = refl
+no_jobs (job ∷ jobs) r e empty =
+    let same : eqb (length (job ∷ jobs)) 0 ≡ true = sym e ∙ empty in
     let none : length (job ∷ jobs) ≡ 0 = grind (arith, nat_tests, same) in
     absurd (omega (arith, none))
 
 pub some_jobs : (jobs : List Job) (r : Bool) → r ≡ eqb (length jobs) 0 → r ≡ false → jobs ≡ [] → ⊥
-some_jobs jobs r e no none =
-    let yes : true ≡ false = sym (e ∙ ap (λ (js : List Job). eqb (length js) 0) none) ∙ no in
+some_jobs jobs r e full none =
+    let same : true ≡ false = sym (e ∙ ap (λ (js : List Job). eqb (length js) 0) none) ∙ full in
     cc

@@ -1,5 +1,6 @@
+use Rattle.std.proofs.Common.{rules}
 use Rattle.txc_batch.proofs.NodeRows.{rows_by_place}
 use Rattle.txc_batch.proofs.running.run_jobs.Goals as goal
 
-pub run_over-requires-clause-rows : goal.run_over-requires-clause-rows
-run_over-requires-clause-rows g c = rows_by_place _
+pub run_over-requires : goal.run_over-requires
+run_over-requires g c = λ κs within. (search rules, (search rules, (search rules, (search rules, (search rules, (search rules, (search rules, (search rules, (search rules, (search rules, (search rules, (search rules, (search rules, (rows_by_place _, (search rules, search rules)))))))))))))))
