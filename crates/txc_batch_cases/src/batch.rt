@@ -3,11 +3,13 @@
 mod calling;
 mod faults;
 mod scripts;
+mod sharing;
 mod streams;
 
 use calling::run;
 use faults::other_fault;
 use scripts::SCRIPTS;
+use sharing::shares;
 use std::alloc::Global;
 use std::process::Abort;
 use std::sync::Wait;
@@ -123,6 +125,11 @@ fn scripts_give_their_replies(rt: HostRuntime) {
 #[test]
 fn a_malformed_line_says_what_is_wrong(rt: HostRuntime) {
     say(&rt, other_fault(&rt, rt.alloc()));
+}
+
+#[test]
+fn two_workers_may_share_one_permit(rt: HostRuntime) {
+    assert!(&rt; shares(&rt, rt.alloc()));
 }
 
 #[test]

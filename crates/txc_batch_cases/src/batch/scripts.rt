@@ -1,7 +1,7 @@
 //! Scripts of batches, and what their runs write.
 
 /// Each script: its name, its settings, its lines, what is written, and the status of the program after it.
-pub const SCRIPTS: [(&str, &str, &str, &str, u8); 27] = [
+pub const SCRIPTS: [(&str, &str, &str, &str, u8); 29] = [
     (
         "two jobs",
         "workers = 1",
@@ -37,6 +37,13 @@ pub const SCRIPTS: [(&str, &str, &str, &str, u8); 27] = [
         "row_cap = 2\nworkers = 1",
         "put 1 7 2 a\npin 1000\nput 1 8 2 b\njob 1000 0 f0(7)\n",
         "at 1\nat 2\nrefused B3\njob 0 61\n",
+        1,
+    ),
+    (
+        "a change is refused, and a job cannot pin the present",
+        "row_cap = 1\nworkers = 1",
+        "put 1 7 2 a\nput 1 8 2 b\njob 1000 0 f0(7)\n",
+        "at 1\nrefused B3\njob 0 refused B3\n",
         1,
     ),
     (
@@ -129,6 +136,13 @@ pub const SCRIPTS: [(&str, &str, &str, &str, u8); 27] = [
         "workers = 1",
         "put 1 7 2 a\nput 1 8 3 b\npin 1000\nremove 1 7\nput 1 8 3 c\njob 1000 0 f0(7) f1(3) f2(2,8) f3()\n",
         "at 1\nat 2\nat 3\nat 4\nat 5\njob 0 61 62 613b62 32\n",
+        0,
+    ),
+    (
+        "empty values beside others",
+        "workers = 1",
+        "put 1 7 2 a\npin 1000\njob 1000 0 f0(8) f0(7) f0(9)\n",
+        "at 1\nat 2\njob 0 - 61 -\n",
         0,
     ),
     (
