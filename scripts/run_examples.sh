@@ -1,7 +1,7 @@
 #!/usr/bin/env bash
 # Runs the built program over each script of examples/, and compares its replies, its report where there is one, and its
-# status. A script that ends in .txw is one of mode world, with the settings of the file beside it, if there is one. It prints only what
-# differs.
+# status. A script that ends in .txw is one of mode world, and one in .txb of mode batch, with the settings of the file beside it, if there
+# is one. It prints only what differs.
 set -euo pipefail
 cd "$(dirname "$0")/.."
 program=crates/txcache/out/txcache
@@ -24,15 +24,18 @@ for script in examples/*.txc; do
     done
 done
 
-for script in examples/*.txw examples/worlds/*.txw; do
+for script in examples/*.txw examples/worlds/*.txw examples/*.txb; do
+    name=${script%.tx?}
+    mode=world
+    if [ "$script" = "$name.txb" ]; then mode=batch; fi
     wanted=0
-    if grep -qE '(^|[a-z0-9] )refused |^line [0-9]+: malformed$' "${script%.txw}.out"; then wanted=1; fi
+    if grep -qE '(^|[a-z0-9] )refused |^line [0-9]+: malformed$' "$name.out"; then wanted=1; fi
     settings=
-    if [ -e "${script%.txw}.settings" ]; then settings=$(<"${script%.txw}.settings"); fi
+    if [ -e "$name.settings" ]; then settings=$(<"$name.settings"); fi
     status=0
-    "$program" world --settings="$settings" <"$script" >"$replies" || status=$?
-    if [ "$status" != "$wanted" ] || ! diff "$replies" "${script%.txw}.out"; then
-        echo "run_examples.sh: world of $script: status $status, or other output than ${script%.txw}.out has" >&2
+    "$program" "$mode" --settings="$settings" <"$script" >"$replies" || status=$?
+    if [ "$status" != "$wanted" ] || ! diff "$replies" "$name.out"; then
+        echo "run_examples.sh: $mode of $script: status $status, or other output than $name.out has" >&2
         exit 1
     fi
 done
