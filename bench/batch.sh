@@ -29,7 +29,8 @@ for kind in hits misses; do
         from=$(date +%s%N)
         "$program" batch --settings "$settings" <"$room/$kind" >"$room/replies"
         until=$(date +%s%N)
-        [ "$(grep -c '^job ' "$room/replies")" = "$jobs" ]
+        # Each job has both values, and none was refused.
+        [ "$(grep -cE '^job [0-9]+ [0-9a-f]+ [0-9a-f]+$' "$room/replies")" = "$jobs" ]
         awk -v k="$kind" -v w="$workers" -v n="$jobs" -v t="$((until - from))" 'BEGIN {
             printf "%-7s %d workers %8d ms %9d jobs/s\n", k, w, t / 1000000, n * 1000000000 / t
         }'
