@@ -24,13 +24,12 @@ use Rattle.txc_batch.specs.RunJobs.{EndsSo}
 -- it was written, and the writer flushed
 pub jobs_written : (next : Next) (s : BatchState) (was_refused refused : Bool) (batch : Result (Vec Receipted Global) BatchError) (old mid new : Option (List ℕ)) (text : List ℕ) (status : Status) → EndsSo next s batch
     → text ≡ batch_text batch → refused ≡ is_refused_batch batch → Appends old mid text → Keeps mid new → status ≡ status_of (was_refused || refused) → EndsInJobs next s was_refused old new (Ok status)
-jobs_written next s was_refused refused batch old mid new text status ends text_is refused_is wrote keeps is =
-    (
-      batch,
-      ends,
-      Appends-kept old mid new (batch_text batch) (subst (Appends old mid) text_is wrote) keeps,
-      is ∙ ap (λ (b : Bool). status_of (was_refused || b)) refused_is,
-    )
+jobs_written next s was_refused refused batch old mid new text status ends text_is refused_is wrote keeps is = (
+  batch,
+  ends,
+  Appends-kept old mid new (batch_text batch) (subst (Appends old mid) text_is wrote) keeps,
+  is ∙ ap (λ (b : Bool). status_of (was_refused || b)) refused_is,
+)
 
 -- it was written, and then the writer failed
 pub jobs_not_flushed : (next : Next) (s : BatchState) (was_refused : Bool) (batch : Result (Vec Receipted Global) BatchError) (old mid new : Option (List ℕ)) (text : List ℕ) → EndsSo next s batch → text ≡ batch_text batch
