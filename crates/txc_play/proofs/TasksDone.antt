@@ -3,6 +3,7 @@ use Rattle.std.proofs.Common.{◌≡◌, ℕ, Bool, true, false, List, [], ◌�
 use Rattle.std.specs.Prelude.{if◌then◌else◌, slice_get, IsOk, MatchOption, Option}
 use Rattle.std.specs.List.{All}
 use Rattle.std.specs.declared.alloc.AllocError.{AllocError}
+use Rattle.std.proofs.lemmas.Bool.{false≢true}
 use Rattle.std.proofs.lemmas.List.{append-nil}
 use Rattle.std.proofs.lemmas.List.Elements.{All-append, All-cons, All-nil}
 use Rattle.txc_node.specs.declared.counts.FunctionCounts.{FunctionCounts}
@@ -220,20 +221,28 @@ counted_at : (there : Option NodeValue) (function : ℕ) (r : Result Totals Refu
     (λ n. Counted (record { function = function; counts = counts }) ≡ Counted (record { function = function; counts = counts_in n.records function }))
 counted_at None function r t counts due is same = cc
 counted_at (Some n) function r t counts due is same =
-    let all : IfOk (Ok t) (AreCountsOf n.records) = subst (λ (x : Result Totals Refusal). IfOk x (AreCountsOf n.records)) is due.0 in
+    let all : IfOk {E = Refusal} (Ok t) (AreCountsOf n.records) = subst (λ (x : Result Totals Refusal). IfOk x (AreCountsOf n.records)) is due.0 in
     ap (λ (c : FunctionCounts). Counted (record { function = function; counts = c })) (same ∙ counted_in n.records t all function)
 
-pub counted_done : (world : WorldValue) (node function : ℕ) (r : Result Totals Refusal) (t : Totals) (counts : FunctionCounts)
+counted_done : (world : WorldValue) (node function : ℕ) (r : Result Totals Refusal) (t : Totals) (counts : FunctionCounts)
     → MatchOption (slice_get world.ports.nodes node) (r ≡ Err NoNode) (λ n. IfOk r (AreCountsOf n.records) × IsOk r) → r ≡ Ok t → counts ≡ counts_of t.functions function
     → DoesCounts world node function (Counted (record { function = function; counts = counts }))
 counted_done world node function r t counts = counted_at (slice_get world.ports.nodes node) function r t counts
+
+-- the same, where the function is named by an equal number
+pub counted_as : (world : WorldValue) (node function number : ℕ) (r : Result Totals Refusal) (t : Totals) (counts : FunctionCounts)
+    → MatchOption (slice_get world.ports.nodes node) (r ≡ Err NoNode) (λ n. IfOk r (AreCountsOf n.records) × IsOk r) → r ≡ Ok t → number ≡ function
+    → counts ≡ counts_of t.functions number → DoesCounts world node function (Counted (record { function = number; counts = counts }))
+counted_as world node function number r t counts due is same =
+    subst (λ (n : ℕ). counts ≡ counts_of t.functions n → DoesCounts world node function (Counted (record { function = n; counts = counts })))
+    (sym same) (counted_done world node function r t counts due is)
 
 -- there is no such node
 not_counted_at : (there : Option NodeValue) (function : ℕ) (r : Result Totals Refusal) (refusal : Refusal) → MatchOption there (r ≡ Err NoNode) (λ n. IfOk r (AreCountsOf n.records) × IsOk r)
     → r ≡ Err refusal → MatchOption there (Replied (replies.Refused refusal) ≡ Replied (replies.Refused NoNode))
     (λ n. Replied (replies.Refused refusal) ≡ Counted (record { function = function; counts = counts_in n.records function }))
 not_counted_at None function r refusal due is = cc
-not_counted_at (Some n) function r refusal due is = absurd (subst (λ (x : Result Totals Refusal). IsOk x) is due.1)
+not_counted_at (Some n) function r refusal due is = absurd (false≢true (subst (λ (x : Result Totals Refusal). IsOk x) is due.1))
 
 pub not_counted : (world : WorldValue) (node function : ℕ) (r : Result Totals Refusal) (refusal : Refusal)
     → MatchOption (slice_get world.ports.nodes node) (r ≡ Err NoNode) (λ n. IfOk r (AreCountsOf n.records) × IsOk r) → r ≡ Err refusal

@@ -143,10 +143,11 @@ fn counts_at<A: App, C: Cacheable>(
 ) -> Printed
     ensures { DoesCounts world.now node function result }
 {
+    let number = function.number();
     match world.counts(node) {
         Ok(counts) => Printed::Counted(FunctionLine {
-            function: function.number(),
-            counts: counts.of(function.number()),
+            function: number,
+            counts: counts.of(number),
         }),
         Err(refusal) => Printed::Replied(Reply::Refused(refusal)),
     }
