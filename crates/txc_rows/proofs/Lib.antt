@@ -15,6 +15,8 @@ pub mod Clean
 pub mod Commands
 pub mod Steps
 pub mod StoredRows
+pub mod PlaceLemmas
+pub mod PutLemmas
 pub mod Tables
 pub mod Writes
 pub mod Answering
