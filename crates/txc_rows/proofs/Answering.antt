@@ -86,8 +86,8 @@ left_earlier_plain_now schema has = subst (λ s. IsPlain (understood s LEFT_EARL
 
 left_from_page : (tree from : ℕ) (table rows : List Row) → AreStored table → IsPage tree [] (left_filter 0) cells_project [] endless (number from ∷ []) table rows
     → AllByRecursion AreCells rows × IsPermutation (placed_left from (placed_all table)) (map placed_from rows)
-left_from_page tree from table rows stored page =
-    let same = one_table tree [] (left_filter 0) cells_project (number from ∷ []) (λ x. is_left from x.version) (left_test_is from) cells_of (λ id x. refl) table rows stored.each page in
+left_from_page tree from table rows keeps page =
+    let same = one_table tree [] (left_filter 0) cells_project (number from ∷ []) (λ x. is_left from x.version) (left_test_is from) cells_of (λ id x. refl) table rows keeps.each page in
     let back = IsPermutation-map placed_from _ rows same in
     (
       all-permutation AreCells _ rows same (all_cells (placed_left from (placed_all table))),
@@ -96,15 +96,15 @@ left_from_page tree from table rows stored page =
 
 pub leaves_latest : (from : ℕ) (old new : State) (rows : List Row) → old.now.schema ≡ version_schema → AreStored (old.now.trees 0) → Shown LEFT_LATEST.now (number from ∷ []) old new rows
     → AllByRecursion AreCells rows × IsPermutation (placed_left from (placed_all (old.now.trees 0))) (map placed_from rows)
-leaves_latest from old new rows has stored h =
+leaves_latest from old new rows has keeps h =
     let read = reads_as LEFT_LATEST.now (number from ∷ []) old new version_schema has (Select (alone (whole 0 (left_filter 0) cells_project)) cells_names) left_latest_is left_latest_plain left_latest_lists rows h in
-    left_from_page 0 from (old.now.trees 0) rows stored (answered 0 [] (left_filter 0) cells_project [] endless old.now.trees (number from ∷ []) rows read.answer)
+    left_from_page 0 from (old.now.trees 0) rows keeps (answered 0 [] (left_filter 0) cells_project [] endless (overlay old.now.trees []) (number from ∷ []) rows read.answer)
 
 pub leaves_earlier : (from : ℕ) (old new : State) (rows : List Row) → old.now.schema ≡ version_schema → AreStored (old.now.trees 3) → Shown LEFT_EARLIER.now (number from ∷ []) old new rows
     → AllByRecursion AreCells rows × IsPermutation (placed_left from (placed_all (old.now.trees 3))) (map placed_from rows)
-leaves_earlier from old new rows has stored h =
+leaves_earlier from old new rows has keeps h =
     let read = reads_as LEFT_EARLIER.now (number from ∷ []) old new version_schema has (Select (alone (whole 3 (left_filter 0) cells_project)) cells_names) left_earlier_is left_earlier_plain left_earlier_lists rows h in
-    left_from_page 3 from (old.now.trees 3) rows stored (answered 3 [] (left_filter 0) cells_project [] endless old.now.trees (number from ∷ []) rows read.answer)
+    left_from_page 3 from (old.now.trees 3) rows keeps (answered 3 [] (left_filter 0) cells_project [] endless (overlay old.now.trees []) (number from ∷ []) rows read.answer)
 
 -- ---- the versions of a query
 
@@ -149,9 +149,9 @@ module _ (q : Query) (from : ℕ) (fs : List Term) (params : Row) (test : (id : 
     (limit : as_count (eval most_shown (params ∷ [])) ≡ Some MOST_READ) where
   -- one part shows the versions of its table
   part_rows : (tree : ℕ) (db : Trees) (rows : List Row) → AreStored (db tree) → IsSureAnswer (part_of tree fs) db params rows → IsPermutation (map part (filter (is_asked q from) (map version_of (placed_all (db tree))))) rows
-  part_rows tree db rows stored h =
+  part_rows tree db rows keeps h =
       let page = answered tree (Binary ∷ []) fs (lit Null ∷ shown_columns) [] endless db params rows h in
-      let same = one_table tree (Binary ∷ []) fs (lit Null ∷ shown_columns) params (λ x. is_asked q from x.version) test (λ x. part x.version) (λ id x. refl) (db tree) rows stored.each page in
+      let same = one_table tree (Binary ∷ []) fs (lit Null ∷ shown_columns) params (λ x. is_asked q from x.version) test (λ x. part x.version) (λ id x. refl) (db tree) rows keeps.each page in
       subst (λ xs. IsPermutation xs rows)
       (sym (map-map part version_of (filter (λ x. is_asked q from x.version) (placed_all (db tree)))) ∙ ap (map part) (sym (filter-map (is_asked q from) version_of (placed_all (db tree))))) same
 
@@ -168,7 +168,7 @@ module _ (q : Query) (from : ℕ) (fs : List Term) (params : Row) (test : (id : 
   answers db rows latest earlier (inl (first, one, inl (second, two, inr under))) = absurd under.1
   answers db rows latest earlier (inl (first, one, inl (second, two, inl (all, is, last)))) =
       lists_page (is_asked q from) MOST_READ params limit _ all rows
-      (both_rows (placed_all (db 0)) (placed_all (db 3)) first second all (part_rows 0 db first latest one) (part_rows 3 (overlay db (first ∷ [])) second earlier two) is)
+      (both_rows (placed_all (db 0)) (placed_all (db 3)) first second all (part_rows 0 (overlay db []) first latest one) (part_rows 3 (overlay db (first ∷ [])) second earlier two) is)
       (answered (2 ^ 31 + 2) [] [] paged_columns shown_order most_shown (overlay db (first ∷ second ∷ all ∷ [])) params rows last)
 
   pub selects : (text : List ℕ) → IsListingOf fs text → (old new : State) (rows : List Row) → old.now.schema ≡ version_schema → AreStored (old.now.trees 0) → AreStored (old.now.trees 3) → Shown text params old new rows

@@ -17,10 +17,13 @@ pub mod Steps
 pub mod StoredRows
 pub mod PlaceLemmas
 pub mod PutLemmas
+pub mod SweepLemmas
+pub mod TableLemmas
 pub mod Tables
 pub mod Writes
 pub mod Answering
 pub mod HeldLemmas
+pub mod ChangeSteps
 pub mod Finding
 pub mod KeepingLemmas
 pub mod Listed

@@ -74,7 +74,7 @@ put_in_turned x y apart (z ∷ zs) = go (nat_lt x.place z.place) refl (nat_lt y.
     go true e false f true g more = rw (e, f, back true g, e, f) refl
     go true e false f false g more = absurd (let h : nat_lt y.place z.place ≡ true = lt_through y.place x.place z.place (back false g) e in cc)
     go false e true f true g more = absurd (let h : nat_lt x.place z.place ≡ true = lt_through x.place y.place z.place g f in cc)
-    go false e true f false g more = rw (e, f, g, e, f) refl
+    go false e true f false g more = rw (e, f, g, e) refl
     go false e false f c g more = rw (e, f, e) (ap (λ rest. z ∷ rest) more)
 
 pub by_place_same : (xs ys : List Placed) → IsPermutation xs ys → HaveOwnPlaces xs → by_place xs ≡ by_place ys

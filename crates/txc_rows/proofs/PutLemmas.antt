@@ -105,6 +105,12 @@ ended_none t i s (x ∷ xs) = (λ at dead. go (is_at t i x.version.row && is_cur
     go true e at f = let g = f in cc
     go false e at f = let current : is_current x.version ≡ true = rw f refl in let hit = and_true _ _ at current in cc
 
+at_turned : (a b c d : ℕ) → (c == a) && (d == b) ≡ true → (a == c) && (b == d) ≡ true
+at_turned a b c d e = grind (arith, nat_tests)
+
+pub one_turned : (x y : Placed) → IsOneCurrent x y → IsOneCurrent y x
+one_turned x y one at current dead = one (at_turned y.version.row.table y.version.row.id x.version.row.table x.version.row.id at) dead current
+
 -- at most one of a table and id is current
 pub few_current : (t i : ℕ) (xs : List Placed) → IsAscending IsOneCurrent xs → length (filter (λ x. is_at t i x.version.row && is_current x.version) xs) ≤ 1
 few_current t i [] h = omega arith
@@ -133,7 +139,7 @@ key_is t i g x e =
     let at = both_true (x.version.row.table == t) (x.version.row.id == i) two.0 in
     (eqb-true _ _ at.0, eqb-true _ _ at.1, eqb-true _ _ two.1)
 
-key_turned : (t i g u j k : ℕ) → (((t == u) && (i == j)) && (g == k)) ≡ (((u == t) && (j == i)) && (k == g))
+pub key_turned : (t i g u j k : ℕ) → (((t == u) && (i == j)) && (g == k)) ≡ (((u == t) && (j == i)) && (k == g))
 key_turned t i g u j k = rw (turn t u, turn i j, turn g k) refl
   where
     turn : (a b : ℕ) → (a == b) ≡ (b == a)
@@ -245,18 +251,9 @@ module _ (place s : ℕ) (row : RowValue) where
           go true e = ascending-append _ latest (new ∷ []) h.keys (tt, tt) (new_key latest (none_of here latest (empty_of (filter here latest) e)))
           go false e = own_key latest h.keys
 
-      one_turned : (x y : Placed) → IsOneCurrent x y → IsOneCurrent y x
-      one_turned x y one at current dead = one (at_turned y.version.row.table y.version.row.id x.version.row.table x.version.row.id at) dead current
-        where
-          at_turned : (a b c d : ℕ) → (c == a) && (d == b) ≡ true → (a == c) && (b == d) ≡ true
-          at_turned a b c d e = grind (arith, nat_tests)
-
       new_one : (xs : List Placed) → HasNoCurrent row.table row.id xs → AllByRecursion (λ x. AllByRecursion (IsOneCurrent x) (new ∷ [])) xs
       new_one [] off = tt
       new_one (x ∷ xs) off = ((λ at current. absurd (off.0 (at_turned x.version.row.table x.version.row.id row.table row.id at) current), tt), new_one xs off.1)
-        where
-          at_turned : (a b c d : ℕ) → (c == a) && (d == b) ≡ true → (a == c) && (b == d) ≡ true
-          at_turned a b c d e = grind (arith, nat_tests)
 
       swapped : IsPermutation (put_latest place row s latest ++ filter here latest) (latest ++ new ∷ [])
       swapped = go (length (filter here latest) == 0) refl

@@ -15,6 +15,8 @@ use Rattle.sqlite.specs.Rowids.TheVariants.{Chosen, Given}
 use Rattle.sqlite.specs.Does.{Tally, Does}
 use Rattle.sqlite.specs.Query.{Output, output}
 use Rattle.sqlite.specs.Term.{Term, holds, eval_all, lit}
+use Rattle.sqlite.specs.Program.{overlay}
+use Rattle.sqlite.specs.Collation.{Collation}
 use Rattle.sqlite.specs.Tree.{Trees, put_row, without_rowid, rowid, IsTable}
 use Rattle.sqlite_rules.specs.Calls.{ids_of}
 use Rattle.sqlite.specs.declared.error.Error.{Error}
@@ -190,7 +192,7 @@ module _ (fs project : List Term) (params : Row) (P : Placed → Bool) (test : (
         let text = statement_of sql (understood version_schema sql) in
         let done = subst (λ s. Does old.step_limit (mode_of old) params (record old.now { schema = s }) text None (Update 0 (alone (whole 0 fs project))) (Ok (w.tally, new.now))) has w.changed in
         let it = updates_rows (codes "latest") 0 latest_keys old.step_limit (mode_of old) params db 0 (alone (whole 0 fs project)) w.tally new.now done in
-        let page = answered 0 [] fs project [] endless db params it.0 it.1.answer in
+        let page = answered 0 [] fs project [] endless (overlay db []) params it.0 it.1.answer in
         let rows : new.now.trees 0 ≡ map changed (db 0) = it.3.rows ∙ updates_page db it.0 latest (few_rows P (db 0) few) page in
         let other : new.now.trees 3 ≡ db 3 = it.3.tables.1.0 (λ e. omega (arith, e)) in
         record {
@@ -259,8 +261,8 @@ copies old new t i g count has latest earlier few h = go (filter (λ r. has_key 
     project : List Term
     project = lit Null ∷ cells_project
 
-    by : _
-    by = copy_query.collations
+    collated : List Collation
+    collated = copy_query.collations
 
     ran = runs_as COPY_EARLIER.now params old new version_schema has (Insert 1 (source.Query (alone copy_query))) copy_is copy_plain count h
 
@@ -271,8 +273,8 @@ copies old new t i g count has latest earlier few h = go (filter (λ r. has_key 
 
     it = inserts_rows (codes "earlier") 3 earlier_keys old.step_limit (mode_of old) params db 1 (source.Query (alone copy_query)) ran.tally new.now done
 
-    page : IsPage 0 by key_filter project [] endless params (db 0) it.0
-    page = answered 0 by key_filter project [] endless db params it.0 it.1.answer
+    page : IsPage 0 collated key_filter project [] endless params (db 0) it.0
+    page = answered 0 collated key_filter project [] endless (overlay db []) params it.0 it.1.answer
 
     hits : (x : List Row) → filter (λ r. has_key t i g (placed_in r)) (db 0) ≡ x → filter (has_key t i g) (placed_all (db 0)) ≡ map placed_in x
     hits x is = filter-map (has_key t i g) placed_in (db 0) ∙ ap (map placed_in) is
@@ -286,7 +288,7 @@ copies old new t i g count has latest earlier few h = go (filter (λ r. has_key 
     go : (x : List Row) → filter (λ r. has_key t i g (placed_in r)) (db 0) ≡ x → length x ≤ 1
         → Leaves (placed_all (db 0)) (placed_all (db 3) ++ filter (has_key t i g) (placed_all (db 0))) new × (count ≡ length (filter (has_key t i g) (placed_all (db 0))))
     go [] is short =
-        let none = given_none key_filter project params (has_key t i g) (copy_test t i g) copied_given (λ id x. refl) by (db 0) it.0 latest.each is page in
+        let none = given_none key_filter project params (has_key t i g) (copy_test t i g) copied_given (λ id x. refl) collated (db 0) it.0 latest.each is page in
         let rows : new.now.trees 3 ≡ db 3 = it.4.rows ∙ ap (λ all. edited db (edit_of db earlier_table [] Chosen 0 all)) none in
         (
           record {
@@ -299,7 +301,7 @@ copies old new t i g count has latest earlier few h = go (filter (λ r. has_key 
           counted [] none ∙ ap length (sym (hits [] is)),
         )
     go (x ∷ []) is short =
-        let one = given_one key_filter project params (has_key t i g) (copy_test t i g) copied_given (λ id y. refl) by (db 0) it.0 x latest.each is page in
+        let one = given_one key_filter project params (has_key t i g) (copy_test t i g) copied_given (λ id y. refl) collated (db 0) it.0 x latest.each is page in
         let rows : new.now.trees 3 ≡ put_row (stored (next_rowid (db 3)) (placed_in x)) (db 3)
         = it.4.rows ∙ ap (λ all. edited db (edit_of db earlier_table [] Chosen 0 all)) one ∙ one_more (codes "earlier") 3 earlier_keys old.step_limit (mode_of old) params db (placed_in x) in
         (

@@ -1,5 +1,5 @@
 -- What a connection over the tables of versions keeps: words that only this crate's private functions promise.
-use Rattle.std.specs.Prelude.{◌≡◌, ℕ, true, false, List, ◌++◌, map, take, Result, Vec, OnOk, OnErr, IfOk}
+use Rattle.std.specs.Prelude.{◌≡◌, ◌≤◌, ℕ, true, false, List, ◌++◌, map, take, Result, Vec, OnOk, OnErr, IfOk}
 use Rattle.std.specs.declared.alloc.Global.{Global}
 use Rattle.sqlite.specs.declared.error.Error.{Error}
 use Rattle.std.specs.List.{AllByRecursion}
@@ -15,7 +15,7 @@ use Rattle.txc_rows.specs.States.{query_table}
 use Rattle.txc_rows.specs.Found.{Finds}
 use Rattle.txc_rows.specs.Holdable.{IsHoldable}
 use Rattle.txc_rows.specs.Texts.{no_schema, latest_schema, version_schema}
-use Rattle.txc_rows.specs.Placed.{Placed, versions_by_place, left_from, placed_left, AreApart, AreWritten}
+use Rattle.txc_rows.specs.Placed.{Placed, versions_by_place, left_from, placed_left, AreBelow, AreApart, AreWritten}
 use Rattle.txc_rows.specs.Stored.{placed_all, placed_from, AreStored, AreCells, shown, version_shown}
 
 -- the last versions of each table, id and group, as the transaction sees them
@@ -38,10 +38,14 @@ versions_of h = versions_by_place (placed_of h)
 pub record HasNoTable (h : Held MemStore) : Type 0 where
   pub schema : (state over_memory h).now.schema ≡ no_schema
 
--- the table of the last versions is there, and these are the versions in it
-pub record HasLatest (latest : List Placed) (h : Held MemStore) : Type 0 where
+-- the table of the last versions is there alone, and its rows are versions
+pub record HasLatestTable (h : Held MemStore) : Type 0 where
   pub schema : (state over_memory h).now.schema ≡ latest_schema
   pub rows : AreStored ((state over_memory h).now.trees 0)
+
+-- it is there alone, and these are the versions in it
+pub record HasLatest (latest : List Placed) (h : Held MemStore) : Type 0 where
+  pub table : HasLatestTable h
   pub latest_are : latest_in h ≡ latest
 
 -- both tables are there, and their rows are versions
@@ -92,6 +96,15 @@ pub record IsLeaving (from : ℕ) (placed : List Placed) (old new : Held MemStor
   pub earlier : earlier_in new ≡ earlier_in old
   pub cells : IfOk outcome (λ rows. AllByRecursion AreCells rows.items)
   pub left : IfOk outcome (λ rows. IsPermutation (placed_left from placed) (map placed_from rows.items))
+
+-- it answers a stamp that is no later than this one, and hides from it on what was hidden; or it is refused and
+-- all versions are as they were
+pub record IsSettling (from stamp : ℕ) (old new : Held MemStore) (outcome : Result ℕ Error) : Type 0 where
+  pub kept : IsKept new
+  pub low : IfOk outcome (λ next. next ≤ stamp)
+  pub same : IfOk outcome (λ next. left_from next (versions_of new) ≡ left_from from (versions_of old))
+  pub below : OnOk outcome ((n : ℕ) → AreBelow n (placed_of old) → AreBelow n (placed_of new))
+  pub unchanged : OnErr outcome (placed_of new ≡ placed_of old)
 
 -- the row shows a version of the table
 pub record IsShown (table : ℕ) (r : Row) : Type 0 where

@@ -108,3 +108,8 @@ pub record AreWritten (versions : List Versioned) (next : ℕ) (placed : List Pl
 pub record AreSwept (from : ℕ) (old placed : List Placed) : Type 0 where
   pub left : IsPermutation (placed_left from old) (placed_left from placed)
   pub below : (next : ℕ) → AreBelow next old → AreBelow next placed
+
+-- these are all that did not die before the stamp, and no place is new
+pub record AreLeft (from : ℕ) (old placed : List Placed) : Type 0 where
+  pub left : IsPermutation (placed_left from old) placed
+  pub below : (next : ℕ) → AreBelow next old → AreBelow next placed

@@ -7,11 +7,11 @@ ghost use Rattle.sqlite.specs.Values.{bound};
 ghost use Rattle.sqlite.specs.Steps.{over_memory, IsEmpty};
 ghost use Rattle.txc_stamp.specs.declared.stamp.TheConstants.{LAST_STAMP};
 ghost use Rattle.txc_rows.specs.Values.{IsRow};
-ghost use Rattle.txc_rows.specs.Versions.{after_write, after_net};
-ghost use Rattle.txc_rows.specs.Placed.{has_key, closed_placed, new_placed, renewed, put_latest, put_earlier, HaveOwnKeys, AreBelow, AreApart, AreWritten, AreSwept};
+ghost use Rattle.txc_rows.specs.Versions.{put, after_write, after_net};
+ghost use Rattle.txc_rows.specs.Placed.{has_key, closed_placed, new_placed, renewed, put_latest, put_earlier, HaveOwnKeys, AreBelow, AreApart, AreWritten, AreSwept, AreLeft};
 ghost use Rattle.txc_rows.specs.declared.query.Query.TheVariants.{ById, ByGroup, All, Range};
 ghost use Rattle.txc_rows.specs.Stored.{AreCells, placed_from};
-ghost use Rattle.txc_rows.specs.Kept.{latest_in, earlier_in, placed_of, versions_of, HasNoTable, HasLatest, HasTables, HasVersions, HasWritten, IsKept, IsStep, IsCall, IsLeaving, IsReading};
+ghost use Rattle.txc_rows.specs.Kept.{latest_in, earlier_in, placed_of, versions_of, HasNoTable, HasLatestTable, HasLatest, HasTables, HasVersions, HasWritten, IsKept, IsStep, IsCall, IsLeaving, IsSettling, IsReading};
 
 use crate::query::{Change, Query};
 use crate::row::Row;
@@ -136,7 +136,7 @@ fn make_latest(tx: &mut Transaction<'_, MemStore>) -> Result<usize, Error>
 }
 
 fn make_earlier(tx: &mut Transaction<'_, MemStore>) -> Result<usize, Error>
-    requires table { HasLatest (latest_in tx.old.conn.now) tx.old.conn.now }
+    requires table { HasLatestTable tx.old.conn.now }
     requires inside { tx.old.conn.now.in_transaction ≡ true }
     ensures same_reference { tx.new.conn.ghost_name ≡ tx.old.conn.ghost_name }
     ensures step { IsStep (HasVersions (latest_in tx.old.conn.now) []) tx.old.conn.now tx.new.conn.now result }
@@ -154,12 +154,22 @@ fn drop_earlier(tx: &mut Transaction<'_, MemStore>) -> Result<usize, Error>
 }
 
 fn drop_latest(tx: &mut Transaction<'_, MemStore>) -> Result<usize, Error>
-    requires table { HasLatest (latest_in tx.old.conn.now) tx.old.conn.now }
+    requires table { HasLatestTable tx.old.conn.now }
     requires inside { tx.old.conn.now.in_transaction ≡ true }
     ensures same_reference { tx.new.conn.ghost_name ≡ tx.old.conn.ghost_name }
     ensures step { IsStep HasNoTable tx.old.conn.now tx.new.conn.now result }
 {
     tx.execute(DROP_LATEST, &[])
+}
+
+fn make_tables(tx: &mut Transaction<'_, MemStore>) -> Result<usize, Error>
+    requires table { HasNoTable tx.old.conn.now }
+    requires inside { tx.old.conn.now.in_transaction ≡ true }
+    ensures same_reference { tx.new.conn.ghost_name ≡ tx.old.conn.ghost_name }
+    ensures step { IsStep (HasVersions [] []) tx.old.conn.now tx.new.conn.now result }
+{
+    make_latest(tx)?;
+    make_earlier(tx)
 }
 
 /// Makes the tables in a store that has none.
@@ -169,8 +179,7 @@ pub(crate) fn create(conn: &mut Connection<MemStore>) -> Result<(), Error>
     ensures empty { OnOk result (placed_of conn.new ≡ []) }
 {
     let mut tx = conn.transaction();
-    make_latest(&mut tx)?;
-    make_earlier(&mut tx)?;
+    make_tables(&mut tx)?;
     tx.commit()
 }
 
@@ -302,6 +311,26 @@ fn put_version(
     }
 }
 
+fn write_put(
+    tx: &mut Transaction<'_, MemStore>,
+    row: &Row,
+    stamp: Stamp,
+    place: u32,
+) -> Result<(), Error>
+    requires table { HasTables tx.old.conn.now }
+    requires inside { tx.old.conn.now.in_transaction ≡ true }
+    requires apart { AreApart (latest_in tx.old.conn.now) (earlier_in tx.old.conn.now) }
+    requires below { AreBelow place (placed_of tx.old.conn.now) }
+    ensures same_reference { tx.new.conn.ghost_name ≡ tx.old.conn.ghost_name }
+    ensures step { IsStep
+        (HasWritten (put row.now stamp (versions_of tx.old.conn.now)) (place + 1))
+        tx.old.conn.now tx.new.conn.now result }
+{
+    end_version(tx, row.table(), row.id(), stamp)?;
+    put_version(tx, place, row, stamp)?;
+    Ok(())
+}
+
 fn write_change(
     tx: &mut Transaction<'_, MemStore>,
     change: &Change,
@@ -318,15 +347,12 @@ fn write_change(
         tx.old.conn.now tx.new.conn.now result }
 {
     match change {
-        Change::Put(row) => {
-            end_version(tx, row.table(), row.id(), stamp)?;
-            put_version(tx, place, row, stamp)?;
-        }
+        Change::Put(row) => write_put(tx, row, stamp, place),
         Change::Remove(table, id) => {
             end_version(tx, *table, *id, stamp)?;
+            Ok(())
         }
     }
-    Ok(())
 }
 
 /// Writes the changes of one commit, all or none. The versions that they put have places from this one on.
@@ -410,31 +436,38 @@ fn cells(row: &sqlite::Row) -> Result<[ValueRef<'_>; 7], Error>
     ])
 }
 
-/// The table of the earlier versions is made anew, with these in it.
-fn refill_earlier(
-    tx: &mut Transaction<'_, MemStore>,
-    rows: &[sqlite::Row],
-) -> Result<(), Error>
-    requires table { HasLatest (latest_in tx.old.conn.now) tx.old.conn.now }
+fn fill_latest(tx: &mut Transaction<'_, MemStore>, rows: &[sqlite::Row]) -> Result<(), Error>
+    requires table { HasTables tx.old.conn.now }
     requires inside { tx.old.conn.now.in_transaction ≡ true }
     requires cells { AllByRecursion AreCells rows.now }
     ensures same_reference { tx.new.conn.ghost_name ≡ tx.old.conn.ghost_name }
     ensures step { IsStep
-        (HasVersions (latest_in tx.old.conn.now) (map placed_from rows.now))
+        (HasVersions (latest_in tx.old.conn.now ++ map placed_from rows.now) (earlier_in tx.old.conn.now))
         tx.old.conn.now tx.new.conn.now result }
 {
-    make_earlier(tx)?;
+    for row in rows {
+        copy_to_latest(tx, row)?;
+    }
+    Ok(())
+}
+
+fn fill_earlier(tx: &mut Transaction<'_, MemStore>, rows: &[sqlite::Row]) -> Result<(), Error>
+    requires table { HasTables tx.old.conn.now }
+    requires inside { tx.old.conn.now.in_transaction ≡ true }
+    requires cells { AllByRecursion AreCells rows.now }
+    ensures same_reference { tx.new.conn.ghost_name ≡ tx.old.conn.ghost_name }
+    ensures step { IsStep
+        (HasVersions (latest_in tx.old.conn.now) (earlier_in tx.old.conn.now ++ map placed_from rows.now))
+        tx.old.conn.now tx.new.conn.now result }
+{
     for row in rows {
         copy_to_earlier(tx, row)?;
     }
     Ok(())
 }
 
-/// The versions of the table of the earlier ones are replaced.
-fn replace_earlier(
-    tx: &mut Transaction<'_, MemStore>,
-    rows: &[sqlite::Row],
-) -> Result<(), Error>
+/// The table of the earlier versions is made anew, with these in it.
+fn replace_earlier(tx: &mut Transaction<'_, MemStore>, rows: &[sqlite::Row]) -> Result<(), Error>
     requires table { HasTables tx.old.conn.now }
     requires inside { tx.old.conn.now.in_transaction ≡ true }
     requires cells { AllByRecursion AreCells rows.now }
@@ -444,11 +477,34 @@ fn replace_earlier(
         tx.old.conn.now tx.new.conn.now result }
 {
     drop_earlier(tx)?;
-    refill_earlier(tx, rows)
+    make_earlier(tx)?;
+    fill_earlier(tx, rows)
 }
 
-/// Makes the table of the earlier versions anew, without those that died before the stamp.
-pub(crate) fn sweep_earlier(conn: &mut Connection<MemStore>, from: u32) -> Result<(), Error>
+/// Both tables are made anew, with these in them.
+fn replace_both(
+    tx: &mut Transaction<'_, MemStore>,
+    latest: &[sqlite::Row],
+    earlier: &[sqlite::Row],
+) -> Result<(), Error>
+    requires table { HasTables tx.old.conn.now }
+    requires inside { tx.old.conn.now.in_transaction ≡ true }
+    requires latest { AllByRecursion AreCells latest.now }
+    requires earlier { AllByRecursion AreCells earlier.now }
+    ensures same_reference { tx.new.conn.ghost_name ≡ tx.old.conn.ghost_name }
+    ensures step { IsStep
+        (HasVersions (map placed_from latest.now) (map placed_from earlier.now))
+        tx.old.conn.now tx.new.conn.now result }
+{
+    drop_earlier(tx)?;
+    drop_latest(tx)?;
+    make_tables(tx)?;
+    fill_latest(tx, latest)?;
+    fill_earlier(tx, earlier)
+}
+
+/// The table of the earlier versions is made anew, without those that died before the stamp.
+fn sweep_earlier(conn: &mut Connection<MemStore>, from: u32) -> Result<(), Error>
     requires { IsKept conn.old }
     ensures { IsCall (AreSwept from (placed_of conn.old)) conn.old conn.new result }
 {
@@ -456,6 +512,51 @@ pub(crate) fn sweep_earlier(conn: &mut Connection<MemStore>, from: u32) -> Resul
     let mut tx = conn.transaction();
     replace_earlier(&mut tx, &rows)?;
     tx.commit()
+}
+
+/// Both tables are made anew, without the versions that died before the stamp.
+fn sweep_both(conn: &mut Connection<MemStore>, from: u32) -> Result<(), Error>
+    requires { IsKept conn.old }
+    ensures { IsCall (AreLeft from (placed_of conn.old)) conn.old conn.new result }
+{
+    let latest = read_latest_left(conn, from)?;
+    let earlier = read_earlier_left(conn, from)?;
+    let mut tx = conn.transaction();
+    replace_both(&mut tx, &latest, &earlier)?;
+    tx.commit()
+}
+
+/// Leaves out versions that died before the stamp: earlier ones, or those of both tables.
+pub(crate) fn sweep(
+    conn: &mut Connection<MemStore>,
+    from: u32,
+    both: bool,
+) -> Result<(), Error>
+    requires { IsKept conn.old }
+    ensures { IsCall (AreSwept from (placed_of conn.old)) conn.old conn.new result }
+{
+    if both {
+        sweep_both(conn, from)
+    } else {
+        sweep_earlier(conn, from)
+    }
+}
+
+/// Sees to it that a version that dies at the stamp is not hidden, and answers from which death on versions are
+/// kept then: where it would be, all that is hidden is swept away.
+pub(crate) fn settle(
+    conn: &mut Connection<MemStore>,
+    from: u32,
+    stamp: Stamp,
+) -> Result<u32, Error>
+    requires { IsKept conn.old }
+    ensures { IsSettling from stamp conn.old conn.new result }
+{
+    if from <= stamp.number() {
+        return Ok(from);
+    }
+    sweep_both(conn, from)?;
+    Ok(0)
 }
 
 // ---- reading

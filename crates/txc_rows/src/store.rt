@@ -11,7 +11,7 @@ ghost use Rattle.txc_rows.specs.declared.store_error.TheConstants.{MAX_MATCHING}
 
 use crate::decode::versions_from;
 use crate::query::{Change, Query};
-use crate::statements::{create, read, sweep_earlier, write_all};
+use crate::statements::{create, read, settle, sweep, write_all};
 use crate::store_error::{MAX_MATCHING, StoreError};
 use crate::version::Versioned;
 use sqlite::{Connection, MemStore};
@@ -106,6 +106,7 @@ impl VersionRows {
         ensures refused { IfErr result IsStoreRefusal }
     {
         let next_place = place_after(self.next_place, net.len())?;
+        self.kept_from = settle(&mut self.conn, self.kept_from, stamp)?;
         write_all(&mut self.conn, net, stamp, self.next_place)?;
         self.next_place = next_place;
         Ok(())
@@ -118,8 +119,8 @@ impl VersionRows {
         ensures unchanged { OnErr result (self.new ≡ self.old) }
         ensures refused { IfErr result IsStoreRefusal }
     {
-        let kept_from = u32::max(self.kept_from, horizon.number() + 1);
-        sweep_earlier(&mut self.conn, kept_from)?;
+        let kept_from = self.kept_from.max(horizon.number() + 1);
+        sweep(&mut self.conn, kept_from, false)?;
         self.kept_from = kept_from;
         Ok(())
     }
