@@ -3,6 +3,9 @@ use Rattle.std.specs.Prelude.{Bool, true, false, [], ◌∷◌, None, codes, Lis
 use Rattle.sqlite.specs.Collation.TheVariants.{Binary}
 use Rattle.sqlite.specs.declared.types.Value.TheVariants.{Null}
 use Rattle.sqlite.specs.Table.{Table}
+use Rattle.sqlite.specs.Term.{lit, col, op2}
+use Rattle.sqlite_sql.specs.declared.ops.BinaryOp.TheVariants.{Compare, Is, Or}
+use Rattle.sqlite_sql.specs.declared.ops.CompareOp.TheVariants.{Lt}
 use Rattle.sqlite.specs.Schema.{Schema}
 use Rattle.sqlite.specs.Kind.{Kind}
 use Rattle.sqlite.specs.Kind.TheVariants.{Integer, Blob}
@@ -25,8 +28,8 @@ column_of name kind needed = record {
 abbrev pub no_schema : Schema
 no_schema = record { tables = []; indexes = []; views = [] }
 
--- a table of versions with their places: where the table has a version of a row, a key (table, id) finds it, and one
--- (table, group); a version that has not died has no death
+-- a table of versions with their places; a version that has not died has no death, and none dies before it was
+-- born or as it was
 abbrev pub table_of_versions : List ℕ → ℕ → List (List ℕ) → Table
 table_of_versions name tree keys = record {
   name = name;
@@ -42,7 +45,7 @@ table_of_versions name tree keys = record {
   primary = slice_index_or keys 0 [];
   uniques = keys;
   orders = plain ∷ plain ∷ [];
-  checks = [];
+  checks = op2 Or (op2 (Is Binary) (col 1 7) (lit Null)) (op2 (Compare Lt Binary) (col 1 4) (col 1 7)) ∷ [];
   references = [];
   computed = [];
   stamps = record { places = []; terms = []; formats = [] };

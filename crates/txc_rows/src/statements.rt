@@ -31,7 +31,7 @@ macro_rules! table_of_versions {
             " (place INTEGER NOT NULL, table_number INTEGER NOT NULL, id INTEGER NOT NULL, \
              born INTEGER NOT NULL, group_number INTEGER NOT NULL, body BLOB NOT NULL, died INTEGER, ",
             $keys,
-            ") STRICT"
+            ", CHECK (died IS NULL OR born < died)) STRICT"
         )
     };
 }
