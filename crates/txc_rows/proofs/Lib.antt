@@ -24,6 +24,7 @@ pub mod Writes
 pub mod Answering
 pub mod HeldLemmas
 pub mod ChangeSteps
+pub mod ViewLemmas
 pub mod Finding
 pub mod KeepingLemmas
 pub mod Listed

@@ -1,9 +1,8 @@
 //! The statements on the tables of versions.
 
-ghost use Rattle.std.specs.Prelude.{◌≡◌, ◌≢◌, ◌++◌, ◌∷◌, [], ◌≤◌, ◌+◌, map, length, filter, OnOk, IfOk};
+ghost use Rattle.std.specs.Prelude.{◌≡◌, ◌++◌, ◌∷◌, [], ◌≤◌, ◌<◌, ◌+◌, ◌^◌, true, map, length, filter, OnOk, IfOk};
 ghost use Rattle.std.specs.List.{AllByRecursion};
 ghost use Rattle.sqlite.specs.Held.{state};
-ghost use Rattle.sqlite.specs.Values.{bound};
 ghost use Rattle.sqlite.specs.Steps.{over_memory, IsEmpty};
 ghost use Rattle.txc_stamp.specs.declared.stamp.TheConstants.{LAST_STAMP};
 ghost use Rattle.txc_rows.specs.Values.{IsRow};
@@ -16,7 +15,6 @@ ghost use Rattle.txc_rows.specs.Kept.{latest_in, earlier_in, placed_of, versions
 use crate::query::{Change, Query};
 use crate::row::Row;
 use crate::store_error::MAX_MATCHING;
-use sqlite::types::ValueRef;
 use sqlite::{Connection, Error, MemStore, Transaction, params};
 use std::alloc::Global;
 use txc_stamp::Stamp;
@@ -404,7 +402,18 @@ fn copy_to_latest(tx: &mut Transaction<'_, MemStore>, row: &sqlite::Row) -> Resu
         (HasVersions (latest_in tx.old.conn.now ++ placed_from row.now ∷ []) (earlier_in tx.old.conn.now))
         tx.old.conn.now tx.new.conn.now result }
 {
-    tx.execute(ADD_LATEST, &cells(row)?)
+    tx.execute(
+        ADD_LATEST,
+        &[
+            row.get_ref(0)?,
+            row.get_ref(1)?,
+            row.get_ref(2)?,
+            row.get_ref(3)?,
+            row.get_ref(4)?,
+            row.get_ref(5)?,
+            row.get_ref(6)?,
+        ],
+    )
 }
 
 /// Adds a version that was read.
@@ -417,23 +426,18 @@ fn copy_to_earlier(tx: &mut Transaction<'_, MemStore>, row: &sqlite::Row) -> Res
         (HasVersions (latest_in tx.old.conn.now) (earlier_in tx.old.conn.now ++ placed_from row.now ∷ []))
         tx.old.conn.now tx.new.conn.now result }
 {
-    tx.execute(ADD_EARLIER, &cells(row)?)
-}
-
-/// The values of a row that was read.
-fn cells(row: &sqlite::Row) -> Result<[ValueRef<'_>; 7], Error>
-    requires { AreCells row.now }
-    ensures { IfOk result (λ values. bound values ≡ row.now) }
-{
-    Ok([
-        row.get_ref(0)?,
-        row.get_ref(1)?,
-        row.get_ref(2)?,
-        row.get_ref(3)?,
-        row.get_ref(4)?,
-        row.get_ref(5)?,
-        row.get_ref(6)?,
-    ])
+    tx.execute(
+        ADD_EARLIER,
+        &[
+            row.get_ref(0)?,
+            row.get_ref(1)?,
+            row.get_ref(2)?,
+            row.get_ref(3)?,
+            row.get_ref(4)?,
+            row.get_ref(5)?,
+            row.get_ref(6)?,
+        ],
+    )
 }
 
 fn fill_latest(tx: &mut Transaction<'_, MemStore>, rows: &[sqlite::Row]) -> Result<(), Error>

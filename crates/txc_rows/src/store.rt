@@ -6,6 +6,8 @@ ghost use Rattle.txc_rows.specs.States.{State};
 ghost use Rattle.txc_rows.specs.Found.{Finds};
 ghost use Rattle.txc_rows.specs.Keeping.{KeepsStates, KeepsWritten, KeepsPurged, AnswersStates};
 ghost use Rattle.txc_rows.specs.Kept.{IsKept, placed_of};
+ghost use Rattle.sqlite.specs.declared.error.Error.TheVariants.{SqliteFailure};
+ghost use Rattle.sqlite.specs.declared.error.ErrorCode.TheVariants.{NoRowid};
 ghost use Rattle.txc_rows.specs.StoreErrors.{IsStoreRefusal};
 ghost use Rattle.txc_rows.specs.declared.store_error.TheConstants.{MAX_MATCHING};
 
@@ -56,7 +58,7 @@ fn open_tables(alloc: Global) -> Result<Connection<MemStore>, sqlite::Error>
 /// The next place after so many more versions, if there are so many.
 fn place_after(place: u32, more: usize) -> Result<u32, sqlite::Error>
     ensures answer { IfOk result (λ next. next ≡ place + more) }
-    ensures refused { IfErr result (λ e. e ≡ Error.SqliteFailure ErrorCode.NoRowid) }
+    ensures refused { IfErr result (λ e. e ≡ SqliteFailure NoRowid) }
 {
     if more > (u32::MAX - place) as usize {
         return Err(sqlite::Error::SqliteFailure(sqlite::ErrorCode::NoRowid));
