@@ -14,7 +14,7 @@ use Rattle.txc_rows.specs.declared.row.TheConstants.{MAX_BODY_LEN}
 use Rattle.txc_ports.specs.declared.bounds.Bounds.{Bounds}
 use Rattle.txc_world.specs.declared.step.Act.TheVariants as acts
 use Rattle.txc_world.specs.declared.step.Keep.TheVariants as keeps
-use Rattle.txc_world.specs.declared.step.Step.TheVariants.{Actor, Keeper}
+use Rattle.txc_world.specs.declared.step.Step.TheVariants.{Actor, BeginIn, Keeper}
 use Rattle.txc_script.specs.LineFaults.{AreOfKinds, IsOfKind}
 use Rattle.txc_script.specs.Lines.{IsTextWord}
 use Rattle.txc_script.specs.declared.line_fault.WordKind.{WordKind}
@@ -23,7 +23,7 @@ use Rattle.txc_script.specs.declared.line_name.LineName.{LineName}
 use Rattle.txc_script.specs.declared.line_name.LineName.TheVariants as names
 use Rattle.txc_play.specs.TaskReading.{ArePairWords, AreRangeWords}
 use Rattle.txc_play.specs.Tasks.{AreAfterPlace, AreBoundsInRange, AreChangeWords, AreQueryWords, Says, bounds_words, change_words, query_words, row_words}
-use Rattle.txc_play.specs.WorldFaults.{change_line, kinds_after, moment, number, pair_kinds, place, query_line, range_kinds, row_kinds, second_of, table}
+use Rattle.txc_play.specs.WorldFaults.{change_line, function, kinds_after, moment, number, pair_kinds, place, query_line, range_kinds, row_kinds, second_of, table}
 use Rattle.txc_play.specs.declared.task.Task.{Task}
 use Rattle.txc_play.specs.declared.task.Task.TheVariants as tasks
 use Rattle.txc_play.proofs.TaskParts.{by_id, by_group, by_range, by_table, pair_words, put_words, range_words, remove_words, row_of}
@@ -61,6 +61,22 @@ has_two one two [] h = absurd h
 has_two one two (a ∷ []) h = absurd h.1
 has_two one two (a ∷ b ∷ []) h = record { first = a; second = b; words_are = refl; first_is = h.0; second_is = h.1.0 }
 has_two one two (a ∷ b ∷ c ∷ words) h = absurd h.1.1
+
+record HasThree (one two three : WordKind) (words : List (List ℕ)) : Type 0 where
+  pub first : List ℕ
+  pub second : List ℕ
+  pub third : List ℕ
+  pub words_are : words ≡ first ∷ second ∷ third ∷ []
+  pub first_is : IsOfKind one first
+  pub second_is : IsOfKind two second
+  pub third_is : IsOfKind three third
+
+has_three : (one two three : WordKind) (words : List (List ℕ)) → AreOfKinds (one ∷ two ∷ three ∷ []) words → HasThree one two three words
+has_three one two three [] h = absurd h
+has_three one two three (a ∷ []) h = absurd h.1
+has_three one two three (a ∷ b ∷ []) h = absurd h.1.1
+has_three one two three (a ∷ b ∷ c ∷ []) h = record { first = a; second = b; third = c; words_are = refl; first_is = h.0; second_is = h.1.0; third_is = h.1.1.0 }
+has_three one two three (a ∷ b ∷ c ∷ d ∷ words) h = absurd h.1.1.1
 
 two_are : (words : List (List ℕ)) (a b x y : List ℕ) → words ≡ a ∷ b ∷ [] → a ≡ x → b ≡ y → words ≡ x ∷ y ∷ []
 two_are words a b x y e f g = e ∙ ap (λ (w : List ℕ). w ∷ b ∷ []) f ∙ ap (λ (w : List ℕ). x ∷ w ∷ []) g
@@ -294,6 +310,36 @@ asks_tidy words two = (
   ),
 )
 
+asks_session : (words : List (List ℕ)) → HasThree place moment moment words → Asks names.Session words
+asks_session words three = (
+  tasks.One (BeginIn three.first_is.0 three.second_is.0 three.third_is.0),
+  (
+    three.first_is.0,
+    three.second_is.0,
+    three.third_is.0,
+    (
+      begins words (three.second ∷ three.third ∷ []) (decimal three.second_is.0 ∷ decimal three.third_is.0 ∷ []) three.first (decimal three.first_is.0) three.words_are three.first_is.1.1
+          (two_are (three.second ∷ three.third ∷ []) three.second three.third (decimal three.second_is.0) (decimal three.third_is.0) refl three.second_is.1.1 three.third_is.1.1),
+      three.first_is.1.0,
+    ),
+    three.second_is.1.0,
+    three.third_is.1.0,
+    refl,
+  ),
+)
+
+asks_counts : (words : List (List ℕ)) → HasTwo place function words → Asks names.Counts words
+asks_counts words two = (
+  tasks.Counts two.first_is.0 two.second_is.0,
+  (
+    two.first_is.0,
+    two.second_is.0,
+    (two_are words two.first two.second (decimal two.first_is.0) (decimal two.second_is.0) two.words_are two.first_is.1.1 two.second_is.1.1, two.first_is.1.0),
+    two.second_is.1.0,
+    refl,
+  ),
+)
+
 -- words that are all of their kinds ask for something
 pub good_words : (name : LineName) (words : List (List ℕ)) (kinds : List WordKind) → kinds_after name (second_of words) ≡ Some kinds → AreOfKinds kinds words → Asks name words
 good_words names.Put words kinds e h = asks_put words (has_row words (of_kinds kinds row_kinds words e h))
@@ -301,6 +347,7 @@ good_words names.Remove words kinds e h = asks_remove words (has_pair words (of_
 good_words names.Pin words kinds e h = asks_pin words (has_one moment words (of_kinds kinds (moment ∷ []) words e h))
 good_words names.Query words kinds e h = asks_query words (has_query Stamp words kinds e h)
 good_words names.Ro words kinds e h = asks_ro words (has_bounds words (of_kinds kinds (place ∷ moment ∷ moment ∷ Stamp ∷ []) words e h))
+good_words names.Session words kinds e h = asks_session words (has_three place moment moment words (of_kinds kinds (place ∷ moment ∷ moment ∷ []) words e h))
 good_words names.Rw words kinds e h = let p = has_place words (of_kinds kinds (place ∷ []) words e h) in (tasks.One (Actor p.number acts.BeginRw), (p.number, p.are, refl))
 good_words names.Call words kinds e h = asks_call words (has_two place Key words (of_kinds kinds (place ∷ Key ∷ []) words e h))
 good_words names.Step words kinds e h = let p = has_place words (of_kinds kinds (place ∷ []) words e h) in (tasks.One (Actor p.number acts.Request), (p.number, p.are, refl))
@@ -313,3 +360,4 @@ good_words names.Abort words kinds e h = let p = has_place words (of_kinds kinds
 good_words names.Advance words kinds e h = let p = has_place words (of_kinds kinds (place ∷ []) words e h) in (tasks.One (Keeper (keeps.Advance p.number)), (p.number, p.are, refl))
 good_words names.Sweep words kinds e h = asks_sweep words (has_two place Stamp words (of_kinds kinds (place ∷ Stamp ∷ []) words e h))
 good_words names.Tidy words kinds e h = asks_tidy words (has_two moment moment words (of_kinds kinds (moment ∷ moment ∷ []) words e h))
+good_words names.Counts words kinds e h = asks_counts words (has_two place function words (of_kinds kinds (place ∷ function ∷ []) words e h))

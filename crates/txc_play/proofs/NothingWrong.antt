@@ -16,7 +16,7 @@ use Rattle.txc_script.specs.declared.line_fault.WordKind.TheVariants.{Key, Stamp
 use Rattle.txc_script.specs.declared.line_name.LineName.{LineName}
 use Rattle.txc_script.specs.declared.line_name.LineName.TheVariants as names
 use Rattle.txc_play.specs.Tasks.{AreAfterPlace, AreChangeWords, IsChangeInRange, IsIdRange, IsPair, IsQueryInRange, Says, change_words, name_text, query_words, row_words}
-use Rattle.txc_play.specs.WorldFaults.{IsFaultAfter, IsFirstBad, IsWorldFault, change_line, kinds_after, moment, pair_kinds, place, query_line, range_kinds, row_kinds, second_of, table}
+use Rattle.txc_play.specs.WorldFaults.{IsFaultAfter, IsFirstBad, IsWorldFault, change_line, function, kinds_after, moment, pair_kinds, place, query_line, range_kinds, row_kinds, second_of, table}
 use Rattle.txc_play.specs.declared.task.Task.{Task}
 use Rattle.txc_play.proofs.TaskNames.{same_name}
 use Rattle.txc_play.proofs.TaskParts.{apart, first_is, others_are}
@@ -95,6 +95,12 @@ has_kinds names.Ro words task h =
       known = refl;
       good = ((h.0, (h.2.1, refl)), ((h.1.now, (h.3.now, refl)), ((h.1.staleness, (h.3.staleness, refl)), ((h.1.at_least, (h.3.at_least, refl)), tt))));
     })
+has_kinds names.Session words task h =
+    as_words names.Session words (decimal h.0 ∷ decimal h.1 ∷ decimal h.2 ∷ []) h.3.0 (record {
+      kinds = place ∷ moment ∷ moment ∷ [];
+      known = refl;
+      good = ((h.0, (h.3.1, refl)), ((h.1, (h.4, refl)), ((h.2, (h.5, refl)), tt)));
+    })
 has_kinds names.Rw words task h = only_place names.Rw words h.0 refl h.1
 has_kinds names.Call words task h =
     as_words names.Call words _ h.2.0 (record { kinds = place ∷ Key ∷ []; known = refl; good = ((h.0, (h.2.1, refl)), ((h.1, (h.3, refl)), tt)) })
@@ -114,6 +120,8 @@ has_kinds names.Sweep words task h =
     as_words names.Sweep words (decimal h.0 ∷ decimal h.1 ∷ []) h.2.0 (record { kinds = place ∷ Stamp ∷ []; known = refl; good = ((h.0, (h.2.1, refl)), ((h.1, (h.3, refl)), tt)) })
 has_kinds names.Tidy words task h =
     as_words names.Tidy words (decimal h.0 ∷ decimal h.1 ∷ []) h.2 (record { kinds = moment ∷ moment ∷ []; known = refl; good = ((h.0, (h.3, refl)), ((h.1, (h.4, refl)), tt)) })
+has_kinds names.Counts words task h =
+    as_words names.Counts words (decimal h.0 ∷ decimal h.1 ∷ []) h.2.0 (record { kinds = place ∷ function ∷ []; known = refl; good = ((h.0, (h.2.1, refl)), ((h.1, (h.3, refl)), tt)) })
 
 -- ---- so that nothing is wrong with them
 

@@ -20,6 +20,7 @@ read_name text =
     else (if bytes_eq text (codes "query") then Some names.Query
     else (if bytes_eq text (codes "ro") then Some names.Ro
     else (if bytes_eq text (codes "rw") then Some names.Rw
+    else (if bytes_eq text (codes "session") then Some names.Session
     else (if bytes_eq text (codes "call") then Some names.Call
     else (if bytes_eq text (codes "step") then Some names.Step
     else (if bytes_eq text (codes "finish") then Some names.Finish
@@ -30,7 +31,8 @@ read_name text =
     else (if bytes_eq text (codes "abort") then Some names.Abort
     else (if bytes_eq text (codes "advance") then Some names.Advance
     else (if bytes_eq text (codes "sweep") then Some names.Sweep
-    else (if bytes_eq text (codes "tidy") then Some names.Tidy else None))))))))))))))))
+    else (if bytes_eq text (codes "tidy") then Some names.Tidy
+    else (if bytes_eq text (codes "counts") then Some names.Counts else None))))))))))))))))))
 
 read_back : (name : LineName) → read_name (name_text name) ≡ Some name
 read_back names.Put = refl
@@ -39,6 +41,7 @@ read_back names.Pin = refl
 read_back names.Query = refl
 read_back names.Ro = refl
 read_back names.Rw = refl
+read_back names.Session = refl
 read_back names.Call = refl
 read_back names.Step = refl
 read_back names.Finish = refl
@@ -50,6 +53,7 @@ read_back names.Abort = refl
 read_back names.Advance = refl
 read_back names.Sweep = refl
 read_back names.Tidy = refl
+read_back names.Counts = refl
 
 -- no two names have one text
 pub same_name : (a b : LineName) → name_text a ≡ name_text b → a ≡ b
@@ -75,6 +79,7 @@ some_words names.Pin task h = let e = h.1 in cc
 some_words names.Query task h = let e = h.2 in cc
 some_words names.Ro task h = let e = h.2.0 in cc
 some_words names.Rw task h = let e = h.1.0 in cc
+some_words names.Session task h = let e = h.3.0 in cc
 some_words names.Call task h = let e = h.2.0 in cc
 some_words names.Step task h = let e = h.1.0 in cc
 some_words names.Finish task h = let e = h.1.0 in cc
@@ -86,6 +91,7 @@ some_words names.Abort task h = let e = h.1.0 in cc
 some_words names.Advance task h = let e = h.1.0 in cc
 some_words names.Sweep task h = let e = h.2.0 in cc
 some_words names.Tidy task h = let e = h.2 in cc
+some_words names.Counts task h = let e = h.2.0 in cc
 
 -- a line without a blank asks for nothing
 pub no_blank : (line : List ℕ) (task : Task) → HasNoBlank line → SpellsTask line task → ⊥

@@ -1,10 +1,16 @@
 -- What lines of a world's script ask for is done, step by step.
-use Rattle.std.proofs.Common.{◌≡◌, ℕ, Bool, true, false, List, [], ◌∷◌, ◌++◌, Some, None, Result, Ok, Err, IfOk, OnErr, length, inl, inr, refl, sym, ap, subst, arith}
-use Rattle.std.specs.Prelude.{if◌then◌else◌}
+use Rattle.std.proofs.Common.{◌≡◌, ℕ, Bool, true, false, List, [], ◌∷◌, ◌++◌, Some, None, Result, Ok, Err, IfOk, OnErr, length, inl, inr, refl, sym, ap, subst, ◌∙◌, arith}
+use Rattle.std.specs.Prelude.{if◌then◌else◌, slice_get, IsOk, MatchOption, Option}
 use Rattle.std.specs.List.{All}
 use Rattle.std.specs.declared.alloc.AllocError.{AllocError}
+use Rattle.std.proofs.lemmas.Bool.{false≢true}
 use Rattle.std.proofs.lemmas.List.{append-nil}
 use Rattle.std.proofs.lemmas.List.Elements.{All-append, All-cons, All-nil}
+use Rattle.txc_node.specs.declared.counts.FunctionCounts.{FunctionCounts}
+use Rattle.txc_node.specs.Counts.{Totals, AreCountsOf, counts_of}
+use Rattle.txc_script.specs.FunctionLines.{counts_in}
+use Rattle.txc_script.proofs.Counting.{counted_in}
+use Rattle.txc_shared.specs.Nodes.{NodeValue}
 use Rattle.txc_app.specs.Eval.{Next}
 use Rattle.txc_world.specs.declared.step.Act.{Act}
 use Rattle.txc_world.specs.declared.step.Act.TheVariants as acts
@@ -12,13 +18,15 @@ use Rattle.txc_world.specs.declared.step.Keep.TheVariants as keeps
 use Rattle.txc_world.specs.declared.step.Keep.{Keep}
 use Rattle.txc_world.specs.declared.step.Step.{Step}
 use Rattle.txc_world.specs.declared.step.Step.TheVariants.{Actor, Keeper}
+use Rattle.txc_world.specs.declared.reply.Refusal.{Refusal}
+use Rattle.txc_world.specs.declared.reply.Refusal.TheVariants.{NoNode}
 use Rattle.txc_world.specs.declared.reply.Reply.{Reply}
 use Rattle.txc_world.specs.declared.reply.Reply.TheVariants as replies
 use Rattle.txc_world.specs.Worlds.{WorldValue}
-use Rattle.txc_play.specs.TaskSteps.{AreTaken, IsTaken, HasBegun, IsDone, Does, DoesPins, DoesUnpin, ending_of, is_added, is_unpinned, leaves_hold, stamp_in, taken_out, tidied}
+use Rattle.txc_play.specs.TaskSteps.{AreTaken, IsTaken, HasBegun, IsDone, Does, DoesCounts, DoesPins, DoesUnpin, ending_of, is_added, is_unpinned, leaves_hold, stamp_in, taken_out, tidied}
 use Rattle.txc_play.specs.Playing.{HasEndedTxn, HasUnpinned, IsCutShort}
 use Rattle.txc_play.specs.declared.printed.Printed.{Printed}
-use Rattle.txc_play.specs.declared.printed.Printed.TheVariants.{Replied}
+use Rattle.txc_play.specs.declared.printed.Printed.TheVariants.{Replied, Counted}
 use Rattle.txc_play.specs.declared.task.Task.{Task}
 use Rattle.txc_play.specs.declared.task.Task.TheVariants as tasks
 use Rattle.txc_play.proofs.WorldSteps.{taken_alone, taken_more}
@@ -204,6 +212,45 @@ tidy_done next world mid end now age reply stamps count printed one some is h =
 pub done_pins : (next : Next) (world : WorldValue) (actor : ℕ) (r : Result Printed AllocError) → IfOk r (λ printed. DoesPins next world actor printed) → IfOk r (λ printed. IsDone next world (tasks.Pins actor) printed world)
 done_pins next world actor (Ok printed) h = record { steps = []; replied = []; taken = refl; does = (refl, h) }
 done_pins next world actor (Err e) h = tt
+
+-- ---- counts
+
+-- what all counts have for a function is written
+counted_at : (there : Option NodeValue) (function : ℕ) (r : Result Totals Refusal) (t : Totals) (counts : FunctionCounts) → MatchOption there (r ≡ Err NoNode) (λ n. IfOk r (AreCountsOf n.records) × IsOk r)
+    → r ≡ Ok t → counts ≡ counts_of t.functions function → MatchOption there (Counted (record { function = function; counts = counts }) ≡ Replied (replies.Refused NoNode))
+    (λ n. Counted (record { function = function; counts = counts }) ≡ Counted (record { function = function; counts = counts_in n.records function }))
+counted_at None function r t counts due is same = cc
+counted_at (Some n) function r t counts due is same =
+    let all : IfOk {E = Refusal} (Ok t) (AreCountsOf n.records) = subst (λ (x : Result Totals Refusal). IfOk x (AreCountsOf n.records)) is due.0 in
+    ap (λ (c : FunctionCounts). Counted (record { function = function; counts = c })) (same ∙ counted_in n.records t all function)
+
+counted_done : (world : WorldValue) (node function : ℕ) (r : Result Totals Refusal) (t : Totals) (counts : FunctionCounts)
+    → MatchOption (slice_get world.ports.nodes node) (r ≡ Err NoNode) (λ n. IfOk r (AreCountsOf n.records) × IsOk r) → r ≡ Ok t → counts ≡ counts_of t.functions function
+    → DoesCounts world node function (Counted (record { function = function; counts = counts }))
+counted_done world node function r t counts = counted_at (slice_get world.ports.nodes node) function r t counts
+
+-- the same, where the function is named by an equal number
+pub counted_as : (world : WorldValue) (node function number : ℕ) (r : Result Totals Refusal) (t : Totals) (counts : FunctionCounts)
+    → MatchOption (slice_get world.ports.nodes node) (r ≡ Err NoNode) (λ n. IfOk r (AreCountsOf n.records) × IsOk r) → r ≡ Ok t → number ≡ function
+    → counts ≡ counts_of t.functions number → DoesCounts world node function (Counted (record { function = number; counts = counts }))
+counted_as world node function number r t counts due is same =
+    subst (λ (n : ℕ). counts ≡ counts_of t.functions n → DoesCounts world node function (Counted (record { function = n; counts = counts })))
+    (sym same) (counted_done world node function r t counts due is)
+
+-- there is no such node
+not_counted_at : (there : Option NodeValue) (function : ℕ) (r : Result Totals Refusal) (refusal : Refusal) → MatchOption there (r ≡ Err NoNode) (λ n. IfOk r (AreCountsOf n.records) × IsOk r)
+    → r ≡ Err refusal → MatchOption there (Replied (replies.Refused refusal) ≡ Replied (replies.Refused NoNode))
+    (λ n. Replied (replies.Refused refusal) ≡ Counted (record { function = function; counts = counts_in n.records function }))
+not_counted_at None function r refusal due is = cc
+not_counted_at (Some n) function r refusal due is = absurd (false≢true (subst (λ (x : Result Totals Refusal). IsOk x) is due.1))
+
+pub not_counted : (world : WorldValue) (node function : ℕ) (r : Result Totals Refusal) (refusal : Refusal)
+    → MatchOption (slice_get world.ports.nodes node) (r ≡ Err NoNode) (λ n. IfOk r (AreCountsOf n.records) × IsOk r) → r ≡ Err refusal
+    → DoesCounts world node function (Replied (replies.Refused refusal))
+not_counted world node function r refusal = not_counted_at (slice_get world.ports.nodes node) function r refusal
+
+pub done_counts : (next : Next) (world : WorldValue) (node function : ℕ) (printed : Printed) → DoesCounts world node function printed → IsDone next world (tasks.Counts node function) printed world
+done_counts next world node function printed h = record { steps = []; replied = []; taken = refl; does = (refl, h) }
 
 -- ---- what breaks off
 

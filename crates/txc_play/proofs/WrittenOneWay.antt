@@ -1,18 +1,23 @@
 -- What is written of the lines of a world's script is said by the replies to their steps, or by a pin set.
-use Rattle.std.proofs.Common.{◌≡◌, ◌≢◌, ℕ, Bool, true, false, List, [], ◌∷◌, ◌++◌, map, length, Option, Some, None, refl, sym, ap, ◌∙◌}
+use Rattle.std.proofs.Common.{◌≡◌, ◌≢◌, ℕ, Bool, true, false, List, [], ◌∷◌, ◌++◌, map, length, Option, Some, None, refl, sym, ap, subst, ◌∙◌}
 use Rattle.std.specs.Prelude.{if◌then◌else◌, codes, slice_get, MatchBool, MatchOption}
 use Rattle.txc_app.specs.Eval.{Next}
 use Rattle.txc_cushion.specs.declared.pin.Pin.{Pin}
+use Rattle.txc_node.specs.declared.record.Record.{Record}
+use Rattle.txc_script.specs.FunctionLines.{counts_in}
+use Rattle.txc_shared.specs.Nodes.{NodeValue}
 use Rattle.txc_world.specs.declared.step.Act.{Act}
 use Rattle.txc_world.specs.declared.step.Act.TheVariants as acts
 use Rattle.txc_world.specs.declared.step.Step.{Step}
 use Rattle.txc_world.specs.declared.reply.Reply.{Reply}
+use Rattle.txc_world.specs.declared.reply.Reply.TheVariants as replies
+use Rattle.txc_world.specs.declared.reply.Refusal.TheVariants.{NoNode}
 use Rattle.txc_world.specs.Cast.{reads, ReadingValue}
 use Rattle.txc_world.specs.Worlds.{WorldValue}
-use Rattle.txc_play.specs.TaskSteps.{AreShown, Does, DoesEnd, DoesFinish, DoesPin, DoesTidy, DoesUnpin, ShowsMembers, ending_of, is_unpinned, taken_out}
+use Rattle.txc_play.specs.TaskSteps.{AreShown, Does, DoesCounts, DoesEnd, DoesFinish, DoesPin, DoesTidy, DoesUnpin, ShowsMembers, ending_of, is_unpinned, taken_out}
 use Rattle.txc_play.specs.TaskTexts.{printed_text, stamps_text}
 use Rattle.txc_play.specs.declared.printed.Printed.{Printed}
-use Rattle.txc_play.specs.declared.printed.Printed.TheVariants.{Replied, Ended, Members, Tidied}
+use Rattle.txc_play.specs.declared.printed.Printed.TheVariants.{Replied, Ended, Members, Tidied, Counted}
 use Rattle.txc_play.specs.declared.task.Task.{Task}
 use Rattle.txc_play.specs.declared.task.Task.TheVariants as tasks
 
@@ -84,15 +89,17 @@ tidy_way now age (x ∷ s) (y ∷ t) (r ∷ replied) a b h k =
     (λ stamps. unpin_way stamps (length stamps) s t replied a b) (s ≡ []) (replied ≡ []) (t ≡ []) (replied ≡ []) h.1 k.1
 
 pub written_by_replies : (next other : Next) (world elsewhere : WorldValue) (task : Task) (steps others : List Step) (replied : List Reply) (a b : Printed)
-    → ((actor : ℕ) → task ≢ tasks.Pins actor) → Does next world task steps replied a → Does other elsewhere task others replied b → a ≡ b
-written_by_replies next other world elsewhere (tasks.One step) s t replied a b takes h k =
+    → ((actor : ℕ) → task ≢ tasks.Pins actor) → ((node function : ℕ) → task ≢ tasks.Counts node function)
+    → Does next world task steps replied a → Does other elsewhere task others replied b → a ≡ b
+written_by_replies next other world elsewhere (tasks.One step) s t replied a b takes counts h k =
     h.3 ∙ ap Replied (ap (last_of h.0) (sym h.2 ∙ k.2)) ∙ sym k.3
-written_by_replies next other world elsewhere (tasks.Pin now) s t replied a b takes h k = pin_way now s t replied a b h k
-written_by_replies next other world elsewhere (tasks.Finish actor) s t replied a b takes h k = finish_way actor s t replied a b h k
-written_by_replies next other world elsewhere (tasks.Pins actor) s t replied a b takes h k = absurd (takes actor refl)
-written_by_replies next other world elsewhere (tasks.Commit actor) s t replied a b takes h k = end_way actor acts.Commit s t replied a b h k
-written_by_replies next other world elsewhere (tasks.Abort actor) s t replied a b takes h k = end_way actor acts.Abort s t replied a b h k
-written_by_replies next other world elsewhere (tasks.Tidy now age) s t replied a b takes h k = tidy_way now age s t replied a b h k
+written_by_replies next other world elsewhere (tasks.Pin now) s t replied a b takes counts h k = pin_way now s t replied a b h k
+written_by_replies next other world elsewhere (tasks.Finish actor) s t replied a b takes counts h k = finish_way actor s t replied a b h k
+written_by_replies next other world elsewhere (tasks.Pins actor) s t replied a b takes counts h k = absurd (takes actor refl)
+written_by_replies next other world elsewhere (tasks.Commit actor) s t replied a b takes counts h k = end_way actor acts.Commit s t replied a b h k
+written_by_replies next other world elsewhere (tasks.Abort actor) s t replied a b takes counts h k = end_way actor acts.Abort s t replied a b h k
+written_by_replies next other world elsewhere (tasks.Tidy now age) s t replied a b takes counts h k = tidy_way now age s t replied a b h k
+written_by_replies next other world elsewhere (tasks.Counts node function) s t replied a b takes counts h k = absurd (counts node function refl)
 
 -- ---- pins
 
@@ -114,6 +121,23 @@ written_by_pin_set next other world elsewhere actor r (Members p s) (Members q t
 written_by_pin_set next other world elsewhere actor r (Members p s) (Replied reply) is js h k = absurd k
 written_by_pin_set next other world elsewhere actor r (Members p s) (Ended end) is js h k = absurd k
 written_by_pin_set next other world elsewhere actor r (Members p s) (Tidied count horizon) is js h k = absurd k
+written_by_pin_set next other world elsewhere actor r (Members p s) (Counted line) is js h k = absurd k
 written_by_pin_set next other world elsewhere actor r (Replied reply) b is js h k = absurd h
 written_by_pin_set next other world elsewhere actor r (Ended end) b is js h k = absurd h
 written_by_pin_set next other world elsewhere actor r (Tidied count horizon) b is js h k = absurd h
+written_by_pin_set next other world elsewhere actor r (Counted line) b is js h k = absurd h
+
+-- ---- counts
+
+counts_way : (function : ℕ) (n : Option NodeValue) (node : NodeValue) (p : Printed) → n ≡ Some node
+    → MatchOption n (p ≡ Replied (replies.Refused NoNode)) (λ m. p ≡ Counted (record { function = function; counts = counts_in m.records function }))
+    → p ≡ Counted (record { function = function; counts = counts_in node.records function })
+counts_way function None node p is h = cc
+counts_way function (Some m) node p is h = let same : m ≡ node = cc in subst (λ (x : NodeValue). p ≡ Counted (record { function = function; counts = counts_in x.records function })) same h
+
+pub written_by_records : (world elsewhere : WorldValue) (at function : ℕ) (n other : NodeValue) (a b : Printed) → slice_get world.ports.nodes at ≡ Some n → slice_get elsewhere.ports.nodes at ≡ Some other
+    → n.records ≡ other.records → DoesCounts world at function a → DoesCounts elsewhere at function b → a ≡ b
+written_by_records world elsewhere at function n other a b is js same h k =
+    counts_way function (slice_get world.ports.nodes at) n a is h
+    ∙ ap (λ (records : List Record). Counted (record { function = function; counts = counts_in records function })) same
+    ∙ sym (counts_way function (slice_get elsewhere.ports.nodes at) other b js k)

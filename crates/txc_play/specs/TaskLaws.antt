@@ -1,21 +1,23 @@
 -- What is written of the lines of a world's script, in the words of their rules.
 use Rattle.std.specs.Prelude.{◌≡◌, ◌≢◌, ℕ, List, Some, slice_get}
 use Rattle.txc_app.specs.Eval.{Next}
+use Rattle.txc_shared.specs.Nodes.{NodeValue}
 use Rattle.txc_world.specs.declared.step.Step.{Step}
 use Rattle.txc_world.specs.declared.reply.Reply.{Reply}
 use Rattle.txc_world.specs.Cast.{reads, ReadingValue}
 use Rattle.txc_world.specs.Worlds.{WorldValue}
-use Rattle.txc_play.specs.TaskSteps.{Does, ShowsMembers}
+use Rattle.txc_play.specs.TaskSteps.{Does, DoesCounts, ShowsMembers}
 use Rattle.txc_play.specs.TaskTexts.{printed_text}
 use Rattle.txc_play.specs.declared.printed.Printed.{Printed}
 use Rattle.txc_play.specs.declared.task.Task.{Task}
-use Rattle.txc_play.specs.declared.task.Task.TheVariants.{Pins}
+use Rattle.txc_play.specs.declared.task.Task.TheVariants.{Pins, Counts}
 
 -- What is written of a line that takes steps is said by their replies alone, whatever the world: where they are
 -- the same, the same is written.
 abbrev pub AreWrittenByReplies : Type 0
 AreWrittenByReplies = (next other : Next) (world elsewhere : WorldValue) (task : Task) (steps others : List Step)
     (replied : List Reply) (a b : Printed) → ((actor : ℕ) → task ≢ Pins actor)
+    → ((node function : ℕ) → task ≢ Counts node function)
     → Does next world task steps replied a → Does other elsewhere task others replied b → a ≡ b
 
 -- what is written of the pins of an actor's read-only transaction is said by its pin set
@@ -24,3 +26,9 @@ ArePinsWrittenByPinSet = (next other : Next) (world elsewhere : WorldValue) (act
     (a b : Printed) → slice_get world.actors actor ≡ Some (reads r)
     → slice_get elsewhere.actors actor ≡ Some (reads r) → ShowsMembers next world actor a
     → ShowsMembers other elsewhere actor b → printed_text a ≡ printed_text b
+
+-- what is written of a function's counts is said by the records of the node
+abbrev pub AreCountsWrittenByRecords : Type 0
+AreCountsWrittenByRecords = (world elsewhere : WorldValue) (node function : ℕ) (n other : NodeValue) (a b : Printed)
+    → slice_get world.ports.nodes node ≡ Some n → slice_get elsewhere.ports.nodes node ≡ Some other
+    → n.records ≡ other.records → DoesCounts world node function a → DoesCounts elsewhere node function b → a ≡ b

@@ -2,6 +2,7 @@
 use Rattle.std.specs.Prelude.{◌≡◌, ℕ, zero, suc, Bool, true, false, List, [], ◌∷◌, ◌++◌, map, length, All, Option, Some, None, if◌then◌else◌, slice_get, MatchBool, MatchOption}
 use Rattle.txc_cushion.specs.declared.pin.Pin.{Pin}
 use Rattle.txc_app.specs.Eval.{Next}
+use Rattle.txc_script.specs.FunctionLines.{counts_in}
 use Rattle.txc_world.specs.declared.step.Act.{Act}
 use Rattle.txc_world.specs.declared.step.Act.TheVariants as acts
 use Rattle.txc_world.specs.declared.step.Keep.TheVariants as keeps
@@ -9,13 +10,14 @@ use Rattle.txc_world.specs.declared.step.Step.{Step}
 use Rattle.txc_world.specs.declared.step.Step.TheVariants.{Actor, Keeper}
 use Rattle.txc_world.specs.declared.reply.Reply.{Reply}
 use Rattle.txc_world.specs.declared.reply.Reply.TheVariants as replies
+use Rattle.txc_world.specs.declared.reply.Refusal.TheVariants.{NoNode}
 use Rattle.txc_world.specs.Acts.{HasStepped}
 use Rattle.txc_world.specs.Cast.{reads, ReadingValue}
 use Rattle.txc_world.specs.Tidy.{purse_after, IsTidy, LosesNoSnapshot, Purse}
 use Rattle.txc_world.specs.Told.{Reading, Story, idle, reading, writing, leaving, IsDue, IsExplainedIn}
 use Rattle.txc_world.specs.Worlds.{due_of_pins, AreMembersOf, IsBalanced, WorldValue}
 use Rattle.txc_play.specs.declared.printed.Printed.{Printed}
-use Rattle.txc_play.specs.declared.printed.Printed.TheVariants.{Replied, Ended, Members, Tidied}
+use Rattle.txc_play.specs.declared.printed.Printed.TheVariants.{Replied, Ended, Members, Tidied, Counted}
 use Rattle.txc_play.specs.declared.task.Task.{Task}
 use Rattle.txc_play.specs.declared.task.Task.TheVariants as tasks
 
@@ -148,6 +150,12 @@ DoesPins next world actor printed =
     MatchOption (due_of_pins (slice_get world.told.actors actor)) (ShowsMembers next world actor printed)
     (λ refusal. printed ≡ Replied (replies.Refused refusal))
 
+-- what the records of a node count for a function is written, or that there is no such node
+abbrev pub DoesCounts : WorldValue → ℕ → ℕ → Printed → Type 0
+DoesCounts world node function printed =
+    MatchOption (slice_get world.ports.nodes node) (printed ≡ Replied (replies.Refused NoNode))
+    (λ n. printed ≡ Counted (record { function = function; counts = counts_in n.records function }))
+
 -- the steps of what a line asks for, as they were replied, and what is written of them
 abbrev pub Does : Next → WorldValue → Task → List Step → List Reply → Printed → Type 0
 Does next world (tasks.One step) steps replied printed =
@@ -158,6 +166,8 @@ Does next world (tasks.Pins actor) steps replied printed = (steps ≡ []) × Doe
 Does next world (tasks.Commit actor) steps replied printed = DoesEnd actor acts.Commit steps replied printed
 Does next world (tasks.Abort actor) steps replied printed = DoesEnd actor acts.Abort steps replied printed
 Does next world (tasks.Tidy now age) steps replied printed = DoesTidy now age steps replied printed
+Does next world (tasks.Counts node function) steps replied printed =
+    (steps ≡ []) × DoesCounts world node function printed
 
 -- what a line asks for was done: its steps were taken, and this is written of them
 pub record IsDone (next : Next) (world : WorldValue) (task : Task) (printed : Printed) (end : WorldValue)

@@ -19,6 +19,7 @@ use Rattle.txc_call.specs.declared.error.CallError.{CallError}
 use Rattle.txc_call.specs.declared.error.CallError.TheVariants as calls
 use Rattle.txc_ports.specs.declared.error.TxnError.{TxnError}
 use Rattle.txc_ports.specs.declared.error.TxnError.TheVariants as transactions
+use Rattle.txc_script.specs.FunctionLines.{function_line}
 use Rattle.txc_world.specs.declared.did.Did.{Did}
 use Rattle.txc_world.specs.declared.did.Did.TheVariants as dids
 use Rattle.txc_world.specs.declared.did.RowsFound.{RowsFound}
@@ -29,7 +30,7 @@ use Rattle.txc_world.specs.declared.reply.Refusal.TheVariants as refusals
 use Rattle.txc_world.specs.declared.reply.Reply.{Reply}
 use Rattle.txc_world.specs.declared.reply.Reply.TheVariants as replies
 use Rattle.txc_play.specs.declared.printed.Printed.{Printed}
-use Rattle.txc_play.specs.declared.printed.Printed.TheVariants.{Replied, Ended, Members, Tidied}
+use Rattle.txc_play.specs.declared.printed.Printed.TheVariants.{Replied, Ended, Members, Tidied, Counted}
 
 -- ---- refusals: a code, and the numbers that go with it
 
@@ -173,6 +174,7 @@ printed_text (Members has_present stamps) =
     codes "pins" ++ ((if has_present then codes " *" else []) ++ stamps_text stamps.items)
 printed_text (Tidied count horizon) =
     codes "retired " ++ (decimal count ++ (codes " horizon " ++ decimal horizon))
+printed_text (Counted line) = function_line line.function line.counts
 
 -- ---- whether it holds a refusal
 
@@ -197,3 +199,4 @@ is_refused_line (Replied reply) = is_refused_reply reply
 is_refused_line (Ended end) = is_refused_end end
 is_refused_line (Members has_present stamps) = false
 is_refused_line (Tidied count horizon) = false
+is_refused_line (Counted line) = false

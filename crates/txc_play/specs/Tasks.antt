@@ -3,6 +3,7 @@ use Rattle.std.specs.Prelude.{◌≡◌, ℕ, ◌≤◌, List, [], ◌∷◌, co
 use Rattle.std.specs.Fmt.{decimal}
 use Rattle.txc_stamp.specs.declared.stamp.TheConstants.{LAST_STAMP}
 use Rattle.txc_tags.specs.declared.tag.TheConstants.{LAST_TABLE}
+use Rattle.txc_tags.specs.declared.key.TheConstants.{LAST_FUNCTION}
 use Rattle.txc_tags.specs.declared.text.number.TheConstants.{LAST_NUMBER}
 use Rattle.txc_tags.specs.Keys.{Call}
 use Rattle.txc_tags.specs.TextKey.{key_text, IsKeyInRange}
@@ -14,7 +15,7 @@ use Rattle.txc_rows.specs.declared.query.Change.TheVariants as changes
 use Rattle.txc_ports.specs.declared.bounds.Bounds.{Bounds}
 use Rattle.txc_world.specs.declared.step.Act.TheVariants as acts
 use Rattle.txc_world.specs.declared.step.Keep.TheVariants as keeps
-use Rattle.txc_world.specs.declared.step.Step.TheVariants.{Actor, Keeper}
+use Rattle.txc_world.specs.declared.step.Step.TheVariants.{Actor, BeginIn, Keeper}
 use Rattle.txc_script.specs.Words.{words_of}
 use Rattle.txc_script.specs.declared.line_name.LineName.{LineName}
 use Rattle.txc_script.specs.declared.line_name.LineName.TheVariants as names
@@ -77,6 +78,7 @@ name_text names.Pin = codes "pin"
 name_text names.Query = codes "query"
 name_text names.Ro = codes "ro"
 name_text names.Rw = codes "rw"
+name_text names.Session = codes "session"
 name_text names.Call = codes "call"
 name_text names.Step = codes "step"
 name_text names.Finish = codes "finish"
@@ -88,6 +90,7 @@ name_text names.Abort = codes "abort"
 name_text names.Advance = codes "advance"
 name_text names.Sweep = codes "sweep"
 name_text names.Tidy = codes "tidy"
+name_text names.Counts = codes "counts"
 
 -- the words are the number of an actor or a node, and then others
 abbrev pub AreAfterPlace : List (List ℕ) → ℕ → List (List ℕ) → Type 0
@@ -120,6 +123,9 @@ Says names.Ro words task =
     × (task ≡ tasks.One (Actor actor (acts.BeginRo b)))
 Says names.Rw words task =
     (actor : ℕ) × AreAfterPlace words actor [] × (task ≡ tasks.One (Actor actor acts.BeginRw))
+Says names.Session words task =
+    (actor now staleness : ℕ) × AreAfterPlace words actor (decimal now ∷ decimal staleness ∷ [])
+    × (now ≤ LAST_MOMENT) × (staleness ≤ LAST_MOMENT) × (task ≡ tasks.One (BeginIn actor now staleness))
 Says names.Call words task =
     (actor : ℕ) × (key : Call) × AreAfterPlace words actor (key_text key ∷ []) × IsKeyInRange key
     × (task ≡ tasks.One (Actor actor (acts.Start key)))
@@ -143,6 +149,9 @@ Says names.Sweep words task =
 Says names.Tidy words task =
     (now age : ℕ) × (words ≡ decimal now ∷ decimal age ∷ []) × (now ≤ LAST_MOMENT) × (age ≤ LAST_MOMENT)
     × (task ≡ tasks.Tidy now age)
+Says names.Counts words task =
+    (node function : ℕ) × AreAfterPlace words node (decimal function ∷ []) × (function ≤ LAST_FUNCTION)
+    × (task ≡ tasks.Counts node function)
 
 -- the line is a name and words that ask for this
 abbrev pub SpellsTask : List ℕ → Task → Type 0

@@ -12,6 +12,7 @@ use Rattle.txc_script.specs.declared.line_fault.WordKind.TheVariants.{Key, Stamp
 use Rattle.txc_script.specs.declared.line_name.LineName.{LineName}
 use Rattle.txc_script.specs.declared.line_name.LineName.TheVariants as names
 use Rattle.txc_tags.specs.declared.tag.TheConstants.{LAST_TABLE}
+use Rattle.txc_tags.specs.declared.key.TheConstants.{LAST_FUNCTION}
 use Rattle.txc_tags.specs.declared.text.number.TheConstants.{LAST_NUMBER}
 use Rattle.txc_play.specs.Tasks.{name_text}
 use Rattle.txc_play.specs.declared.parts.TheConstants.{LAST_MOMENT}
@@ -32,6 +33,9 @@ number = Number LAST_NUMBER
 -- a moment, or a time
 abbrev pub moment : WordKind
 moment = Number LAST_MOMENT
+
+abbrev pub function : WordKind
+function = Number LAST_FUNCTION
 
 -- a table, and an id or a group
 abbrev pub pair_kinds : List WordKind
@@ -67,6 +71,7 @@ kinds_after names.Pin second = Some (moment ∷ [])
 kinds_after names.Query second = query_line Stamp second
 kinds_after names.Ro second = Some (place ∷ moment ∷ moment ∷ Stamp ∷ [])
 kinds_after names.Rw second = Some (place ∷ [])
+kinds_after names.Session second = Some (place ∷ moment ∷ moment ∷ [])
 kinds_after names.Call second = Some (place ∷ Key ∷ [])
 kinds_after names.Step second = Some (place ∷ [])
 kinds_after names.Finish second = Some (place ∷ [])
@@ -78,6 +83,7 @@ kinds_after names.Abort second = Some (place ∷ [])
 kinds_after names.Advance second = Some (place ∷ [])
 kinds_after names.Sweep second = Some (place ∷ Stamp ∷ [])
 kinds_after names.Tidy second = Some (moment ∷ moment ∷ [])
+kinds_after names.Counts second = Some (place ∷ function ∷ [])
 
 -- the kinds of the first two words after the name of such a line
 abbrev pub first_kinds : LineName → List WordKind

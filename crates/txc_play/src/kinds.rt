@@ -6,7 +6,7 @@ ghost use Rattle.txc_script.specs.declared.line_fault.WordKind.{WordKind};
 use crate::parts::LAST_MOMENT;
 use txc_rows::MAX_BODY_LEN;
 use txc_script::{LineName, WordKind};
-use txc_tags::{LAST_NUMBER, LAST_TABLE};
+use txc_tags::{LAST_FUNCTION, LAST_NUMBER, LAST_TABLE};
 
 /// The number of an actor or a node.
 const PLACE: WordKind = WordKind::Number(LAST_NUMBER);
@@ -18,6 +18,9 @@ const NUMBER: WordKind = WordKind::Number(LAST_NUMBER);
 
 /// A moment, or a time.
 const MOMENT: WordKind = WordKind::Number(LAST_MOMENT);
+
+/// The number of a function.
+const FUNCTION: WordKind = WordKind::Number(LAST_FUNCTION as u64);
 
 const BODY: WordKind = WordKind::Text(MAX_BODY_LEN);
 
@@ -36,6 +39,8 @@ static QUERY_TABLE: [WordKind; 3] = [WordKind::Stamp, WordKind::QueryName, TABLE
 static QUERY_RANGE: [WordKind; 5] = [WordKind::Stamp, WordKind::QueryName, TABLE, NUMBER, NUMBER];
 
 static RO: [WordKind; 4] = [PLACE, MOMENT, MOMENT, WordKind::Stamp];
+
+static SESSION: [WordKind; 3] = [PLACE, MOMENT, MOMENT];
 
 static CALL: [WordKind; 2] = [PLACE, WordKind::Key];
 
@@ -58,6 +63,8 @@ static ONLY_PLACE: [WordKind; 1] = [PLACE];
 static SWEEP: [WordKind; 2] = [PLACE, WordKind::Stamp];
 
 static TIDY: [WordKind; 2] = [MOMENT, MOMENT];
+
+static COUNTS: [WordKind; 2] = [PLACE, FUNCTION];
 
 static NOTHING: [WordKind; 0] = [];
 
@@ -126,11 +133,13 @@ pub fn kinds_after(name: LineName, second: &[u8]) -> Option<&'static [WordKind]>
         LineName::Pin => Some(PIN.as_slice()),
         LineName::Query => query_kinds(second),
         LineName::Ro => Some(RO.as_slice()),
+        LineName::Session => Some(SESSION.as_slice()),
         LineName::Call => Some(CALL.as_slice()),
         LineName::Ask => ask_kinds(second),
         LineName::Write => write_kinds(second),
         LineName::Sweep => Some(SWEEP.as_slice()),
         LineName::Tidy => Some(TIDY.as_slice()),
+        LineName::Counts => Some(COUNTS.as_slice()),
         LineName::Rw => Some(ONLY_PLACE.as_slice()),
         LineName::Step => Some(ONLY_PLACE.as_slice()),
         LineName::Finish => Some(ONLY_PLACE.as_slice()),

@@ -24,5 +24,5 @@ pub use player::do_task;
 pub use printed::Printed;
 pub use reading::read_named;
 pub use script::{run_world, world_settings};
-pub use task::Task;
+pub use task::{FunctionNumber, Task};
 pub use texts::OfTransaction;

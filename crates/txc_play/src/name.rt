@@ -17,6 +17,7 @@ pub fn name_of(word: &[u8]) -> Option<LineName>
         b"query" => Some(LineName::Query),
         b"ro" => Some(LineName::Ro),
         b"rw" => Some(LineName::Rw),
+        b"session" => Some(LineName::Session),
         b"call" => Some(LineName::Call),
         b"step" => Some(LineName::Step),
         b"finish" => Some(LineName::Finish),
@@ -28,6 +29,7 @@ pub fn name_of(word: &[u8]) -> Option<LineName>
         b"advance" => Some(LineName::Advance),
         b"sweep" => Some(LineName::Sweep),
         b"tidy" => Some(LineName::Tidy),
+        b"counts" => Some(LineName::Counts),
         _ => None,
     }
 }

@@ -4,6 +4,7 @@ ghost use Rattle.std.specs.Fmt.{decimal};
 ghost use Rattle.txc_tags.specs.TextGrammar.{IsTextOf};
 ghost use Rattle.txc_tags.specs.declared.text.number.TheConstants.{LAST_NUMBER};
 ghost use Rattle.txc_tags.specs.declared.tag.TheConstants.{LAST_TABLE};
+ghost use Rattle.txc_tags.specs.declared.key.TheConstants.{LAST_FUNCTION};
 ghost use Rattle.txc_rows.specs.Values.{RowValue, IsRow};
 ghost use Rattle.txc_rows.specs.declared.query.Query.{Query};
 ghost use Rattle.txc_ports.specs.declared.bounds.Bounds.{Bounds};
@@ -14,11 +15,12 @@ ghost use Rattle.txc_play.specs.TaskReading.{ArePairWords, AreRangeWords};
 ghost use Rattle.txc_script.specs.Lines.{IsNumberWord};
 ghost use Rattle.txc_play.specs.declared.parts.TheConstants.{LAST_MOMENT};
 
+use crate::task::FunctionNumber;
 use std::alloc::Global;
 use txc_ports::Bounds;
 use txc_rows::{Change, Query, Row};
 use txc_script::{Malformed, Unread, first_word, one_word, read_stamp, three_words, two_words};
-use txc_tags::{LAST_NUMBER, LAST_TABLE, Table, read_number};
+use txc_tags::{LAST_FUNCTION, LAST_NUMBER, LAST_TABLE, Table, read_number};
 
 /// The greatest moment and the longest time, in milliseconds.
 pub const LAST_MOMENT: u64 = u64::MAX;
@@ -63,6 +65,20 @@ fn read_table(word: &[u8]) -> Result<Table, Malformed>
     match read_number(word, u64::from(LAST_TABLE)) {
         Some(number) => match Table::new(number as u8) {
             Some(table) => Ok(table),
+            None => Err(Malformed),
+        },
+        None => Err(Malformed),
+    }
+}
+
+/// The number of a function.
+pub fn read_function(word: &[u8]) -> Result<FunctionNumber, Malformed>
+    ensures answer { IfOk result (IsNumberWord LAST_FUNCTION word.now) }
+    ensures refused { IfErr result (λ _. (n : ℕ) → IsNumberWord LAST_FUNCTION word.now n → ⊥) }
+{
+    match read_number(word, u64::from(LAST_FUNCTION)) {
+        Some(number) => match FunctionNumber::new(number as u8) {
+            Some(function) => Ok(function),
             None => Err(Malformed),
         },
         None => Err(Malformed),

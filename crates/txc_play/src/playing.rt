@@ -1,15 +1,16 @@
 //! The steps that a line of a world's script stands for.
 ghost use Rattle.std.specs.Prelude.{◌≡◌, map, All, IfOk, OnErr};
-ghost use Rattle.txc_play.specs.TaskSteps.{DoesPins, HasBegun, HasGivenUp, IsClosed, IsDone, IsTaken};
+ghost use Rattle.txc_play.specs.TaskSteps.{DoesCounts, DoesPins, HasBegun, HasGivenUp, IsClosed, IsDone, IsTaken};
 ghost use Rattle.txc_play.specs.Playing.{HasEndedTxn, HasUnpinned, IsCutShort};
 
 use crate::outcome::{ending_of, is_added, is_unpinned, leaves_hold, stamp_in, taken_out, tidied};
 use crate::printed::Printed;
-use crate::task::Task;
+use crate::task::{FunctionNumber, Task};
 use std::alloc::{AllocError, Global};
 use txc_app::App;
 use txc_cushion::Pin;
 use txc_registry::Cacheable;
+use txc_script::FunctionLine;
 use txc_stamp::Stamp;
 use txc_world::{Act, Keep, Reply, Step, World};
 
@@ -134,6 +135,24 @@ fn members_of<A: App, C: Cacheable>(
     }
 }
 
+/// What is counted of a function at a node.
+fn counts_at<A: App, C: Cacheable>(
+    world: &World<A, C>,
+    node: usize,
+    function: FunctionNumber,
+) -> Printed
+    ensures { DoesCounts world.now node function result }
+{
+    let number = function.number();
+    match world.counts(node) {
+        Ok(counts) => Printed::Counted(FunctionLine {
+            function: number,
+            counts: counts.of(number),
+        }),
+        Err(refusal) => Printed::Replied(Reply::Refused(refusal)),
+    }
+}
+
 /// Takes the steps of a line, and returns what is written of it.
 pub fn play<A: App, C: Cacheable>(
     alloc: Global,
@@ -151,6 +170,7 @@ pub fn play<A: App, C: Cacheable>(
         Task::Commit(actor) => Ok(Printed::Replied(end_txn(alloc, world, actor, Act::Commit))),
         Task::Abort(actor) => Ok(Printed::Replied(end_txn(alloc, world, actor, Act::Abort))),
         Task::Tidy { now, age } => Ok(tidy_up(alloc, world, now, age)),
+        Task::Counts { node, function } => Ok(counts_at(world, node, function)),
     }
 }
 

@@ -1,4 +1,5 @@
 //! What a line of a world's script is answered.
+use txc_script::FunctionLine;
 use txc_stamp::Stamp;
 use txc_world::{End, Reply};
 
@@ -13,4 +14,6 @@ pub enum Printed {
     Members(bool, Vec<Stamp>),
     /// So many pins were taken out, and the horizon is this.
     Tidied(usize, Stamp),
+    /// What is counted of a function at a node.
+    Counted(FunctionLine),
 }

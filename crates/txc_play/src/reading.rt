@@ -8,11 +8,15 @@ ghost use Rattle.txc_play.specs.TaskReading.{IsKeeperChange};
 ghost use Rattle.txc_play.specs.declared.task.Task.{Task};
 
 use crate::name::name_of;
-use crate::parts::{read_bounds, read_change, read_moment, read_place, read_query, read_row};
+use crate::parts::{
+    read_bounds, read_change, read_function, read_moment, read_place, read_query, read_row,
+};
 use crate::task::Task;
 use std::alloc::Global;
 use txc_rows::Change;
-use txc_script::{LineName, Malformed, Unread, first_word, one_word, read_stamp, two_words};
+use txc_script::{
+    LineName, Malformed, Unread, first_word, one_word, read_stamp, three_words, two_words,
+};
 use txc_tags::Key;
 use txc_world::{Act, Keep, Step};
 
@@ -59,6 +63,22 @@ fn read_ro(text: &[u8]) -> Result<Task, Malformed>
     let (actor, text) = read_actor(text)?;
     let bounds = read_bounds(text)?;
     Ok(Task::One(Step::Actor(actor, Act::BeginRo(bounds))))
+}
+
+/// `session`, by what comes after its name.
+fn read_session(text: &[u8]) -> Result<Task, Malformed>
+    ensures answer { IfOk result (Says LineName.Session (words_of text.now)) }
+    ensures refused { IfErr result (λ _. (task : Task) → Says LineName.Session (words_of text.now) task → ⊥) }
+{
+    let (actor, now, staleness) = three_words(text)?;
+    let actor = read_place(actor)?;
+    let now = read_moment(now)?;
+    let staleness = read_moment(staleness)?;
+    Ok(Task::One(Step::BeginIn {
+        actor,
+        now,
+        staleness,
+    }))
 }
 
 /// `call`, by what comes after its name.
@@ -114,6 +134,17 @@ fn read_tidy(text: &[u8]) -> Result<Task, Malformed>
     Ok(Task::Tidy { now, age })
 }
 
+/// `counts`, by what comes after its name.
+fn read_counts(text: &[u8]) -> Result<Task, Malformed>
+    ensures answer { IfOk result (Says LineName.Counts (words_of text.now)) }
+    ensures refused { IfErr result (λ _. (task : Task) → Says LineName.Counts (words_of text.now) task → ⊥) }
+{
+    let (node, function) = two_words(text)?;
+    let node = read_place(node)?;
+    let function = read_function(function)?;
+    Ok(Task::Counts { node, function })
+}
+
 /// `put` or `remove`, with its name.
 fn read_keeper_change(alloc: Global, line: &[u8]) -> Result<Task, Unread>
     ensures answer { IfOk result (IsKeeperChange (words_of line.now)) }
@@ -136,6 +167,7 @@ pub fn read_named(alloc: Global, name: LineName, line: &[u8], text: &[u8]) -> Re
         LineName::Query => Ok(read_keeper_query(text)?),
         LineName::Ro => Ok(read_ro(text)?),
         LineName::Rw => Ok(Task::One(Step::Actor(read_only_place(text)?, Act::BeginRw))),
+        LineName::Session => Ok(read_session(text)?),
         LineName::Call => Ok(read_call(text)?),
         LineName::Step => Ok(Task::One(Step::Actor(read_only_place(text)?, Act::Request))),
         LineName::Finish => Ok(Task::Finish(read_only_place(text)?)),
@@ -147,6 +179,7 @@ pub fn read_named(alloc: Global, name: LineName, line: &[u8], text: &[u8]) -> Re
         LineName::Advance => Ok(Task::One(Step::Keeper(Keep::Advance(read_only_place(text)?)))),
         LineName::Sweep => Ok(read_sweep(text)?),
         LineName::Tidy => Ok(read_tidy(text)?),
+        LineName::Counts => Ok(read_counts(text)?),
     }
 }
 

@@ -44,5 +44,6 @@ pub fn is_refused_line(printed: &Printed) -> bool
         Printed::Ended(end) => is_refused_end(end),
         Printed::Members(_, _) => false,
         Printed::Tidied(_, _) => false,
+        Printed::Counted(_) => false,
     }
 }

@@ -435,6 +435,7 @@ impl fmt::Display for Printed {
                 }
             }
             Printed::Tidied(count, horizon) => write!(f, "retired {count} horizon {horizon}"),
+            Printed::Counted(line) => write!(f, "{line}"),
         }
     }
 }

@@ -18,7 +18,9 @@ use Rattle.txc_node.specs.Counts.{Totals, AreCountsOf, counts_for, counts_of, su
 use Rattle.txc_node.specs.Steps.{function_of, is_refusal, seen_reply}
 use Rattle.txc_node.specs.declared.hit.Shown.{Shown}
 use Rattle.txc_script.specs.Kinds.{Given}
-use Rattle.txc_run.specs.Reports.{IsReportOf, before_others, counts_in, functions_named, functions_text, function_line, step_by, steps_in, steps_of, steps_report, total_line, with_name}
+use Rattle.txc_script.proofs.Counting.{counted_in}
+use Rattle.txc_script.specs.FunctionLines.{counts_in, function_line}
+use Rattle.txc_run.specs.Reports.{IsReportOf, before_others, functions_named, functions_text, step_by, steps_in, steps_of, steps_report, total_line, with_name}
 
 -- the counts of one step more
 pub counted_more : (steps : List Record) (step : Record) (old new : Totals)
@@ -147,21 +149,15 @@ reported_more steps op function reply names others old new of functions counted 
           (swept ∙ ap (λ n. old.swept + n) (sym (swept_seen reply))) h.counts_are;
     }
 
-same_counts : (a b : FunctionCounts) → a.lookups ≡ b.lookups → a.hits ≡ b.hits → a.stored ≡ b.stored → a.kept ≡ b.kept → a.evicted ≡ b.evicted → a ≡ b
-same_counts a b lookups hits stored kept evicted =
-    ap (λ n. record a { lookups = n }) lookups ∙ ap (λ n. record a { lookups = b.lookups; hits = n }) hits ∙ ap (λ n. record a { lookups = b.lookups; hits = b.hits; stored = n }) stored
-    ∙ ap (λ n. record a { lookups = b.lookups; hits = b.hits; stored = b.stored; kept = n }) kept
-    ∙ ap (λ n. record a { lookups = b.lookups; hits = b.hits; stored = b.stored; kept = b.kept; evicted = n }) evicted
-
 functions_same : (a b : ℕ → FunctionCounts) (names : List ℕ) → ((f : ℕ) → a f ≡ b f) → functions_text a names ≡ functions_text b names
 functions_same a b [] e = refl
-functions_same a b (f ∷ names) e = ap (λ (c : FunctionCounts). function_line f c ++ functions_text a names) (e f) ∙ ap (λ (xs : List ℕ). function_line f (b f) ++ xs) (functions_same a b names e)
+functions_same a b (f ∷ names) e = ap (λ (c : FunctionCounts). (function_line f c ++ 10 ∷ []) ++ functions_text a names) (e f) ∙ ap (λ (xs : List ℕ). (function_line f (b f) ++ 10 ∷ []) ++ xs) (functions_same a b names e)
 
 pub report_is : (steps : List Record) (names : List ℕ) (t : Totals) → IsReportOf steps names t
     → functions_text (counts_of t.functions) names ++ total_line t.events t.closed t.swept ≡ steps_report steps
 report_is steps names t h =
     let c = h.counts_are in
-    let of : (f : ℕ) → counts_of t.functions f ≡ counts_in steps f = λ f. same_counts _ _ (c.lookups f) (c.hits f) (c.stored f) (c.kept f) (c.evicted f) in
+    let of : (f : ℕ) → counts_of t.functions f ≡ counts_in steps f = counted_in steps t c in
     ap (λ (xs : List ℕ). xs ++ total_line t.events t.closed t.swept)
     (ap (functions_text (counts_of t.functions)) h.names_are ∙ functions_same (counts_of t.functions) (counts_in steps) (functions_named steps) of)
     ∙ ap (λ (xs : List ℕ). functions_text (counts_in steps) (functions_named steps) ++ xs)
@@ -179,7 +175,7 @@ on_ok (Err e) P Q f h = tt
 
 -- the line of one function more
 pub line_more : (counts : ℕ → FunctionCounts) (text line new all : List ℕ) (f : ℕ) (left rest : List ℕ) → left ≡ f ∷ rest → text ++ functions_text counts left ≡ all
-    → new ≡ text ++ line → line ≡ function_line f (counts f) → new ++ functions_text counts rest ≡ all
+    → new ≡ text ++ line → line ≡ function_line f (counts f) ++ 10 ∷ [] → new ++ functions_text counts rest ≡ all
 line_more counts text line new all f left rest at so_far pushed is =
-    ap (λ (xs : List ℕ). xs ++ functions_text counts rest) (pushed ∙ ap (λ (xs : List ℕ). text ++ xs) is) ∙ append_assoc text (function_line f (counts f)) (functions_text counts rest)
+    ap (λ (xs : List ℕ). xs ++ functions_text counts rest) (pushed ∙ ap (λ (xs : List ℕ). text ++ xs) is) ∙ append_assoc text (function_line f (counts f) ++ 10 ∷ []) (functions_text counts rest)
     ∙ ap (λ (xs : List ℕ). text ++ functions_text counts xs) (sym at) ∙ so_far

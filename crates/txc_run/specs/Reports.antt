@@ -7,8 +7,9 @@ use Rattle.txc_node.specs.declared.hit.Shown.{Shown}
 use Rattle.txc_node.specs.declared.op.Op.{Op}
 use Rattle.txc_node.specs.declared.record.Record.{Record}
 use Rattle.txc_node.specs.declared.reply.Reply.{Reply}
-use Rattle.txc_node.specs.Counts.{Totals, AreCountsOf, step_counts, events_by, closed_by, swept_by}
+use Rattle.txc_node.specs.Counts.{Totals, AreCountsOf, events_by, closed_by, swept_by}
 use Rattle.txc_node.specs.Steps.{is_refusal, function_of}
+use Rattle.txc_script.specs.FunctionLines.{counts_in, function_line}
 use Rattle.txc_script.specs.Kinds.{Given, Nothing, Replied, Malformed}
 
 -- ---- what is counted
@@ -26,16 +27,6 @@ steps_in (Malformed number) = []
 abbrev pub steps_of : List (Given Op (Reply Shown)) → List Record
 steps_of given = flat_map steps_in given
 
--- what the steps count for a function
-abbrev pub counts_in : List Record → ℕ → FunctionCounts
-counts_in steps f = record {
-  lookups = sum_by (λ s. (step_counts f s).lookups) steps;
-  hits = sum_by (λ s. (step_counts f s).hits) steps;
-  stored = sum_by (λ s. (step_counts f s).stored) steps;
-  kept = sum_by (λ s. (step_counts f s).kept) steps;
-  evicted = sum_by (λ s. (step_counts f s).evicted) steps;
-}
-
 -- a name before others, which do not repeat it
 abbrev pub before_others : Option ℕ → List ℕ → List ℕ
 before_others None names = names
@@ -48,20 +39,6 @@ functions_named (step ∷ steps) = before_others (function_of step.op) (function
 
 -- ---- what is written
 
--- the line of a function: its lookups, and its insertions
-abbrev pub lookups_text : ℕ → FunctionCounts → List ℕ
-lookups_text f c =
-    codes "f" ++ (decimal f ++ (codes " lookups "
-    ++ (decimal c.lookups ++ (codes " hits " ++ decimal c.hits))))
-
-abbrev pub insertions_text : FunctionCounts → List ℕ
-insertions_text c =
-    codes " stored " ++ (decimal c.stored ++ (codes " kept " ++ (decimal c.kept ++ (codes " evicted "
-    ++ (decimal c.evicted ++ 10 ∷ [])))))
-
-abbrev pub function_line : ℕ → FunctionCounts → List ℕ
-function_line f c = lookups_text f c ++ insertions_text c
-
 -- the line of what is counted in all
 abbrev pub total_line : ℕ → ℕ → ℕ → List ℕ
 total_line events closed swept =
@@ -70,7 +47,7 @@ total_line events closed swept =
 
 -- a line for each of the functions
 abbrev pub functions_text : (ℕ → FunctionCounts) → List ℕ → List ℕ
-functions_text counts functions = flat_map (λ f. function_line f (counts f)) functions
+functions_text counts functions = flat_map (λ f. function_line f (counts f) ++ 10 ∷ []) functions
 
 -- a line for each function that is named, and then that of all
 abbrev pub steps_report : List Record → List ℕ

@@ -6,11 +6,13 @@ ghost use Rattle.txc_node.specs.Counts.{counts_of};
 ghost use Rattle.txc_node.specs.declared.op.Op.{Op};
 ghost use Rattle.txc_node.specs.declared.record.Record.{Record};
 ghost use Rattle.txc_tags.specs.declared.key.TheConstants.{LAST_FUNCTION};
-ghost use Rattle.txc_run.specs.Reports.{IsReportOf, function_line, functions_text, step_by, steps_report, total_line, with_name};
+ghost use Rattle.txc_script.specs.FunctionLines.{function_line};
+ghost use Rattle.txc_run.specs.Reports.{IsReportOf, functions_text, step_by, steps_report, total_line, with_name};
 
 use indexmap::IndexSet;
 use std::alloc::{AllocError, Global};
 use txc_node::{Counts, FunctionCounts, Hit, Reply};
+use txc_script::FunctionLine;
 use txc_tags::LAST_FUNCTION;
 
 /// How many functions there are.
@@ -29,27 +31,6 @@ pub struct Report {
     ghost counted: { counts.replies ≡ replies },
 }
 
-/// The beginning of a function's line.
-fn lookups_text(alloc: Global, function: u8, lookups: u64, hits: u64) -> Result<String, AllocError>
-    ensures { IfOk result (λ text. string_bytes text ≡ codes "f" ++ (decimal function ++ (codes " lookups "
-        ++ (decimal lookups ++ (codes " hits " ++ decimal hits))))) }
-{
-    format!(in alloc; "f{function} lookups {lookups} hits {hits}")
-}
-
-/// The end of a function's line.
-fn insertions_text(
-    alloc: Global,
-    stored: u64,
-    kept: u64,
-    evicted: u64,
-) -> Result<String, AllocError>
-    ensures { IfOk result (λ text. string_bytes text ≡ codes " stored " ++ (decimal stored ++ (codes " kept "
-        ++ (decimal kept ++ (codes " evicted " ++ (decimal evicted ++ 10 ∷ [])))))) }
-{
-    format!(in alloc; " stored {stored} kept {kept} evicted {evicted}\n")
-}
-
 /// The line of what is counted in all.
 fn total_line(alloc: Global, events: u64, closed: u128, swept: u128) -> Result<String, AllocError>
     ensures { IfOk result (λ line. string_bytes line ≡ total_line events closed swept) }
@@ -58,13 +39,11 @@ fn total_line(alloc: Global, events: u64, closed: u128, swept: u128) -> Result<S
 }
 
 /// The line of a function.
-fn function_line(alloc: Global, function: u8, counts: FunctionCounts) -> Result<String, AllocError>
-    ensures { IfOk result (λ line. string_bytes line ≡ function_line function counts) }
+fn line_of(alloc: Global, function: u8, counts: FunctionCounts) -> Result<String, AllocError>
+    ensures { IfOk result (λ line. string_bytes line ≡ function_line function counts ++ 10 ∷ []) }
 {
-    let mut line = lookups_text(alloc, function, counts.lookups, counts.hits)?;
-    let end = insertions_text(alloc, counts.stored, counts.kept, counts.evicted)?;
-    line.push_str(end.as_str())?;
-    Ok(line)
+    let line = FunctionLine { function, counts };
+    format!(in alloc; "{line}\n")
 }
 
 impl Report {
@@ -117,7 +96,7 @@ impl Report {
     {
         let mut text = String::new(alloc);
         for function in &self.functions {
-            let line = function_line(alloc, *function, self.counts.of(*function))?;
+            let line = line_of(alloc, *function, self.counts.of(*function))?;
             text.push_str(line.as_str())?;
         }
         Ok(text)

@@ -6,6 +6,7 @@ pub mod Scans
 pub mod Blanks
 pub mod HexDigits
 pub mod WordFaults
+pub mod Counting
 pub mod EachLine
 pub mod Answering
 pub mod Turning

@@ -6,6 +6,7 @@ pub mod Reads
 pub mod Lines
 pub mod Excerpts
 pub mod LineFaults
+pub mod FunctionLines
 pub mod Unread
 pub mod Kinds
 pub mod Answers

@@ -4,6 +4,7 @@
 mod excerpt;
 mod fault;
 mod finding;
+mod function_line;
 mod hex;
 mod kind;
 mod line;
@@ -22,6 +23,7 @@ mod writer;
 pub use excerpt::{Excerpt, MAX_SHOWN};
 pub use fault::{RunFault, Status, exit_of};
 pub use finding::bad_word;
+pub use function_line::FunctionLine;
 pub use hex::read_hex;
 pub use kind::Script;
 pub use line::MAX_LINE_LEN;

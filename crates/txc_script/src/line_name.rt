@@ -10,6 +10,7 @@ pub enum LineName {
     Query,
     Ro,
     Rw,
+    Session,
     Call,
     Step,
     Finish,
@@ -21,6 +22,7 @@ pub enum LineName {
     Advance,
     Sweep,
     Tidy,
+    Counts,
 }
 
 /// How a line of the name is written.
@@ -35,6 +37,7 @@ impl fmt::Display for LineName {
             }
             LineName::Ro => "ro ACTOR NOW STALENESS STAMP",
             LineName::Rw => "rw ACTOR",
+            LineName::Session => "session ACTOR NOW STALENESS",
             LineName::Call => "call ACTOR KEY",
             LineName::Step => "step ACTOR",
             LineName::Finish => "finish ACTOR",
@@ -48,6 +51,7 @@ impl fmt::Display for LineName {
             LineName::Advance => "advance NODE",
             LineName::Sweep => "sweep NODE STAMP",
             LineName::Tidy => "tidy NOW AGE",
+            LineName::Counts => "counts NODE FUNCTION",
         })
     }
 }

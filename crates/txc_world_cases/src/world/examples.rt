@@ -1,7 +1,7 @@
 //! The scripts of worlds in examples/ with their replies: written by scripts/examples.py, which the gate compares.
 
 /// Each example: its name, its settings, its script, its replies, and the status of the program after it.
-pub const EXAMPLES: [(&str, &str, &str, &str, u8); 25] = [
+pub const EXAMPLES: [(&str, &str, &str, &str, u8); 27] = [
     (
         "9_transactions",
         "",
@@ -269,6 +269,75 @@ pub const EXAMPLES: [(&str, &str, &str, &str, u8); 25] = [
         1,
     ),
     (
+        "a_session_reads_nothing_older",
+        "",
+        "# A transaction of a session reads nothing older than what its actor has read or written before; another actor's may.\n\
+         put 1 7 2 pen\n\
+         pin 1000\n\
+         put 1 8 2 ink\n\
+         pin 2000\n\
+         session 0 2500 1500\n\
+         pins 0\n\
+         call 0 f0(9)\n\
+         finish 0\n\
+         commit 0\n\
+         session 0 2500 1500\n\
+         pins 0\n\
+         session 1 2500 1500\n\
+         pins 1\n\
+         commit 1\n\
+         commit 0\n\
+         rw 0\n\
+         write 0 put 1 9 2 nib\n\
+         commit 0\n\
+         session 0 2500 1500\n\
+         pins 0\n\
+         call 0 f0(9)\n\
+         finish 0\n\
+         commit 0\n\
+         counts 0 0\n\
+         counts 0 1\n\
+         # The receipt of a transaction with bounds of its own counts too.\n\
+         ro 1 2500 1500 5\n\
+         call 1 f0(9)\n\
+         finish 1\n\
+         commit 1\n\
+         session 1 2500 1500\n\
+         pins 1\n",
+        "at 1\n\
+         at 2\n\
+         at 3\n\
+         at 4\n\
+         open\n\
+         pins * 4 2\n\
+         started\n\
+         value -\n\
+         receipt 4 2000\n\
+         open\n\
+         pins * 4\n\
+         open\n\
+         pins * 4 2\n\
+         receipt none\n\
+         receipt none\n\
+         open 4\n\
+         kept\n\
+         at 5\n\
+         open\n\
+         pins *\n\
+         started\n\
+         value 6e6962\n\
+         receipt 6 2500\n\
+         f0 lookups 2 hits 0 stored 2 kept 0 evicted 0\n\
+         f1 lookups 0 hits 0 stored 0 kept 0 evicted 0\n\
+         open\n\
+         started\n\
+         value 6e6962\n\
+         receipt 6 2500\n\
+         open\n\
+         pins * 6\n",
+        0,
+    ),
+    (
         "a_transaction_that_pins_the_present_beside_its_pins",
         "",
         "put 1 7 2 a\n\
@@ -476,6 +545,58 @@ pub const EXAMPLES: [(&str, &str, &str, &str, u8); 25] = [
          open\n\
          refused O3\n\
          refused O4\n\
+         refused O6\n",
+        1,
+    ),
+    (
+        "counts_of_a_node",
+        "",
+        "# What one node counts of one function; of another there is nothing.\n\
+         put 1 7 2 a\n\
+         pin 1000\n\
+         ro 0 1000 0 0\n\
+         call 0 f1(2)\n\
+         finish 0\n\
+         commit 0\n\
+         put 1 8 2 b\n\
+         pin 2000\n\
+         advance 0\n\
+         advance 0\n\
+         advance 0\n\
+         advance 0\n\
+         advance 0\n\
+         ro 0 2500 1500 0\n\
+         call 0 f2(2,9)\n\
+         step 0\n\
+         step 0\n\
+         step 0\n\
+         step 0\n\
+         counts 0 1\n\
+         counts 0 2\n\
+         counts 0 63\n\
+         counts 1 1\n",
+        "at 1\n\
+         at 2\n\
+         open\n\
+         started\n\
+         value 61\n\
+         receipt 2 1000\n\
+         at 3\n\
+         at 4\n\
+         advanced 1 closed 0\n\
+         advanced 2 closed 0\n\
+         advanced 3 closed 1\n\
+         advanced 4 closed 0\n\
+         idle\n\
+         open\n\
+         started\n\
+         miss\n\
+         hit [1,3) closed\n\
+         rows - [0,5) still t1:id=9\n\
+         stored [1,3) closed value 613b\n\
+         f1 lookups 2 hits 1 stored 1 kept 0 evicted 0\n\
+         f2 lookups 1 hits 0 stored 1 kept 0 evicted 0\n\
+         f63 lookups 0 hits 0 stored 0 kept 0 evicted 0\n\
          refused O6\n",
         1,
     ),

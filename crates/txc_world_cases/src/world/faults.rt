@@ -10,6 +10,8 @@ const TABLE: &str = "a number from 0 to 15, without leading zeros";
 
 const MOMENT: &str = "a number from 0 to 18446744073709551615, without leading zeros";
 
+const FUNCTION: &str = "a number from 0 to 63, without leading zeros";
+
 const STAMP: &str = "a stamp from 0 to 1048576, without leading zeros";
 
 const KEY: &str = "a key such as `f1(2,3)`";
@@ -27,7 +29,7 @@ aaaaaaaaaaaaaaaaaaaaaaaaaaaaaaaaaaaaaaaaaaaaaaaaaaaaaaaaaaaaaaaaaaaaaaaaaaaaaaaa
 aaaaaaaaaaaaaaaaaaaaaaaaaaaaaaaaaaaaaaaaaaaaaaaaaaaaaaaaaaaaaaaaaaaaaaaaaaaaa";
 
 /// Lines, and what is said of each.
-static LINES: [(&str, &str); 18] = [
+static LINES: [(&str, &str); 22] = [
     ("lookup f1(2) 0 9", "unknown command `lookup`"),
     ("puts 1 7 2 a", "unknown command `puts`"),
     (
@@ -57,6 +59,10 @@ static LINES: [(&str, &str); 18] = [
         "4 words must follow the command, not 5",
     ),
     ("tidy 1 2 3", "2 words must follow the command, not 3"),
+    ("session", "3 words must follow the command, not 0"),
+    ("session 0 0 0 0", "3 words must follow the command, not 4"),
+    ("counts 0", "2 words must follow the command, not 1"),
+    ("counts 0 1 2", "2 words must follow the command, not 3"),
     (
         "query",
         "expected `query STAMP by-id TABLE ID (or by-group TABLE GROUP, or all TABLE, or range TABLE FROM TO)`",
@@ -76,7 +82,7 @@ static LINES: [(&str, &str); 18] = [
 ];
 
 /// Lines, and which word of each is said to be bad, what was expected, and what was found.
-static WORDS: [(&str, &str, &str, &str); 31] = [
+static WORDS: [(&str, &str, &str, &str); 38] = [
     ("put 16 1 1 a", "line 1: word 1", TABLE, "`16`"),
     (
         "put 1 4294967296 1 a",
@@ -143,6 +149,18 @@ static WORDS: [(&str, &str, &str, &str); 31] = [
     ("sweep 0 1048577", "line 1: word 2", STAMP, "`1048577`"),
     ("advance f0()", "line 1: word 1", NUMBER, "`f0()`"),
     ("tidy 1 1.5", "line 1: word 2", MOMENT, "`1.5`"),
+    (
+        "session 4294967296 0 0",
+        "line 1: word 1",
+        NUMBER,
+        "`4294967296`",
+    ),
+    ("session 0 01 0", "line 1: word 2", MOMENT, "`01`"),
+    ("session 0 0 -", "line 1: word 3", MOMENT, "`-`"),
+    ("counts n 1", "line 1: word 1", NUMBER, "`n`"),
+    ("counts 0 64", "line 1: word 2", FUNCTION, "`64`"),
+    ("counts 0 01", "line 1: word 2", FUNCTION, "`01`"),
+    ("counts 0 f1", "line 1: word 2", FUNCTION, "`f1`"),
 ];
 
 /// What the program says of a line that is malformed.

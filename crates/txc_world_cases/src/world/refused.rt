@@ -10,7 +10,7 @@ pin 2000 => at 4
 ";
 
 /// What is refused, the settings, and the script.
-pub const REFUSED: [(&str, &str, &str); 28] = [
+pub const REFUSED: [(&str, &str, &str); 31] = [
     (
         "the history is full as the present is pinned before a call",
         "row_cap = 4",
@@ -435,6 +435,79 @@ step 0 => rows - [0,6) still t1:id=9
 step 0 => stored [0,6) still value -
 pins 0 => pins 5 4 2
 commit 0 => receipt 5 2500
+",
+    ),
+    (
+        "a session begins where no transaction is open, and nobody else's does",
+        "",
+        "session 8 2500 1500 => refused O1
+session 0 2500 1500 => open
+session 0 2500 1500 => refused O3
+ro 0 2500 1500 0 => refused O3
+rw 0 => refused O3
+session 1 2500 1500 => open
+call 0 f0(9) => started
+session 0 2500 1500 => refused O3
+finish 0 => value -
+commit 0 => receipt 4 2000
+rw 0 => open 4
+session 0 2500 1500 => refused O3
+abort 0 => aborted
+pins 1 => pins * 4 2
+abort 1 => aborted
+",
+    ),
+    (
+        "a commit that is refused, and a receipt of an older state, leave a session where it was",
+        "",
+        "rw 0 => open 4
+ask 0 by-id 1 7 => rows 7
+write 0 put 1 9 2 c => kept
+put 1 7 2 z => at 5
+commit 0 => refused B2 5
+abort 0 => aborted
+session 0 2500 1500 => open
+pins 0 => pins * 4 2
+call 0 f0(7) => started
+finish 0 => value 61
+commit 0 => receipt 4 2000
+pin 3000 => at 6
+session 0 3500 2500 => open
+pins 0 => pins * 6 4
+call 0 f0(9) => started
+finish 0 => value -
+commit 0 => receipt 6 3000
+ro 0 3500 2500 0 => open
+pins 0 => pins * 6 4 2
+call 0 f0(7) => started
+finish 0 => value 61
+commit 0 => receipt 4 2000
+session 0 3500 2500 => open
+pins 0 => pins * 6
+commit 0 => receipt none
+rw 0 => open 6
+write 0 remove 1 8 => kept
+commit 0 => at 7
+session 0 3500 2500 => open
+pins 0 => pins *
+",
+    ),
+    (
+        "a node counts its own records alone, and there is no other node",
+        "nodes = 2",
+        "ro 0 2500 1500 0 => open
+call 0 f2(2,9) => started
+finish 0 => value 612c623b
+call 0 f0(8) => started
+finish 0 => value 62
+commit 0 => receipt 4 2000
+counts 0 1 => f1 lookups 0 hits 0 stored 0 kept 0 evicted 0
+counts 1 1 => f1 lookups 1 hits 0 stored 1 kept 0 evicted 0
+counts 1 2 => f2 lookups 1 hits 0 stored 1 kept 0 evicted 0
+counts 1 0 => f0 lookups 0 hits 0 stored 0 kept 0 evicted 0
+counts 0 0 => f0 lookups 1 hits 0 stored 1 kept 0 evicted 0
+counts 0 63 => f63 lookups 0 hits 0 stored 0 kept 0 evicted 0
+counts 2 1 => refused O6
 ",
     ),
 ];

@@ -1,4 +1,4 @@
-use Rattle.txc_play.proofs.TasksDone.{done_one, done_pins, finish_cut, nothing_cut}
+use Rattle.txc_play.proofs.TasksDone.{done_counts, done_one, done_pins, finish_cut, nothing_cut}
 use Rattle.txc_play.proofs.playing.play.Goals as goal
 
 pub returns-in-Finish-clause-broke : goal.returns-in-Finish-clause-broke
@@ -13,3 +13,6 @@ returns-in-Pins-clause-broke g c = nothing_cut g.A.App.next c.args.world.now c.a
 
 pub returns-in-One-clause-after : goal.returns-in-One-clause-after
 returns-in-One-clause-after g c = rw c.in-One.is (done_one g.A.App.next c.args.world.now c.take.new.world c.in-One.step c.take.result c.take.ensures)
+
+pub returns-in-Counts-clause-after : goal.returns-in-Counts-clause-after
+returns-in-Counts-clause-after g c = rw c.in-Counts.is (done_counts g.A.App.next c.args.world.now c.in-Counts.node c.in-Counts.function c.counts_at.result c.counts_at.ensures)

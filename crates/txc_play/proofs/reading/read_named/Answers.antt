@@ -31,6 +31,14 @@ pub returns-in_err-read_tidy-in-Tidy-clause-refused : goal.returns-in_err-read_t
 returns-in_err-read_tidy-in-Tidy-clause-refused c = none_of _ _ c.from_residual-in_err-read_tidy-in-Tidy.ensures
     (λ task h. c.in_err-read_tidy-in-Tidy.ensures.refused task (subst (λ (n : LineName). Says n (words_of c.args.text.now) task) c.in-Tidy.is h))
 
+pub returns-in_err-read_session-in-Session-clause-refused : goal.returns-in_err-read_session-in-Session-clause-refused
+returns-in_err-read_session-in-Session-clause-refused c = none_of _ _ c.from_residual-in_err-read_session-in-Session.ensures
+    (λ task h. c.in_err-read_session-in-Session.ensures.refused task (subst (λ (n : LineName). Says n (words_of c.args.text.now) task) c.in-Session.is h))
+
+pub returns-in_err-read_counts-in-Counts-clause-refused : goal.returns-in_err-read_counts-in-Counts-clause-refused
+returns-in_err-read_counts-in-Counts-clause-refused c = none_of _ _ c.from_residual-in_err-read_counts-in-Counts.ensures
+    (λ task h. c.in_err-read_counts-in-Counts.ensures.refused task (subst (λ (n : LineName). Says n (words_of c.args.text.now) task) c.in-Counts.is h))
+
 pub returns-in-Put-clause-refused : goal.returns-in-Put-clause-refused
 returns-in-Put-clause-refused c =
     let line : words_of c.args.line.now ≡ name_text names.Put ∷ words_of c.args.text.now = c.requires ∙ ap (λ (n : LineName). name_text n ∷ words_of c.args.text.now) c.in-Put.is in
