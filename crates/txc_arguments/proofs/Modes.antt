@@ -22,7 +22,7 @@ use Rattle.clap.specs.declared.parser.matches.Found.{Found}
 use Rattle.clap.specs.declared.parser.matches.MatchedArg.{MatchedArg}
 use Rattle.txc_settings.specs.declared.mode.Mode.TheVariants as modes
 use Rattle.txc_settings.specs.declared.script.Script.{Script}
-use Rattle.txc_settings.specs.declared.script.Script.TheVariants.{Node, World}
+use Rattle.txc_settings.specs.declared.script.Script.TheVariants.{Node, World, Batch}
 use Rattle.txc_arguments.specs.Program.{AsksForMode, IsModeArg, IsSettingsArg, mode_text}
 
 -- ---- the program asks for it
@@ -122,32 +122,41 @@ not_auto id is (inr h) = apart (slice_index (codes "version") 0) 109 118 (first_
 has_name : (id : List ℕ) → id ≡ codes "mode" → id ≡ [] → ⊥
 has_name id is none = apart (slice_index [] 0) 0 109 refl (first_byte [] (sym is ∙ none)) (omega arith)
 
-one_true : (x y z : Bool) → (x || (y || (z || false))) ≡ true → (x ≡ true) ⊎ ((y ≡ true) ⊎ (z ≡ true))
-one_true true y z h = inl refl
-one_true false true z h = inr (inl refl)
-one_true false false true h = inr (inr refl)
-one_true false false false h = cc
+one_true : (x y z w : Bool) → (x || (y || (z || (w || false)))) ≡ true → (x ≡ true) ⊎ ((y ≡ true) ⊎ ((z ≡ true) ⊎ (w ≡ true)))
+one_true true y z w h = inl refl
+one_true false true z w h = inr (inl refl)
+one_true false false true w h = inr (inr (inl refl))
+one_true false false false true h = inr (inr (inr refl))
+one_true false false false false h = cc
 
-by_each : {P Q R S : Type 0} → (P → S) → (Q → S) → (R → S) → P ⊎ (Q ⊎ R) → S
-by_each f g h (inl p) = f p
-by_each f g h (inr (inl q)) = g q
-by_each f g h (inr (inr r)) = h r
+by_each : {P Q R S T : Type 0} → (P → T) → (Q → T) → (R → T) → (S → T) → P ⊎ (Q ⊎ (R ⊎ S)) → T
+by_each f g h k (inl p) = f p
+by_each f g h k (inr (inl q)) = g q
+by_each f g h k (inr (inr (inl r))) = h r
+by_each f g h k (inr (inr (inr s))) = k s
 
-listed : (names : List (Bor (List ℕ))) (t : List ℕ) → map (λ name. name.now) names ≡ mode_text (Node modes.Node) ∷ mode_text (Node modes.Report) ∷ mode_text World ∷ []
-    → list_any (λ name. same_text false name.now t) names ≡ true → (t ≡ mode_text (Node modes.Node)) ⊎ ((t ≡ mode_text (Node modes.Report)) ⊎ (t ≡ mode_text World))
+-- the text is the word of a mode
+abbrev IsMode : List ℕ → Type 0
+IsMode t = (t ≡ mode_text (Node modes.Node)) ⊎ ((t ≡ mode_text (Node modes.Report)) ⊎ ((t ≡ mode_text World) ⊎ (t ≡ mode_text Batch)))
+
+listed : (names : List (Bor (List ℕ))) (t : List ℕ) → map (λ name. name.now) names ≡ mode_text (Node modes.Node) ∷ mode_text (Node modes.Report) ∷ mode_text World ∷ mode_text Batch ∷ []
+    → list_any (λ name. same_text false name.now t) names ≡ true → IsMode t
 listed [] t e h = cc
 listed (a ∷ []) t e h = cc
 listed (a ∷ b ∷ []) t e h = cc
-listed (a ∷ b ∷ d ∷ []) t e h =
+listed (a ∷ b ∷ d ∷ []) t e h = cc
+listed (a ∷ b ∷ d ∷ c ∷ []) t e h =
     let node : a.now ≡ mode_text (Node modes.Node) = cc in
     let report : b.now ≡ mode_text (Node modes.Report) = cc in
     let world : d.now ≡ mode_text World = cc in
-    by_each (λ k. inl (sym ((bytes_eq-Decides a.now t).0 k) ∙ node)) (λ k. inr (inl (sym ((bytes_eq-Decides b.now t).0 k) ∙ report))) (λ k. inr (inr (sym ((bytes_eq-Decides d.now t).0 k) ∙ world)))
-    (one_true (bytes_eq a.now t) (bytes_eq b.now t) (bytes_eq d.now t) h)
-listed (a ∷ b ∷ d ∷ c ∷ more) t e h = cc
+    let batch : c.now ≡ mode_text Batch = cc in
+    by_each (λ k. inl (sym ((bytes_eq-Decides a.now t).0 k) ∙ node)) (λ k. inr (inl (sym ((bytes_eq-Decides b.now t).0 k) ∙ report))) (λ k. inr (inr (inl (sym ((bytes_eq-Decides d.now t).0 k) ∙ world))))
+    (λ k. inr (inr (inr (sym ((bytes_eq-Decides c.now t).0 k) ∙ batch))))
+    (one_true (bytes_eq a.now t) (bytes_eq b.now t) (bytes_eq d.now t) (bytes_eq c.now t) h)
+listed (a ∷ b ∷ d ∷ c ∷ x ∷ more) t e h = cc
 
 pub mode_given : (cmd : Command) (m : ArgMatches) → AsksForMode cmd → IsParsedFrom cmd m
-    → (t : List ℕ) × (first_value (found_of m) (codes "mode") ≡ Some t) × ((t ≡ mode_text (Node modes.Node)) ⊎ ((t ≡ mode_text (Node modes.Report)) ⊎ (t ≡ mode_text World)))
+    → (t : List ℕ) × (first_value (found_of m) (codes "mode") ≡ Some t) × IsMode t
 mode_given cmd m a p =
     let xs = a.mode ∷ a.other ∷ [] in
     let d = a.mode in
@@ -188,4 +197,4 @@ is_mode cmd m got name a p is some none =
     let given = mode_given cmd m a p in
     let same : Some name.now ≡ Some given.0 = sym (ap (option_map (λ (s : Bor (List ℕ)). s.now)) some) ∙ is ∙ given.1 in
     let text : name.now ≡ given.0 = cc in
-    by_each (λ h. none (Node modes.Node) (text ∙ h)) (λ h. none (Node modes.Report) (text ∙ h)) (λ h. none World (text ∙ h)) given.2
+    by_each (λ h. none (Node modes.Node) (text ∙ h)) (λ h. none (Node modes.Report) (text ∙ h)) (λ h. none World (text ∙ h)) (λ h. none Batch (text ∙ h)) given.2

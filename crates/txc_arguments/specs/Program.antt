@@ -14,19 +14,21 @@ use Rattle.clap.specs.declared.error.Error.{Error}
 use Rattle.clap.specs.declared.error.kind.ErrorKind.TheVariants.{OutOfMemory}
 use Rattle.txc_settings.specs.declared.mode.Mode.TheVariants as modes
 use Rattle.txc_settings.specs.declared.script.Script.{Script}
-use Rattle.txc_settings.specs.declared.script.Script.TheVariants.{Node, World}
+use Rattle.txc_settings.specs.declared.script.Script.TheVariants.{Node, World, Batch}
 
 -- the word of a mode, by the script that it runs
 abbrev pub mode_text : Script → Text
 mode_text (Node modes.Node) = codes "node"
 mode_text (Node modes.Report) = codes "report"
 mode_text World = codes "world"
+mode_text Batch = codes "batch"
 
 -- a value is the word of a mode
 abbrev pub ReadsModes : Option ValueParser → Type 0
 ReadsModes parser =
     (names : Bor (List (Bor Text))) × (parser ≡ Some (Names names))
-    × (map (λ name. name.now) names.now ≡ mode_text (Node modes.Node) ∷ mode_text (Node modes.Report) ∷ mode_text World ∷ [])
+    × (map (λ name. name.now) names.now
+    ≡ mode_text (Node modes.Node) ∷ mode_text (Node modes.Report) ∷ mode_text World ∷ mode_text Batch ∷ [])
 
 -- the mode, which has to be there
 abbrev pub mode_rule : Option ValueParser → Rule

@@ -18,7 +18,7 @@ pub struct Arguments<'a> {
     pub settings: Option<&'a str>,
 }
 
-static MODES: [&str; 3] = ["node", "report", "world"];
+static MODES: [&str; 4] = ["node", "report", "world", "batch"];
 
 /// The argument of the mode.
 fn mode_argument<'a>(alloc: Global) -> Arg<'a>
@@ -29,7 +29,8 @@ fn mode_argument<'a>(alloc: Global) -> Arg<'a>
         .action(ArgAction::Set)
         .value_name("MODE")
         .help(
-            "The replies of a node (node), counts of them (report), or transactions of a world (world)",
+            "The replies of a node (node), counts of them (report), transactions of a world (world), or jobs \
+             that run side by side (batch)",
         )
         .value_parser(MODES.as_slice())
 }
@@ -69,12 +70,14 @@ fn mode_named(name: &str) -> Option<Script>
         "node" => Some(Script::Node(Mode::Node)),
         "report" => Some(Script::Node(Mode::Report)),
         "world" => Some(Script::World),
+        "batch" => Some(Script::Batch),
         _ => None,
     }
 }
 
-/// Reads the words of a command line, the first of which is the program's name: `node`, `report` or
-/// `world`, and at most once `--settings` with a text. A request for help is an error too, of its own kind and with status 0.
+/// Reads the words of a command line, the first of which is the program's name: `node`, `report`, `world` or
+/// `batch`, and at most once `--settings` with a text. A request for help is an error too, of its own kind and with
+/// status 0.
 pub fn read_arguments<'a>(alloc: Global, words: &'a [String]) -> Result<Arguments<'a>, Error>
     ensures mode { IfOk result (λ a. HasMode (map string_bytes words.entry.now) a.script) }
     ensures settings { IfOk result (λ a. HasSettings (map string_bytes words.entry.now)

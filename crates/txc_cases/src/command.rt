@@ -36,6 +36,7 @@ fn script_name(script: Script) -> &'static str {
         Script::Node(Mode::Node) => "node",
         Script::Node(Mode::Report) => "report",
         Script::World => "world",
+        Script::Batch => "batch",
     }
 }
 
@@ -142,18 +143,19 @@ const ARGUMENTS: &str = "a mode, and settings once
 txcache node = node
 txcache report = report
 txcache world = world
+txcache batch = batch
 txcache node --settings capacity=1 = node with capacity=1
 txcache --settings=recent=2 report = report with recent=2
 a request for help
 txcache --help = 0 Runs the script on standard input;;Usage: txcache [OPTIONS] <MODE>;;\
-Arguments:;  <MODE>  The replies of a node (node), counts of them (report), or transactions of a world (world) [possible values: node, report, world];;\
+Arguments:;  <MODE>  The replies of a node (node), counts of them (report), transactions of a world (world), or jobs that run side by side (batch) [possible values: node, report, world, batch];;\
 Options:;      --settings <TEXT>  The settings, a TOML document such as 'capacity = 4';  -h, --help             Print help;
 no mode
 txcache = 2 error: the following required arguments were not provided:;  <MODE>;;Usage: txcache <MODE>;;For more information, try '--help'.;
 txcache --settings capacity=1 = 2 error: the following required arguments were not provided:;  <MODE>;;Usage: txcache --settings <TEXT> <MODE>;;For more information, try '--help'.;
 another mode
-txcache nodes = 2 error: invalid value 'nodes' for '<MODE>';  [possible values: node, report, world];;  tip: a similar value exists: 'node';;For more information, try '--help'.;
-txcache batch = 2 error: invalid value 'batch' for '<MODE>';  [possible values: node, report, world];;For more information, try '--help'.;
+txcache nodes = 2 error: invalid value 'nodes' for '<MODE>';  [possible values: node, report, world, batch];;  tip: a similar value exists: 'node';;For more information, try '--help'.;
+txcache jobs = 2 error: invalid value 'jobs' for '<MODE>';  [possible values: node, report, world, batch];;For more information, try '--help'.;
 two modes
 txcache node report = 2 error: unexpected argument 'report' found;;Usage: txcache [OPTIONS] <MODE>;;For more information, try '--help'.;
 settings twice, or without a text, or with one that is taken for an option

@@ -1,4 +1,4 @@
--- Only private functions need this file: what a writer took before it failed.
+-- What a writer took before it failed.
 use Rattle.std.specs.Prelude.{ℕ, ◌≤◌, List, length, take, Option}
 use Rattle.std.specs.Io.KnownBytes.{Appends}
 

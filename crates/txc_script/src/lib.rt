@@ -36,3 +36,4 @@ pub use word::{read_stamp, read_still};
 pub use words::{
     WordsLeft, all_words, count_words, first_word, one_word, six_words, three_words, two_words,
 };
+pub use writer::write_text;

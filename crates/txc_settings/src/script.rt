@@ -8,4 +8,6 @@ pub enum Script {
     Node(Mode),
     /// A world: transactions of eight actors, and the keeper's work.
     World,
+    /// A batch: jobs that run side by side.
+    Batch,
 }

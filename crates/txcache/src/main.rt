@@ -1,9 +1,11 @@
 //! The program: `txcache node` reads a script on standard input and prints the replies; `txcache report`
-//! prints counts of them; `txcache world` runs transactions and prints their replies.
+//! prints counts of them; `txcache world` runs transactions and prints their replies; `txcache batch` runs jobs side
+//! by side and prints what they came to.
 #![tactic(auto)]
 
 ghost use Rattle.std.specs.Prelude.{◌≡◌, vec_len, All, IfOk};
 ghost use Rattle.txc_registry.specs.Objects.{AllIdle};
+ghost use Rattle.txc_batch.specs.Crews.{IsCrew};
 
 use clap::error::ErrorKind;
 use std::alloc::{AllocError, Global};
@@ -11,7 +13,10 @@ use std::fmt::Display;
 use std::io;
 use std::io::{Print, Read, Write};
 use std::process::ExitCode;
+use std::sync::Wait;
+use std::thread::Threads;
 use txc_arguments::{WordsError, read_arguments, read_words};
+use txc_batch::{run_batch_script, stage_settings};
 use txc_functions::{Object, Program, registries};
 use txc_permits::PermitPool;
 use txc_play::{run_world, world_settings};
@@ -42,6 +47,7 @@ fn main(rt: HostRuntime) -> ExitCode {
     let ended = match arguments.script {
         Script::Node(mode) => run(alloc, mode, settings, &mut reader, &mut writer),
         Script::World => run_functions(alloc, settings, &mut reader, &mut writer),
+        Script::Batch => run_jobs(&rt, alloc, settings, &mut reader, &mut writer),
     };
     print_fault(&rt, &ended);
     ExitCode::from(exit_of(&ended))
@@ -61,6 +67,31 @@ fn run_functions<R: Read, W: Write>(
         Ok(mut world) => run_world(alloc, &mut world, reader, writer),
         Err(_) => Err(RunFault::Memory),
     }
+}
+
+/// Runs a batch's script with the program's functions.
+fn run_jobs<R: Read, W: Write, H: Threads + Wait + Sync>(
+    rt: &H,
+    alloc: Global,
+    settings: Settings,
+    reader: &mut R,
+    writer: &mut W,
+) -> Result<Status, RunFault> {
+    let Ok(crew) = workers(alloc, settings) else {
+        return Err(RunFault::Memory);
+    };
+    match World::<Program, Object>::new(alloc, stage_settings(settings), Vec::new(alloc)) {
+        Ok(world) => run_batch_script(rt, alloc, settings, world, crew, reader, writer),
+        Err(_) => Err(RunFault::Memory),
+    }
+}
+
+/// The registries of the workers, which share the permits: each has one object of each function.
+fn workers(alloc: Global, settings: Settings) -> Result<Vec<Registry<Program, Object>>, AllocError>
+    ensures { IfOk result (λ crew. IsCrew crew.items) }
+{
+    let mut pool = PermitPool::new(alloc, settings.permits as u64)?;
+    registries(alloc, &mut pool, settings.workers)
 }
 
 /// The registries of the actors, which share the permits: each has one object of each function.

@@ -1,0 +1,11 @@
+pub mod JobWords
+pub mod OrderWords
+pub mod JobFaults
+pub mod Crews
+pub mod NodeRows
+pub mod Preparing
+pub mod Closing
+pub mod Ending
+pub mod JobsRun
+pub mod NothingWrong
+pub mod Offered

@@ -1,0 +1,80 @@
+-- Nothing is wrong with the words of a line of a batch's script that asks for something.
+use Rattle.std.proofs.Common.{◌≡◌, ◌≢◌, ◌⊎◌, ◌≤◌, ℕ, List, [], ◌∷◌, map, length, refl, sym, ap, subst, ◌∙◌, inl, inr, arith}
+use Rattle.std.specs.Prelude.{codes}
+use Rattle.std.specs.List.{All}
+use Rattle.std.proofs.lemmas.List.Elements.{All-head, All-tail}
+use Rattle.txc_tags.specs.Keys.{Call}
+use Rattle.txc_tags.specs.TextKey.{key_text, IsKeyInRange}
+use Rattle.txc_script.specs.LineFaults.{AreOfKinds}
+use Rattle.txc_script.specs.Words.{words_of}
+use Rattle.txc_script.specs.declared.line_fault.CommandFault.{CommandFault}
+use Rattle.txc_script.specs.declared.line_fault.CommandFault.TheVariants as faults
+use Rattle.txc_script.specs.declared.line_fault.WordKind.TheVariants.{Key}
+use Rattle.txc_script.specs.declared.line_name.LineName.{LineName}
+use Rattle.txc_play.specs.Tasks.{name_text, Says}
+use Rattle.txc_play.specs.declared.task.Task.{Task}
+use Rattle.txc_play.proofs.NothingWrong.{has_kinds, none_after, none_bad}
+use Rattle.txc_play.proofs.TaskNames.{same_name}
+use Rattle.txc_play.proofs.TaskParts.{first_is, others_are}
+use Rattle.txc_work.specs.declared.job.Job.{Job}
+use Rattle.txc_batch.specs.BatchFaults.{job_kinds, IsBatchFault, IsJobFault, IsPreparingFault}
+use Rattle.txc_batch.specs.Orders.{AreJobWords, AsksFor, IsPreparing, SpellsPreparing}
+use Rattle.txc_batch.specs.Queueing.{QueuedValue}
+use Rattle.txc_batch.specs.declared.order.Order.{Order}
+use Rattle.txc_batch.specs.declared.order.Order.TheVariants.{Prepare, Run}
+use Rattle.txc_batch.proofs.OrderWords.{first_of, job_said, job_word, no_job_name, says_named}
+
+-- ---- words that are a job
+
+keys_good : (keys : List Call) → All IsKeyInRange keys → AreOfKinds (map (λ word. Key) (map key_text keys)) (map key_text keys)
+keys_good [] all = tt
+keys_good (k ∷ keys) all = ((k, (All-head IsKeyInRange k keys all, refl)), keys_good keys (All-tail IsKeyInRange k keys all))
+
+all_kinds : (words : List (List ℕ)) (q : QueuedValue) → AreJobWords words q → AreOfKinds (job_kinds words) words
+all_kinds words q h =
+    subst (λ (ws : List (List ℕ)). AreOfKinds (job_kinds ws) ws) (sym h.words_are) ((q.now, (h.now, refl)), ((q.staleness, (h.staleness, refl)), keys_good q.keys h.keys))
+
+some_length : (keys : List Call) → keys ≢ [] → 1 ≤ length (map key_text keys)
+some_length [] some = absurd (some refl)
+some_length (k ∷ keys) some = omega arith
+
+three_words : (words : List (List ℕ)) (q : QueuedValue) → AreJobWords words q → 3 ≤ length words
+three_words words q h = omega (arith, ap length h.words_are, some_length q.keys h.some)
+
+no_job_fault : (words : List (List ℕ)) (q : QueuedValue) (fault : CommandFault) → AreJobWords words q → IsJobFault words fault → ⊥
+no_job_fault words q (faults.Unknown text) h f = f
+no_job_fault words q (faults.Usage line) h f = f
+no_job_fault words q (faults.Count wanted given) h f = f
+no_job_fault words q (faults.Word fault) h f = none_bad (job_kinds words) words fault f.1 (all_kinds words q h)
+no_job_fault words q (faults.Few least given) h f = absurd (omega (arith, three_words words q h, f.0, f.1, f.2))
+no_job_fault words q faults.AfterJob h f = f
+
+-- ---- words that are a change or a pin
+
+no_preparing_fault : (jobs : List Job) (name : LineName) (words : List (List ℕ)) (task : Task) (fault : CommandFault) → jobs ≡ [] → Says name words task → IsPreparingFault jobs name words fault → ⊥
+no_preparing_fault jobs name words task fault none says h =
+    none_after name words fault (subst (λ (js : List Job). IsPreparingFault js name words fault) none h) (has_kinds name words task says)
+
+-- ---- lines
+
+-- in the words after the name, or in the place of the line
+abbrev IsAfterName : List Job → List (List ℕ) → CommandFault → Type 0
+IsAfterName jobs all fault =
+    ((words : List (List ℕ)) × (all ≡ codes "job" ∷ words) × IsJobFault words fault)
+    ⊎ ((name : LineName) × (words : List (List ℕ)) × IsPreparing name × (all ≡ name_text name ∷ words) × IsPreparingFault jobs name words fault)
+
+none_after_name : (jobs : List Job) (line : List ℕ) (order : Order) (fault : CommandFault) → AsksFor jobs line order → IsAfterName jobs (words_of line) fault → ⊥
+none_after_name jobs line (Prepare task) fault h (inl f) = no_job_name h.1.name h.1.preparing (sym (first_of line (codes "job") f.0 task f.1 h.1))
+none_after_name jobs line (Run q) fault h (inl f) = no_job_fault f.0 q fault (job_said line (codes "job") f.0 q f.1 h) f.2
+none_after_name jobs line (Prepare task) fault h (inr f) =
+    no_preparing_fault jobs f.0 f.1 task fault h.0 (says_named line (name_text f.0) f.1 f.0 task f.3 refl h.1) f.4
+none_after_name jobs line (Run q) fault h (inr f) = no_job_name f.0 f.2 (job_word line (name_text f.0) f.1 q f.3 h)
+
+pub nothing_wrong : (jobs : List Job) (line : List ℕ) (order : Order) (fault : CommandFault) → AsksFor jobs line order → IsBatchFault jobs (words_of line) fault → ⊥
+nothing_wrong jobs line (Prepare task) (faults.Unknown text) h f = f.4 h.1.name h.1.preparing (first_of line f.0 f.1 task f.2 h.1)
+nothing_wrong jobs line (Run q) (faults.Unknown text) h f = f.3 (job_word line f.0 f.1 q f.2 h)
+nothing_wrong jobs line order (faults.Usage name) h f = none_after_name jobs line order (faults.Usage name) h f
+nothing_wrong jobs line order (faults.Count wanted given) h f = none_after_name jobs line order (faults.Count wanted given) h f
+nothing_wrong jobs line order (faults.Word fault) h f = none_after_name jobs line order (faults.Word fault) h f
+nothing_wrong jobs line order (faults.Few least given) h f = none_after_name jobs line order (faults.Few least given) h f
+nothing_wrong jobs line order faults.AfterJob h f = none_after_name jobs line order faults.AfterJob h f

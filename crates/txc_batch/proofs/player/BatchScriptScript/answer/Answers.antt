@@ -1,0 +1,27 @@
+use Rattle.std.proofs.Common.{List, subst}
+use Rattle.txc_script.specs.Unread.{IsNone}
+use Rattle.txc_work.specs.declared.job.Job.{Job}
+use Rattle.txc_batch.specs.Orders.{AsksFor}
+use Rattle.txc_batch.proofs.Closing.{broke, unread}
+use Rattle.txc_batch.proofs.player.BatchScriptScript.answer.Goals as goal
+
+pub returns-in-Ok-obey-clause-answered : goal.returns-in-Ok-obey-clause-answered
+returns-in-Ok-obey-clause-answered g c =
+    let done = c.in-Ok-obey.ensures.after in
+    record {
+      asked = c.in-Ok.order;
+      reply = done.reply;
+      asks = subst (λ (js : List Job). AsksFor js c.args.line.now c.in-Ok.order) c.jobs.ensures c.in-Ok.ensures.answer;
+      does = done.does;
+      text = done.text;
+      is_refused = done.is_refused;
+    }
+
+pub returns-in-Err-obey-clause-refused : goal.returns-in-Err-obey-clause-refused
+returns-in-Err-obey-clause-refused g c =
+    broke g.A.App.next c.args.state.now c.obey.new.self c.args.line.now c.in-Ok.order (subst (λ (js : List Job). AsksFor js c.args.line.now c.in-Ok.order) c.jobs.ensures c.in-Ok.ensures.answer)
+    c.in-Err-obey.ensures.broke
+
+pub returns-in-Err-clause-refused : goal.returns-in-Err-clause-refused
+returns-in-Err-clause-refused g c =
+    unread g.A.App.next c.args.state.now c.args.line.now c.in-Err.reason (subst (λ (js : List Job). IsNone (AsksFor js c.args.line.now) c.in-Err.reason) c.jobs.ensures c.in-Err.ensures.refused)

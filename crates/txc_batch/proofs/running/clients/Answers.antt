@@ -1,0 +1,20 @@
+use Rattle.std.proofs.Common.{◌≡◌, List, length, sym, ap, ◌∙◌, arith}
+use Rattle.std.proofs.lemmas.Grind.{common_steps}
+use Rattle.std.proofs.lemmas.List.Elements.{All-head, All-push, All-rest, All-same}
+use Rattle.txc_registry.specs.Objects.{Objects, numbers_of, AllIdle}
+use Rattle.txc_client.specs.Txn.{ClientValue}
+use Rattle.txc_batch.specs.Crews.{numbers_in}
+use Rattle.txc_batch.proofs.running.clients.Goals as goal
+
+pub loop-registry-preserved : goal.loop-registry-preserved
+loop-registry-preserved g c =
+    let has = λ (client : ClientValue). numbers_of client.objects ≡ numbers_in c.args.crew.items in
+    let of = λ (objects : Objects). numbers_of objects ≡ numbers_in c.args.crew.items in
+    let before = c.loop-registry.invariant in
+    let its = All-head of _ _ (All-same of _ _ (sym c.in-Some.ensures.steps.0) before.left) in
+    record {
+      idle = All-rest AllIdle _ _ _ c.in-Some.ensures.steps.0 before.idle;
+      left = All-rest of _ _ _ c.in-Some.ensures.steps.0 before.left;
+      functions = All-same has _ _ c.in_ok-push-in-Ok.ensures.items (All-push has _ _ before.functions (ap numbers_of c.in-Ok.ensures.functions ∙ its));
+      each = grind (arith, common_steps, before.each, ap length c.in-Some.ensures.steps.0);
+    }

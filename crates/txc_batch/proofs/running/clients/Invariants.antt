@@ -1,0 +1,12 @@
+use Rattle.std.proofs.Common.{◌≡◌, ◌+◌, All, length, vec_len}
+use Rattle.txc_registry.specs.Objects.{numbers_of, AllIdle}
+use Rattle.txc_batch.specs.Crews.{numbers_in}
+use Rattle.txc_batch.proofs.running.clients.Given as goal
+
+abbrev pub invariant-loop-registry : goal.invariant-loop-registry
+invariant-loop-registry g l = record {
+  idle : All AllIdle l.registry-iterator.rest.items;
+  left : All (λ objects. numbers_of objects ≡ numbers_in l.fn.crew.items) l.registry-iterator.rest.items;
+  functions : All (λ client. numbers_of client.objects ≡ numbers_in l.fn.crew.items) l.clients.items;
+  each : vec_len l.clients + length l.registry-iterator.rest.items ≡ vec_len l.fn.crew;
+}

@@ -1,0 +1,58 @@
+-- What is wrong with the words of a malformed line of a batch's script.
+use Rattle.std.specs.Prelude.{◌≡◌, ◌≢◌, ◌⊎◌, ◌<◌, ◌≤◌, ◌+◌, ℕ, List, [], ◌∷◌, ◌++◌, All, codes, length, map}
+use Rattle.txc_script.specs.Excerpts.{excerpt_of}
+use Rattle.txc_script.specs.LineFaults.{IsBadWord, IsOfKind, StopsAt}
+use Rattle.txc_script.specs.declared.line_fault.CommandFault.{CommandFault}
+use Rattle.txc_script.specs.declared.line_fault.CommandFault.TheVariants as faults
+use Rattle.txc_script.specs.declared.line_fault.WordFault.{WordFault}
+use Rattle.txc_script.specs.declared.line_fault.WordKind.{WordKind}
+use Rattle.txc_script.specs.declared.line_fault.WordKind.TheVariants.{Key}
+use Rattle.txc_script.specs.declared.line_name.LineName.{LineName}
+use Rattle.txc_play.specs.Tasks.{name_text}
+use Rattle.txc_play.specs.WorldFaults.{moment, IsFaultAfter}
+use Rattle.txc_work.specs.declared.job.Job.{Job}
+use Rattle.txc_batch.specs.Orders.{IsPreparing}
+use Rattle.txc_batch.specs.declared.finding.TheConstants.{LEAST_WORDS}
+
+-- of which kinds the words after `job` are to be: two moments, and keys
+abbrev pub job_kinds : List (List ℕ) → List WordKind
+job_kinds (now ∷ staleness ∷ keys) = moment ∷ moment ∷ map (λ word. Key) keys
+job_kinds words = []
+
+-- what is wrong with the words after `job`: there are too few; else one is not of its kind
+abbrev pub IsJobFault : List (List ℕ) → CommandFault → Type 0
+IsJobFault words (faults.Few least given) = (least ≡ LEAST_WORDS) × (given ≡ length words) × (given < least)
+IsJobFault words (faults.Word fault) = (LEAST_WORDS ≤ length words) × IsBadWord (job_kinds words) words fault
+IsJobFault words fault = ⊥
+
+-- what is wrong with a change or a pin: before the first job, what is wrong with it in a world's script; after
+-- one, that it stands there
+abbrev pub IsPreparingFault : List Job → LineName → List (List ℕ) → CommandFault → Type 0
+IsPreparingFault [] name words fault = IsFaultAfter name words fault
+IsPreparingFault (job ∷ jobs) name words fault = fault ≡ faults.AfterJob
+
+-- What is wrong with a line's words after lines that asked for these jobs: the first is no line's name; else it
+-- is in the words after that name, or in the place of the line.
+abbrev pub IsBatchFault : List Job → List (List ℕ) → CommandFault → Type 0
+IsBatchFault jobs all (faults.Unknown text) =
+    (word : List ℕ) × (words : List (List ℕ)) × (all ≡ word ∷ words) × (word ≢ codes "job")
+    × ((name : LineName) → IsPreparing name → word ≡ name_text name → ⊥) × (text ≡ excerpt_of word)
+IsBatchFault jobs all fault =
+    ((words : List (List ℕ)) × (all ≡ codes "job" ∷ words) × IsJobFault words fault)
+    ⊎ ((name : LineName) × (words : List (List ℕ)) × IsPreparing name × (all ≡ name_text name ∷ words)
+    × IsPreparingFault jobs name words fault)
+
+-- ---- only private functions need this
+
+-- the first of a job's keys that is none, after a moment and a staleness
+pub record IsBadKey (keys : List (List ℕ)) (fault : WordFault) : Type 0 where
+  pub good : List (List ℕ)
+  pub word : List ℕ
+  pub others : List (List ℕ)
+  pub keys_are : keys ≡ good ++ word ∷ others
+  pub are_good : All (IsOfKind Key) good
+  pub kind : fault.kind ≡ Key
+  pub is_bad : IsOfKind Key word → ⊥
+  pub number : fault.number ≡ length good + 3
+  pub text : fault.text ≡ excerpt_of word
+  pub stops : StopsAt Key word fault.at

@@ -1,0 +1,12 @@
+pub mod Queueing
+pub mod Crews
+pub mod BatchStates
+pub mod Orders
+pub mod BatchFaults
+pub mod OutcomeTexts
+pub mod RunJobs
+pub mod Rows
+pub mod BatchScripts
+pub mod BatchRuns
+pub mod Preparing
+pub mod BatchLaws

@@ -1,0 +1,43 @@
+-- What is written of the outcomes of jobs.
+use Rattle.std.specs.Prelude.{ℕ, Bool, true, false, List, [], ◌∷◌, ◌++◌, Result, Ok, Err, codes}
+use Rattle.std.specs.Fmt.{decimal}
+use Rattle.std.specs.List.{flat_map, list_any}
+use Rattle.std.specs.declared.alloc.Global.{Global}
+use Rattle.std.specs.declared.vec.Vec.{Vec}
+use Rattle.txc_node.specs.Texts.{hex_text}
+use Rattle.txc_play.specs.TaskTexts.{transaction_text}
+use Rattle.txc_work.specs.declared.error.BatchError.{BatchError}
+use Rattle.txc_work.specs.declared.error.BatchError.TheVariants.{Missing, Twice, Memory}
+use Rattle.txc_work.specs.declared.job.Outcome.{Outcome}
+use Rattle.txc_work.specs.declared.job.Outcome.TheVariants as outcomes
+use Rattle.txc_work.specs.declared.job.Receipted.{Receipted}
+
+-- the value of each call, in order; or the refusal of one
+abbrev pub outcome_text : Outcome → List ℕ
+outcome_text (outcomes.Receipt receipt) = flat_map (λ r. codes " " ++ hex_text r.value) receipt.answers.items
+outcome_text (outcomes.Refused error) = codes " refused " ++ transaction_text error
+
+-- the line of a job
+abbrev pub result_text : Receipted → List ℕ
+result_text told = codes "job " ++ (decimal told.number ++ (outcome_text told.outcome ++ 10 ∷ []))
+
+-- the line of a batch that has no results; that memory was refused has none
+abbrev pub refusal_text : BatchError → List ℕ
+refusal_text (Missing number) = codes "refused J1 " ++ (decimal number ++ 10 ∷ [])
+refusal_text (Twice number) = codes "refused J2 " ++ (decimal number ++ 10 ∷ [])
+refusal_text Memory = []
+
+-- the lines of the jobs; or that of the batch
+abbrev pub batch_text : Result (Vec Receipted Global) BatchError → List ℕ
+batch_text (Ok results) = flat_map result_text results.items
+batch_text (Err error) = refusal_text error
+
+-- a call of the job was refused
+abbrev pub is_refused_outcome : Outcome → Bool
+is_refused_outcome (outcomes.Receipt receipt) = false
+is_refused_outcome (outcomes.Refused error) = true
+
+-- a job was refused, or the batch
+abbrev pub is_refused_batch : Result (Vec Receipted Global) BatchError → Bool
+is_refused_batch (Ok results) = list_any (λ told. is_refused_outcome told.outcome) results.items
+is_refused_batch (Err error) = true

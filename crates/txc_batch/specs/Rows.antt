@@ -1,0 +1,14 @@
+-- Only private functions need this file: the rows of nodes, and of receipts.
+use Rattle.std.specs.Prelude.{◌≡◌, ℕ, ◌+◌, List, [], ◌∷◌}
+use Rattle.txc_work.specs.declared.job.Outcome.{Outcome}
+use Rattle.txc_work.specs.declared.job.Outcome.TheVariants as outcomes
+
+-- each row is the one named at its number, of which the first has this one
+abbrev pub AreRowsOf : (ℕ → List ℕ) → ℕ → List (List ℕ) → Type 0
+AreRowsOf named number [] = Unit {0}
+AreRowsOf named number (row ∷ rows) = (row ≡ named number) × AreRowsOf named (number + 1) rows
+
+-- a receipt shows a part of this row
+abbrev pub IsOfRow : List ℕ → Outcome → Type 0
+IsOfRow row (outcomes.Receipt receipt) = receipt.seen.events ≡ row
+IsOfRow row (outcomes.Refused error) = Unit {0}

@@ -1,0 +1,110 @@
+//! What is written of the outcomes of jobs.
+ghost use Rattle.std.specs.Prelude.{◌≡◌, ◌≢◌, ◌++◌, Err, IfOk, OnOk, OnErr};
+ghost use Rattle.std.specs.List.{flat_map, list_any};
+ghost use Rattle.txc_batch.specs.OutcomeTexts.{batch_text, is_refused_batch, is_refused_outcome, result_text};
+
+use std::alloc::{AllocError, Global};
+use std::fmt;
+use txc_play::OfTransaction;
+use txc_work::{BatchError, Outcome, Receipted};
+
+#[derive(Drop)]
+struct OfOutcome<'a>(&'a Outcome);
+
+impl fmt::Display for OfOutcome<'_> {
+    ghost use Rattle.std.specs.Prelude.{Some};
+    ghost use Rattle.txc_batch.specs.OutcomeTexts.{outcome_text};
+
+    ghost output = { λ o. Some (outcome_text o.0.now) };
+
+    fn fmt<W: fmt::Write>(&self, f: &mut fmt::Formatter<W>) -> fmt::Result {
+        match self.0 {
+            Outcome::Receipt(receipt) => {
+                for answer in &receipt.answers {
+                    let value = &answer.value;
+                    write!(f, " {value}")?;
+                }
+                Ok(())
+            }
+            Outcome::Refused(error) => {
+                let error = OfTransaction(error);
+                write!(f, " refused {error}")
+            }
+        }
+    }
+}
+
+/// The lines of jobs.
+#[derive(Drop)]
+struct OfResults<'a>(&'a [Receipted]);
+
+impl fmt::Display for OfResults<'_> {
+    ghost use Rattle.std.specs.Prelude.{Some};
+    ghost use Rattle.std.specs.List.{flat_map};
+    ghost use Rattle.txc_batch.specs.OutcomeTexts.{result_text};
+
+    ghost output = { λ r. Some (flat_map result_text r.0.now) };
+
+    fn fmt<W: fmt::Write>(&self, f: &mut fmt::Formatter<W>) -> fmt::Result {
+        for told in self.0 {
+            let number = told.number;
+            let outcome = OfOutcome(&told.outcome);
+            write!(f, "job {number}{outcome}\n")?;
+        }
+        Ok(())
+    }
+}
+
+fn is_refused(outcome: &Outcome) -> bool
+    ensures { result ≡ is_refused_outcome outcome.now }
+{
+    match outcome {
+        Outcome::Receipt(_) => false,
+        Outcome::Refused(_) => true,
+    }
+}
+
+/// Puts the lines of jobs after the text. Returns whether one of them holds a refusal.
+fn push_results(
+    alloc: Global,
+    text: &mut Vec<u8>,
+    results: &[Receipted],
+) -> Result<bool, AllocError>
+    ensures text { OnOk result (text.new.items ≡ text.old.items ++ flat_map result_text results.now) }
+    ensures refusal { IfOk result (λ refused.
+        refused ≡ list_any (λ told. is_refused_outcome told.outcome) results.now) }
+    ensures unchanged { OnErr result (text.new.items ≡ text.old.items) }
+{
+    let results_told = OfResults(results);
+    let lines = format!(in alloc; "{results_told}")?;
+    text.extend_from_slice(lines.as_bytes())?;
+    Ok(results.iter().any(|told| is_refused(&told.outcome)))
+}
+
+/// Puts what a batch came to after the text. Returns whether that holds a refusal. Of a batch that was refused
+/// memory nothing is written.
+pub fn push_batch(
+    alloc: Global,
+    text: &mut Vec<u8>,
+    batch: &Result<Vec<Receipted>, BatchError>,
+) -> Result<bool, AllocError>
+    ensures text { OnOk result (text.new.items ≡ text.old.items ++ batch_text batch.now) }
+    ensures refusal { IfOk result (λ refused. refused ≡ is_refused_batch batch.now) }
+    ensures memory { OnOk result (batch.now ≢ Err BatchError.Memory) }
+    ensures unchanged { OnErr result (text.new.items ≡ text.old.items) }
+{
+    match batch {
+        Ok(results) => push_results(alloc, text, results),
+        Err(BatchError::Missing(number)) => {
+            let line = format!(in alloc; "refused J1 {number}\n")?;
+            text.extend_from_slice(line.as_bytes())?;
+            Ok(true)
+        }
+        Err(BatchError::Twice(number)) => {
+            let line = format!(in alloc; "refused J2 {number}\n")?;
+            text.extend_from_slice(line.as_bytes())?;
+            Ok(true)
+        }
+        Err(BatchError::Memory) => Err(AllocError),
+    }
+}

@@ -1,0 +1,56 @@
+//! The lines of a batch's script: changes and pins, and then jobs.
+ghost use Rattle.txc_batch.specs.BatchScripts.{batch_script};
+
+use crate::batch::Batch;
+use crate::finding::find_batch_fault;
+use crate::order::Order;
+use crate::reading::read_order;
+use std::alloc::{AllocError, Global};
+use std::marker::PhantomData;
+use txc_app::App;
+use txc_play::Printed;
+use txc_registry::Cacheable;
+use txc_script::{CommandFault, Script, Unread};
+
+/// A batch's script, of which the jobs are run when all lines were answered.
+pub struct BatchScript<A, C>(pub PhantomData<(A, C)>);
+
+impl<A: App, C: Cacheable> Script for BatchScript<A, C> {
+    type State = Batch<A, C>;
+
+    type Asked = Order;
+
+    type Reply = Option<Printed>;
+
+    ghost kind = { λ _. batch_script A.next };
+
+    fn answer(
+        &self,
+        alloc: Global,
+        state: &mut Batch<A, C>,
+        line: &[u8],
+        text: &mut Vec<u8>,
+    ) -> Result<bool, Unread> {
+        match read_order(alloc, state.jobs(), line) {
+            Ok(order) => match state.obey(alloc, order, text) {
+                Ok(is_refused) => Ok(is_refused),
+                Err(_) => Err(Unread::Memory),
+            },
+            Err(reason) => Err(reason),
+        }
+    }
+
+    fn find_fault(&self, alloc: Global, state: &Batch<A, C>, line: &[u8]) -> CommandFault {
+        find_batch_fault(alloc, state.jobs(), line)
+    }
+
+    // The jobs run after it: a method of a trait may start no thread.
+    fn close(
+        &self,
+        alloc: Global,
+        state: &mut Batch<A, C>,
+        text: &mut Vec<u8>,
+    ) -> Result<bool, AllocError> {
+        Ok(false)
+    }
+}

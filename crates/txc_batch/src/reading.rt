@@ -1,0 +1,86 @@
+//! Reading what a line of a batch's script asks for.
+ghost use Rattle.std.specs.Prelude.{◌≡◌, IfOk, IfErr, IfSome, IfNone};
+ghost use Rattle.txc_script.specs.Unread.{IsNone};
+ghost use Rattle.txc_script.specs.Words.{words_of};
+ghost use Rattle.txc_script.specs.declared.line_name.LineName.{LineName};
+ghost use Rattle.txc_play.specs.Tasks.{name_text};
+ghost use Rattle.txc_batch.specs.Orders.{AreJobWords, AreKeyWords, AsksFor, IsPreparing};
+
+use crate::order::{Order, Queued};
+use std::alloc::Global;
+use txc_play::{read_moment, read_named};
+use txc_script::{LineName, Unread, all_words, count_words, first_word};
+use txc_tags::Key;
+use txc_work::Job;
+
+/// The keys that the words are.
+fn read_keys(alloc: Global, text: &[u8]) -> Result<Vec<Key>, Unread>
+    ensures answer { IfOk result (λ keys. AreKeyWords (words_of text.now) keys.items) }
+    ensures refused { IfErr result (IsNone (AreKeyWords (words_of text.now))) }
+{
+    let count = count_words(text);
+    let mut words = all_words(text);
+    let mut keys = Vec::with_capacity(alloc, count)?;
+    for _ in 0..count {
+        match Key::read(words.next()) {
+            Ok(key) => keys.push_reserved(key),
+            Err(_) => return Err(Unread::Malformed),
+        }
+    }
+    Ok(keys)
+}
+
+/// A job, by the words after its name.
+fn read_queued(alloc: Global, text: &[u8]) -> Result<Queued, Unread>
+    ensures answer { IfOk result (AreJobWords (words_of text.now)) }
+    ensures refused { IfErr result (IsNone (AreJobWords (words_of text.now))) }
+{
+    let Some((now, text)) = first_word(text) else {
+        return Err(Unread::Malformed);
+    };
+    let Some((staleness, text)) = first_word(text) else {
+        return Err(Unread::Malformed);
+    };
+    let now = read_moment(now)?;
+    let staleness = read_moment(staleness)?;
+    let keys = read_keys(alloc, text)?;
+    Ok(Queued {
+        now,
+        staleness,
+        keys,
+    })
+}
+
+/// The name of a change or of a pin that the word is.
+pub fn preparing_name(word: &[u8]) -> Option<LineName>
+    ensures answer { IfSome result (λ name. word.now ≡ name_text name) }
+    ensures preparing { IfSome result IsPreparing }
+    ensures refused { IfNone result ((name : LineName) → IsPreparing name → word.now ≡ name_text name → ⊥) }
+{
+    match word {
+        b"put" => Some(LineName::Put),
+        b"remove" => Some(LineName::Remove),
+        b"pin" => Some(LineName::Pin),
+        _ => None,
+    }
+}
+
+/// What a line asks for after lines that asked for these jobs.
+pub fn read_order(alloc: Global, jobs: &[Job], line: &[u8]) -> Result<Order, Unread>
+    ensures answer { IfOk result (AsksFor jobs.now line.now) }
+    ensures refused { IfErr result (IsNone (AsksFor jobs.now line.now)) }
+{
+    let Some((word, text)) = first_word(line) else {
+        return Err(Unread::Malformed);
+    };
+    if word == b"job".as_slice() {
+        return Ok(Order::Run(read_queued(alloc, text)?));
+    }
+    let Some(name) = preparing_name(word) else {
+        return Err(Unread::Malformed);
+    };
+    if !jobs.is_empty() {
+        return Err(Unread::Malformed);
+    }
+    Ok(Order::Prepare(read_named(alloc, name, line, text)?))
+}
