@@ -118,20 +118,9 @@ module _ (next : Next) (s : Standing) where
   pub reply_counts : (frames : List Frame) (asked : ℕ) (os : Objects) (need : Need) (reply : Reply) → AfterReply next frames asked os need reply (Ok s) → Counts asked s
   reply_counts frames asked os (needs.Lookup k) replies.Miss leads = miss_counts frames asked k os leads
   reply_counts frames asked os (needs.Lookup k) (replies.Hit hit) leads = value_counts frames asked (outcome_of k hit.value hit.reach hit.tags) os leads
-  reply_counts frames asked os (needs.Lookup k) (replies.Found found) leads = absurd leads
-  reply_counts frames asked os (needs.Lookup k) replies.Inserted leads = absurd leads
-  reply_counts frames asked os (needs.Query q) replies.Miss leads = absurd leads
-  reply_counts frames asked os (needs.Query q) (replies.Hit hit) leads = absurd leads
   reply_counts frames asked os (needs.Query q) (replies.Found found) leads = rows_count frames asked found os leads
-  reply_counts frames asked os (needs.Query q) replies.Inserted leads = absurd leads
-  reply_counts frames asked os (needs.Insert e) replies.Miss leads = absurd leads
-  reply_counts frames asked os (needs.Insert e) (replies.Hit hit) leads = absurd leads
-  reply_counts frames asked os (needs.Insert e) (replies.Found found) leads = absurd leads
   reply_counts frames asked os (needs.Insert e) replies.Inserted leads = value_counts frames asked (outcome_of e.key e.value e.reach e.tags) os leads
-  reply_counts frames asked os (needs.Value o) replies.Miss leads = absurd leads
-  reply_counts frames asked os (needs.Value o) (replies.Hit hit) leads = absurd leads
-  reply_counts frames asked os (needs.Value o) (replies.Found found) leads = absurd leads
-  reply_counts frames asked os (needs.Value o) replies.Inserted leads = absurd leads
+  reply_counts frames asked os need reply leads = absurd leads
 
 -- ---- requests that may follow
 
@@ -153,10 +142,8 @@ left_of c = left c.pins.has_present c.pinning c.call.asked
 -- none where the call has ended
 abbrev pub requests_left : Turn → CoreValue → ℕ
 requests_left (turns.Ask request) c = suc (left_of c)
-requests_left turns.Begun c = 0
 requests_left (turns.Value value) c = 0
 requests_left (turns.Rows rows) c = 0
-requests_left (turns.At stamp) c = 0
 requests_left (turns.Refused error) c = 0
 
 steps_few : (step : PinStep) → steps_of step ≤ 3
@@ -194,10 +181,6 @@ module _ (c : CoreValue) (fits : PinningFits c.pinning c.pins c.call.need) where
   asking_waits (requests.Lookup node key lo hi) o asking is = let no : Some (needs.Lookup key) ≡ Some (needs.Value o) = sym asking.0.1 ∙ is in absurd (cc no)
   asking_waits (requests.Query query stamp) o asking is = let no : Some (needs.Query query) ≡ Some (needs.Value o) = sym asking.0.1 ∙ is in absurd (cc no)
   asking_waits (requests.Insert node entry) o asking is = let no : Some (needs.Insert entry) ≡ Some (needs.Value o) = sym asking.0.1 ∙ is in absurd (cc no)
-  asking_waits (requests.Fresh bounds) o asking is = absurd asking
-  asking_waits (requests.GiveBack stamps) o asking is = absurd asking
-  asking_waits requests.Hold o asking is = absurd asking
-  asking_waits (requests.Commit base read changes) o asking is = absurd asking
 
   -- how many follow while the present is pinned
   pinning_left : (step : PinStep) → IsAt c step → left_of c ≡ MAX_CALL_ASKS + steps_of step
@@ -274,10 +257,6 @@ module _ (next : Next) (old new : TxnValue) (was : IsKept next old) (now : IsKep
   asks_less (ports.Query (Err error)) answered leads pins = absurd (cc leads)
   asks_less ports.Insert answered leads pins =
       call_leads_less (needs.Insert answered.0) replies.Inserted answered.1.0 (kept_present old.core.pins new.core.pins pins) (leads answered.0 answered.1.1)
-  asks_less (ports.Fresh pinned) answered leads pins = absurd answered
-  asks_less ports.GiveBack answered leads pins = absurd answered
-  asks_less (ports.Hold held) answered leads pins = absurd answered
-  asks_less (ports.Commit committed) answered leads pins = absurd answered
 
 sucs_less : (a b : ℕ) → a < b → suc a < suc b
 sucs_less a b less = omega (arith, less)
@@ -292,8 +271,6 @@ goes_down next old new reply turn was now answered on = go turn on.turn_fits on.
   where
     go : (turn : Turn) → IsTurn new.core turn → ReplyLeads next old.core old.objects reply new.core new.objects turn → requests_left turn new.core < suc (left_of old.core)
     go (turns.Ask request) fits leads = sucs_less (left_of new.core) (left_of old.core) (asks_less next old new was now request fits reply answered leads on.pins)
-    go turns.Begun fits leads = none_less (left_of old.core)
     go (turns.Value value) fits leads = none_less (left_of old.core)
     go (turns.Rows rows) fits leads = none_less (left_of old.core)
-    go (turns.At stamp) fits leads = none_less (left_of old.core)
     go (turns.Refused error) fits leads = none_less (left_of old.core)

@@ -1,9 +1,17 @@
 -- A run of a call, exchange by exchange.
-use Rattle.std.proofs.Common.{ℕ, List, [], ◌∷◌, ◌++◌, refl, subst}
+use Rattle.std.proofs.Common.{◌≡◌, ℕ, List, [], ◌∷◌, ◌++◌, refl, subst}
 use Rattle.txc_tags.specs.Keys.{Call}
 use Rattle.txc_app.specs.Eval.{Next}
+use Rattle.txc_ports.specs.declared.request.PortRequest.{PortRequest}
+use Rattle.txc_ports.specs.declared.reply.PortReply.{PortReply}
 use Rattle.txc_ports.specs.declared.turn.Turn.{Turn}
-use Rattle.txc_client.specs.Run.{Exchange, HasBegun, HasRun, IsLed, IsStep}
+use Rattle.txc_ports.specs.declared.turn.Turn.TheVariants.{Ask}
+use Rattle.txc_ports.specs.Asking.{IsAnsweredRight, IsOfRow, IsReplyTo}
+use Rattle.txc_ports.specs.Exchanges.{Exchange, IsExchange}
+use Rattle.txc_ports.proofs.Offered.{both_exchange, by_exchange}
+use Rattle.txc_txn.specs.Kept.{HasGoneOn}
+use Rattle.txc_client.specs.Ports.{PassesAfter}
+use Rattle.txc_client.specs.Run.{HasBegun, HasRun, IsLed, IsRefusedSo, IsStep}
 use Rattle.txc_client.specs.Txn.{RoTxnValue}
 
 module _ (next : Next) (row : List ℕ) (node_rows : ℕ → List ℕ) where
@@ -35,3 +43,23 @@ module _ (next : Next) (row : List ℕ) (node_rows : ℕ → List ℕ) where
       begun = run.begun;
       led = led_more run.first mid new run.first_turn then turn run.exchanges x run.led step;
     }
+
+    -- a request that was answered, and what came of the reply, is an exchange more
+    pub run_asked : (mid new : RoTxnValue) (then turn : Turn) (request : PortRequest) (reply : PortReply) → then ≡ Ask request
+        → IsReplyTo next request reply → IsOfRow row reply → IsExchange (IsRefusedSo row) request reply
+        → IsExchange (λ x. PassesAfter node_rows mid.passes x new.passes) request reply → HasGoneOn next mid.txn reply new.txn turn
+        → HasRun next row node_rows old k mid then → HasRun next row node_rows old k new turn
+    run_asked mid new then turn request reply asks to of_row refused passes goes_on run =
+        let given : Exchange → Type 0 = λ x. IsAnsweredRight next x × IsRefusedSo row x in
+        let left : Exchange → Type 0 = λ x. PassesAfter node_rows mid.passes x new.passes in
+        by_exchange (λ x. given x × left x)
+        (λ q r. then ≡ Ask q → IsOfRow row r → HasGoneOn next mid.txn r new.txn turn → HasRun next row node_rows old k new turn)
+        (λ x h asks of_row goes_on. run_on mid new then turn x run (record {
+          asks = asks;
+          given = record { right = h.0.0; of_row = of_row; refused = h.0.1 };
+          passes = h.1;
+          goes_on = goes_on;
+        }))
+        request reply
+        (both_exchange given left request reply (both_exchange (IsAnsweredRight next) (IsRefusedSo row) request reply to refused) passes)
+        asks of_row goes_on

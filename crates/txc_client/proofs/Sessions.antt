@@ -13,15 +13,9 @@ use Rattle.txc_ports.specs.declared.bounds.Bounds.{Bounds}
 use Rattle.txc_ports.specs.declared.recorded.Recorded.{Recorded}
 use Rattle.txc_txn.specs.declared.receipt.Receipt.{Receipt}
 use Rattle.txc_txn.specs.Core.{Explains}
-use Rattle.txc_txn.specs.Sessions.{began, noted_commit, noted_receipt, stamp_of, Deed, HasNoted, IsAtLeast, IsFloorOf}
+use Rattle.txc_txn.specs.Sessions.{began, noted_commit, noted_receipt, stamp_of, Deed, HasNoted, IsFloorOf}
 use Rattle.txc_txn.proofs.Sessions.{floor_stays}
 use Rattle.txc_client.specs.Sessions.{past_of, read_by, AreInSession, BeginningNotesNothing, IsNoNewer, IsOfDatabase, IsReceiptOf, NobodyGoesBack}
-
--- a receipt is not below the bounds of its transaction
-pub at_least_explained : (next : Next) (L : History) (bounds : Bounds) (pin : Option Pin) (answers : List Recorded) → Explains next L bounds pin answers
-    → IsAtLeast bounds.at_least pin
-at_least_explained next L bounds None answers h = tt
-at_least_explained next L bounds (Some pin) answers h = h.1.allowed.late
 
 -- ---- beginnings of one history
 

@@ -20,15 +20,12 @@ use Rattle.txc_shared.specs.declared.error.NodeError.{NodeError}
 use Rattle.txc_shared.specs.declared.error.NodeError.TheVariants.{Broken, EmptyRange, HistoryFull, PassesFull, Memory}
 use Rattle.txc_shared.specs.Histories.{records_of, next_record}
 use Rattle.txc_shared.specs.Passes.{PassValue, Follows, GrowsByOthers, HasGrown, HasMade, IsPassLeft}
-use Rattle.txc_ports.specs.declared.request.PortRequest.{PortRequest}
-use Rattle.txc_ports.specs.declared.request.PortRequest.TheVariants as requests
-use Rattle.txc_ports.specs.declared.reply.PortReply.{PortReply}
-use Rattle.txc_ports.specs.declared.reply.PortReply.TheVariants as answers
 use Rattle.txc_ports.specs.declared.turn.Turn.{Turn}
-use Rattle.txc_ports.specs.Asking.{IsReplyTo}
+use Rattle.txc_ports.specs.Exchanges.{Exchange}
+use Rattle.txc_ports.specs.Exchanges as exchanges
 use Rattle.txc_client.specs.Laws.{asked_of, own_steps, step_at, AreMade, CallsStandOnce}
 use Rattle.txc_client.specs.Ports.{found_reply, InsertLeaves, IsCallAt, LookupLeaves, PassesAfter}
-use Rattle.txc_client.specs.Run.{Exchange, IsLed}
+use Rattle.txc_client.specs.Run.{IsLed}
 use Rattle.txc_client.specs.Txn.{RoTxnValue}
 
 -- ---- the steps of a pass among records
@@ -143,9 +140,9 @@ module _ (at node : ℕ) (op : Op) (call : PassValue → PassValue → Type 0) (
 stays_at : (node : ℕ) (p : PassValue) (olds news : List PassValue) → news ≡ olds → slice_get olds node ≡ Some p → AddsAt node p [] news
 stays_at node p olds news same is = (p, ap (λ (l : List PassValue). slice_get l node) same ∙ is, adds_none p)
 
-module _ (next : Next) (row : List ℕ) (node_rows : ℕ → List ℕ) (olds news : List PassValue) (node : ℕ) (p : PassValue) where
+module _ (node_rows : ℕ → List ℕ) (olds news : List PassValue) (node : ℕ) (p : PassValue) where
   lookup_adds : (at : ℕ) (key : Call) (lo hi : ℕ) (found : Option (Answered Shown)) → IsCallAt at (LookupLeaves node_rows key lo hi found) olds news
-      → slice_get olds node ≡ Some p → AddsAt node p (step_at node (requests.Lookup at key lo hi)) news
+      → slice_get olds node ≡ Some p → AddsAt node p (step_at node (exchanges.Lookup at key lo hi found)) news
   lookup_adds at key lo hi found h is =
       adds_at at node (ops.Lookup key lo hi) (LookupLeaves node_rows key lo hi found) olds news p
       (λ old new grown called. elim called [
@@ -154,7 +151,7 @@ module _ (next : Next) (row : List ℕ) (node_rows : ℕ → List ℕ) (olds new
       ]) h is
 
   insert_adds : (at : ℕ) (entry : Entry) → IsCallAt at (InsertLeaves node_rows entry) olds news
-      → slice_get olds node ≡ Some p → AddsAt node p (step_at node (requests.Insert at entry)) news
+      → slice_get olds node ≡ Some p → AddsAt node p (step_at node (exchanges.Insert at entry)) news
   insert_adds at entry h is =
       adds_at at node (ops.Insert entry) (InsertLeaves node_rows entry) olds news p
       (λ old new grown called. elim called [
@@ -163,47 +160,24 @@ module _ (next : Next) (row : List ℕ) (node_rows : ℕ → List ℕ) (olds new
         | inr (inr same) ↦ adds_refused old new grown (ops.Insert entry) (node_rows old.settings.number) Memory same
       ]) h is
 
-  request_adds : (request : PortRequest) (reply : PortReply) → IsReplyTo next request reply → PassesAfter node_rows olds request reply news
-      → slice_get olds node ≡ Some p → AddsAt node p (step_at node request) news
-  request_adds (requests.Fresh bounds) reply to h is = stays_at node p olds news h is
-  request_adds (requests.Pin now at_least) reply to h is = stays_at node p olds news h is
-  request_adds (requests.AddPin pinned) reply to h is = stays_at node p olds news h is
-  request_adds (requests.Unpin stamp) reply to h is = stays_at node p olds news h is
-  request_adds (requests.Lookup at key lo hi) (answers.Lookup found) to h is = lookup_adds at key lo hi found h is
-  request_adds (requests.Lookup at key lo hi) (answers.Fresh pins) to h is = absurd to
-  request_adds (requests.Lookup at key lo hi) (answers.Pin pinned) to h is = absurd to
-  request_adds (requests.Lookup at key lo hi) (answers.AddPin given added) to h is = absurd to
-  request_adds (requests.Lookup at key lo hi) answers.Unpin to h is = absurd to
-  request_adds (requests.Lookup at key lo hi) (answers.Query found) to h is = absurd to
-  request_adds (requests.Lookup at key lo hi) answers.GiveBack to h is = absurd to
-  request_adds (requests.Lookup at key lo hi) (answers.Hold held) to h is = absurd to
-  request_adds (requests.Lookup at key lo hi) (answers.Commit committed) to h is = absurd to
-  request_adds (requests.Lookup at key lo hi) answers.Insert to h is = absurd to
-  request_adds (requests.Query query stamp) reply to h is = stays_at node p olds news h is
-  request_adds (requests.Insert at entry) answers.Insert to h is = insert_adds at entry h is
-  request_adds (requests.Insert at entry) (answers.Fresh pins) to h is = absurd to
-  request_adds (requests.Insert at entry) (answers.Pin pinned) to h is = absurd to
-  request_adds (requests.Insert at entry) (answers.AddPin given added) to h is = absurd to
-  request_adds (requests.Insert at entry) answers.Unpin to h is = absurd to
-  request_adds (requests.Insert at entry) (answers.Query found) to h is = absurd to
-  request_adds (requests.Insert at entry) answers.GiveBack to h is = absurd to
-  request_adds (requests.Insert at entry) (answers.Hold held) to h is = absurd to
-  request_adds (requests.Insert at entry) (answers.Commit committed) to h is = absurd to
-  request_adds (requests.Insert at entry) (answers.Lookup found) to h is = absurd to
-  request_adds (requests.GiveBack stamps) reply to h is = stays_at node p olds news h is
-  request_adds requests.Hold reply to h is = stays_at node p olds news h is
-  request_adds (requests.Commit base read changes) reply to h is = stays_at node p olds news h is
+  exchange_adds : (x : Exchange) → PassesAfter node_rows olds x news → slice_get olds node ≡ Some p → AddsAt node p (step_at node x) news
+  exchange_adds (exchanges.Pin now at_least pinned) h is = stays_at node p olds news h is
+  exchange_adds (exchanges.AddPin pinned given added) h is = stays_at node p olds news h is
+  exchange_adds (exchanges.Unpin stamp) h is = stays_at node p olds news h is
+  exchange_adds (exchanges.Lookup at key lo hi found) h is = lookup_adds at key lo hi found h is
+  exchange_adds (exchanges.Query query stamp found) h is = stays_at node p olds news h is
+  exchange_adds (exchanges.Insert at entry) h is = insert_adds at entry h is
 
 -- ---- a run
 
 module _ (next : Next) (row : List ℕ) (node_rows : ℕ → List ℕ) (node : ℕ) where
-  led_adds : (exchanges : List Exchange) (old new : RoTxnValue) (asking turn : Turn) (p : PassValue) → IsLed next row node_rows old asking exchanges new turn
-      → slice_get old.passes node ≡ Some p → AddsAt node p (asked_of node exchanges) new.passes
+  led_adds : (xs : List Exchange) (old new : RoTxnValue) (asking turn : Turn) (p : PassValue) → IsLed next row node_rows old asking xs new turn
+      → slice_get old.passes node ≡ Some p → AddsAt node p (asked_of node xs) new.passes
   led_adds [] old new asking turn p led is = stays_at node p old.passes new.passes (ap (λ (v : RoTxnValue). v.passes) led.0) is
-  led_adds (x ∷ exchanges) old new asking turn p led is =
-      let one = request_adds next row node_rows old.passes led.0.passes node p x.request x.reply led.2.given.to led.2.passes is in
-      let rest = led_adds exchanges led.0 new led.1 turn one.0 led.3 one.1 in
-      (rest.0, rest.1, adds_both p one.0 rest.0 (step_at node x.request) (asked_of node exchanges) one.2 rest.2)
+  led_adds (x ∷ xs) old new asking turn p led is =
+      let one = exchange_adds node_rows old.passes led.0.passes node p x led.2.passes is in
+      let rest = led_adds xs led.0 new led.1 turn one.0 led.3 one.1 in
+      (rest.0, rest.1, adds_both p one.0 rest.0 (step_at node x) (asked_of node xs) one.2 rest.2)
 
 pub calls_stand_once : CallsStandOnce
 calls_stand_once next row node_rows old new k turn run node before after was is =

@@ -6,26 +6,22 @@ use Rattle.txc_db.specs.History.{History}
 use Rattle.txc_ports.specs.declared.recorded.Recorded.{Recorded}
 use Rattle.txc_ports.specs.declared.request.PortRequest.{PortRequest}
 use Rattle.txc_ports.specs.declared.turn.Turn.{Turn}
-use Rattle.txc_ports.specs.declared.turn.Turn.TheVariants.{Ask, Begun, Value, Rows, At, Refused}
+use Rattle.txc_ports.specs.declared.turn.Turn.TheVariants.{Ask, Value, Rows, Refused}
 use Rattle.txc_txn.specs.Core.{CoreValue, recorded_after, IsEnd, IsIdle, IsNoValue, IsTurn, KeepsSettings}
 use Rattle.txc_client.proofs.Grown.{prefix_self}
 
 -- a turn that asks nothing has ended the call
 pub turn_ends : (c : CoreValue) (turn : Turn) → IsTurn c turn → ((request : PortRequest) → turn ≢ Ask request) → IsEnd turn × IsIdle c
 turn_ends c (Ask request) fits none = absurd (none request refl)
-turn_ends c Begun fits none = absurd fits
 turn_ends c (Value value) fits none = (tt, fits)
 turn_ends c (Rows rows) fits none = absurd fits
-turn_ends c (At stamp) fits none = absurd fits
 turn_ends c (Refused error) fits none = (tt, fits)
 
 -- only a value is recorded
 pub none_recorded : (recorded : List Recorded) (turn : Turn) (k : Option Call) → IsNoValue turn → recorded_after recorded turn k ≡ recorded
 none_recorded recorded (Ask request) k none = refl
-none_recorded recorded Begun k none = refl
 none_recorded recorded (Value value) k none = absurd none
 none_recorded recorded (Rows rows) k none = refl
-none_recorded recorded (At stamp) k none = refl
 none_recorded recorded (Refused error) k none = refl
 
 -- a turn after one that asks

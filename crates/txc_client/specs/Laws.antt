@@ -7,26 +7,26 @@ use Rattle.txc_node.specs.declared.op.Op.TheVariants as ops
 use Rattle.txc_node.specs.declared.record.Record.{Record}
 use Rattle.txc_app.specs.Eval.{Next}
 use Rattle.txc_shared.specs.Passes.{PassValue}
-use Rattle.txc_ports.specs.declared.request.PortRequest.{PortRequest}
-use Rattle.txc_ports.specs.declared.request.PortRequest.TheVariants as requests
+use Rattle.txc_ports.specs.Exchanges.{Exchange}
+use Rattle.txc_ports.specs.Exchanges as exchanges
 use Rattle.txc_ports.specs.declared.turn.Turn.{Turn}
-use Rattle.txc_client.specs.Run.{Exchange, HasRun}
+use Rattle.txc_client.specs.Run.{HasRun}
 use Rattle.txc_client.specs.Txn.{RoTxnValue}
 
 -- the steps of its own that a pass has seen, in the order of the node's history
 abbrev pub own_steps : PassValue → List Op
 own_steps p = map (λ (r : Record). r.op) (filter (λ (r : Record). r.pass == p.pass) p.records)
 
--- the step that a request asks of the node
-abbrev pub step_at : ℕ → PortRequest → List Op
-step_at node (requests.Lookup at key lo hi) = if at == node then ops.Lookup key lo hi ∷ [] else []
-step_at node (requests.Insert at entry) = if at == node then ops.Insert entry ∷ [] else []
-step_at node request = []
+-- the step that an exchange asks of the node
+abbrev pub step_at : ℕ → Exchange → List Op
+step_at node (exchanges.Lookup at key lo hi found) = if at == node then ops.Lookup key lo hi ∷ [] else []
+step_at node (exchanges.Insert at entry) = if at == node then ops.Insert entry ∷ [] else []
+step_at node exchange = []
 
--- the steps that these requests ask of the node, in order
+-- the steps that these exchanges ask of the node, in order
 abbrev pub asked_of : ℕ → List Exchange → List Op
 asked_of node [] = []
-asked_of node (x ∷ exchanges) = step_at node x.request ++ asked_of node exchanges
+asked_of node (x ∷ xs) = step_at node x ++ asked_of node xs
 
 -- of the steps that were asked for, in order, each was made once, or was refused and not made
 abbrev pub AreMade : List Op → List Op → Type 0

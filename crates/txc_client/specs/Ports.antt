@@ -12,10 +12,8 @@ use Rattle.txc_shared.specs.declared.insertion.Insertion.{Insertion}
 use Rattle.txc_shared.specs.Nodes.{NodeValue}
 use Rattle.txc_shared.specs.Passes.{PassValue, HasGrown, HasInserted, HasMade, IsPassLeft}
 use Rattle.txc_shared.specs.Refusals.{IsLookupRefused, IsRefusedThrough, IsStepRefused, MayRefuse}
-use Rattle.txc_ports.specs.declared.request.PortRequest.{PortRequest}
-use Rattle.txc_ports.specs.declared.request.PortRequest.TheVariants as requests
-use Rattle.txc_ports.specs.declared.reply.PortReply.{PortReply}
-use Rattle.txc_ports.specs.declared.reply.PortReply.TheVariants as answers
+use Rattle.txc_ports.specs.Exchanges.{Exchange}
+use Rattle.txc_ports.specs.Exchanges as exchanges
 
 -- each pass has seen no less of its node than before
 abbrev pub HaveGrown : List PassValue → List PassValue → Type 0
@@ -54,12 +52,11 @@ abbrev pub InsertLeaves : (ℕ → List ℕ) → Entry → PassValue → PassVal
 InsertLeaves node_rows entry old new = ((insertion : Insertion) × HasInserted old new entry insertion)
     ⊎ (IsCallRefused node_rows IsStepRefused old new ⊎ (new ≡ old))
 
--- What a request leaves of the passes, by its reply. A lookup is one lookup at the node that is named, of this call
--- at these stamps; an insertion is one insertion of this entry there; and any other request leaves every pass
--- as it was.
-abbrev pub PassesAfter : (ℕ → List ℕ) → List PassValue → PortRequest → PortReply → List PassValue → Type 0
-PassesAfter node_rows olds (requests.Lookup node key lo hi) (answers.Lookup found) news =
+-- What an exchange leaves of the passes. A lookup is one lookup at the node that is named, of this call at these
+-- stamps; an insertion is one insertion of this entry there; and any other leaves every pass as it was.
+abbrev pub PassesAfter : (ℕ → List ℕ) → List PassValue → Exchange → List PassValue → Type 0
+PassesAfter node_rows olds (exchanges.Lookup node key lo hi found) news =
     IsCallAt node (LookupLeaves node_rows key lo hi found) olds news
-PassesAfter node_rows olds (requests.Insert node entry) answers.Insert news =
+PassesAfter node_rows olds (exchanges.Insert node entry) news =
     IsCallAt node (InsertLeaves node_rows entry) olds news
-PassesAfter node_rows olds request reply news = news ≡ olds
+PassesAfter node_rows olds exchange news = news ≡ olds

@@ -9,13 +9,11 @@ use Rattle.txc_cushion.specs.Shared.{MayAnswer}
 use Rattle.txc_app.specs.Eval.{Next}
 use Rattle.txc_registry.specs.Objects.{numbers_of}
 use Rattle.txc_ports.specs.declared.error.TxnError.{TxnError}
-use Rattle.txc_ports.specs.declared.request.PortRequest.{PortRequest}
-use Rattle.txc_ports.specs.declared.request.PortRequest.TheVariants as requests
-use Rattle.txc_ports.specs.declared.reply.PortReply.{PortReply}
-use Rattle.txc_ports.specs.declared.reply.PortReply.TheVariants as replies
 use Rattle.txc_ports.specs.declared.turn.Turn.{Turn}
 use Rattle.txc_ports.specs.declared.turn.Turn.TheVariants.{Ask, Value, Refused}
-use Rattle.txc_ports.specs.Asking.{IsOfRow, IsReplyTo}
+use Rattle.txc_ports.specs.Exchanges.{Exchange, reply_of, request_of}
+use Rattle.txc_ports.specs.Exchanges as exchanges
+use Rattle.txc_ports.specs.Asking.{IsAnsweredRight, IsOfRow}
 use Rattle.txc_txn.specs.Core.{open_call, IsAsk, IsTurn}
 use Rattle.txc_txn.specs.Kept.{HasGoneOn}
 use Rattle.txc_txn.specs.Leading.{StartLeads}
@@ -23,20 +21,19 @@ use Rattle.txc_client.specs.Ports.{PassesAfter}
 use Rattle.txc_client.specs.Txn.{RoTxnValue}
 
 -- what the database or the pincushion refuses, some database or some pincushion of the row refuses so
-abbrev pub IsRefusedSo : List ℕ → PortRequest → PortReply → Type 0
-IsRefusedSo row (requests.Pin now at_least) (replies.Pin (Err error)) =
-    MayRefuse row (λ d. IsPinRefused d at_least) error
-IsRefusedSo row (requests.AddPin pinned) (replies.AddPin given (Err error)) =
+abbrev pub IsRefusedSo : List ℕ → Exchange → Type 0
+IsRefusedSo row (exchanges.Pin now at_least (Err error)) = MayRefuse row (λ d. IsPinRefused d at_least) error
+IsRefusedSo row (exchanges.AddPin pinned given (Err error)) =
     MayAnswer row (λ c. IsAddRefused c pinned.stamp) error
-IsRefusedSo row (requests.Query query stamp) (replies.Query (Err error)) =
+IsRefusedSo row (exchanges.Query query stamp (Err error)) =
     MayRefuse row (λ d. IsQueryRefused d query stamp) error
-IsRefusedSo row request reply = Unit {0}
+IsRefusedSo row exchange = Unit {0}
 
--- a reply of the ports of the row to the request, right in the history that it shows
-pub record IsGiven (next : Next) (row : List ℕ) (request : PortRequest) (reply : PortReply) : Type 0 where
-  pub to : IsReplyTo next request reply
-  pub of_row : IsOfRow row reply
-  pub refused : IsRefusedSo row request reply
+-- the reply is one of the ports of the row, right in the history that it shows
+pub record IsGiven (next : Next) (row : List ℕ) (x : Exchange) : Type 0 where
+  pub right : IsAnsweredRight next x
+  pub of_row : IsOfRow row (reply_of x)
+  pub refused : IsRefusedSo row x
 
 -- the call has begun, with this turn, and no pass was used
 pub record HasBegun (old : RoTxnValue) (k : Call) (new : RoTxnValue) (turn : Turn) : Type 0 where
@@ -47,18 +44,13 @@ pub record HasBegun (old : RoTxnValue) (k : Call) (new : RoTxnValue) (turn : Tur
   pub same : new.txn.core ≡ record old.txn.core { call = new.txn.core.call; pinning = new.txn.core.pinning }
   pub passes : new.passes ≡ old.passes
 
--- a request of a call, and the reply to it
-pub record Exchange : Type 0 where
-  pub request : PortRequest
-  pub reply : PortReply
-
 -- the turn asks, the request leaves the passes so, and the reply to it leads on to the next turn
 pub record IsStep (next : Next) (row : List ℕ) (node_rows : ℕ → List ℕ) (old : RoTxnValue) (asking : Turn)
     (x : Exchange) (new : RoTxnValue) (turn : Turn) : Type 0 where
-  pub asks : asking ≡ Ask x.request
-  pub given : IsGiven next row x.request x.reply
-  pub passes : PassesAfter node_rows old.passes x.request x.reply new.passes
-  pub goes_on : HasGoneOn next old.txn x.reply new.txn turn
+  pub asks : asking ≡ Ask (request_of x)
+  pub given : IsGiven next row x
+  pub passes : PassesAfter node_rows old.passes x new.passes
+  pub goes_on : HasGoneOn next old.txn (reply_of x) new.txn turn
 
 -- the exchanges lead on, one after the other, to the last turn
 abbrev pub IsLed : Next → List ℕ → (ℕ → List ℕ) → RoTxnValue → Turn → List Exchange → RoTxnValue → Turn → Type 0

@@ -43,6 +43,7 @@ impl<'a, A: App, J: Naming> Ports<'a, A, J> {
     ghost use Rattle.txc_client.specs.Ports.{HaveGrown, InsertLeaves, IsCallAt, LookupLeaves, PassesAfter};
     ghost use Rattle.txc_client.specs.Run.{IsRefusedSo};
     ghost use Rattle.txc_ports.specs.Asking.{IsOfRow, IsReplyTo, MayAsk};
+    ghost use Rattle.txc_ports.specs.Exchanges.{IsExchange};
 
     /// Draws a pass through each node. It is refused as a pass is.
     pub(crate) fn new(
@@ -145,9 +146,9 @@ impl<'a, A: App, J: Naming> Ports<'a, A, J> {
         requires may { MayAsk A.next J.database_row (length self.old) seen.now.history request }
         ensures answer { IsReplyTo A.next request result }
         ensures row { IsOfRow J.database_row result }
-        ensures refused { IsRefusedSo J.database_row request result }
+        ensures refused { IsExchange (IsRefusedSo J.database_row) request result }
         ensures passes { HaveGrown self.old self.new }
-        ensures left { PassesAfter J.node_rows self.old request result self.new }
+        ensures left { IsExchange (λ x. PassesAfter J.node_rows self.old x self.new) request result }
     {
         match request {
             PortRequest::Pin { now, at_least } => PortReply::Pin(
@@ -171,7 +172,6 @@ impl<'a, A: App, J: Naming> Ports<'a, A, J> {
                 self.insert(rt, alloc, node, entry, seen);
                 PortReply::Insert
             }
-            _ => unreachable!(),
         }
     }
 }

@@ -2,16 +2,12 @@
 use Rattle.std.specs.Prelude.{Option, Some, None, Ok}
 use Rattle.txc_db.specs.Seen.{FrontValue}
 use Rattle.txc_ports.specs.declared.reply.PortReply.{PortReply}
-use Rattle.txc_ports.specs.declared.reply.PortReply.TheVariants.{Fresh, Pin, AddPin, Lookup, Query, Hold}
-use Rattle.txc_ports.specs.declared.reply.PortReply.TheVariants.{Commit}
+use Rattle.txc_ports.specs.declared.reply.PortReply.TheVariants.{Pin, AddPin, Lookup, Query}
 
 -- the front beside what a port answered; none where it answered nothing that a history shows
 abbrev pub front_of : PortReply → Option FrontValue
-front_of (Fresh (Ok pins)) = Some pins.front
 front_of (Pin (Ok pinned)) = Some pinned.front
 front_of (AddPin pinned added) = Some pinned.front
 front_of (Lookup (Some hit)) = Some hit.front
 front_of (Query (Ok found)) = Some found.front
-front_of (Hold (Ok held)) = Some held.front
-front_of (Commit (Ok committed)) = Some committed.front
 front_of reply = None

@@ -1,4 +1,5 @@
 pub mod Refusals
 pub mod Answers
 pub mod Fronts
+pub mod Exchanges
 pub mod Asking

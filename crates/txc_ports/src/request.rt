@@ -1,15 +1,12 @@
-use crate::bounds::Bounds;
 use txc_db::Pinned;
 use txc_node::Entry;
-use txc_rows::{Change, Query};
+use txc_rows::Query;
 use txc_stamp::Stamp;
-use txc_tags::{Key, TagSet};
+use txc_tags::Key;
 
 /// What a transaction asks of a port. Nodes are named by their numbers, from 0 on.
 #[derive(Drop)]
 pub enum PortRequest {
-    /// Of the pincushion: the pins that are fresh enough.
-    Fresh(Bounds),
     /// Of the database: a pin of the moment `now` whose stamp is not below `at_least`.
     Pin {
         now: u64,
@@ -35,15 +32,5 @@ pub enum PortRequest {
     Insert {
         node: usize,
         entry: Entry,
-    },
-    /// Of the pincushion: to take one user of each stamp away.
-    GiveBack(Vec<Stamp>),
-    /// Of the database: a hold of its newest stamp.
-    Hold,
-    /// Of the database: to commit the changes, where nothing that was read has changed after the base.
-    Commit {
-        base: Stamp,
-        read: TagSet,
-        changes: Vec<Change>,
     },
 }

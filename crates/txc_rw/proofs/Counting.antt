@@ -31,10 +31,7 @@ left_some : (need : Need) (reply : Reply) (asked : ℕ) → ReplyFits need reply
 left_some (needs.Lookup k) reply asked fits = refl
 left_some (needs.Query q) reply asked fits = refl
 left_some (needs.Insert e) reply asked fits = refl
-left_some (needs.Value o) replies.Miss asked fits = absurd fits
-left_some (needs.Value o) (replies.Hit hit) asked fits = absurd fits
-left_some (needs.Value o) (replies.Found found) asked fits = absurd fits
-left_some (needs.Value o) replies.Inserted asked fits = absurd fits
+left_some need reply asked fits = absurd fits
 
 -- each reply leaves less
 pub less : (old : Option Need) (need : Need) (reply : Reply) (asked : ℕ) (c : Calling) → old ≡ Some need → ReplyFits need reply

@@ -190,9 +190,6 @@ value_fits next objects top need frames o is h =
     (rest.0, rest.1, cc)
 
 module _ (next : Next) (objects : Objects) (call : Calling) (o : Outcome) (is : call.need ≡ Some (needs.Value o)) (calling : IsCalling next objects call) where
-  pub done_key : o.key ≡ call.top
-  done_key = (value_fits next objects call.top call.need call.frames o is calling).2
-
   pub done_fits : IsCalling next objects (record call { need = None })
   done_fits = let three = value_fits next objects call.top call.need call.frames o is calling in (three.0, three.1)
 
@@ -251,17 +248,6 @@ holds_in_longer stay next L M objects c begins h =
 pub nothing_handed_in : (next : Next) (L : History) (need : Need) (reply : Reply) → ReplyFits need reply → reply_reach reply ≡ None → ReplyHolds next L need reply
 nothing_handed_in next L (needs.Lookup k) replies.Miss fits none = tt
 nothing_handed_in next L (needs.Lookup k) (replies.Hit hit) fits none = absurd (cc none)
-nothing_handed_in next L (needs.Lookup k) (replies.Found found) fits none = absurd fits
-nothing_handed_in next L (needs.Lookup k) replies.Inserted fits none = absurd fits
 nothing_handed_in next L (needs.Query q) (replies.Found found) fits none = absurd (cc none)
-nothing_handed_in next L (needs.Query q) replies.Miss fits none = absurd fits
-nothing_handed_in next L (needs.Query q) (replies.Hit hit) fits none = absurd fits
-nothing_handed_in next L (needs.Query q) replies.Inserted fits none = absurd fits
 nothing_handed_in next L (needs.Insert e) replies.Inserted fits none = tt
-nothing_handed_in next L (needs.Insert e) replies.Miss fits none = absurd fits
-nothing_handed_in next L (needs.Insert e) (replies.Hit hit) fits none = absurd fits
-nothing_handed_in next L (needs.Insert e) (replies.Found found) fits none = absurd fits
-nothing_handed_in next L (needs.Value o) replies.Miss fits none = absurd fits
-nothing_handed_in next L (needs.Value o) (replies.Hit hit) fits none = absurd fits
-nothing_handed_in next L (needs.Value o) (replies.Found found) fits none = absurd fits
-nothing_handed_in next L (needs.Value o) replies.Inserted fits none = absurd fits
+nothing_handed_in next L need reply fits none = absurd fits

@@ -20,7 +20,7 @@ use Rattle.txc_call.specs.Calling.{Calling}
 use Rattle.txc_call.specs.Turns.{Turn as CallTurn, AfterReply}
 use Rattle.txc_ports.specs.declared.error.TxnError.{TxnError}
 use Rattle.txc_ports.specs.declared.turn.Turn.{Turn}
-use Rattle.txc_ports.specs.declared.turn.Turn.TheVariants.{Ask, Begun, Value, Rows, At, Refused}
+use Rattle.txc_ports.specs.declared.turn.Turn.TheVariants.{Ask, Value, Rows, Refused}
 use Rattle.txc_ports.specs.Refusals.{refused_call, refused_request}
 use Rattle.txc_rw.specs.declared.given.Given.{Given}
 use Rattle.txc_rw.specs.declared.given.Given.TheVariants as given
@@ -66,20 +66,9 @@ module _ (next : Next) (s : State) where
 pub uncached_of : (s : State) (need : Need) (reply : Reply) → ReplyFits need reply → reply_reach reply ≡ None → IsUncached s need reply × (query_in need ≡ [])
 uncached_of s (needs.Lookup k) replies.Miss fits none = (refl, refl)
 uncached_of s (needs.Lookup k) (replies.Hit hit) fits none = absurd (cc none)
-uncached_of s (needs.Lookup k) (replies.Found found) fits none = absurd fits
-uncached_of s (needs.Lookup k) replies.Inserted fits none = absurd fits
 uncached_of s (needs.Query q) (replies.Found found) fits none = absurd (cc none)
-uncached_of s (needs.Query q) replies.Miss fits none = absurd fits
-uncached_of s (needs.Query q) (replies.Hit hit) fits none = absurd fits
-uncached_of s (needs.Query q) replies.Inserted fits none = absurd fits
 uncached_of s (needs.Insert e) replies.Inserted fits none = (refl, refl)
-uncached_of s (needs.Insert e) replies.Miss fits none = absurd fits
-uncached_of s (needs.Insert e) (replies.Hit hit) fits none = absurd fits
-uncached_of s (needs.Insert e) (replies.Found found) fits none = absurd fits
-uncached_of s (needs.Value o) replies.Miss fits none = absurd fits
-uncached_of s (needs.Value o) (replies.Hit hit) fits none = absurd fits
-uncached_of s (needs.Value o) (replies.Found found) fits none = absurd fits
-uncached_of s (needs.Value o) replies.Inserted fits none = absurd fits
+uncached_of s need reply fits none = absurd fits
 
 -- a call that hands in nothing goes on
 pub led_by_none : (next : Next) (s : State) (from : CallTurn) (call : Calling) (objects : Objects) (end : CallTurn) (need : Need) (reply : Reply)
@@ -173,11 +162,7 @@ run_asks next row s from old core objects (Ask r) queries (Ok standing) led (inl
 run_asks next row s from old core objects (Ask r) queries (Ok standing) led (inr does) asks = absurd does
 run_asks next row s from old core objects (Ask r) queries (Err e) led (inl does) asks = absurd (cc does)
 run_asks next row s from old core objects (Ask r) queries (Err e) led (inr does) asks = absurd does
-run_asks next row s from old core objects Begun queries stands led does asks = absurd asks
-run_asks next row s from old core objects (Value v) queries stands led does asks = absurd asks
-run_asks next row s from old core objects (Rows rows) queries stands led does asks = absurd asks
-run_asks next row s from old core objects (At n) queries stands led does asks = absurd asks
-run_asks next row s from old core objects (Refused e) queries stands led does asks = absurd asks
+run_asks next row s from old core objects turn queries stands led does asks = absurd asks
 
 -- and goes on with the database's answer
 pub run_goes_on : (next : Next) (row : List ℕ) (s : State) (from : CallTurn) (old core new : RwValue) (objects objects' : Objects) (turn turn' : Turn) (reply : Result Found DbError) (q : Query)

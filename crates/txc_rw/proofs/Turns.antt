@@ -7,7 +7,7 @@ use Rattle.txc_db.specs.declared.error.DbError.{DbError}
 use Rattle.txc_call.specs.declared.frames.TheConstants.{MAX_CALL_ASKS}
 use Rattle.txc_ports.specs.declared.error.TxnError.{TxnError}
 use Rattle.txc_ports.specs.declared.turn.Turn.{Turn}
-use Rattle.txc_ports.specs.declared.turn.Turn.TheVariants.{Ask, Begun, Value, Rows, At, Refused}
+use Rattle.txc_ports.specs.declared.turn.Turn.TheVariants.{Ask, Value, Rows, Refused}
 use Rattle.txc_tags.specs.Keys.{Call}
 use Rattle.txc_db.specs.History.{History}
 use Rattle.txc_call.specs.declared.need.Need.{Need}
@@ -20,10 +20,8 @@ turn_asks c (Ask request) q stamp is t =
     let same : Some (t.0, c.base) ≡ Some (q, stamp) = sym (ap asked_of (ap Ask t.2)) ∙ is in
     let pair : (t.0, c.base) ≡ (q, stamp) = cc in
     (t.1 ∙ ap (λ (p : Query × ℕ). Some p.0) pair, sym (ap (λ (p : Query × ℕ). p.1) pair), tt)
-turn_asks c Begun q stamp is t = absurd t
 turn_asks c (Value v) q stamp is t = absurd (cc is)
 turn_asks c (Rows rows) q stamp is t = absurd (cc is)
-turn_asks c (At n) q stamp is t = absurd t
 turn_asks c (Refused error) q stamp is t = absurd (cc is)
 
 -- a turn of a call that asks none has ended it
@@ -31,42 +29,28 @@ pub turn_ends : (c : RwValue) (turn : Turn) → asked_of turn ≡ None → IsTur
 turn_ends c (Ask request) is t of =
     let no : Some (t.0, c.base) ≡ None = sym (ap asked_of (ap Ask t.2)) ∙ is in
     absurd (cc no)
-turn_ends c Begun is t of = absurd of
 turn_ends c (Value v) is t of = (tt, t)
 turn_ends c (Rows rows) is t of = absurd of
-turn_ends c (At n) is t of = absurd of
 turn_ends c (Refused error) is t of = (tt, t)
 
 -- none where the call has ended; else one more than it may still ask
 abbrev pub turns_left : Turn → ℕ → ℕ
 turns_left (Ask request) asked = suc (MAX_CALL_ASKS - asked)
-turns_left Begun asked = 0
 turns_left (Value v) asked = 0
 turns_left (Rows rows) asked = 0
-turns_left (At n) asked = 0
 turns_left (Refused error) asked = 0
 
 pub fewer_turns : (old new : Turn) (before after : ℕ) → IsAsk old → (IsAsk new → before < after) → after ≤ MAX_CALL_ASKS → turns_left new after < turns_left old before
 fewer_turns (Ask r) (Ask s) before after asks more most = let less = more tt in omega (arith, less, most)
-fewer_turns (Ask r) Begun before after asks more most = omega arith
 fewer_turns (Ask r) (Value v) before after asks more most = omega arith
 fewer_turns (Ask r) (Rows rows) before after asks more most = omega arith
-fewer_turns (Ask r) (At n) before after asks more most = omega arith
 fewer_turns (Ask r) (Refused error) before after asks more most = omega arith
-fewer_turns Begun new before after asks more most = absurd asks
-fewer_turns (Value v) new before after asks more most = absurd asks
-fewer_turns (Rows rows) new before after asks more most = absurd asks
-fewer_turns (At n) new before after asks more most = absurd asks
-fewer_turns (Refused error) new before after asks more most = absurd asks
+fewer_turns old new before after asks more most = absurd asks
 
 -- a refusal asks nothing
 pub no_refusal : (turn : Turn) (error : TxnError) → IsAsk turn → turn ≢ Refused error
 no_refusal (Ask request) error asks is = absurd (cc is)
-no_refusal Begun error asks is = absurd asks
-no_refusal (Value v) error asks is = absurd asks
-no_refusal (Rows rows) error asks is = absurd asks
-no_refusal (At n) error asks is = absurd asks
-no_refusal (Refused other) error asks is = absurd asks
+no_refusal turn error asks is = absurd asks
 
 -- what was found for the query that is asked, at the stamp that is asked, is a right reply
 pub right_reply : (L : History) (c : RwValue) (reply : Result Found DbError) (q : Query) (stamp : ℕ) → c.reading ≡ Some q → stamp ≡ c.base
@@ -83,14 +67,8 @@ pub answers_on : (before now : List Given) (k top : Call) (reading : Option Quer
 answers_on before now k top reading (Ask r) (Ask s) is asks same of = is
 answers_on before now k top reading (Ask r) (Value v) is asks same of = rw (is, same) refl
 answers_on before now k top reading (Ask r) (Refused error) is asks same of = is
-answers_on before now k top reading (Ask r) Begun is asks same of = absurd of
 answers_on before now k top reading (Ask r) (Rows rows) is asks same of = absurd of
-answers_on before now k top reading (Ask r) (At n) is asks same of = absurd of
-answers_on before now k top reading Begun new is asks same of = absurd asks
-answers_on before now k top reading (Value v) new is asks same of = absurd asks
-answers_on before now k top reading (Rows rows) new is asks same of = absurd asks
-answers_on before now k top reading (At n) new is asks same of = absurd asks
-answers_on before now k top reading (Refused error) new is asks same of = absurd asks
+answers_on before now k top reading old new is asks same of = absurd asks
 
 -- the turn of an open call
 pub kind_of_call : (need : Option Need) (turn : Turn) → IsSome need → IsOfNeed need turn → IsOfCall turn

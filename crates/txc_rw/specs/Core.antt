@@ -137,7 +137,6 @@ IsTurn c (Ask request) = (q : Query) × (c.reading ≡ Some q) × (request ≡ r
 IsTurn c (Value value) = IsIdle c
 IsTurn c (Rows rows) = IsIdle c
 IsTurn c (Refused error) = IsIdle c
-IsTurn c turn = ⊥
 
 -- a call asks, has its value, or is refused; a query finds its rows, or is refused
 abbrev pub IsOfCall : Turn → Type 0

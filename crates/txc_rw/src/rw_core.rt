@@ -18,9 +18,9 @@ pub const MAX_CHANGES: usize = 256;
 
 /// A read-write transaction that asks for one query at a time, and goes on with what was found.
 ///
-/// It has no lock and no thread, and it uses no node. It begins with the stamp that the database answers to
-/// `PortRequest::Hold`. For a commit it lends its base, its tags and its changes, so that a refused commit
-/// leaves it as it was. The registry of its functions is lent to each call, always the same one.
+/// It has no lock and no thread, and it uses no node. It begins with a stamp that the database holds for it.
+/// For a commit it lends its base, its tags and its changes, so that a refused commit leaves it as it was. The
+/// registry of its functions is lent to each call, always the same one.
 #[derive(Drop)]
 pub struct RwCore {
     pub(crate) base: Stamp,

@@ -135,25 +135,6 @@ value_fits next objects top need frames o is h =
     (done.1, subst (λ (fs : List Frame). AllIdle (released fs objects)) done.1 done.0.open_frames.free, cc)
 
 module _ (next : Next) (objects : Objects) (c : CoreValue) (o : Outcome) (is : c.call.need ≡ Some (needs.Value o)) where
-  pub value_key : IsCore next objects c → o.key ≡ c.call.top
-  value_key h = (value_fits next objects c.call.top c.call.need c.call.frames o is h.call).2
-
-  -- the call is done, and its value recorded, or not
-  pub core_done : (recorded : List Recorded) → c.pinning ≡ None → IsCore next objects c → IsCore next objects (record c { recorded = recorded; call = record c.call { need = None } })
-  core_done recorded none h =
-      let at_rest = value_fits next objects c.call.top c.call.need c.call.frames o is h.call in
-      record {
-        set = h.set;
-        call = (at_rest.0, at_rest.1);
-        within = All-weaker (λ (p : Pin). InCall p.stamp c.call) (λ (p : Pin). InCall p.stamp (record c.call { need = None })) (λ p inside. (tt, inside.1)) c.pins.members h.within;
-        unreached = λ present. (refl, (h.unreached present).1);
-        pinning = rw none tt;
-        member = λ calling. absurd (calling refl);
-        answered = λ some. h.member (λ gone. absurd (let both = sym is ∙ gone in cc both));
-        taken = h.taken;
-        nodes = h.nodes;
-      }
-
   pub holds_recorded : (L : History) → CoreHolds next L objects c → CoreHolds next L objects (record c { recorded = c.recorded ++ record { key = o.key; value = o.value } ∷ []; call = record c.call { need = None } })
   holds_recorded L h = record {
     meant = value_is_recorded next L c.bounds c.pins c.recorded objects c.call o h.meant is;
@@ -299,10 +280,8 @@ core_begun next objects nodes renew_after bounds pins call idle empty none some 
 pub need_stands : (old new : CoreValue) (objects objects' : Objects) (turn : Turn) → NeedLeads old objects new objects' turn
     → StandingLeads (Ok (record { frames = old.call.frames; asked = old.call.asked; need = old.call.need; objects = objects })) new objects' turn
 need_stands old new objects objects' (turns.Ask request) h = (ap (λ (call : Calling). call.frames) h.0, ap (λ (call : Calling). call.asked) h.0, ap (λ (call : Calling). call.need) h.0, h.1)
-need_stands old new objects objects' turns.Begun h = absurd h
 need_stands old new objects objects' (turns.Value value) h = h
 need_stands old new objects objects' (turns.Rows rows) h = absurd h
-need_stands old new objects objects' (turns.At stamp) h = absurd h
 need_stands old new objects objects' (turns.Refused error) h = h
 
 -- what comes of a pin does not depend on what was seen of the history
@@ -321,7 +300,6 @@ pin_seen c seen objects (Some k) new objects' turn h = record {
 -- nor does what comes of any reply
 pub leads_seen : (next : Next) (c : CoreValue) (seen : FrontValue) (objects : Objects) (reply : PortReply) (new : CoreValue) (objects' : Objects) (turn : Turn)
     → ReplyLeads next (record c { seen = seen }) objects reply new objects' turn → ReplyLeads next c objects reply new objects' turn
-leads_seen next c seen objects (ports.Fresh pins) new objects' turn h = h
 leads_seen next c seen objects (ports.Pin (Ok pinned)) new objects' turn h = h
 leads_seen next c seen objects (ports.Pin (Err error)) new objects' turn h = h
 leads_seen next c seen objects (ports.AddPin pinned (Ok added)) new objects' turn h = pin_seen c seen objects (first_call c.pinning) new objects' turn h
@@ -332,15 +310,11 @@ leads_seen next c seen objects (ports.Lookup (Some hit)) new objects' turn h = �
 leads_seen next c seen objects (ports.Query (Ok found)) new objects' turn h = h
 leads_seen next c seen objects (ports.Query (Err error)) new objects' turn h = h
 leads_seen next c seen objects ports.Insert new objects' turn h = h
-leads_seen next c seen objects ports.GiveBack new objects' turn h = h
-leads_seen next c seen objects (ports.Hold held) new objects' turn h = h
-leads_seen next c seen objects (ports.Commit committed) new objects' turn h = h
 
 -- ---- with a registry
 
 -- a reply that shows nothing of the history says nothing of it
 no_front : (next : Next) (need : Option Need) (reply : PortReply) (M : History) → front_of reply ≡ None → IsRight next M need reply
-no_front next need (ports.Fresh pins) M none = tt
 no_front next need (ports.Pin (Ok pinned)) M none = absurd (cc none)
 no_front next need (ports.Pin (Err error)) M none = tt
 no_front next need (ports.AddPin pinned added) M none = tt
@@ -350,9 +324,6 @@ no_front next need (ports.Lookup (Some hit)) M none = absurd (cc none)
 no_front next need (ports.Query (Ok found)) M none = absurd (cc none)
 no_front next need (ports.Query (Err error)) M none = tt
 no_front next need ports.Insert M none = tt
-no_front next need ports.GiveBack M none = tt
-no_front next need (ports.Hold held) M none = tt
-no_front next need (ports.Commit committed) M none = tt
 
 -- a reply that is right in the history that it shows is right in what is seen after it
 pub right_seen : StatesStay → (next : Next) (need : Option Need) (reply : PortReply) (M : History) → ForSome (front_of reply) (λ front. IsPrefix front.history M)

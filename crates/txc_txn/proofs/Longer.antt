@@ -113,7 +113,6 @@ module _ (stay : StatesStay) (L M : History) (begins : IsPrefix L M) where
   reply_later next (needs.Value o) reply h = tt
 
   pub right_later : (next : Next) (need : Option Need) (reply : PortReply) → IsRight next L need reply → IsRight next M need reply
-  right_later next need (ports.Fresh pins) h = tt
   right_later next need (ports.Pin (Ok pinned)) h = same_moment pinned.stamp pinned.moment h
   right_later next need (ports.Pin (Err error)) h = tt
   right_later next need (ports.AddPin pinned added) h = tt
@@ -123,6 +122,3 @@ module _ (stay : StatesStay) (L M : History) (begins : IsPrefix L M) where
   right_later next need (ports.Query (Ok found)) h = λ n is. reply_later next n (replies.Found found.answer) (h n is)
   right_later next need (ports.Query (Err error)) h = tt
   right_later next need ports.Insert h = tt
-  right_later next need ports.GiveBack h = tt
-  right_later next need (ports.Hold held) h = tt
-  right_later next need (ports.Commit committed) h = tt

@@ -3,6 +3,7 @@
 use Rattle.std.proofs.Common.{◌≡◌, ℕ, ◌+◌, ◌<◌, ◌≤◌, Bool, true, false, List, [], ◌∷◌, Option, Some, None, Ok, Err, refl, sym, subst, ◌∙◌}
 use Rattle.std.proofs.lemmas.Nat.{mod_below}
 use Rattle.std.specs.Prelude.{◌&&◌, sum}
+use Rattle.std.specs.Option.{ForSome}
 use Rattle.txc_stamp.specs.Interval.{Interval, Holds}
 use Rattle.txc_tags.specs.Keys.{Call, node_of}
 use Rattle.txc_db.specs.History.{moment_at}
@@ -22,51 +23,44 @@ use Rattle.txc_ports.specs.declared.reply.PortReply.{PortReply}
 use Rattle.txc_ports.specs.declared.reply.PortReply.TheVariants as replies
 use Rattle.txc_ports.specs.declared.turn.Turn.{Turn}
 use Rattle.txc_ports.specs.declared.turn.Turn.TheVariants as turns
+use Rattle.txc_ports.specs.Fronts.{front_of}
 use Rattle.txc_txn.specs.Core.{CoreValue, AddsOnly, HoldsNewest, IsAnswered, IsAsking, IsNoAdding}
 use Rattle.txc_txn.specs.Leading.{ReplyLeads}
 use Rattle.txc_txn.specs.Kept.{TxnValue, IsKept, IsShownRight}
-use Rattle.txc_ports.specs.Asking.{IsOfRow, IsReplyTo, MayAsk}
+use Rattle.txc_ports.specs.Asking.{AddsSuch, IsAnsweredRight, IsReplyTo, MayAsk}
+use Rattle.txc_ports.specs.Exchanges.{Exchange, reply_of, request_of}
+use Rattle.txc_ports.specs.Exchanges as exchanges
+use Rattle.txc_ports.proofs.Offered.{by_exchange}
 
--- ---- a pin that is to be added is of the row
+-- ---- a pin that is to be added
 
-abbrev pub AddsOf : List ℕ → Turn → Type 0
-AddsOf row (turns.Ask (requests.AddPin pinned)) = pinned.front.events ≡ row
-AddsOf row turn = Unit {0}
+module _ (P Q : FrontValue → Type 0) (weaker : (front : FrontValue) → P front → Q front) where
+  pub adds_weaker : (turn : Turn) → AddsSuch P turn → AddsSuch Q turn
+  adds_weaker (turns.Ask (requests.Pin now at_least)) adds = tt
+  adds_weaker (turns.Ask (requests.AddPin pinned)) adds = weaker pinned.front adds
+  adds_weaker (turns.Ask (requests.Unpin stamp)) adds = tt
+  adds_weaker (turns.Ask (requests.Lookup node key lo hi)) adds = tt
+  adds_weaker (turns.Ask (requests.Query query stamp)) adds = tt
+  adds_weaker (turns.Ask (requests.Insert node entry)) adds = tt
+  adds_weaker (turns.Value value) adds = tt
+  adds_weaker (turns.Rows rows) adds = tt
+  adds_weaker (turns.Refused error) adds = tt
 
-no_adding : (row : List ℕ) (turn : Turn) → IsNoAdding turn → AddsOf row turn
-no_adding row (turns.Ask (requests.Fresh bounds)) none = tt
-no_adding row (turns.Ask (requests.Pin now at_least)) none = tt
-no_adding row (turns.Ask (requests.AddPin pinned)) none = absurd none
-no_adding row (turns.Ask (requests.Unpin stamp)) none = tt
-no_adding row (turns.Ask (requests.Lookup node key lo hi)) none = tt
-no_adding row (turns.Ask (requests.Query query stamp)) none = tt
-no_adding row (turns.Ask (requests.Insert node entry)) none = tt
-no_adding row (turns.Ask (requests.GiveBack stamps)) none = tt
-no_adding row (turns.Ask requests.Hold) none = tt
-no_adding row (turns.Ask (requests.Commit base read changes)) none = tt
-no_adding row turns.Begun none = tt
-no_adding row (turns.Value value) none = tt
-no_adding row (turns.Rows rows) none = tt
-no_adding row (turns.At stamp) none = tt
-no_adding row (turns.Refused error) none = tt
+module _ (P : FrontValue → Type 0) where
+  pub adds_none : (turn : Turn) → IsNoAdding turn → AddsSuch P turn
+  adds_none turn none = adds_weaker (λ front. ⊥) P (λ front no. absurd no) turn none
 
-pub adds_at_first : (row : List ℕ) (turn : Turn) → IsNoAdding turn → AddsOf row turn
-adds_at_first = no_adding
-
-module _ (next : Next) (row : List ℕ) (old new : TxnValue) (turn : Turn) where
-  pub adds_next : (reply : PortReply) → IsOfRow row reply → AddsOnly reply turn
-      → ReplyLeads next old.core old.objects reply new.core new.objects turn → AddsOf row turn
-  adds_next (replies.Fresh pins) of only leads = no_adding row turn only
-  adds_next (replies.Pin (Ok pinned)) of only leads = subst (AddsOf row) (sym leads) (of pinned.front refl)
-  adds_next (replies.Pin (Err error)) of only leads = no_adding row turn only
-  adds_next (replies.AddPin pinned added) of only leads = no_adding row turn only
-  adds_next replies.Unpin of only leads = no_adding row turn only
-  adds_next (replies.Lookup hit) of only leads = no_adding row turn only
-  adds_next (replies.Query found) of only leads = no_adding row turn only
-  adds_next replies.Insert of only leads = no_adding row turn only
-  adds_next replies.GiveBack of only leads = no_adding row turn only
-  adds_next (replies.Hold held) of only leads = no_adding row turn only
-  adds_next (replies.Commit committed) of only leads = no_adding row turn only
+  -- it is the one of the reply
+  module _ (next : Next) (old new : TxnValue) (turn : Turn) where
+    pub adds_next : (reply : PortReply) → ForSome (front_of reply) P → AddsOnly reply turn
+        → ReplyLeads next old.core old.objects reply new.core new.objects turn → AddsSuch P turn
+    adds_next (replies.Pin (Ok pinned)) of only leads = subst (AddsSuch P) (sym leads) (of pinned.front refl)
+    adds_next (replies.Pin (Err error)) of only leads = adds_none turn only
+    adds_next (replies.AddPin pinned added) of only leads = adds_none turn only
+    adds_next replies.Unpin of only leads = adds_none turn only
+    adds_next (replies.Lookup hit) of only leads = adds_none turn only
+    adds_next (replies.Query found) of only leads = adds_none turn only
+    adds_next replies.Insert of only leads = adds_none turn only
 
 -- ---- what is asked may be asked
 
@@ -76,8 +70,7 @@ module _ (next : Next) (row : List ℕ) (t : TxnValue) (kept : IsKept next t) wh
       subst (λ (n : ℕ). node < n) same (subst (λ (n : ℕ). n < t.core.nodes) (sym is) (mod_below (key.function + sum key.args) t.core.nodes kept.fits.nodes))
 
   pub may_ask : (nodes : ℕ) → t.core.nodes ≡ nodes → (request : PortRequest) → IsAsking t.core request
-      → AddsOf row (turns.Ask request) → MayAsk next row nodes t.core.seen.history request
-  may_ask nodes same (requests.Fresh bounds) asking adds = absurd asking
+      → AddsSuch (λ front. front.events ≡ row) (turns.Ask request) → MayAsk next row nodes t.core.seen.history request
   may_ask nodes same (requests.Pin now at_least) asking adds = tt
   may_ask nodes same (requests.AddPin pinned) asking adds = adds
   may_ask nodes same (requests.Unpin stamp) asking adds = tt
@@ -87,9 +80,6 @@ module _ (next : Next) (row : List ℕ) (t : TxnValue) (kept : IsKept next t) wh
     node_there entry.key node nodes asking.1 same,
     (subst (λ (n : Option Need). NeedHolds next t.core.seen.history t.objects n t.core.call.frames) asking.0.1 kept.holds.meant.right).0,
   )
-  may_ask nodes same (requests.GiveBack stamps) asking adds = absurd asking
-  may_ask nodes same requests.Hold asking adds = absurd asking
-  may_ask nodes same (requests.Commit base read changes) asking adds = absurd asking
 
 -- ---- the reply is one to it
 
@@ -104,76 +94,21 @@ chosen now renew_after present (newest ∷ older) stamp reach is around = go (pr
     go false due = let same : At newest.stamp ≡ At stamp = rw due at is in let at : newest.stamp ≡ stamp = cc in subst (Holds reach) (sym at) around
 
 module _ (next : Next) (c : CoreValue) where
+  answered : (x : Exchange) → IsAnsweredRight next x → IsAsking c (request_of x) → IsAnswered c (reply_of x)
+  answered (exchanges.Pin now at_least (Ok pinned)) right asking =
+      (asking.0, right.0 ∙ asking.2, subst (λ (n : ℕ). n ≤ pinned.stamp) asking.3 right.1)
+  answered (exchanges.Pin now at_least (Err error)) right asking = asking.0
+  answered (exchanges.AddPin pinned given added) right asking = subst (λ p. IsAnswered c (replies.AddPin p added)) (sym right) asking
+  answered (exchanges.Unpin stamp) right asking = (stamp, asking.0, asking.1)
+  answered (exchanges.Lookup node key lo hi hit) right asking = (key, asking.0)
+  answered (exchanges.Query query stamp (Ok found)) right asking =
+      (query, asking.0, chosen c.bounds.now c.renew_after c.pins.has_present c.pins.members stamp found.answer.reach asking.1 right.around)
+  answered (exchanges.Query query stamp (Err error)) right asking = (query, asking.0)
+  answered (exchanges.Insert node entry) right asking = (entry, asking.0)
+
   pub is_answered : (request : PortRequest) (reply : PortReply) → IsAsking c request → IsReplyTo next request reply → IsAnswered c reply
-  is_answered (requests.Pin now at_least) (replies.Pin (Ok pinned)) asking to =
-      (asking.0, to.0 ∙ asking.2, subst (λ (n : ℕ). n ≤ pinned.stamp) asking.3 to.1)
-  is_answered (requests.Pin now at_least) (replies.Pin (Err error)) asking to = asking.0
-  is_answered (requests.AddPin pinned) (replies.AddPin given added) asking to = subst (λ p. IsAnswered c (replies.AddPin p added)) (sym to) asking
-  is_answered (requests.Unpin stamp) replies.Unpin asking to = (stamp, asking.0, asking.1)
-  is_answered (requests.Lookup node key lo hi) (replies.Lookup None) asking to = (key, asking.0)
-  is_answered (requests.Lookup node key lo hi) (replies.Lookup (Some hit)) asking to = (key, asking.0)
-  is_answered (requests.Query query stamp) (replies.Query (Ok found)) asking to =
-      (query, asking.0, chosen c.bounds.now c.renew_after c.pins.has_present c.pins.members stamp found.answer.reach asking.1 to.around)
-  is_answered (requests.Query query stamp) (replies.Query (Err error)) asking to = (query, asking.0)
-  is_answered (requests.Insert node entry) replies.Insert asking to = (entry, asking.0)
-  is_answered (requests.Pin now at_least) (replies.Fresh pins) asking to = absurd to
-  is_answered (requests.Pin now at_least) (replies.AddPin given added) asking to = absurd to
-  is_answered (requests.Pin now at_least) replies.Unpin asking to = absurd to
-  is_answered (requests.Pin now at_least) (replies.Lookup hit) asking to = absurd to
-  is_answered (requests.Pin now at_least) (replies.Query answer) asking to = absurd to
-  is_answered (requests.Pin now at_least) replies.Insert asking to = absurd to
-  is_answered (requests.Pin now at_least) replies.GiveBack asking to = absurd to
-  is_answered (requests.Pin now at_least) (replies.Hold held) asking to = absurd to
-  is_answered (requests.Pin now at_least) (replies.Commit committed) asking to = absurd to
-  is_answered (requests.AddPin pinned) (replies.Fresh pins) asking to = absurd to
-  is_answered (requests.AddPin pinned) (replies.Pin answer) asking to = absurd to
-  is_answered (requests.AddPin pinned) replies.Unpin asking to = absurd to
-  is_answered (requests.AddPin pinned) (replies.Lookup hit) asking to = absurd to
-  is_answered (requests.AddPin pinned) (replies.Query answer) asking to = absurd to
-  is_answered (requests.AddPin pinned) replies.Insert asking to = absurd to
-  is_answered (requests.AddPin pinned) replies.GiveBack asking to = absurd to
-  is_answered (requests.AddPin pinned) (replies.Hold held) asking to = absurd to
-  is_answered (requests.AddPin pinned) (replies.Commit committed) asking to = absurd to
-  is_answered (requests.Unpin stamp) (replies.Fresh pins) asking to = absurd to
-  is_answered (requests.Unpin stamp) (replies.Pin answer) asking to = absurd to
-  is_answered (requests.Unpin stamp) (replies.AddPin given added) asking to = absurd to
-  is_answered (requests.Unpin stamp) (replies.Lookup hit) asking to = absurd to
-  is_answered (requests.Unpin stamp) (replies.Query answer) asking to = absurd to
-  is_answered (requests.Unpin stamp) replies.Insert asking to = absurd to
-  is_answered (requests.Unpin stamp) replies.GiveBack asking to = absurd to
-  is_answered (requests.Unpin stamp) (replies.Hold held) asking to = absurd to
-  is_answered (requests.Unpin stamp) (replies.Commit committed) asking to = absurd to
-  is_answered (requests.Lookup node key lo hi) (replies.Fresh pins) asking to = absurd to
-  is_answered (requests.Lookup node key lo hi) (replies.Pin answer) asking to = absurd to
-  is_answered (requests.Lookup node key lo hi) (replies.AddPin given added) asking to = absurd to
-  is_answered (requests.Lookup node key lo hi) replies.Unpin asking to = absurd to
-  is_answered (requests.Lookup node key lo hi) (replies.Query answer) asking to = absurd to
-  is_answered (requests.Lookup node key lo hi) replies.Insert asking to = absurd to
-  is_answered (requests.Lookup node key lo hi) replies.GiveBack asking to = absurd to
-  is_answered (requests.Lookup node key lo hi) (replies.Hold held) asking to = absurd to
-  is_answered (requests.Lookup node key lo hi) (replies.Commit committed) asking to = absurd to
-  is_answered (requests.Query query stamp) (replies.Fresh pins) asking to = absurd to
-  is_answered (requests.Query query stamp) (replies.Pin answer) asking to = absurd to
-  is_answered (requests.Query query stamp) (replies.AddPin given added) asking to = absurd to
-  is_answered (requests.Query query stamp) replies.Unpin asking to = absurd to
-  is_answered (requests.Query query stamp) (replies.Lookup hit) asking to = absurd to
-  is_answered (requests.Query query stamp) replies.Insert asking to = absurd to
-  is_answered (requests.Query query stamp) replies.GiveBack asking to = absurd to
-  is_answered (requests.Query query stamp) (replies.Hold held) asking to = absurd to
-  is_answered (requests.Query query stamp) (replies.Commit committed) asking to = absurd to
-  is_answered (requests.Insert node entry) (replies.Fresh pins) asking to = absurd to
-  is_answered (requests.Insert node entry) (replies.Pin answer) asking to = absurd to
-  is_answered (requests.Insert node entry) (replies.AddPin given added) asking to = absurd to
-  is_answered (requests.Insert node entry) replies.Unpin asking to = absurd to
-  is_answered (requests.Insert node entry) (replies.Lookup hit) asking to = absurd to
-  is_answered (requests.Insert node entry) (replies.Query answer) asking to = absurd to
-  is_answered (requests.Insert node entry) replies.GiveBack asking to = absurd to
-  is_answered (requests.Insert node entry) (replies.Hold held) asking to = absurd to
-  is_answered (requests.Insert node entry) (replies.Commit committed) asking to = absurd to
-  is_answered (requests.Fresh bounds) reply asking to = absurd asking
-  is_answered (requests.GiveBack stamps) reply asking to = absurd asking
-  is_answered requests.Hold reply asking to = absurd asking
-  is_answered (requests.Commit base read changes) reply asking to = absurd asking
+  is_answered request reply asking to =
+      by_exchange (IsAnsweredRight next) (λ (q : PortRequest) (r : PortReply). IsAsking c q → IsAnswered c r) answered request reply to asking
 
 -- ---- it is right in the history that it shows
 
@@ -181,79 +116,25 @@ module _ (next : Next) (t : TxnValue) where
   needs_this : (n m : Need) → t.core.call.need ≡ Some n → t.core.call.need ≡ Some m → n ≡ m
   needs_this n m is at = let same : Some n ≡ Some m = sym is ∙ at in cc
 
-  pub is_right : (request : PortRequest) (reply : PortReply) → IsAsking t.core request → IsReplyTo next request reply → IsShownRight next t reply
-  is_right (requests.Pin now at_least) (replies.Pin (Ok pinned)) asking to = λ front is.
+  shown_right : (x : Exchange) → IsAnsweredRight next x → IsAsking t.core (request_of x) → IsShownRight next t (reply_of x)
+  shown_right (exchanges.Pin now at_least (Ok pinned)) right asking = λ front is.
       let same : pinned.front ≡ front = cc in
-      subst (λ (f : FrontValue). moment_at f.history pinned.stamp ≡ Some pinned.moment) same to.2
-  is_right (requests.Pin now at_least) (replies.Pin (Err error)) asking to = λ front is. absurd (cc is)
-  is_right (requests.AddPin pinned) (replies.AddPin given added) asking to = λ front is. tt
-  is_right (requests.Unpin stamp) replies.Unpin asking to = λ front is. absurd (cc is)
-  is_right (requests.Lookup node key lo hi) (replies.Lookup None) asking to = λ front is. absurd (cc is)
-  is_right (requests.Lookup node key lo hi) (replies.Lookup (Some hit)) asking to = λ front is n at.
+      subst (λ (f : FrontValue). moment_at f.history pinned.stamp ≡ Some pinned.moment) same right.2
+  shown_right (exchanges.Pin now at_least (Err error)) right asking = λ front is. absurd (cc is)
+  shown_right (exchanges.AddPin pinned given added) right asking = λ front is. tt
+  shown_right (exchanges.Unpin stamp) right asking = λ front is. absurd (cc is)
+  shown_right (exchanges.Lookup node key lo hi None) right asking = λ front is. absurd (cc is)
+  shown_right (exchanges.Lookup node key lo hi (Some hit)) right asking = λ front is n at.
       let same : hit.front ≡ front = cc in
       subst (λ (f : FrontValue). ReplyHolds next f.history n (calls.Hit hit.answer)) same
-      (subst (λ (m : Need). ReplyHolds next hit.front.history m (calls.Hit hit.answer)) (needs_this (needs.Lookup key) n asking.0.1 at) to)
-  is_right (requests.Query query stamp) (replies.Query (Ok found)) asking to = λ front is n at.
+      (subst (λ (m : Need). ReplyHolds next hit.front.history m (calls.Hit hit.answer)) (needs_this (needs.Lookup key) n asking.0.1 at) right)
+  shown_right (exchanges.Query query stamp (Ok found)) right asking = λ front is n at.
       let same : found.front ≡ front = cc in
       subst (λ (f : FrontValue). ReplyHolds next f.history n (calls.Found found.answer)) same
-      (subst (λ (m : Need). ReplyHolds next found.front.history m (calls.Found found.answer)) (needs_this (needs.Query query) n asking.0.1 at) to.rows)
-  is_right (requests.Query query stamp) (replies.Query (Err error)) asking to = λ front is. absurd (cc is)
-  is_right (requests.Insert node entry) replies.Insert asking to = λ front is. absurd (cc is)
-  is_right (requests.Pin now at_least) (replies.Fresh pins) asking to = absurd to
-  is_right (requests.Pin now at_least) (replies.AddPin given added) asking to = absurd to
-  is_right (requests.Pin now at_least) replies.Unpin asking to = absurd to
-  is_right (requests.Pin now at_least) (replies.Lookup hit) asking to = absurd to
-  is_right (requests.Pin now at_least) (replies.Query answer) asking to = absurd to
-  is_right (requests.Pin now at_least) replies.Insert asking to = absurd to
-  is_right (requests.Pin now at_least) replies.GiveBack asking to = absurd to
-  is_right (requests.Pin now at_least) (replies.Hold held) asking to = absurd to
-  is_right (requests.Pin now at_least) (replies.Commit committed) asking to = absurd to
-  is_right (requests.AddPin pinned) (replies.Fresh pins) asking to = absurd to
-  is_right (requests.AddPin pinned) (replies.Pin answer) asking to = absurd to
-  is_right (requests.AddPin pinned) replies.Unpin asking to = absurd to
-  is_right (requests.AddPin pinned) (replies.Lookup hit) asking to = absurd to
-  is_right (requests.AddPin pinned) (replies.Query answer) asking to = absurd to
-  is_right (requests.AddPin pinned) replies.Insert asking to = absurd to
-  is_right (requests.AddPin pinned) replies.GiveBack asking to = absurd to
-  is_right (requests.AddPin pinned) (replies.Hold held) asking to = absurd to
-  is_right (requests.AddPin pinned) (replies.Commit committed) asking to = absurd to
-  is_right (requests.Unpin stamp) (replies.Fresh pins) asking to = absurd to
-  is_right (requests.Unpin stamp) (replies.Pin answer) asking to = absurd to
-  is_right (requests.Unpin stamp) (replies.AddPin given added) asking to = absurd to
-  is_right (requests.Unpin stamp) (replies.Lookup hit) asking to = absurd to
-  is_right (requests.Unpin stamp) (replies.Query answer) asking to = absurd to
-  is_right (requests.Unpin stamp) replies.Insert asking to = absurd to
-  is_right (requests.Unpin stamp) replies.GiveBack asking to = absurd to
-  is_right (requests.Unpin stamp) (replies.Hold held) asking to = absurd to
-  is_right (requests.Unpin stamp) (replies.Commit committed) asking to = absurd to
-  is_right (requests.Lookup node key lo hi) (replies.Fresh pins) asking to = absurd to
-  is_right (requests.Lookup node key lo hi) (replies.Pin answer) asking to = absurd to
-  is_right (requests.Lookup node key lo hi) (replies.AddPin given added) asking to = absurd to
-  is_right (requests.Lookup node key lo hi) replies.Unpin asking to = absurd to
-  is_right (requests.Lookup node key lo hi) (replies.Query answer) asking to = absurd to
-  is_right (requests.Lookup node key lo hi) replies.Insert asking to = absurd to
-  is_right (requests.Lookup node key lo hi) replies.GiveBack asking to = absurd to
-  is_right (requests.Lookup node key lo hi) (replies.Hold held) asking to = absurd to
-  is_right (requests.Lookup node key lo hi) (replies.Commit committed) asking to = absurd to
-  is_right (requests.Query query stamp) (replies.Fresh pins) asking to = absurd to
-  is_right (requests.Query query stamp) (replies.Pin answer) asking to = absurd to
-  is_right (requests.Query query stamp) (replies.AddPin given added) asking to = absurd to
-  is_right (requests.Query query stamp) replies.Unpin asking to = absurd to
-  is_right (requests.Query query stamp) (replies.Lookup hit) asking to = absurd to
-  is_right (requests.Query query stamp) replies.Insert asking to = absurd to
-  is_right (requests.Query query stamp) replies.GiveBack asking to = absurd to
-  is_right (requests.Query query stamp) (replies.Hold held) asking to = absurd to
-  is_right (requests.Query query stamp) (replies.Commit committed) asking to = absurd to
-  is_right (requests.Insert node entry) (replies.Fresh pins) asking to = absurd to
-  is_right (requests.Insert node entry) (replies.Pin answer) asking to = absurd to
-  is_right (requests.Insert node entry) (replies.AddPin given added) asking to = absurd to
-  is_right (requests.Insert node entry) replies.Unpin asking to = absurd to
-  is_right (requests.Insert node entry) (replies.Lookup hit) asking to = absurd to
-  is_right (requests.Insert node entry) (replies.Query answer) asking to = absurd to
-  is_right (requests.Insert node entry) replies.GiveBack asking to = absurd to
-  is_right (requests.Insert node entry) (replies.Hold held) asking to = absurd to
-  is_right (requests.Insert node entry) (replies.Commit committed) asking to = absurd to
-  is_right (requests.Fresh bounds) reply asking to = absurd asking
-  is_right (requests.GiveBack stamps) reply asking to = absurd asking
-  is_right requests.Hold reply asking to = absurd asking
-  is_right (requests.Commit base read changes) reply asking to = absurd asking
+      (subst (λ (m : Need). ReplyHolds next found.front.history m (calls.Found found.answer)) (needs_this (needs.Query query) n asking.0.1 at) right.rows)
+  shown_right (exchanges.Query query stamp (Err error)) right asking = λ front is. absurd (cc is)
+  shown_right (exchanges.Insert node entry) right asking = λ front is. absurd (cc is)
+
+  pub is_right : (request : PortRequest) (reply : PortReply) → IsAsking t.core request → IsReplyTo next request reply → IsShownRight next t reply
+  is_right request reply asking to =
+      by_exchange (IsAnsweredRight next) (λ (q : PortRequest) (r : PortReply). IsAsking t.core q → IsShownRight next t r) shown_right request reply to asking

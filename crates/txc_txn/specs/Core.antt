@@ -30,6 +30,7 @@ use Rattle.txc_ports.specs.declared.reply.PortReply.TheVariants as ports
 use Rattle.txc_ports.specs.declared.turn.Turn.{Turn}
 use Rattle.txc_ports.specs.declared.turn.Turn.TheVariants.{Ask, Value, Refused}
 use Rattle.txc_ports.specs.Answers.{IsFresh, AreConsistent}
+use Rattle.txc_ports.specs.Asking.{AddsSuch}
 use Rattle.txc_txn.specs.declared.pinning.Pinning.{Pinning}
 use Rattle.txc_txn.specs.declared.pinning.PinStep.{PinStep}
 use Rattle.txc_txn.specs.declared.pinning.PinStep.TheVariants.{Asked, Adding, Dropping}
@@ -161,7 +162,6 @@ IsAsking c (requests.Query query stamp) = IsNeeding c (needs.Query query)
     × (choice_of c.bounds.now c.renew_after c.pins ≡ At stamp)
 IsAsking c (requests.Insert node entry) = IsNeeding c (needs.Insert entry)
     × (node ≡ node_of c.nodes entry.key)
-IsAsking c request = ⊥
 
 -- the core asks, or its call has ended
 abbrev pub IsTurn : CoreValue → Turn → Type 0
@@ -190,7 +190,6 @@ IsAnswered c (ports.Query (Ok found)) = (query : Query) × IsNeeding c (needs.Qu
     × HoldsNewest found.answer.reach c.pins.members
 IsAnswered c (ports.Query (Err error)) = (query : Query) × IsNeeding c (needs.Query query)
 IsAnswered c ports.Insert = (entry : Entry) × IsNeeding c (needs.Insert entry)
-IsAnswered c reply = ⊥
 
 -- the reply to what the call needs is right in the history
 abbrev pub IsRight : Next → History → Option Need → PortReply → Type 0
@@ -254,8 +253,7 @@ IsAsk turn = ⊥
 
 -- the turn does not ask the pincushion to add a pin
 abbrev pub IsNoAdding : Turn → Type 0
-IsNoAdding (Ask (requests.AddPin pinned)) = ⊥
-IsNoAdding turn = Unit {0}
+IsNoAdding turn = AddsSuch (λ front. ⊥) turn
 
 -- a pin is to be added only as soon as the database has given it
 abbrev pub AddsOnly : PortReply → Turn → Type 0

@@ -141,7 +141,6 @@ ReplyLeads next old objects (ports.Query (Err error)) new objects' turn = turn
 ReplyLeads next old objects ports.Insert new objects' turn =
     (entry : Entry) → old.call.need ≡ Some (needs.Insert entry)
     → CallLeads next old objects (needs.Insert entry) replies.Inserted new objects' turn
-ReplyLeads next old objects reply new objects' turn = ⊥
 
 -- a pin of the present is asked for, after which the call is to begin; the machine and the objects stand as they
 -- were

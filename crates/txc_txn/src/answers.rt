@@ -281,8 +281,6 @@ impl TxnCore {
             PortReply::Lookup(hit) => self.answer_lookup(alloc, registry, hit),
             PortReply::Query(found) => self.answer_query(alloc, registry, found),
             PortReply::Insert => self.go_on(alloc, registry, Reply::Inserted),
-            PortReply::Fresh(_) | PortReply::GiveBack | PortReply::Hold(_) | PortReply::Commit(_) =>
-                unreachable!(),
         }
     }
 }

@@ -47,9 +47,6 @@ module _ (old new : History) (same : new ≡ old) (now : ℕ) where
   tells_same did told is none = same ∙ (sym none ∙ ap (λ (d : Did). did_in d now old) (sym is))
 
 module _ (next : Next) (old new : PortsValue) (keeps : KeepsRow old new) where
-  part_row : (front : FrontValue) → IsPartOf (whole_of old) front → front.events ≡ old.database.events
-  part_row front part = part.row
-
   pub asked_pin : (now at_least : ℕ) (pinned : Result Pinned DbError) (did : Did) → PinLeads now at_least old new pinned
       → DoesTell (replies.Pin pinned) did → IsAsked next (requests.Pin now at_least) old new (record { did = did; reply = replies.Pin pinned })
   asked_pin now at_least (Ok pinned) did h told = record {

@@ -241,30 +241,22 @@ module _ (old new : PortsValue) (same : new ≡ old) (query : Query) (stamp : �
 
 -- what a request spends is all that the transaction has of its own
 spends : (c : CoreValue) (request : PortRequest) → IsAsking c request → spent request ≡ record { taken = []; own = listed (left_pin c.pinning) }
-spends c (requests.Fresh bounds) asking = absurd asking
 spends c (requests.Pin now at_least) asking = rw asking.0.1 refl
 spends c (requests.AddPin pinned) asking = rw asking.1 refl
 spends c (requests.Unpin stamp) asking = rw asking.1.1 refl
 spends c (requests.Lookup node key lo hi) asking = rw asking.0.0 refl
 spends c (requests.Query query stamp) asking = rw asking.0.0 refl
 spends c (requests.Insert node entry) asking = rw asking.0.0 refl
-spends c (requests.GiveBack stamps) asking = absurd asking
-spends c requests.Hold asking = absurd asking
-spends c (requests.Commit base read changes) asking = absurd asking
 
 -- what a reply brings comes to what was taken before
 brings : (t : ℕ) (taken : List ℕ) (reply : PortReply) → times t (taken_after taken reply) ≡ times t taken + times t (taken_after [] reply)
 brings t taken (replies.AddPin pinned (Ok added)) = times_append t taken (pinned.stamp ∷ [])
 brings t taken (replies.AddPin pinned (Err e)) = omega arith
-brings t taken (replies.Fresh pins) = omega arith
 brings t taken (replies.Pin pinned) = omega arith
 brings t taken replies.Unpin = omega arith
 brings t taken (replies.Lookup hit) = omega arith
 brings t taken (replies.Query found) = omega arith
 brings t taken replies.Insert = omega arith
-brings t taken replies.GiveBack = omega arith
-brings t taken (replies.Hold held) = omega arith
-brings t taken (replies.Commit committed) = omega arith
 
 pub fair_gone_on : (old new : PortsValue) (c c' : CoreValue) (request : PortRequest) (reply : PortReply) → IsAsking c request → IsFair old new (spent request) (gained reply)
     → c'.taken ≡ taken_after c.taken reply → left_pin c'.pinning ≡ left_after reply → IsFair old new (account_of_core c) (account_of_core c')
@@ -295,15 +287,7 @@ module _ (next : Next) (objects : Objects) (p : PortsValue) (c : CoreValue) (fit
     had = let some = newest_taken c.bounds.now c.renew_after c.pins.has_present c.pins.members c.taken stamp asking.1 fits.taken in omega (arith, some);
     lost = gone;
   }
-  lost (requests.Fresh bounds) horizon asking gone = absurd asking
-  lost (requests.Pin now at_least) horizon asking gone = absurd gone
-  lost (requests.AddPin pinned) horizon asking gone = absurd gone
-  lost (requests.Unpin stamp) horizon asking gone = absurd gone
-  lost (requests.Lookup node key lo hi) horizon asking gone = absurd gone
-  lost (requests.Insert node entry) horizon asking gone = absurd gone
-  lost (requests.GiveBack stamps) horizon asking gone = absurd asking
-  lost requests.Hold horizon asking gone = absurd asking
-  lost (requests.Commit base read changes) horizon asking gone = absurd asking
+  lost request horizon asking gone = absurd gone
 
   lost_refused : (request : PortRequest) (e : DbError) → IsAsking c request → IsGone request p (dids.Refused e) → IsLossOf p (account_of_core c) (dids.Refused e)
   lost_refused request (errors.SnapshotGone horizon) asking gone = lost request horizon asking gone

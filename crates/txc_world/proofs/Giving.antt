@@ -5,13 +5,16 @@ use Rattle.std.proofs.lemmas.List.{drop_all}
 use Rattle.txc_cushion.specs.declared.error.UnknownPin.{UnknownPin}
 use Rattle.txc_cushion.specs.declared.pin.Pin.{Pin}
 use Rattle.txc_cushion.specs.declared.pins.Pins.{Pins}
-use Rattle.txc_cushion.specs.Entries.{times, users_of}
+use Rattle.txc_cushion.specs.Entries.{pins_of, times, users_of}
+use Rattle.txc_cushion.specs.declared.entry.PinEntry.{PinEntry}
+use Rattle.txc_cushion.specs.Cushion.{after_give_back, handed_out}
 use Rattle.txc_cushion.specs.Laws.{GiveBackCountsUsers}
 use Rattle.txc_cushion.specs.Refusals.{HaveUsers, IsFirstUnused}
 use Rattle.txc_world.specs.Ports.{PortsValue}
 use Rattle.txc_world.specs.Asks.{FreshLeads}
 use Rattle.txc_world.specs.Keeping.{GiveBackLeads}
-use Rattle.txc_world.specs.Books.{CountRight, GivesBack, KeepsUsers}
+use Rattle.txc_world.specs.Books.{CountRight, GivesBack, KeepsPins}
+use Rattle.txc_world.proofs.SameEntries.{pins_back, pins_handed, same_entries}
 use Rattle.txc_world.proofs.Times.{times_cons, times_on, times_one}
 
 -- of these pins all but the rest are given back
@@ -60,9 +63,18 @@ gives_all old new pins i past all = λ have t.
     let some = all have t in
     omega (arith, none, some)
 
+-- no pin comes or goes
+pub pins_then : {A : Type 0} → (old between new : PortsValue) (stamp : ℕ) (given : Result A UnknownPin) → KeepsPins old between
+    → GiveBackLeads (stamp ∷ []) between new given → KeepsPins old new
+pins_then old between new stamp (Ok given) keeps leads = rw leads.0 (record {
+  pins = pins_back (stamp ∷ []) between.cushion.entries ∙ keeps.pins;
+  same = ap (λ (p : PortsValue). record p { cushion = after_give_back p.cushion (stamp ∷ []) }) keeps.same;
+})
+pins_then old between new stamp (Err unknown) keeps leads = rw leads.0 keeps
+
 -- pins that were handed out and are given back leave the users as they were
-pub users_again : (old between new : PortsValue) (now staleness at_least : ℕ) (pins : Pins) → CountRight old → FreshLeads {A = Unit {0}} now staleness at_least old between (Ok pins)
-    → GivesBack between new pins.pins.items → KeepsUsers old new
+users_again : (old between new : PortsValue) (now staleness at_least : ℕ) (pins : Pins) → CountRight old → FreshLeads {A = Unit {0}} now staleness at_least old between (Ok pins)
+    → GivesBack between new pins.pins.items → (t : ℕ) → users_of t new.cushion.entries ≡ users_of t old.cushion.entries
 users_again old between new now staleness at_least pins right leads gives = λ t.
     let more : (x : ℕ) → users_of x between.cushion.entries ≡ users_of x old.cushion.entries + times x (map (λ (p : Pin). p.stamp) pins.pins.items) =
     λ x. rw (leads.0, leads.1) (right.fresh old.cushion now staleness at_least x right.cushion).users in
@@ -70,3 +82,16 @@ users_again old between new now staleness at_least pins right leads gives = λ t
     let m = more t in
     let g = gives have t in
     omega (arith, m, g)
+
+-- and all else too
+pub all_again : (old between new : PortsValue) (now staleness at_least : ℕ) (pins : Pins) → CountRight old → FreshLeads {A = Unit {0}} now staleness at_least old between (Ok pins)
+    → GivesBack between new pins.pins.items → KeepsPins between new → new ≡ old
+all_again old between new now staleness at_least pins right leads gives keeps =
+    let handed : pins_of between.cushion.entries ≡ pins_of old.cushion.entries =
+    rw leads.0 (pins_handed (handed_out old.cushion now staleness at_least) old.cushion.entries) in
+    let entries : old.cushion.entries ≡ new.cushion.entries =
+    same_entries old.cushion.entries new.cushion.entries (λ t. (right.once old.cushion t right.cushion).0) (sym (keeps.pins ∙ handed))
+    (λ t. sym (users_again old between new now staleness at_least pins right leads gives t)) in
+    keeps.same
+    ∙ ap (λ (es : List PinEntry). record between { cushion = record between.cushion { entries = es } }) (sym entries)
+    ∙ ap (λ (p : PortsValue). record p { cushion = record p.cushion { entries = old.cushion.entries } }) leads.0

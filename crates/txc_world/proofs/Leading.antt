@@ -44,9 +44,7 @@ pub noted_seen : {X Y : Type 0} (see : X → Y) (opened : Turn → X) (turn : Tu
 noted_seen see opened (turns.Ask request) call end h = (ap (option_map see) h.0, h.1)
 noted_seen see opened (turns.Value value) call end h = (ap (option_map see) h.0, h.1)
 noted_seen see opened (turns.Refused error) call end h = (ap (option_map see) h.0, h.1)
-noted_seen see opened turns.Begun call end h = absurd h
 noted_seen see opened (turns.Rows rows) call end h = absurd h
-noted_seen see opened (turns.At stamp) call end h = absurd h
 
 -- ---- a step of an actor
 

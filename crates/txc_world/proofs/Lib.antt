@@ -17,6 +17,7 @@ pub mod Fairness
 pub mod Balance
 pub mod Balancing
 pub mod WritingCounts
+pub mod SameEntries
 pub mod Giving
 pub mod Leading
 pub mod Forward

@@ -12,7 +12,7 @@ use Rattle.txc_db.specs.declared.error.DbError.TheVariants as errors
 use Rattle.txc_db.specs.declared.pinned.Pinned.{Pinned}
 use Rattle.txc_db.specs.Seen.{FrontValue}
 use Rattle.txc_db.specs.DatabaseValue.{DatabaseValue, after_commit, after_pin, is_held, newest, without, after_event_of, where_some, newest_net, newest_state, front_of}
-use Rattle.txc_db.specs.History.{History, commit_event, moment_at, pin_event}
+use Rattle.txc_db.specs.History.{commit_event, moment_at, pin_event}
 use Rattle.txc_db.specs.Calls.{IsLeft, IsPinnable}
 use Rattle.std.specs.List.{AllByRecursion}
 use Rattle.txc_cushion.specs.declared.error.AddError.{AddError}
@@ -101,12 +101,6 @@ module _ (old new : DatabaseValue) where
   left_history (errors.FutureStamp newest) left = ap (λ (d : DatabaseValue). d.history) left
   left_history errors.HoldsFull left = ap (λ (d : DatabaseValue). d.history) left
   left_history errors.Memory left = ap (λ (d : DatabaseValue). d.history) left
-
-  pub left_part : (e : DbError) → IsLeft old new e → IsPartOf (front_of new) (front_of old)
-  left_part e left = record {
-    row = sym (left_events e left);
-    begins = subst (λ (h : History). IsPrefix old.history h) (sym (left_history e left)) (prefix_self old.history);
-  }
 
 -- a commit leaves the row, and the history or one that goes on from it
 commit_events : (d : DatabaseValue) (changes net : List Change) (other : DatabaseValue) → other.events ≡ d.events

@@ -5,10 +5,8 @@ use Rattle.std.proofs.lemmas.Option.{slice_get-map}
 use Rattle.std.proofs.lemmas.List.{map-set}
 use Rattle.std.proofs.lemmas.List.Elements.{All-set, All-weaker}
 use Rattle.txc_app.specs.Eval.{Next}
-use Rattle.txc_ports.specs.declared.request.PortRequest.TheVariants as requests
-use Rattle.txc_ports.specs.declared.turn.Turn.{Turn}
-use Rattle.txc_ports.specs.declared.turn.Turn.TheVariants as turns
 use Rattle.txc_txn.specs.Core.{CoreValue}
+use Rattle.txc_txn.proofs.Offered.{adds_weaker}
 use Rattle.txc_rw.specs.Laws.{HoldsInLonger}
 use Rattle.txc_world.specs.declared.actor.OpenCall.{OpenCall}
 use Rattle.txc_world.specs.declared.actor.Actor.{Actor}
@@ -18,8 +16,9 @@ use Rattle.txc_world.specs.declared.settings.WorldSettings.{WorldSettings}
 use Rattle.txc_world.specs.declared.step.Act.{Act}
 use Rattle.txc_world.specs.declared.step.Step.TheVariants as steps
 use Rattle.txc_world.specs.Told.{Told, act_in, after, floor_at, floor_by, story_after, IsActDue, IsDue, IsExplainedIn, ReplyExplains}
+use Rattle.txc_world.specs.Parts.{IsPartOf}
 use Rattle.txc_world.specs.Ports.{PortsValue, whole_of, KeepsRow}
-use Rattle.txc_world.specs.Actors.{story_at, story_of, AddsPart, HasCall, IsActor, IsThere}
+use Rattle.txc_world.specs.Actors.{story_at, story_of, HasCall, IsActor, IsThere}
 use Rattle.txc_world.specs.Worlds.{told_of, IsWorld}
 use Rattle.txc_world.proofs.Whole.{part_kept}
 
@@ -39,26 +38,9 @@ module _ {X : Type 0} where
 -- ---- what an actor keeps while others step
 
 module _ (old new : PortsValue) (keeps : KeepsRow old new) where
-  adds_later : (turn : Turn) → AddsPart (whole_of old) turn → AddsPart (whole_of new) turn
-  adds_later (turns.Ask (requests.Fresh bounds)) part = tt
-  adds_later (turns.Ask (requests.Pin now at_least)) part = tt
-  adds_later (turns.Ask (requests.AddPin pinned)) part = part_kept old new pinned.front keeps part
-  adds_later (turns.Ask (requests.Unpin stamp)) part = tt
-  adds_later (turns.Ask (requests.Lookup node key lo hi)) part = tt
-  adds_later (turns.Ask (requests.Query query stamp)) part = tt
-  adds_later (turns.Ask (requests.Insert node entry)) part = tt
-  adds_later (turns.Ask (requests.GiveBack stamps)) part = tt
-  adds_later (turns.Ask requests.Hold) part = tt
-  adds_later (turns.Ask (requests.Commit base read changes)) part = tt
-  adds_later turns.Begun part = tt
-  adds_later (turns.Value value) part = tt
-  adds_later (turns.Rows rows) part = tt
-  adds_later (turns.At stamp) part = tt
-  adds_later (turns.Refused error) part = tt
-
   call_later : (c : CoreValue) (call : Option OpenCall) → HasCall (whole_of old) c call → HasCall (whole_of new) c call
   call_later c None h = h
-  call_later c (Some call) h = record { turn = h.turn; no_value = h.no_value; key = h.key; adds = adds_later call.turn h.adds }
+  call_later c (Some call) h = record { turn = h.turn; no_value = h.no_value; key = h.key; adds = adds_weaker (IsPartOf (whole_of old)) (IsPartOf (whole_of new)) (λ front part. part_kept old new front keeps part) call.turn h.adds }
 
   module _ {A C : Type 0} (longer : HoldsInLonger) (next : Next) (count : ℕ) where
     actor_later : (actor : Actor A C) → IsActor next (whole_of old) count actor → IsActor next (whole_of new) count actor

@@ -76,18 +76,14 @@ module _ (p : PortsValue) (base : ℕ) where
   pub loss_asked : (a : Account) (query : Query) (stamp : ℕ) (turn : Turn) → IsAsked query stamp turn → TurnIsLossOf p a turn
   loss_asked a query stamp (turns.Ask request) asked = tt
   loss_asked a query stamp (turns.Refused error) asked = rw asked tt
-  loss_asked a query stamp turns.Begun asked = tt
   loss_asked a query stamp (turns.Value value) asked = tt
   loss_asked a query stamp (turns.Rows rows) asked = tt
-  loss_asked a query stamp (turns.At at) asked = tt
 
   found_lost : (found : Found) (turn : Turn) → RowsLead found.rows.items turn → TurnIsLossOf p (based base) turn
   found_lost found (turns.Refused error) leads = rw leads tt
   found_lost found (turns.Ask request) leads = tt
-  found_lost found turns.Begun leads = tt
   found_lost found (turns.Value value) leads = tt
   found_lost found (turns.Rows rows) leads = tt
-  found_lost found (turns.At at) leads = tt
 
   pub loss_found : (query : Query) (answer : Result Found DbError) (turn : Turn) → CountRight p → AnswerLeads query base p answer
       → ((found : Found) → answer ≡ Ok found → RowsLead found.rows.items turn) → ((e : DbError) → answer ≡ Err e → turn ≡ turns.Refused (refused_request e))
@@ -106,10 +102,7 @@ module _ (p : PortsValue) (base : ℕ) where
       told_lost b txns.PinsFull l = tt
       told_lost b txns.BufferFull l = tt
       told_lost b txns.Memory l = tt
-  loss_rows a (turns.Ask request) reply told loss = absurd told
-  loss_rows a turns.Begun reply told loss = absurd told
-  loss_rows a (turns.Value value) reply told loss = absurd told
-  loss_rows a (turns.At at) reply told loss = absurd told
+  loss_rows a turn reply told loss = absurd told
 
 -- a write is not refused so
 pub loss_write : (p : PortsValue) (a : Account) (count : ℕ) (e : TxnError) → IsWriteRefused count e → ReplyIsLossOf p a (replies.Refused (refusals.Transaction e))

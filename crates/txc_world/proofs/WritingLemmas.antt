@@ -50,9 +50,7 @@ pub told_at_start : (told now : List Given) (key : Call) (turn : Turn) → IsOfC
 told_at_start told now key (turns.Ask request) kind is = is
 told_at_start told now key (turns.Value value) kind is = all_but_last told now (given.Value key value) is
 told_at_start told now key (turns.Refused error) kind is = is
-told_at_start told now key turns.Begun kind is = absurd kind
 told_at_start told now key (turns.Rows rows) kind is = absurd kind
-told_at_start told now key (turns.At stamp) kind is = absurd kind
 
 pub answers_at_start : (told now : List Given) (key key' : Call) (turn : Turn) → IsOfCall turn → key ≡ key' → now ≡ answers_after told key None turn
     → now ≡ answers_after (told_by_turn turn now) key' None turn
@@ -66,10 +64,8 @@ answers_at_start told now key key' turn kind same is =
 pub asks_query : (c : RwValue) (turn : Turn) (q : Query) → IsTurn c turn → asked_query turn ≡ Some q → (request : PortRequest) × (turn ≡ turns.Ask request) × (c.reading ≡ Some q)
 asks_query c (turns.Ask request) q is asks =
     (request, refl, is.1 ∙ sym (ap (λ (r : PortRequest). asked_query (turns.Ask r)) is.2) ∙ asks)
-asks_query c turns.Begun q is asks = absurd is
 asks_query c (turns.Value value) q is asks = absurd (cc asks)
 asks_query c (turns.Rows rows) q is asks = absurd (cc asks)
-asks_query c (turns.At stamp) q is asks = absurd is
 asks_query c (turns.Refused error) q is asks = absurd (cc asks)
 
 -- the database's answer at the base is right
@@ -95,10 +91,7 @@ of_query need turn none kind = subst (λ (n : Option Need). IsOfNeed n turn) non
 pub idle_after : (c : RwValue) (turn : Turn) → IsTurn c turn → IsOfQuery turn → IsIdle c
 idle_after c (turns.Rows rows) is kind = is
 idle_after c (turns.Refused error) is kind = is
-idle_after c (turns.Ask request) is kind = absurd kind
-idle_after c turns.Begun is kind = absurd kind
-idle_after c (turns.Value value) is kind = absurd kind
-idle_after c (turns.At stamp) is kind = absurd kind
+idle_after c turn is kind = absurd kind
 
 -- ---- changes
 
@@ -142,21 +135,8 @@ pub found_leads : (query : Query) (base : ℕ) (p : PortsValue) (found : Result 
 found_leads query base p (Ok f) (turns.Rows rows) leads on off = (f, leads, on f refl)
 found_leads query base p (Ok f) (turns.Refused e) leads on off = inl (on f refl)
 found_leads query base p (Ok f) (turns.Ask request) leads on off = absurd (on f refl)
-found_leads query base p (Ok f) turns.Begun leads on off = absurd (on f refl)
 found_leads query base p (Ok f) (turns.Value value) leads on off = absurd (on f refl)
-found_leads query base p (Ok f) (turns.At stamp) leads on off = absurd (on f refl)
 found_leads query base p (Err e) turn leads on off = subst (λ (t : Turn). FindLeadsRw query base p t) (sym (off e refl)) (inr (e, leads, refl))
-
--- one that was not asked, as it is out of memory
-pub not_asked : (c : RwValue) (query : Query) (base : ℕ) (p : PortsValue) (stamp : ℕ) (turn : Turn) → IsTurn c turn → IsAsked query stamp turn → asked_query turn ≡ None → FindLeadsRw query base p turn
-not_asked c query base p stamp (turns.Ask request) is asked none =
-    let some : asked_query (turns.Ask request) ≡ Some query = ap (λ (r : PortRequest). asked_query (turns.Ask r)) asked in
-    let both : Some query ≡ None = sym some ∙ none in absurd (cc both)
-not_asked c query base p stamp (turns.Refused e) is asked none = inl asked
-not_asked c query base p stamp turns.Begun is asked none = absurd is
-not_asked c query base p stamp (turns.Value value) is asked none = absurd asked
-not_asked c query base p stamp (turns.Rows rows) is asked none = absurd asked
-not_asked c query base p stamp (turns.At at) is asked none = absurd is
 
 -- the query that is asked is the one
 pub asks_it : (query q : Query) (stamp : ℕ) (turn : Turn) → IsAsked query stamp turn → asked_query turn ≡ Some q → query ≡ q
@@ -164,10 +144,7 @@ asks_it query q stamp (turns.Ask request) asked is =
     let some : asked_query (turns.Ask request) ≡ Some query = ap (λ (r : PortRequest). asked_query (turns.Ask r)) asked in
     let both : Some query ≡ Some q = sym some ∙ is in cc both
 asks_it query q stamp (turns.Refused e) asked is = absurd (cc is)
-asks_it query q stamp turns.Begun asked is = absurd asked
-asks_it query q stamp (turns.Value value) asked is = absurd asked
-asks_it query q stamp (turns.Rows rows) asked is = absurd asked
-asks_it query q stamp (turns.At at) asked is = absurd asked
+asks_it query q stamp turn asked is = absurd asked
 
 -- ---- what is left as it was
 
@@ -189,8 +166,6 @@ pub found_read : (query : Query) (found : Result Found DbError) (old new : List 
     → ((e : DbError) → found ≡ Err e → turn ≡ turns.Refused (refused_request e)) → IsRead query old new turn
 found_read query (Ok f) old new (turns.Rows rows) is off = is
 found_read query (Ok f) old new (turns.Ask request) is off = inl is
-found_read query (Ok f) old new turns.Begun is off = inl is
 found_read query (Ok f) old new (turns.Value value) is off = inl is
-found_read query (Ok f) old new (turns.At stamp) is off = inl is
 found_read query (Ok f) old new (turns.Refused error) is off = inl is
 found_read query (Err e) old new turn is off = rw (off e refl) (inr is)

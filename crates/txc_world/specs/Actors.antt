@@ -38,9 +38,8 @@ use Rattle.txc_world.specs.declared.reply.Reply.TheVariants as replies
 use Rattle.txc_world.specs.declared.reply.Reply.TheVariants.{Asked, Begun, Ended}
 use Rattle.txc_world.specs.declared.reply.Refusal.TheVariants.{Memory, Transaction}
 use Rattle.txc_world.specs.Parts.{IsPartOf}
-use Rattle.txc_world.specs.Books.{KeepsUsers}
 use Rattle.txc_world.specs.Ports.{PortsValue}
-use Rattle.txc_ports.specs.Asking.{IsReplyTo}
+use Rattle.txc_ports.specs.Asking.{AddsSuch, IsReplyTo}
 use Rattle.txc_world.specs.Asks.{AskLeads, DoesTell, FreshLeads}
 use Rattle.txc_world.specs.Cast.{called, ActorValue, CallValue, reads, resting, leaves}
 use Rattle.txc_world.specs.Keeping.{GiveBackLeads}
@@ -48,8 +47,7 @@ use Rattle.txc_world.specs.Told.{Story, idle, reading, writing, leaving}
 
 -- a pin that is to be added is of the whole
 abbrev pub AddsPart : FrontValue → Turn → Type 0
-AddsPart whole (Ask (requests.AddPin pinned)) = IsPartOf whole pinned.front
-AddsPart whole turn = Unit {0}
+AddsPart whole turn = AddsSuch (IsPartOf whole) turn
 
 -- the call's next turn is one of the core's, which has it open under its key while it asks; it is no value,
 -- and asks to add only what the whole shows
@@ -166,14 +164,14 @@ pub record HasBegun (renew_after : ℕ) (bounds : Bounds) (old new : PortsValue)
   pub fresh : FreshLeads {A = Unit {0}} bounds.now bounds.staleness bounds.at_least old new (Ok pins)
   pub core : c ≡ begun_core (length old.nodes) renew_after bounds pins c.call
 
--- a transaction began, with no call and with the functions as they are; or the actor has nothing open, as
--- before, and the pins that it was handed are given back
+-- a transaction began, with no call and with the functions as they are; or the actor has nothing open, and all is
+-- as it was
 abbrev pub BeginLeads : ℕ → Bounds → PortsValue → PortsValue → Objects → ActorValue → Reply → Type 0
 BeginLeads renew_after bounds old new objects (reads r) reply =
     HasBegun renew_after bounds old new r.txn.core × (r.txn.objects ≡ objects) × (r.call ≡ None)
     × (reply ≡ Begun)
 BeginLeads renew_after bounds old new objects (resting left) reply = (reply ≡ replies.Refused Memory)
-    × (new ≡ record old { cushion = new.cushion }) × KeepsUsers old new × (left ≡ objects)
+    × (new ≡ old) × (left ≡ objects)
 BeginLeads renew_after bounds old new objects actor reply = ⊥
 
 -- a call is open, with the turn that its start came to

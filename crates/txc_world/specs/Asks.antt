@@ -132,7 +132,6 @@ DoesTell (replies.Query (Ok found)) did = (rows : RowsFound) × (did ≡ dids.Ro
     × IsToldOf found.answer rows
 DoesTell (replies.Query (Err e)) did = did ≡ dids.Refused e
 DoesTell replies.Insert did = (made : Option Insertion) × (did ≡ did_insert made)
-DoesTell reply did = ⊥
 
 -- of a hold, by what is told
 abbrev pub UnpinTold : ℕ → PortsValue → PortsValue → Did → Type 0
@@ -162,11 +161,6 @@ AskLeads pass seen request old new did reply = ⊥
 abbrev pub IsAskedAt : ℕ → PortRequest → Type 0
 IsAskedAt now (requests.Pin moment at_least) = moment ≡ now
 IsAskedAt now request = Unit {0}
-
--- what the request hands in is part of the whole: a pin that is to be added
-abbrev pub ShowsPart : FrontValue → PortRequest → Type 0
-ShowsPart whole (requests.AddPin pinned) = IsPartOf whole pinned.front
-ShowsPart whole request = Unit {0}
 
 -- The reply is one to the request, right in the history that it shows, which is part of the whole; it is
 -- what is told of the port, and of the history.

@@ -5,7 +5,7 @@ use Rattle.txc_db.specs.DatabaseValue.{IsSound}
 use Rattle.txc_db.specs.Laws.{OneHoldLess}
 use Rattle.txc_cushion.specs.declared.entry.PinEntry.{PinEntry}
 use Rattle.txc_cushion.specs.declared.pin.Pin.{Pin}
-use Rattle.txc_cushion.specs.Entries.{stamps_of, times, users_of}
+use Rattle.txc_cushion.specs.Entries.{pins_of, stamps_of, times, users_of}
 use Rattle.txc_cushion.specs.Cushion.{IsCushion}
 use Rattle.txc_cushion.specs.Refusals.{HaveUsers}
 use Rattle.txc_cushion.specs.Laws.{AddCountsOnePin, FreshCountsUsers, GiveBackCountsUsers, PinsEachStampOnce, RetireCountsTheUnused}
@@ -80,10 +80,10 @@ times_taken stamp accounts = sum_by (λ a. times stamp a.taken) accounts
 abbrev pub times_own : ℕ → List Account → ℕ
 times_own stamp accounts = sum_by (λ a. times stamp a.own) accounts
 
--- each pin has the users that it had
-abbrev pub KeepsUsers : PortsValue → PortsValue → Type 0
-KeepsUsers old new =
-    (stamp : ℕ) → users_of stamp new.cushion.entries ≡ users_of stamp old.cushion.entries
+-- no pin comes or goes, and nothing but users has changed
+pub record KeepsPins (old new : PortsValue) : Type 0 where
+  pub pins : pins_of new.cushion.entries ≡ pins_of old.cushion.entries
+  pub same : new ≡ record old { cushion = record old.cushion { entries = new.cushion.entries } }
 
 -- each of these pins has one user fewer, where they have that many
 abbrev pub GivesBack : PortsValue → PortsValue → List Pin → Type 0

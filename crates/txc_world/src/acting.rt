@@ -7,7 +7,7 @@ ghost use Rattle.txc_txn.specs.Core.{open_call, recorded_after, value_of, CoreHo
 ghost use Rattle.txc_world.specs.Actors.{counted, holds_any, story_of, AddsPart, HasAsked, HasBegun, IsActor, IsBegun, IsNoted, IsOpenTxn};
 ghost use Rattle.txc_world.specs.Acts.{ActLeads, LeavingLeads, ReadingLeads, RestingLeads};
 ghost use Rattle.txc_world.specs.Cast.{actor_value, opened, reading_value};
-ghost use Rattle.txc_world.specs.Books.{account_of, account_of_core, nothing, ActCounts, IsFair, IsLossOf, KeepsUsers};
+ghost use Rattle.txc_world.specs.Books.{account_of, account_of_core, nothing, ActCounts, IsFair, IsLossOf};
 ghost use Rattle.txc_world.specs.Parts.{IsPartOf};
 ghost use Rattle.txc_world.specs.Ports.{whole_of, KeepsRow};
 ghost use Rattle.txc_world.specs.Told.{act_in, did_in, idle, leaving, story_after, IsActDue, IsActReply, IsNoCommit, ReplyExplains};
@@ -46,7 +46,7 @@ fn begun<A: App>(
     ensures begins { IfOk result (λ core. HasBegun renew_after bounds ports.old ports.new (value_of core)) }
     ensures fair { IfOk result (λ core. IsFair ports.old ports.new nothing (account_of_core (value_of core))) }
     ensures fair_again { OnErr result (IsFair ports.old ports.new nothing nothing) }
-    ensures given_back { OnErr result (KeepsUsers ports.old ports.new) }
+    ensures unchanged { OnErr result (ports.new ≡ ports.old) }
     ensures same { ports.new ≡ record ports.old { cushion = ports.new.cushion } }
 {
     ports.count_right();

@@ -114,9 +114,10 @@ impl Did {
 
 impl<A: App> Ports<A> {
     ghost use Rattle.txc_db.specs.Seen.{FrontValue};
-    ghost use Rattle.txc_ports.specs.Asking.{IsOfRow, IsReplyTo, MayAsk};
+    ghost use Rattle.txc_ports.specs.declared.turn.Turn.TheVariants.{Ask};
+    ghost use Rattle.txc_ports.specs.Asking.{AddsSuch, IsOfRow, IsReplyTo, MayAsk};
     ghost use Rattle.txc_db.specs.Calls.{IsAnswerable, IsQueryRefused};
-    ghost use Rattle.txc_world.specs.Asks.{AskLeads, HasFound, IsAsked, IsAskedAt, ShowsPart};
+    ghost use Rattle.txc_world.specs.Asks.{AskLeads, HasFound, IsAsked, IsAskedAt};
     ghost use Rattle.txc_world.specs.Books.{AskCounts};
     ghost use Rattle.txc_world.specs.Parts.{IsPartOf};
     ghost use Rattle.txc_world.specs.Ports.{whole_of, KeepsRow};
@@ -256,7 +257,7 @@ impl<A: App> Ports<A> {
         requires seen { IsPartOf (whole_of self.old) seen.now }
         requires may { MayAsk A.next self.old.database.events (length self.old.nodes) seen.now.history
             request }
-        requires shown { ShowsPart (whole_of self.old) request }
+        requires shown { AddsSuch (IsPartOf (whole_of self.old)) (Ask request) }
         ensures reply { IsReplyTo A.next request result.reply }
         ensures row { IsOfRow self.old.database.events result.reply }
         ensures shown { ForSome (front_of result.reply) (λ front. IsPartOf (whole_of self.new) front) }
@@ -277,7 +278,6 @@ impl<A: App> Ports<A> {
             ),
             PortRequest::Query { query, stamp } => self.ask_query(alloc, pass, &query, stamp),
             PortRequest::Insert { node, entry } => self.ask_insert(alloc, pass, node, entry, seen),
-            _ => unreachable!(),
         }
     }
 }

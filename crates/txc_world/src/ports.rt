@@ -60,7 +60,7 @@ impl<A: App> Model for Ports<A> {
 impl<A: App> Ports<A> {
     ghost use Rattle.txc_ports.specs.Answers.{IsFresh};
     ghost use Rattle.txc_world.specs.Asks.{AddLeads, FindLeads, FreshLeads, HoldLeads, PinLeads, UnpinLeads};
-    ghost use Rattle.txc_world.specs.Books.{handed, nothing, GivesBack, IsFair};
+    ghost use Rattle.txc_world.specs.Books.{handed, nothing, GivesBack, IsFair, KeepsPins};
     ghost use Rattle.txc_world.specs.NodeSteps.{InsertLeads, LookupLeads};
     ghost use Rattle.txc_world.specs.Parts.{IsPartOf};
     ghost use Rattle.txc_world.specs.Ports.{whole_of, HasLedNode, KeepsRow};
@@ -238,6 +238,7 @@ impl<A: App> Ports<A> {
         ensures same { self.new ≡ record self.old { cushion = self.new.cushion } }
         ensures fair { IsFair self.old self.new (handed pins.now.pins.items) nothing }
         ensures users { GivesBack self.old self.new pins.now.pins.items }
+        ensures pins { KeepsPins self.old self.new }
     {
         give_back_counts_users();
         for pin in &pins.pins {

@@ -1,13 +1,13 @@
 use Rattle.std.proofs.Common.{◌≡◌, length, refl, sym, ap, subst, ◌∙◌}
 use Rattle.txc_db.specs.Seen.{FrontValue}
-use Rattle.txc_ports.specs.Asking.{MayAsk}
+use Rattle.txc_ports.specs.Asking.{AddsSuch, MayAsk}
 use Rattle.txc_txn.specs.Core.{CoreValue, IsAsk, IsTurn}
-use Rattle.txc_txn.proofs.Offered.{adds_at_first, adds_next, is_answered, is_right, may_ask, AddsOf}
-use Rattle.txc_client.specs.Run.{Exchange, HasBegun, IsStep}
+use Rattle.txc_txn.proofs.Offered.{adds_next, adds_none, is_answered, is_right, may_ask}
+use Rattle.txc_client.specs.Run.{HasBegun}
 use Rattle.txc_client.specs.Txn.{RoTxnValue}
 use Rattle.txc_client.proofs.Counting.{goes_down}
 use Rattle.txc_client.proofs.Grown.{as_many, have_grown_self, have_grown_then, prefix_then}
-use Rattle.txc_client.proofs.Runs.{run_begun, run_on}
+use Rattle.txc_client.proofs.Runs.{run_begun, run_asked}
 use Rattle.txc_client.proofs.Turns.{history_stays, none_recorded, recorded_on, recorded_stays, row_stays, settings_stay, settings_then}
 use Rattle.txc_client.proofs.calling.call_at.Goals as goal
 
@@ -29,7 +29,7 @@ loop-turn-init g c =
     record {
       passes = have_grown_self c.args.ports.now;
       turn = c.start-turn.ensures.turn;
-      adds = adds_at_first g.J.Naming.database_row c.start-turn.result c.start-turn.ensures.no_add;
+      adds = adds_none (λ front. front.events ≡ g.J.Naming.database_row) c.start-turn.result c.start-turn.ensures.no_add;
       events = row_stays old new same ∙ c.requires.events;
       begins = c.start-turn.ensures.begins;
       recorded = recorded_stays old new same ∙ sym (none_recorded old.recorded c.start-turn.result _ c.start-turn.ensures.no_value);
@@ -48,24 +48,18 @@ loop-turn-preserved g c =
     let began : RoTxnValue = record { txn = c.args.txn.now; passes = c.args.ports.now } in
     let before : RoTxnValue = record { txn = c.loop-turn.txn; passes = c.loop-turn.ports } in
     let after : RoTxnValue = record { txn = c.next-turn.new.self; passes = c.ask-reply.new.self } in
-    let x : Exchange = record { request = c.in-Ask.request; reply = c.ask-reply.result } in
-    let step : IsStep g.A.App.next g.J.Naming.database_row g.J.Naming.node_rows before c.loop-turn.turn x after c.next-turn.result = record {
-      asks = c.in-Ask.is;
-      given = record { to = c.ask-reply.ensures.answer; of_row = c.ask-reply.ensures.row; refused = c.ask-reply.ensures.refused };
-      passes = c.ask-reply.ensures.left;
-      goes_on = on;
-    } in
     record {
       passes = have_grown_then c.args.ports.now c.loop-turn.ports c.ask-reply.new.self inv.passes c.ask-reply.ensures.passes;
       turn = on.turn_fits;
-      adds = adds_next g.A.App.next g.J.Naming.database_row c.loop-turn.txn c.next-turn.new.self c.next-turn.result c.ask-reply.result c.ask-reply.ensures.row on.adds on.leads;
+      adds = adds_next (λ front. front.events ≡ g.J.Naming.database_row) g.A.App.next c.loop-turn.txn c.next-turn.new.self c.next-turn.result c.ask-reply.result c.ask-reply.ensures.row on.adds on.leads;
       events = on.events ∙ inv.events;
       begins = λ more. on.goes_on more ∙ inv.begins asks;
       recorded = on.recorded ∙ recorded_on c.args.txn.now.core.recorded c.loop-turn.txn.core.recorded c.in-Ask.request c.loop-turn.turn c.next-turn.result c.args.key _ c.in-Ask.is inv.recorded (inv.begins asks);
       settings = settings_then c.args.txn.now.core c.loop-turn.txn.core c.next-turn.new.self.core inv.settings on.settings;
       longer = prefix_then c.args.txn.now.core.seen.history c.loop-turn.txn.core.seen.history c.next-turn.new.self.core.seen.history inv.longer on.longer;
       functions = on.functions ∙ inv.functions;
-      run = run_on g.A.App.next g.J.Naming.database_row g.J.Naming.node_rows began c.args.key before after c.loop-turn.turn c.next-turn.result x inv.run step;
+      run = run_asked g.A.App.next g.J.Naming.database_row g.J.Naming.node_rows began c.args.key before after c.loop-turn.turn c.next-turn.result c.in-Ask.request c.ask-reply.result
+          c.in-Ask.is c.ask-reply.ensures.answer c.ask-reply.ensures.row c.ask-reply.ensures.refused c.ask-reply.ensures.left on inv.run;
       missing = λ members none. absurd (cc (inv.missing members none, c.in-Ask.is));
     }
 
@@ -87,7 +81,7 @@ ask-reply-requires g c =
       row = ap (λ (f : FrontValue). f.events) same ∙ inv.events;
       may = subst (λ (f : FrontValue). MayAsk g.A.App.next g.J.Naming.database_row (length c.loop-turn.ports) f.history c.in-Ask.request) (sym same)
           (may_ask g.A.App.next g.J.Naming.database_row txn c.is_kept.ensures (length c.loop-turn.ports) nodes c.in-Ask.request
-          (subst (IsTurn txn.core) c.in-Ask.is inv.turn) (subst (AddsOf g.J.Naming.database_row) c.in-Ask.is inv.adds));
+          (subst (IsTurn txn.core) c.in-Ask.is inv.turn) (subst (AddsSuch (λ front. front.events ≡ g.J.Naming.database_row)) c.in-Ask.is inv.adds));
     }
 
 pub next-turn-requires : goal.next-turn-requires

@@ -7,7 +7,7 @@ use Rattle.txc_ports.specs.declared.turn.Turn.TheVariants.{Refused}
 use Rattle.txc_txn.specs.Core.{open_call, recorded_after, IsAsk, IsTurn, KeepsSettings}
 use Rattle.txc_client.specs.Ports.{HaveGrown}
 use Rattle.txc_client.specs.Run.{HasRun}
-use Rattle.txc_txn.proofs.Offered.{AddsOf}
+use Rattle.txc_ports.specs.Asking.{AddsSuch}
 use Rattle.txc_client.proofs.Counting.{requests_left}
 use Rattle.txc_client.proofs.calling.call_at.Given as goal
 
@@ -15,7 +15,7 @@ abbrev pub invariant-loop-turn : goal.invariant-loop-turn
 invariant-loop-turn g l = record {
   passes : HaveGrown l.fn.ports l.ports;
   turn : IsTurn l.txn.core l.turn;
-  adds : AddsOf g.J.Naming.database_row l.turn;
+  adds : AddsSuch (λ front. front.events ≡ g.J.Naming.database_row) l.turn;
   events : l.txn.core.seen.events ≡ g.J.Naming.database_row;
   begins : IsAsk l.turn → open_call l.txn.core ≡ Some l.fn.key;
   recorded : l.txn.core.recorded ≡ recorded_after l.fn.txn.core.recorded l.turn (Some l.fn.key);

@@ -4,7 +4,7 @@ use Rattle.txc_cushion.specs.declared.pins.Pins.{Pins}
 use Rattle.txc_txn.specs.Core.{value_of, CoreHolds, CoreValue}
 use Rattle.txc_world.specs.Books.{account_of_core, handed, nothing, GivesBack, IsFair}
 use Rattle.txc_world.proofs.Fairness.{fair_fresh, fair_then}
-use Rattle.txc_world.proofs.Giving.{users_again}
+use Rattle.txc_world.proofs.Giving.{all_again}
 use Rattle.txc_world.proofs.acting.begun.Goals as goal
 
 pub returns-in-Ok-clause-holds : goal.returns-in-Ok-clause-holds
@@ -31,8 +31,9 @@ returns-in-Err-clause-fair_again g c =
     (fair_fresh c.args.ports.now c.fresh.new.self c.args.bounds.now c.args.bounds.staleness c.args.bounds.at_least c.in_ok-pins.pins c.count_right.ensures c.in_ok-pins.ensures.leads)
     (subst (λ (given : Pins). IsFair c.fresh.new.self c.give_back_pins.new.self (handed given.pins.items) nothing) c.in-Err.ensures.handed_back c.give_back_pins.ensures.fair)
 
-pub returns-in-Err-clause-given_back : goal.returns-in-Err-clause-given_back
-returns-in-Err-clause-given_back g c =
-    users_again c.args.ports.now c.fresh.new.self c.give_back_pins.new.self c.args.bounds.now c.args.bounds.staleness c.args.bounds.at_least c.in_ok-pins.pins
+pub returns-in-Err-clause-unchanged : goal.returns-in-Err-clause-unchanged
+returns-in-Err-clause-unchanged g c =
+    all_again c.args.ports.now c.fresh.new.self c.give_back_pins.new.self c.args.bounds.now c.args.bounds.staleness c.args.bounds.at_least c.in_ok-pins.pins
     c.count_right.ensures c.in_ok-pins.ensures.leads
     (subst (λ (given : Pins). GivesBack c.fresh.new.self c.give_back_pins.new.self given.pins.items) c.in-Err.ensures.handed_back c.give_back_pins.ensures.users)
+    c.give_back_pins.ensures.pins

@@ -1,7 +1,8 @@
 use Rattle.std.proofs.Common.{sym, ◌∙◌}
 use Rattle.txc_ports.specs.Fronts.{front_of}
-use Rattle.txc_txn.proofs.Offered.{is_answered, is_right}
-use Rattle.txc_world.proofs.Turning.{adds_next, asked_at, counted_in, seen_next}
+use Rattle.txc_txn.proofs.Offered.{adds_next, is_answered, is_right}
+use Rattle.txc_world.proofs.Turning.{asked_at, counted_in, seen_next}
+use Rattle.txc_world.specs.Parts.{IsPartOf}
 use Rattle.txc_world.specs.Ports.{whole_of}
 use Rattle.txc_world.proofs.Fairness.{fair_gone_on, loss_counted}
 use Rattle.txc_world.proofs.acting.go_on.Goals as goal
@@ -17,7 +18,7 @@ returns-clause-seen g c =
 
 pub returns-clause-adds : goal.returns-clause-adds
 returns-clause-adds g c =
-    adds_next g.A.App.next (whole_of c.ask-did.new.self) c.args.txn.now c.next-turn.new.self c.next-turn.result
+    adds_next (IsPartOf (whole_of c.ask-did.new.self)) g.A.App.next c.args.txn.now c.next-turn.new.self c.next-turn.result
     c.ask-did.result.reply c.ask-did.ensures.shown c.next-turn.ensures.adds c.next-turn.ensures.leads
 
 pub returns-clause-history : goal.returns-clause-history
