@@ -70,6 +70,8 @@ impl Spelling {
 }
 
 /// The rows after a table's number.
+// Inlined at each spelling, so that its words are constants there.
+#[inline(always)]
 fn read_rows<'a>(text: &'a [u8], spelling: Spelling) -> Result<(Rows, &'a [u8]), &'a [u8]>
     ensures answer { IfOk result (λ r. AreRowsInRange r.0
         × Reads (IsRows spelling) text.now (rows_text spelling r.0) r.1.now) }
@@ -91,6 +93,7 @@ fn read_rows<'a>(text: &'a [u8], spelling: Spelling) -> Result<(Rows, &'a [u8]),
 }
 
 /// The tag in that spelling at the text's beginning.
+#[inline(always)]
 fn read_spelled<'a>(text: &'a [u8], spelling: Spelling) -> Result<(Tag, &'a [u8]), &'a [u8]>
     ensures answer { IfOk result (λ r. IsTagInRange r.0
         × Reads (IsSpelled spelling) text.now (spelled spelling r.0) r.1.now) }
