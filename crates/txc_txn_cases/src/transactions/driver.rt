@@ -35,11 +35,26 @@ const PIN_REFUSALS: [DbError; 5] = [
     DbError::Memory,
 ];
 
+/// How the call of it is refused then.
+const PIN_TEXTS: [&str; 5] = [
+    "the database is broken",
+    "the newest stamp is 0",
+    "the history is full",
+    "too many stamps are held",
+    "out of memory",
+];
+
 /// Why a pincushion refuses a pin.
 const ADD_REFUSALS: [AddError; 3] = [
     AddError::Full,
     AddError::Known(Stamp::ZERO),
     AddError::Memory,
+];
+
+const ADD_TEXTS: [&str; 3] = [
+    "the pincushion takes no pin",
+    "the pincushion takes no pin",
+    "out of memory",
 ];
 
 /// Why a database refuses a query.
@@ -52,6 +67,24 @@ const QUERY_REFUSALS: [DbError; 7] = [
     DbError::Store(StoreError::StoreMemory),
     DbError::Memory,
 ];
+
+const QUERY_TEXTS: [&str; 7] = [
+    "the database is broken",
+    "the newest stamp is 0",
+    "the snapshot is gone: the horizon is 0",
+    "over 1,024 versions match",
+    "the store refused: database or disk is full",
+    "the store refused: out of memory",
+    "out of memory",
+];
+
+/// The text of this number, or nothing.
+fn text_at(texts: &[&'static str], number: usize) -> &'static str {
+    match texts.get(number) {
+        Some(text) => *text,
+        None => "",
+    }
+}
 
 /// A core, what it runs over, what it asks, and the pin that it was handed last.
 #[derive(Drop)]
@@ -80,13 +113,13 @@ impl<A: App, C: Cacheable> Driver<A, C> {
         alloc: Global,
         registry: Registry<A, C>,
         pool: PermitPool,
-        staleness: u64,
+        (staleness, renew_after): (u64, u64),
     ) -> Option<Driver<A, C>>
         requires { AllIdle registry }
     {
         let mut database = DbCore::new(alloc, 16).ok()?;
         let pins = two_pins(alloc, &mut database, staleness)?;
-        let Ok(core) = TxnCore::begin(alloc, 1, 5000, bounds(staleness), pins) else {
+        let Ok(core) = TxnCore::begin(alloc, 1, renew_after, bounds(staleness), pins) else {
             return None;
         };
         Some(Driver {
@@ -220,6 +253,17 @@ impl<A: App, C: Cacheable> Driver<A, C> {
             Some(PortRequest::Lookup { .. }) if number == 0 => self.miss(alloc, answer),
             Some(PortRequest::Insert { .. }) if number == 0 => self.inserted(alloc, answer),
             _ => {}
+        }
+    }
+
+    /// How a call ends of which the port that is asked refuses a request by the refusal of this number; nothing
+    /// for a node's one, which ends no call.
+    pub(super) fn text_of(&self, number: usize) -> &'static str {
+        match &self.asks {
+            Some(PortRequest::Pin { .. }) => text_at(&PIN_TEXTS, number),
+            Some(PortRequest::AddPin(_)) => text_at(&ADD_TEXTS, number),
+            Some(PortRequest::Query { .. }) => text_at(&QUERY_TEXTS, number),
+            _ => "",
         }
     }
 
