@@ -4,7 +4,6 @@ mod caller;
 mod calling;
 mod desk;
 mod explained;
-mod judge;
 mod rows;
 mod sessions;
 mod threads;

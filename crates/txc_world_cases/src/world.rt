@@ -1,26 +1,22 @@
 //! Whole runs of worlds' scripts, with the program's functions. In its world each run is followed by the script's
 //! last transaction, begun anew and committed, and by a tidy, both twice. The judge judges all of it, whatever was
 //! refused memory; where that is not what is written otherwise, all is run once more in a new world.
-mod actor;
-mod anew;
 mod examples;
 mod faults;
-mod judge;
 mod refused;
 mod steps;
 mod streams;
 
-use anew::anew_of;
 use examples::EXAMPLES;
 use faults::{other_line, other_word};
-use judge::Judge;
 use refused::{HISTORY, REFUSED};
 use std::alloc::{AllocError, Global};
 use std::io::{Read, Write};
 use std::process::Abort;
 use std::test::Fail;
-use streams::{comments_give, cuts_give, endless_readers_fail, failing_writers_take};
+use streams::{comments_give, cuts_give, endless_reader_fails, failing_writers_take};
 use txc_functions::{Object, Program, registries};
+use txc_judge::{Counts, Played, Ran, Size, anew_of, judge_runs};
 use txc_permits::{Permit, PermitPool};
 use txc_play::{run_world, world_settings};
 use txc_players::room;
@@ -40,9 +36,6 @@ const ACTORS: usize = 8;
 /// The status of the program that is out of memory.
 const OUT_OF_MEMORY: u8 = 5;
 
-/// More than there are places where a commit that was not told may have been made.
-const PLACES: usize = 6;
-
 /// A script, what its run is to write, and the status of the program after it.
 #[derive(Clone, Copy)]
 struct Case<'a> {
@@ -50,14 +43,6 @@ struct Case<'a> {
     script: &'a str,
     replies: &'a str,
     status: u8,
-}
-
-/// What a run wrote, the status of the program after it, and how many permits could be taken then.
-#[derive(Drop)]
-struct Ran {
-    written: Vec<u8>,
-    status: u8,
-    free: usize,
 }
 
 /// A world whose functions share the permits of the pool.
@@ -89,19 +74,23 @@ impl Stage {
         Ok(count)
     }
 
-    /// Runs a script. None where memory was refused beside it.
-    fn run(&mut self, alloc: Global, script: &str) -> Option<Ran> {
+    /// Runs a script, and answers with what status the program ends then. None where memory was refused beside it.
+    fn run(&mut self, alloc: Global, script: &str) -> Option<(Ran, u8)> {
         let mut written = Vec::with_capacity(alloc, ROOM).ok()?;
         let mut permits = Vec::with_capacity(alloc, PERMITS).ok()?;
         let mut reader = script.as_bytes();
         let ended = run_world(alloc, &mut self.world, &mut reader, &mut written);
         let status = exit_of(&ended);
+        let is_cut = status == OUT_OF_MEMORY;
         let free = self.count_free(&mut permits).ok()?;
-        Some(Ran {
-            written,
+        Some((
+            Ran {
+                written,
+                is_cut,
+                free,
+            },
             status,
-            free,
-        })
+        ))
     }
 }
 
@@ -118,112 +107,63 @@ fn run<R: Read, W: Write>(
     run_world(alloc, &mut stage.world, reader, writer)
 }
 
-/// Runs a script in a new world, and then another one twice. None where memory was refused beside the runs.
-fn run_all(alloc: Global, settings: Settings, script: &str, anew: &str) -> Option<Vec<Ran>> {
+/// Runs a script in a new world, and then another one twice. Answers the status after the first too. None where
+/// memory was refused beside the runs.
+fn run_all(alloc: Global, settings: Settings, script: &str, anew: &str) -> Option<(Vec<Ran>, u8)> {
     let mut runs = Vec::with_capacity(alloc, 3).ok()?;
     let mut stage = Stage::new(alloc, settings)?;
-    runs.push(stage.run(alloc, script)?).ok()?;
-    runs.push(stage.run(alloc, anew)?).ok()?;
-    runs.push(stage.run(alloc, anew)?).ok()?;
-    Some(runs)
-}
-
-/// Whether a run is right, and all permits are back after it.
-fn is_run_right<'a>(
-    alloc: Global,
-    judge: &mut Judge<'a>,
-    script: &'a str,
-    run: &'a Ran,
-    done: usize,
-) -> Result<bool, AllocError> {
-    let replies = str::from_utf8(&run.written).unwrap_or("no text");
-    let is_cut = run.status == OUT_OF_MEMORY;
-    if is_cut {
-        judge.wants = judge.wants.saturating_add(1);
+    let (first, status) = stage.run(alloc, script)?;
+    runs.push(first).ok()?;
+    for _ in 0..2u32 {
+        let (next, _) = stage.run(alloc, anew)?;
+        runs.push(next).ok()?;
     }
-    Ok(judge.judge_run(alloc, script, replies, is_cut, done)? && judge.has_permits(run.free))
+    Some((runs, status))
 }
 
-/// Whether a run of the last transaction is right. Where no memory was refused, it has one receipt, if the script
-/// has a transaction, and leaves no pin; a writer may find the history full.
-fn is_anew_right<'a>(
-    alloc: Global,
-    judge: &mut Judge<'a>,
-    anew: &'a str,
-    run: &'a Ran,
-    done: usize,
-) -> Result<bool, AllocError> {
-    let (receipts, wants) = (judge.receipts, judge.wants);
-    if !is_run_right(alloc, judge, anew, run, done)? {
-        return Ok(false);
+fn size_of(settings: Settings) -> Size {
+    Size {
+        actors: ACTORS,
+        nodes: settings.nodes,
+        permits: settings.permits,
+        row_cap: settings.row_cap,
     }
-    let count = receipts.saturating_add(u32::from(anew.starts_with("r")));
-    let replies = str::from_utf8(&run.written).unwrap_or("no text");
-    let is_done = judge.receipts == count || replies.contains("refused B3\naborted\n");
-    Ok(judge.wants > wants || is_done && judge.is_tidy(replies))
 }
 
-/// Whether all runs are right if a commit that was not told was done so: answers how many receipts the first
-/// one has, and how many lines and runs were refused memory.
-fn are_runs_right(
-    alloc: Global,
-    (case, settings, anew): (Case<'_>, Settings, &str),
-    runs: &[Ran],
-    done: usize,
-    answer: &mut String,
-) -> Result<Option<(u32, u32)>, AllocError> {
-    let mut judge = Judge::new(alloc, settings, case.replies, ACTORS)?;
-    let mut receipts = None;
-    for run in runs {
-        let is_right = if receipts.is_none() {
-            is_run_right(alloc, &mut judge, case.script, run, done)?
-        } else {
-            is_anew_right(alloc, &mut judge, anew, run, done)?
-        };
-        if !is_right {
-            judge.say_last(answer);
-            return Ok(None);
-        }
-        receipts = Some(receipts.unwrap_or(judge.receipts));
-    }
-    Ok(receipts.map(|count| (count, judge.wants)))
-}
-
-/// The same, of one of the ways in which a commit that was not told may have been done.
+/// Judges the runs, once more where memory was refused beside it.
 fn judged(
     alloc: Global,
-    told: (Case<'_>, Settings, &str),
+    (case, size, anew): (Case<'_>, Size, &str),
     runs: &[Ran],
     answer: &mut String,
-) -> Result<Option<(u32, u32)>, AllocError> {
-    let is_cut = runs.iter().any(|run| run.status == OUT_OF_MEMORY);
-    for done in 0..PLACES {
-        let counts = are_runs_right(alloc, told, runs, done, answer)?;
-        if counts.is_some() || !is_cut {
-            return Ok(counts);
+) -> Option<Counts> {
+    let played = Played {
+        script: case.script,
+        wanted: case.replies,
+    };
+    for _ in 0..2u32 {
+        answer.clear();
+        if let Ok(counts) = judge_runs(alloc, size, played, anew, runs, answer) {
+            return counts;
         }
     }
-    Ok(None)
+    None
 }
 
 /// How a case was played: how many receipts there were, whether what is wanted was written, and whether all is
 /// right. None where memory was refused beside the runs.
 fn try_play(alloc: Global, case: Case<'_>, answer: &mut String) -> Option<(u32, bool, bool)> {
     let settings = Settings::read(alloc, case.settings).ok()?;
-    let anew = anew_of(alloc, case.script).ok()?;
-    let runs = run_all(alloc, settings, case.script, anew.as_str())?;
-    answer.clear();
-    let told = (case, settings, anew.as_str());
-    let counts = match judged(alloc, told, &runs, answer) {
-        Ok(counts) => counts,
-        Err(_) => judged(alloc, told, &runs, answer).ok()?,
+    let anew = anew_of(alloc, case.script, ACTORS).ok()?;
+    let (runs, status) = run_all(alloc, settings, case.script, anew.as_str())?;
+    let told = (case, size_of(settings), anew.as_str());
+    let Some(counts) = judged(alloc, told, &runs, answer) else {
+        return Some((0, false, false));
     };
     let first = runs.first()?;
-    let is_wanted = first.written.as_slice() == case.replies.as_bytes()
-        && first.status == case.status;
+    let is_wanted = first.written.as_slice() == case.replies.as_bytes() && status == case.status;
     // One allocation alone is refused.
-    let (receipts, wants) = counts.unwrap_or((0, 2));
-    Some((receipts, is_wanted, wants < 2))
+    Some((counts.receipts, is_wanted, counts.wants < 2))
 }
 
 /// Plays a case, once more where it was refused memory. Answers how many receipts there were; none where
@@ -313,7 +253,7 @@ fn play_refused(alloc: Global, answer: &mut String) -> Option<u32> {
 fn play_alone<R: Abort + AllocGlobal>(rt: &R, name: &str, receipts: u32) -> Result<(), Fail> {
     let mut answer = room(rt.alloc())?;
     let played = play_examples(rt.alloc(), name, &mut answer);
-    assert!(rt; played == Some(receipts), "{answer}");
+    assert!(rt; played == Some(receipts), "{played:?} {answer}");
     Ok(())
 }
 
@@ -360,7 +300,7 @@ fn events_come_before_the_value(rt: HostRuntime) -> Result<(), Fail> {
 fn a_request_that_is_refused_ends_its_call(rt: HostRuntime) -> Result<(), Fail> {
     let mut answer = room(rt.alloc())?;
     let played = play_refused(rt.alloc(), &mut answer);
-    assert!(rt; played == Some(24), "{answer}");
+    assert!(rt; played == Some(24), "{played:?} {answer}");
     Ok(())
 }
 
@@ -382,7 +322,7 @@ fn a_writer_that_fails(rt: HostRuntime) {
 
 #[test]
 fn a_reader_that_never_ends(rt: HostRuntime) {
-    say_given(&rt, endless_readers_fail(rt.alloc()));
+    say_given(&rt, endless_reader_fails(rt.alloc()));
 }
 
 #[test]

@@ -4,7 +4,6 @@ ghost use Rattle.txc_registry.specs.Activity.{idle};
 ghost use Rattle.txc_functions.specs.Program.{program};
 
 use super::desk::Desk;
-use super::judge::{Verdict, play_lines};
 use super::rows::SCRIPTS;
 use super::threads::are_explained;
 use std::alloc::{AllocError, Global};
@@ -18,6 +17,7 @@ use txc_client::Client;
 use txc_cushion::Pincushion;
 use txc_db::{Database, DbCore, Naming};
 use txc_functions::{Again, BodiesAndBody, BodiesIn, BodyAt, Function, Itself, Program};
+use txc_judge::{Verdict, play_lines};
 use txc_node::Record;
 use txc_permits::PermitPool;
 use txc_players::room;

@@ -1,7 +1,9 @@
 //! What is known of an actor from the lines of a script and the replies to them, and whether they fit.
+use crate::history::{Answer, History, are_right};
+use crate::receipts::{Asked, are_pins, is_receipt};
+use crate::words::{after, read, word};
 use std::alloc::{AllocError, Global};
 use std::mem;
-use txc_players::{Answer, Asked, History, after, are_pins, are_right, is_receipt, read, word};
 
 /// What a step may have done.
 const DEEDS: [&str; 10] = [
@@ -17,7 +19,7 @@ enum Open {
 }
 
 #[derive(Drop)]
-pub(super) struct Actor<'a> {
+pub(crate) struct Actor<'a> {
     open: Open,
     /// The key of its call, or nothing.
     call: &'a str,
@@ -39,7 +41,7 @@ fn due_of_call(name: &str, is_calling: bool) -> &'static str {
 }
 
 impl<'a> Actor<'a> {
-    pub(super) fn new(alloc: Global) -> Actor<'a> {
+    pub(crate) fn new(alloc: Global) -> Actor<'a> {
         Actor {
             open: Open::Nothing,
             call: "",
@@ -50,7 +52,7 @@ impl<'a> Actor<'a> {
     }
 
     /// Notes that nothing is open any more.
-    pub(super) fn close(&mut self) {
+    pub(crate) fn close(&mut self) {
         self.open = Open::Nothing;
         self.call = "";
         self.has_pinned = false;
@@ -59,7 +61,7 @@ impl<'a> Actor<'a> {
     }
 
     /// How a line of this name does not fit; nothing where it fits.
-    pub(super) fn due(&self, name: &str) -> &'static str {
+    pub(crate) fn due(&self, name: &str) -> &'static str {
         let is_begin = name == "ro" || name == "rw";
         match self.open {
             Open::Nothing if is_begin => "",
@@ -72,7 +74,7 @@ impl<'a> Actor<'a> {
     }
 
     /// Notes that its call may have pinned the present, in lines that do not tell it.
-    pub(super) fn may_pin(&self, history: &mut History<'_>) -> Result<(), AllocError> {
+    pub(crate) fn may_pin(&self, history: &mut History<'_>) -> Result<(), AllocError> {
         match self.open {
             Open::Reading(asked) => history.may_pin(asked.now),
             _ => Ok(()),
@@ -81,15 +83,23 @@ impl<'a> Actor<'a> {
 
     /// Notes that a request of its call was refused, which ends the call: but for a pin that was not added,
     /// which is to be unpinned first.
-    pub(super) fn refuse(&mut self, is_whole: bool) {
+    pub(crate) fn refuse(&mut self, is_whole: bool) {
         if !(is_whole && self.has_pinned) {
             self.call = "";
         }
         self.has_pinned = false;
     }
 
+    /// Whether it wrote over that which it read before this event.
+    pub(crate) fn may_conflict(&self, event: usize) -> bool {
+        match self.open {
+            Open::Writing(base) => base < event && !self.answers.is_empty(),
+            _ => false,
+        }
+    }
+
     /// Its changes, which it does not have any more.
-    pub(super) fn take_changes(&mut self, alloc: Global) -> Vec<&'a str> {
+    pub(crate) fn take_changes(&mut self, alloc: Global) -> Vec<&'a str> {
         mem::replace(&mut self.changes, Vec::new(alloc))
     }
 
@@ -168,7 +178,7 @@ impl<'a> Actor<'a> {
     }
 
     /// Notes what a line did, and judges it.
-    pub(super) fn judge(
+    pub(crate) fn judge(
         &mut self,
         alloc: Global,
         history: &mut History<'a>,

@@ -1,16 +1,54 @@
 //! Judges what was written of a world's scripts, whatever was refused on the way: from the texts of the scripts
 //! and of the replies alone, by the plain evaluator.
-use super::actor::Actor;
+use crate::actor::Actor;
+use crate::history::{Answer, History, are_right};
+use crate::words::{after, read, word};
 use std::alloc::{AllocError, Global};
-use txc_players::{Answer, History, after, are_right, read, word};
-use txc_settings::Settings;
 
 /// Fewer permits than this may all be out, and a history of fewer records may be full.
 const MANY: usize = 64;
 
+/// More than there are places where a commit that was not told may have been made.
+const PLACES: usize = 6;
+
+/// How large a world is.
+#[derive(Clone, Copy)]
+pub struct Size {
+    pub actors: usize,
+    pub nodes: usize,
+    /// How many permits all functions share.
+    pub permits: usize,
+    /// How many records a history holds.
+    pub row_cap: usize,
+}
+
+/// A script, and what is written where nothing is refused memory.
+#[derive(Clone, Copy)]
+pub struct Played<'a> {
+    pub script: &'a str,
+    pub wanted: &'a str,
+}
+
+/// A run of a script: what it wrote, whether it ended for want of memory, and how many permits could be taken
+/// after it.
 #[derive(Drop)]
-pub(super) struct Judge<'a> {
-    settings: Settings,
+pub struct Ran {
+    pub written: Vec<u8>,
+    pub is_cut: bool,
+    pub free: usize,
+}
+
+/// What was judged: how many receipts and commits the first run has, and how many lines and runs were refused
+/// memory.
+#[derive(Clone, Copy)]
+pub struct Counts {
+    pub receipts: u32,
+    pub wants: u32,
+}
+
+#[derive(Drop)]
+struct Judge<'a> {
+    size: Size,
     /// What is written where nothing is refused memory.
     wanted: &'a str,
     history: History<'a>,
@@ -18,26 +56,21 @@ pub(super) struct Judge<'a> {
     /// The horizon that was told last; none where another one may have come since.
     horizon: Option<usize>,
     /// How many receipts and commits were judged.
-    pub(super) receipts: u32,
-    /// How many lines were refused memory.
-    pub(super) wants: u32,
+    receipts: u32,
+    /// How many lines and runs were refused memory.
+    wants: u32,
     /// The last line that was judged, and its reply.
     last: (&'a str, &'a str),
 }
 
 impl<'a> Judge<'a> {
-    pub(super) fn new(
-        alloc: Global,
-        settings: Settings,
-        wanted: &'a str,
-        count: usize,
-    ) -> Result<Judge<'a>, AllocError> {
-        let mut actors = Vec::with_capacity(alloc, count)?;
-        for _ in 0..count {
+    fn new(alloc: Global, size: Size, wanted: &'a str) -> Result<Judge<'a>, AllocError> {
+        let mut actors = Vec::with_capacity(alloc, size.actors)?;
+        for _ in 0..size.actors {
             actors.push(Actor::new(alloc))?;
         }
         Ok(Judge {
-            settings,
+            size,
             wanted,
             history: History::new(alloc),
             actors,
@@ -52,13 +85,7 @@ impl<'a> Judge<'a> {
     fn due(&self, line: &str) -> &'static str {
         let place = read(word(line, 1));
         match word(line, 0) {
-            "advance" | "sweep" => {
-                if place < self.settings.nodes {
-                    ""
-                } else {
-                    "O6"
-                }
-            }
+            "advance" | "sweep" => { if place < self.size.nodes { "" } else { "O6" } }
             "put" | "remove" | "pin" | "query" | "tidy" => "",
             name => match self.actors.get(place) {
                 Some(actor) => actor.due(name),
@@ -67,21 +94,42 @@ impl<'a> Judge<'a> {
         }
     }
 
+    /// Whether the commit of the line may have found that this event changed what was read.
+    fn may_conflict(&self, line: &str, told: usize) -> bool {
+        let is_change = told <= self.history.len() && self.history.moments(told).is_empty();
+        match self.actors.get(read(word(line, 1))) {
+            Some(actor) => is_change && word(line, 0) == "commit" && actor.may_conflict(told),
+            None => false,
+        }
+    }
+
+    /// Whether the query of the line may have been below this horizon.
+    fn may_be_gone(&self, line: &str, told: usize) -> bool {
+        let is_below = word(line, 0) == "query" && read(word(line, 1)) < told;
+        is_below && told == self.horizon.unwrap_or(told)
+    }
+
     /// Whether this may be refused here. Memory may be, anywhere; after the step that takes the hold of a pin
     /// away it was refused before.
-    fn allows(&mut self, alloc: Global, refusal: &str, is_new: bool) -> Result<bool, AllocError> {
+    fn allows(
+        &mut self,
+        alloc: Global,
+        line: &str,
+        refusal: &str,
+        is_new: bool,
+    ) -> Result<bool, AllocError> {
         let told = read(word(refusal, 1));
         match word(refusal, 0) {
             "memory" | "K6" | "R3" => {
                 self.wants = self.wants.saturating_add(u32::from(is_new));
                 Ok(true)
             }
-            "B1" => Ok(told == self.horizon.unwrap_or(told)),
-            "B2" => Ok(told <= self.history.most() && self.wanted.contains("refused B2")),
-            "B3" => Ok(self.history.most() >= self.settings.row_cap),
+            "B1" => Ok(self.may_be_gone(line, told)),
+            "B2" => Ok(self.may_conflict(line, told)),
+            "B3" => Ok(self.history.most() >= self.size.row_cap),
             "B7" => self.history.ends_at(alloc, told),
-            "K5" => Ok(self.settings.permits < MANY),
-            "H1" => Ok(self.settings.row_cap < MANY),
+            "K5" => Ok(self.size.permits < MANY),
+            "H1" => Ok(self.size.row_cap < MANY),
             _ => Ok(self.wanted.contains(refusal)),
         }
     }
@@ -162,7 +210,8 @@ impl<'a> Judge<'a> {
         }
         if let Some((_, refusal)) = reply.split_once("refused ") {
             let is_new = !reply.starts_with("unpinned ");
-            let is_allowed = !refusal.starts_with("O") && self.allows(alloc, refusal, is_new)?;
+            let is_allowed = !refusal.starts_with("O")
+                && self.allows(alloc, line, refusal, is_new)?;
             self.refuse(line, reply)?;
             return Ok(is_allowed);
         }
@@ -207,7 +256,7 @@ impl<'a> Judge<'a> {
 
     /// Judges a run of a script, at whose end each transaction is given up. One that was cut off for want of
     /// memory may have made a commit that was not told, as `done` says.
-    pub(super) fn judge_run(
+    fn judge_lines(
         &mut self,
         alloc: Global,
         script: &'a str,
@@ -240,20 +289,99 @@ impl<'a> Judge<'a> {
         Ok(is_right && replies.next().is_none())
     }
 
-    /// Whether these are all permits.
-    pub(super) fn has_permits(&self, count: usize) -> bool {
-        count == self.settings.permits
+    /// Whether a run is right, and all permits are back after it.
+    fn judge_run(
+        &mut self,
+        alloc: Global,
+        script: &'a str,
+        run: &'a Ran,
+        done: usize,
+    ) -> Result<bool, AllocError> {
+        let replies = str::from_utf8(&run.written).unwrap_or("no text");
+        self.wants = self.wants.saturating_add(u32::from(run.is_cut));
+        let is_right = self.judge_lines(alloc, script, replies, run.is_cut, done)?;
+        Ok(is_right && run.free == self.size.permits)
+    }
+
+    /// Whether a run of the last transaction is right. Where no memory was refused, it has one receipt, if the
+    /// script has a transaction, and leaves no pin; a writer may find the history full.
+    fn judge_anew(
+        &mut self,
+        alloc: Global,
+        anew: &'a str,
+        run: &'a Ran,
+        done: usize,
+    ) -> Result<bool, AllocError> {
+        let (receipts, wants) = (self.receipts, self.wants);
+        if !self.judge_run(alloc, anew, run, done)? {
+            return Ok(false);
+        }
+        let count = receipts.saturating_add(u32::from(!anew.starts_with("#")));
+        let replies = str::from_utf8(&run.written).unwrap_or("no text");
+        let is_done = self.receipts == count || replies.contains("refused B3\naborted\n");
+        Ok(self.wants > wants || is_done && self.is_tidy(replies))
     }
 
     /// Writes the last line that was judged, and its reply.
-    pub(super) fn say_last(&self, answer: &mut String) {
+    fn say_last(&self, answer: &mut String) {
         let (line, reply) = self.last;
         let _ = write!(answer, "{line} => {reply};");
     }
 
     /// Whether no pin is left after the run that wrote this, and the horizon is the newest stamp.
-    pub(super) fn is_tidy(&self, replies: &str) -> bool {
+    fn is_tidy(&self, replies: &str) -> bool {
         replies.contains("\npins *\naborted\nrefused B7 ")
             && self.horizon == Some(self.history.len())
     }
+}
+
+/// Whether all runs, of the script and then of what is run anew, are right if a commit that was not told was
+/// done so; says where they are not.
+fn are_runs_right(
+    alloc: Global,
+    size: Size,
+    played: Played<'_>,
+    anew: &str,
+    runs: &[Ran],
+    done: usize,
+    answer: &mut String,
+) -> Result<Option<Counts>, AllocError> {
+    let mut judge = Judge::new(alloc, size, played.wanted)?;
+    let mut receipts = None;
+    for run in runs {
+        let is_right = if receipts.is_none() {
+            judge.judge_run(alloc, played.script, run, done)?
+        } else {
+            judge.judge_anew(alloc, anew, run, done)?
+        };
+        if !is_right {
+            judge.say_last(answer);
+            return Ok(None);
+        }
+        receipts = Some(receipts.unwrap_or(judge.receipts));
+    }
+    Ok(Some(Counts {
+        receipts: receipts.unwrap_or(0),
+        wants: judge.wants,
+    }))
+}
+
+/// Judges the runs of a script and then of what is run anew, all in one world, in one of the ways in which a
+/// commit that was not told may have been done. None where something is not right, and writes what.
+pub fn judge_runs(
+    alloc: Global,
+    size: Size,
+    played: Played<'_>,
+    anew: &str,
+    runs: &[Ran],
+    answer: &mut String,
+) -> Result<Option<Counts>, AllocError> {
+    let is_cut = runs.iter().any(|run| run.is_cut);
+    for done in 0..PLACES {
+        let counts = are_runs_right(alloc, size, played, anew, runs, done, answer)?;
+        if counts.is_some() || !is_cut {
+            return Ok(counts);
+        }
+    }
+    Ok(None)
 }

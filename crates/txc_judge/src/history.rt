@@ -1,8 +1,7 @@
 //! A history as the text of a script and the replies to it tell it, and what is right in it by the plain
 //! evaluator: no database and no node is asked.
-use crate::plain::{change_all, say_value};
-use crate::script::{changes, query};
 use std::alloc::{AllocError, Global};
+use txc_players::{change_all, changes, query, say_value};
 use txc_rows::{Query, Row};
 use txc_tags::Key;
 

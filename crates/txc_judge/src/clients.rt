@@ -1,9 +1,10 @@
 //! Judges what clients were answered, whatever was refused memory on the way: from the texts of the commands and of
 //! the answers alone, by the plain evaluator.
+use crate::history::{Answer, History};
+use crate::receipts::{Asked, are_pins, is_receipt};
+use crate::words::{after, read, word};
 use std::alloc::{AllocError, Global};
-use txc_players::{
-    Answer, Asked, History, Obeys, after, are_pins, is_receipt, obey, read, room, word,
-};
+use txc_players::{Obeys, obey, room};
 
 /// How a refusal ends that is for want of memory.
 const NO_MEMORY: &str = "out of memory";
@@ -19,7 +20,7 @@ write: remove 15 0
 
 /// How the answers to a script were.
 #[derive(Clone, Copy, PartialEq, Eq)]
-pub(super) enum Verdict {
+pub enum Verdict {
     /// All as wanted, with so many receipts.
     Wanted(u32),
     /// All right, but not as wanted: memory was refused.
@@ -311,7 +312,7 @@ fn told_of(
 }
 
 /// Plays a script and judges it. None where memory was refused beside it.
-pub(super) fn play_lines(
+pub fn play_lines(
     desk: &mut impl Obeys,
     alloc: Global,
     lines: &str,
