@@ -1,8 +1,9 @@
-//! Read-only transactions, each reply given by hand.
+//! Transactions, each reply given by hand.
 mod driver;
 mod pins;
 mod replies;
 mod running;
+mod updating;
 
 ghost use Rattle.std.specs.Prelude.{IfSome};
 ghost use Rattle.txc_registry.specs.Objects.{AllIdle};
@@ -374,5 +375,19 @@ fn a_running_transaction_ends_or_is_given_up(rt: HostRuntime) -> Result<(), Fail
         }
     }
     assert!(&rt; answer.as_str() == RUN, "{answer}");
+    Ok(())
+}
+
+/// How many refusals of a database there are, of the queries of a read-write transaction.
+const QUERIES_REFUSED: usize = 21;
+
+#[test]
+fn each_answer_to_an_update_is_refused_in_turn(rt: HostRuntime) -> Result<(), Fail> {
+    let mut answer = room(rt.alloc())?;
+    let mut count = updating::refuse_each(rt.alloc(), &mut answer);
+    if count != QUERIES_REFUSED {
+        count = updating::refuse_each(rt.alloc(), &mut answer);
+    }
+    assert!(&rt; count == QUERIES_REFUSED, "{count}: {answer}");
     Ok(())
 }

@@ -58,7 +58,7 @@ const ADD_TEXTS: [&str; 3] = [
 ];
 
 /// Why a database refuses a query.
-const QUERY_REFUSALS: [DbError; 7] = [
+pub(super) const QUERY_REFUSALS: [DbError; 7] = [
     DbError::Broken,
     DbError::FutureStamp(Stamp::ZERO),
     DbError::SnapshotGone(Stamp::ZERO),
@@ -68,7 +68,7 @@ const QUERY_REFUSALS: [DbError; 7] = [
     DbError::Memory,
 ];
 
-const QUERY_TEXTS: [&str; 7] = [
+pub(super) const QUERY_TEXTS: [&str; 7] = [
     "the database is broken",
     "the newest stamp is 0",
     "the snapshot is gone: the horizon is 0",
