@@ -113,10 +113,11 @@ impl<A: App, C: Cacheable> Driver<A, C> {
         alloc: Global,
         registry: Registry<A, C>,
         pool: PermitPool,
-        (staleness, renew_after): (u64, u64),
+        times: (u64, u64),
     ) -> Option<Driver<A, C>>
         requires { AllIdle registry }
     {
+        let (staleness, renew_after) = times;
         let mut database = DbCore::new(alloc, 16).ok()?;
         let pins = two_pins(alloc, &mut database, staleness)?;
         let Ok(core) = TxnCore::begin(alloc, 1, renew_after, bounds(staleness), pins) else {

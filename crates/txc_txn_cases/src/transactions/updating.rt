@@ -98,13 +98,14 @@ fn refuse_in<A: App, C: Cacheable>(
     alloc: Global,
     core: &mut RwCore,
     registry: &mut Registry<A, C>,
-    (replies, error): (usize, DbError),
+    refused: (usize, DbError),
     answer: &mut String,
 )
     requires fits { IsRw A.next registry.old core.old }
     requires idle { IsIdle core.old }
     ensures fits { IsRw A.next registry.new core.new }
 {
+    let (replies, error) = refused;
     let Some(table) = Table::new(1) else {
         return;
     };
