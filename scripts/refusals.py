@@ -15,7 +15,7 @@ from concurrent.futures import ThreadPoolExecutor
 from functools import partial
 from typing import Callable, NamedTuple
 
-from script_files import settings_of
+from script_files import MODES, settings_of
 
 # Tests that count to a large limit, and so have as many allocations as that.
 LEFT_OUT = {
@@ -125,18 +125,23 @@ def program(script: str, mode: str, wrong: Callable[[Case, Ended, Ended], str | 
     """The program in this mode over a script, with the settings that stand beside it, if any."""
     with open(script, "rb") as it:
         given = it.read()
-    words = ["crates/txcache/out/txcache", mode, f"--settings={settings_of(script, None)}"]
+    settings = settings_of(script, None)
+    if mode == "batch":
+        settings = "\n".join([*(it for it in settings.split("\n") if not it.startswith("workers")), "workers = 1"]).strip()
+    words = ["crates/txcache/out/txcache", mode, f"--settings={settings}"]
     return Case(f"txcache {mode} {script}", words, given, wrong)
 
 
 def examples() -> list[Case]:
-    nodes = [*sorted(glob.glob("examples/*.txc")), "crates/txcache/stdin"]
-    worlds = sorted([*glob.glob("examples/*.txw"), *glob.glob("examples/worlds/*.txw")])
-    return [
-        *(program(it, "node", wrong_of_program) for it in nodes),
-        *(program(it, "report", wrong_of_ending) for it in nodes),
-        *(program(it, "world", wrong_of_ending) for it in worlds),
-    ]
+    """The program over each example, in each of its modes. One worker runs the jobs of a batch, so that the n-th allocation
+    is the same in each run."""
+    found = [program("crates/txcache/stdin", "node", wrong_of_program)]
+    for ending, modes in MODES.items():
+        scripts = sorted(glob.glob(f"examples/**/*{ending}", recursive=True))
+        for mode in modes:
+            wrong = wrong_of_program if mode == "node" else wrong_of_ending
+            found += [program(it, mode, wrong) for it in scripts]
+    return found
 
 
 def count(case: Case) -> tuple[int, Ended]:
