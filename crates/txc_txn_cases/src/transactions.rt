@@ -378,6 +378,30 @@ fn a_running_transaction_ends_or_is_given_up(rt: HostRuntime) -> Result<(), Fail
     Ok(())
 }
 
+/// How many permits are free once a transaction is dropped after so many of the lines of a call inside another.
+/// None where memory was refused before.
+fn free_after(alloc: Global, lines: usize, answer: &mut String) -> Option<usize> {
+    let mut driver = begin(alloc, (1500, RENEW_AFTER))?;
+    for line in IN_A_CALL.lines().take(lines) {
+        give(&mut driver, alloc, line, answer);
+    }
+    answer.clear();
+    Some(driver.drop_all())
+}
+
+#[test]
+fn a_dropped_transaction_gives_its_permits_back(rt: HostRuntime) -> Result<(), Fail> {
+    let mut answer = room(rt.alloc())?;
+    for lines in 0..=IN_A_CALL.lines().count() {
+        let mut free = free_after(rt.alloc(), lines, &mut answer);
+        if free.is_none() {
+            free = free_after(rt.alloc(), lines, &mut answer);
+        }
+        assert!(&rt; free == Some(3), "{free:?} after {lines} lines");
+    }
+    Ok(())
+}
+
 /// How many refusals of a database there are, of the queries of a read-write transaction.
 const QUERIES_REFUSED: usize = 21;
 

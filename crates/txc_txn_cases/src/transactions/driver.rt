@@ -328,6 +328,21 @@ impl<A: App, C: Cacheable> Driver<A, C> {
         let _ = write!(answer, "; {free} free");
     }
 
+    /// Drops it as it stands, and answers how many permits are free then.
+    pub(super) fn drop_all(self) -> usize {
+        let Driver {
+            database: _,
+            registry,
+            mut pool,
+            core,
+            asks: _,
+            pinned: _,
+        } = self;
+        drop(core);
+        drop(registry);
+        free(&mut pool)
+    }
+
     fn say_pins(&self, answer: &mut String) {
         if self.core.has_present() {
             let _ = write!(answer, " *");
