@@ -20,6 +20,8 @@ from script_files import MODES, settings_of
 # Tests that count to a large limit, and so have as many allocations as that.
 LEFT_OUT = {
     "txc_cases stream::the_largest_row_is_filled_and_walked",
+    "txc_client_cases clients::refusals::a_client_needs_a_pass_of_each_node",
+    "txc_client_cases clients::refusals::clients_are_refused_at_limits",
     "txc_db_cases pins::shared::users_and_pins_have_a_limit",
     "txc_run_cases run::a_reader_that_never_ends",
     "txc_txn_cases shared::locked::passes_have_a_limit",
