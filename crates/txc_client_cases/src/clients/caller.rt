@@ -270,7 +270,7 @@ fn hold_often<J: Naming>(
     }
 }
 
-fn say_refused<E: Display>(answer: &mut String, done: Result<(), E>) {
+fn say_refused<E: Display + Drop>(answer: &mut String, done: Result<(), E>) {
     if let Err(error) = done {
         say(answer, &error);
     }
