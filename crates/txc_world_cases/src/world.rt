@@ -259,7 +259,7 @@ fn play_alone<R: Abort + AllocGlobal>(rt: &R, name: &str, receipts: u32) -> Resu
 
 #[test]
 fn examples_give_their_replies(rt: HostRuntime) -> Result<(), Fail> {
-    play_alone(&rt, "", 17)
+    play_alone(&rt, "", 20)
 }
 
 #[test]
