@@ -25,6 +25,8 @@ pub(crate) struct Actor<'a> {
     call: &'a str,
     /// Whether its last request pinned the present.
     has_pinned: bool,
+    /// Whether it asked something, by a call too. What was found counts as read where its answer was refused.
+    has_asked: bool,
     answers: Vec<Answer<'a>>,
     changes: Vec<&'a str>,
 }
@@ -46,6 +48,7 @@ impl<'a> Actor<'a> {
             open: Open::Nothing,
             call: "",
             has_pinned: false,
+            has_asked: false,
             answers: Vec::new(alloc),
             changes: Vec::new(alloc),
         }
@@ -56,6 +59,7 @@ impl<'a> Actor<'a> {
         self.open = Open::Nothing;
         self.call = "";
         self.has_pinned = false;
+        self.has_asked = false;
         self.answers.clear();
         self.changes.clear();
     }
@@ -90,10 +94,15 @@ impl<'a> Actor<'a> {
         self.has_pinned = false;
     }
 
-    /// Whether it wrote over that which it read before this event.
+    /// Notes that it asks something.
+    pub(crate) fn note_asked(&mut self) {
+        self.has_asked = true;
+    }
+
+    /// Whether this event may have changed what it read.
     pub(crate) fn may_conflict(&self, event: usize) -> bool {
         match self.open {
-            Open::Writing(base) => base < event && !self.answers.is_empty(),
+            Open::Writing(base) => base < event && self.has_asked,
             _ => false,
         }
     }

@@ -208,6 +208,12 @@ impl<'a> Judge<'a> {
         if !due.is_empty() {
             return Ok(reply.strip_prefix("refused ") == Some(due));
         }
+        let name = word(line, 0);
+        if (name == "ask" || name == "call")
+            && let Some(actor) = self.actors.get_mut(read(word(line, 1)))
+        {
+            actor.note_asked();
+        }
         if let Some((_, refusal)) = reply.split_once("refused ") {
             let is_new = !reply.starts_with("unpinned ");
             let is_allowed = !refusal.starts_with("O")
