@@ -1,17 +1,19 @@
 //! The store of row versions.
 
-ghost use Rattle.std.specs.Prelude.{◌≡◌, ℕ, ◌<◌, ◌≤◌, [], Ok, IfOk, IfErr, OnOk, OnErr, length, filter};
+ghost use Rattle.std.specs.Prelude.{◌≡◌, ℕ, ◌+◌, ◌<◌, ◌≤◌, [], Ok, IfOk, IfErr, OnOk, OnErr, length, filter};
 ghost use Rattle.txc_rows.specs.Versions.{suits, purged, after_net};
 ghost use Rattle.txc_rows.specs.States.{State};
 ghost use Rattle.txc_rows.specs.Found.{Finds};
 ghost use Rattle.txc_rows.specs.Keeping.{KeepsStates, KeepsWritten, KeepsPurged, AnswersStates};
-ghost use Rattle.txc_rows.specs.Kept.{IsKept, versions_of};
+ghost use Rattle.txc_rows.specs.Kept.{IsKept, placed_of};
+ghost use Rattle.sqlite.specs.declared.error.Error.TheVariants.{SqliteFailure};
+ghost use Rattle.sqlite.specs.declared.error.ErrorCode.TheVariants.{NoRowid};
 ghost use Rattle.txc_rows.specs.StoreErrors.{IsStoreRefusal};
 ghost use Rattle.txc_rows.specs.declared.store_error.TheConstants.{MAX_MATCHING};
 
 use crate::decode::versions_from;
 use crate::query::{Change, Query};
-use crate::statements::{create, delete_dead, read, write_all};
+use crate::statements::{create, read, settle, sweep, write_all};
 use crate::store_error::{MAX_MATCHING, StoreError};
 use crate::version::Versioned;
 use sqlite::{Connection, MemStore};
@@ -23,29 +25,45 @@ use txc_stamp::Stamp;
 #[derive(Drop)]
 pub struct VersionRows {
     conn: Connection<MemStore>,
+    /// The place of the next version: each that is stored has a lower one.
+    next_place: u32,
+    /// Versions that died before it are gone, though the tables may still have them.
+    kept_from: u32,
     alloc: Global,
 }
 
 impl Model for VersionRows {
     ghost use Rattle.std.specs.Prelude.{List};
     ghost use Rattle.txc_rows.specs.declared.version.Versioned.{Versioned};
-    ghost use Rattle.txc_rows.specs.Kept.{versions_of, IsKept};
+    ghost use Rattle.txc_rows.specs.Placed.{left_from, AreBelow};
+    ghost use Rattle.txc_rows.specs.Kept.{versions_of, placed_of, IsKept};
 
     ghost Value = { List Versioned };
 
-    ghost view = { λ a. versions_of a.conn };
+    ghost view = { λ a. left_from a.kept_from (versions_of a.conn) };
 
-    ghost invariant = { λ a. IsKept a.conn };
+    ghost invariant = { λ a. IsKept a.conn × AreBelow a.next_place (placed_of a.conn) };
 }
 
-/// A connection with the table and no version.
-fn open_table(alloc: Global) -> Result<Connection<MemStore>, sqlite::Error>
+/// A connection with the tables and no version.
+fn open_tables(alloc: Global) -> Result<Connection<MemStore>, sqlite::Error>
     ensures kept { IfOk result IsKept }
-    ensures empty { IfOk result (λ conn. versions_of conn ≡ []) }
+    ensures empty { IfOk result (λ conn. placed_of conn ≡ []) }
 {
     let mut conn = Connection::open_in_memory(alloc)?;
     create(&mut conn)?;
     Ok(conn)
+}
+
+/// The next place after so many more versions, if there are so many.
+fn place_after(place: u32, more: usize) -> Result<u32, sqlite::Error>
+    ensures answer { IfOk result (λ next. next ≡ place + more) }
+    ensures refused { IfErr result (λ e. e ≡ SqliteFailure NoRowid) }
+{
+    if more > (u32::MAX - place) as usize {
+        return Err(sqlite::Error::SqliteFailure(sqlite::ErrorCode::NoRowid));
+    }
+    Ok(place + more as u32)
 }
 
 impl VersionRows {
@@ -56,8 +74,13 @@ impl VersionRows {
             (states : ℕ → State) → states 0 ≡ [] → KeepsStates states 0 0 rows) }
         ensures refused { IfErr result IsStoreRefusal }
     {
-        let conn = open_table(alloc)?;
-        Ok(VersionRows { conn, alloc })
+        let conn = open_tables(alloc)?;
+        Ok(VersionRows {
+            conn,
+            next_place: 0,
+            kept_from: 0,
+            alloc,
+        })
     }
 
     /// The versions that match, by id and then by birth. No other version is looked at.
@@ -69,7 +92,7 @@ impl VersionRows {
         ensures refused { result ≡ Err StoreError.TooManyRows
             → MAX_MATCHING < length (filter (suits query.now) self.old) }
     {
-        let rows = read(&mut self.conn, query)?;
+        let rows = read(&mut self.conn, query, self.kept_from)?;
         if rows.len() > MAX_MATCHING {
             return Err(StoreError::TooManyRows);
         }
@@ -84,7 +107,10 @@ impl VersionRows {
         ensures unchanged { OnErr result (self.new ≡ self.old) }
         ensures refused { IfErr result IsStoreRefusal }
     {
-        write_all(&mut self.conn, net, stamp)?;
+        let next_place = place_after(self.next_place, net.len())?;
+        self.kept_from = settle(&mut self.conn, self.kept_from, stamp)?;
+        write_all(&mut self.conn, net, stamp, self.next_place)?;
+        self.next_place = next_place;
         Ok(())
     }
 
@@ -95,7 +121,9 @@ impl VersionRows {
         ensures unchanged { OnErr result (self.new ≡ self.old) }
         ensures refused { IfErr result IsStoreRefusal }
     {
-        delete_dead(&mut self.conn, horizon)?;
+        let kept_from = self.kept_from.max(horizon.number() + 1);
+        sweep(&mut self.conn, kept_from, false)?;
+        self.kept_from = kept_from;
         Ok(())
     }
 
