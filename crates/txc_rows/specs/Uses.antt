@@ -76,6 +76,3 @@ abbrev pub KeepsQuiet : Type 0
 KeepsQuiet = (states : ℕ → State) (horizon newest : ℕ) (vs : List Versioned)
     → states (suc newest) ≡ states newest → KeepsStates states horizon newest vs
     → KeepsStates states horizon (suc newest) vs
-
-abbrev pub Scratch : Type 0
-Scratch = Unit {0}

@@ -1,5 +1,5 @@
 //! What the definitions come to for stores of versions. Each is a lemma: it has no code.
-ghost use Rattle.txc_rows.specs.Uses.{Scratch, UsesAnswer, KeepsNothing, KeepsAgreed, KeepsQuiet};
+ghost use Rattle.txc_rows.specs.Uses.{UsesAnswer, KeepsNothing, KeepsAgreed, KeepsQuiet};
 
 /// What is found in a store shows the answers at every stamp from the last horizon on, whatever was written
 /// to it at rising stamps and purged at rising horizons.
@@ -12,8 +12,4 @@ pub fn versions_keep_states()
     ensures nothing { KeepsNothing }
     ensures agreed { KeepsAgreed }
     ensures quiet { KeepsQuiet }
-{}
-
-pub fn scratch()
-    ensures { Scratch }
 {}
