@@ -3,5 +3,6 @@ mod boxes;
 mod calling;
 mod desk;
 mod explained;
+mod refusals;
 mod rows;
 mod threads;

@@ -1,0 +1,150 @@
+//! What a caller reads in a session, worked by hand.
+ghost use Rattle.std.specs.Prelude.{◌≡◌, ◌≤◌, IfSome, vec_len};
+
+use super::caller::Caller;
+use super::refusals::append_foreign;
+use std::alloc::Global;
+use std::marker::Brand;
+use std::sync::Wait;
+use std::test::Fail;
+use txc_client::Client;
+use txc_cushion::Pincushion;
+use txc_db::{Database, DbCore, Naming};
+use txc_functions::{Program, registry};
+use txc_node::Record;
+use txc_permits::PermitPool;
+use txc_players::{is_played, room};
+use txc_shared::{NodeSettings, SharedNode};
+use txc_stream::EventRow;
+
+/// What is read in the session is never older than what was read or made before, whichever client read it.
+const SEEN: &str = "write: put 1 7 2 a => 1
+pin 1000 => 2
+write: put 1 8 2 b => 3
+pin 2000 => 4
+floor => 0
+session 0 2500 1500: pins, f1(2), commit => pins * 4 2; 612c62; receipt 4 2000
+floor => 4
+session 1 2500 1500: pins, commit => pins * 4; receipt none
+floor => 4
+update: put 1 9 2 c => 5
+floor => 5
+ro 1 2500 1500: f1(2), commit => 612c62; receipt 4 2000
+floor => 5
+session 0 2500 1500: pins, f1(2), commit => pins *; 612c622c63; receipt 6 2500
+session 1 2500 1500: pins, f1(2), f0(8), commit => pins * 6; 612c622c63; 62; receipt 6 2500
+read 0 2500 1500 f0(9) => 63 receipt 6 2500
+read 0 2500 1500 f9() => there is no function 9
+floor => 6
+";
+
+/// The counts of a client are of what it has seen itself of the node that is named.
+const COUNTS: &str = "write: put 1 7 2 a => 1
+pin 1000 => 2
+counts 0 1 1 => lookups 0 hits 0 stored 0
+session 0 1000 0: f1(2), f1(2), commit => 61; 61; receipt 2 1000
+counts 0 1 1 => lookups 2 hits 1 stored 1
+counts 0 0 1 => lookups 0 hits 0 stored 0
+counts 1 1 1 => lookups 0 hits 0 stored 0
+session 1 1000 0: f1(2), f0(8), commit => 61; -; receipt 2 1000
+counts 1 1 1 => lookups 3 hits 2 stored 1
+counts 1 0 0 => lookups 1 hits 0 stored 1
+counts 0 1 1 => lookups 2 hits 1 stored 1
+counts 0 2 1 => no such node
+";
+
+const SCRIPTS: [&str; 2] = [SEEN, COUNTS];
+
+/// After how long a pin is renewed.
+pub(super) const RENEW_AFTER: u64 = 5000;
+
+pub(super) fn node<J: Naming>(
+    alloc: Global,
+    number: usize,
+    row: EventRow<Record>,
+    database: &Database<J>,
+) -> Option<SharedNode<Program, J>>
+    requires { row ≡ J.node_rows number }
+{
+    let settings = NodeSettings {
+        number,
+        capacity: 64,
+        recent: 16,
+    };
+    SharedNode::new(alloc, settings, row, database).ok()
+}
+
+/// Plays the script to a caller with two clients over two nodes, of which the second is broken once they have
+/// their passes, if that is asked for. None where memory for these was refused.
+fn play<J: Naming>(
+    rt: &impl Wait,
+    alloc: Global,
+    rows: (DbCore, EventRow<Record>, EventRow<Record>),
+    is_broken: bool,
+    script: &str,
+    answer: &mut String,
+) -> Option<bool>
+    requires database { rows.0.events ≡ J.database_row }
+    requires one { rows.1 ≡ J.node_rows 0 }
+    requires other { rows.2 ≡ J.node_rows 1 }
+{
+    let (core, one, other) = rows;
+    let database = Database::<J>::new(alloc, core).ok()?;
+    let cushion = Pincushion::new(alloc, &database).ok()?;
+    let mut nodes = Vec::new(alloc);
+    nodes.push(node(alloc, 0, one, &database)?).ok()?;
+    nodes.push(node(alloc, 1, other, &database)?).ok()?;
+    let mut pool = PermitPool::new(alloc, 4).ok()?;
+    let one = registry(alloc, &mut pool).ok()?;
+    let other = registry(alloc, &mut pool).ok()?;
+    let one = Client::new(rt, alloc, &database, &cushion, &nodes, one, RENEW_AFTER).ok()?;
+    let other = Client::new(rt, alloc, &database, &cushion, &nodes, other, RENEW_AFTER).ok()?;
+    if is_broken {
+        append_foreign(alloc, nodes[1].row()).ok()?;
+    }
+    let mut caller = Caller::new(rt, (&database, &cushion), pool, (one, other));
+    Some(is_played(&mut caller, alloc, "", script, answer))
+}
+
+/// Makes the rows, with room for so many events, and plays the script.
+fn start(
+    rt: &impl Wait,
+    alloc: Global,
+    (events, is_broken): (usize, bool),
+    script: &str,
+    answer: &mut String,
+) -> Option<bool> {
+    let core = DbCore::new(alloc, events.clamp(1, 4096)).ok()?;
+    let one = EventRow::new(alloc, 64).ok()?;
+    let other = EventRow::new(alloc, 64).ok()?;
+    play::<Brand>(rt, alloc, (core, one, other), is_broken, script, answer)
+}
+
+/// Whether all is answered as wanted: anew where memory was refused, since then a call may be made twice.
+pub(super) fn is_answered(
+    rt: &impl Wait,
+    alloc: Global,
+    made: (usize, bool),
+    script: &str,
+    answer: &mut String,
+) -> bool {
+    for _ in 0..2u32 {
+        answer.clear();
+        if let Some(true) = start(rt, alloc, made, script, answer) {
+            return true;
+        }
+    }
+    false
+}
+
+#[test]
+fn nobody_goes_back_in_a_session(rt: HostRuntime) -> Result<(), Fail> {
+    let mut answer = room(rt.alloc())?;
+    for script in SCRIPTS {
+        assert!(&rt;
+            is_answered(&rt, rt.alloc(), (64, false), script, &mut answer),
+            "{answer}"
+        );
+    }
+    Ok(())
+}
