@@ -1,8 +1,10 @@
 //! Clients and their read-only transactions.
 mod boxes;
+mod caller;
 mod calling;
 mod desk;
 mod explained;
 mod refusals;
 mod rows;
+mod sessions;
 mod threads;

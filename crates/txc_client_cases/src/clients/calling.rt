@@ -1,6 +1,7 @@
 //! How a crate calls a client: the callers that docs/CALLING.md shows.
-ghost use Rattle.std.specs.Prelude.{◌≡◌, [], ◌∷◌, ◌++◌, IfOk};
+ghost use Rattle.std.specs.Prelude.{◌≡◌, [], ◌∷◌, ◌++◌, IfOk, OnErr};
 ghost use Rattle.txc_txn.specs.Core.{Explains};
+ghost use Rattle.txc_txn.specs.Sessions.{floor_after, IsAtLeast};
 
 use std::alloc::Global;
 use std::sync::Wait;
@@ -11,7 +12,7 @@ use txc_node::Value;
 use txc_ports::{Bounds, TxnError};
 use txc_registry::Cacheable;
 use txc_tags::Key;
-use txc_txn::Receipt;
+use txc_txn::{Receipt, Session};
 
 /// The values of two calls, which are the transaction's next answers.
 fn read_both<A: App, C: Cacheable, J: Naming>(
@@ -67,6 +68,45 @@ pub(super) fn read_page<'a, A: App, C: Cacheable, J: Naming>(
                 receipt,
             };
             (Ok(page), client)
+        }
+        Err(error) => (Err(error), txn.abort(rt)),
+    }
+}
+
+/// A value that was read, with the receipt that says of which state.
+#[derive(Drop)]
+pub(super) struct Read {
+    pub(super) value: Value,
+    pub(super) receipt: Receipt,
+}
+
+/// Reads the value of a call in a session. The state that it is of is no older than any whose receipt or commit
+/// the session's caller has noted; and its own receipt is noted too.
+pub(super) fn read_in<'a, A: App, C: Cacheable, J: Naming>(
+    rt: &impl Wait,
+    alloc: Global,
+    client: Client<'a, A, C, J>,
+    session: &mut Session,
+    now: u64,
+    staleness: u64,
+    key: Key,
+) -> (Result<Read, TxnError>, Client<'a, A, C, J>)
+    ensures answer { IfOk result.0 (λ read. read.receipt.answers.items
+        ≡ record { key = key; value = read.value } ∷ []) }
+    ensures no_older { IfOk result.0 (λ read. IsAtLeast session.old read.receipt.pin) }
+    ensures noted { IfOk result.0 (λ read. session.new ≡ floor_after session.old read.receipt.pin) }
+    ensures row { IfOk result.0 (λ read. read.receipt.seen.events ≡ J.database_row) }
+    ensures unchanged { OnErr result.0 (session.new ≡ session.old) }
+{
+    let mut txn = match client.begin_in(rt, alloc, session, now, staleness) {
+        Ok(txn) => txn,
+        Err((_, client)) => return (Err(TxnError::Memory), client),
+    };
+    match txn.call(rt, alloc, key) {
+        Ok(value) => {
+            let (receipt, client) = txn.commit(rt);
+            session.note_receipt(&receipt);
+            (Ok(Read { value, receipt }), client)
         }
         Err(error) => (Err(error), txn.abort(rt)),
     }

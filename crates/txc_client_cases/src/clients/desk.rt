@@ -35,16 +35,16 @@ pub(super) struct Desk<'a, A: App, C: Cacheable, J: Naming, R: Wait> {
     taken: Option<Permit>,
 }
 
-fn say<E: Display>(answer: &mut String, what: &E) {
+pub(super) fn say<E: Display>(answer: &mut String, what: &E) {
     let _ = write!(answer, "{what}");
 }
 
-fn say_text(answer: &mut String, text: &str) {
+pub(super) fn say_text(answer: &mut String, text: &str) {
     let _ = answer.push_str(text);
 }
 
 /// Any number of 64 bits.
-fn long(words: &mut SplitWhitespace<'_>) -> u64 {
+pub(super) fn long(words: &mut SplitWhitespace<'_>) -> u64 {
     words.next().unwrap_or("").parse().unwrap_or(0)
 }
 
@@ -57,7 +57,10 @@ fn bounds(words: &mut SplitWhitespace<'_>) -> Bounds {
 }
 
 /// A star for the present, and the members, the newest first.
-fn say_pins<A: App, C: Cacheable, J: Naming>(answer: &mut String, txn: &RoTxn<'_, A, C, J>) {
+pub(super) fn say_pins<A: App, C: Cacheable, J: Naming>(
+    answer: &mut String,
+    txn: &RoTxn<'_, A, C, J>,
+) {
     say_text(answer, "pins");
     if txn.has_present() {
         say_text(answer, " *");
@@ -68,7 +71,7 @@ fn say_pins<A: App, C: Cacheable, J: Naming>(answer: &mut String, txn: &RoTxn<'_
     }
 }
 
-fn say_call<A: App, C: Cacheable, J: Naming>(
+pub(super) fn say_call<A: App, C: Cacheable, J: Naming>(
     answer: &mut String,
     rt: &impl Wait,
     alloc: Global,
@@ -85,7 +88,7 @@ fn say_call<A: App, C: Cacheable, J: Naming>(
 }
 
 /// The pin's stamp and moment; and whether the receipt is not explained.
-fn say_receipt(answer: &mut String, alloc: Global, receipt: &Receipt, bounds: &Bounds) {
+pub(super) fn say_receipt(answer: &mut String, alloc: Global, receipt: &Receipt, bounds: &Bounds) {
     match receipt.pin {
         Some(pin) => {
             let (stamp, moment) = (pin.stamp, pin.moment);
@@ -185,7 +188,7 @@ fn say_advanced(answer: &mut String, advanced: &Result<Advanced, NodeError>) {
     }
 }
 
-fn say_stamp(answer: &mut String, stamp: Option<Stamp>) {
+pub(super) fn say_stamp(answer: &mut String, stamp: Option<Stamp>) {
     match stamp {
         Some(stamp) => say(answer, &stamp),
         None => say_text(answer, "refused"),
