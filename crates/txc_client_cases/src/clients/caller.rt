@@ -298,7 +298,7 @@ impl<J: Naming, R: Wait> Obeys for Caller<'_, J, R> {
                     &self.other
                 };
                 let node = number(words) as usize;
-                say_counts(answer, client, node, number(words) as u8);
+                say_counts(answer, client, node, number(words).min(255) as u8);
             }
             "write" => say_stamp(answer, committed(rt, alloc, database, changes)),
             "pin" => say_stamp(answer, pinned(rt, alloc, database, cushion, long(words))),

@@ -95,8 +95,12 @@ fn play<J: Naming>(
     nodes.push(node(alloc, 0, one, &database)?).ok()?;
     nodes.push(node(alloc, 1, other, &database)?).ok()?;
     let mut pool = PermitPool::new(alloc, 4).ok()?;
-    let one = registry(alloc, &mut pool).ok()?;
-    let other = registry(alloc, &mut pool).ok()?;
+    let Ok(one) = registry(alloc, &mut pool) else {
+        return None;
+    };
+    let Ok(other) = registry(alloc, &mut pool) else {
+        return None;
+    };
     let one = Client::new(rt, alloc, &database, &cushion, &nodes, one, RENEW_AFTER).ok()?;
     let other = Client::new(rt, alloc, &database, &cushion, &nodes, other, RENEW_AFTER).ok()?;
     if is_broken {
