@@ -26,7 +26,7 @@ const FOUND: [&str; 2] = ["0 4 still t1:id=9", "3 4 still t1:grp=2 a b"];
 /// once so much was found, or its own query: what was found counts as read. Then it is called again.
 const LEFT: [&str; 3] = [
     "; 1 answers, 1 changes, t1:grp=2; value -; 3 free",
-    "; 1 answers, 1 changes, t1:grp=2,t1:id=9; value -; 3 free",
+    "; 1 answers, 1 changes, t1:id=9,t1:grp=2; value -; 3 free",
     "; 1 answers, 1 changes, t1:grp=2; value -; 3 free",
 ];
 
