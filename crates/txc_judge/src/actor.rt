@@ -29,6 +29,13 @@ pub(crate) struct Actor<'a> {
     has_asked: bool,
     answers: Vec<Answer<'a>>,
     changes: Vec<&'a str>,
+    /// The greatest stamp of its receipts and commits so far, the floor of its session.
+    floor: usize,
+}
+
+/// Whether a line of this name begins a transaction.
+pub(crate) fn is_begin(name: &str) -> bool {
+    matches!(name, "ro" | "rw" | "session")
 }
 
 /// How a line of an open transaction does not fit in the midst of a call, or where there is none.
@@ -51,6 +58,7 @@ impl<'a> Actor<'a> {
             has_asked: false,
             answers: Vec::new(alloc),
             changes: Vec::new(alloc),
+            floor: 0,
         }
     }
 
@@ -66,13 +74,13 @@ impl<'a> Actor<'a> {
 
     /// How a line of this name does not fit; nothing where it fits.
     pub(crate) fn due(&self, name: &str) -> &'static str {
-        let is_begin = name == "ro" || name == "rw";
+        let begins = is_begin(name);
         match self.open {
-            Open::Nothing if is_begin => "",
+            Open::Nothing if begins => "",
             Open::Nothing => "O2",
             Open::Reading(_) if name == "ask" || name == "write" => "O2",
             Open::Writing(_) if name == "pins" => "O2",
-            _ if is_begin => "O3",
+            _ if begins => "O3",
             _ => due_of_call(name, !self.call.is_empty()),
         }
     }
@@ -151,6 +159,11 @@ impl<'a> Actor<'a> {
         Ok(is_right)
     }
 
+    /// Notes the stamp of a receipt or a commit: its session goes back behind it no more.
+    fn note_stamp(&mut self, stamp: usize) {
+        self.floor = self.floor.max(stamp);
+    }
+
     /// Judges the receipt of a reader, or the commit of a writer.
     fn commit(
         &mut self,
@@ -158,15 +171,29 @@ impl<'a> Actor<'a> {
         history: &mut History<'a>,
         reply: &str,
     ) -> Result<bool, AllocError> {
+        let stamp = read(word(reply, 1));
+        self.note_stamp(stamp);
         if let Open::Reading(asked) = self.open {
             return is_receipt(alloc, history, asked, &self.answers, reply);
         }
         let changes = self.take_changes(alloc);
-        let stamp = read(reply.strip_prefix("at ").unwrap_or(""));
         match history.commit_at(alloc, stamp, changes)? {
-            Some(before) => are_right(alloc, &history.state_at(alloc, before)?, &self.answers),
-            None => Ok(false),
+            Some(before) if word(reply, 0) == "at" => are_right(
+                alloc,
+                &history.state_at(alloc, before)?,
+                &self.answers,
+            ),
+            _ => Ok(false),
         }
+    }
+
+    /// What the reader asks of its pins that the line begins: one of a session is of no state before its floor.
+    fn asked_of(&self, line: &str) -> Asked {
+        let mut asked = Asked::of(after(line, 2));
+        if word(line, 0) == "session" {
+            asked.at_least = self.floor;
+        }
+        asked
     }
 
     /// Notes that a transaction was begun.
@@ -177,8 +204,8 @@ impl<'a> Actor<'a> {
         line: &str,
         reply: &str,
     ) -> Result<bool, AllocError> {
-        if word(line, 0) == "ro" {
-            self.open = Open::Reading(Asked::of(after(line, 2)));
+        if word(line, 0) != "rw" {
+            self.open = Open::Reading(self.asked_of(line));
             return Ok(reply == "open");
         }
         let base = read(word(reply, 1));
@@ -195,7 +222,7 @@ impl<'a> Actor<'a> {
         reply: &'a str,
     ) -> Result<bool, AllocError> {
         match word(line, 0) {
-            "ro" | "rw" => self.begin(alloc, history, line, reply),
+            "ro" | "rw" | "session" => self.begin(alloc, history, line, reply),
             "call" => {
                 self.call = word(line, 2);
                 Ok(reply == "started")

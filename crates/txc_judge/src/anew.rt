@@ -1,4 +1,5 @@
 //! What is run in the world of a script after it: the script's last transaction anew, calls of each actor, and a tidy.
+use crate::actor::is_begin;
 use crate::words::{read, word};
 use std::alloc::{AllocError, Global};
 
@@ -27,9 +28,8 @@ abort A
 ";
 
 /// Whether the line begins a transaction of an actor that there is.
-fn is_begin(line: &str, actors: usize) -> bool {
-    let name = word(line, 0);
-    (name == "ro" || name == "rw") && read(word(line, 1)) < actors
+fn begins(line: &str, actors: usize) -> bool {
+    is_begin(word(line, 0)) && read(word(line, 1)) < actors
 }
 
 fn push_line(text: &mut String, line: &str) -> Result<(), AllocError> {
@@ -83,7 +83,7 @@ pub fn anew_of(alloc: Global, script: &str, actors: usize) -> Result<String, All
     let mut text = String::new(alloc);
     let mut last = None;
     for (place, line) in script.lines().enumerate() {
-        if is_begin(line, actors) {
+        if begins(line, actors) {
             last = Some(place);
         }
     }

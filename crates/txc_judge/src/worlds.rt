@@ -63,6 +63,12 @@ struct Judge<'a> {
     last: (&'a str, &'a str),
 }
 
+/// Whether counts are those of the function of this number, which was not found more often than it was looked up.
+fn are_counts(function: &str, reply: &str) -> bool {
+    let (lookups, hits) = (read(word(reply, 2)), read(word(reply, 4)));
+    word(reply, 0).strip_prefix("f") == Some(function) && hits <= lookups
+}
+
 impl<'a> Judge<'a> {
     fn new(alloc: Global, size: Size, wanted: &'a str) -> Result<Judge<'a>, AllocError> {
         let mut actors = Vec::with_capacity(alloc, size.actors)?;
@@ -85,7 +91,7 @@ impl<'a> Judge<'a> {
     fn due(&self, line: &str) -> &'static str {
         let place = read(word(line, 1));
         match word(line, 0) {
-            "advance" | "sweep" => { if place < self.size.nodes { "" } else { "O6" } }
+            "advance" | "sweep" | "counts" => { if place < self.size.nodes { "" } else { "O6" } }
             "put" | "remove" | "pin" | "query" | "tidy" => "",
             name => match self.actors.get(place) {
                 Some(actor) => actor.due(name),
@@ -193,6 +199,7 @@ impl<'a> Judge<'a> {
                 self.horizon = Some(horizon);
                 Ok(deed == "retired" && horizon <= self.history.most())
             }
+            "counts" => Ok(are_counts(word(line, 2), reply)),
             _ => Ok(deed == "swept"),
         }
     }
@@ -222,7 +229,7 @@ impl<'a> Judge<'a> {
             return Ok(is_allowed);
         }
         match word(line, 0) {
-            "put" | "remove" | "pin" | "query" | "tidy" | "advance" | "sweep" => {
+            "put" | "remove" | "pin" | "query" | "tidy" | "advance" | "sweep" | "counts" => {
                 return self.judge_keeper(alloc, line, reply);
             }
             "commit" => self.receipts = self.receipts.saturating_add(1),

@@ -259,7 +259,7 @@ fn play_alone<R: Abort + AllocGlobal>(rt: &R, name: &str, receipts: u32) -> Resu
 
 #[test]
 fn examples_give_their_replies(rt: HostRuntime) -> Result<(), Fail> {
-    play_alone(&rt, "", 20)
+    play_alone(&rt, "", 27)
 }
 
 #[test]
@@ -300,7 +300,7 @@ fn events_come_before_the_value(rt: HostRuntime) -> Result<(), Fail> {
 fn a_request_that_is_refused_ends_its_call(rt: HostRuntime) -> Result<(), Fail> {
     let mut answer = room(rt.alloc())?;
     let played = play_refused(rt.alloc(), &mut answer);
-    assert!(rt; played == Some(24), "{played:?} {answer}");
+    assert!(rt; played == Some(31), "{played:?} {answer}");
     Ok(())
 }
 
