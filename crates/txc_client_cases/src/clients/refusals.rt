@@ -153,6 +153,9 @@ fn make<J: Naming>(
     nodes.push(node(alloc, 0, row, &database)?).ok()?;
     if is_broken {
         append_foreign(alloc, nodes[0].row()).ok()?;
+        // It finds the record as it is asked for the first time.
+        let mut pass = nodes[0].pass(rt, alloc).ok()?;
+        let _swept = pass.sweep(rt, alloc, &nodes[0], Stamp::ZERO);
     }
     for _ in 0..passes {
         let _pass = nodes[0].pass(rt, alloc).ok()?;
