@@ -15,9 +15,13 @@ from concurrent.futures import ThreadPoolExecutor
 from functools import partial
 from typing import Callable, NamedTuple
 
+from script_files import MODES, settings_of
+
 # Tests that count to a large limit, and so have as many allocations as that.
 LEFT_OUT = {
     "txc_cases stream::the_largest_row_is_filled_and_walked",
+    "txc_client_cases clients::refusals::a_client_needs_a_pass_of_each_node",
+    "txc_client_cases clients::refusals::clients_are_refused_at_limits",
     "txc_db_cases pins::shared::users_and_pins_have_a_limit",
     "txc_run_cases run::a_reader_that_never_ends",
     "txc_txn_cases shared::locked::passes_have_a_limit",
@@ -71,13 +75,18 @@ def wrong_of_test(_: Case, __: Ended, ended: Ended) -> str | None:
     return stopped(ended) or f"failed with status {ended.status}"
 
 
+def wrong_of_memory(whole: Ended, ended: Ended) -> str | None:
+    """What is wrong with an ending of status 5: what was printed so far is wanted, and `memory`."""
+    lines = ended.out == b"" or ended.out.endswith(b"\n")
+    well = ended.err == b"memory\n" and lines and whole.out.startswith(ended.out)
+    return None if well else "status 5, and not a beginning of the replies and `memory`"
+
+
 def wrong_of_program(case: Case, whole: Ended, ended: Ended) -> str | None:
     """A run ends with what it printed so far and `memory`, or refuses one line for memory, which
     then changed nothing: the other replies are those to the script without that line."""
     if ended.status == 5:
-        lines = ended.out == b"" or ended.out.endswith(b"\n")
-        well = ended.err == b"memory\n" and lines and whole.out.startswith(ended.out)
-        return None if well else "status 5, and not a beginning of the replies and `memory`"
+        return wrong_of_memory(whole, ended)
     replies = ended.out.split(b"\n")
     if REFUSED not in replies:
         return stopped(ended) or (None if ended == whole else "another answer")
@@ -86,6 +95,14 @@ def wrong_of_program(case: Case, whole: Ended, ended: Ended) -> str | None:
     wanted = rest.out.split(b"\n")
     wanted.insert(at, REFUSED)
     return None if (ended.status, replies) == (1, wanted) else "another answer after a refusal"
+
+
+def wrong_of_ending(_: Case, whole: Ended, ended: Ended) -> str | None:
+    """A run ends by itself. What it printed is not judged, but where it ended for memory: a line
+    that is refused changes the replies to others, which the judge of the tests looks at."""
+    if ended.status == 5:
+        return wrong_of_memory(whole, ended)
+    return stopped(ended) or (None if ended.status in (0, 1) else f"status {ended.status}")
 
 
 def without(script: bytes, reply: int) -> bytes:
@@ -106,13 +123,26 @@ def tests() -> list[Case]:
     return [case for case in found if case.name not in LEFT_OUT]
 
 
+def program(script: str, mode: str, wrong: Callable[[Case, Ended, Ended], str | None]) -> Case:
+    """The program in this mode over a script, with the settings that stand beside it, if any."""
+    with open(script, "rb") as it:
+        given = it.read()
+    settings = settings_of(script, None)
+    if mode == "batch":
+        settings = "\n".join([*(it for it in settings.split("\n") if not it.startswith("workers")), "workers = 1"]).strip()
+    words = ["crates/txcache/out/txcache", mode, f"--settings={settings}"]
+    return Case(f"txcache {mode} {script}", words, given, wrong)
+
+
 def examples() -> list[Case]:
-    found = []
-    for script in [*sorted(glob.glob("examples/*.txc")), "crates/txcache/stdin"]:
-        with open(script, "rb") as it:
-            given = it.read()
-        words = ["crates/txcache/out/txcache", "node"]
-        found.append(Case(f"txcache {script}", words, given, wrong_of_program))
+    """The program over each example, in each of its modes. One worker runs the jobs of a batch, so that the n-th allocation
+    is the same in each run."""
+    found = [program("crates/txcache/stdin", "node", wrong_of_program)]
+    for ending, modes in MODES.items():
+        scripts = sorted(glob.glob(f"examples/**/*{ending}", recursive=True))
+        for mode in modes:
+            wrong = wrong_of_program if mode == "node" else wrong_of_ending
+            found += [program(it, mode, wrong) for it in scripts]
     return found
 
 

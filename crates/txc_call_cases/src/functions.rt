@@ -13,7 +13,7 @@ use txc_functions::{
 };
 use txc_node::Value;
 use txc_permits::PermitPool;
-use txc_players::{Obeys, Player, body, is_played, number, room, say_unknown};
+use txc_players::{Obeys, Player, body, give, is_played, number, room, say_unknown};
 use txc_registry::{Cacheable, CallFault, Registry, enlist};
 use txc_rows::{Query, Row};
 use txc_tags::Table;
@@ -254,6 +254,46 @@ fn functions_ask_as_worked(rt: HostRuntime) -> Result<(), Fail> {
         is_played(&mut functions, rt.alloc(), "", FUNCTIONS, &mut answer),
         "{answer}"
     );
+    Ok(())
+}
+
+/// Drops the functions, as far as each has run, and returns their pool.
+fn drop_all(functions: Functions) -> PermitPool {
+    let Functions {
+        pool,
+        body_at: _,
+        bodies_in: _,
+        bodies_and_body: _,
+        row_count: _,
+        itself: _,
+        again: _,
+        ids_in: _,
+    } = functions;
+    pool
+}
+
+/// Whether the permit is back once the functions are dropped after so many lines. None where memory was refused to
+/// them.
+fn is_back(alloc: Global, lines: usize, answer: &mut String) -> Option<bool> {
+    let mut functions = new_functions(alloc).ok()?;
+    for line in FUNCTIONS.lines().take(lines) {
+        give(&mut functions, alloc, line, answer);
+    }
+    answer.clear();
+    let mut pool = drop_all(functions);
+    Some(pool.take().is_some())
+}
+
+#[test]
+fn a_dropped_function_gives_its_permit_back(rt: HostRuntime) -> Result<(), Fail> {
+    let mut answer = room(rt.alloc())?;
+    for lines in 0..=FUNCTIONS.lines().count() {
+        let mut back = is_back(rt.alloc(), lines, &mut answer);
+        if back.is_none() {
+            back = is_back(rt.alloc(), lines, &mut answer);
+        }
+        assert!(&rt; back == Some(true), "after {lines} lines");
+    }
     Ok(())
 }
 
