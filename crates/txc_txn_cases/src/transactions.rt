@@ -1,8 +1,9 @@
-//! Read-only transactions, each reply given by hand.
+//! Transactions, each reply given by hand.
 mod driver;
 mod pins;
 mod replies;
 mod running;
+mod updating;
 
 ghost use Rattle.std.specs.Prelude.{IfSome};
 ghost use Rattle.txc_registry.specs.Objects.{AllIdle};
@@ -30,13 +31,16 @@ fn functions(alloc: Global, pool: &mut PermitPool) -> Option<Registry<Counted, F
     Registry::<Counted, Function<Counting>>::new(objects).ok()
 }
 
-/// A transaction that allows so much staleness at 2500, over the pins 2 and 4, of the moments 1000 and 2000.
-/// None where memory was refused.
-fn begin(alloc: Global, staleness: u64) -> Option<Driver<Counted, Function<Counting>>> {
+/// A transaction that allows so much staleness at 2500, over the pins 2 and 4, of the moments 1000 and 2000, and
+/// renews a pin after so long. None where memory was refused.
+fn begin(alloc: Global, times: (u64, u64)) -> Option<Driver<Counted, Function<Counting>>> {
     let mut pool = PermitPool::new(alloc, 3).ok()?;
     let registry = functions(alloc, &mut pool)?;
-    Driver::begin(alloc, registry, pool, staleness)
+    Driver::begin(alloc, registry, pool, times)
 }
+
+/// After how long a pin is renewed, but where it is said otherwise.
+const RENEW_AFTER: u64 = 5000;
 
 /// How much staleness a transaction allows, what it is called and answered, and how it ends.
 type Script = (u64, &'static str, &'static str);
@@ -164,7 +168,7 @@ free => 1
 /// Plays a script, and ends the transaction. None where memory was refused before the first line.
 fn play(alloc: Global, script: Script, answer: &mut String) -> Option<bool> {
     let (staleness, lines, end) = script;
-    let mut driver = begin(alloc, staleness)?;
+    let mut driver = begin(alloc, (staleness, RENEW_AFTER))?;
     if !is_played(&mut driver, alloc, "", lines, answer) {
         return Some(false);
     }
@@ -187,11 +191,11 @@ fn transactions_ask_as_worked(rt: HostRuntime) -> Result<(), Fail> {
     Ok(())
 }
 
-/// A call of which each reply is refused: how much staleness its transaction allows, what it was called and
-/// answered before, the call with its replies, and how many refusals there are.
+/// A call of which each reply is refused: how much staleness its transaction allows and after how long it renews
+/// a pin, what it was called and answered before, the call with its replies, and how many refusals there are.
 #[derive(Clone, Copy)]
 struct Refusals {
-    staleness: u64,
+    times: (u64, u64),
     before: &'static str,
     call: &'static str,
     count: usize,
@@ -201,9 +205,9 @@ const ANSWERED: &str = "call f0()
 miss
 ";
 
-const ALL_REFUSALS: [Refusals; 4] = [
+const ALL_REFUSALS: [Refusals; 6] = [
     Refusals {
-        staleness: 1500,
+        times: (1500, RENEW_AFTER),
         before: ANSWERED,
         call: "call f5(2)
 hit 3 3 closed t1:grp=2 a
@@ -213,7 +217,7 @@ inserted
         count: 9,
     },
     Refusals {
-        staleness: 1500,
+        times: (1500, RENEW_AFTER),
         before: ANSWERED,
         call: "call f6()
 miss
@@ -224,7 +228,7 @@ inserted
         count: 10,
     },
     Refusals {
-        staleness: 1500,
+        times: (1500, RENEW_AFTER),
         before: ANSWERED,
         call: "call f0()
 miss
@@ -232,7 +236,7 @@ miss
         count: 1,
     },
     Refusals {
-        staleness: 0,
+        times: (0, RENEW_AFTER),
         before: "",
         call: "call f5()
 pinned
@@ -242,6 +246,33 @@ found 5 5 still t1:grp=2
 inserted
 ",
         count: 17,
+    },
+    // The newest pin is old: the present is pinned beside it, in the midst of the call.
+    Refusals {
+        times: (1500, 100),
+        before: ANSWERED,
+        call: "call f5(2)
+miss
+pinned
+added
+found 3 5 still t1:grp=2
+inserted
+",
+        count: 17,
+    },
+    // What the call inside hits holds at no member.
+    Refusals {
+        times: (1500, RENEW_AFTER),
+        before: ANSWERED,
+        call: "call f6()
+miss
+found 0 4 still t1:id=9
+hit 3 3 closed t1:grp=2 a
+found 3 4 still t1:grp=2 a b
+inserted
+inserted
+",
+        count: 18,
     },
 ];
 
@@ -279,17 +310,22 @@ fn refuse(
     number: usize,
     answer: &mut String,
 ) -> Option<bool> {
-    let mut driver = begin(alloc, row.staleness)?;
+    let mut driver = begin(alloc, row.times)?;
     give(&mut driver, alloc, row.before, answer);
     for line in row.call.lines().take(replies) {
         give(&mut driver, alloc, line, answer);
     }
     answer.clear();
+    let text = driver.text_of(number);
     driver.refuse_all(alloc, number, answer);
     if answer.is_empty() {
         return None;
     }
-    Some(is_open(&mut driver, alloc, row, answer) && begins_another(&mut driver, alloc, answer))
+    Some(
+        answer.as_str().ends_with(text)
+            && is_open(&mut driver, alloc, row, answer)
+            && begins_another(&mut driver, alloc, answer),
+    )
 }
 
 /// Refuses each reply of the call in turn, by each refusal of its port. How many there were, while each left
@@ -339,5 +375,43 @@ fn a_running_transaction_ends_or_is_given_up(rt: HostRuntime) -> Result<(), Fail
         }
     }
     assert!(&rt; answer.as_str() == RUN, "{answer}");
+    Ok(())
+}
+
+/// How many permits are free once a transaction is dropped after so many of the lines of a call inside another.
+/// None where memory was refused before.
+fn free_after(alloc: Global, lines: usize, answer: &mut String) -> Option<usize> {
+    let mut driver = begin(alloc, (1500, RENEW_AFTER))?;
+    for line in IN_A_CALL.lines().take(lines) {
+        give(&mut driver, alloc, line, answer);
+    }
+    answer.clear();
+    Some(driver.drop_all())
+}
+
+#[test]
+fn a_dropped_transaction_gives_its_permits_back(rt: HostRuntime) -> Result<(), Fail> {
+    let mut answer = room(rt.alloc())?;
+    for lines in 0..=IN_A_CALL.lines().count() {
+        let mut free = free_after(rt.alloc(), lines, &mut answer);
+        if free.is_none() {
+            free = free_after(rt.alloc(), lines, &mut answer);
+        }
+        assert!(&rt; free == Some(3), "{free:?} after {lines} lines");
+    }
+    Ok(())
+}
+
+/// How many refusals of a database there are, of the queries of a read-write transaction.
+const QUERIES_REFUSED: usize = 21;
+
+#[test]
+fn each_answer_to_an_update_is_refused_in_turn(rt: HostRuntime) -> Result<(), Fail> {
+    let mut answer = room(rt.alloc())?;
+    let mut count = updating::refuse_each(rt.alloc(), &mut answer);
+    if count != QUERIES_REFUSED {
+        count = updating::refuse_each(rt.alloc(), &mut answer);
+    }
+    assert!(&rt; count == QUERIES_REFUSED, "{count}: {answer}");
     Ok(())
 }

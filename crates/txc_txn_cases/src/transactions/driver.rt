@@ -35,6 +35,15 @@ const PIN_REFUSALS: [DbError; 5] = [
     DbError::Memory,
 ];
 
+/// How the call of it is refused then.
+const PIN_TEXTS: [&str; 5] = [
+    "the database is broken",
+    "the newest stamp is 0",
+    "the history is full",
+    "too many stamps are held",
+    "out of memory",
+];
+
 /// Why a pincushion refuses a pin.
 const ADD_REFUSALS: [AddError; 3] = [
     AddError::Full,
@@ -42,8 +51,14 @@ const ADD_REFUSALS: [AddError; 3] = [
     AddError::Memory,
 ];
 
+const ADD_TEXTS: [&str; 3] = [
+    "the pincushion takes no pin",
+    "the pincushion takes no pin",
+    "out of memory",
+];
+
 /// Why a database refuses a query.
-const QUERY_REFUSALS: [DbError; 7] = [
+pub(super) const QUERY_REFUSALS: [DbError; 7] = [
     DbError::Broken,
     DbError::FutureStamp(Stamp::ZERO),
     DbError::SnapshotGone(Stamp::ZERO),
@@ -52,6 +67,24 @@ const QUERY_REFUSALS: [DbError; 7] = [
     DbError::Store(StoreError::StoreMemory),
     DbError::Memory,
 ];
+
+pub(super) const QUERY_TEXTS: [&str; 7] = [
+    "the database is broken",
+    "the newest stamp is 0",
+    "the snapshot is gone: the horizon is 0",
+    "over 1,024 versions match",
+    "the store refused: database or disk is full",
+    "the store refused: out of memory",
+    "out of memory",
+];
+
+/// The text of this number, or nothing.
+fn text_at(texts: &[&'static str], number: usize) -> &'static str {
+    match texts.get(number) {
+        Some(text) => *text,
+        None => "",
+    }
+}
 
 /// A core, what it runs over, what it asks, and the pin that it was handed last.
 #[derive(Drop)]
@@ -80,13 +113,14 @@ impl<A: App, C: Cacheable> Driver<A, C> {
         alloc: Global,
         registry: Registry<A, C>,
         pool: PermitPool,
-        staleness: u64,
+        times: (u64, u64),
     ) -> Option<Driver<A, C>>
         requires { AllIdle registry }
     {
+        let (staleness, renew_after) = times;
         let mut database = DbCore::new(alloc, 16).ok()?;
         let pins = two_pins(alloc, &mut database, staleness)?;
-        let Ok(core) = TxnCore::begin(alloc, 1, 5000, bounds(staleness), pins) else {
+        let Ok(core) = TxnCore::begin(alloc, 1, renew_after, bounds(staleness), pins) else {
             return None;
         };
         Some(Driver {
@@ -223,6 +257,17 @@ impl<A: App, C: Cacheable> Driver<A, C> {
         }
     }
 
+    /// How a call ends of which the port that is asked refuses a request by the refusal of this number; nothing
+    /// for a node's one, which ends no call.
+    pub(super) fn text_of(&self, number: usize) -> &'static str {
+        match &self.asks {
+            Some(PortRequest::Pin { .. }) => text_at(&PIN_TEXTS, number),
+            Some(PortRequest::AddPin(_)) => text_at(&ADD_TEXTS, number),
+            Some(PortRequest::Query { .. }) => text_at(&QUERY_TEXTS, number),
+            _ => "",
+        }
+    }
+
     /// Gives such a refusal, and then the first refusal of each port that is still asked.
     pub(super) fn refuse_all(&mut self, alloc: Global, number: usize, answer: &mut String) {
         self.refuse_by(alloc, number, answer);
@@ -281,6 +326,21 @@ impl<A: App, C: Cacheable> Driver<A, C> {
         }
         let free = free(&mut pool);
         let _ = write!(answer, "; {free} free");
+    }
+
+    /// Drops it as it stands, and answers how many permits are free then.
+    pub(super) fn drop_all(self) -> usize {
+        let Driver {
+            database: _,
+            registry,
+            mut pool,
+            core,
+            asks: _,
+            pinned: _,
+        } = self;
+        drop(core);
+        drop(registry);
+        free(&mut pool)
     }
 
     fn say_pins(&self, answer: &mut String) {
