@@ -256,7 +256,7 @@ impl<'a, J: Naming, A: App, C: Cacheable> RwTxn<'a, J, A, C> {
             front,
         } = done;
         held.front().agree(&front);
-        let (answers, _unpin) = core.finish();
+        let answers = core.finish();
         let _refused = database.release(rt, held);
         let committed = Committed {
             stamp,
@@ -277,7 +277,7 @@ impl<'a, J: Naming, A: App, C: Cacheable> RwTxn<'a, J, A, C> {
             core,
             held,
         } = self;
-        let (_answers, _unpin) = core.finish();
+        let _answers = core.finish();
         let _refused = database.release(rt, held);
         registry
     }
