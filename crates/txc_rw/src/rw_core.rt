@@ -130,12 +130,12 @@ impl RwCore {
             base: _,
             tags: _,
             queried: _,
-            answers,
+            answers: given,
             changes: _,
             machine: _,
             reading: _,
         } = self;
-        answers
+        given
     }
 
     /// Gives it up: every object is idle then, and its base is to be unpinned.
