@@ -56,7 +56,7 @@ impl<J: Naming> Held<J> {
 
     /// The stamp; the hold is not one any more.
     pub(crate) fn spend(self) -> Stamp
-        ensures { result ≡ length self.entry }
+        ensures { result ≡ length self }
     {
         let Held {
             stamp,
