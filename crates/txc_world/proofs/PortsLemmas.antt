@@ -167,13 +167,6 @@ led_advanced p q same at old new advanced within is led =
     led_from p q same at (λ was is. AdvanceLeads q.actors (whole_of q) was is advanced) old new within is
     (subst (λ (v : PortsValue). AdvanceLeads v.actors (whole_of v) old new advanced) same led)
 
--- a node may be led to what it was
-pub led_nowhere : (p : PortsValue) (at : ℕ) (leads : NodeValue → NodeValue → Type 0) → at < length p.nodes
-    → ((n : NodeValue) → leads n n) → HasLedNode at leads p p
-led_nowhere p at leads within same =
-    let n = there_is p.nodes at within in
-    record { before = n.0; after = n.0; there = n.1; is = λ i. record p { nodes = sym n.2 i }; led = same n.0 }
-
 -- ---- events more
 
 -- one event more is a longer history
