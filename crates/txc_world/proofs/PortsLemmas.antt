@@ -120,16 +120,6 @@ commit_part d changes = record {
       (prefix_push d.history (commit_event (newest_state d) changes));
 }
 
--- ---- a node led on
-
-module _ {X : Type 0} where
-  -- what stands at a place, and put there again changes nothing
-  pub there_is : (xs : List X) (i : ℕ) → i < length xs → (x : X) × (slice_get xs i ≡ Some x) × (set xs i x ≡ xs)
-  there_is [] i within = absurd (omega (arith, within))
-  there_is (x ∷ xs) zero within = (x, refl, refl)
-  there_is (x ∷ xs) (suc i) within =
-      let rest = there_is xs i (omega (arith, within)) in (rest.0, rest.1, ap (λ (ys : List X). x ∷ ys) rest.2)
-
 -- ---- from the fields of the ports to their value
 
 module _ (p q : PortsValue) (same : p ≡ q) where
