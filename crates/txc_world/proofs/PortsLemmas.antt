@@ -1,5 +1,5 @@
 -- What the steps of a world keep of its ports.
-use Rattle.std.proofs.Common.{◌≡◌, ◌∙◌, ◌⊎◌, inl, inr, ℕ, zero, suc, ◌+◌, ◌<◌, arith, ◌==◌, ◌||◌, eq-eqb, ne_eqb, remove, Bool, true, false, List, [], ◌∷◌, ◌++◌, length, get_or, set, slice_get, Some, All, Result, Ok, Err, refl, ap, sym, subst}
+use Rattle.std.proofs.Common.{◌≡◌, ◌∙◌, ◌⊎◌, inl, inr, ℕ, zero, suc, ◌+◌, ◌<◌, arith, ◌==◌, ◌||◌, eq-eqb, ne_eqb, remove, Bool, true, false, List, [], ◌∷◌, ◌++◌, length, get_or, set, Some, All, Result, Ok, Err, refl, ap, sym, subst}
 use Rattle.std.proofs.lemmas.List.{length-set}
 use Rattle.std.proofs.lemmas.Option.{slice_get-get_or}
 use Rattle.std.proofs.Math.Seq.{map-set_same}
