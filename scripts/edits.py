@@ -182,6 +182,8 @@ def try_named(root, edits):
             if os.path.isdir(f"{root}/crates/{crate}/{part}"):
                 shutil.copytree(f"{root}/crates/{crate}/{part}", f"{room}/{part}")
         applied = apply(edits, room)
+        if not applied:
+            return
         ends = sorted({end for edit in applied for end in edit.ends()})
         ran = subprocess.run(["rattle", "check", *check_words(root, crate), *(it for end in ends for it in ("--only", end))],
                              cwd=room, stdout=subprocess.PIPE, stderr=subprocess.STDOUT, errors="replace", text=True)
@@ -191,8 +193,7 @@ def try_named(root, edits):
         for edit in applied:
             if unknown[1] in edit.ends():
                 edit.verdict, edit.said = "bad", unknown[0]
-        others = [edit for edit in applied if not edit.verdict]
-        return try_named(root, others) if others else None
+        return try_named(root, [edit for edit in applied if not edit.verdict])
     for edit in applied:
         judge(edit, lines, ran.returncode, False)
         if not edit.verdict and len(applied) == 1:
