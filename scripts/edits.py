@@ -38,7 +38,9 @@ JOBS = int(os.environ.get("JOBS", os.cpu_count()))
 MOST_TOGETHER = 24
 # What is said where a proof file names what an edit took away: this shows little of a contract.
 NAMES = re.compile(r"has no field|is not in scope|has no `|was not admitted")
-
+# What is said of a function of which only a callee is not proved.
+WAITS = re.compile(r"not proved; it waits|(?:no proof:|not proved;) it calls `.*`, which (?:is|are) not proved$"
+                   r"|no proof: the borrow checker's part in its proof is not made yet: a call of .*, which has no proof")
 # What the prover says of a name that it is asked to check, where it has none or several such, before it checks anything.
 UNKNOWN = re.compile(r"(?:has no function|several functions are named) `([^`]*)`.*")
 
@@ -252,9 +254,11 @@ def judge(edit, lines, status, is_alone):
     for path in edit.functions:
         name = re.compile(rf"fn {path}(?:<.*>)?: (.*)")
         own += [it[1] for it in map(name.match, lines) if it]
-    failing = [it for it in own if it != "proved" and not it.startswith("not proved; it waits")
-               and not re.match(r"(?:no proof:|not proved;) it calls `.*`, which (?:is|are) not proved$", it)]
-    if failing:
+    failing = [it for it in own if it != "proved" and not WAITS.match(it)]
+    unjudged = [it for it in failing if "the borrow checker does not cover" in it]
+    if unjudged:
+        edit.verdict, edit.said = "bad", unjudged[0]
+    elif failing:
         edit.verdict, edit.said = "refused", failing[0]
         proofs = [it for it in lines if any(re.search(f"proofs/{proof_folder(path)}/", it) for path in edit.functions)]
         errors = [it for it in proofs if ": error" in it]
