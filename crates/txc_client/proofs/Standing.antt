@@ -1,5 +1,5 @@
 -- A client's own records in the history of a node.
-use Rattle.std.proofs.Common.{◌≡◌, ◌≢◌, ℕ, zero, suc, Bool, true, false, List, [], ◌∷◌, ◌++◌, set, slice_get, Option, Some, None, if◌then◌else◌, refl, sym, ap, subst, ◌∙◌, append-nil, append_assoc, inl, inr}
+use Rattle.std.proofs.Common.{◌≡◌, ◌≢◌, ℕ, zero, suc, Bool, true, false, List, [], ◌∷◌, ◌++◌, set, slice_get, Option, Some, None, cond, refl, sym, ap, subst, ◌∙◌, append-nil, append_assoc, inl, inr}
 use Rattle.std.specs.List.{filter}
 use Rattle.std.specs.Prelude.{◌==◌}
 use Rattle.std.proofs.lemmas.Bool.{eq-eqb, eqb-true, eqb-false}
@@ -130,7 +130,7 @@ AddedAt node xs p news = (q : PassValue) × (slice_get news node ≡ Some q) × 
 
 -- the exchange, if it is with the node
 abbrev one_if : Bool → Exchange → List Exchange
-one_if b x = if b then x ∷ [] else []
+one_if b x = cond b (x ∷ []) []
 
 module _ (at node : ℕ) (x : Exchange) (call : PassValue → PassValue → Type 0) (olds news : List PassValue) (p : PassValue)
     (does : (old new : PassValue) → HasGrown old new → call old new → HasAdded (x ∷ []) old new) where
