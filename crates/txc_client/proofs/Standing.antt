@@ -1,5 +1,5 @@
 -- A client's own records in the history of a node.
-use Rattle.std.proofs.Common.{◌≡◌, ◌≢◌, ℕ, zero, suc, Bool, true, false, List, [], ◌∷◌, ◌++◌, set, slice_get, Option, Some, None, if◌then◌else◌, refl, sym, ap, subst, ◌∙◌, append-nil, append_assoc, inl, inr}
+use Rattle.std.proofs.Common.{◌≡◌, ◌≢◌, ℕ, zero, suc, Bool, true, false, List, [], ◌∷◌, ◌++◌, set, slice_get, Option, Some, None, cond, refl, sym, ap, subst, ◌∙◌, append-nil, append_assoc, inl, inr}
 use Rattle.std.specs.List.{filter}
 use Rattle.std.specs.Prelude.{◌==◌}
 use Rattle.std.proofs.lemmas.Bool.{eq-eqb, eqb-true, eqb-false}
@@ -100,8 +100,8 @@ module _ (old new : PassValue) (grown : HasGrown old new) (x : Exchange) where
       added_these (next_record old.pass old.records op reply ∷ []) (may (next_record old.pass old.records op reply, refl, is)) (one_more old.pass old.records new.records op reply h)
 
   -- it was refused
-  added_no : ([] ≡ [] → Leaves x []) → (cells : List ℕ) (e : NodeError) → IsPassLeft cells old new e → HasAdded (x ∷ []) old new
-  added_no may cells e h = added_these [] (may refl) (as_before e h ∙ sym (append-nil (own_records old)))
+  added_no : Leaves x [] → (cells : List ℕ) (e : NodeError) → IsPassLeft cells old new e → HasAdded (x ∷ []) old new
+  added_no none cells e h = added_these [] none (as_before e h ∙ sym (append-nil (own_records old)))
     where
       as_before : (error : NodeError) → IsPassLeft cells old new error → made_by old.pass new.records ≡ own_records old
       as_before Broken left = ap (λ (p : PassValue). made_by old.pass p.records) left
@@ -130,7 +130,7 @@ AddedAt node xs p news = (q : PassValue) × (slice_get news node ≡ Some q) × 
 
 -- the exchange, if it is with the node
 abbrev one_if : Bool → Exchange → List Exchange
-one_if b x = if b then x ∷ [] else []
+one_if b x = cond b (x ∷ []) []
 
 module _ (at node : ℕ) (x : Exchange) (call : PassValue → PassValue → Type 0) (olds news : List PassValue) (p : PassValue)
     (does : (old new : PassValue) → HasGrown old new → call old new → HasAdded (x ∷ []) old new) where
@@ -172,7 +172,7 @@ module _ (node_rows : ℕ → List ℕ) (olds news : List PassValue) (node : ℕ
       added_at at node (exchanges.Lookup at key lo hi None) (LookupLeaves node_rows key lo hi None) olds news p
       (λ old new grown called. elim called [
         | inl made ↦ added_one old new grown (exchanges.Lookup at key lo hi None) (ops.Lookup key lo hi) (found_reply None) made (λ one. inr one) (refl, refl)
-        | inr refused ↦ added_no old new grown (exchanges.Lookup at key lo hi None) (λ none. inl none) (node_rows old.settings.number) refused.1.error refused.1.left
+        | inr refused ↦ added_no old new grown (exchanges.Lookup at key lo hi None) (inl refl) (node_rows old.settings.number) refused.1.error refused.1.left
       ]) h is
 
   insert_adds : (at : ℕ) (entry : Entry) → IsCallAt at (InsertLeaves node_rows entry) olds news
@@ -182,7 +182,7 @@ module _ (node_rows : ℕ → List ℕ) (olds news : List PassValue) (node : ℕ
       (λ old new grown called. elim called [
         | inl made ↦
             added_one old new grown (exchanges.Insert at entry) (ops.Insert entry) (replies.Inserted made.1.inserted) made.1.made (λ one. inr one) (refl, made.1.inserted, refl)
-        | inr refused ↦ added_no old new grown (exchanges.Insert at entry) (λ none. inl none) (node_rows old.settings.number) refused.error refused.left
+        | inr refused ↦ added_no old new grown (exchanges.Insert at entry) (inl refl) (node_rows old.settings.number) refused.error refused.left
       ]) h is
 
   exchange_adds : (x : Exchange) → PassesAfter node_rows olds x news → slice_get olds node ≡ Some p → AddedAt node (filter (asks node) (x ∷ [])) p news
