@@ -37,7 +37,7 @@ JOBS = int(os.environ.get("JOBS", os.cpu_count()))
 # A check of many edits still fits the memory and ends in some minutes.
 MOST_TOGETHER = 24
 # What is said where a proof file names what an edit took away: this shows little of a contract.
-NAMES = re.compile(r"has no field|is not in scope|has no `|was not admitted")
+NAMES = re.compile(r"has no field|\(nearest: |is not in scope|has no `|was not admitted")
 # What is said of a function of which only a callee is not proved.
 WAITS = re.compile(r"not proved; it waits|(?:no proof:|not proved;) it calls `.*`, which (?:is|are) not proved$"
                    r"|no proof: the borrow checker's part in its proof is not made yet: a call of .*, which has no proof")
