@@ -3,7 +3,9 @@ use super::calling::{Read, read_in};
 use super::desk::{
     committed, long, pinned, say, say_call, say_pins, say_receipt, say_stamp, say_text,
 };
+use super::refusals::append_event;
 use std::alloc::{AllocError, Global};
+use std::fmt::Display;
 use std::str::SplitWhitespace;
 use std::sync::Wait;
 use txc_client::{Client, RoTxn};
@@ -11,7 +13,7 @@ use txc_cushion::Pincushion;
 use txc_db::{Database, Naming};
 use txc_functions::{Object, Program, registry};
 use txc_permits::PermitPool;
-use txc_players::{Obeys, Player, changes, number, say_unknown};
+use txc_players::{Obeys, Player, changes, number, say_unknown, stamp};
 use txc_ports::Bounds;
 use txc_rows::Change;
 use txc_rw::RwTxn;
@@ -238,6 +240,42 @@ impl<'a, J: Naming, R: Wait> Caller<'a, J, R> {
     }
 }
 
+/// Pins the present so often, and answers the last stamp.
+fn pinned_often<J: Naming>(
+    rt: &impl Wait,
+    alloc: Global,
+    (database, cushion): (&Database<J>, &Pincushion<J>),
+    now: u64,
+    count: u32,
+) -> Option<Stamp> {
+    let mut last = None;
+    for _ in 0..count {
+        last = Some(pinned(rt, alloc, database, cushion, now)?);
+    }
+    last
+}
+
+/// Holds the newest stamp so often.
+fn hold_often<J: Naming>(
+    rt: &impl Wait,
+    alloc: Global,
+    database: &Database<J>,
+    count: u32,
+    answer: &mut String,
+) {
+    for _ in 0..count {
+        if let Err(error) = database.hold(rt, alloc) {
+            return say(answer, &error);
+        }
+    }
+}
+
+fn say_refused<E: Display + Drop>(answer: &mut String, done: Result<(), E>) {
+    if let Err(error) = done {
+        say(answer, &error);
+    }
+}
+
 impl<J: Naming, R: Wait> Obeys for Caller<'_, J, R> {
     fn obey(
         &mut self,
@@ -264,6 +302,17 @@ impl<J: Naming, R: Wait> Obeys for Caller<'_, J, R> {
             }
             "write" => say_stamp(answer, committed(rt, alloc, database, changes)),
             "pin" => say_stamp(answer, pinned(rt, alloc, database, cushion, long(words))),
+            "pins" => {
+                let (now, count) = (long(words), number(words));
+                say_stamp(
+                    answer,
+                    pinned_often(rt, alloc, (database, cushion), now, count),
+                );
+            }
+            "holds" => hold_often(rt, alloc, database, number(words), answer),
+            "unpin" => say_refused(answer, database.unpin(rt, stamp(words))),
+            "vacuum" => say_stamp(answer, database.vacuum(rt).ok()),
+            "foreign" => say_refused(answer, append_event(alloc, database.events())),
             _ => say_unknown(answer),
         }
     }

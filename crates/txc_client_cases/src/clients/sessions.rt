@@ -2,6 +2,7 @@
 ghost use Rattle.std.specs.Prelude.{◌≡◌, ◌≤◌, IfSome, vec_len};
 
 use super::caller::Caller;
+use super::refusals::append_foreign;
 use std::alloc::Global;
 use std::marker::Brand;
 use std::sync::Wait;
@@ -52,15 +53,12 @@ counts 0 1 1 => lookups 2 hits 1 stored 1
 counts 0 2 1 => no such node
 ";
 
-/// How many permits there are for all functions, and the commands.
-type Script = (u64, &'static str);
-
-const SCRIPTS: [Script; 2] = [(4, SEEN), (4, COUNTS)];
+const SCRIPTS: [&str; 2] = [SEEN, COUNTS];
 
 /// After how long a pin is renewed.
-const RENEW_AFTER: u64 = 5000;
+pub(super) const RENEW_AFTER: u64 = 5000;
 
-fn node<J: Naming>(
+pub(super) fn node<J: Naming>(
     alloc: Global,
     number: usize,
     row: EventRow<Record>,
@@ -76,12 +74,14 @@ fn node<J: Naming>(
     SharedNode::new(alloc, settings, row, database).ok()
 }
 
-/// Plays the script to a caller with two clients over two nodes. None where memory for these was refused.
+/// Plays the script to a caller with two clients over two nodes, of which the second is broken once they have
+/// their passes, if that is asked for. None where memory for these was refused.
 fn play<J: Naming>(
     rt: &impl Wait,
     alloc: Global,
     rows: (DbCore, EventRow<Record>, EventRow<Record>),
-    script: Script,
+    is_broken: bool,
+    script: &str,
     answer: &mut String,
 ) -> Option<bool>
     requires database { rows.0.events ≡ J.database_row }
@@ -94,7 +94,7 @@ fn play<J: Naming>(
     let mut nodes = Vec::new(alloc);
     nodes.push(node(alloc, 0, one, &database)?).ok()?;
     nodes.push(node(alloc, 1, other, &database)?).ok()?;
-    let mut pool = PermitPool::new(alloc, script.0.clamp(1, 16)).ok()?;
+    let mut pool = PermitPool::new(alloc, 4).ok()?;
     let Ok(one) = registry(alloc, &mut pool) else {
         return None;
     };
@@ -103,23 +103,38 @@ fn play<J: Naming>(
     };
     let one = Client::new(rt, alloc, &database, &cushion, &nodes, one, RENEW_AFTER).ok()?;
     let other = Client::new(rt, alloc, &database, &cushion, &nodes, other, RENEW_AFTER).ok()?;
+    if is_broken {
+        append_foreign(alloc, nodes[1].row()).ok()?;
+    }
     let mut caller = Caller::new(rt, (&database, &cushion), pool, (one, other));
-    Some(is_played(&mut caller, alloc, "", script.1, answer))
+    Some(is_played(&mut caller, alloc, "", script, answer))
 }
 
-/// Makes the rows, and plays the script.
-fn start(rt: &impl Wait, alloc: Global, script: Script, answer: &mut String) -> Option<bool> {
-    let core = DbCore::new(alloc, 64).ok()?;
+/// Makes the rows, with room for so many events, and plays the script.
+fn start(
+    rt: &impl Wait,
+    alloc: Global,
+    (events, is_broken): (usize, bool),
+    script: &str,
+    answer: &mut String,
+) -> Option<bool> {
+    let core = DbCore::new(alloc, events.clamp(1, 4096)).ok()?;
     let one = EventRow::new(alloc, 64).ok()?;
     let other = EventRow::new(alloc, 64).ok()?;
-    play::<Brand>(rt, alloc, (core, one, other), script, answer)
+    play::<Brand>(rt, alloc, (core, one, other), is_broken, script, answer)
 }
 
 /// Whether all is answered as wanted: anew where memory was refused, since then a call may be made twice.
-fn is_answered(rt: &impl Wait, alloc: Global, script: Script, answer: &mut String) -> bool {
+pub(super) fn is_answered(
+    rt: &impl Wait,
+    alloc: Global,
+    made: (usize, bool),
+    script: &str,
+    answer: &mut String,
+) -> bool {
     for _ in 0..2u32 {
         answer.clear();
-        if let Some(true) = start(rt, alloc, script, answer) {
+        if let Some(true) = start(rt, alloc, made, script, answer) {
             return true;
         }
     }
@@ -131,7 +146,7 @@ fn nobody_goes_back_in_a_session(rt: HostRuntime) -> Result<(), Fail> {
     let mut answer = room(rt.alloc())?;
     for script in SCRIPTS {
         assert!(&rt;
-            is_answered(&rt, rt.alloc(), script, &mut answer),
+            is_answered(&rt, rt.alloc(), (64, false), script, &mut answer),
             "{answer}"
         );
     }
