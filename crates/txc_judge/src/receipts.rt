@@ -22,7 +22,7 @@ impl Asked {
     }
 
     /// Whether the pin may be used: of that moment, if there is one.
-    fn allows(&self, history: &History<'_>, stamp: usize, moment: Option<u64>) -> bool {
+    pub fn allows(&self, history: &History<'_>, stamp: usize, moment: Option<u64>) -> bool {
         let (now, staleness) = (self.now, self.staleness);
         let is_fresh = history.moments(stamp).iter().any(|other| {
             other.saturating_add(staleness) >= now && moment.unwrap_or(*other) == *other

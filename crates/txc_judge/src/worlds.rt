@@ -47,20 +47,20 @@ pub struct Counts {
 }
 
 #[derive(Drop)]
-struct Judge<'a> {
-    size: Size,
+pub(crate) struct Judge<'a> {
+    pub(crate) size: Size,
     /// What is written where nothing is refused memory.
-    wanted: &'a str,
-    history: History<'a>,
+    pub(crate) wanted: &'a str,
+    pub(crate) history: History<'a>,
     actors: Vec<Actor<'a>>,
     /// The horizon that was told last; none where another one may have come since.
     horizon: Option<usize>,
     /// How many receipts and commits were judged.
-    receipts: u32,
+    pub(crate) receipts: u32,
     /// How many lines and runs were refused memory.
-    wants: u32,
+    pub(crate) wants: u32,
     /// The last line that was judged, and its reply.
-    last: (&'a str, &'a str),
+    pub(crate) last: (&'a str, &'a str),
 }
 
 /// Whether counts are those of the function of this number, which was not found more often than it was looked up.
@@ -70,7 +70,7 @@ fn are_counts(function: &str, reply: &str) -> bool {
 }
 
 impl<'a> Judge<'a> {
-    fn new(alloc: Global, size: Size, wanted: &'a str) -> Result<Judge<'a>, AllocError> {
+    pub(crate) fn new(alloc: Global, size: Size, wanted: &'a str) -> Result<Judge<'a>, AllocError> {
         let mut actors = Vec::with_capacity(alloc, size.actors)?;
         for _ in 0..size.actors {
             actors.push(Actor::new(alloc))?;
@@ -117,7 +117,7 @@ impl<'a> Judge<'a> {
 
     /// Whether this may be refused here. Memory may be, anywhere; after the step that takes the hold of a pin
     /// away it was refused before.
-    fn allows(
+    pub(crate) fn allows(
         &mut self,
         alloc: Global,
         line: &str,
@@ -205,7 +205,7 @@ impl<'a> Judge<'a> {
     }
 
     /// Notes what a line did, and judges it.
-    fn judge_line(
+    pub(crate) fn judge_line(
         &mut self,
         alloc: Global,
         line: &'a str,
@@ -290,6 +290,7 @@ impl<'a> Judge<'a> {
             };
             self.last = (line, reply);
             if reply.ends_with(": malformed") {
+                is_right = self.wanted.contains(": malformed");
                 break;
             }
             if !self.judge_line(alloc, line, reply)? {
@@ -335,8 +336,16 @@ impl<'a> Judge<'a> {
         Ok(self.wants > wants || is_done && self.is_tidy(replies))
     }
 
+    /// How many receipts and wants of memory were judged.
+    pub(crate) fn counts(&self) -> Counts {
+        Counts {
+            receipts: self.receipts,
+            wants: self.wants,
+        }
+    }
+
     /// Writes the last line that was judged, and its reply.
-    fn say_last(&self, answer: &mut String) {
+    pub(crate) fn say_last(&self, answer: &mut String) {
         let (line, reply) = self.last;
         let _ = write!(answer, "{line} => {reply};");
     }
