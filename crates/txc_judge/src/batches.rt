@@ -90,7 +90,7 @@ impl<'a> Judge<'a> {
             if line.is_empty() || line.starts_with("#") {
                 continue;
             }
-            let mut others = replies.clone();
+            let mut others = replies.clone()?;
             let reply = others.next();
             if is_malformed(reply.unwrap_or(""), place.saturating_add(1))
                 && self.wanted.contains(reply.unwrap_or(""))

@@ -22,7 +22,7 @@ use txc_tags::{Key, LAST_FUNCTION};
 use txc_txn::Session;
 
 /// A client of the program's functions.
-type Reader<'a, J> = Client<'a, Program, Object, J>;
+pub(super) type Reader<'a, J> = Client<'a, Program, Object, J>;
 
 /// A read-only transaction of one.
 type Reading<'a, J> = RoTxn<'a, Program, Object, J>;

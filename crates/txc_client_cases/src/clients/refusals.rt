@@ -1,6 +1,7 @@
 //! What clients are refused: where something beside them broke the database or a node, and at limits.
 ghost use Rattle.std.specs.Prelude.{◌≡◌};
 
+use super::caller::Reader;
 use super::sessions::{RENEW_AFTER, is_answered, node};
 use std::alloc::{AllocError, Global};
 use std::marker::Brand;
@@ -13,10 +14,12 @@ use txc_functions::registry;
 use txc_node::{Op, Record, Reply};
 use txc_permits::PermitPool;
 use txc_players::room;
+use txc_ports::Bounds;
 use txc_shared::MAX_PASSES;
 use txc_stamp::Stamp;
+use txc_stand_ins::free;
 use txc_stream::EventRow;
-use txc_tags::TagSet;
+use txc_tags::{Key, TagSet};
 
 /// The second node is broken, at which `f1` lies: it has nothing and keeps nothing.
 const BROKEN_NODE: &str = "write: put 1 7 2 a => 1
@@ -207,4 +210,88 @@ fn a_client_needs_a_pass_of_each_node(rt: HostRuntime) -> Result<(), Fail> {
         assert!(&rt; answer.as_str() == wanted, "{answer}");
     }
     Ok(())
+}
+
+/// What a client calls before it is dropped, each in a transaction of its own.
+const CALLS: &str = "f0(7)
+f2(2,9)
+f4()
+f5(3)
+f9()
+";
+
+/// Makes a call in a transaction that is given up, whatever comes of it.
+fn called<'a, J: Naming>(
+    rt: &impl Wait,
+    alloc: Global,
+    client: Reader<'a, J>,
+    text: &str,
+) -> Reader<'a, J> {
+    let Ok(key) = Key::read(text.as_bytes()) else {
+        return client;
+    };
+    let bounds = Bounds {
+        now: 1000,
+        staleness: 0,
+        at_least: Stamp::ZERO,
+    };
+    match client.begin_ro(rt, alloc, bounds) {
+        Ok(mut txn) => {
+            let _ = txn.call(rt, alloc, key);
+            txn.abort(rt)
+        }
+        Err((_, client)) => client,
+    }
+}
+
+/// How many permits are free once a client is dropped that made so many of the calls.
+fn free_after<J: Naming>(
+    rt: &impl Wait,
+    alloc: Global,
+    rows: (DbCore, EventRow<Record>),
+    count: usize,
+) -> Option<usize>
+    requires database { rows.0.events ≡ J.database_row }
+    requires node { rows.1 ≡ J.node_rows 0 }
+{
+    let (core, row) = rows;
+    let database = Database::<J>::new(alloc, core).ok()?;
+    let cushion = Pincushion::new(alloc, &database).ok()?;
+    let mut nodes = Vec::new(alloc);
+    nodes.push(node(alloc, 0, row, &database)?).ok()?;
+    let mut pool = PermitPool::new(alloc, 2).ok()?;
+    let registry = registry(alloc, &mut pool).ok()?;
+    let mut client = Client::new(
+        rt,
+        alloc,
+        &database,
+        &cushion,
+        &nodes,
+        registry,
+        RENEW_AFTER,
+    )
+    .ok()?;
+    for call in CALLS.lines().take(count) {
+        client = called(rt, alloc, client, call);
+    }
+    drop(client);
+    Some(free(&mut pool))
+}
+
+/// The same. None where memory for what is beside the client was refused.
+fn try_drop(rt: &impl Wait, alloc: Global, count: usize) -> Option<usize> {
+    let core = DbCore::new(alloc, 16).ok()?;
+    let row = EventRow::new(alloc, 64).ok()?;
+    free_after::<Brand>(rt, alloc, (core, row), count)
+}
+
+#[test]
+fn a_dropped_client_gives_its_permits_back(rt: HostRuntime) {
+    for count in 0..=CALLS.lines().count() {
+        let mut free = try_drop(&rt, rt.alloc(), count);
+        if free.is_none() {
+            free = try_drop(&rt, rt.alloc(), count);
+        }
+        assert!(&rt; free == Some(2), "{free:?} after {count} calls");
+    }
 }
