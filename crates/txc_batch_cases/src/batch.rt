@@ -231,7 +231,7 @@ fn say(rt: &impl Abort, other: Option<&'static str>) {
 
 #[test]
 fn scripts_give_their_replies(rt: HostRuntime) -> Result<(), Fail> {
-    play_all(&rt, "", 40)
+    play_all(&rt, "", 27)
 }
 
 // By itself, so that each of its allocations can be refused.
