@@ -5,7 +5,6 @@ use crate::receipts::Asked;
 use crate::words::{after, word};
 use crate::worlds::{Counts, Judge, Played, Ran, Size};
 use std::alloc::{AllocError, Global};
-use std::str::Lines;
 
 /// Whether the reply says that the line of this number, counted from 1, is malformed.
 fn is_malformed(reply: &str, number: usize) -> bool {
@@ -15,21 +14,20 @@ fn is_malformed(reply: &str, number: usize) -> bool {
     }
 }
 
-/// The keys with the values that were given to them; none where there are not as many.
-fn answers_of<'a>(
-    alloc: Global,
+/// Adds the keys with the values that were given to them; false where there are not as many.
+fn push_answers<'a>(
+    answers: &mut Vec<Answer<'a>>,
     keys: &'a str,
     values: &'a str,
-) -> Result<Option<Vec<Answer<'a>>>, AllocError> {
-    let mut answers = Vec::new(alloc);
+) -> Result<bool, AllocError> {
     let mut values = values.split(" ");
     for asked in keys.split(" ") {
         let Some(given) = values.next() else {
-            return Ok(None);
+            return Ok(false);
         };
         answers.push(Answer { asked, given })?;
     }
-    Ok(values.next().is_none().then_some(answers))
+    Ok(values.next().is_none())
 }
 
 impl<'a> Judge<'a> {
@@ -69,75 +67,95 @@ impl<'a> Judge<'a> {
             return self.allows(alloc, line, refusal, true);
         }
         self.receipts = self.receipts.saturating_add(1);
-        match answers_of(alloc, after(line, 3), told)? {
-            // No word of a job asks for a stamp.
-            Some(answers) => self.is_of_one_moment(alloc, Asked::of(after(line, 1)), &answers),
-            None => Ok(false),
-        }
+        let mut answers = Vec::new(alloc);
+        let are_as_many = push_answers(&mut answers, after(line, 3), told)?;
+        // No word of a job asks for a stamp.
+        let asked = Asked::of(after(line, 1));
+        Ok(are_as_many && self.is_of_one_moment(alloc, asked, &answers)?)
     }
 
-    /// Judges what the lines before the jobs were replied, and collects the jobs. None where something is not
-    /// right; where the run ended before its jobs, there is none.
+    /// Judges what the lines before the jobs were replied, and collects the jobs. Answers how many replies these
+    /// were; none where something is not right. Where the run ended before its jobs, there is none.
     fn judge_front(
         &mut self,
         alloc: Global,
         script: &'a str,
-        replies: &mut Lines<'a>,
+        replies: &[&'a str],
         is_cut: bool,
-    ) -> Result<Option<Vec<&'a str>>, AllocError> {
-        let mut jobs = Vec::new(alloc);
+        jobs: &mut Vec<&'a str>,
+    ) -> Result<Option<usize>, AllocError> {
+        let mut used = 0usize;
         for (place, line) in script.lines().enumerate() {
             if line.is_empty() || line.starts_with("#") {
                 continue;
             }
-            let mut others = replies.clone()?;
-            let reply = others.next();
-            if is_malformed(reply.unwrap_or(""), place.saturating_add(1))
-                && self.wanted.contains(reply.unwrap_or(""))
-            {
-                *replies = others;
-                return Ok(Some(Vec::new(alloc)));
+            let reply = match replies.get(used) {
+                Some(reply) => *reply,
+                None => "",
+            };
+            if is_malformed(reply, place.saturating_add(1)) && self.wanted.contains(reply) {
+                jobs.clear();
+                return Ok(Some(used.saturating_add(1)));
             }
             if word(line, 0) == "job" {
                 jobs.push(line)?;
                 continue;
             }
-            *replies = others;
-            match reply {
-                Some(reply) if self.judge_line(alloc, line, reply)? => {}
-                Some(_) => return Ok(None),
-                None => return Ok(is_cut.then_some(Vec::new(alloc))),
+            if used >= replies.len() {
+                jobs.clear();
+                return Ok(is_cut.then_some(used));
+            }
+            used = used.saturating_add(1);
+            if !self.judge_line(alloc, line, reply)? {
+                return Ok(None);
             }
         }
-        Ok(Some(jobs))
+        Ok(Some(used))
     }
 
-    /// Judges a run. Where it ended for want of memory, it wrote of the first jobs alone what they came to.
+    /// Judges the replies of a run. Where it ended for want of memory, it wrote of the first jobs alone what they
+    /// came to.
+    fn judge_replies(
+        &mut self,
+        alloc: Global,
+        script: &'a str,
+        replies: &[&'a str],
+        is_cut: bool,
+    ) -> Result<bool, AllocError> {
+        let mut jobs = Vec::new(alloc);
+        let Some(used) = self.judge_front(alloc, script, replies, is_cut, &mut jobs)? else {
+            return Ok(false);
+        };
+        for (number, line) in jobs.iter().enumerate() {
+            let Some(reply) = replies.get(used.saturating_add(number)) else {
+                return Ok(is_cut);
+            };
+            if !self.judge_job(alloc, number, line, reply)? {
+                return Ok(false);
+            }
+        }
+        Ok(replies.len() == used.saturating_add(jobs.len()))
+    }
+
+    /// Judges a run, after which all permits are back.
     fn judge_batch(
         &mut self,
         alloc: Global,
         script: &'a str,
         run: &'a Ran,
     ) -> Result<bool, AllocError> {
-        let mut replies = str::from_utf8(&run.written).unwrap_or("no text").lines();
+        let text = str::from_utf8(&run.written).unwrap_or("no text");
         self.wants = self.wants.saturating_add(u32::from(run.is_cut));
-        let Some(jobs) = self.judge_front(alloc, script, &mut replies, run.is_cut)? else {
-            return Ok(false);
-        };
-        for (number, line) in jobs.iter().enumerate() {
-            let Some(reply) = replies.next() else {
-                return Ok(run.is_cut && run.free == self.size.permits);
-            };
-            if !self.judge_job(alloc, number, line, reply)? {
-                return Ok(false);
-            }
+        let mut replies = Vec::new(alloc);
+        for reply in text.lines() {
+            replies.push(reply)?;
         }
-        Ok(replies.next().is_none() && run.free == self.size.permits)
+        let is_right = self.judge_replies(alloc, script, &replies, run.is_cut)?;
+        Ok(is_right && run.free == self.size.permits)
     }
 }
 
-/// Judges a run of a batch's script over a new world, after which all permits are back. None where something is
-/// not right, and writes what.
+/// Judges a run of a batch's script over a new world. None where something is not right, and writes what.
 pub fn judge_batch(
     alloc: Global,
     size: Size,
