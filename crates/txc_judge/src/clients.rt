@@ -35,6 +35,8 @@ struct Judge<'a> {
     permits: usize,
     history: History<'a>,
     horizon: usize,
+    /// The greatest stamp of the receipts and commits so far, which is the floor of a caller's session.
+    floor: usize,
     /// How many receipts were judged.
     receipts: u32,
     /// How often memory was refused.
@@ -52,7 +54,7 @@ fn command_of(line: &str) -> &str {
 /// Whether the command of the keeper was refused.
 fn is_refused(name: &str, told: &str) -> bool {
     match name {
-        "pin" | "write:" => told == "refused",
+        "pin" | "write:" | "update:" => told == "refused",
         "tidy" => told.is_empty(),
         _ => told.ends_with(NO_MEMORY),
     }
@@ -65,6 +67,7 @@ impl<'a> Judge<'a> {
             permits,
             history: History::new(alloc),
             horizon: 0,
+            floor: 0,
             receipts: 0,
             wants: 0,
             last: ("", ""),
@@ -97,19 +100,46 @@ impl<'a> Judge<'a> {
         }
         match name {
             "pin" => self.history.pin(alloc, read(told), moment),
-            "write:" => {
-                let mut changes = Vec::new(alloc);
-                changes.push(after(command, 1))?;
-                let before = self.history.commit_at(alloc, read(told), changes)?;
-                Ok(before.is_some())
-            }
+            "write:" | "update:" => self.judge_write(alloc, command, read(told)),
             "tidy" => {
                 self.horizon = read(word(told, 3));
                 Ok(word(told, 0) == "retired" && self.horizon <= self.history.most())
             }
             "permits" => Ok(read(told) == self.permits),
+            "floor" => Ok(read(told) == self.floor),
+            "counts" => Ok(read(word(told, 3)) <= read(word(told, 1))),
             _ => Ok(true),
         }
+    }
+
+    /// Notes a commit of the changes after the command's name, and judges its stamp. One of an update is of the
+    /// caller's session.
+    fn judge_write(
+        &mut self,
+        alloc: Global,
+        command: &'a str,
+        stamp: usize,
+    ) -> Result<bool, AllocError> {
+        let mut changes = Vec::new(alloc);
+        changes.push(after(command, 1))?;
+        if word(command, 0) == "update:" {
+            self.floor = self.floor.max(stamp);
+        }
+        let before = self.history.commit_at(alloc, stamp, changes)?;
+        Ok(before.is_some())
+    }
+
+    /// Judges a receipt, which the session notes.
+    fn judge_receipt(
+        &mut self,
+        alloc: Global,
+        asked: Asked,
+        answers: &[Answer<'a>],
+        told: &str,
+    ) -> Result<bool, AllocError> {
+        self.receipts = self.receipts.saturating_add(1);
+        self.floor = self.floor.max(read(word(told, 1)));
+        is_receipt(alloc, &mut self.history, asked, answers, told)
     }
 
     /// Notes what a command within a transaction did, and judges it.
@@ -150,7 +180,10 @@ impl<'a> Judge<'a> {
             return Ok(self.may_refuse(told));
         }
         let (begin, commands) = line.split_once(": ").unwrap_or((line, ""));
-        let asked = Asked::of(after(begin, 2));
+        let mut asked = Asked::of(after(begin, 2));
+        if word(begin, 0) == "session" {
+            asked.at_least = self.floor;
+        }
         let mut answers = Vec::new(alloc);
         let mut parts = told.split("; ");
         for command in commands.split(", ") {
@@ -159,8 +192,7 @@ impl<'a> Judge<'a> {
             }
             let part = parts.next().unwrap_or("");
             if command == "commit" {
-                self.receipts = self.receipts.saturating_add(1);
-                return is_receipt(alloc, &mut self.history, asked, &answers, part);
+                return self.judge_receipt(alloc, asked, &answers, part);
             }
             if !self.judge_command(alloc, asked, &mut answers, command, part)? {
                 return Ok(false);
@@ -181,7 +213,6 @@ impl<'a> Judge<'a> {
         if !told.contains(" receipt ") {
             return Ok(self.may_refuse(told));
         }
-        self.receipts = self.receipts.saturating_add(1);
         let mut answers = Vec::with_capacity(alloc, 2)?;
         for at in 0..2u32 {
             answers.push(Answer {
@@ -189,7 +220,27 @@ impl<'a> Judge<'a> {
                 given: word(told, at),
             })?;
         }
-        is_receipt(alloc, &mut self.history, asked, &answers, after(told, 2))
+        self.judge_receipt(alloc, asked, &answers, after(told, 2))
+    }
+
+    /// Judges a value that was read in the session.
+    fn judge_read(
+        &mut self,
+        alloc: Global,
+        line: &'a str,
+        told: &'a str,
+    ) -> Result<bool, AllocError> {
+        let mut asked = Asked::of(after(line, 2));
+        asked.at_least = self.floor;
+        self.history.may_pin(asked.now)?;
+        if !told.contains(" receipt ") {
+            return Ok(self.may_refuse(told));
+        }
+        let answer = Answer {
+            asked: word(line, 4),
+            given: word(told, 0),
+        };
+        self.judge_receipt(alloc, asked, &[answer], after(told, 1))
     }
 
     /// Judges the answers to the lines.
@@ -200,7 +251,8 @@ impl<'a> Judge<'a> {
             let answer = told.next().unwrap_or("");
             self.last = (command, answer);
             let is_right = match word(command, 0) {
-                "ro" => self.judge_transaction(alloc, command, answer)?,
+                "ro" | "session" => self.judge_transaction(alloc, command, answer)?,
+                "read" => self.judge_read(alloc, command, answer)?,
                 "page" => self.judge_page(alloc, command, answer)?,
                 _ => self.judge_keeper(alloc, command, answer)?,
             };
@@ -237,11 +289,16 @@ fn obey_all(desk: &mut impl Obeys, alloc: Global, lines: &str, answers: &mut Str
     }
 }
 
+/// Whether the line says a transaction that commits.
+fn commits(line: &str) -> bool {
+    matches!(word(line, 0), "ro" | "session") && command_of(line).ends_with(", commit")
+}
+
 /// The last transaction of the lines that commits, and what is done after it.
 fn anew_of(alloc: Global, lines: &str) -> Result<String, AllocError> {
     let mut last = "";
     for line in lines.lines() {
-        if line.starts_with("ro ") && command_of(line).ends_with(", commit") {
+        if commits(line) {
             last = line;
         }
     }

@@ -1,7 +1,7 @@
 //! A caller with one session, who uses two clients over two nodes and commits changes, as commands.
 use super::calling::{Read, read_in};
 use super::desk::{
-    committed, long, pinned, say, say_call, say_pins, say_receipt, say_stamp, say_text,
+    committed, long, pinned, say, say_call, say_pins, say_receipt, say_stamp, say_text, tidied,
 };
 use super::refusals::append_event;
 use std::alloc::{AllocError, Global};
@@ -13,11 +13,12 @@ use txc_cushion::Pincushion;
 use txc_db::{Database, Naming};
 use txc_functions::{Object, Program, registry};
 use txc_permits::PermitPool;
-use txc_players::{Obeys, Player, changes, number, say_unknown, stamp};
+use txc_players::{Obeys, Player, changes, number, say_number, say_unknown, stamp};
 use txc_ports::Bounds;
 use txc_rows::Change;
 use txc_rw::RwTxn;
 use txc_stamp::Stamp;
+use txc_stand_ins::free;
 use txc_tags::{Key, LAST_FUNCTION};
 use txc_txn::Session;
 
@@ -299,6 +300,14 @@ impl<J: Naming, R: Wait> Obeys for Caller<'_, J, R> {
                 };
                 let node = number(words) as usize;
                 say_counts(answer, client, node, number(words).min(255) as u8);
+            }
+            "free" => {}
+            "permits" => say_number(answer, free(&mut self.pool)),
+            "tidy" => {
+                let times = (long(words), long(words));
+                if let Some((retired, horizon)) = tidied(rt, alloc, database, cushion, times) {
+                    let _ = write!(answer, "retired {retired} horizon {horizon}");
+                }
             }
             "write" => say_stamp(answer, committed(rt, alloc, database, changes)),
             "pin" => say_stamp(answer, pinned(rt, alloc, database, cushion, long(words))),

@@ -11,6 +11,7 @@ use txc_client::Client;
 use txc_cushion::Pincushion;
 use txc_db::{Database, DbCore, Naming};
 use txc_functions::{Program, registry};
+use txc_judge::{Verdict, play_lines};
 use txc_node::Record;
 use txc_permits::PermitPool;
 use txc_players::{is_played, room};
@@ -53,7 +54,11 @@ counts 0 1 1 => lookups 2 hits 1 stored 1
 counts 0 2 1 => no such node
 ";
 
-const SCRIPTS: [&str; 2] = [SEEN, COUNTS];
+/// The scripts, and how many receipts are judged.
+const SCRIPTS: [(&str, u32); 2] = [(SEEN, 6), (COUNTS, 2)];
+
+/// How many permits there are for all functions.
+const PERMITS: u64 = 3;
 
 /// After how long a pin is renewed.
 pub(super) const RENEW_AFTER: u64 = 5000;
@@ -80,10 +85,10 @@ fn play<J: Naming>(
     rt: &impl Wait,
     alloc: Global,
     rows: (DbCore, EventRow<Record>, EventRow<Record>),
-    is_broken: bool,
+    (is_broken, is_judged): (bool, bool),
     script: &str,
     answer: &mut String,
-) -> Option<bool>
+) -> Option<Verdict>
     requires database { rows.0.events ≡ J.database_row }
     requires one { rows.1 ≡ J.node_rows 0 }
     requires other { rows.2 ≡ J.node_rows 1 }
@@ -94,7 +99,7 @@ fn play<J: Naming>(
     let mut nodes = Vec::new(alloc);
     nodes.push(node(alloc, 0, one, &database)?).ok()?;
     nodes.push(node(alloc, 1, other, &database)?).ok()?;
-    let mut pool = PermitPool::new(alloc, 4).ok()?;
+    let mut pool = PermitPool::new(alloc, PERMITS).ok()?;
     let Ok(one) = registry(alloc, &mut pool) else {
         return None;
     };
@@ -107,21 +112,29 @@ fn play<J: Naming>(
         append_foreign(alloc, nodes[1].row()).ok()?;
     }
     let mut caller = Caller::new(rt, (&database, &cushion), pool, (one, other));
-    Some(is_played(&mut caller, alloc, "", script, answer))
+    if is_judged {
+        return play_lines(&mut caller, alloc, script, PERMITS as usize, answer);
+    }
+    if is_played(&mut caller, alloc, "", script, answer) {
+        Some(Verdict::Wanted(0))
+    } else {
+        Some(Verdict::Other)
+    }
 }
 
 /// Makes the rows, with room for so many events, and plays the script.
 fn start(
     rt: &impl Wait,
     alloc: Global,
-    (events, is_broken): (usize, bool),
+    events: usize,
+    how: (bool, bool),
     script: &str,
     answer: &mut String,
-) -> Option<bool> {
+) -> Option<Verdict> {
     let core = DbCore::new(alloc, events.clamp(1, 4096)).ok()?;
     let one = EventRow::new(alloc, 64).ok()?;
     let other = EventRow::new(alloc, 64).ok()?;
-    play::<Brand>(rt, alloc, (core, one, other), is_broken, script, answer)
+    play::<Brand>(rt, alloc, (core, one, other), how, script, answer)
 }
 
 /// Whether all is answered as wanted: anew where memory was refused, since then a call may be made twice.
@@ -134,21 +147,35 @@ pub(super) fn is_answered(
 ) -> bool {
     for _ in 0..2u32 {
         answer.clear();
-        if let Some(true) = start(rt, alloc, made, script, answer) {
+        let (events, is_broken) = made;
+        let played = start(rt, alloc, events, (is_broken, false), script, answer);
+        if let Some(Verdict::Wanted(_)) = played {
             return true;
         }
     }
     false
 }
 
+/// How many receipts there are where all is answered as wanted: anew where memory was refused. None where something
+/// is wrong.
+fn judged(rt: &impl Wait, alloc: Global, script: &str, answer: &mut String) -> Option<u32> {
+    for _ in 0..2u32 {
+        answer.clear();
+        match start(rt, alloc, 64, (false, true), script, answer) {
+            Some(Verdict::Wanted(receipts)) => return Some(receipts),
+            Some(Verdict::Wrong) => return None,
+            _ => {}
+        }
+    }
+    None
+}
+
 #[test]
 fn nobody_goes_back_in_a_session(rt: HostRuntime) -> Result<(), Fail> {
     let mut answer = room(rt.alloc())?;
-    for script in SCRIPTS {
-        assert!(&rt;
-            is_answered(&rt, rt.alloc(), (64, false), script, &mut answer),
-            "{answer}"
-        );
+    for (script, receipts) in SCRIPTS {
+        let judged = judged(&rt, rt.alloc(), script, &mut answer);
+        assert!(&rt; judged == Some(receipts), "{judged:?} {answer}");
     }
     Ok(())
 }
