@@ -80,12 +80,12 @@ pub(super) fn node<J: Naming>(
 }
 
 /// Plays the script to a caller with two clients over two nodes, of which the second is broken once they have
-/// their passes, if that is asked for. None where memory for these was refused.
+/// their passes, if that is asked for; it is judged, if that is. None where memory for these was refused.
 fn play<J: Naming>(
     rt: &impl Wait,
     alloc: Global,
     rows: (DbCore, EventRow<Record>, EventRow<Record>),
-    (is_broken, is_judged): (bool, bool),
+    how: (bool, bool),
     script: &str,
     answer: &mut String,
 ) -> Option<Verdict>
@@ -94,6 +94,7 @@ fn play<J: Naming>(
     requires other { rows.2 ≡ J.node_rows 1 }
 {
     let (core, one, other) = rows;
+    let (is_broken, is_judged) = how;
     let database = Database::<J>::new(alloc, core).ok()?;
     let cushion = Pincushion::new(alloc, &database).ok()?;
     let mut nodes = Vec::new(alloc);
