@@ -2,7 +2,7 @@
 ghost use Rattle.std.specs.Prelude.{◌≡◌};
 
 use super::caller::Reader;
-use super::sessions::{RENEW_AFTER, is_answered, node};
+use super::sessions::{How, RENEW_AFTER, is_answered, node};
 use std::alloc::{AllocError, Global};
 use std::marker::Brand;
 use std::sync::Wait;
@@ -51,11 +51,11 @@ ro 0 1000 0: f0(7), pins, commit => the snapshot is gone: the horizon is 3; pins
 ro 1 9000 0: f0(7), commit => 62; receipt 4 9000
 ";
 
-/// What of this is made with how much room for events, and with a broken node.
-const BROKEN: [(usize, bool, &str); 3] = [
-    (64, true, BROKEN_NODE),
-    (64, false, BROKEN_DATABASE),
-    (64, false, LOST),
+/// With how much room for events each is played, and how.
+const BROKEN: [(usize, How, &str); 3] = [
+    (64, How::Broken, BROKEN_NODE),
+    (64, How::Compared, BROKEN_DATABASE),
+    (64, How::Compared, LOST),
 ];
 
 /// The pincushion takes no further pin. Of those that it has, the newest are handed out.
@@ -76,7 +76,10 @@ unpin 2 =>
 ro 0 9000 0: f0(7), commit => 61; receipt 3 9000
 ";
 
-const LIMITS: [(usize, bool, &str); 2] = [(4096, false, FULL_CUSHION), (64, false, HOLDS)];
+const LIMITS: [(usize, How, &str); 2] = [
+    (4096, How::Compared, FULL_CUSHION),
+    (64, How::Compared, HOLDS),
+];
 
 /// Appends a record past the node, as no call does.
 pub(super) fn append_foreign(alloc: Global, row: &EventRow<Record>) -> Result<(), AllocError> {
@@ -110,11 +113,11 @@ pub(super) fn append_event(alloc: Global, events: &EventRow<Event>) -> Result<()
 fn find_other(
     rt: &impl Wait,
     alloc: Global,
-    scripts: &[(usize, bool, &str)],
+    scripts: &[(usize, How, &str)],
     answer: &mut String,
 ) -> Option<usize> {
-    for (place, (events, is_broken, script)) in scripts.iter().enumerate() {
-        if !is_answered(rt, alloc, (*events, *is_broken), script, answer) {
+    for (place, (events, how, script)) in scripts.iter().enumerate() {
+        if !is_answered(rt, alloc, (*events, *how), script, answer) {
             return Some(place);
         }
     }

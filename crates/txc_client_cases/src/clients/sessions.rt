@@ -79,13 +79,21 @@ pub(super) fn node<J: Naming>(
     SharedNode::new(alloc, settings, row, database).ok()
 }
 
-/// Plays the script to a caller with two clients over two nodes, of which the second is broken once they have
-/// their passes, if that is asked for; it is judged, if that is. None where memory for these was refused.
+/// How a script is played: each line is compared, also where the second node is broken once the clients have their
+/// passes; or all is judged.
+#[derive(Clone, Copy, PartialEq, Eq)]
+pub(super) enum How {
+    Compared,
+    Broken,
+    Judged,
+}
+
+/// Plays the script to a caller with two clients over two nodes. None where memory for these was refused.
 fn play<J: Naming>(
     rt: &impl Wait,
     alloc: Global,
     rows: (DbCore, EventRow<Record>, EventRow<Record>),
-    how: (bool, bool),
+    how: How,
     script: &str,
     answer: &mut String,
 ) -> Option<Verdict>
@@ -94,7 +102,6 @@ fn play<J: Naming>(
     requires other { rows.2 ≡ J.node_rows 1 }
 {
     let (core, one, other) = rows;
-    let (is_broken, is_judged) = how;
     let database = Database::<J>::new(alloc, core).ok()?;
     let cushion = Pincushion::new(alloc, &database).ok()?;
     let mut nodes = Vec::new(alloc);
@@ -109,11 +116,11 @@ fn play<J: Naming>(
     };
     let one = Client::new(rt, alloc, &database, &cushion, &nodes, one, RENEW_AFTER).ok()?;
     let other = Client::new(rt, alloc, &database, &cushion, &nodes, other, RENEW_AFTER).ok()?;
-    if is_broken {
+    if how == How::Broken {
         append_foreign(alloc, nodes[1].row()).ok()?;
     }
     let mut caller = Caller::new(rt, (&database, &cushion), pool, (one, other));
-    if is_judged {
+    if how == How::Judged {
         return play_lines(&mut caller, alloc, script, PERMITS as usize, answer);
     }
     if is_played(&mut caller, alloc, "", script, answer) {
@@ -128,7 +135,7 @@ fn start(
     rt: &impl Wait,
     alloc: Global,
     events: usize,
-    how: (bool, bool),
+    how: How,
     script: &str,
     answer: &mut String,
 ) -> Option<Verdict> {
@@ -142,14 +149,14 @@ fn start(
 pub(super) fn is_answered(
     rt: &impl Wait,
     alloc: Global,
-    made: (usize, bool),
+    made: (usize, How),
     script: &str,
     answer: &mut String,
 ) -> bool {
     for _ in 0..2u32 {
         answer.clear();
-        let (events, is_broken) = made;
-        let played = start(rt, alloc, events, (is_broken, false), script, answer);
+        let (events, how) = made;
+        let played = start(rt, alloc, events, how, script, answer);
         if let Some(Verdict::Wanted(_)) = played {
             return true;
         }
@@ -162,7 +169,7 @@ pub(super) fn is_answered(
 fn judged(rt: &impl Wait, alloc: Global, script: &str, answer: &mut String) -> Option<u32> {
     for _ in 0..2u32 {
         answer.clear();
-        match start(rt, alloc, 64, (false, true), script, answer) {
+        match start(rt, alloc, 64, How::Judged, script, answer) {
             Some(Verdict::Wanted(receipts)) => return Some(receipts),
             Some(Verdict::Wrong) => return None,
             _ => {}
