@@ -13,6 +13,10 @@ A function's contract is all that the proofs of others know of it, so the wrong 
 functions are tried together, in one check: each is refused if the check says that its own function
 has a goal that is not proved. One of which that is not said is tried again, alone.
 
+An edit may change files of proofs/ beside its file of src/, so that a clause refuses it and not a name or an answer that is gone. One
+that changes no function, but a constant, has a line `function: NAME`: the function that is to refuse it, by its name or the end of it. Of
+a function that the prover does not know by that name the edit is bad, and the others of its check are tried without it.
+
 It prints each wrong body that is not plainly refused, with --named each, and last `N refused, M proved`, with
 `, K bad` where some could not be tried. The exit status is 0 only if M and K are 0.
 """
@@ -25,6 +29,7 @@ import subprocess
 import sys
 import tempfile
 from concurrent.futures import ThreadPoolExecutor
+from itertools import accumulate
 
 from check import check_words
 
@@ -33,19 +38,26 @@ JOBS = int(os.environ.get("JOBS", os.cpu_count()))
 MOST_TOGETHER = 24
 # What is said where a proof file names what an edit took away: this shows little of a contract.
 NAMES = re.compile(r"has no field|is not in scope|has no `|was not admitted")
+# What is said of a function of which only a callee is not proved.
+WAITS = re.compile(r"not proved; it waits|(?:no proof:|not proved;) it calls `.*`, which (?:is|are) not proved$"
+                   r"|no proof: the borrow checker's part in its proof is not made yet: a call of .*, which has no proof")
+# What the prover says of a name that it is asked to check, where it has none or several such, before it checks anything.
+UNKNOWN = re.compile(r"(?:has no function|several functions are named) `([^`]*)`.*")
 
 
 class Edit:
-    """A wrong body: its crate, its name, the pairs of texts of each file."""
+    """A wrong body: its crate, its name, the pairs of texts of each file, and the function that it names, if it names one."""
 
     def __init__(self, crate, path):
         self.crate, self.path = crate, path
         self.name = f"{crate}/{os.path.basename(path)}"
-        self.pairs, self.functions, self.verdict, self.said = [], set(), None, ""
+        self.pairs, self.named, self.functions, self.verdict, self.said = [], None, set(), None, ""
         file = old = None
         for line in open(path, encoding="utf-8").read().split("\n"):
             if line.startswith("file: "):
                 file = line[6:].strip()
+            elif line.startswith("function: "):
+                self.named = line[10:].strip()
             elif line.startswith("old: "):
                 old = line[5:]
             elif line.startswith("new:"):
@@ -65,8 +77,13 @@ class Edit:
         return found
 
     def find_functions(self, folder):
-        """The functions that it changes; none where it changes what is no function."""
+        """The function that it names, or those that it changes; none where it changes what is no function."""
+        if self.named:
+            self.functions = {rf"{self.crate}::(?:\w+::)*{re.escape(self.named)}"}
+            return
         for file, old, _ in self.pairs:
+            if not file.startswith("src/"):
+                continue
             path = f"{folder}/{file}"
             text = open(path, encoding="utf-8").read() if os.path.exists(path) else ""
             at = text[: max(text.find(old), 0)].count("\n")
@@ -76,6 +93,10 @@ class Edit:
                 self.functions = set()
                 return
             self.functions.add(inside[-1])
+
+    def ends(self):
+        """The ends of its functions' names: the prover takes them, where no other ends so."""
+        return {path.rpartition("*")[2].removeprefix(f"{self.crate}::").replace("\\", "") for path in self.functions}
 
 
 def functions(crate, file, text):
@@ -96,23 +117,30 @@ def functions(crate, file, text):
         if is_fn and (is_fn[1] == "" or kind and is_fn[1] == "    "):
             last = next((n for n in range(at, len(lines)) if lines[n] == is_fn[1] + "}"), at)
             # a method is named by the module of its type, wherever its `impl` stands
-            path = rf"{crate}::(?:\w+::)*{kind}::{is_fn[2]}" if kind else "::".join(module + [is_fn[2]])
+            path = rf"{crate}::(?:\w+::)*{re.escape(kind)}::{is_fn[2]}" if kind else "::".join(module + [is_fn[2]])
             found.append((at, last, path))
     return found
 
 
 def owner(head):
-    """A pattern of the name that the prover gives to an impl."""
-    head = re.sub(r"\{.*", "", head).strip()
-    head = re.sub(r"<dyn ([^<>]*)>", r"Dyn\1", head)
-    depth, bare = 0, ""
-    for c in head[4:]:
-        depth += (c == "<") - (c == ">")
-        if depth == 0 and c != ">":
-            bare += c
-    trait, _, kind = bare.partition(" for ")
-    name = lambda it: re.sub(r"\W", "", it.split("where")[0].split("::")[-1])
-    return name(kind) + name(trait) if kind else name(trait)
+    """The name that the prover gives to an impl: its type's and its trait's, each with its type arguments."""
+    head, own = re.split(r"\{|\bwhere\b", head)[0][4:].strip(), []
+    if head.startswith("<"):
+        depths = list(accumulate((c == "<") - (c == ">") for c in head))
+        end = depths.index(0) + 1
+        own, head = re.findall(r"[<,] *(\w+)", head[:end]), head[end:]
+    trait, _, kind = head.partition(" for ")
+    if not kind:
+        return "+".join(it for it in joined(trait, own) if it)
+    return "".join(joined(kind, own) + joined(trait, own))
+
+
+def joined(path, own):
+    """The last word of a path, and its type arguments joined, without the type parameters `own`."""
+    path, _, arguments = path.strip().partition("<")
+    words = [it for it in re.findall(r"\(\)|&|\[|(?<!')\b\w+", arguments) if it not in {"std", "crate", *own}]
+    signs = {"()": "Unit", "&": "Ref", "[": "Slice"}
+    return [path.split("::")[-1].strip(), "".join(signs.get(it, it[0].upper() + it[1:]) for it in words)]
 
 
 def rounds(edits):
@@ -156,11 +184,18 @@ def try_named(root, edits):
             if os.path.isdir(f"{root}/crates/{crate}/{part}"):
                 shutil.copytree(f"{root}/crates/{crate}/{part}", f"{room}/{part}")
         applied = apply(edits, room)
-        # the prover takes the end of a function's name, where no other ends so
-        ends = sorted({path.rpartition("*")[2].removeprefix(f"{crate}::") for edit in applied for path in edit.functions})
+        if not applied:
+            return
+        ends = sorted({end for edit in applied for end in edit.ends()})
         ran = subprocess.run(["rattle", "check", *check_words(root, crate), *(it for end in ends for it in ("--only", end))],
                              cwd=room, stdout=subprocess.PIPE, stderr=subprocess.STDOUT, errors="replace", text=True)
     lines = ran.stdout.split("\n")
+    unknown = UNKNOWN.search(ran.stdout)
+    if unknown:
+        for edit in applied:
+            if unknown[1] in edit.ends():
+                edit.verdict, edit.said = "bad", unknown[0]
+        return try_named(root, [edit for edit in applied if not edit.verdict])
     for edit in applied:
         judge(edit, lines, ran.returncode, False)
         if not edit.verdict and len(applied) == 1:
@@ -179,7 +214,7 @@ def named(root, crates):
     for edit in edits:
         edit.find_functions(f"{root}/crates/{edit.crate}")
         if not edit.functions:
-            edit.verdict, edit.said = "bad", "it changes no function"
+            edit.verdict, edit.said = "bad", "it changes no function, and names none"
     return edits
 
 
@@ -219,9 +254,11 @@ def judge(edit, lines, status, is_alone):
     for path in edit.functions:
         name = re.compile(rf"fn {path}(?:<.*>)?: (.*)")
         own += [it[1] for it in map(name.match, lines) if it]
-    failing = [it for it in own if it != "proved" and not it.startswith("not proved; it waits")
-               and not re.match(r"(?:no proof:|not proved;) it calls `.*`, which (?:is|are) not proved$", it)]
-    if failing:
+    failing = [it for it in own if it != "proved" and not WAITS.match(it)]
+    unjudged = [it for it in failing if "the borrow checker does not cover" in it]
+    if unjudged:
+        edit.verdict, edit.said = "bad", unjudged[0]
+    elif failing:
         edit.verdict, edit.said = "refused", failing[0]
         proofs = [it for it in lines if any(re.search(f"proofs/{proof_folder(path)}/", it) for path in edit.functions)]
         errors = [it for it in proofs if ": error" in it]

@@ -1,5 +1,5 @@
 -- What one call through a pass leaves of all passes.
-use Rattle.std.proofs.Common.{◌≡◌, ℕ, zero, suc, ◌<◌, List, [], ◌∷◌, length, get_or, set, slice_get, Option, Some, None, Result, Ok, Err, IfOk, IfErr, refl, sym, ap, subst, arith, inl, inr}
+use Rattle.std.proofs.Common.{◌≡◌, ℕ, ◌<◌, List, length, get_or, set, Option, Some, None, Result, Ok, Err, IfOk, IfErr, refl, sym, subst, inl, inr}
 use Rattle.std.specs.Option.{option_map}
 use Rattle.std.proofs.lemmas.Option.{slice_get_read}
 use Rattle.txc_tags.specs.Keys.{Call}
@@ -13,26 +13,11 @@ use Rattle.txc_shared.specs.declared.insertion.Insertion.{Insertion}
 use Rattle.txc_shared.specs.Passes.{PassValue, shown_of_entry, HasFound, HasGrown, HasInserted, HasMade, IsPassLeft}
 use Rattle.txc_shared.specs.Refusals.{IsLookupRefused, IsRefusedThrough, IsStepRefused, MayRefuse}
 use Rattle.txc_client.specs.Ports.{InsertLeaves, IsCallAt, LookupLeaves}
-use Rattle.txc_client.proofs.Grown.{grown_self}
 
 pub called_at : (ps : List PassValue) (node : ℕ) (call : PassValue → PassValue → Type 0) (old new : PassValue) → node < length ps → old ≡ get_or ps node old
     → HasGrown old new → call old new → IsCallAt node call ps (set ps node new)
 called_at ps node call old new within at grown called =
     record { old = old; new = new; pass = slice_get_read ps (length ps) node old refl within at; grown = grown; called = called; others = refl }
-
--- a pass that there is, put back
-there_is : (ps : List PassValue) (i : ℕ) → i < length ps → (p : PassValue) × (slice_get ps i ≡ Some p) × (ps ≡ set ps i p)
-there_is [] i within = absurd (omega (arith, within))
-there_is (p ∷ ps) zero within = (p, refl, refl)
-there_is (p ∷ ps) (suc i) within =
-    let rest = there_is ps i (omega (arith, within)) in
-    (rest.0, rest.1, ap (λ (l : List PassValue). p ∷ l) rest.2)
-
--- nothing was done
-pub not_called : (ps : List PassValue) (node : ℕ) (call : PassValue → PassValue → Type 0) → node < length ps → ((p : PassValue) → call p p) → IsCallAt node call ps ps
-not_called ps node call within idle =
-    let one = there_is ps node within in
-    record { old = one.0; new = one.0; pass = one.1; grown = grown_self one.0; called = idle one.0; others = one.2 }
 
 module _ (node_rows : ℕ → List ℕ) (old new : PassValue) where
   -- a lookup, by what it returns
@@ -62,4 +47,4 @@ module _ (node_rows : ℕ → List ℕ) (old new : PassValue) where
   pub inserted : (entry : Entry) (r : Result Insertion NodeError) → IfOk r (HasInserted old new entry) → IfErr r (IsPassLeft (node_rows old.settings.number) old new)
       → IfErr r (MayRefuse node_rows (λ n. IsRefusedThrough IsStepRefused n old)) → InsertLeaves node_rows entry old new
   inserted entry (Ok insertion) made left refused = inl (insertion, made)
-  inserted entry (Err e) made left refused = inr (inl (record { error = e; reason = refused; left = left }))
+  inserted entry (Err e) made left refused = inr (record { error = e; reason = refused; left = left })

@@ -1,44 +1,65 @@
 -- What the histories of the nodes show of a client's calls.
-use Rattle.std.specs.Prelude.{◌≡◌, ◌⊎◌, ◌==◌, ℕ, if◌then◌else◌, List, [], ◌∷◌, ◌++◌, map, slice_get, Some}
+use Rattle.std.specs.Prelude.{◌≡◌, ◌⊎◌, ◌==◌, ℕ, Bool, false, List, [], ◌∷◌, ◌++◌, slice_get, Some}
 use Rattle.std.specs.List.{filter}
 use Rattle.txc_tags.specs.Keys.{Call}
-use Rattle.txc_node.specs.declared.op.Op.{Op}
+use Rattle.txc_node.specs.declared.node.Inserted.{Inserted}
 use Rattle.txc_node.specs.declared.op.Op.TheVariants as ops
 use Rattle.txc_node.specs.declared.record.Record.{Record}
+use Rattle.txc_node.specs.declared.reply.Reply.TheVariants as replies
 use Rattle.txc_app.specs.Eval.{Next}
 use Rattle.txc_shared.specs.Passes.{PassValue}
 use Rattle.txc_ports.specs.Exchanges.{Exchange}
 use Rattle.txc_ports.specs.Exchanges as exchanges
 use Rattle.txc_ports.specs.declared.turn.Turn.{Turn}
+use Rattle.txc_client.specs.Ports.{found_reply}
 use Rattle.txc_client.specs.Run.{HasRun}
 use Rattle.txc_client.specs.Txn.{RoTxnValue}
 
--- the steps of its own that a pass has seen, in the order of the node's history
-abbrev pub own_steps : PassValue → List Op
-own_steps p = map (λ (r : Record). r.op) (filter (λ (r : Record). r.pass == p.pass) p.records)
+-- of the records that a pass has seen, those that it made, in the order of the node's history
+abbrev pub own_records : PassValue → List Record
+own_records p = filter (λ (r : Record). r.pass == p.pass) p.records
 
--- the step that an exchange asks of the node
-abbrev pub step_at : ℕ → Exchange → List Op
-step_at node (exchanges.Lookup at key lo hi found) = if at == node then ops.Lookup key lo hi ∷ [] else []
-step_at node (exchanges.Insert at entry) = if at == node then ops.Insert entry ∷ [] else []
-step_at node exchange = []
+-- the exchange is with this node
+abbrev pub asks : ℕ → Exchange → Bool
+asks node (exchanges.Lookup at key lo hi found) = at == node
+asks node (exchanges.Insert at entry) = at == node
+asks node exchange = false
 
--- the steps that these exchanges ask of the node, in order
-abbrev pub asked_of : ℕ → List Exchange → List Op
-asked_of node [] = []
-asked_of node (x ∷ xs) = step_at node x ++ asked_of node xs
+-- the record is of the step that was asked, and shows the reply
+abbrev pub IsOne : Exchange → Record → Type 0
+IsOne (exchanges.Lookup at key lo hi found) r = (r.op ≡ ops.Lookup key lo hi) × (r.reply ≡ found_reply found)
+IsOne (exchanges.Insert at entry) r = (r.op ≡ ops.Insert entry)
+    × ((inserted : Inserted) × (r.reply ≡ replies.Inserted inserted))
+IsOne exchange r = ⊥
 
--- of the steps that were asked for, in order, each was made once, or was refused and not made
-abbrev pub AreMade : List Op → List Op → Type 0
-AreMade [] made = made ≡ []
-AreMade (step ∷ asked) made = AreMade asked made
-    ⊎ ((rest : List Op) × (made ≡ step ∷ rest) × AreMade asked rest)
+-- these are one record, of the exchange
+abbrev pub AreOne : Exchange → List Record → Type 0
+AreOne exchange made = (r : Record) × (made ≡ r ∷ []) × IsOne exchange r
 
--- The client's own steps in the history of a node are, after a call of a transaction, those before it, and then
--- those that the call asked of the node, each once, in order, but for refused ones.
+-- What an exchange leaves of records at its node: a hit, one; a miss or an insertion, at most one, as the node may
+-- have refused; and anything else, none.
+abbrev pub Leaves : Exchange → List Record → Type 0
+Leaves (exchanges.Lookup at key lo hi (Some hit)) made = AreOne (exchanges.Lookup at key lo hi (Some hit)) made
+Leaves exchange made = (made ≡ []) ⊎ AreOne exchange made
+
+-- these are what the exchanges left, one after the other
+abbrev pub AreLeftBy : List Exchange → List Record → Type 0
+AreLeftBy [] made = made ≡ []
+AreLeftBy (x ∷ xs) made = (first rest : List Record)
+    × (made ≡ first ++ rest) × Leaves x first × AreLeftBy xs rest
+
+-- It is the same pass, and of its own records it has those that it had, and then those that the exchanges left.
+pub record HasAdded (xs : List Exchange) (before after : PassValue) : Type 0 where
+  pub same : after.pass ≡ before.pass
+  pub made : List Record
+  pub left : AreLeftBy xs made
+  pub own : own_records after ≡ own_records before ++ made
+
+-- The client's own records in the history of a node are, after a call of a transaction, those before it, and then
+-- those of the call's exchanges with the node, in their order: one of each hit, at most one of each miss and of each
+-- insertion, and no others.
 abbrev pub CallsStandOnce : Type 0
 CallsStandOnce = (next : Next) (row : List ℕ) (node_rows : ℕ → List ℕ) (old new : RoTxnValue) (k : Call)
     (turn : Turn) (run : HasRun next row node_rows old k new turn) (node : ℕ) (before after : PassValue)
     → slice_get old.passes node ≡ Some before → slice_get new.passes node ≡ Some after
-    → (made : List Op) × AreMade (asked_of node run.exchanges) made
-    × (own_steps after ≡ own_steps before ++ made)
+    → HasAdded (filter (asks node) run.exchanges) before after

@@ -47,10 +47,10 @@ abbrev pub LookupLeaves : (ℕ → List ℕ) → Call → ℕ → ℕ → Option
 LookupLeaves node_rows key lo hi found old new = HasMade old new (Lookup key lo hi) (found_reply found)
     ⊎ ((found ≡ None) × IsCallRefused node_rows (λ n. IsLookupRefused n lo hi) old new)
 
--- one insertion of the entry; or it was refused, or, out of memory, not begun
+-- one insertion of the entry; or it was refused
 abbrev pub InsertLeaves : (ℕ → List ℕ) → Entry → PassValue → PassValue → Type 0
 InsertLeaves node_rows entry old new = ((insertion : Insertion) × HasInserted old new entry insertion)
-    ⊎ (IsCallRefused node_rows IsStepRefused old new ⊎ (new ≡ old))
+    ⊎ IsCallRefused node_rows IsStepRefused old new
 
 -- What an exchange leaves of the passes. A lookup is one lookup at the node that is named, of this call at these
 -- stamps; an insertion is one insertion of this entry there; and any other leaves every pass as it was.

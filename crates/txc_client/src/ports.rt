@@ -125,13 +125,9 @@ impl<'a, A: App, J: Naming> Ports<'a, A, J> {
         ensures passes { HaveGrown self.old self.new }
         ensures left { IsCallAt node (InsertLeaves J.node_rows entry) self.old self.new }
     {
-        let Ok(front) = seen.again(alloc) else {
-            return;
-        };
-        let finding = Finding::new(entry, front);
         let nodes = self.nodes;
         let pass = &mut self.passes[node];
-        let _ = pass.insert(rt, alloc, &nodes[node], finding);
+        let _ = pass.insert(rt, alloc, &nodes[node], entry, seen);
     }
 
     /// Asks what the transaction asks, in one call. It has seen that much of the history.

@@ -147,21 +147,8 @@ impl<'a, A: App, C: Cacheable, J: Naming> RoTxn<'a, A, C, J> {
     pub fn abort(self, rt: &impl Wait) -> Client<'a, A, C, J>
         ensures { result ≡ client_of self.entry }
     {
-        let RoTxn {
-            ports,
-            renew_after,
-            txn,
-        } = self;
-        txn.is_kept();
-        let (left, registry) = txn.cancel();
-        let _ = ports.cushion.give_back(rt, &left.give_back);
-        if let Some(stamp) = left.unpin {
-            let _ = ports.database.unpin(rt, stamp);
-        }
-        Client {
-            ports,
-            registry,
-            renew_after,
-        }
+        // It only read: what is left to do is the same, and its receipt is not asked for.
+        let (_receipt, client) = self.commit(rt);
+        client
     }
 }

@@ -11,6 +11,7 @@ use crate::db_core::DbCore;
 use crate::error::DbError;
 use crate::event::Event;
 use crate::feed::{Feed, Mark};
+use crate::held::Held;
 use crate::history_front::HistoryFront;
 use crate::locked::Locked;
 use crate::naming::Naming;
@@ -74,14 +75,21 @@ impl<J: Naming> Database<J> {
         self.lock.lock(rt).query(alloc, query, stamp)
     }
 
-    /// Holds the newest stamp, so that no vacuum passes it until the hold is taken away. The front shows
-    /// the history up to it.
-    pub fn hold(&self, rt: &impl Wait, alloc: Global) -> Result<Answered<Stamp>, DbError>
-        ensures named { IfOk result (λ answered. answered.front.events ≡ J.database_row) }
-        ensures answer { IfOk result (λ answered. answered.answer ≡ length answered.front.history) }
+    /// Holds the newest stamp, so that no vacuum passes it until the hold is released.
+    pub fn hold(&self, rt: &impl Wait, alloc: Global) -> Result<Held<J>, DbError>
         ensures refused { IfErr result (MayRefuse J.database_row IsHoldRefused) }
     {
-        self.lock.lock(rt).hold(alloc)
+        let Answered { answer, front } = self.lock.lock(rt).hold(alloc)?;
+        Ok(Held::new(answer, front))
+    }
+
+    /// Releases the hold, which is spent even where this is refused: by a database that is broken, or whose
+    /// hold of the stamp was taken away by [`Database::unpin`]. It takes no memory.
+    pub fn release(&self, rt: &impl Wait, held: Held<J>) -> Result<(), DbError>
+        ensures refused { IfErr result
+            (MayRefuse J.database_row (λ d. IsUnpinRefused d (length held))) }
+    {
+        self.unpin(rt, held.spend())
     }
 
     /// Commits the changes, where no event after the base has tags that match those read. It answers the
@@ -125,7 +133,7 @@ impl<J: Naming> Database<J> {
         self.lock.lock(rt).pin(alloc, now, at_least)
     }
 
-    /// Takes one hold of the stamp away. It takes no memory.
+    /// Takes one hold of the stamp away, as a keeper does with those of pins. It takes no memory.
     pub fn unpin(&self, rt: &impl Wait, stamp: Stamp) -> Result<(), DbError>
         ensures refused { IfErr result (MayRefuse J.database_row (λ d. IsUnpinRefused d stamp)) }
     {

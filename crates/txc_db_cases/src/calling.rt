@@ -23,9 +23,10 @@ fn read_now<J: Naming>(
         MayAnswer J.database_row (λ d. IsQueryAnswer d query.now read.0) read.1) }
 {
     let held = database.hold(rt, alloc)?;
-    let found = database.query(rt, alloc, query, held.answer);
-    database.unpin(rt, held.answer)?;
-    Ok((held.answer, found?))
+    let stamp = held.stamp();
+    let found = database.query(rt, alloc, query, stamp);
+    database.release(rt, held)?;
+    Ok((stamp, found?))
 }
 
 fn is_read<J: Naming>(rt: &impl Wait, alloc: Global, core: DbCore) -> Option<bool>

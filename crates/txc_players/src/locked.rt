@@ -10,18 +10,19 @@ use std::alloc::{AllocError, Global};
 use std::str::SplitWhitespace;
 use std::sync::Wait;
 use txc_db::{
-    Answered, CommitError, Database, DbCore, DbError, Event, Feed, HistoryFront, Mark, Naming,
+    CommitError, Database, DbCore, DbError, Event, Feed, Held, HistoryFront, Mark, Naming,
 };
 use txc_rows::Query;
 use txc_stamp::Stamp;
 use txc_stream::EventRow;
 
 /// A database under its lock, and a feed of it, which sees the front of each answer too.
-#[derive(Drop)]
 pub struct Shared<'a, J: Naming, R: Wait> {
     rt: &'a R,
     database: &'a Database<J>,
     feed: Feed<J>,
+    /// The holds that were not released yet.
+    held: Vec<Held<J>>,
     /// Whether no other thread calls it.
     is_alone: bool,
 }
@@ -38,6 +39,7 @@ impl<'a, J: Naming, R: Wait> Shared<'a, J, R> {
             rt,
             database,
             feed,
+            held: Vec::new(alloc),
             is_alone,
         })
     }
@@ -69,6 +71,13 @@ impl<'a, J: Naming, R: Wait> Shared<'a, J, R> {
         }
     }
 
+    /// Keeps the hold, so that a later command can release it.
+    fn keep(&mut self, held: Held<J>) {
+        if let Err(refused) = self.held.push(held) {
+            let _ = self.database.release(self.rt, refused.value);
+        }
+    }
+
     /// A front that was lengthened by that of the feed.
     fn fed(&self, alloc: Global) -> Result<HistoryFront, AllocError> {
         let mut front = self.database.reader(alloc)?;
@@ -83,6 +92,23 @@ impl<'a, J: Naming, R: Wait> Shared<'a, J, R> {
         let mark = Mark::new(self.database.reader(alloc)?);
         let _added = marks.append(&mut front, Box::new(alloc, mark)?);
         Ok(())
+    }
+}
+
+/// It releases the holds that are left.
+impl<J: Naming, R: Wait> Drop for Shared<'_, J, R> {
+    fn drop(self) {
+        let Shared {
+            rt,
+            database,
+            feed: _,
+            mut held,
+            is_alone: _,
+        } = self;
+        while let Some(one) = held.pop() {
+            let _ = database.release(rt, one);
+        }
+        held.destroy_empty();
     }
 }
 
@@ -115,15 +141,21 @@ impl<J: Naming, R: Wait> Calls for Shared<'_, J, R> {
     fn hold(&mut self, alloc: Global, answer: &mut String) {
         match self.database.hold(self.rt, alloc) {
             Ok(held) => {
-                self.look(answer, &held.front);
-                say_stamp(answer, Ok(held.answer));
+                self.look(answer, held.front());
+                say_stamp(answer, Ok(held.stamp()));
+                self.keep(held);
             }
             Err(refusal) => say_refusal(answer, refusal),
         }
     }
 
     fn unpin(&mut self, stamp: Stamp, answer: &mut String) {
-        say_done(answer, self.database.unpin(self.rt, stamp));
+        let of_stamp = self.held.iter().position(|held| held.stamp() == stamp);
+        let done = match of_stamp {
+            Some(at) => self.database.release(self.rt, self.held.swap_remove(at)),
+            None => self.database.unpin(self.rt, stamp),
+        };
+        say_done(answer, done);
     }
 
     fn vacuum(&mut self, answer: &mut String) {

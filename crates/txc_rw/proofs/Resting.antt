@@ -29,6 +29,11 @@ rested next L os c fits idle h =
     let at_rest : (c.call.frames ≡ []) × AllIdle os = subst (λ (n : Option Need). NeedFits next os c.call.top n c.call.frames) idle.0 fits.call in
     (at_rest.1, record { frames = at_rest.0; need = idle.0; reading = idle.1; holds = λ os'. holds_at_rest next L os os' c at_rest.0 idle.0 h })
 
+-- what is kept of a history is kept of the same by another name
+pub holds_by : (next : Next) (F L : History) (os os' : Objects) (c c' : RwValue) → F ≡ L → (RwHolds next F os c → RwHolds next F os' c') → RwHolds next L os c → RwHolds next L os' c'
+holds_by next F L os os' c c' same step h =
+    subst (λ (M : History). RwHolds next M os' c') same (step (subst (λ (M : History). RwHolds next M os c) (sym same) h))
+
 abbrev pub txn_of : RwValue → History → Objects → TxnValue
 txn_of c L objects = record { core = c; history = L; objects = objects }
 

@@ -51,7 +51,7 @@ impl Model for RwCore {
 
 impl RwCore {
     ghost use Rattle.txc_registry.specs.Objects.{numbers_of, AllIdle};
-    ghost use Rattle.txc_rw.specs.Core.{tags_read, IsBegun, IsRw, IsWriteRefused};
+    ghost use Rattle.txc_rw.specs.Core.{tags_read, IsBegun, IsIdle, IsRw, IsWriteRefused};
 
     /// A transaction whose base is the stamp that is held for it.
     pub fn begin(alloc: Global, base: Stamp) -> RwCore
@@ -121,21 +121,21 @@ impl RwCore {
         Ok(())
     }
 
-    /// What is left of it once it was committed: its answers, and that its base is to be unpinned.
-    pub fn finish(self) -> (Vec<Given>, PortRequest)
-        ensures answers { result.0.items ≡ self.answers }
-        ensures unpins { result.1 ≡ PortRequest.Unpin self.base }
+    /// What it was answered, in order, where no call is open. Whoever holds its base gives that up.
+    pub fn finish(self) -> Vec<Given>
+        requires { IsIdle self }
+        ensures { result.items ≡ self.answers }
     {
         let RwCore {
-            base,
+            base: _,
             tags: _,
             queried: _,
-            answers,
+            answers: given,
             changes: _,
             machine: _,
             reading: _,
         } = self;
-        (answers, PortRequest::Unpin(base))
+        given
     }
 
     /// Gives it up: every object is idle then, and its base is to be unpinned.

@@ -22,9 +22,9 @@ use std::alloc::Global;
 use std::marker::Model;
 use std::sync::Wait;
 use txc_app::App;
-use txc_db::{Answered, CommitError, Database, DbError, HistoryFront, Naming, states_stay};
+use txc_db::{Answered, CommitError, Database, DbError, Held, HistoryFront, Naming, states_stay};
 use txc_node::Value;
-use txc_ports::{PortRequest, TxnError};
+use txc_ports::TxnError;
 use txc_registry::{Cacheable, Registry};
 use txc_rows::{Change, Query, Row};
 use txc_stamp::Stamp;
@@ -44,26 +44,24 @@ pub struct Committed {
 /// A read-write transaction. It reads at its base, the newest stamp when it began, and keeps its changes
 /// until it commits. No node is used.
 ///
-/// It holds its base until it is spent, by [`RwTxn::commit`] or [`RwTxn::abort`], which return the registry
-/// of its functions.
+/// It holds its base until it is spent, by [`RwTxn::commit`] or [`RwTxn::abort`], which release the hold and
+/// return the registry of its functions.
 pub struct RwTxn<'a, J: Naming, A: App, C: Cacheable> {
     database: &'a Database<J>,
     registry: Registry<A, C>,
     core: RwCore,
-    seen: HistoryFront,
+    held: Held<J>,
 }
 
 impl<'a, J: Naming, A: App, C: Cacheable> Model for RwTxn<'a, J, A, C> {
-    ghost use Rattle.std.specs.Prelude.{◌≡◌};
     ghost use Rattle.txc_registry.specs.Objects.{AllIdle};
     ghost use Rattle.txc_rw.specs.Txn.{TxnValue, IsResting};
 
     ghost Value = { TxnValue };
 
-    ghost view = { λ t. record { core = t.core; history = t.seen.history; objects = t.registry } };
+    ghost view = { λ t. record { core = t.core; history = t.held; objects = t.registry } };
 
-    ghost invariant = { λ t. (t.seen.events ≡ J.database_row) × AllIdle t.registry
-        × IsResting A.next t.seen.history t.core };
+    ghost invariant = { λ t. AllIdle t.registry × IsResting A.next t.held t.core };
 }
 
 impl<'a, J: Naming, A: App, C: Cacheable> RwTxn<'a, J, A, C> {
@@ -81,15 +79,15 @@ impl<'a, J: Naming, A: App, C: Cacheable> RwTxn<'a, J, A, C> {
         ensures handed_back { IfErr result (λ e. e.1 ≡ registry) }
     {
         transactions_stay_right();
-        let Answered { answer, front } = match database.hold(rt, alloc) {
+        let held = match database.hold(rt, alloc) {
             Ok(held) => held,
             Err(error) => return Err((error, registry)),
         };
         Ok(RwTxn {
             database,
             registry,
-            core: RwCore::begin(alloc, answer),
-            seen: front,
+            core: RwCore::begin(alloc, held.stamp()),
+            held,
         })
     }
 
@@ -150,7 +148,7 @@ impl<'a, J: Naming, A: App, C: Cacheable> RwTxn<'a, J, A, C> {
             rt,
             alloc,
             self.database,
-            &self.seen,
+            self.held.front(),
             &mut self.registry,
             &mut self.core,
             key,
@@ -180,7 +178,7 @@ impl<'a, J: Naming, A: App, C: Cacheable> RwTxn<'a, J, A, C> {
             rt,
             alloc,
             self.database,
-            &self.seen,
+            self.held.front(),
             &mut self.registry,
             &mut self.core,
             query,
@@ -251,15 +249,15 @@ impl<'a, J: Naming, A: App, C: Cacheable> RwTxn<'a, J, A, C> {
             database,
             registry,
             core,
-            seen,
+            held,
         } = self;
         let Answered {
             answer: stamp,
             front,
         } = done;
-        seen.agree(&front);
-        let (answers, request) = core.finish();
-        unpin(rt, database, &request);
+        held.front().agree(&front);
+        let answers = core.finish();
+        let _refused = database.release(rt, held);
         let committed = Committed {
             stamp,
             answers,
@@ -277,17 +275,10 @@ impl<'a, J: Naming, A: App, C: Cacheable> RwTxn<'a, J, A, C> {
             database,
             registry,
             core,
-            seen: _,
+            held,
         } = self;
-        let (_answers, request) = core.finish();
-        unpin(rt, database, &request);
+        let _answers = core.finish();
+        let _refused = database.release(rt, held);
         registry
-    }
-}
-
-// Makes the request to unpin a stamp. A database that is broken refuses it, and all else.
-fn unpin<J: Naming>(rt: &impl Wait, database: &Database<J>, request: &PortRequest) {
-    if let PortRequest::Unpin(stamp) = request {
-        let _refused = database.unpin(rt, *stamp);
     }
 }

@@ -4,6 +4,7 @@ ghost use Rattle.std.specs.Option.{option_map};
 ghost use mathlib.Core.List.{IsPrefix};
 ghost use Rattle.txc_node.specs.declared.op.Op.TheVariants.{Lookup, Insert, Sweep};
 ghost use Rattle.txc_node.specs.declared.reply.Reply.TheVariants.{Swept};
+ghost use Rattle.txc_app.specs.Claims.{IsTrueIn};
 ghost use Rattle.txc_shared.specs.Nodes.{NodeValue, after_call, seeing, HasAdvanced};
 ghost use Rattle.txc_shared.specs.Passes.{PassValue, HasGrown, HasSeen, DoAgree, HasFound, HasMade, HasInserted, HasTaken, IsPassLeft};
 ghost use Rattle.txc_shared.specs.Refusals.{IsLookupRefused, IsStepRefused, IsLeft, IsRefusedThrough, IsNewPassRefused};
@@ -22,8 +23,8 @@ use crate::stored_node::StoredNode;
 use std::alloc::Global;
 use std::marker::Model;
 use txc_app::App;
-use txc_db::{Event, Feed, Naming};
-use txc_node::Record;
+use txc_db::{Event, Feed, HistoryFront, Naming};
+use txc_node::{Entry, Record};
 use txc_stamp::Stamp;
 use txc_stream::{longer_of_two, prefix_of_itself, prefix_of_prefix};
 use txc_tags::Key;
@@ -182,28 +183,31 @@ impl<A: App, J: Naming> Held<A, J> {
         }
     }
 
-    /// Inserts the entry of a finding. The node keeps the longest of the fronts that it meets.
+    /// Inserts an entry, which is true in what the front shows. The node keeps the longest of the fronts
+    /// that it meets.
     pub(crate) fn insert(
         &mut self,
         alloc: Global,
         pass: &mut NodePass<J>,
-        finding: Finding<A>,
+        entry: Entry,
+        front: &HistoryFront,
     ) -> Result<Insertion, NodeError>
-        requires { finding.front.events ≡ J.database_row }
+        requires row { front.now.events ≡ J.database_row }
+        requires is_true { IsTrueIn A.next front.now.history entry }
         ensures named { self.old.cells ≡ J.node_rows self.old.settings.number }
         ensures after { OnOk result
-            (self.new ≡ after_call (seeing self.old self.new.seen) pass.old.pass (Insert finding.entry)) }
-        ensures seen { OnOk result (IsPrefix finding.front.history self.new.seen.history) }
+            (self.new ≡ after_call (seeing self.old self.new.seen) pass.old.pass (Insert entry)) }
+        ensures seen { OnOk result (IsPrefix front.now.history self.new.seen.history) }
         ensures unchanged { IfErr result (IsLeft self.old self.new) }
         ensures refused { IfErr result (IsRefusedThrough IsStepRefused self.old pass.old) }
         ensures longer { HasGrown pass.old pass.new }
-        ensures made { IfOk result (HasInserted pass.old pass.new finding.entry) }
-        ensures shown { OnOk result (IsPrefix finding.front.history pass.new.history) }
+        ensures made { IfOk result (HasInserted pass.old pass.new entry) }
+        ensures shown { OnOk result (IsPrefix front.now.history pass.new.history) }
         ensures left { IfErr result (IsPassLeft (J.node_rows pass.old.settings.number) pass.old pass.new) }
     {
         prefix_of_prefix::<Event>();
         self.admit(pass)?;
-        match self.node.insert(alloc, pass.pass, finding) {
+        match self.node.insert(alloc, pass.pass, entry, front) {
             Ok(insertion) => {
                 self.node.see(&pass.events);
                 self.show(pass);

@@ -5,6 +5,7 @@ ghost use Rattle.std.specs.Arc.{arc_value};
 ghost use mathlib.Core.List.{IsPrefix};
 ghost use Rattle.txc_node.specs.declared.op.Op.TheVariants.{Lookup, Sweep};
 ghost use Rattle.txc_node.specs.declared.reply.Reply.TheVariants.{Swept};
+ghost use Rattle.txc_app.specs.Claims.{IsTrueIn};
 ghost use Rattle.txc_shared.specs.Histories.{IsLegal};
 ghost use Rattle.txc_shared.specs.Nodes.{start_of};
 ghost use Rattle.txc_shared.specs.Passes.{HasGrown, HasFound, HasMade, HasInserted, HasTaken, IsPassLeft};
@@ -23,8 +24,8 @@ use std::alloc::{AllocError, Global};
 use std::marker::Model;
 use std::sync::{Arc, Mutex, Wait};
 use txc_app::App;
-use txc_db::{Database, Naming};
-use txc_node::{MAX_CAPACITY, MAX_RECENT, Record};
+use txc_db::{Database, HistoryFront, Naming};
+use txc_node::{Entry, MAX_CAPACITY, MAX_RECENT, Record};
 use txc_stamp::Stamp;
 use txc_stream::EventRow;
 use txc_tags::Key;
@@ -125,24 +126,26 @@ impl<J: Naming> NodePass<J> {
         found
     }
 
-    /// Inserts the entry of a finding. Where it is refused, the finding is dropped.
+    /// Inserts an entry, which is true in what the front shows. Where it is refused, the entry is dropped.
     pub fn insert<A: App>(
         &mut self,
         rt: &impl Wait,
         alloc: Global,
         node: &SharedNode<A, J>,
-        finding: Finding<A>,
+        entry: Entry,
+        front: &HistoryFront,
     ) -> Result<Insertion, NodeError>
-        requires { finding.front.events ≡ J.database_row }
+        requires row { front.now.events ≡ J.database_row }
+        requires is_true { IsTrueIn A.next front.now.history entry }
         ensures longer { HasGrown self.old self.new }
         ensures legal { IsLegal self.new.history (start_of self.new.settings) self.new.records }
-        ensures made { IfOk result (HasInserted self.old self.new finding.entry) }
-        ensures shown { OnOk result (IsPrefix finding.front.history self.new.history) }
+        ensures made { IfOk result (HasInserted self.old self.new entry) }
+        ensures shown { OnOk result (IsPrefix front.now.history self.new.history) }
         ensures left { IfErr result (IsPassLeft (J.node_rows self.old.settings.number) self.old self.new) }
         ensures refused { IfErr result
             (MayRefuse J.node_rows (λ n. IsRefusedThrough IsStepRefused n self.old)) }
     {
-        let insertion = node.lock.lock(rt).insert(alloc, self, finding);
+        let insertion = node.lock.lock(rt).insert(alloc, self, entry, front);
         self.is_legal();
         insertion
     }

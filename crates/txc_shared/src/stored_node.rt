@@ -4,7 +4,7 @@ ghost use Rattle.std.specs.Option.{option_map};
 ghost use Rattle.txc_node.specs.Cache.{answer, outcome, swept_count};
 ghost use Rattle.txc_node.specs.Steps.{found_reply};
 ghost use Rattle.txc_node.specs.declared.op.Op.TheVariants.{Insert, Lookup, Sweep};
-ghost use Rattle.txc_app.specs.Claims.{entry_shown};
+ghost use Rattle.txc_app.specs.Claims.{IsTrueIn, entry_shown};
 ghost use Rattle.txc_shared.specs.Nodes.{NodeValue, start_of, after_call, seeing, IsLonger, HasTags, insertion_of, HasAdvanced, HasTakenAll};
 ghost use Rattle.txc_shared.specs.Histories.{records_of};
 ghost use Rattle.txc_shared.specs.Runs.{IsNode};
@@ -290,21 +290,23 @@ impl<A: App> StoredNode<A> {
         Ok(finding)
     }
 
-    /// Inserts the entry of a finding, which is true in the front beside it. The node keeps the longer of
-    /// that front and its own. Where it is refused, the finding is dropped.
+    /// Inserts an entry, which is true in what the front shows. The node keeps the longer of that front and
+    /// its own. Where it is refused, the entry is dropped.
     pub fn insert(
         &mut self,
         alloc: Global,
         pass: usize,
-        finding: Finding<A>,
+        entry: Entry,
+        front: &HistoryFront,
     ) -> Result<Insertion, NodeError>
         requires own { pass < self.old.passes }
-        requires front { finding.front.events ≡ self.old.seen.events }
-        ensures seen { OnOk result (IsLonger self.old.seen finding.front self.new.seen) }
+        requires front { front.now.events ≡ self.old.seen.events }
+        requires is_true { IsTrueIn A.next front.now.history entry }
+        ensures seen { OnOk result (IsLonger self.old.seen front.now self.new.seen) }
         ensures after { OnOk result
-            (self.new ≡ after_call (seeing self.old self.new.seen) pass (Insert finding.entry)) }
+            (self.new ≡ after_call (seeing self.old self.new.seen) pass (Insert entry)) }
         ensures answer { IfOk result (λ insertion.
-            insertion ≡ insertion_of (outcome self.old.cache finding.entry)) }
+            insertion ≡ insertion_of (outcome self.old.cache entry)) }
         ensures only_if { OnOk result (IsOpen self.old) }
         ensures left { IfErr result (IsLeft self.old self.new) }
         ensures refused { IfErr result (IsStepRefused self.old) }
@@ -313,7 +315,6 @@ impl<A: App> StoredNode<A> {
         true_entries_stay();
         self.check_whole()?;
         self.check_room()?;
-        let Finding { entry, front, .. } = finding;
         let _known = entry.reach.known();
         let _bytes = entry.value.bytes();
         let op = Op::Insert(entry.copy(alloc)?);
@@ -321,7 +322,7 @@ impl<A: App> StoredNode<A> {
         let inserted = self.core.insert(entry)?;
         let insertion = Insertion::of(&inserted);
         set_reply(&mut next, Reply::Inserted(inserted));
-        self.seen.longer(&front);
+        self.seen.longer(front);
         if !self.log.append(next) {
             self.broken = true;
             return Err(NodeError::Broken);

@@ -166,8 +166,9 @@ pub(super) fn events<J: Naming>(
 ) -> Option<u64> {
     for _ in 0..2u32 {
         if let Ok(held) = database.hold(rt, alloc) {
-            database.unpin(rt, held.answer).ok()?;
-            return Some(u64::from(held.answer.number()));
+            let newest = held.stamp();
+            database.release(rt, held).ok()?;
+            return Some(u64::from(newest.number()));
         }
     }
     None

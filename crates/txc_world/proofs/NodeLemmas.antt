@@ -89,8 +89,7 @@ module _ (whole : FrontValue) where
     passes = ap (λ (n : NodeValue). n.passes) has.after;
     seen = λ h whole_new. longer_part old.seen seen new.seen has.longer (h (sym (ap (λ (n : NodeValue). n.broken) has.after) ∙ whole_new)) part;
   }
-  stays_inserted old new pass seen entry None part (inl same) = stays_same old new same
-  stays_inserted old new pass seen entry None part (inr refused) = stays_left old new refused.0 refused.2
+  stays_inserted old new pass seen entry None part refused = stays_left old new refused.0 refused.2
 
   stays_seeing : (old new : NodeValue) → new ≡ seeing old whole → StaysNode whole old new
   stays_seeing old new is =

@@ -1,5 +1,5 @@
 -- What the steps of a world keep of its ports.
-use Rattle.std.proofs.Common.{◌≡◌, ◌∙◌, ◌⊎◌, inl, inr, ℕ, zero, suc, ◌+◌, ◌<◌, arith, ◌==◌, ◌||◌, eq-eqb, ne_eqb, remove, Bool, true, false, List, [], ◌∷◌, ◌++◌, length, get_or, set, slice_get, Some, All, Result, Ok, Err, refl, ap, sym, subst}
+use Rattle.std.proofs.Common.{◌≡◌, ◌∙◌, ◌⊎◌, inl, inr, ℕ, zero, suc, ◌+◌, ◌<◌, arith, ◌==◌, ◌||◌, eq-eqb, ne_eqb, remove, Bool, true, false, List, [], ◌∷◌, ◌++◌, length, get_or, set, Some, All, Result, Ok, Err, refl, ap, sym, subst}
 use Rattle.std.proofs.lemmas.List.{length-set}
 use Rattle.std.proofs.lemmas.Option.{slice_get-get_or}
 use Rattle.std.proofs.Math.Seq.{map-set_same}
@@ -120,16 +120,6 @@ commit_part d changes = record {
       (prefix_push d.history (commit_event (newest_state d) changes));
 }
 
--- ---- a node led on
-
-module _ {X : Type 0} where
-  -- what stands at a place, and put there again changes nothing
-  pub there_is : (xs : List X) (i : ℕ) → i < length xs → (x : X) × (slice_get xs i ≡ Some x) × (set xs i x ≡ xs)
-  there_is [] i within = absurd (omega (arith, within))
-  there_is (x ∷ xs) zero within = (x, refl, refl)
-  there_is (x ∷ xs) (suc i) within =
-      let rest = there_is xs i (omega (arith, within)) in (rest.0, rest.1, ap (λ (ys : List X). x ∷ ys) rest.2)
-
 -- ---- from the fields of the ports to their value
 
 module _ (p q : PortsValue) (same : p ≡ q) where
@@ -166,13 +156,6 @@ pub led_advanced : (p q : PortsValue) (same : p ≡ q) (at : ℕ) (old new : Nod
 led_advanced p q same at old new advanced within is led =
     led_from p q same at (λ was is. AdvanceLeads q.actors (whole_of q) was is advanced) old new within is
     (subst (λ (v : PortsValue). AdvanceLeads v.actors (whole_of v) old new advanced) same led)
-
--- a node may be led to what it was
-pub led_nowhere : (p : PortsValue) (at : ℕ) (leads : NodeValue → NodeValue → Type 0) → at < length p.nodes
-    → ((n : NodeValue) → leads n n) → HasLedNode at leads p p
-led_nowhere p at leads within same =
-    let n = there_is p.nodes at within in
-    record { before = n.0; after = n.0; there = n.1; is = λ i. record p { nodes = sym n.2 i }; led = same n.0 }
 
 -- ---- events more
 

@@ -37,11 +37,10 @@ pub record HasInserted (pass : ℕ) (seen : FrontValue) (entry : Entry) (old new
 abbrev pub HasRefusedStep : NodeValue → NodeValue → Type 0
 HasRefusedStep old new = (e : NodeError) × IsStepRefused old e × IsLeft old new e
 
--- Of an insertion: the node made the step; or it keeps nothing, as it refused, or as no front was to be had
--- and it was not asked.
+-- Of an insertion: the node made the step; or it refused, and keeps nothing.
 abbrev pub InsertLeads : ℕ → FrontValue → Entry → NodeValue → NodeValue → Option Insertion → Type 0
 InsertLeads pass seen entry old new (Some insertion) = HasInserted pass seen entry old new insertion
-InsertLeads pass seen entry old new None = (new ≡ old) ⊎ HasRefusedStep old new
+InsertLeads pass seen entry old new None = HasRefusedStep old new
 
 -- ---- steps of the keeper
 

@@ -10,7 +10,7 @@ ghost use Rattle.txc_world.specs.Parts.{IsPartOf};
 
 use std::alloc::Global;
 use txc_app::App;
-use txc_db::{Answered, DbCore};
+use txc_db::{Answered, DbCore, HistoryFront};
 use txc_node::{Counts, Entry, Shown};
 use txc_shared::{Advanced, Finding, Insertion, NodeError, NodeFront, StoredNode};
 use txc_stamp::Stamp;
@@ -59,18 +59,20 @@ pub(crate) fn look_up<A: App>(
     }
 }
 
-/// Gives the node the entry of a finding to keep. A node that refuses keeps nothing.
+/// Gives the node an entry to keep, which is true in what the front shows. A node that refuses keeps nothing.
 pub(crate) fn insert<A: App>(
     alloc: Global,
     node: &mut StoredNode<A>,
     pass: usize,
-    finding: Finding<A>,
+    entry: Entry,
+    seen: &HistoryFront,
 ) -> Option<Insertion>
     requires own { pass < node.old.passes }
-    requires row { finding.front.events ≡ node.old.seen.events }
-    ensures { InsertLeads pass finding.front finding.entry node.old node.new result }
+    requires row { seen.now.events ≡ node.old.seen.events }
+    requires is_true { IsTrueIn A.next seen.now.history entry }
+    ensures { InsertLeads pass seen.now entry node.old node.new result }
 {
-    match node.insert(alloc, pass, finding) {
+    match node.insert(alloc, pass, entry, seen) {
         Ok(insertion) => Some(insertion),
         Err(_) => None,
     }

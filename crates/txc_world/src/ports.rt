@@ -13,7 +13,7 @@ use txc_cushion::{AddError, CushionCore, Pins};
 use txc_db::{Answered, DbCore, DbError, HistoryFront, Pinned};
 use txc_node::{Entry, Shown};
 use txc_rows::Query;
-use txc_shared::{Finding, Insertion, StoredNode};
+use txc_shared::{Insertion, StoredNode};
 use txc_stamp::Stamp;
 use txc_tags::Key;
 use txc_validity::Found;
@@ -208,11 +208,8 @@ impl<A: App> Ports<A> {
             InsertLeads pass seen.now entry was is result) self.old self.new }
         ensures keeps { KeepsRow self.old self.new }
     {
-        let Ok(front) = seen.again(alloc) else {
-            return None;
-        };
         let node = &mut self.nodes[at];
-        nodes::insert(alloc, node, pass, Finding::new(entry, front))
+        nodes::insert(alloc, node, pass, entry, seen)
     }
 
     /// The newest of the pins that the bounds allow, each with one user more.

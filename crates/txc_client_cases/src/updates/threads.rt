@@ -190,7 +190,9 @@ fn meet<J: Naming + Send + Sync, R: Threads + Wait + Sync>(
     let (one, other) = work_in_two_threads(rt, alloc, &database);
     let is_right = one? && other?;
     let held = database.hold(rt, alloc).ok()?;
-    Some(is_right && held.answer.number() == 2 * COMMITS)
+    let newest = held.stamp();
+    database.release(rt, held).ok()?;
+    Some(is_right && newest.number() == 2 * COMMITS)
 }
 
 fn start<R: Threads + Wait + Sync>(rt: &R, alloc: Global, answer: &mut String) -> Option<bool> {

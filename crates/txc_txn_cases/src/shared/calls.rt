@@ -116,7 +116,8 @@ impl<'a, J: Naming, R: Wait> Caller<'a, J, R> {
     fn insert(&mut self, alloc: Global, id: u32, at: Stamp, answer: &mut String) {
         match find_body(self.rt, alloc, self.database, id, at) {
             Ok(finding) => {
-                let insertion = self.pass.insert(self.rt, alloc, self.node, finding);
+                let Finding { entry, front, .. } = finding;
+                let insertion = self.pass.insert(self.rt, alloc, self.node, entry, &front);
                 say_insertion(answer, &insertion);
             }
             Err(refusal) => {

@@ -1,17 +1,10 @@
-use Rattle.std.proofs.Common.{◌<◌, List, ap, inr, length, refl, subst, sym, ◌∙◌}
+use Rattle.std.proofs.Common.{◌<◌, List, ap, length, subst, sym, ◌∙◌}
 use Rattle.std.specs.Prelude.{slice_set}
-use Rattle.txc_node.specs.declared.entry.Entry.{Entry}
 use Rattle.txc_shared.specs.Passes.{PassValue}
 use Rattle.txc_client.specs.Ports.{HaveGrown, InsertLeaves, IsCallAt}
-use Rattle.txc_client.proofs.Called.{called_at, inserted, not_called}
-use Rattle.txc_client.proofs.Grown.{have_grown_self, one_has_grown, settings_stay}
+use Rattle.txc_client.proofs.Called.{called_at, inserted}
+use Rattle.txc_client.proofs.Grown.{one_has_grown, settings_stay}
 use Rattle.txc_client.proofs.ports.Ports.insert.Goals as goal
-
-pub returns-in_default-clause-passes : goal.returns-in_default-clause-passes
-returns-in_default-clause-passes g c = have_grown_self c.args.self.now
-
-pub returns-in_default-clause-left : goal.returns-in_default-clause-left
-returns-in_default-clause-left g c = not_called c.args.self.now c.args.node (InsertLeaves g.J.Naming.node_rows c.args.entry) c.requires.node (λ p. inr (inr refl))
 
 pub invariant_of-self : goal.invariant_of-self
 invariant_of-self g c = (
@@ -32,5 +25,4 @@ returns-clause-left g c =
     let within : c.args.node < length passes = subst (λ (v : List PassValue). c.args.node < length v) (sym c.self.view_is) c.requires.node in
     subst (λ (v : List PassValue). IsCallAt c.args.node leaves v (slice_set passes c.args.node c.insert.new.self)) c.self.view_is
     (called_at passes c.args.node leaves c.index_mut-pass.result.now c.insert.new.self within c.index_mut-pass.ensures.value c.insert.ensures.longer
-    (subst (λ (e : Entry). InsertLeaves g.J.Naming.node_rows e c.index_mut-pass.result.now c.insert.new.self) c.new-finding.ensures.entry
-    (inserted g.J.Naming.node_rows c.index_mut-pass.result.now c.insert.new.self c.new-finding.result.entry c.insert.result c.insert.ensures.made c.insert.ensures.left c.insert.ensures.refused)))
+    (inserted g.J.Naming.node_rows c.index_mut-pass.result.now c.insert.new.self c.args.entry c.insert.result c.insert.ensures.made c.insert.ensures.left c.insert.ensures.refused))

@@ -1,4 +1,4 @@
-use Rattle.std.proofs.Common.{◌≡◌, ℕ, List, [], ◌∷◌, ◌++◌, Some, ap, subst}
+use Rattle.std.proofs.Common.{◌≡◌, ℕ, List, [], ◌∷◌, ◌++◌, Some, ap, subst, sym, ◌≤◌, length}
 use Rattle.std.specs.Prelude.{IfOk}
 use Rattle.txc_db.specs.History.{History}
 use Rattle.txc_rw.specs.declared.given.Given.TheVariants as given
@@ -7,23 +7,26 @@ use Rattle.txc_rw.specs.Txn.{TxnValue}
 use Rattle.txc_db.specs.History.{state_at}
 use Rattle.txc_app.specs.Eval.{eval}
 use Rattle.txc_registry.proofs.Offered.{idle_same}
-use Rattle.txc_rw.proofs.Resting.{called, if_ok, last_right, rested}
+use Rattle.txc_rw.proofs.Resting.{called, holds_by, if_ok, last_right, rested}
 use Rattle.txc_rw.proofs.rw_txn.RwTxn.call.Goals as goal
 
 pub call_at-requires-clause-shown : goal.call_at-requires-clause-shown
-call_at-requires-clause-shown g c = (c.self.invariant.2.holds []).within
+call_at-requires-clause-shown g c =
+    subst (λ (M : History). c.self.inside.core.base ≤ length M) (sym c.front.ensures.history) (c.self.invariant.1.holds []).within
 
 pub invariant_of-self : goal.invariant_of-self
 invariant_of-self g c =
-    let two = rested g.A.App.next c.self.inside.seen.history c.call_at.new.registry c.call_at.new.core c.call_at.ensures.fits c.call_at.ensures.idle
-    (c.call_at.ensures.holds (c.self.invariant.2.holds c.self.inside.registry)) in
-    (c.self.invariant.0, two.0, two.1)
+    let two = rested g.A.App.next c.self.inside.held c.call_at.new.registry c.call_at.new.core c.call_at.ensures.fits c.call_at.ensures.idle
+    (holds_by g.A.App.next c.front.result.now.history c.self.inside.held c.self.inside.registry c.call_at.new.registry c.self.inside.core c.call_at.new.core c.front.ensures.history
+    c.call_at.ensures.holds (c.self.invariant.1.holds c.self.inside.registry)) in
+    (two.0, two.1)
 
 pub returns-clause-answer : goal.returns-clause-answer
 returns-clause-answer g c =
     let core' : RwValue = c.call_at.new.core in
-    let L : History = c.self.inside.seen.history in
-    let right = c.answers_are_right.ensures.base g.A.App.next L c.call_at.new.registry core' (c.call_at.ensures.holds (c.self.invariant.2.holds c.self.inside.registry)) in
+    let L : History = c.self.inside.held in
+    let right = c.answers_are_right.ensures.base g.A.App.next L c.call_at.new.registry core' (holds_by g.A.App.next c.front.result.now.history c.self.inside.held c.self.inside.registry c.call_at.new.registry c.self.inside.core c.call_at.new.core c.front.ensures.history
+    c.call_at.ensures.holds (c.self.invariant.1.holds c.self.inside.registry)) in
     let base : core'.base ≡ c.self.inside.core.base = ap (λ (w : RwValue). w.base) c.call_at.ensures.same in
     subst (λ (t : TxnValue). IfOk c.call_at.result (λ v. eval g.A.App.next c.args.key (state_at t.history t.core.base) ≡ Some v)) c.self.view_is
     (if_ok (λ (v : List ℕ). core'.answers ≡ c.self.inside.core.answers ++ given.Value c.args.key v ∷ []) (λ (v : List ℕ). eval g.A.App.next c.args.key (state_at L c.self.inside.core.base) ≡ Some v) c.call_at.result
@@ -35,10 +38,11 @@ returns-clause-answer g c =
 -- all objects are idle before and after, and of the same numbers
 pub returns-clause-same : goal.returns-clause-same
 returns-clause-same g c =
-    let two = rested g.A.App.next c.self.inside.seen.history c.call_at.new.registry c.call_at.new.core c.call_at.ensures.fits c.call_at.ensures.idle
-    (c.call_at.ensures.holds (c.self.invariant.2.holds c.self.inside.registry)) in
-    let objects : c.call_at.new.registry ≡ c.self.inside.registry = idle_same c.call_at.new.registry c.self.inside.registry two.0 c.self.invariant.1 c.call_at.ensures.functions in
+    let two = rested g.A.App.next c.self.inside.held c.call_at.new.registry c.call_at.new.core c.call_at.ensures.fits c.call_at.ensures.idle
+    (holds_by g.A.App.next c.front.result.now.history c.self.inside.held c.self.inside.registry c.call_at.new.registry c.self.inside.core c.call_at.new.core c.front.ensures.history
+    c.call_at.ensures.holds (c.self.invariant.1.holds c.self.inside.registry)) in
+    let objects : c.call_at.new.registry ≡ c.self.inside.registry = idle_same c.call_at.new.registry c.self.inside.registry two.0 c.self.invariant.0 c.call_at.ensures.functions in
     let core' : RwValue = c.call_at.new.core in
-    let now : TxnValue = record { core = core'; history = c.self.inside.seen.history; objects = c.call_at.new.registry } in
+    let now : TxnValue = record { core = core'; history = c.self.inside.held; objects = c.call_at.new.registry } in
     subst (λ (t : TxnValue). now ≡ record t { core = record t.core { queried = core'.queried; answers = core'.answers; call = core'.call } }) c.self.view_is
-    (called c.self.inside.core core' c.self.inside.seen.history c.self.inside.registry c.call_at.new.registry c.call_at.ensures.same c.self.invariant.2.reading objects)
+    (called c.self.inside.core core' c.self.inside.held c.self.inside.registry c.call_at.new.registry c.call_at.ensures.same c.self.invariant.1.reading objects)

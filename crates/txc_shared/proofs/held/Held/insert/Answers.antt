@@ -16,7 +16,7 @@ show-requires g c =
     let admitted : IsAdmitted c.self.inside.node p = subst (λ (n : NodeValue). IsAdmitted n p) (sym same) c.in_ok-admit.ensures.ok in
     let n = c.self.inside.node in
     let m = c.insert.new.self in
-    let op = Insert c.args.finding.entry in
+    let op = Insert c.args.entry in
     let is : m ≡ after_call (seeing n m.seen) p.pass op = subst (λ k. m ≡ after_call (seeing n m.seen) k op) own c.in-Ok.ensures.after in
     ahead_seeing n m c.see.new.self p m.seen c.see.new.self.seen op admitted is c.see.ensures.same
 
@@ -28,9 +28,9 @@ returns-in-Ok-clause-made g c =
     let admitted : IsAdmitted c.self.inside.node p = subst (λ (n : NodeValue). IsAdmitted n p) (sym same) c.in_ok-admit.ensures.ok in
     let n = c.self.inside.node in
     let m = c.insert.new.self in
-    let op = Insert c.args.finding.entry in
+    let op = Insert c.args.entry in
     let is : m ≡ after_call (seeing n m.seen) p.pass op = subst (λ k. m ≡ after_call (seeing n m.seen) k op) own c.in-Ok.ensures.after in
-    let inserted = outcome n.cache c.args.finding.entry in
+    let inserted = outcome n.cache c.args.entry in
     record {
       inserted = inserted;
       made = then_own n m p c.show.new.pass m.seen op (replies.Inserted inserted) admitted is

@@ -9,24 +9,24 @@ use Rattle.txc_shared.proofs.stored_node.StoredNode.insert.Goals as goal
 
 pub invariant_of-self-then-not-append : goal.invariant_of-self-then-not-append
 invariant_of-self-then-not-append g c =
-    let e = c.args.finding.entry in
+    let e = c.args.entry in
     let rs = c.self.inside.log.records in
     let core = c.self.inside.core in
     let seen = c.longer.new.self.history in
     let held = c.nodes_go_on.ensures.sees g.A.App.next c.self.inside.seen.history seen (start_of c.self.inside.settings) rs core c.self.inside.broken c.longer.ensures.this c.self.invariant in
-    let right = c.true_entries_stay.ensures g.A.App.next c.args.finding.front.history seen e c.longer.ensures.that c.args.finding.is_true in
+    let right = c.true_entries_stay.ensures g.A.App.next c.args.front.now.history seen e c.longer.ensures.that c.requires.is_true in
     broke g.A.App.next seen (start_of c.self.inside.settings) c.nodes_go_on.ensures.breaks rs c.append.new.self.records core c.insert.new.self c.self.inside.broken
     (Insert e) held (may_insert g.A.App.next seen core e c.known-known.ensures.ordered c.bytes-bytes.ensures.bound right)
     (ap (λ (l : LogValue). l.records) (c.if-not-append.ensures.unchanged refl)) c.in_ok-inserted.ensures.after
 
 pub invariant_of-self-else-not-append : goal.invariant_of-self-else-not-append
 invariant_of-self-else-not-append g c =
-    let e = c.args.finding.entry in
+    let e = c.args.entry in
     let rs = c.self.inside.log.records in
     let core = c.self.inside.core in
     let seen = c.longer.new.self.history in
     let held = c.nodes_go_on.ensures.sees g.A.App.next c.self.inside.seen.history seen (start_of c.self.inside.settings) rs core c.self.inside.broken c.longer.ensures.this c.self.invariant in
-    let right = c.true_entries_stay.ensures g.A.App.next c.args.finding.front.history seen e c.longer.ensures.that c.args.finding.is_true in
+    let right = c.true_entries_stay.ensures g.A.App.next c.args.front.now.history seen e c.longer.ensures.that c.requires.is_true in
     let whole : c.self.inside.broken ≡ false = ap (λ (n : NodeValue). n.broken) c.self.view_is ∙ c.in_ok-check_whole.ensures.only_if in
     let made = c.deref_mut.ensures.value ∙ (c.in_ok-next.ensures.ok ∙ c.next_record.ensures) in
     let record_is : c.set_reply.new.next ≡ next_record c.args.pass rs (Insert e) (replies.Inserted (outcome core e)) =
@@ -38,7 +38,7 @@ invariant_of-self-else-not-append g c =
 
 pub returns-clause-after : goal.returns-clause-after
 returns-clause-after g c =
-    let e = c.args.finding.entry in
+    let e = c.args.entry in
     let inside = c.self.inside in
     let n : NodeValue = record { settings = inside.settings; cells = inside.log.cells; records = inside.log.records; passes = inside.log.passes; cache = inside.core; seen = inside.seen; broken = inside.broken } in
     let made = c.deref_mut.ensures.value ∙ (c.in_ok-next.ensures.ok ∙ c.next_record.ensures) in
@@ -50,4 +50,4 @@ returns-clause-after g c =
 
 pub returns-clause-answer : goal.returns-clause-answer
 returns-clause-answer g c =
-    c.of-insertion.ensures ∙ (ap insertion_of c.in_ok-inserted.ensures.answer ∙ ap (λ (n : NodeValue). insertion_of (outcome n.cache c.args.finding.entry)) c.self.view_is)
+    c.of-insertion.ensures ∙ (ap insertion_of c.in_ok-inserted.ensures.answer ∙ ap (λ (n : NodeValue). insertion_of (outcome n.cache c.args.entry)) c.self.view_is)
