@@ -13,7 +13,9 @@ use txc_cushion::Pincushion;
 use txc_db::{Database, Naming};
 use txc_functions::{Object, Program, registry};
 use txc_permits::PermitPool;
-use txc_players::{Obeys, Player, changes, number, say_number, say_unknown, stamp};
+use txc_players::{
+    Calls, Obeys, Player, Shared, changes, number, room, say_number, say_unknown, stamp,
+};
 use txc_ports::Bounds;
 use txc_rows::Change;
 use txc_rw::RwTxn;
@@ -33,6 +35,8 @@ pub(super) struct Caller<'a, J: Naming, R: Wait> {
     rt: &'a R,
     database: &'a Database<J>,
     cushion: &'a Pincushion<J>,
+    /// Keeps what is held beside the clients.
+    shared: Shared<'a, J, R>,
     pool: PermitPool,
     one: Option<Reader<'a, J>>,
     other: Option<Reader<'a, J>>,
@@ -96,6 +100,7 @@ impl<'a, J: Naming, R: Wait> Caller<'a, J, R> {
     pub(super) fn new(
         rt: &'a R,
         (database, cushion): (&'a Database<J>, &'a Pincushion<J>),
+        shared: Shared<'a, J, R>,
         pool: PermitPool,
         (one, other): (Reader<'a, J>, Reader<'a, J>),
     ) -> Self {
@@ -103,6 +108,7 @@ impl<'a, J: Naming, R: Wait> Caller<'a, J, R> {
             rt,
             database,
             cushion,
+            shared,
             pool,
             one: Some(one),
             other: Some(other),
@@ -256,18 +262,22 @@ fn pinned_often<J: Naming>(
     last
 }
 
-/// Holds the newest stamp so often.
-fn hold_often<J: Naming>(
-    rt: &impl Wait,
+/// Holds the newest stamp so often, and says nothing but a refusal.
+fn hold_often<J: Naming, R: Wait>(
     alloc: Global,
-    database: &Database<J>,
+    shared: &mut Shared<'_, J, R>,
     count: u32,
     answer: &mut String,
 ) {
+    let Ok(mut said) = room(alloc) else {
+        return say_text(answer, "out of memory");
+    };
     for _ in 0..count {
-        if let Err(error) = database.hold(rt, alloc) {
-            return say(answer, &error);
-        }
+        said.clear();
+        shared.hold(alloc, &mut said);
+    }
+    if !said.bytes().all(|byte| byte.is_ascii_digit()) {
+        say_text(answer, said.as_str());
     }
 }
 
@@ -318,7 +328,7 @@ impl<J: Naming, R: Wait> Obeys for Caller<'_, J, R> {
                     pinned_often(rt, alloc, (database, cushion), now, count),
                 );
             }
-            "holds" => hold_often(rt, alloc, database, number(words), answer),
+            "holds" => hold_often(alloc, &mut self.shared, number(words), answer),
             "unpin" => say_refused(answer, database.unpin(rt, stamp(words))),
             "vacuum" => say_stamp(answer, database.vacuum(rt).ok()),
             "foreign" => say_refused(answer, append_event(alloc, database.events())),

@@ -14,7 +14,7 @@ use txc_functions::{Program, registry};
 use txc_judge::{Verdict, play_lines};
 use txc_node::Record;
 use txc_permits::PermitPool;
-use txc_players::{is_played, room};
+use txc_players::{Shared, is_played, room};
 use txc_shared::{NodeSettings, SharedNode};
 use txc_stream::EventRow;
 
@@ -119,7 +119,8 @@ fn play<J: Naming>(
     if how == How::Broken {
         append_foreign(alloc, nodes[1].row()).ok()?;
     }
-    let mut caller = Caller::new(rt, (&database, &cushion), pool, (one, other));
+    let shared = Shared::new(rt, alloc, &database, false).ok()?;
+    let mut caller = Caller::new(rt, (&database, &cushion), shared, pool, (one, other));
     if how == How::Judged {
         return play_lines(&mut caller, alloc, script, PERMITS as usize, answer);
     }
