@@ -19,8 +19,11 @@ use txc_stand_ins::{found, free};
 use txc_tags::{Key, Table};
 use txc_validity::Found;
 
-/// What the database answers to what `f6()` asks, one after another, and at last to what `f5()` asks.
-const FOUND: [&str; 2] = ["0 4 still t1:id=9", "3 4 still t1:grp=2 a b"];
+/// What the database answers to what `f5()` asks.
+const LAST: &str = "3 4 still t1:grp=2 a b";
+
+/// What it answers to what `f6()` asks, one after another.
+const FOUND: [&str; 2] = ["0 4 still t1:id=9", LAST];
 
 /// What is left of a transaction in which `f5()` was answered and a change was kept, after a call was refused
 /// once so much was found, or its own query: what was found counts as read. Then it is called again.
@@ -109,8 +112,7 @@ fn refuse_in<A: App, C: Cacheable>(
     let Some(table) = Table::new(1) else {
         return;
     };
-    let last = FOUND.get(1..).unwrap_or(&[]);
-    let turn = call(alloc, core, registry, 5, last, error);
+    let turn = call(alloc, core, registry, 5, &[LAST], error);
     say_turn(answer, turn);
     let _ = answer.push_str("; ");
     let _ = core.write(Change::Remove(table, 7));
@@ -120,7 +122,7 @@ fn refuse_in<A: App, C: Cacheable>(
     };
     say_turn(answer, turn);
     say_left(core, answer);
-    let turn = call(alloc, core, registry, 5, last, error);
+    let turn = call(alloc, core, registry, 5, &[LAST], error);
     say_turn(answer, turn);
 }
 
