@@ -23,7 +23,15 @@ use txc_validity::Found;
 const LAST: &str = "3 4 still t1:grp=2 a b";
 
 /// What it answers to what `f6()` asks, one after another.
-const FOUND: [&str; 2] = ["0 4 still t1:id=9", LAST];
+static FOUND: [&str; 2] = ["0 4 still t1:id=9", LAST];
+
+/// The first so many of these.
+fn first_found(count: usize) -> &'static [&'static str] {
+    match FOUND.get(..count) {
+        Some(found) => found,
+        None => &[],
+    }
+}
 
 /// What is left of a transaction in which `f5()` was answered and a change was kept, after a call was refused
 /// once so much was found, or its own query: what was found counts as read. Then it is called again.
@@ -47,7 +55,7 @@ fn call<A: App, C: Cacheable>(
     core: &mut RwCore,
     registry: &mut Registry<A, C>,
     function: u8,
-    found: &[&str],
+    found: &[&'static str],
     error: DbError,
 ) -> Turn
     requires fits { IsRw A.next registry.old core.old }
@@ -116,9 +124,10 @@ fn refuse_in<A: App, C: Cacheable>(
     say_turn(answer, turn);
     let _ = answer.push_str("; ");
     let _ = core.write(Change::Remove(table, 7));
-    let turn = match FOUND.get(..replies) {
-        Some(found) if replies < 2 => call(alloc, core, registry, 6, found, error),
-        _ => ask(alloc, core, registry, Query::ById(table, 8), error),
+    let turn = if replies < FOUND.len() {
+        call(alloc, core, registry, 6, first_found(replies), error)
+    } else {
+        ask(alloc, core, registry, Query::ById(table, 8), error)
     };
     say_turn(answer, turn);
     say_left(core, answer);
