@@ -19,8 +19,19 @@ use txc_stand_ins::{found, free};
 use txc_tags::{Key, Table};
 use txc_validity::Found;
 
-/// What the database answers to what `f6()` asks, one after another, and at last to what `f5()` asks.
-const FOUND: [&str; 2] = ["0 4 still t1:id=9", "3 4 still t1:grp=2 a b"];
+/// What the database answers to what `f5()` asks.
+const LAST: &str = "3 4 still t1:grp=2 a b";
+
+/// What it answers to what `f6()` asks, one after another.
+static FOUND: [&str; 2] = ["0 4 still t1:id=9", LAST];
+
+/// The first so many of these.
+fn first_found(count: usize) -> &'static [&'static str] {
+    match FOUND.get(..count) {
+        Some(found) => found,
+        None => &[],
+    }
+}
 
 /// What is left of a transaction in which `f5()` was answered and a change was kept, after a call was refused
 /// once so much was found, or its own query: what was found counts as read. Then it is called again.
@@ -44,7 +55,7 @@ fn call<A: App, C: Cacheable>(
     core: &mut RwCore,
     registry: &mut Registry<A, C>,
     function: u8,
-    found: &[&str],
+    found: &[&'static str],
     error: DbError,
 ) -> Turn
     requires fits { IsRw A.next registry.old core.old }
@@ -109,18 +120,18 @@ fn refuse_in<A: App, C: Cacheable>(
     let Some(table) = Table::new(1) else {
         return;
     };
-    let last = FOUND.get(1..).unwrap_or(&[]);
-    let turn = call(alloc, core, registry, 5, last, error);
+    let turn = call(alloc, core, registry, 5, &[LAST], error);
     say_turn(answer, turn);
     let _ = answer.push_str("; ");
     let _ = core.write(Change::Remove(table, 7));
-    let turn = match FOUND.get(..replies) {
-        Some(found) if replies < 2 => call(alloc, core, registry, 6, found, error),
-        _ => ask(alloc, core, registry, Query::ById(table, 8), error),
+    let turn = if replies < FOUND.len() {
+        call(alloc, core, registry, 6, first_found(replies), error)
+    } else {
+        ask(alloc, core, registry, Query::ById(table, 8), error)
     };
     say_turn(answer, turn);
     say_left(core, answer);
-    let turn = call(alloc, core, registry, 5, last, error);
+    let turn = call(alloc, core, registry, 5, &[LAST], error);
     say_turn(answer, turn);
 }
 
