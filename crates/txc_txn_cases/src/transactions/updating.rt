@@ -22,16 +22,8 @@ use txc_validity::Found;
 /// What the database answers to what `f5()` asks.
 const LAST: &str = "3 4 still t1:grp=2 a b";
 
-/// What it answers to what `f6()` asks, one after another.
-static FOUND: [&str; 2] = ["0 4 still t1:id=9", LAST];
-
-/// The first so many of these.
-fn first_found(count: usize) -> &'static [&'static str] {
-    match FOUND.get(..count) {
-        Some(found) => found,
-        None => &[],
-    }
-}
+/// What it answers to the first query of `f6()`, whose second is that of `f5()`.
+const FIRST: &str = "0 4 still t1:id=9";
 
 /// What is left of a transaction in which `f5()` was answered and a change was kept, after a call was refused
 /// once so much was found, or its own query: what was found counts as read. Then it is called again.
@@ -49,14 +41,14 @@ fn found_of(alloc: Global, text: &str) -> Result<Found, DbError> {
     }
 }
 
-/// Makes a call: to what it asks so much is found, one after another, and then it is refused.
+/// Makes a call: to what it asks this is found, each line to one query, and then it is refused.
 fn call<A: App, C: Cacheable>(
     alloc: Global,
     core: &mut RwCore,
     registry: &mut Registry<A, C>,
     function: u8,
-    found: &[&'static str],
-    error: DbError,
+    found: &str,
+    error: &DbError,
 ) -> Turn
     requires fits { IsRw A.next registry.old core.old }
     requires idle { IsIdle core.old }
@@ -67,13 +59,13 @@ fn call<A: App, C: Cacheable>(
         return Turn::Refused(TxnError::Memory);
     };
     let mut turn = core.start(alloc, registry, key);
-    for text in found {
+    for text in found.lines() {
         if let Turn::Ask(_) = &turn {
             turn = core.reply(alloc, registry, found_of(alloc, text));
         }
     }
     if let Turn::Ask(_) = &turn {
-        return core.reply(alloc, registry, Err(error));
+        return core.reply(alloc, registry, Err(*error));
     }
     turn
 }
@@ -84,7 +76,7 @@ fn ask<A: App, C: Cacheable>(
     core: &mut RwCore,
     registry: &mut Registry<A, C>,
     query: Query,
-    error: DbError,
+    error: &DbError,
 ) -> Turn
     requires fits { IsRw A.next registry.old core.old }
     requires idle { IsIdle core.old }
@@ -93,7 +85,7 @@ fn ask<A: App, C: Cacheable>(
 {
     let turn = core.ask(alloc, registry, query);
     if let Turn::Ask(_) = &turn {
-        return core.reply(alloc, registry, Err(error));
+        return core.reply(alloc, registry, Err(*error));
     }
     turn
 }
@@ -109,39 +101,39 @@ fn refuse_in<A: App, C: Cacheable>(
     alloc: Global,
     core: &mut RwCore,
     registry: &mut Registry<A, C>,
-    refused: (usize, DbError),
+    replies: usize,
+    error: &DbError,
     answer: &mut String,
 )
     requires fits { IsRw A.next registry.old core.old }
     requires idle { IsIdle core.old }
     ensures fits { IsRw A.next registry.new core.new }
 {
-    let (replies, error) = refused;
     let Some(table) = Table::new(1) else {
         return;
     };
-    let turn = call(alloc, core, registry, 5, &[LAST], error);
+    let turn = call(alloc, core, registry, 5, LAST, error);
     say_turn(answer, turn);
     let _ = answer.push_str("; ");
     let _ = core.write(Change::Remove(table, 7));
-    let turn = if replies < FOUND.len() {
-        call(alloc, core, registry, 6, first_found(replies), error)
-    } else {
-        ask(alloc, core, registry, Query::ById(table, 8), error)
+    let turn = match replies {
+        0 => call(alloc, core, registry, 6, "", error),
+        1 => call(alloc, core, registry, 6, FIRST, error),
+        _ => ask(alloc, core, registry, Query::ById(table, 8), error),
     };
     say_turn(answer, turn);
     say_left(core, answer);
-    let turn = call(alloc, core, registry, 5, &[LAST], error);
+    let turn = call(alloc, core, registry, 5, LAST, error);
     say_turn(answer, turn);
 }
 
 /// Says what a transaction does in which that is refused. None where memory was refused.
-fn refuse(alloc: Global, refused: (usize, DbError), answer: &mut String) -> Option<()> {
+fn refuse(alloc: Global, replies: usize, error: &DbError, answer: &mut String) -> Option<()> {
     answer.clear();
     let mut pool = PermitPool::new(alloc, 3).ok()?;
     let mut registry = functions(alloc, &mut pool)?;
     let mut core = RwCore::begin(alloc, stamp_of(4));
-    refuse_in(alloc, &mut core, &mut registry, refused, answer);
+    refuse_in(alloc, &mut core, &mut registry, replies, error, answer);
     let _unpin = core.cancel(&mut registry);
     let free = free(&mut pool);
     let _ = write!(answer, "; {free} free");
@@ -162,7 +154,7 @@ pub(super) fn refuse_each(alloc: Global, answer: &mut String) -> usize {
     let mut count = 0usize;
     for (replies, left) in LEFT.iter().enumerate() {
         for (error, text) in QUERY_REFUSALS.iter().zip(QUERY_TEXTS.iter()) {
-            let played = refuse(alloc, (replies, *error), answer);
+            let played = refuse(alloc, replies, error, answer);
             if played.is_none() || !is_wanted(answer, text, left) {
                 return count;
             }
