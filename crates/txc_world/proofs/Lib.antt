@@ -12,6 +12,7 @@ pub mod WritingLemmas
 pub mod Turning
 pub mod Stepping
 pub mod MemberLemmas
+pub mod Losing
 pub mod Times
 pub mod Fairness
 pub mod Balance
