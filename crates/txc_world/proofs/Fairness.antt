@@ -5,7 +5,6 @@ use Rattle.std.proofs.lemmas.List.{drop_all}
 use Rattle.std.proofs.lemmas.List.Elements.{All-head}
 use Rattle.std.specs.Prelude.{if◌then◌else◌}
 use Rattle.std.specs.List.{AllByRecursion}
-use Rattle.txc_stamp.specs.Interval.{Interval}
 use Rattle.txc_tags.specs.Keys.{Call}
 use Rattle.txc_rows.specs.declared.query.Query.{Query}
 use Rattle.txc_validity.specs.declared.answer.Found.{Found}
@@ -45,7 +44,9 @@ use Rattle.txc_world.specs.Keeping.{GiveBackLeads}
 use Rattle.txc_world.specs.declared.did.RowsFound.{RowsFound}
 use Rattle.txc_world.specs.declared.reply.Reply.{Reply}
 use Rattle.txc_world.specs.Actors.{counted, holds_any}
-use Rattle.txc_world.specs.Books.{account_of_core, gained, handed, listed, nothing, spent, Account, ActCounts, AskCounts, CountRight, HasLost, IsFair, IsGone, IsLossOf, ReplyIsLossOf}
+use Rattle.txc_world.specs.Books.{account_of_core, gained, handed, listed, nothing, spent, Account, ActCounts, AskCounts, CountRight, HasLost, IsFair, IsGone}
+use Rattle.txc_world.specs.Losing.{IfDidLose, IfReplyLost}
+use Rattle.txc_world.proofs.Losing.{did_so}
 use Rattle.txc_world.proofs.Times.{times_append, times_cons, times_off, times_one, times_there, times_without}
 
 -- ---- what is fair
@@ -280,42 +281,27 @@ newest_taken now renew_after present (newest ∷ older) taken stamp is all = go 
     go true due = let no : Present ≡ At stamp = rw due at is in absurd (cc no)
     go false due = let same : At newest.stamp ≡ At stamp = rw due at is in let at : newest.stamp ≡ stamp = cc in subst (λ (s : ℕ). 0 < times s taken) at first
 
-module _ (next : Next) (objects : Objects) (p : PortsValue) (c : CoreValue) (fits : IsCore next objects c) where
-  lost : (request : PortRequest) (horizon : ℕ) → IsAsking c request → IsGone request p (dids.Refused (errors.SnapshotGone horizon)) → HasLost p (account_of_core c)
-  lost (requests.Query query stamp) horizon asking gone = record {
-    stamp = stamp;
-    had = let some = newest_taken c.bounds.now c.renew_after c.pins.has_present c.pins.members c.taken stamp asking.1 fits.taken in omega (arith, some);
-    lost = gone;
-  }
-  lost request horizon asking gone = absurd gone
+-- what is asked at a stamp that is gone, is asked at one that was taken
+pub loss_did : (next : Next) (objects : Objects) (p : PortsValue) (c : CoreValue) (request : PortRequest) (did : Did) → IsCore next objects c → IsAsking c request
+    → IsGone request p did → IfDidLose did (HasLost p (account_of_core c))
+loss_did next objects p c (requests.Query query stamp) did fits asking gone =
+    did_so (times stamp p.database.holds ≡ 0) (HasLost p (account_of_core c))
+    (λ none. record {
+      stamp = stamp;
+      had = let some = newest_taken c.bounds.now c.renew_after c.pins.has_present c.pins.members c.taken stamp asking.1 fits.taken in omega (arith, some);
+      lost = none;
+    })
+    did gone
+loss_did next objects p c request did fits asking gone = did_so ⊥ (HasLost p (account_of_core c)) (λ no. absurd no) did gone
 
-  lost_refused : (request : PortRequest) (e : DbError) → IsAsking c request → IsGone request p (dids.Refused e) → IsLossOf p (account_of_core c) (dids.Refused e)
-  lost_refused request (errors.SnapshotGone horizon) asking gone = lost request horizon asking gone
-  lost_refused request (errors.Conflict first) asking gone = tt
-  lost_refused request errors.Full asking gone = tt
-  lost_refused request (errors.Store cause) asking gone = tt
-  lost_refused request errors.Broken asking gone = tt
-  lost_refused request (errors.NotPinned named) asking gone = tt
-  lost_refused request (errors.FutureStamp last) asking gone = tt
-  lost_refused request errors.HoldsFull asking gone = tt
-  lost_refused request errors.Memory asking gone = tt
-
-  lost_hit : (members : List Pin) (reach : Interval) (b : Bool) → IsLossOf p (account_of_core c) (if b then dids.Hit reach else dids.Miss)
-  lost_hit members reach true = tt
-  lost_hit members reach false = tt
-
-  pub loss_counted : (members : List Pin) (request : PortRequest) (did : Did) → IsAsking c request → IsGone request p did → IsLossOf p (account_of_core c) (counted members did)
-  loss_counted members request (dids.Refused e) asking gone = lost_refused request e asking gone
-  loss_counted members request (dids.Hit reach) asking gone = lost_hit members reach (holds_any reach members)
-  loss_counted members request (dids.Pinned stamp) asking gone = tt
-  loss_counted members request dids.Added asking gone = tt
-  loss_counted members request (dids.NotAdded e) asking gone = tt
-  loss_counted members request dids.Unpinned asking gone = tt
-  loss_counted members request dids.Miss asking gone = tt
-  loss_counted members request (dids.Rows rows) asking gone = tt
-  loss_counted members request (dids.Stored reach) asking gone = tt
-  loss_counted members request dids.Kept asking gone = tt
-  loss_counted members request dids.Dropped asking gone = tt
+-- a hit that holds no member loses nothing either
+pub loss_counted : (P : Type 0) (members : List Pin) (did : Did) → IfDidLose did P → IfDidLose (counted members did) P
+loss_counted P members (dids.Hit reach) lost = go (holds_any reach members)
+  where
+    go : (b : Bool) → IfDidLose (if b then dids.Hit reach else dids.Miss) P
+    go true = tt
+    go false = tt
+loss_counted P members did lost = lost
 
 -- ---- the ends of a transaction
 
@@ -325,19 +311,11 @@ pub fair_ended : {A : Type 0} → (old new : PortsValue) (c : CoreValue) (stamps
 fair_ended old new c stamps given law leads same rest fewer =
     fair_give_back old new stamps given law leads c.taken [] (listed (left_pin c.pinning)) rest (λ t. rw same (omega arith)) fewer
 
-pub loss_unpin : (p : PortsValue) (a : Account) (stamp : ℕ) (e : DbError) → IsUnpinRefused p.database stamp e → IsLossOf p a (dids.Refused e)
-loss_unpin p a stamp (errors.SnapshotGone horizon) h = absurd h
-loss_unpin p a stamp (errors.Conflict first) h = tt
-loss_unpin p a stamp errors.Full h = tt
-loss_unpin p a stamp (errors.Store cause) h = tt
-loss_unpin p a stamp errors.Broken h = tt
-loss_unpin p a stamp (errors.NotPinned named) h = tt
-loss_unpin p a stamp (errors.FutureStamp last) h = tt
-loss_unpin p a stamp errors.HoldsFull h = tt
-loss_unpin p a stamp errors.Memory h = tt
+pub loss_unpin : (p : PortsValue) (a : Account) (stamp : ℕ) (e : DbError) → IsUnpinRefused p.database stamp e → IfDidLose (dids.Refused e) (HasLost p a)
+loss_unpin p a stamp e h = did_so ⊥ (HasLost p a) (λ no. absurd no) (dids.Refused e) (gone_unpin p stamp e h)
 
 -- a step that leaves the ports and the account
-pub counts_itself : (p : PortsValue) (a : Account) (reply : Reply) → ReplyIsLossOf p a reply → ActCounts p p a a reply
+pub counts_itself : (p : PortsValue) (a : Account) (reply : Reply) → IfReplyLost reply (HasLost p a) → ActCounts p p a a reply
 counts_itself p a reply loss = record { fair = fair_itself p a; loss = loss }
 
 -- one pin after another is given back
