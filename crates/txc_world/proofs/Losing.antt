@@ -207,20 +207,25 @@ module _ (P : Type 0) where
 
 -- ---- the pin of the present
 
-abbrev pub step_of : PinStep → Option Call → Pinning
-step_of step first = record { step = step; first = first }
+-- why the hold of a pin is to be taken away, where it is
+abbrev pub reason_in : PinStep → Option TxnError
+reason_in (Dropping stamp error) = Some error
+reason_in step = None
+
+abbrev pub reason_of : Option Pinning → Option TxnError
+reason_of None = None
+reason_of (Some p) = reason_in p.step
 
 -- no pin is left to be added or unpinned
 pub none_left : (c : CoreValue) → left_pin c.pinning ≡ None → DropsNone c
 none_left c none = λ stamp error at. let some : Some stamp ≡ None = sym (ap left_pin at.1) ∙ none in absurd (cc some)
 
 adding_drops_none : (c : CoreValue) (pin : Pin) → IsAt c (Adding pin) → DropsNone c
-adding_drops_none c pin adding = λ stamp error at.
-    let both : Some (step_of (Adding pin) adding.0) ≡ Some (step_of (Dropping stamp error) at.0) = sym adding.1 ∙ at.1 in absurd (cc both)
+adding_drops_none c pin adding = λ stamp error at. let no : None ≡ Some error = ap reason_of (sym adding.1 ∙ at.1) in absurd (cc no)
 
 dropping_drops_none : (c : CoreValue) (stamp : ℕ) (error : AddError) → IsAt c (Dropping stamp (refused_pin error)) → DropsNone c
 dropping_drops_none c stamp error dropping = λ at_stamp why at.
-    let both : Some (step_of (Dropping stamp (refused_pin error)) dropping.0) ≡ Some (step_of (Dropping at_stamp why) at.0) = sym dropping.1 ∙ at.1 in
+    let both : Some (refused_pin error) ≡ Some why = ap reason_of (sym dropping.1 ∙ at.1) in
     let same : refused_pin error ≡ why = cc both in
     subst (λ (e : TxnError). IfLost e ⊥) same (pin_not_lost ⊥ error)
 

@@ -4,6 +4,7 @@ use Rattle.txc_txn.specs.Leading.{StartLeads}
 use Rattle.txc_world.specs.Cast.{call_value, called, reads}
 use Rattle.txc_world.proofs.Leading.{with_call, without_call}
 use Rattle.txc_db.specs.Seen.{FrontValue}
+use Rattle.txc_txn.specs.Core.{CoreValue}
 use Rattle.txc_txn.proofs.Offered.{adds_none}
 use Rattle.txc_world.specs.Parts.{IsPartOf}
 use Rattle.txc_world.specs.Ports.{whole_of}
@@ -14,8 +15,8 @@ pub returns-clause-fits : goal.returns-clause-fits
 returns-clause-fits g c =
     let same = c.start-turn.ensures.same in
     record {
-      seen = subst (λ (f : FrontValue). IsPartOf (whole_of c.args.whole.now) f) (sym (ap (λ v. v.seen) same)) c.requires.seen;
-      nodes = ap (λ v. v.nodes) same ∙ c.requires.nodes;
+      seen = subst (λ (f : FrontValue). IsPartOf (whole_of c.args.whole.now) f) (sym (ap (λ (v : CoreValue). v.seen) same)) c.requires.seen;
+      nodes = ap (λ (v : CoreValue). v.nodes) same ∙ c.requires.nodes;
       call = record {
         turn = c.start-turn.ensures.turn;
         no_value = c.start-turn.ensures.no_value;
