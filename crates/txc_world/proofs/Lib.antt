@@ -6,6 +6,7 @@ pub mod AskLemmas
 pub mod MakingLemmas
 pub mod Explaining
 pub mod Whole
+pub mod TruthLemmas
 pub mod Tellings
 pub mod CommitLemmas
 pub mod WritingLemmas
