@@ -1,4 +1,4 @@
-use Rattle.std.proofs.Common.{All-nil}
+use Rattle.std.proofs.lemmas.List.Elements.{All-nil}
 use Rattle.txc_world.proofs.TruthLemmas.{all_more, all_taken, true_node}
 use Rattle.txc_world.proofs.truth.Ports.are_true.Goals as goal
 
