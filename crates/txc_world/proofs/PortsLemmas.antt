@@ -45,6 +45,10 @@ ports_with_node p i old new are there at stays = record {
 pub keeps_itself : (p : PortsValue) → KeepsRow p p
 keeps_itself p = record { events = refl; longer = prefix_self p.database.history; count = refl; settings = refl; actors = refl }
 
+-- a step that changes nothing keeps all
+pub keeps_same : (old new : PortsValue) → new ≡ old → KeepsRow old new
+keeps_same old new same = subst (λ (p : PortsValue). KeepsRow old p) (sym same) (keeps_itself old)
+
 pub keeps_with_node : (p : PortsValue) (i : ℕ) (old new : NodeValue) → old ≡ get_or p.nodes i old
     → StaysNode (whole_of p) old new → KeepsRow p (record p { nodes = set p.nodes i new })
 keeps_with_node p i old new at stays = record {
