@@ -1,6 +1,6 @@
 use Rattle.std.proofs.lemmas.List.Elements.{All-nil}
 use Rattle.txc_world.proofs.TruthLemmas.{all_more, all_taken, true_node}
-use Rattle.txc_world.proofs.truth.Ports.are_true.Goals as goal
+use Rattle.txc_world.proofs.ports.Ports.are_true.Goals as goal
 
 pub loop-at-preserved : goal.loop-at-preserved
 loop-at-preserved g c =
