@@ -1,5 +1,5 @@
 -- What read-write transactions do to holds.
-use Rattle.std.proofs.Common.{◌≡◌, ◌∙◌, ℕ, zero, List, [], ◌∷◌, ◌++◌, Result, Ok, Err, refl, ap, sym, arith}
+use Rattle.std.proofs.Common.{◌≡◌, ◌∙◌, ℕ, zero, List, [], ◌∷◌, ◌++◌, Result, Ok, Err, refl, ap, sym, subst, arith}
 use Rattle.txc_tags.specs.declared.tag.Tag.{Tag}
 use Rattle.txc_rows.specs.declared.query.Change.{Change}
 use Rattle.txc_rows.specs.declared.query.Query.{Query}
