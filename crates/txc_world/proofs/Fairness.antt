@@ -125,50 +125,22 @@ module _ (p : PortsValue) (right : CountRight p) where
   pub gone_query : (query : Query) (stamp : ℕ) (e : DbError) → IsQueryRefused p.database query stamp e → IsGone (requests.Query query stamp) p (dids.Refused e)
   gone_query query stamp (errors.SnapshotGone horizon) h =
       none_held stamp p.database.horizon (newest p.database) p.database.holds h.1 (right.sound h.0).held
-  gone_query query stamp (errors.Conflict first) h = tt
-  gone_query query stamp errors.Full h = tt
-  gone_query query stamp (errors.Store cause) h = tt
-  gone_query query stamp errors.Broken h = tt
-  gone_query query stamp (errors.NotPinned named) h = tt
-  gone_query query stamp (errors.FutureStamp last) h = tt
-  gone_query query stamp errors.HoldsFull h = tt
-  gone_query query stamp errors.Memory h = tt
+  gone_query query stamp e h = tt
 
 gone_pin : (p : PortsValue) (now at_least : ℕ) (e : DbError) → IsPinRefused p.database at_least e → IsGone (requests.Pin now at_least) p (dids.Refused e)
 gone_pin p now at_least (errors.SnapshotGone horizon) h = h
-gone_pin p now at_least (errors.Conflict first) h = tt
-gone_pin p now at_least errors.Full h = tt
-gone_pin p now at_least (errors.Store cause) h = tt
-gone_pin p now at_least errors.Broken h = tt
-gone_pin p now at_least (errors.NotPinned named) h = tt
-gone_pin p now at_least (errors.FutureStamp last) h = tt
-gone_pin p now at_least errors.HoldsFull h = tt
-gone_pin p now at_least errors.Memory h = tt
+gone_pin p now at_least e h = tt
 
 gone_unpin : (p : PortsValue) (stamp : ℕ) (e : DbError) → IsUnpinRefused p.database stamp e → IsGone (requests.Unpin stamp) p (dids.Refused e)
 gone_unpin p stamp (errors.SnapshotGone horizon) h = h
-gone_unpin p stamp (errors.Conflict first) h = tt
-gone_unpin p stamp errors.Full h = tt
-gone_unpin p stamp (errors.Store cause) h = tt
-gone_unpin p stamp errors.Broken h = tt
-gone_unpin p stamp (errors.NotPinned named) h = tt
-gone_unpin p stamp (errors.FutureStamp last) h = tt
-gone_unpin p stamp errors.HoldsFull h = tt
-gone_unpin p stamp errors.Memory h = tt
+gone_unpin p stamp e h = tt
 
 -- ---- requests
 
 pub left_holds : (old new : DatabaseValue) (e : DbError) → IsLeft old new e → new.holds ≡ old.holds
-left_holds old new (errors.SnapshotGone horizon) left = ap (λ (d : DatabaseValue). d.holds) left
-left_holds old new (errors.Conflict first) left = ap (λ (d : DatabaseValue). d.holds) left
-left_holds old new errors.Full left = ap (λ (d : DatabaseValue). d.holds) left
-left_holds old new (errors.Store cause) left = ap (λ (d : DatabaseValue). d.holds) left
 left_holds old new errors.Broken (inl same) = ap (λ (d : DatabaseValue). d.holds) same.0
 left_holds old new errors.Broken (inr broke) = broke.holds
-left_holds old new (errors.NotPinned stamp) left = ap (λ (d : DatabaseValue). d.holds) left
-left_holds old new (errors.FutureStamp last) left = ap (λ (d : DatabaseValue). d.holds) left
-left_holds old new errors.HoldsFull left = ap (λ (d : DatabaseValue). d.holds) left
-left_holds old new errors.Memory left = ap (λ (d : DatabaseValue). d.holds) left
+left_holds old new e left = ap (λ (d : DatabaseValue). d.holds) left
 
 -- a pin holds the stamp of its event
 pub pin_holds : (old new : PortsValue) (now stamp : ℕ) → new.database ≡ after_pin old.database now → stamp ≡ newest new.database
@@ -252,12 +224,7 @@ spends c (requests.Insert node entry) asking = rw asking.0.0 refl
 -- what a reply brings comes to what was taken before
 brings : (t : ℕ) (taken : List ℕ) (reply : PortReply) → times t (taken_after taken reply) ≡ times t taken + times t (taken_after [] reply)
 brings t taken (replies.AddPin pinned (Ok added)) = times_append t taken (pinned.stamp ∷ [])
-brings t taken (replies.AddPin pinned (Err e)) = omega arith
-brings t taken (replies.Pin pinned) = omega arith
-brings t taken replies.Unpin = omega arith
-brings t taken (replies.Lookup hit) = omega arith
-brings t taken (replies.Query found) = omega arith
-brings t taken replies.Insert = omega arith
+brings t taken reply = omega arith
 
 pub fair_gone_on : (old new : PortsValue) (c c' : CoreValue) (request : PortRequest) (reply : PortReply) → IsAsking c request → IsFair old new (spent request) (gained reply)
     → c'.taken ≡ taken_after c.taken reply → left_pin c'.pinning ≡ left_after reply → IsFair old new (account_of_core c) (account_of_core c')

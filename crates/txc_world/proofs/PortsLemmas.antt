@@ -83,28 +83,14 @@ module _ (p : PortsValue) (d : DatabaseValue) where
 -- a refusal leaves the row and the history
 module _ (old new : DatabaseValue) where
   pub left_events : (e : DbError) → IsLeft old new e → new.events ≡ old.events
-  left_events (errors.SnapshotGone horizon) left = ap (λ (d : DatabaseValue). d.events) left
-  left_events (errors.Conflict first) left = ap (λ (d : DatabaseValue). d.events) left
-  left_events errors.Full left = ap (λ (d : DatabaseValue). d.events) left
-  left_events (errors.Store cause) left = ap (λ (d : DatabaseValue). d.events) left
   left_events errors.Broken (inl same) = ap (λ (d : DatabaseValue). d.events) same.0
   left_events errors.Broken (inr broke) = broke.events
-  left_events (errors.NotPinned stamp) left = ap (λ (d : DatabaseValue). d.events) left
-  left_events (errors.FutureStamp newest) left = ap (λ (d : DatabaseValue). d.events) left
-  left_events errors.HoldsFull left = ap (λ (d : DatabaseValue). d.events) left
-  left_events errors.Memory left = ap (λ (d : DatabaseValue). d.events) left
+  left_events e left = ap (λ (d : DatabaseValue). d.events) left
 
   pub left_history : (e : DbError) → IsLeft old new e → new.history ≡ old.history
-  left_history (errors.SnapshotGone horizon) left = ap (λ (d : DatabaseValue). d.history) left
-  left_history (errors.Conflict first) left = ap (λ (d : DatabaseValue). d.history) left
-  left_history errors.Full left = ap (λ (d : DatabaseValue). d.history) left
-  left_history (errors.Store cause) left = ap (λ (d : DatabaseValue). d.history) left
   left_history errors.Broken (inl same) = ap (λ (d : DatabaseValue). d.history) same.0
   left_history errors.Broken (inr broke) = broke.history
-  left_history (errors.NotPinned stamp) left = ap (λ (d : DatabaseValue). d.history) left
-  left_history (errors.FutureStamp newest) left = ap (λ (d : DatabaseValue). d.history) left
-  left_history errors.HoldsFull left = ap (λ (d : DatabaseValue). d.history) left
-  left_history errors.Memory left = ap (λ (d : DatabaseValue). d.history) left
+  left_history e left = ap (λ (d : DatabaseValue). d.history) left
 
 -- a commit leaves the row, and the history or one that goes on from it
 commit_events : (d : DatabaseValue) (changes net : List Change) (other : DatabaseValue) → other.events ≡ d.events
