@@ -1,5 +1,5 @@
 -- What is refused for a snapshot that is gone, from a port to the end of a call.
-use Rattle.std.proofs.Common.{◌≡◌, ◌∙◌, ◌⊎◌, ℕ, List, [], ◌∷◌, Result, Ok, Err, Option, Some, None, inl, inr, refl, ap, sym, subst}
+use Rattle.std.proofs.Common.{◌≡◌, ◌∙◌, ◌⊎◌, ℕ, List, [], ◌∷◌, Ok, Err, Option, Some, None, inl, inr, refl, ap, sym, subst}
 use Rattle.std.specs.Prelude.{IsNone, IsSome}
 use Rattle.txc_tags.specs.Keys.{Call}
 use Rattle.txc_db.specs.declared.error.DbError.{DbError}

@@ -11,7 +11,7 @@ use Rattle.txc_db.specs.History.{History, commit_event, pin_event, state_at}
 use Rattle.txc_cushion.specs.declared.pin.Pin.{Pin}
 use Rattle.txc_app.specs.Eval.{Next}
 use Rattle.txc_world.specs.declared.step.Act.{Act}
-use Rattle.txc_world.specs.declared.step.Act.TheVariants.{BeginRo, BeginRw, Start, Request, Ask, Write, Commit, Abort}
+use Rattle.txc_world.specs.declared.step.Act.TheVariants.{Request, Write, Commit}
 use Rattle.txc_world.specs.declared.step.Keep.{Keep}
 use Rattle.txc_world.specs.declared.step.Keep.TheVariants as keeps
 use Rattle.txc_world.specs.declared.step.Step.{Step}
@@ -20,7 +20,7 @@ use Rattle.txc_world.specs.declared.did.Did.{Did}
 use Rattle.txc_world.specs.declared.did.Did.TheVariants as dids
 use Rattle.txc_world.specs.declared.reply.Reply.{Reply}
 use Rattle.txc_world.specs.declared.reply.Reply.TheVariants as replies
-use Rattle.txc_world.specs.Told.{Writing, Story, idle, reading, writing, leaving, Told, act_in, act_at, after, begin_at, commit_in, floor_at, did_in, keep_in, told_by, AreDue, AreExplained, AreExplainedIn, CommitExplains, CommitMakes, IsCommitOf, IsDue, IsExplainedIn, IsNoCommit, IsReceiptOf, ReplyExplains}
+use Rattle.txc_world.specs.Told.{Writing, Story, reading, writing, Told, act_in, act_at, after, begin_at, commit_in, floor_at, did_in, keep_in, told_by, AreDue, AreExplained, AreExplainedIn, CommitExplains, CommitMakes, IsCommitOf, IsDue, IsExplainedIn, IsNoCommit, IsReceiptOf, ReplyExplains}
 use Rattle.txc_stream.proofs.Offered.{prefix_self, prefix_take, prefix_trans}
 use Rattle.txc_world.proofs.Explaining.{explained_later, state_later}
 
