@@ -19,27 +19,28 @@ abbrev pub IfGone : DbError → Type 0 → Type 0
 IfGone (SnapshotGone horizon) P = P
 IfGone error P = Unit {0}
 
--- where a transaction did
+-- this is so, where a transaction was refused for a snapshot that is gone
 abbrev pub IfLost : TxnError → Type 0 → Type 0
 IfLost (SnapshotLost horizon) P = P
 IfLost error P = Unit {0}
 
--- where a port did
+-- this is so, where a port refused for a snapshot that is gone
 abbrev pub IfDidLose : Did → Type 0 → Type 0
 IfDidLose (dids.Refused error) P = IfGone error P
 IfDidLose did P = Unit {0}
 
--- where a turn is such a refusal
+-- this is so, where the turn is a refusal for a snapshot that is gone
 abbrev pub IfTurnLost : Turn → Type 0 → Type 0
 IfTurnLost (turns.Refused error) P = IfLost error P
 IfTurnLost turn P = Unit {0}
 
--- where a call has ended so
+-- this is so, where a call has ended for a snapshot that is gone
 abbrev pub IfEndLost : Option End → Type 0 → Type 0
 IfEndLost (Some (ends.Refused error)) P = IfLost error P
 IfEndLost end P = Unit {0}
 
--- where a reply tells so: of what a port did, of how a call has ended, or of a transaction's own query
+-- This is so, where the reply tells of a snapshot that is gone: of a request that a port refused so, of a call
+-- that has ended so, or of a query of the transaction's own.
 abbrev pub IfReplyLost : Reply → Type 0 → Type 0
 IfReplyLost (Asked did end) P = IfDidLose did P × IfEndLost end P
 IfReplyLost (Ended end) P = IfEndLost (Some end) P
