@@ -14,7 +14,7 @@ ghost use Rattle.txc_world.specs.Ports.{whole_of, KeepsRow};
 ghost use Rattle.txc_world.specs.Told.{act_in, did_in, idle, leaving, story_after, IsActDue, IsActReply, IsNoCommit, ReplyExplains};
 
 use crate::actor::{Actor, OpenCall, OpenTxn};
-use crate::asked::Asked;
+use crate::asked::{Asked, Went};
 use crate::did::Did;
 use crate::ports::Ports;
 use crate::reply::{End, Refusal, Reply};
@@ -132,13 +132,6 @@ fn holds_any(reach: Reach, members: &[Pin]) -> bool
     ensures { result ≡ holds_any reach members.now }
 {
     members.iter().any(|pin| reach.holds(pin.stamp))
-}
-
-/// What a request did, and what the transaction does next.
-#[derive(Drop)]
-struct Went {
-    did: Did,
-    turn: Turn,
 }
 
 // Asks the port, and goes on with the reply.

@@ -15,6 +15,7 @@ ghost use Rattle.txc_world.specs.Told.{act_in, idle, story_after, IsActDue, IsAc
 
 use crate::acting::note;
 use crate::actor::{Actor, OpenCall, OpenRw};
+use crate::asked::Went;
 use crate::did::Did;
 use crate::ports::Ports;
 use crate::reply::{End, Refusal, Reply};
@@ -113,13 +114,6 @@ fn end_of(turn: Turn) -> End
         Turn::Refused(error) => End::Refused(error),
         _ => unreachable!(),
     }
-}
-
-/// What a request did, and what the transaction does next.
-#[derive(Drop)]
-struct Went {
-    did: Did,
-    turn: Turn,
 }
 
 // Asks the query of the open call at the base, and goes on with what was found.
