@@ -16,7 +16,6 @@ ghost use Rattle.txc_world.specs.Told.{act_in, idle, story_after, IsActDue, IsAc
 use crate::acting::note;
 use crate::actor::{Actor, OpenCall, OpenRw};
 use crate::asked::Went;
-use crate::did::Did;
 use crate::ports::Ports;
 use crate::reply::{End, Refusal, Reply};
 use crate::step::Act;
