@@ -11,7 +11,7 @@ use Rattle.txc_db.specs.History.{History, commit_event, pin_event, state_at}
 use Rattle.txc_cushion.specs.declared.pin.Pin.{Pin}
 use Rattle.txc_app.specs.Eval.{Next}
 use Rattle.txc_world.specs.declared.step.Act.{Act}
-use Rattle.txc_world.specs.declared.step.Act.TheVariants.{Request, Write, Commit}
+use Rattle.txc_world.specs.declared.step.Act.TheVariants.{Request, Commit}
 use Rattle.txc_world.specs.declared.step.Keep.{Keep}
 use Rattle.txc_world.specs.declared.step.Keep.TheVariants as keeps
 use Rattle.txc_world.specs.declared.step.Step.{Step}
