@@ -8,31 +8,28 @@ use Rattle.lru.specs.LruCache.{LruCache, promoted, put_entries}
 use Rattle.txc_node.specs.declared.entry.Entry.{Entry}
 use Rattle.txc_node.specs.declared.place.Place.{Place}
 use Rattle.txc_node.specs.declared.stored.Stored.{Stored}
-use Rattle.txc_node.specs.Places.{place_of, equal_places, equal_places_is, equal_places_itself}
+use Rattle.txc_node.specs.Places.{place_of, equal_places, equal_places_is}
 use Rattle.txc_node.specs.Entries.{same_place, others, AreApart}
 use Rattle.txc_node.specs.Indexed.{entry_of, stored_of, entries_of, entry_at, ArePlaced}
 use Rattle.txc_node.proofs.Apart.{same_place_sym}
 
--- ---- each pair is found at its place
+-- ---- what is found at a place
 
-found_after : (x : Place × Stored) (ps xs : List (Place × Stored)) → x.0 ≡ place_of (entry_of x) → ArePlaced xs → AllByRecursion (λ o. same_place o (entry_of x) ≡ false) (entries_of xs)
-    → AllByRecursion (λ y. lookup_entry (equal_places y.0) ps ≡ Some y) xs → AllByRecursion (λ y. lookup_entry (equal_places y.0) (x ∷ ps) ≡ Some y) xs
-found_after x ps [] at placed apart h = tt
-found_after x ps (y ∷ ys) at placed apart h =
-    let other : equal_places y.0 x.0 ≡ false = ap (λ q. equal_places q x.0) placed.0 ∙ ap (equal_places (place_of (entry_of y))) at ∙ apart.0 in
-    (ap (λ b. cond b (Some x) (lookup_entry (equal_places y.0) ps)) other ∙ h.0, found_after x ps ys at placed.1 apart.1 h.1)
+-- the entry at a place is that of the pair there
+pub found_pair : (q : Place) (ps : List (Place × Stored)) → ArePlaced ps → entry_at (entries_of ps) q ≡ option_map entry_of (lookup_entry (equal_places q) ps)
+found_pair q [] placed = refl
+found_pair q (x ∷ ps) placed =
+    let e = entry_of x in
+    let rest = option_map entry_of (lookup_entry (equal_places q) ps) in
+    ap (λ (o : Option Entry). cond (equal_places q (place_of e)) (Some e) o) (found_pair q ps placed.1)
+    ∙ elim (equal_places q (place_of e)) as (λ b. cond b (Some e) rest ≡ option_map entry_of (cond b (Some x) (lookup_entry (equal_places q) ps))) [ true ↦ refl | false ↦ refl ]
+    ∙ ap (λ (r : Place). option_map entry_of (cond (equal_places q r) (Some x) (lookup_entry (equal_places q) ps))) (sym placed.0)
 
-pub found_each : (ps : List (Place × Stored)) → ArePlaced ps → AreApart (entries_of ps) → AllByRecursion (λ y. lookup_entry (equal_places y.0) ps ≡ Some y) ps
-found_each [] placed apart = tt
-found_each (x ∷ ps) placed apart = (ap (λ b. cond b (Some x) (lookup_entry (equal_places x.0) ps)) (equal_places_itself x.0), found_after x ps ps placed.0 placed.1 apart.0 (found_each ps placed.1 apart.1))
-
--- the pair of an entry of the list
-stand_each : (ps xs : List (Place × Stored)) → ArePlaced xs → AllByRecursion (λ y. lookup_entry (equal_places y.0) ps ≡ Some y) xs → AllByRecursion (λ o. entry_at ps (place_of o) ≡ Some o) (entries_of xs)
-stand_each ps [] placed h = tt
-stand_each ps (x ∷ xs) placed h = (ap (λ q. option_map entry_of (lookup_entry (equal_places q) ps)) (sym placed.0) ∙ ap (option_map entry_of) h.0, stand_each ps xs placed.1 h.1)
-
-pub stands_each : (ps : List (Place × Stored)) → ArePlaced ps → AreApart (entries_of ps) → AllByRecursion (λ o. entry_at ps (place_of o) ≡ Some o) (entries_of ps)
-stands_each ps placed apart = stand_each ps ps placed (found_each ps placed apart)
+pub pair_of : (ps : List (Place × Stored)) (q : Place) (e : Entry) → ArePlaced ps → entry_at (entries_of ps) q ≡ Some e → (x : Place × Stored) × (lookup_entry (equal_places q) ps ≡ Some x) × (entry_of x ≡ e)
+pair_of ps q e placed h = (elim (lookup_entry (equal_places q) ps) as (λ f. option_map entry_of f ≡ Some e → (x : Place × Stored) × (f ≡ Some x) × (entry_of x ≡ e)) [
+  | None ↦ λ h. let none : None ≡ Some e = h in cc
+  | Some x ↦ λ h. let is : Some (entry_of x) ≡ Some e = h in let same : entry_of x ≡ e = cc in (x, refl, same)
+]) (sym (found_pair q ps placed) ∙ h)
 
 -- what is stored at a place, by the entry that stands there
 pub stored_at : (q : Place) (ps : List (Place × Stored)) → ArePlaced ps → lookup (equal_places q) ps ≡ option_map stored_of (find (λ e. equal_places q (place_of e)) (entries_of ps))
