@@ -16,6 +16,7 @@ pub mod Fronts
 pub mod Closings
 pub mod Invalidated
 pub mod Lasts
+pub mod Listed
 pub mod Turns
 pub mod Buckets
 pub mod Puts

@@ -2,7 +2,8 @@
 use Rattle.std.proofs.Common.{◌≡◌, ◌-◌, ◌≤◌, Bool, true, false, not, ◌||◌, cond, eqb, List, [], ◌∷◌, length, take, ℕ, suc, Some, None, refl, sym, ap, subst, ◌∙◌, arith}
 use Rattle.std.specs.Prelude.{slice_get}
 use Rattle.std.specs.List.{AllByRecursion, find}
-use Rattle.std.specs.Option.{option_map_or}
+use Rattle.std.specs.Option.{option_map, option_map_or}
+use Rattle.std.proofs.lemmas.Bool.{false≢true}
 use Rattle.std.specs.HashMap.{HashMap}
 use borrow.Author.Tests.{eq-eqb}
 use Rattle.txc_tags.specs.declared.tag.Rows.{Rows}
@@ -13,6 +14,7 @@ use Rattle.txc_tags.specs.Keys.{Call}
 use Rattle.txc_tags.proofs.Offered.{and_true}
 use Rattle.txc_node.specs.declared.entry.Entry.{Entry}
 use Rattle.txc_node.specs.declared.place.Place.{Place}
+use Rattle.txc_node.specs.declared.stored.Stored.{Stored}
 use Rattle.txc_node.specs.Places.{place_of, equal_places, equal_places_is}
 use Rattle.txc_node.specs.Entries.{same_place, others, AreApart}
 use Rattle.txc_node.specs.Indexed.{entry_at, stored_of, entries_under, lists, last_to_front, IsListed, IndexesTags, KeepsListed, with_first}
@@ -43,9 +45,9 @@ module _ {S : Type 0} (tables new : List (HashMap Rows (List Place) S)) where
   kept_tags q (t ∷ ts) k h = (k t h.0, kept_tags q ts k h.1)
 
   -- what is listed in excess does no harm
-  all_kept : (es : List Entry) → KeepsListed (λ t q. Unit {0}) tables new → IndexesTags tables es → IndexesTags new es
-  all_kept [] keeps h = tt
-  all_kept (e ∷ es) keeps h = (λ still. kept_tags (place_of e) e.tags (λ t. keeps t (place_of e) tt) (h.0 still), all_kept es keeps h.1)
+  pub listed_more : (es : List Entry) → KeepsListed (λ t q. Unit {0}) tables new → IndexesTags tables es → IndexesTags new es
+  listed_more [] keeps h = tt
+  listed_more (e ∷ es) keeps h = (λ still. kept_tags (place_of e) e.tags (λ t. keeps t (place_of e) tt) (h.0 still), listed_more es keeps h.1)
 
   own_kept : (q : Place) (us ts : List Tag) → AllByRecursion (λ t. has_tag us t ≡ true) ts → KeepsListed (λ t p. has_tag us t ≡ true) tables new → AllByRecursion (λ t. lists tables t q ≡ true) ts → AllByRecursion (λ t. lists new t q ≡ true) ts
   own_kept q us [] own keeps h = tt
@@ -66,14 +68,10 @@ module _ {S : Type 0} (tables new : List (HashMap Rows (List Place) S)) where
   pub left_off : (es : List Entry) (q : Place) → AreApart es → KeepsListed (λ t p. equal_places q p ≡ false) tables new → ((e : Entry) → entry_at es q ≡ Some e → KeepsListed (λ t p. has_tag e.tags t ≡ true) tables new) → IndexesTags tables es → IndexesTags new es
   left_off es q apart places own h = left_each es es q places own (found_self es apart) h
 
-  pub listed_more : (es : List Entry) → KeepsListed (λ t q. Unit {0}) tables new → IndexesTags tables es → IndexesTags new es
-  listed_more es keeps h = all_kept es keeps h
 
   -- a new entry that was listed goes first
-  pub listed_first : (e : Entry) (n : ℕ) (es : List Entry) → KeepsListed (λ t q. Unit {0}) tables new → IsListed new (place_of e) (stored_of e) → IndexesTags tables es → IndexesTags new (take n (with_first e es))
-  listed_first e n es keeps own h =
-      let P : Entry → Type 0 = λ o. IsListed new (place_of o) (stored_of o) in
-      take_keeps P n (with_first e es) (own, filter_keeps P (λ o. not (same_place o e)) es (all_kept es keeps h))
+  pub first_listed : (e : Entry) (q : Place) (es : List Entry) → q ≡ place_of e → KeepsListed (λ t q. Unit {0}) tables new → IsListed new q (stored_of e) → IndexesTags tables es → IndexesTags new (with_first e es)
+  first_listed e q es at keeps own h = (subst (λ (p : Place). IsListed new p (stored_of e)) at own, filter_keeps (λ o. IsListed new (place_of o) (stored_of o)) (λ o. not (same_place o e)) es (listed_more es keeps h))
 
 module _ {S : Type 0} (tables : List (HashMap Rows (List Place) S)) where
   pub brought_listed : (key : Call) (es : List Entry) (at : ℕ) (e : Entry) → slice_get (entries_under key es) at ≡ Some e → IndexesTags tables es → IndexesTags tables (e ∷ others e es)
@@ -89,6 +87,20 @@ module _ {S : Type 0} (tables : List (HashMap Rows (List Place) S)) where
     | None ↦ λ t. h
     | Some e ↦ λ t. (all_at (λ o. IsListed tables (place_of o) (stored_of o)) es (length es - 1) e h t, front_listed (length es - 1) es h)
   ]) refl
+
+-- ---- what is stored at a place
+
+pub nothing_there : {A : Type 0} (es : List Entry) (q : Place) (e : Entry) → None ≡ option_map stored_of (entry_at es q) → entry_at es q ≡ Some e → A
+nothing_there es q e none at =
+    let no : None ≡ Some (stored_of e) = none ∙ ap (option_map stored_of) at in
+    let other : true ≡ false = cc in
+    absurd (false≢true (sym other))
+
+pub stored_there : (es : List Entry) (q : Place) (e : Entry) (s : Stored) → Some s ≡ option_map stored_of (entry_at es q) → entry_at es q ≡ Some e → s.tags ≡ e.tags
+stored_there es q e s is at =
+    let both : Some s ≡ Some (stored_of e) = is ∙ ap (option_map stored_of) at in
+    let same : s ≡ stored_of e = cc in
+    ap (λ (u : Stored). u.tags) same
 
 -- ---- how many there are
 

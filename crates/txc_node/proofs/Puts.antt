@@ -1,38 +1,29 @@
 -- A new entry that goes first.
-use Rattle.std.proofs.Common.{◌≡◌, ℕ, ◌-◌, ◌<◌, ◌≤◌, Bool, true, false, not, ◌||◌, cond, eqb, List, [], ◌∷◌, ◌++◌, length, take, Option, Some, None, refl, sym, ap, subst, ◌∙◌, arith, suc, zero}
+use Rattle.std.proofs.Common.{◌≡◌, ℕ, ◌-◌, ◌<◌, ◌≤◌, Bool, true, false, not, cond, List, [], ◌∷◌, ◌++◌, length, take, Option, Some, None, refl, sym, ap, subst, ◌∙◌, arith, suc, zero}
 use Rattle.std.specs.Prelude.{slice_get, remove}
 use Rattle.std.specs.List.{AllByRecursion, find}
 use Rattle.std.specs.Option.{option_map, option_map_or}
 use Rattle.std.specs.Map.{lookup, lookup_entry, remove_entry}
-use Rattle.std.specs.HashMap.{HashMap}
-use Rattle.std.proofs.lemmas.Bool.{false≢true}
 use Rattle.std.proofs.lemmas.List.{length-map}
-use Rattle.std.proofs.lemmas.Option.{slice_get_within, slice_get_past}
-use borrow.Author.Tests.{eq-eqb}
+use Rattle.std.proofs.lemmas.Option.{slice_get_within}
 use Rattle.lru.specs.LruCache.{LruCache, put_entries, displaced}
 use Rattle.txc_stamp.specs.Interval.{Interval}
-use Rattle.txc_tags.specs.declared.tag.Rows.{Rows}
-use Rattle.txc_tags.specs.declared.tag.Rows.TheVariants.{All, Id, Group}
-use Rattle.txc_tags.specs.declared.tag.Tag.{Tag}
-use Rattle.txc_tags.specs.Tags.{same_rows, same_tag, has_tag}
 use Rattle.txc_tags.specs.Keys.{Call, same_call}
-use Rattle.txc_tags.proofs.Offered.{and_true}
 use Rattle.txc_node.specs.declared.entry.Entry.{Entry}
 use Rattle.txc_node.specs.declared.place.Place.{Place}
 use Rattle.txc_node.specs.declared.stored.Stored.{Stored}
 use Rattle.txc_node.specs.declared.versions.Found.{Found}
-use Rattle.txc_node.specs.Places.{place_of, place_at, equal_places, equal_places_is}
+use Rattle.txc_node.specs.Places.{place_of, place_at, equal_places}
 use Rattle.txc_node.specs.Entries.{same_place, others, AreApart}
 use Rattle.txc_node.specs.Cache.{Cache, ends_no_earlier, is_kept, replayed_reach}
-use Rattle.txc_node.specs.Indexed.{entry_of, stored_of, entries_of, ArePlaced, entries_under, reaches_under, listed, IndexesKeys, Relists, StandsUnder, with_first, IsFound, lists, IsListed, IndexesTags, KeepsListed, IsIndexed}
-use Rattle.txc_node.proofs.Apart.{same_place_sym, first_apart, others_elsewhere, filter_keeps}
+use Rattle.txc_node.specs.Indexed.{entry_at, entry_of, entries_of, ArePlaced, AreTied, entries_under, reaches_under, listed, IndexesKeys, Relists, StandsUnder, with_first, IsFound}
+use Rattle.txc_node.proofs.Apart.{same_place_sym, first_apart}
 use Rattle.txc_node.proofs.Inserts.{others_like, others_none, filter_same, place_moved}
 use Rattle.txc_node.proofs.Swept.{find_same}
-use Rattle.txc_node.proofs.Pairs.{found_each, pair_at, without_is_others, removed_keeps, removed_length}
+use Rattle.txc_node.proofs.Pairs.{found_pair, pair_at, without_is_others, removed_keeps}
 use Rattle.txc_node.proofs.KeyLists.{indexes_by, put_first, brought_first, relisted_there}
 use Rattle.txc_node.proofs.Fronts.{key_at}
-use Rattle.txc_node.proofs.Invalidated.{kept_tags}
-use Rattle.txc_node.proofs.Lasts.{kept_elsewhere, at_place, split_at, forgotten}
+use Rattle.txc_node.proofs.Lasts.{split_at, dropped_tied}
 use Rattle.txc_node.proofs.Turns.{get_entry}
 
 -- ---- what is found at a place
@@ -43,10 +34,6 @@ none_there p (x ∷ es) h = (elim (p x) as (λ b. p x ≡ b → cond b (Some x) 
   | true ↦ λ t h. let some : Some x ≡ None = h in cc
   | false ↦ λ t h. (t, none_there p es h)
 ]) refl h
-
-turned_round : (e : Entry) (es : List Entry) → AllByRecursion (λ o. same_place o e ≡ false) es → AllByRecursion (λ o. same_place e o ≡ false) es
-turned_round e [] h = tt
-turned_round e (o ∷ es) h = (same_place_sym e o ∙ h.0, turned_round e es h.1)
 
 -- where no entry stands, no pair does
 no_pair : (ps : List (Place × Stored)) (q : Place) (e : Entry) → q ≡ place_of e → ArePlaced ps → AllByRecursion (λ o. same_place o e ≡ false) (entries_of ps)
@@ -123,6 +110,9 @@ evicted_is zero ps e o some absent is = absurd (omega arith)
 evicted_is (suc n) ps e o some absent is =
     ap (option_map entry_of) (is ∙ ap (λ k. slice_get ps k) (omega arith)) ∙ sym (get_entry ps n) ∙ ap (λ (xs : List Entry). slice_get xs n) (sym (absent_others e (entries_of ps) absent))
 
+pub within_pairs : (ps : List (Place × Stored)) (n : ℕ) → length ps ≤ n → length (entries_of ps) ≤ n
+within_pairs ps n h = omega (arith, h, length-map ps entry_of)
+
 -- the last pair makes room
 pub pushed_out : (n : ℕ) (ps : List (Place × Stored)) (p x : Place × Stored) (index new : List (Call × List Interval))
     → 0 < n → length (entries_of ps) ≤ n → slice_get ps (n - 1) ≡ Some x → AreTied (p ∷ ps) index
@@ -145,6 +135,13 @@ there_put c q s at is there placed =
       ap (λ f. option_map_or (λ old. Some (q, old)) f (slice_get c.entries (c.cap - 1))) x.2,
       x.2,
     )
+
+-- what stood there before
+pub there_before : (c : LruCache Place Stored) (q : Place) (s : Stored) (at : ℕ) → q ≡ place_of (entry_of (q, s)) → StandsUnder (entry_of (q, s)) (entries_of c.entries) at → ArePlaced c.entries → option_map entry_of (displaced equal_places c q s) ≡ entry_at (entries_of c.entries) q
+there_before c q s at is there placed =
+    let x = pair_there c.entries q (entry_of (q, s)) there.0 is placed there.1 in
+    let here : x.0.0 ≡ q = (pair_at c.entries q x.0 placed x.1).0 in
+    ap (option_map entry_of) (there_put c q s at is there placed).2 ∙ ap (λ (k : Place). Some (entry_of (k, x.0.1))) (sym here) ∙ sym (found_pair q c.entries placed ∙ ap (option_map entry_of) x.1)
 
 replaced_others : (ps : List (Place × Stored)) (q : Place) (s : Stored) {index : List (Call × List Interval)} → q ≡ place_of (entry_of (q, s)) → AreTied ps index → entries_of (remove_entry (equal_places q) ps) ≡ others (entry_of (q, s)) (entries_of ps)
 replaced_others ps q s is h = ap (λ k. entries_of (remove_entry (equal_places k) ps)) is ∙ without_is_others ps (entry_of (q, s)) h.placed h.apart

@@ -16,6 +16,7 @@ use txc_tags::{Rows, Tag, TagSet};
 
 /// An event that is being applied: it closes, just below it, the still valid entries that were known below it
 /// and whose tags it matches.
+#[derive(Clone, Copy)]
 pub(crate) struct Closing<'a> {
     pub(crate) stamp: Stamp,
     pub(crate) tags: &'a TagSet,

@@ -113,6 +113,7 @@ fn put(
     ensures unchanged { OnErr result (entries.new ≡ entries.old) }
     ensures handed_back { IfErr result (λ e. e.value ≡ (place, stored)) }
 {
+    let _len = entries.len();
     let Ok(()) = list_still(index, &place, &stored) else {
         unlist_left(entries, index, &place, &stored.tags);
         return Err(AllocFailed {
@@ -217,6 +218,7 @@ impl IndexedEntries {
     {
         let closing = Closing { stamp, tags };
         let count = closing.by_tags(&mut self.entries, &self.tags);
+        let _len = self.entries.len();
         clean_all(&mut self.tags, &self.entries, tags);
         count
     }
@@ -236,7 +238,7 @@ impl IndexedEntries {
             → self.new.entries ≡ turned (has_ended processed horizon) self.old.entries e }
         ensures capacity { self.new.capacity ≡ self.old.capacity }
     {
-        if last_stays(&self.entries, processed, horizon) {
+        if last_stays(self.keyed(), processed, horizon) {
             self.entries.last_first();
         } else {
             self.drop_last();
@@ -250,10 +252,10 @@ impl IndexedEntries {
         ensures capacity { self.new.capacity ≡ self.old.capacity }
         ensures count { result ≡ count_by (has_ended processed horizon) self.old.entries }
     {
-        let before = self.entries.len();
+        let before = self.keyed().len();
         for i in 0..before {
             self.sweep_last(processed, horizon);
         }
-        before - self.entries.len()
+        before - self.keyed().len()
     }
 }

@@ -1,5 +1,5 @@
 //! The entries of a node at their places, and by their keys.
-ghost use Rattle.std.specs.Prelude.{List, ◌≡◌, ◌-◌, [], take, length, None, OnOk, OnErr, IfOk, IfErr, slice_get, option_copied};
+ghost use Rattle.std.specs.Prelude.{List, ◌≡◌, ◌-◌, ◌∷◌, [], take, length, None, OnOk, OnErr, IfOk, IfErr, slice_get, option_copied};
 ghost use Rattle.std.specs.List.{find};
 ghost use Rattle.std.specs.Option.{option_map};
 ghost use Rattle.std.specs.Map.{lookup};

@@ -2,7 +2,7 @@ use Rattle.txc_node.proofs.KeyReaches.{place_stands, stands_found}
 use Rattle.std.proofs.Common.{Some, None, sym, ◌∙◌}
 use Rattle.std.specs.List.{find}
 use Rattle.txc_node.specs.Entries.{same_place}
-use Rattle.txc_node.proofs.indexed.begins_at.Goals as goal
+use Rattle.txc_node.proofs.keyed.begins_at.Goals as goal
 
 pub returns-in-None : goal.returns-in-None
 returns-in-None c = λ e es are begins.

@@ -2,7 +2,7 @@ use Rattle.txc_node.proofs.KeyReaches.{best_stands, stands_found}
 use Rattle.std.proofs.Common.{Some, None}
 use Rattle.std.specs.List.{find}
 use Rattle.txc_node.specs.Entries.{is_best}
-use Rattle.txc_node.proofs.indexed.best_of.Goals as goal
+use Rattle.txc_node.proofs.keyed.best_of.Goals as goal
 
 pub returns-in-None : goal.returns-in-None
 returns-in-None c = λ key es are.

@@ -1,11 +1,9 @@
-use Rattle.std.proofs.Common.{ℕ, ◌≡◌, ◌<◌}
-use Rattle.txc_node.specs.Indexed.{AreTied, AreSparedAt, Closes}
-use Rattle.txc_node.proofs.indexed.invalidate_table.Given as goal
+use Rattle.std.proofs.Common.{ℕ, ◌<◌}
+use Rattle.txc_node.specs.Indexed.{AreSparedAt, Closes}
+use Rattle.txc_node.proofs.closing.Closing.in_table.Given as goal
 
 abbrev pub invariant-loop-i : goal.invariant-loop-i
 invariant-loop-i l = record {
-  tied : AreTied l.cache.entries l.keys.versions.entries;
-  cap : l.cache.cap ≡ l.fn.cache.cap;
-  closes : Closes l.stamp l.tags l.fn.cache.entries l.cache.entries l.count;
-  spared : (k : ℕ) → k < l.i → AreSparedAt l.stamp l.tags l.cache.entries l.buckets.entries k;
+  closes : Closes l.self.stamp l.self.tags.now l.fn.entries l.entries l.count;
+  spared : (k : ℕ) → k < l.i → AreSparedAt l.self.stamp l.self.tags.now l.entries.entries l.buckets.entries k;
 }

@@ -4,7 +4,7 @@ use Rattle.txc_node.specs.declared.entry.Entry.{Entry}
 use Rattle.txc_node.specs.Entries.{is_best}
 use Rattle.txc_node.specs.Indexed.{entries_of, entries_under, IsFound}
 use Rattle.txc_node.proofs.KeyLists.{find_under, listed_are, none_under}
-use Rattle.txc_node.proofs.indexed.IndexedEntries.best.Goals as goal
+use Rattle.txc_node.proofs.keyed.KeyedEntries.best.Goals as goal
 
 pub returns-in-None-clause-found : goal.returns-in-None-clause-found
 returns-in-None-clause-found c =

@@ -5,7 +5,7 @@ use Rattle.txc_node.specs.declared.entry.Entry.{Entry}
 use Rattle.txc_node.specs.Places.{place_of, equal_places}
 use Rattle.txc_node.specs.Indexed.{Held, stored_of}
 use Rattle.txc_node.proofs.Pairs.{stored_at}
-use Rattle.txc_node.proofs.indexed.IndexedEntries.get.Goals as goal
+use Rattle.txc_node.proofs.keyed.KeyedEntries.get.Goals as goal
 
 pub returns : goal.returns
 returns c =

@@ -1,69 +1,58 @@
-use Rattle.std.proofs.Common.{◌≡◌, ◌<◌, ◌∷◌, List, Some, false, length, ap, sym, subst, ◌∙◌}
-use Rattle.std.specs.Prelude.{slice_get, remove}
+use Rattle.std.proofs.Common.{◌≡◌, ◌∷◌, List, Some, ap, sym, subst, ◌∙◌}
+use Rattle.std.specs.Prelude.{IsSome}
 use Rattle.std.specs.Map.{remove_entry}
+use Rattle.std.specs.Option.{option_map}
 use Rattle.lru.specs.LruCache.{LruCache}
+use Rattle.txc_node.specs.declared.entry.Entry.{Entry}
 use Rattle.txc_node.specs.declared.place.Place.{Place}
 use Rattle.txc_node.specs.declared.stored.Stored.{Stored}
 use Rattle.txc_node.specs.Places.{equal_places}
-use Rattle.txc_node.specs.Indexed.{entry_of, entries_of, listed, Relists, KeepsListed}
-use Rattle.txc_node.proofs.Pairs.{put_is}
-use Rattle.txc_node.proofs.Puts.{there_put, same_first, never_none, within_listed, more_listed, restored, replaced_indexed}
-use Rattle.txc_node.proofs.indexed.replace.Goals as goal
+use Rattle.txc_node.specs.Indexed.{Held, StandsUnder, entry_of, entries_of}
+use Rattle.txc_node.proofs.Puts.{there_before, there_put, within_listed, replaced_entries, replaced_tied}
+use Rattle.txc_node.proofs.keyed.KeyedEntries.replace.Goals as goal
 
-pub list_first-requires : goal.list_first-requires
-list_first-requires c =
+pub bring_first-requires : goal.bring_first-requires
+bring_first-requires c =
     let a = c.args in
-    let ps = a.cache.now.entries in
-    let index = a.keys.now.versions.entries in
-    let put = there_put a.cache.now a.place a.stored a.at c.requires.placed c.requires.there c.requires.indexed.placed in
-    let place = same_first c.in-Ok-Some.place a.place c.in-Ok-Some.before put.0 (sym c.in-Ok-Some.field-0-is ∙ c.in-Ok-Some.ensures.old ∙ put.2) in
-    subst (λ (p : Place). a.at < length (listed index p.key)) (sym place) (within_listed ps index (entry_of (a.place, a.stored)) a.at c.requires.indexed.keys c.requires.there)
+    let i = c.self.inside in
+    let there = subst (λ (m : Held). StandsUnder (entry_of (a.place, a.stored)) m.entries a.at) (sym c.self.view_is) c.requires.there in
+    within_listed i.cache.entries i.keys.versions.entries (entry_of (a.place, a.stored)) a.at c.self.invariant.keys there
 
-pub returns-in-Err-clause-indexed : goal.returns-in-Err-clause-indexed
-returns-in-Err-clause-indexed c =
+pub unwrap-requires : goal.unwrap-requires
+unwrap-requires c =
     let a = c.args in
-    let same : c.push.new.self.entries ≡ a.cache.now.entries = ap (λ (m : LruCache Place Stored). m.entries) c.in-Err.ensures.err in
-    let index = a.keys.now.versions.entries in
-    let tables = a.index.now.tables.items in
-    rw same (more_listed a.cache.now.entries index index tables c.list_still.new.index.tables.items tables c.requires.indexed c.list_still.ensures.kept)
+    let there = subst (λ (m : Held). StandsUnder (entry_of (a.place, a.stored)) m.entries a.at) (sym c.self.view_is) c.requires.there in
+    c.push.ensures.succeeds (subst IsSome (sym (there_put c.self.inside.cache a.place a.stored a.at c.requires.placed there c.self.invariant.placed).3) tt)
 
-pub returns-in-Ok-None-clause-indexed : goal.returns-in-Ok-None-clause-indexed
-returns-in-Ok-None-clause-indexed c =
+pub invariant_of-self : goal.invariant_of-self
+invariant_of-self c =
     let a = c.args in
-    let put = there_put a.cache.now a.place a.stored a.at c.requires.placed c.requires.there c.requires.indexed.placed in
-    never_none a.place put.0 (sym c.in-Ok-None.field-0-is ∙ c.in-Ok-None.ensures.old ∙ put.2)
+    let i = c.self.inside in
+    let there = subst (λ (m : Held). StandsUnder (entry_of (a.place, a.stored)) m.entries a.at) (sym c.self.view_is) c.requires.there in
+    let put = there_put i.cache a.place a.stored a.at c.requires.placed there c.self.invariant.placed in
+    let stands : c.push.new.self.entries ≡ (a.place, a.stored) ∷ remove_entry (equal_places a.place) i.cache.entries = ap (λ (m : LruCache Place Stored). m.entries) (rw c.unwrap.ensures at c.push.ensures.entries) ∙ put.1 in
+    rw stands (replaced_tied i.cache.entries a.place a.stored a.at i.keys.versions.entries c.bring_first.new.self.versions.entries c.requires.placed there c.self.invariant c.bring_first.ensures)
 
-pub returns-in-Ok-None-clause-entries : goal.returns-in-Ok-None-clause-entries
-returns-in-Ok-None-clause-entries c =
-    ap (λ (m : LruCache Place Stored). entries_of m.entries) c.in-Ok-None.ensures.entries
-    ∙ put_is c.args.cache.now c.args.place c.args.stored c.requires.placed c.requires.indexed.placed c.requires.indexed.apart c.requires.within c.requires.some
-
-pub returns-in-Ok-Some-clause-indexed : goal.returns-in-Ok-Some-clause-indexed
-returns-in-Ok-Some-clause-indexed c =
+pub returns-in-None-clause-before : goal.returns-in-None-clause-before
+returns-in-None-clause-before c =
     let a = c.args in
-    let ps = a.cache.now.entries in
-    let p : Place × Stored = (a.place, a.stored) in
-    let index = a.keys.now.versions.entries in
-    let new = c.list_first.new.keys.versions.entries in
-    let mid = c.list_still.new.index.tables.items in
-    let left = c.list_first.new.index.tables.items in
-    let put = there_put a.cache.now a.place a.stored a.at c.requires.placed c.requires.there c.requires.indexed.placed in
-    let place = same_first c.in-Ok-Some.place a.place c.in-Ok-Some.before put.0 (sym c.in-Ok-Some.field-0-is ∙ c.in-Ok-Some.ensures.old ∙ put.2) in
-    let stands : c.push.new.self.entries ≡ p ∷ remove_entry (equal_places a.place) ps = ap (λ (m : LruCache Place Stored). m.entries) c.in-Ok-Some.ensures.entries ∙ put.1 in
-    let first : slice_get c.push.new.self.entries 0 ≡ Some p = ap (λ (qs : List (Place × Stored)). slice_get qs 0) stands in
-    let relists = subst (λ (q : Place). Relists q.key (a.stored.reach ∷ remove (listed index q.key) a.at) index new) place (c.list_first.ensures.keys p first) in
-    let places = subst (λ (q : Place). KeepsListed (λ t r. equal_places q r ≡ false) mid left) place c.list_first.ensures.places in
-    rw stands (replaced_indexed ps a.place a.stored a.at index new a.index.now.tables.items mid left c.requires.placed c.requires.there c.requires.indexed relists c.in-Ok.ensures.listed c.list_still.ensures.kept places
-    (c.list_first.ensures.tags p first))
+    let there = subst (λ (m : Held). StandsUnder (entry_of (a.place, a.stored)) m.entries a.at) (sym c.self.view_is) c.requires.there in
+    rw (← c.self.view_is) (ap (option_map entry_of) (sym c.in-None.is ∙ rw c.unwrap.ensures at c.push.ensures.old) ∙ there_before c.self.inside.cache a.place a.stored a.at c.requires.placed there c.self.invariant.placed)
 
-pub returns-in-Ok-Some-clause-entries : goal.returns-in-Ok-Some-clause-entries
-returns-in-Ok-Some-clause-entries c =
-    ap (λ (m : LruCache Place Stored). entries_of m.entries) c.in-Ok-Some.ensures.entries
-    ∙ put_is c.args.cache.now c.args.place c.args.stored c.requires.placed c.requires.indexed.placed c.requires.indexed.apart c.requires.within c.requires.some
-
-pub returns-in_default-clause-indexed : goal.returns-in_default-clause-indexed
-returns-in_default-clause-indexed c =
+pub returns-in-Some-clause-before : goal.returns-in-Some-clause-before
+returns-in-Some-clause-before c =
     let a = c.args in
-    let put = there_put a.cache.now a.place a.stored a.at c.requires.placed c.requires.there c.requires.indexed.placed in
-    restored a.cache.now.entries a.place put.0 c.list_still.new.index.tables.items c.unlist_added.new.index.tables.items put.3 c.unlist_added.ensures.places (c.unlist_added.ensures.tags put.0 put.3)
-    a.keys.now.versions.entries a.index.now.tables.items c.requires.indexed c.list_still.ensures.kept
+    let there = subst (λ (m : Held). StandsUnder (entry_of (a.place, a.stored)) m.entries a.at) (sym c.self.view_is) c.requires.there in
+    rw (← c.self.view_is) (ap (λ (e : Entry). Some e) c.join.ensures ∙ ap (option_map entry_of) (sym c.in-Some.is ∙ rw c.unwrap.ensures at c.push.ensures.old) ∙ there_before c.self.inside.cache a.place a.stored a.at c.requires.placed there c.self.invariant.placed)
+
+pub returns-in-None-clause-entries : goal.returns-in-None-clause-entries
+returns-in-None-clause-entries c =
+    let a = c.args in
+    let there = subst (λ (m : Held). StandsUnder (entry_of (a.place, a.stored)) m.entries a.at) (sym c.self.view_is) c.requires.there in
+    rw (← c.self.view_is) (ap (λ (m : LruCache Place Stored). entries_of m.entries) (rw c.unwrap.ensures at c.push.ensures.entries) ∙ replaced_entries c.self.inside.cache a.place a.stored a.at c.requires.placed there c.self.invariant)
+
+pub returns-in-Some-clause-entries : goal.returns-in-Some-clause-entries
+returns-in-Some-clause-entries c =
+    let a = c.args in
+    let there = subst (λ (m : Held). StandsUnder (entry_of (a.place, a.stored)) m.entries a.at) (sym c.self.view_is) c.requires.there in
+    rw (← c.self.view_is) (ap (λ (m : LruCache Place Stored). entries_of m.entries) (rw c.unwrap.ensures at c.push.ensures.entries) ∙ replaced_entries c.self.inside.cache a.place a.stored a.at c.requires.placed there c.self.invariant)

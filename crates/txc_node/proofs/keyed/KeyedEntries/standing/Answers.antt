@@ -4,7 +4,7 @@ use Rattle.txc_node.specs.declared.entry.Entry.{Entry}
 use Rattle.txc_node.specs.Entries.{same_place}
 use Rattle.txc_node.specs.Indexed.{entries_of, entries_under, IsFound}
 use Rattle.txc_node.proofs.KeyLists.{find_place_under, listed_are, none_under}
-use Rattle.txc_node.proofs.indexed.IndexedEntries.standing.Goals as goal
+use Rattle.txc_node.proofs.keyed.KeyedEntries.standing.Goals as goal
 
 pub returns-in-None : goal.returns-in-None
 returns-in-None c =
