@@ -21,4 +21,4 @@ pub mod Turns
 pub mod Buckets
 pub mod Puts
 pub mod Pairs
-mod History
+pub mod History
