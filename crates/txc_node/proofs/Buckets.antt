@@ -28,4 +28,5 @@ not_dead ps first q dead live = (elim (equal_places q first) as (λ b. equal_pla
 
 -- whether what is stored at a place is still valid
 pub live_stored : (es : List Entry) (q : Place) (o : Option Stored) → o ≡ option_map stored_of (entry_at es q) → unwrap_or (option_map (λ s. s.reach.still) o) false ≡ is_live es q
+unfolding is_live
 live_stored es q o h = ap (λ (f : Option Stored). unwrap_or (option_map (λ s. s.reach.still) f) false) h ∙ elim (entry_at es q) as (λ f. unwrap_or (option_map (λ s. s.reach.still) (option_map stored_of f)) false ≡ unwrap_or (option_map (λ e. e.reach.still) f) false) [ None ↦ refl | Some e ↦ refl ]

@@ -24,7 +24,7 @@ use Rattle.txc_node.proofs.Pairs.{found_pair}
 use Rattle.txc_node.proofs.KeyLists.{indexes_by, under_yes, under_no}
 
 -- the entry of the pair at a place
-of_pair : List (Place × Stored) → Place → Option Entry
+abbrev of_pair : List (Place × Stored) → Place → Option Entry
 of_pair ps q = option_map entry_of (lookup_entry (equal_places q) ps)
 
 module _ (stamp : ℕ) (tags : List Tag) where
@@ -241,7 +241,7 @@ no_entry test (x ∷ ps) o h k = (elim (test x.0) as (λ v. cond v (Some x.1) (l
   | false ↦ λ h k. no_entry test ps o h k
 ]) h k
 
-held : List (Place × Stored) → ℕ → Held
+abbrev held : List (Place × Stored) → ℕ → Held
 held ps n = record { entries = entries_of ps; capacity = n }
 
 module _ (stamp : ℕ) (tags : List Tag) where

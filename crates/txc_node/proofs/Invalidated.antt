@@ -89,6 +89,7 @@ module _ (stamp : ℕ) (tags : List Tag) where
       (elim (is_invalidated stamp tags e) as (λ b. T (cond b (record e { reach = closed_at (stamp - 1) e.reach }) e)) [ true ↦ (λ still. absurd (false≢true still)) | false ↦ h.0 ], tags_after tables es h.1)
 
 live_at : (es : List Entry) (q : Place) (e : Entry) → entry_at es q ≡ Some e → e.reach.still ≡ true → is_live es q ≡ true
+unfolding is_live
 live_at es q e at still = ap (λ f. unwrap_or (option_map (λ o. o.reach.still) f) false) at ∙ still
 
 cleaned : {S : Type 0} (all es : List Entry) (tables new : List (HashMap Rows (List Place) S)) → AllByRecursion (λ o. entry_at all (place_of o) ≡ Some o) es → IndexesTags tables es

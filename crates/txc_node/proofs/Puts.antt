@@ -141,7 +141,7 @@ pub there_before : (c : LruCache Place Stored) (q : Place) (s : Stored) (at : �
 there_before c q s at is there placed =
     let x = pair_there c.entries q (entry_of (q, s)) there.0 is placed there.1 in
     let here : x.0.0 ≡ q = (pair_at c.entries q x.0 placed x.1).0 in
-    ap (option_map entry_of) (there_put c q s at is there placed).2 ∙ ap (λ (k : Place). Some (entry_of (k, x.0.1))) (sym here) ∙ sym (found_pair q c.entries placed ∙ ap (option_map entry_of) x.1)
+    ap (λ f. option_map entry_of (option_map_or (λ old. Some (q, old)) f (slice_get c.entries (c.cap - 1)))) x.2 ∙ ap (λ (k : Place). Some (entry_of (k, x.0.1))) (sym here) ∙ sym (found_pair q c.entries placed ∙ ap (option_map entry_of) x.1)
 
 replaced_others : (ps : List (Place × Stored)) (q : Place) (s : Stored) {index : List (Call × List Interval)} → q ≡ place_of (entry_of (q, s)) → AreTied ps index → entries_of (remove_entry (equal_places q) ps) ≡ others (entry_of (q, s)) (entries_of ps)
 replaced_others ps q s is h = ap (λ k. entries_of (remove_entry (equal_places k) ps)) is ∙ without_is_others ps (entry_of (q, s)) h.placed h.apart

@@ -1,5 +1,5 @@
 -- A sweep by one turn: each last entry is dropped or goes to the front.
-use Rattle.std.proofs.Common.{◌≡◌, ℕ, ◌+◌, ◌-◌, ◌<◌, Bool, true, false, not, cond, List, [], ◌∷◌, ◌++◌, length, take, drop, None, Some, ltb, leb, refl, sym, ap, ◌∙◌, arith, suc, zero}
+use Rattle.std.proofs.Common.{◌≡◌, ℕ, Option, ◌+◌, ◌-◌, ◌<◌, Bool, true, false, not, cond, List, [], ◌∷◌, ◌++◌, length, take, drop, None, Some, ltb, leb, refl, sym, ap, ◌∙◌, arith, suc, zero}
 use Rattle.std.specs.Prelude.{slice_get, unwrap_or}
 use Rattle.std.specs.List.{filter, count_by}
 use Rattle.std.specs.Option.{option_map}
@@ -14,6 +14,7 @@ use Rattle.txc_node.specs.Indexed.{entry_of, entries_of, stored_of, turned, swep
 use Rattle.txc_node.specs.Cache.{has_ended}
 use Rattle.txc_node.specs.declared.place.Place.{Place}
 use Rattle.txc_node.specs.declared.stored.Stored.{Stored}
+use Rattle.txc_node.proofs.KeyLists.{append_none}
 use Rattle.txc_node.proofs.Pairs.{entries_take}
 use Rattle.txc_node.proofs.Lasts.{take_init, last_there}
 
@@ -66,6 +67,10 @@ ended_last p h es e stays is = not_after h (end_at p e.reach) (sym (ap (λ f. un
 
 pub dropped_entries : (ps : List (Place × Stored)) → entries_of (take (length ps - 1) ps) ≡ take (length (entries_of ps) - 1) (entries_of ps)
 dropped_entries ps = entries_take (length ps - 1) ps ∙ ap (λ n. take (n - 1) (entries_of ps)) (sym (length-map ps entry_of))
+
+-- when all were looked at, those stay that have not ended
+pub swept_all : (ended : Entry → Bool) (es : List Entry) → swept_to ended es 0 ≡ filter (λ e. not (ended e)) es
+swept_all ended es = append_none (filter (λ e. not (ended e)) es)
 
 pub kept_count : (ended : Entry → Bool) (es : List Entry) → length (filter (λ e. not (ended e)) es) + count_by ended es ≡ length es
 kept_count ended es = omega (arith, length-filter ended es, length-filter_both ended (λ e. not (ended e)) (λ _. refl) es)

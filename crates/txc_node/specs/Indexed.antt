@@ -47,7 +47,7 @@ abbrev pub entry_at : List Entry → Place → Option Entry
 entry_at es q = find (λ e. equal_places q (place_of e)) es
 
 -- a still valid entry stands at the place
-abbrev pub is_live : List Entry → Place → Bool
+unfoldable pub is_live : List Entry → Place → Bool
 is_live es q = unwrap_or (option_map (λ e. e.reach.still) (entry_at es q)) false
 
 -- the last goes first

@@ -161,6 +161,13 @@ impl IndexedEntries {
         Ok(IndexedEntries { entries, tags })
     }
 
+    /// How many there are.
+    pub(crate) fn len(&self) -> usize
+        ensures { result ≡ length self.now.entries }
+    {
+        self.entries.len()
+    }
+
     /// The entries by themselves.
     pub(crate) fn keyed(&self) -> &KeyedEntries
         ensures { result.now ≡ self.now }
@@ -252,10 +259,10 @@ impl IndexedEntries {
         ensures capacity { self.new.capacity ≡ self.old.capacity }
         ensures count { result ≡ count_by (has_ended processed horizon) self.old.entries }
     {
-        let before = self.keyed().len();
+        let before = self.len();
         for i in 0..before {
             self.sweep_last(processed, horizon);
         }
-        before - self.keyed().len()
+        before - self.len()
     }
 }

@@ -167,7 +167,7 @@ impl NodeCore {
     pub fn len(&self) -> usize
         ensures { result ≡ length self.now.entries }
     {
-        self.entries.keyed().len()
+        self.entries.len()
     }
 
     /// Whether it holds no entry.
@@ -190,12 +190,13 @@ impl NodeCore {
         ensures answer { IfOk result (λ r. option_map seen r ≡ answer self.now key.now lo hi) }
     {
         check_range(lo, hi)?;
-        let (found, _) = self.entries.keyed().best(self.processed, key, lo, hi);
+        let entries = self.entries.keyed();
+        let (found, _) = entries.best(self.processed, key, lo, hi);
         let Some(found) = found else {
             return Ok(None);
         };
         let place = Place::new(key, found.reach.lo());
-        Ok(hit_of(self.entries.keyed().get(&place), self.processed))
+        Ok(hit_of(entries.get(&place), self.processed))
     }
 
     // Looks an entry up and moves it to the front, and says whether there is one, and how many entries were

@@ -10,7 +10,7 @@ invariant_of-self c =
     let a = c.args in
     let i = c.self.inside in
     let all = c.by_tags-count in
-    let apart = c.len.ensures.apart.apart in
+    let apart = c.len-len.ensures.apart.apart in
     let spared = none_left a.stamp a.tags.now i.tags.tables.items i.entries all.new.entries all.result c.self.invariant all.ensures.spared all.ensures.closes in
     let both = all_closed a.stamp a.tags.now i.entries all.new.entries all.result apart all.ensures.closes spared in
     indexed_after a.stamp a.tags.now i.entries.entries all.new.entries.entries i.tags.tables.items c.clean_all.new.index.tables.items apart both.0 c.self.invariant c.clean_all.ensures
@@ -21,7 +21,7 @@ returns-clause-entries c =
     let i = c.self.inside in
     let all = c.by_tags-count in
     let spared = none_left a.stamp a.tags.now i.tags.tables.items i.entries all.new.entries all.result c.self.invariant all.ensures.spared all.ensures.closes in
-    let both = all_closed a.stamp a.tags.now i.entries all.new.entries all.result c.len.ensures.apart.apart all.ensures.closes spared in
+    let both = all_closed a.stamp a.tags.now i.entries all.new.entries all.result c.len-len.ensures.apart.apart all.ensures.closes spared in
     both.0 ∙ ap (λ (m : Held). map (entry_after a.stamp a.tags.now) m.entries) c.self.view_is
 
 pub returns-clause-count : goal.returns-clause-count
@@ -30,5 +30,5 @@ returns-clause-count c =
     let i = c.self.inside in
     let all = c.by_tags-count in
     let spared = none_left a.stamp a.tags.now i.tags.tables.items i.entries all.new.entries all.result c.self.invariant all.ensures.spared all.ensures.closes in
-    let both = all_closed a.stamp a.tags.now i.entries all.new.entries all.result c.len.ensures.apart.apart all.ensures.closes spared in
+    let both = all_closed a.stamp a.tags.now i.entries all.new.entries all.result c.len-len.ensures.apart.apart all.ensures.closes spared in
     both.1 ∙ ap (λ (m : Held). count_by (is_invalidated a.stamp a.tags.now) m.entries) c.self.view_is

@@ -13,8 +13,8 @@ use Rattle.txc_node.proofs.Pairs.{put_is}
 use Rattle.txc_node.proofs.Puts.{absent_put, evicted_is, pushed_out, put_tied, relists_over, same_keys, take_past, within_pairs}
 use Rattle.txc_node.proofs.keyed.KeyedEntries.add.Goals as goal
 
-pub invariant_of-self-in_default : goal.invariant_of-self-in_default
-invariant_of-self-in_default c =
+pub invariant_of-self : goal.invariant_of-self
+invariant_of-self c =
     let i = c.self.inside in
     record {
       placed = c.self.invariant.placed;
@@ -63,20 +63,20 @@ invariant_of-self-in-Ok-Some c =
     let last : slice_get ps (i.cache.cap - 1) ≡ Some x = sym put.1 ∙ sym c.in-Ok-Some.ensures.old ∙ c.in-Ok-Some.field-0-is in
     let new : c.push.new.self.entries ≡ p ∷ take (i.cache.cap - 1) ps = ap (λ (m : LruCache Place Stored). m.entries) c.in-Ok-Some.ensures.entries ∙ put.0 in
     let whole = put_tied ps a.place a.stored i.keys.versions.entries c.add.new.self.versions.entries c.requires.placed absent c.self.invariant (rw c.in-Ok.is at c.add.ensures) in
-    let valid = c.len.ensures.valid in
+    let valid = c.len-len.ensures.valid in
     rw new (pushed_out i.cache.cap ps p x c.add.new.self.versions.entries c.drop_last.new.self.versions.entries valid.2 (within_pairs ps i.cache.cap valid.1) last whole c.drop_last.ensures)
 
 pub returns-in-Ok-None-clause-entries : goal.returns-in-Ok-None-clause-entries
 returns-in-Ok-None-clause-entries c =
     let i = c.self.inside in
-    let valid = c.len.ensures.valid in
+    let valid = c.len-len.ensures.valid in
     rw (← c.self.view_is) (ap (λ (m : LruCache Place Stored). entries_of m.entries) c.in-Ok-None.ensures.entries
     ∙ put_is i.cache c.args.place c.args.stored c.requires.placed c.self.invariant.placed c.self.invariant.apart (within_pairs i.cache.entries i.cache.cap valid.1) valid.2)
 
 pub returns-in-Ok-Some-clause-entries : goal.returns-in-Ok-Some-clause-entries
 returns-in-Ok-Some-clause-entries c =
     let i = c.self.inside in
-    let valid = c.len.ensures.valid in
+    let valid = c.len-len.ensures.valid in
     rw (← c.self.view_is) (ap (λ (m : LruCache Place Stored). entries_of m.entries) c.in-Ok-Some.ensures.entries
     ∙ put_is i.cache c.args.place c.args.stored c.requires.placed c.self.invariant.placed c.self.invariant.apart (within_pairs i.cache.entries i.cache.cap valid.1) valid.2)
 
@@ -86,7 +86,7 @@ returns-in-Ok-None-clause-evicted c =
     let i = c.self.inside in
     let absent = subst (λ (m : Held). find (λ o. same_place o (entry_of (a.place, a.stored))) m.entries ≡ None) (sym c.self.view_is) c.requires.absent in
     let put = absent_put i.cache a.place a.stored c.requires.placed absent c.self.invariant.placed in
-    rw (← c.self.view_is) (evicted_is i.cache.cap i.cache.entries (entry_of (a.place, a.stored)) None c.len.ensures.valid.2 absent (sym c.in-Ok-None.field-0-is ∙ c.in-Ok-None.ensures.old ∙ put.1))
+    rw (← c.self.view_is) (evicted_is i.cache.cap i.cache.entries (entry_of (a.place, a.stored)) None c.len-len.ensures.valid.2 absent (sym c.in-Ok-None.field-0-is ∙ c.in-Ok-None.ensures.old ∙ put.1))
 
 pub returns-in-Ok-Some-clause-evicted : goal.returns-in-Ok-Some-clause-evicted
 returns-in-Ok-Some-clause-evicted c =
@@ -95,4 +95,4 @@ returns-in-Ok-Some-clause-evicted c =
     let x : Place × Stored = (c.in-Ok-Some.place, c.in-Ok-Some.stored) in
     let absent = subst (λ (m : Held). find (λ o. same_place o (entry_of (a.place, a.stored))) m.entries ≡ None) (sym c.self.view_is) c.requires.absent in
     let put = absent_put i.cache a.place a.stored c.requires.placed absent c.self.invariant.placed in
-    rw (← c.self.view_is) (ap (λ (e : Entry). Some e) c.join.ensures ∙ evicted_is i.cache.cap i.cache.entries (entry_of (a.place, a.stored)) (Some x) c.len.ensures.valid.2 absent (sym c.in-Ok-Some.field-0-is ∙ c.in-Ok-Some.ensures.old ∙ put.1))
+    rw (← c.self.view_is) (ap (λ (e : Entry). Some e) c.join.ensures ∙ evicted_is i.cache.cap i.cache.entries (entry_of (a.place, a.stored)) (Some x) c.len-len.ensures.valid.2 absent (sym c.in-Ok-Some.field-0-is ∙ c.in-Ok-Some.ensures.old ∙ put.1))

@@ -1,5 +1,5 @@
 use Rattle.std.proofs.Common.{◌≡◌, ◌∷◌, List, Some, ap, sym, subst, ◌∙◌}
-use Rattle.std.specs.Prelude.{IsSome}
+use Rattle.std.specs.Prelude.{is_some}
 use Rattle.std.specs.Map.{remove_entry}
 use Rattle.std.specs.Option.{option_map}
 use Rattle.lru.specs.LruCache.{LruCache}
@@ -10,6 +10,7 @@ use Rattle.txc_node.specs.Places.{equal_places}
 use Rattle.txc_node.specs.Indexed.{Held, StandsUnder, entry_of, entries_of}
 use Rattle.txc_node.proofs.Puts.{there_before, there_put, within_listed, replaced_entries, replaced_tied}
 use Rattle.txc_node.proofs.keyed.KeyedEntries.replace.Goals as goal
+use Rattle.txc_node.proofs.keyed.KeyedEntries.replace.Goals.{in-None, in-Some}
 
 pub bring_first-requires : goal.bring_first-requires
 bring_first-requires c =
@@ -22,7 +23,7 @@ pub unwrap-requires : goal.unwrap-requires
 unwrap-requires c =
     let a = c.args in
     let there = subst (λ (m : Held). StandsUnder (entry_of (a.place, a.stored)) m.entries a.at) (sym c.self.view_is) c.requires.there in
-    c.push.ensures.succeeds (subst IsSome (sym (there_put c.self.inside.cache a.place a.stored a.at c.requires.placed there c.self.invariant.placed).3) tt)
+    c.push.ensures.succeeds (ap is_some (there_put c.self.inside.cache a.place a.stored a.at c.requires.placed there c.self.invariant.placed).3)
 
 pub invariant_of-self : goal.invariant_of-self
 invariant_of-self c =
@@ -33,26 +34,18 @@ invariant_of-self c =
     let stands : c.push.new.self.entries ≡ (a.place, a.stored) ∷ remove_entry (equal_places a.place) i.cache.entries = ap (λ (m : LruCache Place Stored). m.entries) (rw c.unwrap.ensures at c.push.ensures.entries) ∙ put.1 in
     rw stands (replaced_tied i.cache.entries a.place a.stored a.at i.keys.versions.entries c.bring_first.new.self.versions.entries c.requires.placed there c.self.invariant c.bring_first.ensures)
 
-pub returns-in-None-clause-before : goal.returns-in-None-clause-before
-returns-in-None-clause-before c =
+pub returns-clause-before : goal.returns-clause-before
+returns-clause-before c =
     let a = c.args in
     let there = subst (λ (m : Held). StandsUnder (entry_of (a.place, a.stored)) m.entries a.at) (sym c.self.view_is) c.requires.there in
-    rw (← c.self.view_is) (ap (option_map entry_of) (sym c.in-None.is ∙ rw c.unwrap.ensures at c.push.ensures.old) ∙ there_before c.self.inside.cache a.place a.stored a.at c.requires.placed there c.self.invariant.placed)
+    let before = there_before c.self.inside.cache a.place a.stored a.at c.requires.placed there c.self.invariant.placed in
+    rw (← c.self.view_is) (elim c.match-unwrap.branch [
+      | in-None w ↦ rw w.result-is (ap (option_map entry_of) (sym w.in-None.is ∙ rw c.unwrap.ensures at c.push.ensures.old) ∙ before)
+      | in-Some w ↦ rw w.result-is (ap (λ (e : Entry). Some e) w.join.ensures ∙ ap (option_map entry_of) (sym w.in-Some.is ∙ rw c.unwrap.ensures at c.push.ensures.old) ∙ before)
+    ])
 
-pub returns-in-Some-clause-before : goal.returns-in-Some-clause-before
-returns-in-Some-clause-before c =
-    let a = c.args in
-    let there = subst (λ (m : Held). StandsUnder (entry_of (a.place, a.stored)) m.entries a.at) (sym c.self.view_is) c.requires.there in
-    rw (← c.self.view_is) (ap (λ (e : Entry). Some e) c.join.ensures ∙ ap (option_map entry_of) (sym c.in-Some.is ∙ rw c.unwrap.ensures at c.push.ensures.old) ∙ there_before c.self.inside.cache a.place a.stored a.at c.requires.placed there c.self.invariant.placed)
-
-pub returns-in-None-clause-entries : goal.returns-in-None-clause-entries
-returns-in-None-clause-entries c =
-    let a = c.args in
-    let there = subst (λ (m : Held). StandsUnder (entry_of (a.place, a.stored)) m.entries a.at) (sym c.self.view_is) c.requires.there in
-    rw (← c.self.view_is) (ap (λ (m : LruCache Place Stored). entries_of m.entries) (rw c.unwrap.ensures at c.push.ensures.entries) ∙ replaced_entries c.self.inside.cache a.place a.stored a.at c.requires.placed there c.self.invariant)
-
-pub returns-in-Some-clause-entries : goal.returns-in-Some-clause-entries
-returns-in-Some-clause-entries c =
+pub returns-clause-entries : goal.returns-clause-entries
+returns-clause-entries c =
     let a = c.args in
     let there = subst (λ (m : Held). StandsUnder (entry_of (a.place, a.stored)) m.entries a.at) (sym c.self.view_is) c.requires.there in
     rw (← c.self.view_is) (ap (λ (m : LruCache Place Stored). entries_of m.entries) (rw c.unwrap.ensures at c.push.ensures.entries) ∙ replaced_entries c.self.inside.cache a.place a.stored a.at c.requires.placed there c.self.invariant)
