@@ -27,7 +27,7 @@ pub returns-in-Err-clause-indexed : goal.returns-in-Err-clause-indexed
 returns-in-Err-clause-indexed c =
     let a = c.args in
     let mid = c.list_still.new.index.tables.items in
-    c.unlist_left.ensures (subst (λ (h : Held). IndexesTags mid h.entries) (sym c.in-Err.ensures.unchanged) (listed_more a.index.now.tables.items mid a.entries.now.entries c.list_still.ensures.kept c.requires.indexed))
+    c.unlist_left-in-Err.ensures (subst (λ (h : Held). IndexesTags mid h.entries) (sym c.in-Err.ensures.unchanged) (listed_more a.index.now.tables.items mid a.entries.now.entries c.list_still.ensures.kept c.requires.indexed))
 
 pub returns-in-Some-clause-indexed : goal.returns-in-Some-clause-indexed
 returns-in-Some-clause-indexed c =

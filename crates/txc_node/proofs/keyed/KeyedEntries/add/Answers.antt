@@ -7,7 +7,7 @@ use Rattle.txc_node.specs.declared.entry.Entry.{Entry}
 use Rattle.txc_node.specs.declared.place.Place.{Place}
 use Rattle.txc_node.specs.declared.stored.Stored.{Stored}
 use Rattle.txc_node.specs.Entries.{same_place}
-use Rattle.txc_node.specs.Indexed.{Held, entry_of, entries_of, listed, Relists}
+use Rattle.txc_node.specs.Indexed.{Held, entry_of, entries_of, listed, Relists, with_first}
 use Rattle.txc_node.proofs.KeyLists.{relisted_here}
 use Rattle.txc_node.proofs.Pairs.{put_is}
 use Rattle.txc_node.proofs.Puts.{absent_put, evicted_is, pushed_out, put_tied, relists_over, same_keys, take_past, within_pairs}
@@ -86,7 +86,8 @@ returns-in-Ok-None-clause-evicted c =
     let i = c.self.inside in
     let absent = subst (λ (m : Held). find (λ o. same_place o (entry_of (a.place, a.stored))) m.entries ≡ None) (sym c.self.view_is) c.requires.absent in
     let put = absent_put i.cache a.place a.stored c.requires.placed absent c.self.invariant.placed in
-    rw (← c.self.view_is) (evicted_is i.cache.cap i.cache.entries (entry_of (a.place, a.stored)) None c.len-len.ensures.valid.2 absent (sym c.in-Ok-None.field-0-is ∙ c.in-Ok-None.ensures.old ∙ put.1))
+    evicted_is i.cache.cap i.cache.entries (entry_of (a.place, a.stored)) None c.len-len.ensures.valid.2 absent (sym c.in-Ok-None.field-0-is ∙ c.in-Ok-None.ensures.old ∙ put.1)
+    ∙ ap (λ (m : Held). slice_get (with_first (entry_of (a.place, a.stored)) m.entries) m.capacity) c.self.view_is
 
 pub returns-in-Ok-Some-clause-evicted : goal.returns-in-Ok-Some-clause-evicted
 returns-in-Ok-Some-clause-evicted c =
@@ -95,4 +96,5 @@ returns-in-Ok-Some-clause-evicted c =
     let x : Place × Stored = (c.in-Ok-Some.place, c.in-Ok-Some.stored) in
     let absent = subst (λ (m : Held). find (λ o. same_place o (entry_of (a.place, a.stored))) m.entries ≡ None) (sym c.self.view_is) c.requires.absent in
     let put = absent_put i.cache a.place a.stored c.requires.placed absent c.self.invariant.placed in
-    rw (← c.self.view_is) (ap (λ (e : Entry). Some e) c.join.ensures ∙ evicted_is i.cache.cap i.cache.entries (entry_of (a.place, a.stored)) (Some x) c.len-len.ensures.valid.2 absent (sym c.in-Ok-Some.field-0-is ∙ c.in-Ok-Some.ensures.old ∙ put.1))
+    ap (λ (e : Entry). Some e) c.join.ensures ∙ evicted_is i.cache.cap i.cache.entries (entry_of (a.place, a.stored)) (Some x) c.len-len.ensures.valid.2 absent (sym c.in-Ok-Some.field-0-is ∙ c.in-Ok-Some.ensures.old ∙ put.1)
+    ∙ ap (λ (m : Held). slice_get (with_first (entry_of (a.place, a.stored)) m.entries) m.capacity) c.self.view_is
