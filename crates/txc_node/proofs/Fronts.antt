@@ -2,7 +2,6 @@
 use Rattle.std.proofs.Common.{◌≡◌, ℕ, true, false, cond, List, [], ◌∷◌, map, Some, None, refl, sym, ap, subst, ◌∙◌, suc, zero}
 use Rattle.std.specs.Prelude.{slice_get, remove}
 use Rattle.std.specs.List.{AllByRecursion, find}
-use Rattle.std.specs.Option.{option_map}
 use Rattle.std.specs.Map.{lookup_entry}
 use Rattle.lru.specs.LruCache.{promoted}
 use Rattle.txc_stamp.specs.Interval.{Interval}

@@ -1,5 +1,5 @@
 -- The entry that stands last.
-use Rattle.std.proofs.Common.{◌≡◌, ℕ, ◌-◌, true, false, not, cond, List, [], ◌∷◌, ◌++◌, length, get_or, take, Some, None, refl, sym, ap, subst, ◌∙◌, arith, suc, zero, length-append}
+use Rattle.std.proofs.Common.{◌≡◌, ℕ, ◌-◌, false, not, cond, List, [], ◌∷◌, ◌++◌, length, get_or, take, Some, None, refl, sym, ap, subst, ◌∙◌, arith, suc, zero, length-append}
 use Rattle.std.specs.Prelude.{slice_get, remove}
 use Rattle.std.specs.List.{AllByRecursion}
 use Rattle.std.specs.Option.{option_map_or}

@@ -68,7 +68,6 @@ module _ {S : Type 0} (tables new : List (HashMap Rows (List Place) S)) where
   pub left_off : (es : List Entry) (q : Place) → AreApart es → KeepsListed (λ t p. equal_places q p ≡ false) tables new → ((e : Entry) → entry_at es q ≡ Some e → KeepsListed (λ t p. has_tag e.tags t ≡ true) tables new) → IndexesTags tables es → IndexesTags new es
   left_off es q apart places own h = left_each es es q places own (found_self es apart) h
 
-
   -- a new entry that was listed goes first
   pub first_listed : (e : Entry) (q : Place) (es : List Entry) → q ≡ place_of e → KeepsListed (λ t q. Unit {0}) tables new → IsListed new q (stored_of e) → IndexesTags tables es → IndexesTags new (with_first e es)
   first_listed e q es at keeps own h = (subst (λ (p : Place). IsListed new p (stored_of e)) at own, filter_keeps (λ o. IsListed new (place_of o) (stored_of o)) (λ o. not (same_place o e)) es (listed_more es keeps h))

@@ -1,5 +1,5 @@
 //! The entries of a node, with what finds them.
-ghost use Rattle.std.specs.Prelude.{List, ◌≡◌, ◌-◌, ◌∷◌, [], length, map, take, not, true, false, nat_lt, unwrap_or, OnOk, OnErr, IfOk, IfErr, Some, slice_get};
+ghost use Rattle.std.specs.Prelude.{◌≡◌, ◌-◌, ◌∷◌, [], length, map, take, not, true, false, nat_lt, unwrap_or, OnOk, OnErr, IfOk, IfErr, Some, slice_get};
 ghost use Rattle.std.specs.List.{find, filter, count_by};
 ghost use Rattle.std.specs.Option.{option_map};
 ghost use Rattle.std.specs.NonZero.{non_zero_usize_get};

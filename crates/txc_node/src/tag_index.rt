@@ -6,7 +6,7 @@ ghost use Rattle.txc_tags.specs.declared.tag.Rows.{Rows};
 ghost use Rattle.txc_node.specs.declared.place.Place.{Place};
 ghost use Rattle.txc_tags.specs.Tags.{same_tag, has_tag};
 ghost use Rattle.txc_node.specs.Places.{equal_places};
-ghost use Rattle.txc_node.specs.Indexed.{equal_rows, has_place, lists_rows, lists, KeepsListed, is_live};
+ghost use Rattle.txc_node.specs.Indexed.{equal_rows, lists_rows, lists, KeepsListed, is_live};
 
 use crate::bucket::Bucket;
 use crate::keyed::KeyedEntries;

@@ -1,9 +1,7 @@
-use Rattle.std.proofs.Common.{◌≡◌, ◌≤◌, List, length, take, None, ap, sym, subst, ◌∙◌, arith}
-use Rattle.std.specs.List.{find}
+use Rattle.std.proofs.Common.{◌≤◌, List, length, sym, subst, ◌∙◌, arith}
 use Rattle.std.proofs.lemmas.List.{take_all}
 use Rattle.std.proofs.lemmas.Option.{slice_get_past}
 use Rattle.txc_node.specs.declared.entry.Entry.{Entry}
-use Rattle.txc_node.specs.Entries.{same_place}
 use Rattle.txc_node.specs.Indexed.{Held, IndexesTags, entry_of, with_first}
 use Rattle.txc_node.proofs.Listed.{first_listed, front_listed, listed_more, no_more}
 use Rattle.txc_node.proofs.indexed.put.Goals as goal

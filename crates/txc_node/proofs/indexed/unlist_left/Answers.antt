@@ -1,4 +1,4 @@
-use Rattle.std.proofs.Common.{◌≡◌, true, List, Some, None, subst}
+use Rattle.std.proofs.Common.{◌≡◌, true, List, subst}
 use Rattle.txc_tags.specs.declared.tag.Tag.{Tag}
 use Rattle.txc_tags.specs.Tags.{has_tag}
 use Rattle.txc_node.specs.Indexed.{KeepsListed}

@@ -1,6 +1,6 @@
-use Rattle.std.proofs.Common.{◌≡◌, ◌+◌, ◌-◌, ◌<◌, not, List, length, suc, ap, sym, subst, ◌∙◌, arith}
+use Rattle.std.proofs.Common.{◌≡◌, ◌+◌, ◌-◌, ◌<◌, not, List, length, suc, ap, subst, ◌∙◌, arith}
 use Rattle.std.specs.Prelude.{slice_get, Some}
-use Rattle.std.specs.List.{filter, count_by}
+use Rattle.std.specs.List.{filter}
 use Rattle.txc_node.specs.declared.entry.Entry.{Entry}
 use Rattle.txc_node.specs.Cache.{has_ended}
 use Rattle.txc_node.specs.Indexed.{turned, swept_to}

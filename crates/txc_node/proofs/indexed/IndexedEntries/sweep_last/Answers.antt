@@ -3,7 +3,7 @@ use Rattle.std.specs.Prelude.{unwrap_or, slice_get}
 use Rattle.std.specs.Option.{option_map, option_map_or}
 use Rattle.txc_stamp.specs.Interval.{end_at}
 use Rattle.txc_node.specs.declared.entry.Entry.{Entry}
-use Rattle.txc_node.specs.Indexed.{Held, IndexesTags}
+use Rattle.txc_node.specs.Indexed.{IndexesTags}
 use Rattle.txc_node.proofs.Listed.{turned_listed}
 use Rattle.txc_node.proofs.Turns.{ended_last, not_ended}
 use Rattle.txc_node.proofs.indexed.IndexedEntries.sweep_last.Goals as goal
