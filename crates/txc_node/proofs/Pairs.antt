@@ -1,10 +1,9 @@
 -- The entries of a cache at their places.
-use Rattle.std.proofs.Common.{◌≡◌, ℕ, ◌-◌, ◌<◌, ◌≤◌, Bool, true, false, not, cond, List, [], ◌∷◌, length, take, Option, Some, None, refl, sym, ap, subst, ◌∙◌, arith, suc, zero}
+use Rattle.std.proofs.Common.{◌≡◌, ℕ, Bool, true, false, not, cond, List, [], ◌∷◌, take, Option, Some, None, refl, sym, ap, subst, ◌∙◌, suc, zero}
 use Rattle.std.specs.List.{AllByRecursion, find}
 use Rattle.std.specs.Option.{option_map, option_map_or}
 use Rattle.std.specs.Map.{lookup, lookup_entry, remove_entry}
-use Rattle.std.proofs.lemmas.List.{take_all}
-use Rattle.lru.specs.LruCache.{LruCache, promoted, put_entries}
+use Rattle.lru.specs.LruCache.{promoted}
 use Rattle.txc_node.specs.declared.entry.Entry.{Entry}
 use Rattle.txc_node.specs.declared.place.Place.{Place}
 use Rattle.txc_node.specs.declared.stored.Stored.{Stored}
@@ -100,45 +99,9 @@ promoted_keeps P test ps h = (elim (lookup_entry test ps) as (λ f. lookup_entry
   | Some e ↦ λ t. (looked_up P test ps e h t, removed_keeps P test ps h)
 ]) refl
 
-pub removed_length : (test : Place → Bool) (ps : List (Place × Stored)) (e : Place × Stored) → lookup_entry test ps ≡ Some e → suc (length (entries_of (remove_entry test ps))) ≡ length (entries_of ps)
-removed_length test [] e h = cc
-removed_length test (x ∷ ps) e h = (elim (test x.0) as (λ v. test x.0 ≡ v → suc (length (entries_of (remove_entry test (x ∷ ps)))) ≡ length (entries_of (x ∷ ps))) [
-  | true ↦ λ t. ap (λ v. suc (length (entries_of (cond v ps (x ∷ remove_entry test ps))))) t
-  | false ↦ λ t. ap (λ v. suc (length (entries_of (cond v ps (x ∷ remove_entry test ps))))) t ∙ ap (λ n. suc n) (removed_length test ps e (sym (ap (λ v. cond v (Some x) (lookup_entry test ps)) t) ∙ h))
-]) refl
-
 -- ---- what is put
 
 pub entries_take : (n : ℕ) (ps : List (Place × Stored)) → entries_of (take n ps) ≡ take n (entries_of ps)
 entries_take zero ps = refl
 entries_take (suc n) [] = refl
 entries_take (suc n) (x ∷ ps) = ap (λ ys. entry_of x ∷ ys) (entries_take n ps)
-
--- where none stands at the place of e, all are others
-pub absent_others : (ps : List (Place × Stored)) (e : Entry) → ArePlaced ps → lookup_entry (equal_places (place_of e)) ps ≡ None → others e (entries_of ps) ≡ entries_of ps
-absent_others [] e placed h = refl
-absent_others (x ∷ ps) e placed h =
-    let o = entry_of x in
-    let there : equal_places (place_of e) x.0 ≡ same_place o e = ap (equal_places (place_of e)) placed.0 ∙ same_place_sym e o in
-    (elim (equal_places (place_of e) x.0) as (λ v. equal_places (place_of e) x.0 ≡ v → others e (entries_of (x ∷ ps)) ≡ entries_of (x ∷ ps)) [
-      | true ↦ λ t. let no : Some x ≡ None = sym (ap (λ v. cond v (Some x) (lookup_entry (equal_places (place_of e)) ps)) t) ∙ h in cc
-      | false ↦ λ t. ap (λ v. cond (not v) (o ∷ others e (entries_of ps)) (others e (entries_of ps))) (sym there ∙ t) ∙ ap (λ ys. o ∷ ys) (absent_others ps e placed.1 (sym (ap (λ v. cond v (Some x) (lookup_entry (equal_places (place_of e)) ps)) t) ∙ h))
-    ]) refl
-
-take_first : (n : ℕ) (e : Entry) (xs : List Entry) → 0 < n → take n (e ∷ xs) ≡ e ∷ take (n - 1) xs
-take_first zero e xs h = absurd (omega arith)
-take_first (suc n) e xs h = ap (λ m. e ∷ take m xs) (omega arith)
-
--- what a cache holds after a put is what the list of entries holds after an insertion
-pub put_is : (c : LruCache Place Stored) (q : Place) (s : Stored) → q ≡ place_of (entry_of (q, s)) → ArePlaced c.entries → AreApart (entries_of c.entries) → length (entries_of c.entries) ≤ c.cap → 0 < c.cap
-    → entries_of (put_entries equal_places c q s) ≡ take c.cap (entry_of (q, s) ∷ others (entry_of (q, s)) (entries_of c.entries))
-put_is c q s at placed apart within some = (elim (lookup_entry (equal_places q) c.entries) as (λ f. lookup_entry (equal_places q) c.entries ≡ f → entries_of (option_map_or (λ p. (p.0, s) ∷ remove_entry (equal_places q) c.entries) f ((q, s) ∷ take (c.cap - 1) c.entries)) ≡ take c.cap (entry_of (q, s) ∷ others (entry_of (q, s)) (entries_of c.entries))) [
-  | None ↦ λ t.
-      ap (λ ys. entry_of (q, s) ∷ ys) (entries_take (c.cap - 1) c.entries) ∙ sym (take_first c.cap (entry_of (q, s)) (entries_of c.entries) some) ∙ ap (λ ys. take c.cap (entry_of (q, s) ∷ ys)) (sym (absent_others c.entries (entry_of (q, s)) placed (subst (λ (k : Place). lookup_entry (equal_places k) c.entries ≡ None) at t)))
-  | Some f ↦ λ t.
-      let here : f.0 ≡ q = (pair_at c.entries q f placed t).0 in
-      let rest : entries_of (remove_entry (equal_places q) c.entries) ≡ others (entry_of (q, s)) (entries_of c.entries) = ap (λ k. entries_of (remove_entry (equal_places k) c.entries)) at ∙ without_is_others c.entries (entry_of (q, s)) placed apart in
-      let short : suc (length (entries_of (remove_entry (equal_places q) c.entries))) ≤ c.cap = subst (λ (n : ℕ). n ≤ c.cap) (sym (removed_length (equal_places q) c.entries f t)) within in
-      let whole : suc (length (others (entry_of (q, s)) (entries_of c.entries))) ≤ c.cap = subst (λ (ys : List Entry). suc (length ys) ≤ c.cap) rest short in
-      ap (λ k. entry_of (k, s) ∷ entries_of (remove_entry (equal_places q) c.entries)) here ∙ ap (λ ys. entry_of (q, s) ∷ ys) rest ∙ sym (take_all c.cap (entry_of (q, s) ∷ others (entry_of (q, s)) (entries_of c.entries)) whole)
-]) refl

@@ -20,7 +20,7 @@ use Rattle.txc_node.specs.Indexed.{entry_at, entry_of, entries_of, ArePlaced, Ar
 use Rattle.txc_node.proofs.Apart.{same_place_sym, first_apart}
 use Rattle.txc_node.proofs.Inserts.{others_like, others_none, filter_same, place_moved}
 use Rattle.txc_node.proofs.Swept.{find_same}
-use Rattle.txc_node.proofs.Pairs.{found_pair, pair_at, without_is_others, removed_keeps}
+use Rattle.txc_node.proofs.Pairs.{entries_take, found_pair, pair_at, without_is_others, removed_keeps}
 use Rattle.txc_node.proofs.KeyLists.{indexes_by, put_first, brought_first, relisted_there}
 use Rattle.txc_node.proofs.Fronts.{key_at}
 use Rattle.txc_node.proofs.Lasts.{split_at, dropped_tied}
@@ -96,6 +96,18 @@ absent_put c q s at absent placed =
 
 pub absent_others : (e : Entry) (es : List Entry) → find (λ o. same_place o e) es ≡ None → others e es ≡ es
 absent_others e es absent = others_none e es (none_there (λ o. same_place o e) es absent)
+
+take_first : (n : ℕ) (e : Entry) (xs : List Entry) → 0 < n → e ∷ take (n - 1) xs ≡ take n (e ∷ xs)
+take_first zero e xs h = absurd (omega arith)
+take_first (suc n) e xs h = ap (λ m. e ∷ take m xs) (omega arith)
+
+-- what the cache holds then
+pub absent_entries : (c : LruCache Place Stored) (q : Place) (s : Stored) → q ≡ place_of (entry_of (q, s)) → find (λ o. same_place o (entry_of (q, s))) (entries_of c.entries) ≡ None → ArePlaced c.entries → 0 < c.cap
+    → entries_of (put_entries equal_places c q s) ≡ take c.cap (with_first (entry_of (q, s)) (entries_of c.entries))
+absent_entries c q s at absent placed some =
+    let e = entry_of (q, s) in
+    ap (λ (qs : List (Place × Stored)). entries_of qs) (absent_put c q s at absent placed).0 ∙ ap (λ es. e ∷ es) (entries_take (c.cap - 1) c.entries)
+    ∙ take_first c.cap e (entries_of c.entries) some ∙ ap (λ es. take c.cap (e ∷ es)) (sym (absent_others e (entries_of c.entries) absent))
 
 pub take_past : {X : Type 0} (n : ℕ) (xs : List X) → slice_get xs n ≡ None → take n xs ≡ xs
 take_past zero [] h = refl

@@ -69,8 +69,8 @@ pub dropped_entries : (ps : List (Place × Stored)) → entries_of (take (length
 dropped_entries ps = entries_take (length ps - 1) ps ∙ ap (λ n. take (n - 1) (entries_of ps)) (sym (length-map ps entry_of))
 
 -- when all were looked at, those stay that have not ended
-pub swept_all : (ended : Entry → Bool) (es : List Entry) → swept_to ended es 0 ≡ filter (λ e. not (ended e)) es
-swept_all ended es = append_none (filter (λ e. not (ended e)) es)
+pub swept_all : (ended : Entry → Bool) (es : List Entry) (n : ℕ) → n ≡ 0 → swept_to ended es n ≡ filter (λ e. not (ended e)) es
+swept_all ended es n none = ap (λ m. swept_to ended es m) none ∙ append_none (filter (λ e. not (ended e)) es)
 
 pub kept_count : (ended : Entry → Bool) (es : List Entry) → length (filter (λ e. not (ended e)) es) + count_by ended es ≡ length es
 kept_count ended es = omega (arith, length-filter ended es, length-filter_both ended (λ e. not (ended e)) (λ _. refl) es)

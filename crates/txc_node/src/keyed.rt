@@ -1,5 +1,5 @@
 //! The entries of a node at their places, and by their keys.
-ghost use Rattle.std.specs.Prelude.{List, ◌≡◌, ◌-◌, ◌∷◌, [], take, length, None, OnOk, OnErr, IfOk, IfErr, slice_get, option_copied};
+ghost use Rattle.std.specs.Prelude.{List, ◌≡◌, ◌-◌, ◌∷◌, [], take, length, remove, None, Some, OnOk, OnErr, IfOk, IfErr, slice_get, option_copied};
 ghost use Rattle.std.specs.List.{find};
 ghost use Rattle.std.specs.Option.{option_map};
 ghost use Rattle.std.specs.Map.{lookup};
@@ -8,13 +8,13 @@ ghost use Rattle.txc_tags.specs.Keys.{Call};
 ghost use Rattle.txc_node.specs.declared.entry.Entry.{Entry};
 ghost use Rattle.txc_node.specs.Places.{place_of, equal_places};
 ghost use Rattle.txc_node.specs.Entries.{is_best, others, same_place};
-ghost use Rattle.txc_node.specs.Indexed.{AreOf, Closes, HoldsApart, IsFound, IsSpared, StandsUnder, after_at, closed_reach, entries_under, entry_at, entry_of, last_to_front, reaches_under, stored_of, with_first};
+ghost use Rattle.txc_node.specs.Indexed.{AreOf, Closes, HoldsApart, IsFound, IsSpared, Relists, StandsUnder, after_at, closed_reach, entries_under, entry_at, entry_of, last_to_front, listed, reaches_under, stored_of, with_first};
 
 use crate::closing::Closing;
 use crate::entry::Entry;
 use crate::key_index::KeyIndex;
 use crate::place::Place;
-use crate::stored::{Stored, join};
+use crate::stored::{Stored, join_some};
 use crate::versions::{Found, Versions};
 use lru::LruCache;
 use std::alloc::{AllocError, AllocFailed, Global};
@@ -68,6 +68,17 @@ fn close_in(
             }
             Some(stored.reach)
         }
+    }
+}
+
+// Puts the reach of an entry that was found first among those of its key.
+fn bring_found(keys: &mut KeyIndex, key: &Key, found: Found)
+    requires { slice_get (listed keys.old.versions.entries key.now) found.at ≡ Some found.reach }
+    ensures { Relists key.now (found.reach ∷ remove (listed keys.old.versions.entries key.now) found.at)
+        keys.old.versions.entries keys.new.versions.entries }
+{
+    if found.at > 0 {
+        keys.bring_first(key, found.at, found.reach);
     }
 }
 
@@ -155,13 +166,11 @@ impl KeyedEntries {
         ensures closes { Closes closing.now.stamp closing.now.tags.now self.old self.new result }
         ensures spared { IsSpared closing.now.stamp closing.now.tags.now self.new.entries place.now }
     {
-        match close_in(&mut self.cache, place, closing) {
-            None => 0,
-            Some(reach) => {
-                self.keys.set(&place.key, reach);
-                1
-            }
+        let closed = close_in(&mut self.cache, place, closing);
+        if let Some(reach) = closed {
+            self.keys.set(&place.key, reach);
         }
+        usize::from(closed.is_some())
     }
 
     /// Moves an entry that was found to the front.
@@ -174,9 +183,7 @@ impl KeyedEntries {
     {
         let place = Place::new(key, found.reach.lo());
         self.cache.promote(&place);
-        if found.at > 0 {
-            self.keys.bring_first(key, found.at, found.reach);
-        }
+        bring_found(&mut self.keys, key, found);
     }
 
     /// Moves the last entry to the front.
@@ -197,13 +204,11 @@ impl KeyedEntries {
         ensures entries { self.new.entries ≡ take (length self.old.entries - 1) self.old.entries }
         ensures capacity { self.new.capacity ≡ self.old.capacity }
     {
-        match self.cache.pop_lru() {
-            None => None,
-            Some((place, stored)) => {
-                self.keys.drop_last(&place.key);
-                Some(join(place, stored))
-            }
+        let last = self.cache.pop_lru();
+        if let Some((place, _)) = &last {
+            self.keys.drop_last(&place.key);
         }
+        join_some(last)
     }
 
     /// A new entry first, at a place where none stands. Returns the last one where there is no room for it.
@@ -230,16 +235,14 @@ impl KeyedEntries {
         };
         match self.cache.push(place, stored) {
             Err(failed) => {
-                let (place, stored) = failed.value;
-                self.keys.drop_first(&place.key);
-                Err(AllocFailed {
-                    value: (place, stored),
-                })
+                self.keys.drop_first(&failed.value.0.key);
+                Err(failed)
             }
-            Ok(None) => Ok(None),
-            Ok(Some((place, stored))) => {
-                self.keys.drop_last(&place.key);
-                Ok(Some(join(place, stored)))
+            Ok(gone) => {
+                if let Some((place, _)) = &gone {
+                    self.keys.drop_last(&place.key);
+                }
+                Ok(join_some(gone))
             }
         }
     }
@@ -254,10 +257,7 @@ impl KeyedEntries {
         ensures capacity { self.new.capacity ≡ self.old.capacity }
     {
         self.keys.bring_first(&place.key, at, stored.reach);
-        match self.cache.push(place, stored).unwrap() {
-            None => None,
-            Some((place, before)) => Some(join(place, before)),
-        }
+        join_some(self.cache.push(place, stored).unwrap())
     }
 }
 

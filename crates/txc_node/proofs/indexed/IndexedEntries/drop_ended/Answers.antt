@@ -1,6 +1,5 @@
-use Rattle.std.proofs.Common.{◌≡◌, ◌+◌, ◌-◌, ◌<◌, not, List, length, suc, ap, subst, ◌∙◌, arith}
+use Rattle.std.proofs.Common.{◌≡◌, ◌+◌, ◌-◌, ◌<◌, List, length, suc, ap, subst, ◌∙◌, arith}
 use Rattle.std.specs.Prelude.{slice_get, Some}
-use Rattle.std.specs.List.{filter}
 use Rattle.txc_node.specs.declared.entry.Entry.{Entry}
 use Rattle.txc_node.specs.Cache.{has_ended}
 use Rattle.txc_node.specs.Indexed.{turned, swept_to}
@@ -30,8 +29,7 @@ overflow_sub-result c =
     let a = c.args in
     let es = a.self.now.entries in
     let ended = has_ended a.processed a.horizon in
-    let rest : length es - c.loop-i.i ≡ 0 = omega (arith, c.loop-i-test.false, c.len-before.ensures) in
-    let left : length c.loop-i.self.entries ≡ length (filter (λ e. not (ended e)) es) = ap (λ (xs : List Entry). length xs) (c.loop-i.invariant.entries ∙ ap (λ n. swept_to ended es n) rest ∙ swept_all ended es) in
+    let left = ap (λ (xs : List Entry). length xs) (c.loop-i.invariant.entries ∙ swept_all ended es (length es - c.loop-i.i) (omega (arith, c.loop-i-test.false, c.len-before.ensures))) in
     omega (arith, left, kept_count ended es, c.len.ensures, c.len-before.ensures)
 
 pub returns-clause-count : goal.returns-clause-count
@@ -39,6 +37,5 @@ returns-clause-count c =
     let a = c.args in
     let es = a.self.now.entries in
     let ended = has_ended a.processed a.horizon in
-    let rest : length es - c.loop-i.i ≡ 0 = omega (arith, c.loop-i-test.false, c.len-before.ensures) in
-    let left : length c.loop-i.self.entries ≡ length (filter (λ e. not (ended e)) es) = ap (λ (xs : List Entry). length xs) (c.loop-i.invariant.entries ∙ ap (λ n. swept_to ended es n) rest ∙ swept_all ended es) in
+    let left = ap (λ (xs : List Entry). length xs) (c.loop-i.invariant.entries ∙ swept_all ended es (length es - c.loop-i.i) (omega (arith, c.loop-i-test.false, c.len-before.ensures))) in
     omega (arith, left, kept_count ended es, c.len.ensures, c.len-before.ensures)

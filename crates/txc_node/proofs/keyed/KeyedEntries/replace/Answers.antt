@@ -1,16 +1,14 @@
-use Rattle.std.proofs.Common.{◌≡◌, ◌∷◌, Some, ap, sym, subst, ◌∙◌}
+use Rattle.std.proofs.Common.{◌≡◌, ◌∷◌, ap, sym, subst, ◌∙◌}
 use Rattle.std.specs.Prelude.{is_some}
 use Rattle.std.specs.Map.{remove_entry}
 use Rattle.std.specs.Option.{option_map}
 use Rattle.lru.specs.LruCache.{LruCache}
-use Rattle.txc_node.specs.declared.entry.Entry.{Entry}
 use Rattle.txc_node.specs.declared.place.Place.{Place}
 use Rattle.txc_node.specs.declared.stored.Stored.{Stored}
 use Rattle.txc_node.specs.Places.{equal_places}
 use Rattle.txc_node.specs.Indexed.{Held, StandsUnder, entry_of, entries_of}
 use Rattle.txc_node.proofs.Puts.{there_before, there_put, within_listed, replaced_entries, replaced_tied}
 use Rattle.txc_node.proofs.keyed.KeyedEntries.replace.Goals as goal
-use Rattle.txc_node.proofs.keyed.KeyedEntries.replace.Goals.{in-None, in-Some}
 
 pub bring_first-requires : goal.bring_first-requires
 bring_first-requires c =
@@ -38,11 +36,7 @@ pub returns-clause-before : goal.returns-clause-before
 returns-clause-before c =
     let a = c.args in
     let there = subst (λ (m : Held). StandsUnder (entry_of (a.place, a.stored)) m.entries a.at) (sym c.self.view_is) c.requires.there in
-    let before = there_before c.self.inside.cache a.place a.stored a.at c.requires.placed there c.self.invariant.placed in
-    rw (← c.self.view_is) (elim c.match-unwrap.branch [
-      | in-None w ↦ rw w.result-is (ap (option_map entry_of) (sym w.in-None.is ∙ rw c.unwrap.ensures at c.push.ensures.old) ∙ before)
-      | in-Some w ↦ rw w.result-is (ap (λ (e : Entry). Some e) w.join.ensures ∙ ap (option_map entry_of) (sym w.in-Some.is ∙ rw c.unwrap.ensures at c.push.ensures.old) ∙ before)
-    ])
+    rw (← c.self.view_is) (c.join_some.ensures ∙ ap (option_map entry_of) (rw c.unwrap.ensures at c.push.ensures.old) ∙ there_before c.self.inside.cache a.place a.stored a.at c.requires.placed there c.self.invariant.placed)
 
 pub returns-clause-entries : goal.returns-clause-entries
 returns-clause-entries c =
