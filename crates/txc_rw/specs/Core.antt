@@ -154,17 +154,6 @@ abbrev pub IsOfNeed : Option Need → Turn → Type 0
 IsOfNeed None turn = IsOfQuery turn
 IsOfNeed (Some need) turn = IsOfCall turn
 
--- a call has its value, or is refused
-abbrev pub IsCallEnd : Turn → Type 0
-IsCallEnd (Value value) = Unit {0}
-IsCallEnd (Refused error) = Unit {0}
-IsCallEnd turn = ⊥
-
--- the turn asks
-abbrev pub IsAsk : Turn → Type 0
-IsAsk (Ask request) = Unit {0}
-IsAsk turn = ⊥
-
 -- it asks this query at the stamp, or is out of memory
 abbrev pub IsAsked : Query → ℕ → Turn → Type 0
 IsAsked q stamp (Ask request) = request ≡ requests.Query q stamp

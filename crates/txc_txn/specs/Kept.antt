@@ -7,7 +7,8 @@ use Rattle.txc_registry.specs.Objects.{Objects, numbers_of}
 use Rattle.txc_ports.specs.declared.reply.PortReply.{PortReply}
 use Rattle.txc_ports.specs.declared.turn.Turn.{Turn}
 use Rattle.txc_ports.specs.Fronts.{front_of}
-use Rattle.txc_txn.specs.Core.{CoreValue, CoreHolds, IsAsk, IsCore, IsRight, IsTurn, KeepsSettings, PinsAfter}
+use Rattle.txc_txn.specs.Core.{CoreValue, CoreHolds, IsCore, IsRight, IsTurn, KeepsSettings, PinsAfter}
+use Rattle.txc_ports.specs.Turns.{IsAsk}
 use Rattle.txc_txn.specs.Core.{left_after, left_pin, open_call, recorded_after, taken_after, AddsOnly, IsOneOf}
 use Rattle.txc_txn.specs.Leading.{ReplyLeads}
 

@@ -36,7 +36,8 @@ impl<A: App, C: Cacheable> Model for RunningTxn<A, C> {
 
 impl<A: App, C: Cacheable> RunningTxn<A, C> {
     ghost use Rattle.txc_txn.specs.Core.{left_pin, open_call, receipt_pin, value_of, Explains, IsAnswered};
-    ghost use Rattle.txc_txn.specs.Core.{IsAsk, IsIdle, IsNoAdding, IsNoValue, IsTurn};
+    ghost use Rattle.txc_txn.specs.Core.{IsIdle, IsNoAdding, IsNoValue, IsTurn};
+    ghost use Rattle.txc_ports.specs.Turns.{IsAsk};
     ghost use Rattle.txc_txn.specs.Kept.{HasGoneOn, IsKept, IsShownRight};
     ghost use Rattle.txc_txn.specs.Leading.{StartLeads};
 
