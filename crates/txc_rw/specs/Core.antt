@@ -59,7 +59,7 @@ IsReady (Some r) tags count room = (r.tags ≡ with_tag (query_tag r.query) tags
 
 -- the tags are those of the queries that were answered, no more changes are kept than may be, and the next
 -- query is ready
-pub record IsKept (tags : List Tag) (queried : Vec Query Global) (changes : List Change) (reading : Option Reading) : Type 0 where
+pub record IsRwState (tags : List Tag) (queried : Vec Query Global) (changes : List Change) (reading : Option Reading) : Type 0 where
   pub exact : tags ≡ tags_of queried.items
   pub few : length changes ≤ MAX_CHANGES
   pub ready : IsReady reading tags (vec_len queried) (vec_capacity queried)

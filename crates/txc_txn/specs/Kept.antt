@@ -18,7 +18,7 @@ pub record TxnValue : Type 0 where
   pub objects : Objects
 
 -- it is what it is in any history, and its pin set means what it says in the history that it has seen
-pub record IsKept (next : Next) (t : TxnValue) : Type 0 where
+pub record IsTxn (next : Next) (t : TxnValue) : Type 0 where
   pub fits : IsCore next t.objects t.core
   pub holds : CoreHolds next t.core.seen.history t.objects t.core
 
