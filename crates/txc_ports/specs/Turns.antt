@@ -1,5 +1,4 @@
 -- What a transaction's turn says of its call.
-use Rattle.std.specs.Prelude.{⊥}
 use Rattle.txc_ports.specs.declared.turn.Turn.{Turn}
 use Rattle.txc_ports.specs.declared.turn.Turn.TheVariants.{Ask, Value, Refused}
 
