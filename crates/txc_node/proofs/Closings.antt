@@ -2,7 +2,7 @@
 use Rattle.std.proofs.Common.{◌≡◌, ℕ, ◌+◌, ◌-◌, Bool, true, false, ◌&&◌, ◌||◌, ◌<◌, eqb, get_or, length, suc, cond, List, [], ◌∷◌, map, Option, Some, None, refl, sym, ap, subst, ◌∙◌, arith, ◌⊎◌, inl, inr}
 use Rattle.std.specs.List.{count_by, AllByRecursion}
 use Rattle.std.specs.Map.{lookup, lookup_entry, set_value}
-use Rattle.std.specs.Prelude.{is_some, unwrap_or, slice_get}
+use Rattle.std.specs.Prelude.{unwrap_or, slice_get}
 use Rattle.txc_tags.specs.declared.tag.Rows.{Rows}
 use Rattle.std.specs.Option.{option_map, option_map_or}
 use Rattle.std.proofs.lemmas.List.Sums.{sum_by-cons}
@@ -266,6 +266,9 @@ module _ (stamp : ℕ) (tags : List Tag) where
     spared = set_spared stamp tags q ps s h placed;
   }
 
+  pub closes_none : (h : Held) → Closes stamp tags h h 0
+  closes_none h = record { after = refl; capacity = refl; count = omega arith; spared = λ q k. k }
+
   -- where nothing is closed, nothing changes
   pub untouched : (q : Place) (ps : List (Place × Stored)) → closed_reach stamp tags (lookup (equal_places q) ps) ≡ None → after_at stamp tags q ps ≡ ps
   untouched q ps h = (elim (lookup (equal_places q) ps) as (λ f. lookup (equal_places q) ps ≡ f → closed_reach stamp tags f ≡ None → option_map_or (λ s. set_value (equal_places q) ps (stored_after stamp tags s)) f ps ≡ ps) [
@@ -295,11 +298,9 @@ module _ (stamp : ℕ) (tags : List Tag) where
       subst (λ f. AreTied (option_map_or (λ u. set_value (equal_places q) ps (stored_after stamp tags u)) f ps) new) (sym s.1)
       (tied_after q ps index new s.0 tied s.1 (subst (λ (i : Interval). Relists q.key (map (in_stead i) (listed index q.key)) index new) (sym s.3) relists))
 
-  pub closes_by : (q : Place) (ps : List (Place × Stored)) (n : ℕ) (f : Option Interval) → ArePlaced ps → f ≡ closed_reach stamp tags (lookup (equal_places q) ps)
-      → Closes stamp tags (held ps n) (held (after_at stamp tags q ps) n) (cond (is_some f) 1 0)
-  closes_by q ps n None placed h = subst (λ (qs : List (Place × Stored)). Closes stamp tags (held ps n) (held qs n) 0) (sym (untouched q ps (sym h))) (record { after = refl; capacity = refl; count = omega arith; spared = λ q k. k })
-  closes_by q ps n (Some r) placed h =
-      let s = closed_there (lookup (equal_places q) ps) r (sym h) in
+  pub closes_at : (q : Place) (ps : List (Place × Stored)) (n : ℕ) (r : Interval) → ArePlaced ps → closed_reach stamp tags (lookup (equal_places q) ps) ≡ Some r → Closes stamp tags (held ps n) (held (after_at stamp tags q ps) n) 1
+  closes_at q ps n r placed h =
+      let s = closed_there (lookup (equal_places q) ps) r h in
       subst (λ f. Closes stamp tags (held ps n) (held (option_map_or (λ u. set_value (equal_places q) ps (stored_after stamp tags u)) f ps) n) 1) (sym s.1)
       (subst (λ b. Closes stamp tags (held ps n) (held (set_value (equal_places q) ps (stored_after stamp tags s.0)) n) (cond b 1 0)) s.2 (closes_here q ps n s.0 placed s.1))
 

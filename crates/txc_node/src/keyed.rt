@@ -14,7 +14,7 @@ use crate::closing::Closing;
 use crate::entry::Entry;
 use crate::key_index::KeyIndex;
 use crate::place::Place;
-use crate::stored::{Stored, join_some};
+use crate::stored::{Stored, join, join_some};
 use crate::versions::{Found, Versions};
 use lru::LruCache;
 use std::alloc::{AllocError, AllocFailed, Global};
@@ -166,11 +166,13 @@ impl KeyedEntries {
         ensures closes { Closes closing.now.stamp closing.now.tags.now self.old self.new result }
         ensures spared { IsSpared closing.now.stamp closing.now.tags.now self.new.entries place.now }
     {
-        let closed = close_in(&mut self.cache, place, closing);
-        if let Some(reach) = closed {
-            self.keys.set(&place.key, reach);
+        match close_in(&mut self.cache, place, closing) {
+            None => 0,
+            Some(reach) => {
+                self.keys.set(&place.key, reach);
+                1
+            }
         }
-        usize::from(closed.is_some())
     }
 
     /// Moves an entry that was found to the front.
@@ -204,11 +206,13 @@ impl KeyedEntries {
         ensures entries { self.new.entries ≡ take (length self.old.entries - 1) self.old.entries }
         ensures capacity { self.new.capacity ≡ self.old.capacity }
     {
-        let last = self.cache.pop_lru();
-        if let Some((place, _)) = &last {
-            self.keys.drop_last(&place.key);
+        match self.cache.pop_lru() {
+            None => None,
+            Some((place, stored)) => {
+                self.keys.drop_last(&place.key);
+                Some(join(place, stored))
+            }
         }
-        join_some(last)
     }
 
     /// A new entry first, at a place where none stands. Returns the last one where there is no room for it.
@@ -235,14 +239,16 @@ impl KeyedEntries {
         };
         match self.cache.push(place, stored) {
             Err(failed) => {
-                self.keys.drop_first(&failed.value.0.key);
-                Err(failed)
+                let (place, stored) = failed.value;
+                self.keys.drop_first(&place.key);
+                Err(AllocFailed {
+                    value: (place, stored),
+                })
             }
-            Ok(gone) => {
-                if let Some((place, _)) = &gone {
-                    self.keys.drop_last(&place.key);
-                }
-                Ok(join_some(gone))
+            Ok(None) => Ok(None),
+            Ok(Some((place, stored))) => {
+                self.keys.drop_last(&place.key);
+                Ok(Some(join(place, stored)))
             }
         }
     }

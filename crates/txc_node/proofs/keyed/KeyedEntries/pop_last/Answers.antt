@@ -1,6 +1,7 @@
-use Rattle.std.proofs.Common.{◌≡◌, ◌-◌, List, length, take, ap, sym, subst, ◌∙◌}
+use Rattle.std.proofs.Common.{◌≡◌, ◌-◌, List, Some, length, take, ap, sym, subst, ◌∙◌}
 use Rattle.std.specs.Option.{option_map}
 use Rattle.lru.specs.LruCache.{LruCache}
+use Rattle.txc_node.specs.declared.entry.Entry.{Entry}
 use Rattle.txc_node.specs.declared.place.Place.{Place}
 use Rattle.txc_node.specs.declared.stored.Stored.{Stored}
 use Rattle.txc_node.specs.Indexed.{AreTied, entries_of, entry_of}
@@ -11,19 +12,25 @@ use Rattle.txc_node.proofs.keyed.KeyedEntries.pop_last.Goals as goal
 pub invariant_of-self : goal.invariant_of-self
 invariant_of-self c =
     let ps = c.self.inside.cache.entries in
-    let index = c.self.inside.keys.versions.entries in
-    let x : Place × Stored = (c.in-Some.place.now, c.in-Some.field-0-1.now) in
-    let left : c.pop_lru-last.new.self.entries ≡ take (length ps - 1) ps = ap (λ (m : LruCache Place Stored). m.entries) c.pop_lru-last.ensures.entries in
-    rw left (dropped_tied (take (length ps - 1) ps) x index c.drop_last.new.self.versions.entries (subst (λ (qs : List (Place × Stored)). AreTied qs index) (last_split ps x (sym c.pop_lru-last.ensures.value ∙ c.in-Some.is)) c.self.invariant) c.drop_last.ensures)
+    let left : c.pop_lru.new.self.entries ≡ take (length ps - 1) ps = ap (λ (m : LruCache Place Stored). m.entries) c.pop_lru.ensures.entries in
+    rw left (subst (λ (qs : List (Place × Stored)). AreTied qs c.self.inside.keys.versions.entries) (sym (no_last ps (sym c.pop_lru.ensures.value ∙ c.in-None.is))) c.self.invariant)
 
-pub invariant_of-self-in_default : goal.invariant_of-self-in_default
-invariant_of-self-in_default c =
+pub invariant_of-self-in-Some : goal.invariant_of-self-in-Some
+invariant_of-self-in-Some c =
     let ps = c.self.inside.cache.entries in
-    let left : c.pop_lru-last.new.self.entries ≡ take (length ps - 1) ps = ap (λ (m : LruCache Place Stored). m.entries) c.pop_lru-last.ensures.entries in
-    rw left (subst (λ (qs : List (Place × Stored)). AreTied qs c.self.inside.keys.versions.entries) (sym (no_last ps (sym c.pop_lru-last.ensures.value ∙ c.in_default.is))) c.self.invariant)
+    let index = c.self.inside.keys.versions.entries in
+    let x : Place × Stored = (c.in-Some.place, c.in-Some.stored) in
+    let left : c.pop_lru.new.self.entries ≡ take (length ps - 1) ps = ap (λ (m : LruCache Place Stored). m.entries) c.pop_lru.ensures.entries in
+    rw left (dropped_tied (take (length ps - 1) ps) x index c.drop_last.new.self.versions.entries (subst (λ (qs : List (Place × Stored)). AreTied qs index) (last_split ps x (sym c.pop_lru.ensures.value ∙ c.in-Some.is)) c.self.invariant) c.drop_last.ensures)
 
-pub returns-clause-last : goal.returns-clause-last
-returns-clause-last c = rw (← c.self.view_is) (c.join_some.ensures ∙ ap (option_map entry_of) c.pop_lru-last.ensures.value ∙ sym (last_is c.self.inside.cache.entries))
+pub returns-in-None-clause-last : goal.returns-in-None-clause-last
+returns-in-None-clause-last c = rw (← c.self.view_is) (ap (option_map entry_of) (sym c.in-None.is ∙ c.pop_lru.ensures.value) ∙ sym (last_is c.self.inside.cache.entries))
 
-pub returns-clause-entries : goal.returns-clause-entries
-returns-clause-entries c = rw (← c.self.view_is) (ap (λ (m : LruCache Place Stored). entries_of m.entries) c.pop_lru-last.ensures.entries ∙ dropped_entries c.self.inside.cache.entries)
+pub returns-in-Some-clause-last : goal.returns-in-Some-clause-last
+returns-in-Some-clause-last c = rw (← c.self.view_is) (ap (λ (e : Entry). Some e) c.join.ensures ∙ ap (option_map entry_of) (sym c.in-Some.is ∙ c.pop_lru.ensures.value) ∙ sym (last_is c.self.inside.cache.entries))
+
+pub returns-in-None-clause-entries : goal.returns-in-None-clause-entries
+returns-in-None-clause-entries c = rw (← c.self.view_is) (ap (λ (m : LruCache Place Stored). entries_of m.entries) c.pop_lru.ensures.entries ∙ dropped_entries c.self.inside.cache.entries)
+
+pub returns-in-Some-clause-entries : goal.returns-in-Some-clause-entries
+returns-in-Some-clause-entries c = rw (← c.self.view_is) (ap (λ (m : LruCache Place Stored). entries_of m.entries) c.pop_lru.ensures.entries ∙ dropped_entries c.self.inside.cache.entries)
