@@ -5,10 +5,12 @@ mod decode;
 mod laws;
 mod query;
 mod row;
+mod segments;
 mod statements;
 mod store;
 mod store_error;
 mod store_laws;
+mod texts;
 mod version;
 
 pub use laws::{net_changes_are_differences, states_are_maps, tags_are_sound, versions_say_states};

@@ -1,92 +1,72 @@
-//! The statements on the table of versions.
-
-ghost use Rattle.std.specs.Prelude.{◌≡◌, ◌++◌, ◌∷◌, [], ◌≤◌, true, OnOk, None};
-ghost use Rattle.sqlite.specs.Held.{state};
-ghost use Rattle.sqlite.specs.Steps.{over_memory, IsEmpty};
-ghost use Rattle.txc_stamp.specs.declared.stamp.TheConstants.{LAST_STAMP};
-ghost use Rattle.txc_rows.specs.Values.{IsRow};
-ghost use Rattle.txc_rows.specs.Versions.{removed, purged, after_write, after_net};
-ghost use Rattle.txc_rows.specs.Holdable.{AreHeld, IsWritable};
-ghost use Rattle.txc_rows.specs.declared.query.Query.TheVariants.{ById, ByGroup, All, Range};
-ghost use Rattle.txc_rows.specs.Kept.{versions_of, HasTable, IsKept, IsStep, IsCall, IsReading};
+//! The statements on the tables of versions.
 
 use crate::query::{Change, Query};
 use crate::row::Row;
-use crate::store_error::MAX_MATCHING;
+use crate::texts::{
+    ADD_LATEST, DROP_LATEST, END_VERSION, LEFT_LATEST, MAKE_LATEST, MOST_READ, RENEW_LATEST,
+    SEGMENTS, Segment, Test, add_text, copy_text, dead_text, drop_text, latest_text, left_text,
+    make_text,
+};
 use sqlite::{Connection, Error, MemStore, Transaction, params};
 use std::alloc::Global;
 use txc_stamp::Stamp;
 use txc_tags::Table;
 
-/// A row for each version, with a key for each way to read it. The second finds the versions of a group; it
-/// could not be broken where the first is not.
-const CREATE_TABLE: &str =
-    "CREATE TABLE version (table_number INTEGER NOT NULL, id INTEGER NOT NULL, born INTEGER NOT NULL, \
-     group_number INTEGER NOT NULL, body BLOB NOT NULL, died INTEGER, \
-     PRIMARY KEY (table_number, id, born), \
-     UNIQUE (table_number, group_number, id, born)) STRICT";
-
-/// A version that has not died.
-const ADD_VERSION: &str =
-    "INSERT INTO version (table_number, id, born, group_number, body) VALUES (?1, ?2, ?3, ?4, ?5)";
-
-/// The current version of a table and id dies.
-const END_VERSION: &str =
-    "UPDATE version SET died = ?3 WHERE table_number = ?1 AND id = ?2 AND died IS NULL";
-
-/// The versions that died by a stamp.
-const DELETE_DEAD: &str = "DELETE FROM version WHERE died <= ?1";
-
-/// What the statements that read share: versions of a table, by id and birth, at most so many of them. Each
-/// has a test of its own, which the store answers by a key of the table.
-macro_rules! read_where {
-    ($test:literal) => {
-        concat!(
-            "SELECT id, group_number, body, born, died FROM version WHERE table_number = ?1",
-            $test,
-            " ORDER BY id, born LIMIT ?2"
-        )
-    };
+/// What a write did to the tables.
+#[derive(Clone, Copy)]
+pub(crate) struct Written {
+    /// How many current versions died.
+    pub ended: usize,
+    /// How many versions were copied to the segment.
+    pub copied: usize,
+    /// How many versions are the first of their table, id and group.
+    pub added: usize,
 }
 
-const READ_TABLE: &str = read_where!("");
+// ---- the tables
 
-const READ_ROW: &str = read_where!(" AND id = ?3");
-
-const READ_GROUP: &str = read_where!(" AND group_number = ?3");
-
-const READ_RANGE: &str = read_where!(" AND id >= ?3 AND id <= ?4");
-
-/// So many versions are read at most: one more than may match shows that too many do.
-const MOST_READ: u32 = MAX_MATCHING as u32 + 1;
-
-/// Makes the table in a store that has none.
-pub(crate) fn create(conn: &mut Connection<MemStore>) -> Result<usize, Error>
-    requires { IsEmpty (state over_memory conn.old) }
-    ensures kept { OnOk result (IsKept conn.new) }
-    ensures empty { OnOk result (versions_of conn.new ≡ []) }
-{
-    conn.execute(CREATE_TABLE, &[])
+/// Makes the tables in a store that has none: the last versions, and the segments from the last to the first.
+pub(crate) fn create(conn: &mut Connection<MemStore>) -> Result<(), Error> {
+    let mut tx = conn.transaction();
+    tx.execute(MAKE_LATEST, &[])?;
+    make_segments(&mut tx, SEGMENTS.len())?;
+    tx.commit()
 }
 
-/// Adds a version that has not died.
-fn add_version(tx: &mut Transaction<'_, MemStore>, row: &Row, stamp: Stamp) -> Result<usize, Error>
-    requires table { HasTable tx.old.conn.now }
-    requires inside { tx.old.conn.now.in_transaction ≡ true }
-    ensures same_reference { tx.new.conn.ghost_name ≡ tx.old.conn.ghost_name }
-    ensures row { IsRow row.now }
-    ensures step { IsStep
-        (versions_of tx.old.conn.now ++ record { row = row.now; born = stamp; died = None } ∷ [])
-        tx.old.conn.now tx.new.conn.now result }
-{
+/// Makes so many of the segments, the first of them last.
+fn make_segments(tx: &mut Transaction<'_, MemStore>, count: usize) -> Result<(), Error> {
+    for at in 0..count {
+        tx.execute(make_text(SEGMENTS[count - 1 - at]), &[])?;
+    }
+    Ok(())
+}
+
+/// Drops so many of the segments, the first of them first.
+fn drop_segments(tx: &mut Transaction<'_, MemStore>, count: usize) -> Result<(), Error> {
+    for at in 0..count {
+        tx.execute(drop_text(SEGMENTS[at]), &[])?;
+    }
+    Ok(())
+}
+
+// ---- writing
+
+fn add_latest(
+    tx: &mut Transaction<'_, MemStore>,
+    place: u32,
+    row: &Row,
+    stamp: Stamp,
+) -> Result<usize, Error> {
     tx.execute(
-        ADD_VERSION,
+        ADD_LATEST,
         params![
+            place,
             u32::from(row.table().number()),
             row.id(),
             stamp.number(),
             row.group(),
-            row.body()
+            row.body(),
+            None::<u32>
         ],
     )
 }
@@ -97,131 +77,238 @@ fn end_version(
     table: Table,
     id: u32,
     stamp: Stamp,
-) -> Result<usize, Error>
-    requires table { HasTable tx.old.conn.now }
-    requires inside { tx.old.conn.now.in_transaction ≡ true }
-    requires held { AreHeld (versions_of tx.old.conn.now) }
-    ensures same_reference { tx.new.conn.ghost_name ≡ tx.old.conn.ghost_name }
-    ensures stamp { stamp ≤ LAST_STAMP }
-    ensures step { IsStep
-        (removed table id stamp (versions_of tx.old.conn.now))
-        tx.old.conn.now tx.new.conn.now result }
-{
+) -> Result<usize, Error> {
     tx.execute(
         END_VERSION,
         params![u32::from(table.number()), id, stamp.number()],
     )
 }
 
-fn write_change(
+/// Copies the last version of a table, id and group to a segment, if there is one.
+fn copy_latest(
     tx: &mut Transaction<'_, MemStore>,
-    change: &Change,
-    stamp: Stamp,
-) -> Result<(), Error>
-    requires table { HasTable tx.old.conn.now }
-    requires inside { tx.old.conn.now.in_transaction ≡ true }
-    requires held { AreHeld (versions_of tx.old.conn.now) }
-    ensures same_reference { tx.new.conn.ghost_name ≡ tx.old.conn.ghost_name }
-    ensures writable { OnOk result (IsWritable stamp change.now) }
-    ensures step { IsStep
-        (after_write stamp change.now (versions_of tx.old.conn.now))
-        tx.old.conn.now tx.new.conn.now result }
-{
-    match change {
-        Change::Put(row) => {
-            end_version(tx, row.table(), row.id(), stamp)?;
-            add_version(tx, row, stamp)?;
-        }
-        Change::Remove(table, id) => {
-            end_version(tx, *table, *id, stamp)?;
-        }
-    }
-    Ok(())
+    row: &Row,
+    segment: Segment,
+) -> Result<usize, Error> {
+    tx.execute(
+        copy_text(segment),
+        params![u32::from(row.table().number()), row.id(), row.group()],
+    )
 }
 
-/// Writes the changes of one commit, all or none.
+fn renew_latest(
+    tx: &mut Transaction<'_, MemStore>,
+    place: u32,
+    row: &Row,
+    stamp: Stamp,
+) -> Result<usize, Error> {
+    tx.execute(
+        RENEW_LATEST,
+        params![
+            u32::from(row.table().number()),
+            row.id(),
+            row.group(),
+            place,
+            stamp.number(),
+            row.body()
+        ],
+    )
+}
+
+fn write_put(
+    tx: &mut Transaction<'_, MemStore>,
+    row: &Row,
+    stamp: Stamp,
+    place: u32,
+    segment: Segment,
+    so_far: Written,
+) -> Result<Written, Error> {
+    let ended = end_version(tx, row.table(), row.id(), stamp)?;
+    let copied = copy_latest(tx, row, segment)?;
+    let added = if copied == 0 {
+        add_latest(tx, place, row, stamp)?
+    } else {
+        renew_latest(tx, place, row, stamp)?;
+        0
+    };
+    Ok(Written {
+        ended: so_far.ended.wrapping_add(ended),
+        copied: so_far.copied.wrapping_add(copied),
+        added: so_far.added.wrapping_add(added),
+    })
+}
+
+/// Writes the changes of one commit, all or none. The versions that they put have places from this one on.
 pub(crate) fn write_all(
     conn: &mut Connection<MemStore>,
     net: &[Change],
     stamp: Stamp,
-) -> Result<(), Error>
-    requires { IsKept conn.old }
-    ensures { IsCall (after_net stamp net.now (versions_of conn.old)) conn.old conn.new result }
-{
+    place: u32,
+    segment: Segment,
+) -> Result<Written, Error> {
     let mut tx = conn.transaction();
+    let mut written = Written {
+        ended: 0,
+        copied: 0,
+        added: 0,
+    };
+    let mut next = place;
     for change in net {
-        write_change(&mut tx, change, stamp)?;
+        match change {
+            Change::Put(row) => {
+                written = write_put(&mut tx, row, stamp, next, segment, written)?;
+            }
+            Change::Remove(table, id) => {
+                let ended = end_version(&mut tx, *table, *id, stamp)?;
+                written.ended = written.ended.wrapping_add(ended);
+            }
+        }
+        next += 1;
     }
-    tx.commit()
+    tx.commit()?;
+    Ok(written)
 }
 
-/// Deletes the versions that died by the horizon.
-pub(crate) fn delete_dead(conn: &mut Connection<MemStore>, horizon: Stamp) -> Result<usize, Error>
-    requires { IsKept conn.old }
-    ensures { IsCall (purged horizon (versions_of conn.old)) conn.old conn.new result }
-{
-    conn.execute(DELETE_DEAD, params![horizon.number()])
-}
+// ---- leaving out what died
 
-fn read_table(conn: &mut Connection<MemStore>, table: Table) -> Result<Vec<sqlite::Row>, Error>
-    requires { IsKept conn.old }
-    ensures { IsReading (All table) conn.old conn.new result }
-{
-    conn.query_all(READ_TABLE, params![u32::from(table.number()), MOST_READ])
-}
-
-fn read_row(
-    conn: &mut Connection<MemStore>,
-    table: Table,
-    id: u32,
-) -> Result<Vec<sqlite::Row>, Error>
-    requires { IsKept conn.old }
-    ensures { IsReading (ById table id) conn.old conn.new result }
-{
-    conn.query_all(READ_ROW, params![u32::from(table.number()), MOST_READ, id])
-}
-
-fn read_group(
-    conn: &mut Connection<MemStore>,
-    table: Table,
-    group: u32,
-) -> Result<Vec<sqlite::Row>, Error>
-    requires { IsKept conn.old }
-    ensures { IsReading (ByGroup table group) conn.old conn.new result }
-{
-    conn.query_all(
-        READ_GROUP,
-        params![u32::from(table.number()), MOST_READ, group],
+/// Adds a version that was read.
+fn copy_row(
+    tx: &mut Transaction<'_, MemStore>,
+    text: &'static str,
+    row: &sqlite::Row,
+) -> Result<usize, Error> {
+    tx.execute(
+        text,
+        &[
+            row.get_ref(0)?,
+            row.get_ref(1)?,
+            row.get_ref(2)?,
+            row.get_ref(3)?,
+            row.get_ref(4)?,
+            row.get_ref(5)?,
+            row.get_ref(6)?,
+        ],
     )
 }
 
-fn read_range(
-    conn: &mut Connection<MemStore>,
-    table: Table,
-    first: u32,
-    last: u32,
-) -> Result<Vec<sqlite::Row>, Error>
-    requires { IsKept conn.old }
-    ensures { IsReading (Range table first last) conn.old conn.new result }
-{
-    conn.query_all(
-        READ_RANGE,
-        params![u32::from(table.number()), MOST_READ, first, last],
-    )
+fn fill(
+    tx: &mut Transaction<'_, MemStore>,
+    text: &'static str,
+    rows: &[sqlite::Row],
+) -> Result<(), Error> {
+    for row in rows {
+        copy_row(tx, text, row)?;
+    }
+    Ok(())
 }
 
-/// The versions that match, by id and birth: at most one more of them than may match.
-pub(crate) fn read(
+/// Drops so many segments, makes them anew, and puts what did not die before the stamp into the first one. It
+/// answers how many that are.
+pub(crate) fn sweep_dead(
+    conn: &mut Connection<MemStore>,
+    alloc: Global,
+    from: u32,
+    count: usize,
+) -> Result<usize, Error> {
+    let mut left = Vec::new(alloc);
+    let mut kept = 0usize;
+    for at in 0..count {
+        let rows = conn.query_all(left_text(SEGMENTS[at]), params![from])?;
+        kept = kept.wrapping_add(rows.len());
+        if left.push(rows).is_err() {
+            return Err(Error::SqliteFailure(sqlite::ErrorCode::OutOfMemory));
+        }
+    }
+    let mut tx = conn.transaction();
+    drop_segments(&mut tx, count)?;
+    make_segments(&mut tx, count)?;
+    for rows in &left {
+        fill(&mut tx, add_text(Segment::S0), rows)?;
+    }
+    tx.commit()?;
+    Ok(kept)
+}
+
+/// The same for all tables.
+pub(crate) fn sweep_all(
+    conn: &mut Connection<MemStore>,
+    alloc: Global,
+    from: u32,
+) -> Result<(usize, usize), Error> {
+    let mut left = Vec::new(alloc);
+    let mut kept = 0usize;
+    let latest = conn.query_all(LEFT_LATEST, params![from])?;
+    for segment in SEGMENTS {
+        let rows = conn.query_all(left_text(segment), params![from])?;
+        kept = kept.wrapping_add(rows.len());
+        if left.push(rows).is_err() {
+            return Err(Error::SqliteFailure(sqlite::ErrorCode::OutOfMemory));
+        }
+    }
+    let mut tx = conn.transaction();
+    drop_segments(&mut tx, SEGMENTS.len())?;
+    tx.execute(DROP_LATEST, &[])?;
+    tx.execute(MAKE_LATEST, &[])?;
+    make_segments(&mut tx, SEGMENTS.len())?;
+    fill(&mut tx, ADD_LATEST, &latest)?;
+    for rows in &left {
+        fill(&mut tx, add_text(Segment::S0), rows)?;
+    }
+    tx.commit()?;
+    Ok((latest.len(), kept))
+}
+
+// ---- reading
+
+fn read(
     conn: &mut Connection<MemStore>,
     query: &Query,
-) -> Result<Vec<sqlite::Row>, Error>
-    requires { IsKept conn.old }
-    ensures { IsReading query.now conn.old conn.new result }
-{
+    from: u32,
+    text: &'static str,
+) -> Result<Vec<sqlite::Row>, Error> {
     match *query {
-        Query::ById(table, id) => read_row(conn, table, id),
-        Query::ByGroup(table, group) => read_group(conn, table, group),
-        Query::All(table) => read_table(conn, table),
-        Query::Range(table, first, last) => read_range(conn, table, first, last),
+        Query::ById(table, id) => conn.query_all(
+            text,
+            params![u32::from(table.number()), MOST_READ, from, id],
+        ),
+        Query::ByGroup(table, group) => conn.query_all(
+            text,
+            params![u32::from(table.number()), MOST_READ, from, group],
+        ),
+        Query::All(table) => {
+            conn.query_all(text, params![u32::from(table.number()), MOST_READ, from])
+        }
+        Query::Range(table, first, last) => conn.query_all(
+            text,
+            params![u32::from(table.number()), MOST_READ, from, first, last],
+        ),
     }
+}
+
+fn test_of(query: &Query) -> Test {
+    match query {
+        Query::ById(..) => Test::Row,
+        Query::ByGroup(..) => Test::Group,
+        Query::All(..) => Test::Table,
+        Query::Range(..) => Test::Range,
+    }
+}
+
+/// The last versions that match and did not die before the stamp, by id and birth, at most so many of them.
+pub(crate) fn read_latest(
+    conn: &mut Connection<MemStore>,
+    query: &Query,
+    from: u32,
+) -> Result<Vec<sqlite::Row>, Error> {
+    read(conn, query, from, latest_text(test_of(query)))
+}
+
+/// The same of a segment.
+pub(crate) fn read_dead(
+    conn: &mut Connection<MemStore>,
+    query: &Query,
+    from: u32,
+    segment: Segment,
+) -> Result<Vec<sqlite::Row>, Error> {
+    read(conn, query, from, dead_text(segment, test_of(query)))
 }

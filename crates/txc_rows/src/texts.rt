@@ -1,0 +1,200 @@
+//! The texts of the statements on the tables of versions.
+
+use crate::store_error::MAX_MATCHING;
+
+/// The columns of each table, and its keys. The second finds the versions of a group.
+macro_rules! make_table {
+    ($name:literal, $keys:literal) => {
+        concat!(
+            "CREATE TABLE ",
+            $name,
+            " (place INTEGER NOT NULL, table_number INTEGER NOT NULL, id INTEGER NOT NULL, \
+             born INTEGER NOT NULL, group_number INTEGER NOT NULL, body BLOB NOT NULL, died INTEGER, ",
+            $keys,
+            ") STRICT"
+        )
+    };
+}
+
+macro_rules! make_segment {
+    ($name:literal) => {
+        make_table!(
+            $name,
+            "PRIMARY KEY (table_number, id, born), UNIQUE (table_number, group_number, id, born)"
+        )
+    };
+}
+
+macro_rules! drop_table {
+    ($name:literal) => {
+        concat!("DROP TABLE ", $name)
+    };
+}
+
+/// Adds a version with its place.
+macro_rules! add_to {
+    ($name:literal) => {
+        concat!(
+            "INSERT INTO ",
+            $name,
+            " (place, table_number, id, born, group_number, body, died) \
+             VALUES (?1, ?2, ?3, ?4, ?5, ?6, ?7)"
+        )
+    };
+}
+
+/// The last version of a table, id and group is copied.
+macro_rules! copy_to {
+    ($name:literal) => {
+        concat!(
+            "INSERT INTO ",
+            $name,
+            " (place, table_number, id, born, group_number, body, died) \
+             SELECT place, table_number, id, born, group_number, body, died FROM latest \
+             WHERE table_number = ?1 AND id = ?2 AND group_number = ?3"
+        )
+    };
+}
+
+/// The rows of a table whose versions did not die before a stamp.
+macro_rules! left_in {
+    ($name:literal) => {
+        concat!(
+            "SELECT place, table_number, id, born, group_number, body, died FROM ",
+            $name,
+            " WHERE died IS NULL OR died >= ?1"
+        )
+    };
+}
+
+/// Versions of a table that did not die before a stamp, by id and birth, at most so many of them. Each has a
+/// test of its own, which the store answers by a key of the table.
+macro_rules! read_from {
+    ($name:literal, $test:literal) => {
+        concat!(
+            "SELECT id, group_number, body, born, died FROM ",
+            $name,
+            " WHERE table_number = ?1",
+            $test,
+            " AND (died IS NULL OR died >= ?3) ORDER BY id, born LIMIT ?2"
+        )
+    };
+}
+
+/// So many versions are read of a table at most: one more than may match shows that too many do.
+pub(crate) const MOST_READ: u32 = MAX_MATCHING as u32 + 1;
+
+// ---- the last versions of each table, id and group
+
+pub(crate) const MAKE_LATEST: &str = make_table!(
+    "latest",
+    "PRIMARY KEY (table_number, id, group_number), UNIQUE (table_number, group_number, id)"
+);
+
+pub(crate) const DROP_LATEST: &str = drop_table!("latest");
+
+pub(crate) const ADD_LATEST: &str = add_to!("latest");
+
+/// The current version of a table and id dies.
+pub(crate) const END_VERSION: &str =
+    "UPDATE latest SET died = ?3 WHERE table_number = ?1 AND id = ?2 AND died IS NULL";
+
+/// A new version stands in the place of the last one of its table, id and group.
+pub(crate) const RENEW_LATEST: &str = "UPDATE latest SET place = ?4, born = ?5, body = ?6, died = NULL \
+     WHERE table_number = ?1 AND id = ?2 AND group_number = ?3";
+
+pub(crate) const LEFT_LATEST: &str = left_in!("latest");
+
+// ---- which version is read from which table
+
+/// A test of a query.
+#[derive(Clone, Copy)]
+pub(crate) enum Test {
+    Table,
+    Row,
+    Group,
+    Range,
+}
+
+macro_rules! read_by {
+    ($test:ident, $name:literal) => {
+        match $test {
+            Test::Table => read_from!($name, ""),
+            Test::Row => read_from!($name, " AND id = ?4"),
+            Test::Group => read_from!($name, " AND group_number = ?4"),
+            Test::Range => read_from!($name, " AND id >= ?4 AND id <= ?5"),
+        }
+    };
+}
+
+pub(crate) fn latest_text(test: Test) -> &'static str {
+    read_by!(test, "latest")
+}
+
+macro_rules! by_segment {
+    ($segment:ident, $make:ident) => {
+        match $segment {
+            Segment::S0 => $make!("dead_0"),
+            Segment::S1 => $make!("dead_1"),
+            Segment::S2 => $make!("dead_2"),
+            Segment::S3 => $make!("dead_3"),
+            Segment::S4 => $make!("dead_4"),
+            Segment::S5 => $make!("dead_5"),
+            Segment::S6 => $make!("dead_6"),
+        }
+    };
+}
+
+/// One of the tables of versions that died.
+#[derive(Clone, Copy, PartialEq, Eq)]
+pub(crate) enum Segment {
+    S0,
+    S1,
+    S2,
+    S3,
+    S4,
+    S5,
+    S6,
+}
+
+pub(crate) const SEGMENTS: [Segment; 7] = [
+    Segment::S0,
+    Segment::S1,
+    Segment::S2,
+    Segment::S3,
+    Segment::S4,
+    Segment::S5,
+    Segment::S6,
+];
+
+pub(crate) fn make_text(segment: Segment) -> &'static str {
+    by_segment!(segment, make_segment)
+}
+
+pub(crate) fn drop_text(segment: Segment) -> &'static str {
+    by_segment!(segment, drop_table)
+}
+
+pub(crate) fn add_text(segment: Segment) -> &'static str {
+    by_segment!(segment, add_to)
+}
+
+pub(crate) fn copy_text(segment: Segment) -> &'static str {
+    by_segment!(segment, copy_to)
+}
+
+pub(crate) fn left_text(segment: Segment) -> &'static str {
+    by_segment!(segment, left_in)
+}
+
+pub(crate) fn dead_text(segment: Segment, test: Test) -> &'static str {
+    match segment {
+        Segment::S0 => read_by!(test, "dead_0"),
+        Segment::S1 => read_by!(test, "dead_1"),
+        Segment::S2 => read_by!(test, "dead_2"),
+        Segment::S3 => read_by!(test, "dead_3"),
+        Segment::S4 => read_by!(test, "dead_4"),
+        Segment::S5 => read_by!(test, "dead_5"),
+        Segment::S6 => read_by!(test, "dead_6"),
+    }
+}
