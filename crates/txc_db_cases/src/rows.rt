@@ -155,7 +155,7 @@ list all 1 => 7:d [6,) 8:c [4,)
 /// Two births of one id at one stamp are refused, after a put and a removal that could be written.
 const REFUSED: &str = "write 1: put 1 7 2 a =>
 write 2: put 1 6 2 x, remove 1 7, put 1 8 2 y, put 1 8 2 z => \
-the store refused: UNIQUE constraint failed
+the store refused: CHECK constraint failed
 list all 1 => 7:a [1,)
 write 2: put 1 8 2 z =>
 list all 1 => 7:a [1,) 8:z [2,)

@@ -182,8 +182,7 @@ impl VersionRows {
             self.next_place,
             self.segments.newest(),
         )?;
-        self.segments
-            .note(written.copied, stamp.number(), stamp.number() < self.newest);
+        self.segments.note(written.copied, stamp.number(), stamp.number() < self.newest);
         self.rows = self.rows.wrapping_add(written.added);
         self.ended = self
             .ended

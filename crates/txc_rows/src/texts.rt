@@ -88,7 +88,8 @@ pub(crate) const MOST_READ: u32 = MAX_MATCHING as u32 + 1;
 
 pub(crate) const MAKE_LATEST: &str = make_table!(
     "latest",
-    "PRIMARY KEY (table_number, id, group_number), UNIQUE (table_number, group_number, id)"
+    "PRIMARY KEY (table_number, id, group_number), UNIQUE (table_number, group_number, id), \
+     CHECK (died IS NULL OR born < died)"
 );
 
 pub(crate) const DROP_LATEST: &str = drop_table!("latest");
@@ -100,7 +101,8 @@ pub(crate) const END_VERSION: &str =
     "UPDATE latest SET died = ?3 WHERE table_number = ?1 AND id = ?2 AND died IS NULL";
 
 /// A new version stands in the place of the last one of its table, id and group.
-pub(crate) const RENEW_LATEST: &str = "UPDATE latest SET place = ?4, born = ?5, body = ?6, died = NULL \
+pub(crate) const RENEW_LATEST: &str =
+    "UPDATE latest SET place = ?4, born = ?5, body = ?6, died = NULL \
      WHERE table_number = ?1 AND id = ?2 AND group_number = ?3";
 
 pub(crate) const LEFT_LATEST: &str = left_in!("latest");
