@@ -15,10 +15,16 @@ pub mod Clean
 pub mod Commands
 pub mod Steps
 pub mod StoredRows
+pub mod PlaceLemmas
+pub mod PutLemmas
+pub mod SweepLemmas
+pub mod TableLemmas
 pub mod Tables
 pub mod Writes
 pub mod Answering
 pub mod HeldLemmas
+pub mod ChangeSteps
+pub mod ViewLemmas
 pub mod Finding
 pub mod KeepingLemmas
 pub mod Listed

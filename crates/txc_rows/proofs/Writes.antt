@@ -1,220 +1,317 @@
--- What an update and a deletion do to the rows.
-use Rattle.std.proofs.Common.{◌≡◌, inl, inr, ℕ, ℤ, pos, ◌≤◌, List, [], ◌∷◌, map, filter, length, Bool, true, false, cond, not, ◌&&◌, ◌||◌, Some, None, Ok, Err, Result, OnOk, refl, sym, ap, subst, ◌∙◌, arith}
-use Rattle.std.specs.List.{AllByRecursion, list_any}
+-- What the statements that write do to the versions in the tables.
+use Rattle.std.proofs.Common.{◌≡◌, ◌≢◌, inl, inr, ℕ, ℤ, pos, ◌+ℤ◌, ◌≤◌, List, [], ◌∷◌, ◌++◌, map, filter, length, Bool, true, false, cond, not, ◌&&◌, ◌||◌, Some, None, Option, Ok, Err, Result, OnOk, IfOk, refl, sym, ap, subst, ◌∙◌, append-nil, arith}
+use Rattle.std.specs.Prelude.{codes, unwrap_or}
+use Rattle.std.proofs.lemmas.List.{length-map, map-append}
+use Rattle.std.specs.List.{AllByRecursion, list_all}
 use Rattle.std.specs.List.Sorted.{IsPermutation}
-use Rattle.std.proofs.lemmas.List.Sorted.{length_permutation, IsPermutation-map, IsPermutation-sym}
-use Rattle.sqlite.specs.declared.types.Value.TheVariants.{Int, Blob}
+use Rattle.std.proofs.lemmas.List.Sorted.{length_permutation}
+use Rattle.sqlite.specs.declared.types.Value.TheVariants.{Null, Int, Blob}
 use Rattle.sqlite.specs.Order.{Row, value_cmp}
-use Rattle.sqlite.specs.Command.TheVariants.{Update, Delete}
-use Rattle.sqlite.specs.Edit.{edit_of, edited, without_all, id_in}
-use Rattle.sqlite.specs.Rowids.TheVariants.{Given}
+use Rattle.sqlite.specs.Command.TheVariants.{Insert, Update}
+use Rattle.sqlite.specs.Source.TheVariants.{Values}
+use Rattle.sqlite.specs.Source.TheVariants as source
+use Rattle.sqlite.specs.Edit.{edit_of, edited, id_in, next_rowid}
+use Rattle.sqlite.specs.Rowids.TheVariants.{Chosen, Given}
 use Rattle.sqlite.specs.Does.{Tally, Does}
-use Rattle.sqlite.specs.Rows.{Written}
 use Rattle.sqlite.specs.Query.{Output, output}
-use Rattle.sqlite.specs.Term.{eval_all, col}
-use Rattle.sqlite.specs.Tree.{Trees, put_row, without_rowid, rowid, has_rowid, IsTable}
+use Rattle.sqlite.specs.Term.{Term, holds, eval_all, lit}
+use Rattle.sqlite.specs.Program.{overlay}
+use Rattle.sqlite.specs.Collation.{Collation}
+use Rattle.sqlite.specs.Tree.{Trees, put_row, without_rowid, rowid, IsTable}
 use Rattle.sqlite_rules.specs.Calls.{ids_of}
 use Rattle.sqlite.specs.declared.error.Error.{Error}
 use Rattle.sqlite.specs.Listing.{understood}
 use Rattle.sqlite.specs.Effect.{Database}
 use Rattle.sqlite.specs.State.{State, mode_of, Executes}
-use Rattle.sqlite.proofs.Callers.{statement_of, runs_as, one_step, one_permutation}
-use Rattle.sqlite_rules.specs.Lists.{Has}
-use Rattle.sqlite_rules.proofs.ListLemmas.{all_has, all_from, has_filtered, has_kept, some_has, some_from}
-use Rattle.sqlite_trees.proofs.ListLemmas.{along_permutation, filter_same, map-map}
-use Rattle.sqlite_value.proofs.OrderLemmas.{value_cmp_total}
-use Rattle.std.specs.declared.cmp.Ordering.TheVariants.{Less, Equal, Greater}
-use Rattle.std.specs.Ordering.{ordering_reverse, is_eq}
-use Rattle.std.specs.Cmp.{both_ways, Equal-is, tied_itself}
-use Rattle.txc_rows.specs.declared.version.Versioned.{Versioned}
+use Rattle.sqlite.proofs.Callers.{command_of, statement_of, runs_as, one_permutation, IsPlain}
+use Rattle.sqlite_rules.proofs.ListLemmas.{all_has, has_filtered}
+use Rattle.sqlite_trees.proofs.ListLemmas.{filter-map}
+use Rattle.sqlite_trees.proofs.TreeLemmas.{IsTable-put_row, all-put_row}
+use Rattle.std.specs.declared.cmp.Ordering.TheVariants.{Less}
+use Rattle.txc_rows.specs.Values.{RowValue}
 use Rattle.txc_rows.specs.States.{is_at}
-use Rattle.txc_rows.specs.Versions.{is_current, closed, has_died_by}
-use Rattle.txc_rows.specs.Texts.{version_table, version_schema}
-use Rattle.txc_rows.specs.Stored.{stored, number, version_in, IsStored, AreStored}
-use Rattle.txc_rows.proofs.Commands.{whole, endless, alone, close_text, close_filter, close_project, close_is, close_plain, purge_text, purge_filter, purge_is, purge_plain}
-use Rattle.txc_rows.proofs.StoredRows.{close_test, purge_test, select_stored, answered, IsPage}
-use Rattle.txc_rows.proofs.Tables.{IsKeyed, replaced}
-use Rattle.txc_rows.proofs.Steps.{went, same_value, cast_int}
+use Rattle.txc_rows.specs.Versions.{is_current}
+use Rattle.txc_rows.specs.Placed.{Placed, has_key, closed_placed, new_placed, renewed}
+use Rattle.txc_rows.specs.Texts.{latest_keys, earlier_keys, latest_table, earlier_table, version_schema}
+use Rattle.txc_rows.specs.Stored.{stored, cells_of, number, placed_in, placed_all, IsStored, AreStored}
+use Rattle.txc_rows.specs.declared.statements.TheConstants.{ADD_LATEST, ADD_EARLIER, END_VERSION, COPY_EARLIER, RENEW_LATEST}
+use Rattle.txc_rows.proofs.Commands.{whole, endless, alone, terms, add_latest_is, add_latest_plain, add_earlier_is, add_earlier_plain, close_filter, close_project, close_is, close_plain, key_filter, cells_project, copy_query, copy_is, copy_plain, renew_project, renew_is, renew_plain}
+use Rattle.txc_rows.proofs.StoredRows.{close_test, copy_test, renew_test, select_stored, placed_again, asked, answered, IsPage}
+use Rattle.txc_rows.proofs.Tables.{IsKeyed, next_above, put_row_last, replaced}
+use Rattle.txc_rows.proofs.Steps.{cast_null, cast_int, inserts_rows, updates_rows, one_more}
+use Rattle.txc_rows.proofs.PutLemmas.{key_is}
+
+-- both tables are there, and these are the versions in them
+pub record Leaves (latest earlier : List Placed) (s : State) : Type 0 where
+  pub schema : s.now.schema ≡ version_schema
+  pub latest_rows : AreStored (s.now.trees 0)
+  pub earlier_rows : AreStored (s.now.trees 3)
+  pub latest_are : placed_all (s.now.trees 0) ≡ latest
+  pub earlier_are : placed_all (s.now.trees 3) ≡ earlier
 
 pub keyed_all : (rows : List Row) → AllByRecursion IsStored rows → AllByRecursion IsKeyed rows
 keyed_all [] all = tt
 keyed_all (r ∷ rows) all = (ap rowid all.0, keyed_all rows all.1)
 
-abbrev pub is_hit : ℕ → ℕ → Row → Bool
-is_hit t i r = is_at t i (version_in r).row && is_current (version_in r)
+is_stored : (id : ℤ) (x : Placed) → IsStored (stored id x)
+is_stored id x = ap (stored id) (sym (placed_again id x))
 
--- a row after a commit that changes a table and id
-abbrev pub ended : ℕ → ℕ → ℕ → Row → Row
-ended t i s r = stored (id_in (rowid r)) (closed t i s (version_in r))
+-- ---- a row more
 
-spared_by : (t i s : ℕ) (rows : List Row) → AllByRecursion IsStored rows → AllByRecursion (λ r. is_hit t i r ≡ false → ended t i s r ≡ r) rows
-spared_by t i s [] all = tt
-spared_by t i s (r ∷ rows) all = (λ off. rw off (sym all.0), spared_by t i s rows all.1)
+stored_put : (id : ℤ) (x : Placed) (rows : List Row) → AreStored rows → AreStored (put_row (stored id x) rows)
+stored_put id x rows h = record { table = IsTable-put_row (stored id x) rows h.table; each = all-put_row IsStored (stored id x) rows (is_stored id x) h.each }
 
-all_spared : (t i s : ℕ) (rows : List Row) → AllByRecursion IsStored rows → filter (is_hit t i) rows ≡ [] → map (ended t i s) rows ≡ rows
-all_spared t i s [] all none = refl
-all_spared t i s (r ∷ rows) all none = go (is_hit t i r) refl (all_spared t i s rows all.1)
-  where
-    go : (b : Bool) → is_hit t i r ≡ b → (filter (is_hit t i) rows ≡ [] → map (ended t i s) rows ≡ rows) → map (ended t i s) (r ∷ rows) ≡ r ∷ rows
-    go true e on = absurd (let h = rw e at none in cc)
-    go false e on = rw (e, on (rw e at none)) (ap (λ x. x ∷ rows) (sym all.0))
+placed_put : (x : Placed) (rows : List Row) → AreStored rows → placed_all (put_row (stored (next_rowid rows) x) rows) ≡ placed_all rows ++ x ∷ []
+placed_put x rows h =
+    ap placed_all (put_row_last (stored (next_rowid rows) x) rows (next_above rows h.table (keyed_all rows h.each)))
+    ∙ map-append placed_in rows (stored (next_rowid rows) x ∷ []) ∙ ap (λ w. placed_all rows ++ w ∷ []) (placed_again (next_rowid rows) x)
+
+pub adds_latest : (old new : State) (x : Placed) (count : ℕ) → old.now.schema ≡ version_schema → AreStored (old.now.trees 0) → AreStored (old.now.trees 3) → Executes ADD_LATEST.now (cells_of x) old new (Ok count)
+    → Leaves (placed_all (old.now.trees 0) ++ x ∷ []) (placed_all (old.now.trees 3)) new
+adds_latest old new x count has latest earlier h =
+    let params = cells_of x in
+    let db = old.now.trees in
+    let w = runs_as ADD_LATEST.now params old new version_schema has (Insert 0 (Values terms 8)) add_latest_is add_latest_plain count h in
+    let text = statement_of ADD_LATEST.now (understood version_schema ADD_LATEST.now) in
+    let done = subst (λ s. Does old.step_limit (mode_of old) params (record old.now { schema = s }) text None (Insert 0 (Values terms 8)) (Ok (w.tally, new.now))) has w.changed in
+    let it = inserts_rows (codes "latest") 0 latest_keys old.step_limit (mode_of old) params db 0 (Values terms 8) w.tally new.now done in
+    let rows : new.now.trees 0 ≡ put_row (stored (next_rowid (db 0)) x) (db 0)
+    = it.4.rows ∙ ap (λ all. edited db (edit_of db latest_table [] Chosen 0 all)) it.1.1 ∙ one_more (codes "latest") 0 latest_keys old.step_limit (mode_of old) params db x in
+    let other : new.now.trees 3 ≡ db 3 = it.4.tables.1.0 (λ e. omega (arith, e)) in
+    record {
+      schema = it.2;
+      latest_rows = rw rows (stored_put (next_rowid (db 0)) x (db 0) latest);
+      earlier_rows = rw other earlier;
+      latest_are = ap placed_all rows ∙ placed_put x (db 0) latest;
+      earlier_are = ap placed_all other;
+    }
+
+pub adds_earlier : (old new : State) (x : Placed) (count : ℕ) → old.now.schema ≡ version_schema → AreStored (old.now.trees 0) → AreStored (old.now.trees 3) → Executes ADD_EARLIER.now (cells_of x) old new (Ok count)
+    → Leaves (placed_all (old.now.trees 0)) (placed_all (old.now.trees 3) ++ x ∷ []) new
+adds_earlier old new x count has latest earlier h =
+    let params = cells_of x in
+    let db = old.now.trees in
+    let w = runs_as ADD_EARLIER.now params old new version_schema has (Insert 1 (Values terms 8)) add_earlier_is add_earlier_plain count h in
+    let text = statement_of ADD_EARLIER.now (understood version_schema ADD_EARLIER.now) in
+    let done = subst (λ s. Does old.step_limit (mode_of old) params (record old.now { schema = s }) text None (Insert 1 (Values terms 8)) (Ok (w.tally, new.now))) has w.changed in
+    let it = inserts_rows (codes "earlier") 3 earlier_keys old.step_limit (mode_of old) params db 1 (Values terms 8) w.tally new.now done in
+    let rows : new.now.trees 3 ≡ put_row (stored (next_rowid (db 3)) x) (db 3)
+    = it.4.rows ∙ ap (λ all. edited db (edit_of db earlier_table [] Chosen 0 all)) it.1.1 ∙ one_more (codes "earlier") 3 earlier_keys old.step_limit (mode_of old) params db x in
+    let other : new.now.trees 0 ≡ db 0 = it.4.tables.0 (λ e. omega (arith, e)) in
+    record {
+      schema = it.2;
+      latest_rows = rw other latest;
+      earlier_rows = rw rows (stored_put (next_rowid (db 3)) x (db 3) earlier);
+      latest_are = ap placed_all other;
+      earlier_are = ap placed_all rows ∙ placed_put x (db 3) earlier;
+    }
+
+-- ---- the rows that pass a test, of which there is one at most
 
 no_permutation : {X : Type 0} (ys : List X) → IsPermutation [] ys → ys ≡ []
 no_permutation [] h = refl
 no_permutation (y ∷ ys) h = absurd (omega (arith, length_permutation [] (y ∷ ys) h))
 
--- the row that the update is given for a version
-abbrev given_for : ℕ → ℤ → Versioned → Row
-given_for s id v = Int id ∷ Int id ∷ number v.row.table ∷ number v.row.id ∷ number v.born ∷ number v.row.group ∷ Blob v.row.body ∷ number s ∷ []
+few_rows : (P : Placed → Bool) (rows : List Row) → length (filter P (placed_all rows)) ≤ 1 → length (filter (λ r. P (placed_in r)) rows) ≤ 1
+few_rows P rows few = omega (arith, few, ap length (filter-map P placed_in rows), length-map (filter (λ r. P (placed_in r)) rows) placed_in)
 
-edit_one : (db : Trees) (s : ℕ) (id : ℤ) (v : Versioned)
-    → edited db (edit_of db version_table (ids_of (given_for s id v ∷ [])) Given 1 (given_for s id v ∷ [])) ≡ put_row (stored id (record v { died = Some s })) (without_rowid id (db 0))
-edit_one db s id v = rw (cast_int id, cast_int (pos v.row.table), cast_int (pos v.row.id), cast_int (pos v.born), cast_int (pos v.row.group), cast_int (pos s)) refl
+module _ (fs project : List Term) (params : Row) (P : Placed → Bool) (test : (id : ℤ) (x : Placed) → list_all (holds (params ∷ stored id x ∷ [])) fs ≡ P x)
+    (given_of : ℤ → Placed → Row) (shows : (id : ℤ) (x : Placed) → eval_all project (params ∷ stored id x ∷ []) ≡ given_of id x) where
+  -- what is given for them
+  given_none : (by : _) (table given : List Row) → AllByRecursion IsStored table → filter (λ r. P (placed_in r)) table ≡ [] → IsPage 0 by fs project [] endless params table given → given ≡ []
+  given_none by table given each is page =
+      let none = select_stored _ P test table each ∙ is in
+      let empty = no_permutation page.ordered (subst (λ xs. IsPermutation (map (λ r. output (asked 0 by fs project [] endless) (params ∷ r ∷ [])) xs) page.ordered) none page.same) in
+      page.rows ∙ ap (map (λ (o : Output). o.1)) empty
 
-abbrev pub close_params : ℕ → ℕ → ℕ → Row
-close_params t i s = number t ∷ number i ∷ number s ∷ []
+  given_one : (by : _) (table given : List Row) (x : Row) → AllByRecursion IsStored table → filter (λ r. P (placed_in r)) table ≡ x ∷ [] → IsPage 0 by fs project [] endless params table given
+      → given ≡ given_of (id_in (rowid x)) (placed_in x) ∷ []
+  given_one by table given x each is page =
+      let one = select_stored _ P test table each ∙ is in
+      let ordered = one_permutation _ page.ordered (subst (λ xs. IsPermutation (map (λ r. output (asked 0 by fs project [] endless) (params ∷ r ∷ [])) xs) page.ordered) one page.same) in
+      let there = has_filtered (λ r. P (placed_in r)) table x (rw is (inl refl)) in
+      let stands : x ≡ stored (id_in (rowid x)) (placed_in x) = all_has IsStored table x each there.0 in
+      page.rows ∙ ap (map (λ (o : Output). o.1)) ordered ∙ ap (λ r. r ∷ []) (ap (λ r. eval_all project (params ∷ r ∷ [])) stands ∙ shows (id_in (rowid x)) (placed_in x))
 
-pub closes_rows : (t i s : ℕ) (db : Trees) (given : List Row) → AreStored (db 0) → length (filter (is_hit t i) (db 0)) ≤ 1
-    → IsPage close_filter close_project [] endless (close_params t i s) (db 0) given
-    → edited db (edit_of db version_table (ids_of given) Given 1 given) ≡ map (ended t i s) (db 0)
-closes_rows t i s db given rows few page = go (filter (is_hit t i) (db 0)) refl few
+  module _ (F : Placed → Placed) (spares : (x : Placed) → P x ≡ false → F x ≡ x)
+      (edits : (db : Trees) (id : ℤ) (x : Placed) → P x ≡ true → edited db (edit_of db latest_table (ids_of (given_of id x ∷ [])) Given 1 (given_of id x ∷ [])) ≡ put_row (stored id (F x)) (without_rowid id (db 0))) where
+    abbrev changed : Row → Row
+    changed r = stored (id_in (rowid r)) (F (placed_in r))
+
+    spared : (rows : List Row) → AllByRecursion IsStored rows → AllByRecursion (λ r. P (placed_in r) ≡ false → changed r ≡ r) rows
+    spared [] all = tt
+    spared (r ∷ rows) all = (λ off. rw (spares (placed_in r) off) (sym all.0), spared rows all.1)
+
+    all_spared : (rows : List Row) → AllByRecursion IsStored rows → filter (λ r. P (placed_in r)) rows ≡ [] → map changed rows ≡ rows
+    all_spared [] all none = refl
+    all_spared (r ∷ rows) all none = go (P (placed_in r)) refl (all_spared rows all.1)
+      where
+        go : (b : Bool) → P (placed_in r) ≡ b → (filter (λ y. P (placed_in y)) rows ≡ [] → map changed rows ≡ rows) → map changed (r ∷ rows) ≡ r ∷ rows
+        go true e on = absurd (let h = rw e at none in cc)
+        go false e on = rw (spares (placed_in r) e, on (rw e at none)) (ap (λ x. x ∷ rows) (sym all.0))
+
+    updates_page : (db : Trees) (given : List Row) → AreStored (db 0) → length (filter (λ r. P (placed_in r)) (db 0)) ≤ 1 → IsPage 0 [] fs project [] endless params (db 0) given
+        → edited db (edit_of db latest_table (ids_of given) Given 1 given) ≡ map changed (db 0)
+    updates_page db given rows few page = go (filter (λ r. P (placed_in r)) (db 0)) refl few
+      where
+        go : (hits : List Row) → filter (λ r. P (placed_in r)) (db 0) ≡ hits → length hits ≤ 1 → edited db (edit_of db latest_table (ids_of given) Given 1 given) ≡ map changed (db 0)
+        go [] is short = rw (given_none [] (db 0) given rows.each is page) (sym (all_spared (db 0) rows.each is))
+        go (x ∷ []) is short =
+            let there = has_filtered (λ r. P (placed_in r)) (db 0) x (rw is (inl refl)) in
+            ap (λ g. edited db (edit_of db latest_table (ids_of g) Given 1 g)) (given_one [] (db 0) given x rows.each is page)
+            ∙ edits db (id_in (rowid x)) (placed_in x) there.1
+            ∙ replaced (λ r. P (placed_in r)) changed x refl (db 0) rows.table (keyed_all (db 0) rows.each) (spared (db 0) rows.each) is
+        go (x ∷ y ∷ more) is short = absurd (omega arith)
+
+    stored_changed : (rows : List Row) → AreStored rows → AreStored (map changed rows)
+    stored_changed rows h = record { table = up rows h.table h.each; each = each rows }
+      where
+        each : (xs : List Row) → AllByRecursion IsStored (map changed xs)
+        each [] = tt
+        each (x ∷ xs) = (is_stored _ _, each xs)
+
+        above : (r : Row) → IsStored r → (xs : List Row) → AllByRecursion IsStored xs → AllByRecursion (λ x. value_cmp (rowid r) (rowid x) ≡ Less) xs
+            → AllByRecursion (λ x. value_cmp (rowid (changed r)) (rowid x) ≡ Less) (map changed xs)
+        above r is [] all more = tt
+        above r is (x ∷ xs) all more = (rw (← ap rowid is, ← ap rowid all.0) more.0, above r is xs all.1 more.1)
+
+        up : (xs : List Row) → IsTable xs → AllByRecursion IsStored xs → IsTable (map changed xs)
+        up [] table all = tt
+        up (x ∷ xs) table all = (above x all.0 xs all.1 table.0, up xs table.1 all.1)
+
+    placed_changed : (rows : List Row) → placed_all (map changed rows) ≡ map F (placed_all rows)
+    placed_changed [] = refl
+    placed_changed (r ∷ rows) = rw (placed_again (id_in (rowid r)) (F (placed_in r)), placed_changed rows) refl
+
+    pub updates : (sql : List ℕ) → command_of (understood version_schema sql) ≡ Update 0 (alone (whole 0 fs project)) → IsPlain (understood version_schema sql)
+        → (old new : State) (count : ℕ) → old.now.schema ≡ version_schema → AreStored (old.now.trees 0) → AreStored (old.now.trees 3) → length (filter P (placed_all (old.now.trees 0))) ≤ 1 → Executes sql params old new (Ok count)
+        → Leaves (map F (placed_all (old.now.trees 0))) (placed_all (old.now.trees 3)) new
+    updates sql is plain old new count has latest earlier few h =
+        let db = old.now.trees in
+        let w = runs_as sql params old new version_schema has (Update 0 (alone (whole 0 fs project))) is plain count h in
+        let text = statement_of sql (understood version_schema sql) in
+        let done = subst (λ s. Does old.step_limit (mode_of old) params (record old.now { schema = s }) text None (Update 0 (alone (whole 0 fs project))) (Ok (w.tally, new.now))) has w.changed in
+        let it = updates_rows (codes "latest") 0 latest_keys old.step_limit (mode_of old) params db 0 (alone (whole 0 fs project)) w.tally new.now done in
+        let page = answered 0 [] fs project [] endless (overlay db []) params it.0 it.1.answer in
+        let rows : new.now.trees 0 ≡ map changed (db 0) = it.3.rows ∙ updates_page db it.0 latest (few_rows P (db 0) few) page in
+        let other : new.now.trees 3 ≡ db 3 = it.3.tables.1.0 (λ e. omega (arith, e)) in
+        record {
+          schema = it.2;
+          latest_rows = rw rows (stored_changed (db 0) latest);
+          earlier_rows = rw other earlier;
+          latest_are = ap placed_all rows ∙ placed_changed (db 0);
+          earlier_are = ap placed_all other;
+        }
+
+-- ---- a version ends
+
+abbrev ended_given : ℕ → ℤ → Placed → Row
+ended_given s id x = Int id ∷ Int id ∷ number x.place ∷ number x.version.row.table ∷ number x.version.row.id ∷ number x.version.born ∷ number x.version.row.group ∷ Blob x.version.row.body ∷ number s ∷ []
+
+ends_one : (t i s : ℕ) (db : Trees) (id : ℤ) (x : Placed) → is_at t i x.version.row && is_current x.version ≡ true
+    → edited db (edit_of db latest_table (ids_of (ended_given s id x ∷ [])) Given 1 (ended_given s id x ∷ [])) ≡ put_row (stored id (closed_placed t i s x)) (without_rowid id (db 0))
+ends_one t i s db id x hit = rw (hit, cast_int id, cast_int (pos x.place), cast_int (pos x.version.row.table), cast_int (pos x.version.row.id), cast_int (pos x.version.born), cast_int (pos x.version.row.group), cast_int (pos s)) refl
+
+pub closes : (old new : State) (t i s : ℕ) (count : ℕ) → old.now.schema ≡ version_schema → AreStored (old.now.trees 0) → AreStored (old.now.trees 3)
+    → length (filter (λ x. is_at t i x.version.row && is_current x.version) (placed_all (old.now.trees 0))) ≤ 1
+    → Executes END_VERSION.now (number t ∷ number i ∷ number s ∷ []) old new (Ok count)
+    → Leaves (map (closed_placed t i s) (placed_all (old.now.trees 0))) (placed_all (old.now.trees 3)) new
+closes old new t i s count = updates close_filter close_project (number t ∷ number i ∷ number s ∷ []) (λ x. is_at t i x.version.row && is_current x.version) (close_test t i s)
+    (ended_given s) (λ id x. refl) (closed_placed t i s) (λ x off. rw off refl) (ends_one t i s) END_VERSION.now close_is close_plain old new count
+
+-- ---- a new version in place of the last
+
+abbrev renewed_given : ℕ → ℕ → List ℕ → ℤ → Placed → Row
+renewed_given place s body id x = Int id ∷ Int id ∷ number place ∷ number x.version.row.table ∷ number x.version.row.id ∷ number s ∷ number x.version.row.group ∷ Blob body ∷ Null ∷ []
+
+renews_one : (place s : ℕ) (row : RowValue) (db : Trees) (id : ℤ) (x : Placed) → has_key row.table row.id row.group x ≡ true
+    → edited db (edit_of db latest_table (ids_of (renewed_given place s row.body id x ∷ [])) Given 1 (renewed_given place s row.body id x ∷ [])) ≡ put_row (stored id (renewed place row s x)) (without_rowid id (db 0))
+renews_one place s row db id x hit =
+    let same = key_is row.table row.id row.group x hit in
+    rw (hit, same.0, same.1, same.2, cast_null, cast_int id, cast_int (pos place), cast_int (pos row.table), cast_int (pos row.id), cast_int (pos s), cast_int (pos row.group)) refl
+
+abbrev pub renew_params : ℕ → ℕ → RowValue → Row
+renew_params place s row = number row.table ∷ number row.id ∷ number row.group ∷ number place ∷ number s ∷ Blob row.body ∷ []
+
+pub renews : (old new : State) (place s : ℕ) (row : RowValue) (count : ℕ) → old.now.schema ≡ version_schema → AreStored (old.now.trees 0) → AreStored (old.now.trees 3)
+    → length (filter (has_key row.table row.id row.group) (placed_all (old.now.trees 0))) ≤ 1
+    → Executes RENEW_LATEST.now (renew_params place s row) old new (Ok count)
+    → Leaves (map (renewed place row s) (placed_all (old.now.trees 0))) (placed_all (old.now.trees 3)) new
+renews old new place s row count = updates key_filter renew_project (renew_params place s row) (has_key row.table row.id row.group) (renew_test row.table row.id row.group place s row.body)
+    (renewed_given place s row.body) (λ id x. refl) (renewed place row s) (λ x off. rw off refl) (renews_one place s row) RENEW_LATEST.now renew_is renew_plain old new count
+
+-- ---- the last version is copied
+
+abbrev copied_given : ℤ → Placed → Row
+copied_given id x = Null ∷ cells_of x
+
+pub copies : (old new : State) (t i g : ℕ) (count : ℕ) → old.now.schema ≡ version_schema → AreStored (old.now.trees 0) → AreStored (old.now.trees 3)
+    → length (filter (has_key t i g) (placed_all (old.now.trees 0))) ≤ 1
+    → Executes COPY_EARLIER.now (number t ∷ number i ∷ number g ∷ []) old new (Ok count)
+    → Leaves (placed_all (old.now.trees 0)) (placed_all (old.now.trees 3) ++ filter (has_key t i g) (placed_all (old.now.trees 0))) new
+    × (count ≡ length (filter (has_key t i g) (placed_all (old.now.trees 0))))
+copies old new t i g count has latest earlier few h = go (filter (λ r. has_key t i g (placed_in r)) (db 0)) refl (few_rows (has_key t i g) (db 0) few)
   where
-    out : Row → Output
-    out r = output (whole close_filter close_project) (close_params t i s ∷ r ∷ [])
+    db : Trees
+    db = old.now.trees
 
-    go : (hits : List Row) → filter (is_hit t i) (db 0) ≡ hits → length hits ≤ 1 → edited db (edit_of db version_table (ids_of given) Given 1 given) ≡ map (ended t i s) (db 0)
+    params : Row
+    params = number t ∷ number i ∷ number g ∷ []
+
+    project : List Term
+    project = lit Null ∷ cells_project
+
+    collated : List Collation
+    collated = copy_query.collations
+
+    ran = runs_as COPY_EARLIER.now params old new version_schema has (Insert 1 (source.Query (alone copy_query))) copy_is copy_plain count h
+
+    text : List ℕ
+    text = statement_of COPY_EARLIER.now (understood version_schema COPY_EARLIER.now)
+
+    done = subst (λ s. Does old.step_limit (mode_of old) params (record old.now { schema = s }) text None (Insert 1 (source.Query (alone copy_query))) (Ok (ran.tally, new.now))) has ran.changed
+
+    it = inserts_rows (codes "earlier") 3 earlier_keys old.step_limit (mode_of old) params db 1 (source.Query (alone copy_query)) ran.tally new.now done
+
+    page : IsPage 0 collated key_filter project [] endless params (db 0) it.0
+    page = answered 0 collated key_filter project [] endless (overlay db []) params it.0 it.1.answer
+
+    hits : (x : List Row) → filter (λ r. has_key t i g (placed_in r)) (db 0) ≡ x → filter (has_key t i g) (placed_all (db 0)) ≡ map placed_in x
+    hits x is = filter-map (has_key t i g) placed_in (db 0) ∙ ap (map placed_in) is
+
+    other : new.now.trees 0 ≡ db 0
+    other = it.4.tables.0 (λ e. omega (arith, e))
+
+    counted : (given : List Row) → it.0 ≡ given → count ≡ length (edit_of db earlier_table [] Chosen 0 given).news
+    counted given is = ran.counted ∙ ap (λ n. unwrap_or n 0) it.3 ∙ ap (λ all. length (edit_of db earlier_table [] Chosen 0 all).news) is
+
+    go : (x : List Row) → filter (λ r. has_key t i g (placed_in r)) (db 0) ≡ x → length x ≤ 1
+        → Leaves (placed_all (db 0)) (placed_all (db 3) ++ filter (has_key t i g) (placed_all (db 0))) new × (count ≡ length (filter (has_key t i g) (placed_all (db 0))))
     go [] is short =
-        let none = select_stored _ (λ v. is_at t i v.row && is_current v) (close_test t i s) (db 0) rows.each ∙ is in
-        let empty = no_permutation page.ordered (subst (λ xs. IsPermutation (map (λ r. output (whole close_filter close_project) (close_params t i s ∷ r ∷ [])) xs) page.ordered) none page.same) in
-        let nothing : given ≡ [] = page.rows ∙ ap (map (λ (o : Output). o.1)) empty in
-        rw nothing (sym (all_spared t i s (db 0) rows.each is))
+        let none = given_none key_filter project params (has_key t i g) (copy_test t i g) copied_given (λ id x. refl) collated (db 0) it.0 latest.each is page in
+        let rows : new.now.trees 3 ≡ db 3 = it.4.rows ∙ ap (λ all. edited db (edit_of db earlier_table [] Chosen 0 all)) none in
+        (
+          record {
+            schema = it.2;
+            latest_rows = rw other latest;
+            earlier_rows = rw rows earlier;
+            latest_are = ap placed_all other;
+            earlier_are = ap placed_all rows ∙ sym (append-nil (placed_all (db 3))) ∙ ap (λ more. placed_all (db 3) ++ more) (sym (hits [] is));
+          },
+          counted [] none ∙ ap length (sym (hits [] is)),
+        )
     go (x ∷ []) is short =
-        let one = select_stored _ (λ v. is_at t i v.row && is_current v) (close_test t i s) (db 0) rows.each ∙ is in
-        let ordered = one_permutation _ page.ordered (subst (λ xs. IsPermutation (map (λ r. output (whole close_filter close_project) (close_params t i s ∷ r ∷ [])) xs) page.ordered) one page.same) in
-        let there = has_filtered (is_hit t i) (db 0) x (rw is (inl refl)) in
-        let id = id_in (rowid x) in
-        let v = version_in x in
-        let stands : x ≡ stored id v = all_has IsStored (db 0) x rows.each there.0 in
-        let shows : eval_all close_project (close_params t i s ∷ x ∷ []) ≡ given_for s id v = ap (λ r. eval_all close_project (close_params t i s ∷ r ∷ [])) stands in
-        let single : given ≡ given_for s id v ∷ [] = page.rows ∙ ap (map (λ (o : Output). o.1)) ordered ∙ ap (λ r. r ∷ []) shows in
-        let hit : ended t i s x ≡ stored id (record v { died = Some s }) = rw there.1 refl in
-        ap (λ g. edited db (edit_of db version_table (ids_of g) Given 1 g)) single ∙ edit_one db s id v ∙ ap (λ n. put_row n (without_rowid id (db 0))) (sym hit)
-        ∙ replaced (is_hit t i) (ended t i s) x refl (db 0) rows.table (keyed_all (db 0) rows.each) (spared_by t i s (db 0) rows.each) is
+        let one = given_one key_filter project params (has_key t i g) (copy_test t i g) copied_given (λ id y. refl) collated (db 0) it.0 x latest.each is page in
+        let rows : new.now.trees 3 ≡ put_row (stored (next_rowid (db 3)) (placed_in x)) (db 3)
+        = it.4.rows ∙ ap (λ all. edited db (edit_of db earlier_table [] Chosen 0 all)) one ∙ one_more (codes "earlier") 3 earlier_keys old.step_limit (mode_of old) params db (placed_in x) in
+        (
+          record {
+            schema = it.2;
+            latest_rows = rw other latest;
+            earlier_rows = rw rows (stored_put (next_rowid (db 3)) (placed_in x) (db 3) earlier);
+            latest_are = ap placed_all other;
+            earlier_are = ap placed_all rows ∙ placed_put (placed_in x) (db 3) earlier ∙ ap (λ more. placed_all (db 3) ++ more) (sym (hits (x ∷ []) is));
+          },
+          counted (copied_given (id_in (rowid x)) (placed_in x) ∷ []) one ∙ ap length (sym (hits (x ∷ []) is)),
+        )
     go (x ∷ y ∷ more) is short = absurd (omega arith)
-
-pub closes : (old new : State) (t i s : ℕ) (r : Result ℕ Error) → old.now.schema ≡ version_schema → AreStored (old.now.trees 0) → length (filter (is_hit t i) (old.now.trees 0)) ≤ 1
-    → Executes close_text (close_params t i s) old new r
-    → OnOk r (new.now.schema ≡ version_schema) × OnOk r (new.now.trees 0 ≡ map (ended t i s) (old.now.trees 0))
-closes old new t i s (Err e) has rows few h = (tt, tt)
-closes old new t i s (Ok count) has rows few h =
-    let params = close_params t i s in
-    let db = old.now.trees in
-    let command = Update 0 (alone (whole close_filter close_project)) in
-    let w = runs_as close_text params old new version_schema has command close_is close_plain count h in
-    let text = statement_of close_text (understood version_schema close_text) in
-    let done = went (subst (λ x. Does old.step_limit (mode_of old) params (record old.now { schema = x }) text None command (Ok (w.tally, new.now))) has w.changed) in
-    let now = ap (λ (p : Tally × Database). p.1) (same_value (went (went done.2).2).2) in
-    let given = went done.1 in
-    let written = went given.2 in
-    let trees : done.0.trees ≡ written.0 = ap (λ (it : Written). it.trees) (same_value written.2) in
-    let page = answered close_filter close_project [] endless (record { schema = version_schema; trees = db }) params given.0 given.1 in
-    let rows' = (one_step version_schema _ db written.0 (edit_of db version_table (ids_of given.0) Given 1 given.0) refl written.1).rows in
-    (ap (λ (d : Database). d.schema) now, ap (λ (d : Database). d.trees 0) now ∙ ap (λ (x : Trees). x 0) trees ∙ rows' ∙ closes_rows t i s db given.0 rows few page)
-
--- ---- a deletion
-
-without_each : (ids : List ℤ) (rows : List Row) → without_all rows ids ≡ filter (λ r. not (list_any (λ id. has_rowid id r) ids)) rows
-without_each [] rows = sym (all_kept rows)
-  where
-    all_kept : (xs : List Row) → filter (λ r. not false) xs ≡ xs
-    all_kept [] = refl
-    all_kept (x ∷ xs) = ap (λ rest. x ∷ rest) (all_kept xs)
-without_each (id ∷ ids) rows = without_each ids (without_rowid id rows) ∙ twice rows
-  where
-    twice : (xs : List Row) → filter (λ r. not (list_any (λ k. has_rowid k r) ids)) (without_rowid id xs) ≡ filter (λ r. not (has_rowid id r || list_any (λ k. has_rowid k r) ids)) xs
-    twice [] = refl
-    twice (x ∷ xs) = elim (has_rowid id x) as (λ b. filter (λ r. not (list_any (λ k. has_rowid k r) ids)) (cond (not b) (x ∷ without_rowid id xs) (without_rowid id xs))
-        ≡ cond (not (b || list_any (λ k. has_rowid k x) ids)) (x ∷ filter (λ r. not (has_rowid id r || list_any (λ k. has_rowid k r) ids)) xs) (filter (λ r. not (has_rowid id r || list_any (λ k. has_rowid k r) ids)) xs))
-        [ true ↦ twice xs | false ↦ ap (λ rest. cond (not (list_any (λ k. has_rowid k x) ids)) (x ∷ rest) rest) (twice xs) ]
-
--- rows of one number are one row
-same_number : (rows : List Row) → IsTable rows → (a b : Row) → Has rows a → Has rows b → value_cmp (rowid a) (rowid b) ≡ Equal → a ≡ b
-same_number [] table a b p q e = absurd p
-same_number (r ∷ rows) table a b (inl p) (inl q) e = p ∙ sym q
-same_number (r ∷ rows) table a b (inl p) (inr q) e = absurd (let up = all_has _ rows b table.0 q in let less : value_cmp (rowid a) (rowid b) ≡ Less = rw p up in cc)
-same_number (r ∷ rows) table a b (inr p) (inl q) e = absurd (let up = all_has _ rows a table.0 p in
-    let less : value_cmp (rowid b) (rowid a) ≡ Less = rw q up in let more : value_cmp (rowid a) (rowid b) ≡ Greater = value_cmp_total.antisymm (rowid a) (rowid b) ∙ ap ordering_reverse less in cc)
-same_number (r ∷ rows) table a b (inr p) (inr q) e = same_number rows table.1 a b p q e
-
-has_permutation : {X : Type 0} (x : X) (xs ys : List X) → IsPermutation xs ys → Has xs x → Has ys x
-has_permutation {X} x = along_permutation (λ ps qs. Has ps x → Has qs x) (λ ps h. h) skip turn (λ ps qs rs p q h. q (p h))
-  where
-    skip : (y : X) (ps qs : List X) → (Has ps x → Has qs x) → Has (y ∷ ps) x → Has (y ∷ qs) x
-    skip y ps qs on (inl e) = inl e
-    skip y ps qs on (inr h) = inr (on h)
-
-    turn : (y z : X) (ps : List X) → Has (y ∷ z ∷ ps) x → Has (z ∷ y ∷ ps) x
-    turn y z ps (inl e) = inr (inl e)
-    turn y z ps (inr (inl e)) = inl e
-    turn y z ps (inr (inr h)) = inr (inr h)
-
-has_image : {X Y : Type 0} (f : X → Y) (xs : List X) (x : X) → Has xs x → Has (map f xs) (f x)
-has_image f [] x h = h
-has_image f (y ∷ ys) x (inl e) = inl (ap f e)
-has_image f (y ∷ ys) x (inr h) = inr (has_image f ys x h)
-
-image_of : {X Y : Type 0} (f : X → Y) (xs : List X) (y : Y) → Has (map f xs) y → (x : X) × Has xs x × (y ≡ f x)
-image_of f [] y h = absurd h
-image_of f (x ∷ xs) y (inl e) = (x, inl refl, e)
-image_of f (x ∷ xs) y (inr h) = let more = image_of f xs y h in (more.0, inr more.1, more.2)
-
--- Where the numbers taken out are those of the rows that pass, the rows that do not pass are left.
-left : (p : Row → Bool) (rows : List Row) (ids : List ℤ) → IsTable rows → AllByRecursion IsKeyed rows → IsPermutation (map (λ r. id_in (rowid r)) (filter p rows)) ids
-    → without_all rows ids ≡ filter (λ r. not (p r)) rows
-left p rows ids table keyed same = without_each ids rows ∙ filter_same _ (λ r. not (p r)) rows (all_from _ rows (λ r there. ap not (agrees r there)))
-  where
-    sound : (r : Row) → Has rows r → list_any (λ id. has_rowid id r) ids ≡ true → p r ≡ true
-    sound r there some =
-        let found = some_has _ ids some in
-        let from = image_of (λ x. id_in (rowid x)) (filter p rows) found.0 (has_permutation found.0 ids _ (IsPermutation-sym _ _ same) found.1) in
-        let stands = has_filtered p rows from.0 from.1 in
-        let one : value_cmp (rowid r) (rowid from.0) ≡ Equal = ap (value_cmp (rowid r)) (all_has IsKeyed rows from.0 keyed stands.0 ∙ ap Int (sym from.2)) ∙ (Equal-is _).0 found.2 in
-        subst (λ x. p x ≡ true) (sym (same_number rows table r from.0 there stands.0 one)) stands.1
-
-    complete : (r : Row) → Has rows r → p r ≡ true → list_any (λ id. has_rowid id r) ids ≡ true
-    complete r there passes =
-        let listed = has_permutation (id_in (rowid r)) _ ids same (has_image (λ x. id_in (rowid x)) (filter p rows) r (has_kept p rows r there passes)) in
-        some_from _ ids (id_in (rowid r)) listed (ap is_eq (ap (value_cmp (rowid r)) (sym (all_has IsKeyed rows r keyed there)) ∙ tied_itself value_cmp_total (rowid r)))
-
-    agrees : (r : Row) → Has rows r → list_any (λ id. has_rowid id r) ids ≡ p r
-    agrees r there = both_ways _ _ (sound r there) (complete r there)
-
-abbrev pub is_dead : ℕ → Row → Bool
-is_dead h r = has_died_by h (version_in r)
-
-pub purges : (old new : State) (h : ℕ) (r : Result ℕ Error) → old.now.schema ≡ version_schema → AreStored (old.now.trees 0) → Executes purge_text (number h ∷ []) old new r
-    → OnOk r (new.now.schema ≡ version_schema) × OnOk r (new.now.trees 0 ≡ filter (λ x. not (is_dead h x)) (old.now.trees 0))
-purges old new h (Err e) has rows ran = (tt, tt)
-purges old new h (Ok count) has rows ran =
-    let params = number h ∷ [] in
-    let db = old.now.trees in
-    let command = Delete 0 (alone (whole purge_filter (col 1 0 ∷ []))) in
-    let w = runs_as purge_text params old new version_schema has command purge_is purge_plain count ran in
-    let text = statement_of purge_text (understood version_schema purge_text) in
-    let done = went (subst (λ x. Does old.step_limit (mode_of old) params (record old.now { schema = x }) text None command (Ok (w.tally, new.now))) has w.changed) in
-    let now = ap (λ (p : Tally × Database). p.1) (same_value (went (went done.2).2).2) in
-    let given = went done.1 in
-    let written = went given.2 in
-    let trees : done.0.trees ≡ written.0 = ap (λ (it : Written). it.trees) (same_value written.2) in
-    let page = answered purge_filter (col 1 0 ∷ []) [] endless (record { schema = version_schema; trees = db }) params given.0 given.1 in
-    let rows' = (one_step version_schema _ db written.0 (edit_of db version_table (ids_of given.0) Given 0 []) refl written.1).rows in
-    let passed = select_stored _ (has_died_by h) (purge_test h) (db 0) rows.each in
-    let id = λ (o : Output). id_in (rowid o.1) in
-    let out = λ (r : Row). output (whole purge_filter (col 1 0 ∷ [])) (params ∷ r ∷ []) in
-    let moved : IsPermutation (map (λ r. id_in (rowid r)) (filter (is_dead h) (db 0))) (map id page.ordered) =
-    subst (λ xs. IsPermutation xs (map id page.ordered)) (map-map id out (filter (is_dead h) (db 0)))
-    (IsPermutation-map id _ page.ordered (subst (λ xs. IsPermutation (map out xs) page.ordered) passed page.same)) in
-    let ids : ids_of given.0 ≡ map id page.ordered = ap ids_of page.rows ∙ map-map (λ r. id_in (rowid r)) (λ (o : Output). o.1) page.ordered in
-    let taken : without_all (db 0) (ids_of given.0) ≡ filter (λ x. not (is_dead h x)) (db 0)
-    = left (is_dead h) (db 0) (ids_of given.0) rows.table (keyed_all (db 0) rows.each) (subst (IsPermutation _) (sym ids) moved) in
-    (ap (λ (d : Database). d.schema) now, ap (λ (d : Database). d.trees 0) now ∙ ap (λ (x : Trees). x 0) trees ∙ rows' ∙ taken)

@@ -3,9 +3,8 @@ use Rattle.sqlite.specs.Held.{state}
 use Rattle.sqlite.specs.Steps.{over_memory}
 use Rattle.sqlite.specs.State.{Shown, FailsToQuery}
 use Rattle.sqlite.proofs.Callers.{memory_is_clean}
-use Rattle.txc_rows.specs.declared.statements.TheConstants.{MOST_READ}
+use Rattle.txc_rows.specs.declared.statements.TheConstants.{MOST_READ, READ_ROW}
 use Rattle.txc_rows.specs.Stored.{number}
-use Rattle.txc_rows.proofs.Commands.{row_text}
 use Rattle.txc_rows.proofs.HeldLemmas.{lists_row}
 use Rattle.txc_rows.proofs.statements.read_row.Goals as goal
 
@@ -13,8 +12,8 @@ pub returns : goal.returns
 returns c =
     let old = c.args.conn.now in
     let new = c.query_all.new.self in
-    let ok : IfOk c.query_all.result (λ rows. Shown row_text (number c.args.table ∷ number MOST_READ ∷ number c.args.id ∷ []) (state over_memory old) (state over_memory new) rows.items)
-    = rw (c.params-to_sql.ensures, c.params-to_sql-2.ensures, c.params-to_sql-3.ensures, c.from.ensures, c.number.ensures.answer) at (c.query_all.ensures.ok (memory_is_clean new)) in
-    let err : IfErr c.query_all.result (FailsToQuery row_text (number c.args.table ∷ number MOST_READ ∷ number c.args.id ∷ []) (state over_memory old) (state over_memory new))
-    = rw (c.params-to_sql.ensures, c.params-to_sql-2.ensures, c.params-to_sql-3.ensures, c.from.ensures, c.number.ensures.answer) at (c.query_all.ensures.err (memory_is_clean new)) in
-    lists_row c.args.table c.args.id old new c.requires c.query_all.result ok err
+    let ok : IfOk c.query_all.result (λ rows. Shown READ_ROW.now (number c.args.table ∷ number MOST_READ ∷ number c.args.from ∷ number c.args.id ∷ []) (state over_memory old) (state over_memory new) rows.items)
+    = rw (c.params-to_sql.ensures, c.params-to_sql-2.ensures, c.params-to_sql-3.ensures, c.params-to_sql-4.ensures, c.from.ensures, c.number.ensures.answer) at (c.query_all.ensures.ok (memory_is_clean new)) in
+    let err : IfErr c.query_all.result (FailsToQuery READ_ROW.now (number c.args.table ∷ number MOST_READ ∷ number c.args.from ∷ number c.args.id ∷ []) (state over_memory old) (state over_memory new))
+    = rw (c.params-to_sql.ensures, c.params-to_sql-2.ensures, c.params-to_sql-3.ensures, c.params-to_sql-4.ensures, c.from.ensures, c.number.ensures.answer) at (c.query_all.ensures.err (memory_is_clean new)) in
+    lists_row c.args.table c.args.id c.args.from old new c.requires c.query_all.result ok err

@@ -3,9 +3,8 @@ use Rattle.sqlite.specs.Held.{state}
 use Rattle.sqlite.specs.Steps.{over_memory}
 use Rattle.sqlite.specs.State.{Shown, FailsToQuery}
 use Rattle.sqlite.proofs.Callers.{memory_is_clean}
-use Rattle.txc_rows.specs.declared.statements.TheConstants.{MOST_READ}
+use Rattle.txc_rows.specs.declared.statements.TheConstants.{MOST_READ, READ_TABLE}
 use Rattle.txc_rows.specs.Stored.{number}
-use Rattle.txc_rows.proofs.Commands.{table_text}
 use Rattle.txc_rows.proofs.HeldLemmas.{lists_table}
 use Rattle.txc_rows.proofs.statements.read_table.Goals as goal
 
@@ -13,8 +12,8 @@ pub returns : goal.returns
 returns c =
     let old = c.args.conn.now in
     let new = c.query_all.new.self in
-    let ok : IfOk c.query_all.result (λ rows. Shown table_text (number c.args.table ∷ number MOST_READ ∷ []) (state over_memory old) (state over_memory new) rows.items)
-    = rw (c.params-to_sql.ensures, c.params-to_sql-2.ensures, c.from.ensures, c.number.ensures.answer) at (c.query_all.ensures.ok (memory_is_clean new)) in
-    let err : IfErr c.query_all.result (FailsToQuery table_text (number c.args.table ∷ number MOST_READ ∷ []) (state over_memory old) (state over_memory new))
-    = rw (c.params-to_sql.ensures, c.params-to_sql-2.ensures, c.from.ensures, c.number.ensures.answer) at (c.query_all.ensures.err (memory_is_clean new)) in
-    lists_table c.args.table old new c.requires c.query_all.result ok err
+    let ok : IfOk c.query_all.result (λ rows. Shown READ_TABLE.now (number c.args.table ∷ number MOST_READ ∷ number c.args.from ∷ []) (state over_memory old) (state over_memory new) rows.items)
+    = rw (c.params-to_sql.ensures, c.params-to_sql-2.ensures, c.params-to_sql-3.ensures, c.from.ensures, c.number.ensures.answer) at (c.query_all.ensures.ok (memory_is_clean new)) in
+    let err : IfErr c.query_all.result (FailsToQuery READ_TABLE.now (number c.args.table ∷ number MOST_READ ∷ number c.args.from ∷ []) (state over_memory old) (state over_memory new))
+    = rw (c.params-to_sql.ensures, c.params-to_sql-2.ensures, c.params-to_sql-3.ensures, c.from.ensures, c.number.ensures.answer) at (c.query_all.ensures.err (memory_is_clean new)) in
+    lists_table c.args.table c.args.from old new c.requires c.query_all.result ok err

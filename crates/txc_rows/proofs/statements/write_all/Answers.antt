@@ -1,14 +1,13 @@
-use Rattle.std.proofs.Common.{◌≡◌, ◌+◌, ◌∷◌, drop, sym, subst, ap, ◌∙◌, rules, Err}
+use Rattle.std.proofs.Common.{◌≡◌, ◌+◌, ◌∷◌, drop, length, sym, subst, ap, ◌∙◌, rules, refl, Err, arith}
 use Rattle.std.proofs.lemmas.Result.{err_from_is_err_and}
 use Rattle.std.proofs.lemmas.List.{drop_all, at_drop_more}
 use Rattle.sqlite.specs.Held.{state}
 use Rattle.sqlite.specs.Steps.{over_memory}
 use Rattle.sqlite.proofs.Callers.{memory_is_clean}
 use Rattle.txc_rows.specs.Versions.{after_net}
-use Rattle.txc_rows.specs.Holdable.{AreHeld}
+use Rattle.txc_rows.specs.Placed.{AreWritten}
 use Rattle.txc_rows.specs.Kept.{IsCall, versions_of}
-use Rattle.txc_rows.proofs.StoredVersions.{held_write}
-use Rattle.txc_rows.proofs.HeldLemmas.{undone_call, ended_call}
+use Rattle.txc_rows.proofs.HeldLemmas.{undone_call, refused_call, ended_call}
 use Rattle.txc_rows.proofs.statements.write_all.Goals as goal
 
 pub returns-in_err-write_change : goal.returns-in_err-write_change
@@ -18,9 +17,10 @@ returns-in_err-write_change c =
     let end = c.drop-tx.new.self.0 in
     let same : end ≡ c.conn-1.given.0 = search rules in
     let base : (state over_memory mid).committed ≡ (state over_memory old).committed = c.in_err-write_change.ensures.step.base ∙ c.loop-change.invariant.base in
-    let kept = undone_call old mid end c.requires base (c.drop-tx.ensures.undone (memory_is_clean end)) in
+    let kept = undone_call old mid end c.requires.kept base (c.drop-tx.ensures.undone (memory_is_clean end)) in
     let p = err_from_is_err_and c.from_residual.result c.from_residual.ensures.1 in
-    rw p.1 (subst (λ h. IsCall (after_net c.args.stamp c.args.net.now (versions_of old)) old h (Err p.0)) same (record { kept = kept.0; after = tt; unchanged = kept.1 }))
+    let leaves = AreWritten (after_net c.args.stamp c.args.net.now (versions_of old)) (c.args.place + length c.args.net.now) in
+    rw p.1 (subst (λ h. IsCall leaves old h (Err p.0)) same (refused_call leaves old end p.0 kept))
 
 pub returns : goal.returns
 returns c =
@@ -30,10 +30,13 @@ returns c =
     let same : end ≡ c.conn-2-1.given.0 = search rules in
     let i = c.loop-change.invariant in
     let vs = after_net c.args.stamp c.args.net.now (versions_of old) in
+    let leaves = AreWritten vs (c.args.place + length c.args.net.now) in
     let past = drop_all c.loop-change.change-index c.args.net.now c.loop-change-test.false in
     let are : versions_of mid ≡ vs = ap (λ cs. after_net c.args.stamp cs (versions_of mid)) (sym past) ∙ i.rest in
-    subst (λ h. IsCall vs old h c.commit.result) same
-    (ended_call old mid end c.commit.result vs c.requires i.table i.held i.base are c.commit.ensures.ended (c.commit.ensures.ok (memory_is_clean end)) (c.commit.ensures.err (memory_is_clean end)) i.inside)
+    let last : c.loop-change.next ≡ c.args.place + length c.args.net.now = omega (arith, i.next, i.within, c.loop-change-test.false) in
+    let written : leaves _ = record { versions_are = are; below = rw (← last) i.written.written.below } in
+    subst (λ h. IsCall leaves old h c.commit.result) same
+    (ended_call leaves old mid end c.commit.result c.requires.kept i.written.tables i.written.apart written i.base c.commit.ensures.ended (c.commit.ensures.ok (memory_is_clean end)) (c.commit.ensures.err (memory_is_clean end)) i.inside)
 
 pub loop-change-preserved : goal.loop-change-preserved
 loop-change-preserved c =
@@ -43,14 +46,15 @@ loop-change-preserved c =
     let net = c.args.net.now in
     let at = c.loop-change.change-index in
     let change = c.change-item.result in
-    let held : AreHeld (versions_of c.write_change.new.tx.conn.now) = rw step.versions_are (held_write _ _ _ c.in_ok-write_change.ensures.writable i.held) in
+    let left = step.leaves in
     let next : after_net c.args.stamp (change ∷ drop (at + 1) net) mid ≡ after_net c.args.stamp (drop at net) mid =
     ap (λ x. after_net c.args.stamp (x ∷ drop (at + 1) net) mid) c.change-item.is ∙ sym (at_drop_more (λ cs. after_net c.args.stamp cs mid) net at change c.loop-change-test.true) in
     record {
-      table = step.table;
+      written = record { tables = left.tables; apart = left.apart; written = record { versions_are = refl; below = left.written.below } };
       inside = step.inside;
-      held = held;
+      next = omega (arith, i.next);
+      within = omega (arith, c.loop-change-test.true);
       base = step.base ∙ i.base;
-      rest = ap (after_net c.args.stamp (drop (at + 1) net)) step.versions_are ∙ next ∙ i.rest;
+      rest = ap (after_net c.args.stamp (drop (at + 1) net)) left.written.versions_are ∙ next ∙ i.rest;
       same = c.in_ok-write_change.ensures.same_reference ∙ i.same;
     }
