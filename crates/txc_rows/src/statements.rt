@@ -223,7 +223,7 @@ pub(crate) fn sweep_dead(
     drop_segments(&mut tx, count)?;
     make_segments(&mut tx, count)?;
     for rows in &left {
-        fill(&mut tx, add_text(Segment::S0), rows)?;
+        fill(&mut tx, add_text(Segment::First), rows)?;
     }
     tx.commit()?;
     Ok(kept)
@@ -252,7 +252,7 @@ pub(crate) fn sweep_all(
     make_segments(&mut tx, SEGMENTS.len())?;
     fill(&mut tx, ADD_LATEST, &latest)?;
     for rows in &left {
-        fill(&mut tx, add_text(Segment::S0), rows)?;
+        fill(&mut tx, add_text(Segment::First), rows)?;
     }
     tx.commit()?;
     Ok((latest.len(), kept))

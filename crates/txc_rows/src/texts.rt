@@ -11,7 +11,7 @@ macro_rules! make_table {
             " (place INTEGER NOT NULL, table_number INTEGER NOT NULL, id INTEGER NOT NULL, \
              born INTEGER NOT NULL, group_number INTEGER NOT NULL, body BLOB NOT NULL, died INTEGER, ",
             $keys,
-            ") STRICT"
+            ", CHECK (died IS NULL OR born < died)) STRICT"
         )
     };
 }
@@ -88,8 +88,7 @@ pub(crate) const MOST_READ: u32 = MAX_MATCHING as u32 + 1;
 
 pub(crate) const MAKE_LATEST: &str = make_table!(
     "latest",
-    "PRIMARY KEY (table_number, id, group_number), UNIQUE (table_number, group_number, id), \
-     CHECK (died IS NULL OR born < died)"
+    "PRIMARY KEY (table_number, id, group_number), UNIQUE (table_number, group_number, id)"
 );
 
 pub(crate) const DROP_LATEST: &str = drop_table!("latest");
@@ -136,13 +135,13 @@ pub(crate) fn latest_text(test: Test) -> &'static str {
 macro_rules! by_segment {
     ($segment:ident, $make:ident) => {
         match $segment {
-            Segment::S0 => $make!("dead_0"),
-            Segment::S1 => $make!("dead_1"),
-            Segment::S2 => $make!("dead_2"),
-            Segment::S3 => $make!("dead_3"),
-            Segment::S4 => $make!("dead_4"),
-            Segment::S5 => $make!("dead_5"),
-            Segment::S6 => $make!("dead_6"),
+            Segment::First => $make!("dead_1"),
+            Segment::Second => $make!("dead_2"),
+            Segment::Third => $make!("dead_3"),
+            Segment::Fourth => $make!("dead_4"),
+            Segment::Fifth => $make!("dead_5"),
+            Segment::Sixth => $make!("dead_6"),
+            Segment::Seventh => $make!("dead_7"),
         }
     };
 }
@@ -150,23 +149,23 @@ macro_rules! by_segment {
 /// One of the tables of versions that died.
 #[derive(Clone, Copy, PartialEq, Eq)]
 pub(crate) enum Segment {
-    S0,
-    S1,
-    S2,
-    S3,
-    S4,
-    S5,
-    S6,
+    First,
+    Second,
+    Third,
+    Fourth,
+    Fifth,
+    Sixth,
+    Seventh,
 }
 
 pub(crate) const SEGMENTS: [Segment; 7] = [
-    Segment::S0,
-    Segment::S1,
-    Segment::S2,
-    Segment::S3,
-    Segment::S4,
-    Segment::S5,
-    Segment::S6,
+    Segment::First,
+    Segment::Second,
+    Segment::Third,
+    Segment::Fourth,
+    Segment::Fifth,
+    Segment::Sixth,
+    Segment::Seventh,
 ];
 
 pub(crate) fn make_text(segment: Segment) -> &'static str {
@@ -191,12 +190,12 @@ pub(crate) fn left_text(segment: Segment) -> &'static str {
 
 pub(crate) fn dead_text(segment: Segment, test: Test) -> &'static str {
     match segment {
-        Segment::S0 => read_by!(test, "dead_0"),
-        Segment::S1 => read_by!(test, "dead_1"),
-        Segment::S2 => read_by!(test, "dead_2"),
-        Segment::S3 => read_by!(test, "dead_3"),
-        Segment::S4 => read_by!(test, "dead_4"),
-        Segment::S5 => read_by!(test, "dead_5"),
-        Segment::S6 => read_by!(test, "dead_6"),
+        Segment::First => read_by!(test, "dead_1"),
+        Segment::Second => read_by!(test, "dead_2"),
+        Segment::Third => read_by!(test, "dead_3"),
+        Segment::Fourth => read_by!(test, "dead_4"),
+        Segment::Fifth => read_by!(test, "dead_5"),
+        Segment::Sixth => read_by!(test, "dead_6"),
+        Segment::Seventh => read_by!(test, "dead_7"),
     }
 }
