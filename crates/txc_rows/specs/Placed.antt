@@ -82,12 +82,12 @@ IsOneCurrent x y = is_at x.version.row.table x.version.row.id y.version.row ≡ 
     → y.version.died ≢ None
 
 -- all versions, the last of each table, id and group apart from those before it, which have died
-pub record AreApart (latest earlier : List Placed) : Type 0 where
-  pub places : HaveOwnPlaces (latest ++ earlier)
+pub record AreApart (latest dead : List Placed) : Type 0 where
+  pub places : HaveOwnPlaces (latest ++ dead)
   pub keys : HaveOwnKeys latest
   pub current : IsAscending IsOneCurrent latest
-  pub dead : AllByRecursion (λ x. x.version.died ≢ None) earlier
-  pub each : AllByRecursion (λ x. IsHoldable x.version) (latest ++ earlier)
+  pub ended : AllByRecursion (λ x. x.version.died ≢ None) dead
+  pub each : AllByRecursion (λ x. IsHoldable x.version) (latest ++ dead)
 
 -- the last versions after a put: the new one stands in place of the last of its table, id and group, or else at
 -- the end
@@ -95,9 +95,9 @@ abbrev pub put_latest : ℕ → RowValue → ℕ → List Placed → List Placed
 put_latest place row stamp latest = if length (filter (has_key row.table row.id row.group) latest) == 0
     then latest ++ new_placed place row stamp ∷ [] else map (renewed place row stamp) latest
 
--- the earlier versions after it: that last one is one of them
-abbrev pub put_earlier : RowValue → List Placed → List Placed → List Placed
-put_earlier row latest earlier = earlier ++ filter (has_key row.table row.id row.group) latest
+-- the dead versions after it: that last one is one of them
+abbrev pub put_dead : RowValue → List Placed → List Placed → List Placed
+put_dead row latest dead = earlier ++ filter (has_key row.table row.id row.group) latest
 
 -- these are the versions by place, and each place is below the next one
 pub record AreWritten (versions : List Versioned) (next : ℕ) (placed : List Placed) : Type 0 where

@@ -1,5 +1,5 @@
--- The table of the versions in the store: words that only this crate's private functions promise.
-use Rattle.std.specs.Prelude.{Bool, true, false, [], ◌∷◌, None, codes, List, ℕ, slice_index_or}
+-- The tables of the versions in the store: words that only this crate's private functions promise.
+use Rattle.std.specs.Prelude.{Bool, true, false, [], ◌∷◌, ◌++◌, ◌*◌, None, codes, List, ℕ, slice_index_or}
 use Rattle.sqlite.specs.Collation.TheVariants.{Binary}
 use Rattle.sqlite.specs.declared.types.Value.TheVariants.{Null}
 use Rattle.sqlite.specs.Table.{Table}
@@ -12,6 +12,8 @@ use Rattle.sqlite.specs.Kind.TheVariants.{Integer, Blob}
 use Rattle.sqlite_schema.specs.declared.schema.Column.{Column}
 use Rattle.sqlite.specs.Change.{created}
 use Rattle.sqlite_value.specs.Keys.{plain}
+use Rattle.txc_rows.specs.declared.texts.Segment.{Segment}
+use Rattle.txc_rows.specs.declared.texts.Segment.TheVariants.{First, Second, Third, Fourth, Fifth, Sixth, Seventh}
 
 -- a column of the table
 abbrev pub column_of : List ℕ → Kind → Bool → Column
@@ -61,17 +63,81 @@ abbrev pub latest_table : Table
 latest_table = table_of_versions (codes "latest") 0 latest_keys
 
 -- by table, id and birth, and by table, group, id and birth
-abbrev pub earlier_keys : List (List ℕ)
-earlier_keys = (2 ∷ 3 ∷ 4 ∷ []) ∷ (2 ∷ 5 ∷ 3 ∷ 4 ∷ []) ∷ []
+abbrev pub segment_keys : List (List ℕ)
+segment_keys = (2 ∷ 3 ∷ 4 ∷ []) ∷ (2 ∷ 5 ∷ 3 ∷ 4 ∷ []) ∷ []
 
--- the versions before them; its rows stand in tree 3, since the first table and its keys have three
-abbrev pub earlier_table : Table
-earlier_table = table_of_versions (codes "earlier") 3 earlier_keys
+-- the name of a segment, a table of versions that died and have a later one of their table, id and group
+abbrev pub name_of : Segment → List ℕ
+name_of First = codes "dead_1"
+name_of Second = codes "dead_2"
+name_of Third = codes "dead_3"
+name_of Fourth = codes "dead_4"
+name_of Fifth = codes "dead_5"
+name_of Sixth = codes "dead_6"
+name_of Seventh = codes "dead_7"
+
+-- its place among the tables: the first is made last
+abbrev pub place_of : Segment → ℕ
+place_of First = 7
+place_of Second = 6
+place_of Third = 5
+place_of Fourth = 4
+place_of Fifth = 3
+place_of Sixth = 2
+place_of Seventh = 1
+
+-- its rows stand in that tree, since each table and its keys have three
+abbrev pub tree_of : Segment → ℕ
+tree_of s = 3 * place_of s
+
+-- the table of a segment
+abbrev pub segment_table : Segment → Table
+segment_table s = table_of_versions (name_of s) (tree_of s) segment_keys
 
 -- the schema with the one table
 abbrev pub latest_schema : Schema
 latest_schema = created no_schema latest_table
 
--- the schema with both
+-- the schema with a segment and those that are made before it
+abbrev pub schema_to : Segment → Schema
+schema_to Seventh = created latest_schema (segment_table Seventh)
+schema_to Sixth = created (schema_to Seventh) (segment_table Sixth)
+schema_to Fifth = created (schema_to Sixth) (segment_table Fifth)
+schema_to Fourth = created (schema_to Fifth) (segment_table Fourth)
+schema_to Third = created (schema_to Fourth) (segment_table Third)
+schema_to Second = created (schema_to Third) (segment_table Second)
+schema_to First = created (schema_to Second) (segment_table First)
+
+-- the schema with those that are made before a segment
+abbrev pub schema_before : Segment → Schema
+schema_before Seventh = latest_schema
+schema_before Sixth = schema_to Seventh
+schema_before Fifth = schema_to Sixth
+schema_before Fourth = schema_to Fifth
+schema_before Third = schema_to Fourth
+schema_before Second = schema_to Third
+schema_before First = schema_to Second
+
+-- the schema with all tables
 abbrev pub version_schema : Schema
-version_schema = created latest_schema earlier_table
+version_schema = schema_to First
+
+-- the segments in the order in which they are made
+abbrev pub segments : List Segment
+segments = Seventh ∷ Sixth ∷ Fifth ∷ Fourth ∷ Third ∷ Second ∷ First ∷ []
+
+-- ---- the texts that name a segment
+
+-- a version with its place is added to it
+abbrev pub add_text : Segment → List ℕ
+add_text s = codes "INSERT INTO " ++ name_of s
+    ++ codes " (place, table_number, id, born, group_number, body, died) VALUES (?1, ?2, ?3, ?4, ?5, ?6, ?7)"
+
+-- the last version of a table, id and group is copied to it
+abbrev pub copy_text : Segment → List ℕ
+copy_text s = codes "INSERT INTO " ++ name_of s
+    ++ codes " (place, table_number, id, born, group_number, body, died) SELECT place, table_number, id, born, group_number, body, died FROM latest WHERE table_number = ?1 AND id = ?2 AND group_number = ?3"
+
+-- it is dropped
+abbrev pub drop_text : Segment → List ℕ
+drop_text s = codes "DROP TABLE " ++ name_of s

@@ -12,6 +12,7 @@ mod store_error;
 mod store_laws;
 mod texts;
 mod version;
+mod writes;
 
 pub use laws::{net_changes_are_differences, states_are_maps, tags_are_sound, versions_say_states};
 pub use query::{Change, Query};

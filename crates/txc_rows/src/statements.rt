@@ -1,27 +1,11 @@
 //! The statements on the tables of versions.
 
-use crate::query::{Change, Query};
-use crate::row::Row;
+use crate::query::Query;
 use crate::texts::{
-    ADD_LATEST, DROP_LATEST, END_VERSION, LEFT_LATEST, MAKE_LATEST, MOST_READ, RENEW_LATEST,
-    SEGMENTS, Segment, Test, add_text, copy_text, dead_text, drop_text, latest_text, left_text,
-    make_text,
+    ADD_LATEST, DROP_LATEST, LEFT_LATEST, MAKE_LATEST, MOST_READ, SEGMENTS, Segment, Test, add_text, dead_text, drop_text, latest_text, left_text, make_text,
 };
 use sqlite::{Connection, Error, MemStore, Transaction, params};
 use std::alloc::Global;
-use txc_stamp::Stamp;
-use txc_tags::Table;
-
-/// What a write did to the tables.
-#[derive(Clone, Copy)]
-pub(crate) struct Written {
-    /// How many current versions died.
-    pub ended: usize,
-    /// How many versions were copied to the segment.
-    pub copied: usize,
-    /// How many versions are the first of their table, id and group.
-    pub added: usize,
-}
 
 // ---- the tables
 
@@ -47,126 +31,6 @@ fn drop_segments(tx: &mut Transaction<'_, MemStore>, count: usize) -> Result<(),
         tx.execute(drop_text(SEGMENTS[at]), &[])?;
     }
     Ok(())
-}
-
-// ---- writing
-
-fn add_latest(
-    tx: &mut Transaction<'_, MemStore>,
-    place: u32,
-    row: &Row,
-    stamp: Stamp,
-) -> Result<usize, Error> {
-    tx.execute(
-        ADD_LATEST,
-        params![
-            place,
-            u32::from(row.table().number()),
-            row.id(),
-            stamp.number(),
-            row.group(),
-            row.body(),
-            None::<u32>
-        ],
-    )
-}
-
-/// Ends the current version of a table and id, if there is one.
-fn end_version(
-    tx: &mut Transaction<'_, MemStore>,
-    table: Table,
-    id: u32,
-    stamp: Stamp,
-) -> Result<usize, Error> {
-    tx.execute(
-        END_VERSION,
-        params![u32::from(table.number()), id, stamp.number()],
-    )
-}
-
-/// Copies the last version of a table, id and group to a segment, if there is one.
-fn copy_latest(
-    tx: &mut Transaction<'_, MemStore>,
-    row: &Row,
-    segment: Segment,
-) -> Result<usize, Error> {
-    tx.execute(
-        copy_text(segment),
-        params![u32::from(row.table().number()), row.id(), row.group()],
-    )
-}
-
-fn renew_latest(
-    tx: &mut Transaction<'_, MemStore>,
-    place: u32,
-    row: &Row,
-    stamp: Stamp,
-) -> Result<usize, Error> {
-    tx.execute(
-        RENEW_LATEST,
-        params![
-            u32::from(row.table().number()),
-            row.id(),
-            row.group(),
-            place,
-            stamp.number(),
-            row.body()
-        ],
-    )
-}
-
-fn write_put(
-    tx: &mut Transaction<'_, MemStore>,
-    row: &Row,
-    stamp: Stamp,
-    place: u32,
-    segment: Segment,
-    so_far: Written,
-) -> Result<Written, Error> {
-    let ended = end_version(tx, row.table(), row.id(), stamp)?;
-    let copied = copy_latest(tx, row, segment)?;
-    let added = if copied == 0 {
-        add_latest(tx, place, row, stamp)?
-    } else {
-        renew_latest(tx, place, row, stamp)?;
-        0
-    };
-    Ok(Written {
-        ended: so_far.ended.wrapping_add(ended),
-        copied: so_far.copied.wrapping_add(copied),
-        added: so_far.added.wrapping_add(added),
-    })
-}
-
-/// Writes the changes of one commit, all or none. The versions that they put have places from this one on.
-pub(crate) fn write_all(
-    conn: &mut Connection<MemStore>,
-    net: &[Change],
-    stamp: Stamp,
-    place: u32,
-    segment: Segment,
-) -> Result<Written, Error> {
-    let mut tx = conn.transaction();
-    let mut written = Written {
-        ended: 0,
-        copied: 0,
-        added: 0,
-    };
-    let mut next = place;
-    for change in net {
-        match change {
-            Change::Put(row) => {
-                written = write_put(&mut tx, row, stamp, next, segment, written)?;
-            }
-            Change::Remove(table, id) => {
-                let ended = end_version(&mut tx, *table, *id, stamp)?;
-                written.ended = written.ended.wrapping_add(ended);
-            }
-        }
-        next += 1;
-    }
-    tx.commit()?;
-    Ok(written)
 }
 
 // ---- leaving out what died

@@ -11,10 +11,11 @@ ghost use Rattle.txc_rows.specs.declared.store_error.TheConstants.{MAX_MATCHING}
 use crate::decode::versions_from;
 use crate::query::{Change, Query};
 use crate::segments::Segments;
-use crate::statements::{create, read_dead, read_latest, sweep_all, sweep_dead, write_all};
+use crate::statements::{create, read_dead, read_latest, sweep_all, sweep_dead};
 use crate::store_error::{MAX_MATCHING, StoreError};
 use crate::texts::SEGMENTS;
 use crate::version::Versioned;
+use crate::writes::write_all;
 use sqlite::{Connection, MemStore};
 use std::alloc::Global;
 use std::marker::Model;

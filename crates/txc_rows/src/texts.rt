@@ -1,5 +1,8 @@
 //! The texts of the statements on the tables of versions.
 
+ghost use Rattle.std.specs.Prelude.{◌≡◌};
+ghost use Rattle.txc_rows.specs.Texts.{add_text, copy_text};
+
 use crate::store_error::MAX_MATCHING;
 
 /// The columns of each table, and its keys. The second finds the versions of a group.
@@ -176,11 +179,15 @@ pub(crate) fn drop_text(segment: Segment) -> &'static str {
     by_segment!(segment, drop_table)
 }
 
-pub(crate) fn add_text(segment: Segment) -> &'static str {
+pub(crate) fn add_text(segment: Segment) -> &'static str
+    ensures { result.now ≡ add_text segment }
+{
     by_segment!(segment, add_to)
 }
 
-pub(crate) fn copy_text(segment: Segment) -> &'static str {
+pub(crate) fn copy_text(segment: Segment) -> &'static str
+    ensures { result.now ≡ copy_text segment }
+{
     by_segment!(segment, copy_to)
 }
 
