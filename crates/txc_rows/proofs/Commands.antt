@@ -132,3 +132,50 @@ renew_is = refl
 pub renew_plain : IsPlain (understood version_schema RENEW_LATEST.now)
 unfolding understood everything
 renew_plain = (refl, refl)
+
+abbrev pub cells_names : List (List ℕ)
+cells_names = codes "place" ∷ codes "table_number" ∷ codes "id" ∷ codes "born" ∷ codes "group_number" ∷ codes "body" ∷ codes "died" ∷ []
+
+abbrev pub left_filter : ℕ → List Term
+left_filter at = op2 Or (op2 (Is Binary) (col 1 7) (lit Null)) (op2 (Compare Ge Binary) (col 1 7) (col 0 at)) ∷ []
+
+-- ---- what the statements that read share
+
+abbrev pub shown_columns : List Term
+shown_columns = col 1 3 ∷ col 1 5 ∷ col 1 6 ∷ col 1 4 ∷ col 1 7 ∷ []
+
+abbrev pub shown_order : List (Term × Key)
+shown_order = (col 1 3, ascending Binary) ∷ (col 1 4, ascending Binary) ∷ []
+
+abbrev pub most_shown : Term
+most_shown = col 0 1
+
+-- the versions of the table in a tree that pass, by id and birth, at most so many
+abbrev pub listed : ℕ → List Term → Query
+listed tree filter = record (whole tree filter shown_columns) { order = shown_order; limit = most_shown }
+
+abbrev pub shown_names : List (List ℕ)
+shown_names = codes "id" ∷ codes "group_number" ∷ codes "body" ∷ codes "born" ∷ codes "died" ∷ []
+
+-- the text lists the versions that pass
+pub record IsListingOf (tree : ℕ) (filter : List Term) (text : List ℕ) : Type 0 where
+  pub command : command_of (understood version_schema text) ≡ Select (alone (listed tree filter)) shown_names
+  pub rows : reads_listing version_schema text ≡ false
+  pub plain : IsPlain (understood version_schema text)
+
+-- ---- the test of each
+
+abbrev pub left_test : Term
+left_test = op2 Or (op2 (Is Binary) (col 1 7) (lit Null)) (op2 (Compare Ge Binary) (col 1 7) (col 0 2))
+
+abbrev pub table_filter : List Term
+table_filter = op2 (Compare Eq Binary) (col 1 2) (col 0 0) ∷ left_test ∷ []
+
+abbrev pub row_filter : List Term
+row_filter = op2 (Compare Eq Binary) (col 1 2) (col 0 0) ∷ op2 (Compare Eq Binary) (col 1 3) (col 0 3) ∷ left_test ∷ []
+
+abbrev pub group_filter : List Term
+group_filter = op2 (Compare Eq Binary) (col 1 2) (col 0 0) ∷ op2 (Compare Eq Binary) (col 1 5) (col 0 3) ∷ left_test ∷ []
+
+abbrev pub range_filter : List Term
+range_filter = op2 (Compare Eq Binary) (col 1 2) (col 0 0) ∷ op2 (Compare Ge Binary) (col 1 3) (col 0 3) ∷ op2 (Compare Le Binary) (col 1 3) (col 0 4) ∷ left_test ∷ []

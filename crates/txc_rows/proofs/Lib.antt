@@ -18,10 +18,10 @@ pub mod StoredRows
 pub mod PlaceLemmas
 pub mod PutLemmas
 pub mod SweepLemmas
-pub mod TableLemmas
 pub mod Tables
+pub mod SegmentLemmas
 pub mod Writes
-pub mod Answering
+pub mod Refusals
 pub mod HeldLemmas
 pub mod ChangeSteps
 pub mod ViewLemmas

@@ -14,7 +14,7 @@ use Rattle.txc_rows.specs.Values.{RowValue, IsRow}
 use Rattle.txc_rows.specs.States.{is_at}
 use Rattle.txc_rows.specs.Versions.{is_current, closed, removed, put}
 use Rattle.txc_rows.specs.Holdable.{IsHoldable}
-use Rattle.txc_rows.specs.Placed.{Placed, version_of, by_place, versions_by_place, has_key, closed_placed, new_placed, renewed, put_latest, put_earlier, HaveOwnPlaces, HaveOwnKeys, AreBelow, IsOneCurrent, AreApart, AreWritten}
+use Rattle.txc_rows.specs.Placed.{Placed, version_of, by_place, versions_by_place, has_key, closed_placed, new_placed, renewed, put_latest, put_dead, HaveOwnPlaces, HaveOwnKeys, AreBelow, IsOneCurrent, AreApart, AreWritten}
 use Rattle.txc_rows.proofs.Members.{bool_cases, both_true, and_true}
 use Rattle.txc_rows.proofs.StoredVersions.{hit_is, hit_from, holdable_closed, closed_dead}
 use Rattle.txc_rows.proofs.PlaceLemmas.{pairs_permuted, by_place_same, by_place_mapped, by_place_last, own_places_permuted}
@@ -81,12 +81,12 @@ all_holdable t i s low (x ∷ xs) all = (holdable_closed t i s low x.version all
 
 pub ended_apart : (t i s : ℕ) → s ≤ LAST_STAMP → (latest earlier : List Placed) → AreApart latest earlier → AreApart (map (closed_placed t i s) latest) earlier
 ended_apart t i s low latest earlier h =
-    let all = ended_all t i s latest earlier h.dead in
+    let all = ended_all t i s latest earlier h.ended in
     record {
       places = rw all (ascending-map (λ x y. x.place ≢ y.place) (closed_placed t i s) (latest ++ earlier) h.places);
       keys = ascending-map _ (closed_placed t i s) latest h.keys;
       current = ascending-map IsOneCurrent (closed_placed t i s) latest (ascending_weaker IsOneCurrent _ (still_one t i s) latest h.current);
-      dead = h.dead;
+      ended = h.ended;
       each = rw all (all_holdable t i s low (latest ++ earlier) h.each);
     }
 
@@ -187,7 +187,7 @@ module _ (place s : ℕ) (row : RowValue) where
   moved : (xs ys zs : List Placed) → IsPermutation ((xs ++ zs) ++ ys) ((xs ++ ys) ++ zs)
   moved xs ys zs = rw (append_assoc xs zs ys, append_assoc xs ys zs) (IsPermutation-append_right xs _ _ (IsPermutation-append_comm zs ys))
 
-  put_permutes : (latest earlier : List Placed) → HaveOwnKeys latest → IsPermutation (put_latest place row s latest ++ put_earlier row latest earlier) ((latest ++ earlier) ++ new ∷ [])
+  put_permutes : (latest earlier : List Placed) → HaveOwnKeys latest → IsPermutation (put_latest place row s latest ++ put_dead row latest earlier) ((latest ++ earlier) ++ new ∷ [])
   put_permutes latest earlier own = go (length (filter here latest) == 0) refl
     where
       go : (b : Bool) → length (filter here latest) == 0 ≡ b → IsPermutation (cond b (latest ++ new ∷ []) (map (renewed place row s) latest) ++ (earlier ++ filter here latest)) ((latest ++ earlier) ++ new ∷ [])
@@ -209,10 +209,10 @@ module _ (place s : ℕ) (row : RowValue) where
     own_then : HaveOwnPlaces ((latest ++ earlier) ++ new ∷ [])
     own_then = ascending-append (λ x y. x.place ≢ y.place) (latest ++ earlier) (new ∷ []) h.places (tt, tt) (none_new (latest ++ earlier) low)
 
-    permutes : IsPermutation (put_latest place row s latest ++ put_earlier row latest earlier) ((latest ++ earlier) ++ new ∷ [])
+    permutes : IsPermutation (put_latest place row s latest ++ put_dead row latest earlier) ((latest ++ earlier) ++ new ∷ [])
     permutes = put_permutes latest earlier h.keys
 
-    pub put_versions : versions_by_place (put_latest place row s latest ++ put_earlier row latest earlier) ≡ versions_by_place (latest ++ earlier) ++ new.version ∷ []
+    pub put_versions : versions_by_place (put_latest place row s latest ++ put_dead row latest earlier) ≡ versions_by_place (latest ++ earlier) ++ new.version ∷ []
     put_versions =
         ap (map version_of) (sym (by_place_same _ _ (IsPermutation-sym _ _ permutes) own_then) ∙ by_place_last new (latest ++ earlier) low)
         ∙ map-append version_of (by_place (latest ++ earlier)) (new ∷ [])
@@ -221,7 +221,7 @@ module _ (place s : ℕ) (row : RowValue) where
     higher [] below = tt
     higher (x ∷ xs) below = (let l = below.0 in omega arith, higher xs below.1)
 
-    pub put_below : AreBelow (place + 1) (put_latest place row s latest ++ put_earlier row latest earlier)
+    pub put_below : AreBelow (place + 1) (put_latest place row s latest ++ put_dead row latest earlier)
     put_below =
         all-permutation (λ x. x.place < place + 1) _ _ (IsPermutation-sym _ _ permutes)
         (all-append (λ x. x.place < place + 1) (latest ++ earlier) (new ∷ []) (higher (latest ++ earlier) low) (omega arith, tt))
@@ -278,12 +278,12 @@ module _ (place s : ℕ) (row : RowValue) where
       holdable : IsHoldable new.version
       holdable = record { row = is; born = stamp; died = λ d e. absurd (let f = e in cc) }
 
-      pub put_apart : AreApart (put_latest place row s latest) (put_earlier row latest earlier)
+      pub put_apart : AreApart (put_latest place row s latest) (put_dead row latest earlier)
       put_apart = record {
         places = own_places_permuted _ _ (IsPermutation-sym _ _ permutes) own_then;
         keys = keys_then;
         current = one_then;
-        dead = all-append (λ x. x.version.died ≢ None) earlier (filter here latest) h.dead (dead_there latest none);
+        ended = all-append (λ x. x.version.died ≢ None) earlier (filter here latest) h.ended (dead_there latest none);
         each = all-permutation (λ x. IsHoldable x.version) _ _ (IsPermutation-sym _ _ permutes)
             (all-append (λ x. IsHoldable x.version) (latest ++ earlier) (new ∷ []) h.each (holdable, tt));
       }
@@ -293,8 +293,8 @@ module _ (place s : ℕ) (row : RowValue) where
 pub removed_written : (t i s place : ℕ) → s ≤ LAST_STAMP → (latest earlier : List Placed) → AreApart latest earlier → AreBelow place (latest ++ earlier)
     → AreWritten (removed t i s (versions_by_place (latest ++ earlier))) (place + 1) (map (closed_placed t i s) latest ++ earlier)
 removed_written t i s place low latest earlier h below = record {
-  versions_are = ended_versions t i s latest earlier h.dead;
-  below = ended_below t i s (place + 1) latest earlier h.dead (higher (latest ++ earlier) below);
+  versions_are = ended_versions t i s latest earlier h.ended;
+  below = ended_below t i s (place + 1) latest earlier h.ended (higher (latest ++ earlier) below);
 }
   where
     higher : (xs : List Placed) → AreBelow place xs → AreBelow (place + 1) xs
@@ -302,7 +302,7 @@ removed_written t i s place low latest earlier h below = record {
     higher (x ∷ xs) below = (let l = below.0 in omega arith, higher xs below.1)
 
 pub put_written : (s place : ℕ) (row : RowValue) (latest earlier : List Placed) → AreApart latest earlier → AreBelow place (latest ++ earlier)
-    → AreWritten (versions_by_place (latest ++ earlier) ++ record { row = row; born = s; died = None } ∷ []) (place + 1) (put_latest place row s latest ++ put_earlier row latest earlier)
+    → AreWritten (versions_by_place (latest ++ earlier) ++ record { row = row; born = s; died = None } ∷ []) (place + 1) (put_latest place row s latest ++ put_dead row latest earlier)
 put_written s place row latest earlier h low = record {
   versions_are = put_versions place s row latest earlier h low;
   below = put_below place s row latest earlier h low;

@@ -28,10 +28,8 @@ use Rattle.sqlite.specs.Effect.{Database, Answers, IsSource}
 use Rattle.sqlite.specs.State.{State, mode_of, Writes, Executes}
 use Rattle.sqlite.proofs.Callers.{command_of, statement_of, runs_as, one_step, IsPlain}
 use Rattle.txc_rows.specs.Placed.{Placed}
-use Rattle.txc_rows.specs.Texts.{table_of_versions, latest_schema, version_schema, no_schema}
+use Rattle.txc_rows.specs.Texts.{table_of_versions, version_schema}
 use Rattle.txc_rows.specs.Stored.{stored, cells_of, number}
-use Rattle.txc_rows.specs.declared.statements.TheConstants.{DROP_LATEST, DROP_EARLIER}
-use Rattle.txc_rows.proofs.Commands.{drop_latest_is, drop_latest_plain, drop_earlier_is, drop_earlier_plain}
 
 either : (b : Bool) (x : Value) → cond b x x ≡ x
 either true x = refl
@@ -128,28 +126,3 @@ module _ (name : List ℕ) (tree : ℕ) (keys : List (List ℕ)) (limit : Option
       go : (d : Option ℕ) → x.version.died ≡ d → edited db (edit_of db table [] Chosen 0 ((Null ∷ cells_of x) ∷ [])) ≡ put_row (stored (next_rowid (db tree)) x) (db tree)
       go None e = rw (e, cast_null, cast_int (pos x.place), cast_int (pos x.version.row.table), cast_int (pos x.version.row.id), cast_int (pos x.version.born), cast_int (pos x.version.row.group)) refl
       go (Some d) e = rw (e, cast_null, cast_int (pos d), cast_int (pos x.place), cast_int (pos x.version.row.table), cast_int (pos x.version.row.id), cast_int (pos x.version.born), cast_int (pos x.version.row.group)) refl
-
--- ---- tables go
-
-pub drops_earlier : (old new : State) (count : ℕ) → old.now.schema ≡ version_schema → Executes DROP_EARLIER.now [] old new (Ok count) → (new.now.schema ≡ latest_schema) × (new.now.trees 0 ≡ old.now.trees 0)
-drops_earlier old new count has h =
-    let w = runs_as DROP_EARLIER.now [] old new version_schema has (DropTable 1) drop_earlier_is drop_earlier_plain count h in
-    let text = statement_of DROP_EARLIER.now (understood version_schema DROP_EARLIER.now) in
-    let done = went (subst (λ s. Does old.step_limit (mode_of old) [] (record old.now { schema = s }) text None (DropTable 1) (Ok (w.tally, new.now))) has w.changed) in
-    let counted = went done.2 in
-    let tested = went counted.2 in
-    let left = went tested.2 in
-    let now : new.now ≡ left.0 = ap (λ (p : Tally × Database). p.1) (same_value left.2) in
-    let before : counted.0 ≡ old.now.trees = same_value counted.1 ∙ same_value done.1 in
-    (ap (λ (d : Database). d.schema) now ∙ left.1.0, ap (λ (d : Database). d.trees 0) now ∙ left.1.1.0 ∙ ap (λ (t : Trees). t 0) before)
-
-pub drops_latest : (old new : State) (count : ℕ) → old.now.schema ≡ latest_schema → Executes DROP_LATEST.now [] old new (Ok count) → new.now.schema ≡ no_schema
-drops_latest old new count has h =
-    let w = runs_as DROP_LATEST.now [] old new latest_schema has (DropTable 0) drop_latest_is drop_latest_plain count h in
-    let text = statement_of DROP_LATEST.now (understood latest_schema DROP_LATEST.now) in
-    let done = went (subst (λ s. Does old.step_limit (mode_of old) [] (record old.now { schema = s }) text None (DropTable 0) (Ok (w.tally, new.now))) has w.changed) in
-    let counted = went done.2 in
-    let tested = went counted.2 in
-    let left = went tested.2 in
-    let now : new.now ≡ left.0 = ap (λ (p : Tally × Database). p.1) (same_value left.2) in
-    ap (λ (d : Database). d.schema) now ∙ left.1.0

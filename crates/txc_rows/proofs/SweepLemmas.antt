@@ -55,7 +55,7 @@ module _ (from : ℕ) (latest earlier kept : List Placed) (left : IsPermutation 
     places = own_places_permuted _ _ (IsPermutation-append_right latest _ _ left) (some_after (λ x y. x.place ≢ y.place) (λ x. is_left from x.version) latest earlier h.places);
     keys = h.keys;
     current = h.current;
-    dead = all-permutation (λ x. x.version.died ≢ None) _ kept left (all-filter (λ x. x.version.died ≢ None) (λ x. is_left from x.version) earlier h.dead);
+    ended = all-permutation (λ x. x.version.died ≢ None) _ kept left (all-filter (λ x. x.version.died ≢ None) (λ x. is_left from x.version) earlier h.ended);
     each = all-append (λ x. IsHoldable x.version) latest kept (all_front (λ x. IsHoldable x.version) latest earlier h.each)
         (all-permutation (λ x. IsHoldable x.version) _ kept left (all-filter (λ x. IsHoldable x.version) (λ x. is_left from x.version) earlier (all_back (λ x. IsHoldable x.version) latest earlier h.each)));
   }
@@ -79,7 +79,7 @@ module _ (from : ℕ) (latest earlier last before : List Placed) (one : IsPermut
     places = own_places_permuted _ _ together (ascending-filter (λ x y. x.place ≢ y.place) (λ x. is_left from x.version) (latest ++ earlier) h.places);
     keys = (pairs_permuted (λ x y. has_key x.version.row.table x.version.row.id x.version.row.group y ≡ false) keys_turned _ last one).1 (ascending-filter _ (λ x. is_left from x.version) latest h.keys);
     current = (pairs_permuted IsOneCurrent one_turned _ last one).1 (ascending-filter IsOneCurrent (λ x. is_left from x.version) latest h.current);
-    dead = all-permutation (λ x. x.version.died ≢ None) _ before two (all-filter (λ x. x.version.died ≢ None) (λ x. is_left from x.version) earlier h.dead);
+    ended = all-permutation (λ x. x.version.died ≢ None) _ before two (all-filter (λ x. x.version.died ≢ None) (λ x. is_left from x.version) earlier h.ended);
     each = all-permutation (λ x. IsHoldable x.version) _ (last ++ before) together (all-filter (λ x. IsHoldable x.version) (λ x. is_left from x.version) (latest ++ earlier) h.each);
   }
 

@@ -12,7 +12,7 @@ use Rattle.sqlite.specs.Source.TheVariants.{Values}
 use Rattle.sqlite.specs.Source.TheVariants as source
 use Rattle.sqlite.specs.Edit.{edit_of, edited, id_in, next_rowid}
 use Rattle.sqlite.specs.Rowids.TheVariants.{Chosen, Given}
-use Rattle.sqlite.specs.Does.{Tally, Does}
+use Rattle.sqlite.specs.Does.{Tally, Does, OnRows}
 use Rattle.sqlite.specs.Query.{Output, output}
 use Rattle.sqlite.specs.Term.{Term, holds, eval_all, lit}
 use Rattle.sqlite.specs.Program.{overlay}
@@ -32,22 +32,77 @@ use Rattle.txc_rows.specs.Values.{RowValue}
 use Rattle.txc_rows.specs.States.{is_at}
 use Rattle.txc_rows.specs.Versions.{is_current}
 use Rattle.txc_rows.specs.Placed.{Placed, has_key, closed_placed, new_placed, renewed}
-use Rattle.txc_rows.specs.Texts.{latest_keys, earlier_keys, latest_table, earlier_table, version_schema}
+use Rattle.txc_rows.specs.Texts.{latest_keys, segment_keys, latest_table, segment_table, name_of, place_of, tree_of, segments, add_text, copy_text, version_schema}
+use Rattle.txc_rows.specs.Kept.{dead_among, AreStoredIn}
 use Rattle.txc_rows.specs.Stored.{stored, cells_of, number, placed_in, placed_all, IsStored, AreStored}
-use Rattle.txc_rows.specs.declared.statements.TheConstants.{ADD_LATEST, ADD_EARLIER, END_VERSION, COPY_EARLIER, RENEW_LATEST}
-use Rattle.txc_rows.proofs.Commands.{whole, endless, alone, terms, add_latest_is, add_latest_plain, add_earlier_is, add_earlier_plain, close_filter, close_project, close_is, close_plain, key_filter, cells_project, copy_query, copy_is, copy_plain, renew_project, renew_is, renew_plain}
+use Rattle.txc_rows.specs.declared.texts.TheConstants.{ADD_LATEST, END_VERSION, RENEW_LATEST}
+use Rattle.txc_rows.specs.declared.texts.Segment.{Segment}
+use Rattle.txc_rows.specs.declared.texts.Segment.TheVariants.{First, Second, Third, Fourth, Fifth, Sixth, Seventh}
+use Rattle.txc_rows.proofs.Commands.{whole, endless, alone, terms, add_latest_is, add_latest_plain, add_segment_is, add_segment_plain, close_filter, close_project, close_is, close_plain, key_filter, cells_project, copy_query, copy_is, copy_plain, renew_project, renew_is, renew_plain}
 use Rattle.txc_rows.proofs.StoredRows.{close_test, copy_test, renew_test, select_stored, placed_again, asked, answered, IsPage}
 use Rattle.txc_rows.proofs.Tables.{IsKeyed, next_above, put_row_last, replaced}
 use Rattle.txc_rows.proofs.Steps.{cast_null, cast_int, inserts_rows, updates_rows, one_more}
 use Rattle.txc_rows.proofs.PutLemmas.{key_is}
+use Rattle.txc_rows.proofs.SegmentLemmas.{AreSame, not_latest, all_not_latest, is_tree, once, none_written, none_stored, stored_with, one_written}
+use borrow.Author.Tests.{eqb-true}
+use Rattle.std.proofs.lemmas.List.Sorted.{IsPermutation-refl}
+use Rattle.sqlite.specs.Source.{Source}
+use Rattle.sqlite.specs.declared.run.Mode.{Mode}
+use Rattle.sqlite.specs.Rows.{Outcome}
 
 -- both tables are there, and these are the versions in them
-pub record Leaves (latest earlier : List Placed) (s : State) : Type 0 where
+pub record Leaves (latest dead : List Placed) (s : State) : Type 0 where
   pub schema : s.now.schema ≡ version_schema
   pub latest_rows : AreStored (s.now.trees 0)
-  pub earlier_rows : AreStored (s.now.trees 3)
+  pub dead_rows : AreStoredIn s.now.trees segments
   pub latest_are : placed_all (s.now.trees 0) ≡ latest
-  pub earlier_are : placed_all (s.now.trees 3) ≡ earlier
+  pub dead_are : IsPermutation dead (dead_among s.now.trees segments)
+
+-- the table of the last versions was written alone
+latest_written : (db : Trees) (latest : List Placed) (s : State) → s.now.schema ≡ version_schema → AreStored (s.now.trees 0) → placed_all (s.now.trees 0) ≡ latest → AreSame 0 db s.now.trees segments
+    → AreStoredIn db segments → Leaves latest (dead_among db segments) s
+latest_written db latest s schema rows are same stored = record {
+  schema = schema;
+  latest_rows = rows;
+  dead_rows = none_stored 0 db s.now.trees segments (all_not_latest segments) same stored;
+  latest_are = are;
+  dead_are = rw (none_written 0 db s.now.trees segments (all_not_latest segments) same) (IsPermutation-refl (dead_among db segments));
+}
+
+-- a segment was written alone, and got more versions
+segment_written : (j : Segment) (db : Trees) (more : List Placed) (s : State) → s.now.schema ≡ version_schema → s.now.trees 0 ≡ db 0 → AreSame (tree_of j) db s.now.trees segments
+    → AreStored (s.now.trees (tree_of j)) → placed_all (s.now.trees (tree_of j)) ≡ placed_all (db (tree_of j)) ++ more
+    → AreStored (db 0) → AreStoredIn db segments → Leaves (placed_all (db 0)) (dead_among db segments ++ more) s
+segment_written j db more s schema other same rows are latest stored = record {
+  schema = schema;
+  latest_rows = rw other latest;
+  dead_rows = stored_with j db s.now.trees more are rows segments same stored;
+  latest_are = ap placed_all other;
+  dead_are = one_written j db s.now.trees more are rows segments same (once j);
+}
+
+-- the rows of a segment
+segment_rows : (j : Segment) (trees : Trees) (ss : List Segment) → length (filter (is_tree j) ss) ≡ 1 → AreStoredIn trees ss → AreStored (trees (tree_of j))
+segment_rows j trees [] one each = absurd (omega (arith, one))
+segment_rows j trees (s ∷ ss) one each = go (is_tree j s) refl one
+  where
+    go : (b : Bool) → is_tree j s ≡ b → length (cond b (s ∷ filter (is_tree j) ss) (filter (is_tree j) ss)) ≡ 1 → AreStored (trees (tree_of j))
+    go true e h = subst (λ t. AreStored (trees t)) (eqb-true (tree_of s) (tree_of j) e) each.0
+    go false e h = segment_rows j trees ss h each.1
+
+-- an insertion that names a segment writes its table
+module _ (limit : Option ℕ) (mode : Mode) (params : Row) (db : Database) (text : List ℕ) (from : Source) (out : Outcome (Tally × Database)) where
+  abbrev written_by : Segment → Type 0
+  written_by j = OnRows (record { limit = limit; keys = mode.keys; schema = version_schema; table = segment_table j; params = params }) mode None (Insert (place_of j) from) db.trees out
+
+  on_segment : (j : Segment) → Does limit mode params (record db { schema = version_schema }) text None (Insert (place_of j) from) out → written_by j
+  on_segment First h = h
+  on_segment Second h = h
+  on_segment Third h = h
+  on_segment Fourth h = h
+  on_segment Fifth h = h
+  on_segment Sixth h = h
+  on_segment Seventh h = h
 
 pub keyed_all : (rows : List Row) → AllByRecursion IsStored rows → AllByRecursion IsKeyed rows
 keyed_all [] all = tt
@@ -66,9 +121,9 @@ placed_put x rows h =
     ap placed_all (put_row_last (stored (next_rowid rows) x) rows (next_above rows h.table (keyed_all rows h.each)))
     ∙ map-append placed_in rows (stored (next_rowid rows) x ∷ []) ∙ ap (λ w. placed_all rows ++ w ∷ []) (placed_again (next_rowid rows) x)
 
-pub adds_latest : (old new : State) (x : Placed) (count : ℕ) → old.now.schema ≡ version_schema → AreStored (old.now.trees 0) → AreStored (old.now.trees 3) → Executes ADD_LATEST.now (cells_of x) old new (Ok count)
-    → Leaves (placed_all (old.now.trees 0) ++ x ∷ []) (placed_all (old.now.trees 3)) new
-adds_latest old new x count has latest earlier h =
+pub adds_latest : (old new : State) (x : Placed) (count : ℕ) → old.now.schema ≡ version_schema → AreStored (old.now.trees 0) → AreStoredIn old.now.trees segments → Executes ADD_LATEST.now (cells_of x) old new (Ok count)
+    → Leaves (placed_all (old.now.trees 0) ++ x ∷ []) (dead_among old.now.trees segments) new
+adds_latest old new x count has latest dead h =
     let params = cells_of x in
     let db = old.now.trees in
     let w = runs_as ADD_LATEST.now params old new version_schema has (Insert 0 (Values terms 8)) add_latest_is add_latest_plain count h in
@@ -77,34 +132,22 @@ adds_latest old new x count has latest earlier h =
     let it = inserts_rows (codes "latest") 0 latest_keys old.step_limit (mode_of old) params db 0 (Values terms 8) w.tally new.now done in
     let rows : new.now.trees 0 ≡ put_row (stored (next_rowid (db 0)) x) (db 0)
     = it.4.rows ∙ ap (λ all. edited db (edit_of db latest_table [] Chosen 0 all)) it.1.1 ∙ one_more (codes "latest") 0 latest_keys old.step_limit (mode_of old) params db x in
-    let other : new.now.trees 3 ≡ db 3 = it.4.tables.1.0 (λ e. omega (arith, e)) in
-    record {
-      schema = it.2;
-      latest_rows = rw rows (stored_put (next_rowid (db 0)) x (db 0) latest);
-      earlier_rows = rw other earlier;
-      latest_are = ap placed_all rows ∙ placed_put x (db 0) latest;
-      earlier_are = ap placed_all other;
-    }
+    latest_written db _ new it.2 (rw rows (stored_put (next_rowid (db 0)) x (db 0) latest)) (ap placed_all rows ∙ placed_put x (db 0) latest) it.4.tables.1 dead
 
-pub adds_earlier : (old new : State) (x : Placed) (count : ℕ) → old.now.schema ≡ version_schema → AreStored (old.now.trees 0) → AreStored (old.now.trees 3) → Executes ADD_EARLIER.now (cells_of x) old new (Ok count)
-    → Leaves (placed_all (old.now.trees 0)) (placed_all (old.now.trees 3) ++ x ∷ []) new
-adds_earlier old new x count has latest earlier h =
+pub adds_dead : (j : Segment) (old new : State) (x : Placed) (count : ℕ) → old.now.schema ≡ version_schema → AreStored (old.now.trees 0) → AreStoredIn old.now.trees segments → Executes (add_text j) (cells_of x) old new (Ok count)
+    → Leaves (placed_all (old.now.trees 0)) (dead_among old.now.trees segments ++ x ∷ []) new
+adds_dead j old new x count has latest dead h =
     let params = cells_of x in
     let db = old.now.trees in
-    let w = runs_as ADD_EARLIER.now params old new version_schema has (Insert 1 (Values terms 8)) add_earlier_is add_earlier_plain count h in
-    let text = statement_of ADD_EARLIER.now (understood version_schema ADD_EARLIER.now) in
-    let done = subst (λ s. Does old.step_limit (mode_of old) params (record old.now { schema = s }) text None (Insert 1 (Values terms 8)) (Ok (w.tally, new.now))) has w.changed in
-    let it = inserts_rows (codes "earlier") 3 earlier_keys old.step_limit (mode_of old) params db 1 (Values terms 8) w.tally new.now done in
-    let rows : new.now.trees 3 ≡ put_row (stored (next_rowid (db 3)) x) (db 3)
-    = it.4.rows ∙ ap (λ all. edited db (edit_of db earlier_table [] Chosen 0 all)) it.1.1 ∙ one_more (codes "earlier") 3 earlier_keys old.step_limit (mode_of old) params db x in
-    let other : new.now.trees 0 ≡ db 0 = it.4.tables.0 (λ e. omega (arith, e)) in
-    record {
-      schema = it.2;
-      latest_rows = rw other latest;
-      earlier_rows = rw rows (stored_put (next_rowid (db 3)) x (db 3) earlier);
-      latest_are = ap placed_all other;
-      earlier_are = ap placed_all rows ∙ placed_put x (db 3) earlier;
-    }
+    let tree = tree_of j in
+    let own = segment_rows j db segments (once j) dead in
+    let w = runs_as (add_text j) params old new version_schema has (Insert (place_of j) (Values terms 8)) (add_segment_is j) (add_segment_plain j) count h in
+    let text = statement_of (add_text j) (understood version_schema (add_text j)) in
+    let done = subst (λ s. Does old.step_limit (mode_of old) params (record old.now { schema = s }) text None (Insert (place_of j) (Values terms 8)) (Ok (w.tally, new.now))) has w.changed in
+    let it = inserts_rows (name_of j) tree segment_keys old.step_limit (mode_of old) params db (place_of j) (Values terms 8) w.tally new.now (on_segment old.step_limit (mode_of old) params old.now text (Values terms 8) _ j done) in
+    let rows : new.now.trees tree ≡ put_row (stored (next_rowid (db tree)) x) (db tree)
+    = it.4.rows ∙ ap (λ all. edited db (edit_of db (segment_table j) [] Chosen 0 all)) it.1.1 ∙ one_more (name_of j) tree segment_keys old.step_limit (mode_of old) params db x in
+    segment_written j db (x ∷ []) new it.2 (it.4.tables.0 (λ e. not_latest j (sym e))) it.4.tables.1 (rw rows (stored_put (next_rowid (db tree)) x (db tree) own)) (ap placed_all rows ∙ placed_put x (db tree) own) latest dead
 
 -- ---- the rows that pass a test, of which there is one at most
 
@@ -184,9 +227,9 @@ module _ (fs project : List Term) (params : Row) (P : Placed → Bool) (test : (
     placed_changed (r ∷ rows) = rw (placed_again (id_in (rowid r)) (F (placed_in r)), placed_changed rows) refl
 
     pub updates : (sql : List ℕ) → command_of (understood version_schema sql) ≡ Update 0 (alone (whole 0 fs project)) → IsPlain (understood version_schema sql)
-        → (old new : State) (count : ℕ) → old.now.schema ≡ version_schema → AreStored (old.now.trees 0) → AreStored (old.now.trees 3) → length (filter P (placed_all (old.now.trees 0))) ≤ 1 → Executes sql params old new (Ok count)
-        → Leaves (map F (placed_all (old.now.trees 0))) (placed_all (old.now.trees 3)) new
-    updates sql is plain old new count has latest earlier few h =
+        → (old new : State) (count : ℕ) → old.now.schema ≡ version_schema → AreStored (old.now.trees 0) → AreStoredIn old.now.trees segments → length (filter P (placed_all (old.now.trees 0))) ≤ 1 → Executes sql params old new (Ok count)
+        → Leaves (map F (placed_all (old.now.trees 0))) (dead_among old.now.trees segments) new
+    updates sql is plain old new count has latest dead few h =
         let db = old.now.trees in
         let w = runs_as sql params old new version_schema has (Update 0 (alone (whole 0 fs project))) is plain count h in
         let text = statement_of sql (understood version_schema sql) in
@@ -194,14 +237,7 @@ module _ (fs project : List Term) (params : Row) (P : Placed → Bool) (test : (
         let it = updates_rows (codes "latest") 0 latest_keys old.step_limit (mode_of old) params db 0 (alone (whole 0 fs project)) w.tally new.now done in
         let page = answered 0 [] fs project [] endless (overlay db []) params it.0 it.1.answer in
         let rows : new.now.trees 0 ≡ map changed (db 0) = it.3.rows ∙ updates_page db it.0 latest (few_rows P (db 0) few) page in
-        let other : new.now.trees 3 ≡ db 3 = it.3.tables.1.0 (λ e. omega (arith, e)) in
-        record {
-          schema = it.2;
-          latest_rows = rw rows (stored_changed (db 0) latest);
-          earlier_rows = rw other earlier;
-          latest_are = ap placed_all rows ∙ placed_changed (db 0);
-          earlier_are = ap placed_all other;
-        }
+        latest_written db _ new it.2 (rw rows (stored_changed (db 0) latest)) (ap placed_all rows ∙ placed_changed (db 0)) it.3.tables.1 dead
 
 -- ---- a version ends
 
@@ -212,10 +248,10 @@ ends_one : (t i s : ℕ) (db : Trees) (id : ℤ) (x : Placed) → is_at t i x.ve
     → edited db (edit_of db latest_table (ids_of (ended_given s id x ∷ [])) Given 1 (ended_given s id x ∷ [])) ≡ put_row (stored id (closed_placed t i s x)) (without_rowid id (db 0))
 ends_one t i s db id x hit = rw (hit, cast_int id, cast_int (pos x.place), cast_int (pos x.version.row.table), cast_int (pos x.version.row.id), cast_int (pos x.version.born), cast_int (pos x.version.row.group), cast_int (pos s)) refl
 
-pub closes : (old new : State) (t i s : ℕ) (count : ℕ) → old.now.schema ≡ version_schema → AreStored (old.now.trees 0) → AreStored (old.now.trees 3)
+pub closes : (old new : State) (t i s : ℕ) (count : ℕ) → old.now.schema ≡ version_schema → AreStored (old.now.trees 0) → AreStoredIn old.now.trees segments
     → length (filter (λ x. is_at t i x.version.row && is_current x.version) (placed_all (old.now.trees 0))) ≤ 1
     → Executes END_VERSION.now (number t ∷ number i ∷ number s ∷ []) old new (Ok count)
-    → Leaves (map (closed_placed t i s) (placed_all (old.now.trees 0))) (placed_all (old.now.trees 3)) new
+    → Leaves (map (closed_placed t i s) (placed_all (old.now.trees 0))) (dead_among old.now.trees segments) new
 closes old new t i s count = updates close_filter close_project (number t ∷ number i ∷ number s ∷ []) (λ x. is_at t i x.version.row && is_current x.version) (close_test t i s)
     (ended_given s) (λ id x. refl) (closed_placed t i s) (λ x off. rw off refl) (ends_one t i s) END_VERSION.now close_is close_plain old new count
 
@@ -233,10 +269,10 @@ renews_one place s row db id x hit =
 abbrev pub renew_params : ℕ → ℕ → RowValue → Row
 renew_params place s row = number row.table ∷ number row.id ∷ number row.group ∷ number place ∷ number s ∷ Blob row.body ∷ []
 
-pub renews : (old new : State) (place s : ℕ) (row : RowValue) (count : ℕ) → old.now.schema ≡ version_schema → AreStored (old.now.trees 0) → AreStored (old.now.trees 3)
+pub renews : (old new : State) (place s : ℕ) (row : RowValue) (count : ℕ) → old.now.schema ≡ version_schema → AreStored (old.now.trees 0) → AreStoredIn old.now.trees segments
     → length (filter (has_key row.table row.id row.group) (placed_all (old.now.trees 0))) ≤ 1
     → Executes RENEW_LATEST.now (renew_params place s row) old new (Ok count)
-    → Leaves (map (renewed place row s) (placed_all (old.now.trees 0))) (placed_all (old.now.trees 3)) new
+    → Leaves (map (renewed place row s) (placed_all (old.now.trees 0))) (dead_among old.now.trees segments) new
 renews old new place s row count = updates key_filter renew_project (renew_params place s row) (has_key row.table row.id row.group) (renew_test row.table row.id row.group place s row.body)
     (renewed_given place s row.body) (λ id x. refl) (renewed place row s) (λ x off. rw off refl) (renews_one place s row) RENEW_LATEST.now renew_is renew_plain old new count
 
@@ -245,15 +281,21 @@ renews old new place s row count = updates key_filter renew_project (renew_param
 abbrev copied_given : ℤ → Placed → Row
 copied_given id x = Null ∷ cells_of x
 
-pub copies : (old new : State) (t i g : ℕ) (count : ℕ) → old.now.schema ≡ version_schema → AreStored (old.now.trees 0) → AreStored (old.now.trees 3)
+pub copies : (j : Segment) (old new : State) (t i g : ℕ) (count : ℕ) → old.now.schema ≡ version_schema → AreStored (old.now.trees 0) → AreStoredIn old.now.trees segments
     → length (filter (has_key t i g) (placed_all (old.now.trees 0))) ≤ 1
-    → Executes COPY_EARLIER.now (number t ∷ number i ∷ number g ∷ []) old new (Ok count)
-    → Leaves (placed_all (old.now.trees 0)) (placed_all (old.now.trees 3) ++ filter (has_key t i g) (placed_all (old.now.trees 0))) new
+    → Executes (copy_text j) (number t ∷ number i ∷ number g ∷ []) old new (Ok count)
+    → Leaves (placed_all (old.now.trees 0)) (dead_among old.now.trees segments ++ filter (has_key t i g) (placed_all (old.now.trees 0))) new
     × (count ≡ length (filter (has_key t i g) (placed_all (old.now.trees 0))))
-copies old new t i g count has latest earlier few h = go (filter (λ r. has_key t i g (placed_in r)) (db 0)) refl (few_rows (has_key t i g) (db 0) few)
+copies j old new t i g count has latest dead few h = go (filter (λ r. has_key t i g (placed_in r)) (db 0)) refl (few_rows (has_key t i g) (db 0) few)
   where
     db : Trees
     db = old.now.trees
+
+    tree : ℕ
+    tree = tree_of j
+
+    own : AreStored (db tree)
+    own = segment_rows j db segments (once j) dead
 
     params : Row
     params = number t ∷ number i ∷ number g ∷ []
@@ -264,14 +306,14 @@ copies old new t i g count has latest earlier few h = go (filter (λ r. has_key 
     collated : List Collation
     collated = copy_query.collations
 
-    ran = runs_as COPY_EARLIER.now params old new version_schema has (Insert 1 (source.Query (alone copy_query))) copy_is copy_plain count h
+    ran = runs_as (copy_text j) params old new version_schema has (Insert (place_of j) (source.Query (alone copy_query))) (copy_is j) (copy_plain j) count h
 
     text : List ℕ
-    text = statement_of COPY_EARLIER.now (understood version_schema COPY_EARLIER.now)
+    text = statement_of (copy_text j) (understood version_schema (copy_text j))
 
-    done = subst (λ s. Does old.step_limit (mode_of old) params (record old.now { schema = s }) text None (Insert 1 (source.Query (alone copy_query))) (Ok (ran.tally, new.now))) has ran.changed
+    done = subst (λ s. Does old.step_limit (mode_of old) params (record old.now { schema = s }) text None (Insert (place_of j) (source.Query (alone copy_query))) (Ok (ran.tally, new.now))) has ran.changed
 
-    it = inserts_rows (codes "earlier") 3 earlier_keys old.step_limit (mode_of old) params db 1 (source.Query (alone copy_query)) ran.tally new.now done
+    it = inserts_rows (name_of j) tree segment_keys old.step_limit (mode_of old) params db (place_of j) (source.Query (alone copy_query)) ran.tally new.now (on_segment old.step_limit (mode_of old) params old.now text (source.Query (alone copy_query)) _ j done)
 
     page : IsPage 0 collated key_filter project [] endless params (db 0) it.0
     page = answered 0 collated key_filter project [] endless (overlay db []) params it.0 it.1.answer
@@ -280,38 +322,27 @@ copies old new t i g count has latest earlier few h = go (filter (λ r. has_key 
     hits x is = filter-map (has_key t i g) placed_in (db 0) ∙ ap (map placed_in) is
 
     other : new.now.trees 0 ≡ db 0
-    other = it.4.tables.0 (λ e. omega (arith, e))
+    other = it.4.tables.0 (λ e. not_latest j (sym e))
 
-    counted : (given : List Row) → it.0 ≡ given → count ≡ length (edit_of db earlier_table [] Chosen 0 given).news
-    counted given is = ran.counted ∙ ap (λ n. unwrap_or n 0) it.3 ∙ ap (λ all. length (edit_of db earlier_table [] Chosen 0 all).news) is
+    counted : (given : List Row) → it.0 ≡ given → count ≡ length (edit_of db (segment_table j) [] Chosen 0 given).news
+    counted given is = ran.counted ∙ ap (λ n. unwrap_or n 0) it.3 ∙ ap (λ all. length (edit_of db (segment_table j) [] Chosen 0 all).news) is
 
     go : (x : List Row) → filter (λ r. has_key t i g (placed_in r)) (db 0) ≡ x → length x ≤ 1
-        → Leaves (placed_all (db 0)) (placed_all (db 3) ++ filter (has_key t i g) (placed_all (db 0))) new × (count ≡ length (filter (has_key t i g) (placed_all (db 0))))
+        → Leaves (placed_all (db 0)) (dead_among db segments ++ filter (has_key t i g) (placed_all (db 0))) new × (count ≡ length (filter (has_key t i g) (placed_all (db 0))))
     go [] is short =
         let none = given_none key_filter project params (has_key t i g) (copy_test t i g) copied_given (λ id x. refl) collated (db 0) it.0 latest.each is page in
-        let rows : new.now.trees 3 ≡ db 3 = it.4.rows ∙ ap (λ all. edited db (edit_of db earlier_table [] Chosen 0 all)) none in
+        let rows : new.now.trees tree ≡ db tree = it.4.rows ∙ ap (λ all. edited db (edit_of db (segment_table j) [] Chosen 0 all)) none in
         (
-          record {
-            schema = it.2;
-            latest_rows = rw other latest;
-            earlier_rows = rw rows earlier;
-            latest_are = ap placed_all other;
-            earlier_are = ap placed_all rows ∙ sym (append-nil (placed_all (db 3))) ∙ ap (λ more. placed_all (db 3) ++ more) (sym (hits [] is));
-          },
+          segment_written j db _ new it.2 other it.4.tables.1 (rw rows own) (ap placed_all rows ∙ sym (append-nil (placed_all (db tree))) ∙ ap (λ more. placed_all (db tree) ++ more) (sym (hits [] is))) latest dead,
           counted [] none ∙ ap length (sym (hits [] is)),
         )
     go (x ∷ []) is short =
         let one = given_one key_filter project params (has_key t i g) (copy_test t i g) copied_given (λ id y. refl) collated (db 0) it.0 x latest.each is page in
-        let rows : new.now.trees 3 ≡ put_row (stored (next_rowid (db 3)) (placed_in x)) (db 3)
-        = it.4.rows ∙ ap (λ all. edited db (edit_of db earlier_table [] Chosen 0 all)) one ∙ one_more (codes "earlier") 3 earlier_keys old.step_limit (mode_of old) params db (placed_in x) in
+        let rows : new.now.trees tree ≡ put_row (stored (next_rowid (db tree)) (placed_in x)) (db tree)
+        = it.4.rows ∙ ap (λ all. edited db (edit_of db (segment_table j) [] Chosen 0 all)) one ∙ one_more (name_of j) tree segment_keys old.step_limit (mode_of old) params db (placed_in x) in
         (
-          record {
-            schema = it.2;
-            latest_rows = rw other latest;
-            earlier_rows = rw rows (stored_put (next_rowid (db 3)) (placed_in x) (db 3) earlier);
-            latest_are = ap placed_all other;
-            earlier_are = ap placed_all rows ∙ placed_put (placed_in x) (db 3) earlier ∙ ap (λ more. placed_all (db 3) ++ more) (sym (hits (x ∷ []) is));
-          },
+          segment_written j db _ new it.2 other it.4.tables.1 (rw rows (stored_put (next_rowid (db tree)) (placed_in x) (db tree) own))
+          (ap placed_all rows ∙ placed_put (placed_in x) (db tree) own ∙ ap (λ more. placed_all (db tree) ++ more) (sym (hits (x ∷ []) is))) latest dead,
           counted (copied_given (id_in (rowid x)) (placed_in x) ∷ []) one ∙ ap length (sym (hits (x ∷ []) is)),
         )
     go (x ∷ y ∷ more) is short = absurd (omega arith)

@@ -97,7 +97,7 @@ put_latest place row stamp latest = if length (filter (has_key row.table row.id 
 
 -- the dead versions after it: that last one is one of them
 abbrev pub put_dead : RowValue → List Placed → List Placed → List Placed
-put_dead row latest dead = earlier ++ filter (has_key row.table row.id row.group) latest
+put_dead row latest dead = dead ++ filter (has_key row.table row.id row.group) latest
 
 -- these are the versions by place, and each place is below the next one
 pub record AreWritten (versions : List Versioned) (next : ℕ) (placed : List Placed) : Type 0 where

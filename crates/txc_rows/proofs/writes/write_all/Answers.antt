@@ -8,7 +8,7 @@ use Rattle.txc_rows.specs.Versions.{after_net}
 use Rattle.txc_rows.specs.Placed.{AreWritten}
 use Rattle.txc_rows.specs.Kept.{IsCall, versions_of}
 use Rattle.txc_rows.proofs.HeldLemmas.{undone_call, refused_call, ended_call}
-use Rattle.txc_rows.proofs.statements.write_all.Goals as goal
+use Rattle.txc_rows.proofs.writes.write_all.Goals as goal
 
 pub returns-in_err-write_change : goal.returns-in_err-write_change
 returns-in_err-write_change c =
