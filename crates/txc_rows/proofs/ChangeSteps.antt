@@ -6,27 +6,63 @@ use Rattle.sqlite_trees.specs.declared.memory.MemStore.{MemStore}
 use Rattle.txc_stamp.specs.declared.stamp.TheConstants.{LAST_STAMP}
 use Rattle.txc_rows.specs.Values.{RowValue, IsRow}
 use Rattle.txc_rows.specs.Versions.{removed, put}
-use Rattle.txc_rows.specs.Placed.{closed_placed, put_latest, put_dead, Placed, has_key, new_placed, renewed, placed_left, AreBelow, AreApart, AreSwept, AreLeft}
-use Rattle.txc_rows.proofs.SweepLemmas.{swept_apart, swept_earlier, both_apart, swept_both}
+use Rattle.txc_rows.specs.Placed.{closed_placed, put_latest, put_dead, Placed, has_key, new_placed, renewed, version_of, AreBelow, AreApart, AreWritten, HaveOwnPlaces}
 use Rattle.std.specs.List.Sorted.{IsPermutation}
-use Rattle.std.specs.Prelude.{Vec}
-use Rattle.std.specs.declared.alloc.Global.{Global}
-use Rattle.sqlite.specs.Order.{Row}
+use Rattle.std.proofs.lemmas.List.Sorted.{IsPermutation-trans, IsPermutation-append_right}
+use Rattle.sqlite_trees.proofs.ListLemmas.{all-append, all-permutation}
+use Rattle.txc_rows.specs.declared.version.Versioned.{Versioned}
+use Rattle.txc_rows.specs.Holdable.{IsHoldable}
+use Rattle.txc_rows.proofs.PlaceLemmas.{own_places_permuted, by_place_same}
 use Rattle.sqlite.specs.declared.error.Error.{Error}
-use Rattle.txc_rows.proofs.HeldLemmas.{IsSame}
-use Rattle.txc_rows.specs.Kept.{IsStep, IsLeaving, latest_in, dead_in, placed_of, versions_of, HasVersions, HasWritten}
-use Rattle.txc_rows.proofs.PutLemmas.{HasNoCurrent, ended_apart, ended_none, ended_below, removed_written, put_written, put_apart}
+use Rattle.txc_rows.specs.Kept.{IsStep, latest_in, dead_in, placed_of, versions_of, HasVersions, HasWritten}
+use Rattle.txc_rows.proofs.PutLemmas.{all_front, all_back, HasNoCurrent, ended_apart, ended_none, ended_below, removed_written, put_written, put_apart}
+
+-- ---- the dead in any order
+
+pub apart_permuted : (latest dead others : List Placed) → IsPermutation dead others → AreApart latest dead → AreApart latest others
+apart_permuted latest dead others same h = record {
+  places = own_places_permuted _ _ (IsPermutation-append_right latest _ _ same) h.places;
+  keys = h.keys;
+  current = h.current;
+  ended = all-permutation (λ x. x.version.died ≢ None) dead others same h.ended;
+  each = all-append (λ x. IsHoldable x.version) latest others (all_front (λ x. IsHoldable x.version) latest dead h.each)
+      (all-permutation (λ x. IsHoldable x.version) dead others same (all_back (λ x. IsHoldable x.version) latest dead h.each));
+}
+
+pub written_permuted : (versions : List Versioned) (next : ℕ) (xs ys : List Placed) → IsPermutation xs ys → HaveOwnPlaces xs → AreWritten versions next xs → AreWritten versions next ys
+written_permuted versions next xs ys same own h = record {
+  versions_are = ap (map version_of) (sym (by_place_same xs ys same own)) ∙ h.versions_are;
+  below = all-permutation (λ x. x.place < next) xs ys same h.below;
+}
+
+module _ (latest dead : List Placed) (h : Held MemStore) (has : HasVersions latest dead h) where
+  placed_permuted : IsPermutation (latest ++ dead) (placed_of h)
+  placed_permuted = rw has.latest_are (IsPermutation-append_right latest _ _ has.dead_are)
+
+  pub has_apart : AreApart latest dead → AreApart (latest_in h) (dead_in h)
+  has_apart apart = rw has.latest_are (apart_permuted latest dead (dead_in h) has.dead_are apart)
+
+  pub has_written : (versions : List Versioned) (next : ℕ) → AreApart latest dead → AreWritten versions next (latest ++ dead) → AreWritten versions next (placed_of h)
+  has_written versions next apart written = written_permuted versions next (latest ++ dead) (placed_of h) placed_permuted apart.places written
+
+  pub has_below : (next : ℕ) → AreBelow next (latest ++ dead) → AreBelow next (placed_of h)
+  has_below next below = all-permutation (λ x. x.place < next) (latest ++ dead) (placed_of h) placed_permuted below
+
+-- ---- the statements of one change
 
 module _ (old mid : Held MemStore) (t i s place : ℕ) (low : s ≤ LAST_STAMP) (apart : AreApart (latest_in old) (dead_in old)) (below : AreBelow place (placed_of old))
     (has : HasVersions (map (closed_placed t i s) (latest_in old)) (dead_in old) mid) where
+  ended : AreApart (map (closed_placed t i s) (latest_in old)) (dead_in old)
+  ended = ended_apart t i s low (latest_in old) (dead_in old) apart
+
   pub ended_is_apart : AreApart (latest_in mid) (dead_in mid)
-  ended_is_apart = rw (has.latest_are, has.dead_are) (ended_apart t i s low (latest_in old) (dead_in old) apart)
+  ended_is_apart = has_apart _ _ mid has ended
 
   pub removed_step : HasWritten (removed t i s (versions_of old)) (place + 1) mid
   removed_step = record {
     tables = has.tables;
     apart = ended_is_apart;
-    written = rw (has.latest_are, has.dead_are) (removed_written t i s place low (latest_in old) (dead_in old) apart below);
+    written = has_written _ _ mid has _ _ ended (removed_written t i s place low (latest_in old) (dead_in old) apart below);
   }
 
 module _ (old mid end : Held MemStore) (row : RowValue) (s place : ℕ) (low : s ≤ LAST_STAMP) (is : IsRow row) (apart : AreApart (latest_in old) (dead_in old)) (below : AreBelow place (placed_of old))
@@ -36,7 +72,7 @@ module _ (old mid end : Held MemStore) (row : RowValue) (s place : ℕ) (low : s
   before = removed_step old mid row.table row.id s place low apart below has
 
   still_below : AreBelow place (placed_of mid)
-  still_below = rw (has.latest_are, has.dead_are) (ended_below row.table row.id s place (latest_in old) (dead_in old) apart.ended below)
+  still_below = has_below _ _ mid has place (ended_below row.table row.id s place (latest_in old) (dead_in old) apart.ended below)
 
   none : HasNoCurrent row.table row.id (latest_in mid)
   none = rw has.latest_are (ended_none row.table row.id s (latest_in old))
@@ -44,24 +80,15 @@ module _ (old mid end : Held MemStore) (row : RowValue) (s place : ℕ) (low : s
   pub put_step : HasWritten (put row s (versions_of old)) (place + 1) end
   put_step =
       let written = put_written s place row (latest_in mid) (dead_in mid) before.apart still_below in
+      let then_apart = put_apart place s row (latest_in mid) (dead_in mid) before.apart still_below none is low in
       record {
         tables = puts.tables;
-        apart = rw (puts.latest_are, puts.dead_are) (put_apart place s row (latest_in mid) (dead_in mid) before.apart still_below none is low);
-        written = rw (puts.latest_are, puts.dead_are) (record {
+        apart = has_apart _ _ end puts then_apart;
+        written = has_written _ _ end puts _ _ then_apart (record {
           versions_are = written.versions_are ∙ ap (λ vs. vs ++ record { row = row; born = s; died = None } ∷ []) before.written.versions_are;
           below = written.below;
         });
       }
-
--- ---- a sweep
-
-pub swept_is_apart : (old mid : Held MemStore) (from : ℕ) (kept : List Placed) → AreApart (latest_in old) (dead_in old) → IsPermutation (placed_left from (dead_in old)) kept → HasVersions (latest_in old) kept mid
-    → AreApart (latest_in mid) (dead_in mid) × AreSwept from (placed_of old) (placed_of mid)
-swept_is_apart old mid from kept apart left has = rw (has.latest_are, has.dead_are) (swept_apart from (latest_in old) (dead_in old) kept left apart, swept_earlier from (latest_in old) (dead_in old) kept left)
-
-pub both_are_apart : (old mid : Held MemStore) (from : ℕ) (last before : List Placed) → AreApart (latest_in old) (dead_in old) → IsPermutation (placed_left from (latest_in old)) last → IsPermutation (placed_left from (dead_in old)) before → HasVersions last before mid
-    → AreApart (latest_in mid) (dead_in mid) × AreLeft from (placed_of old) (placed_of mid)
-both_are_apart old mid from last before apart one two has = rw (has.latest_are, has.dead_are) (both_apart from (latest_in old) (dead_in old) last before one two apart, swept_both from (latest_in old) (dead_in old) last before one two)
 
 -- ---- one step after another
 
@@ -75,7 +102,7 @@ module _ (old mid end : Held MemStore) (row : RowValue) (s place : ℕ) (has : H
   put_first none puts = record {
     tables = puts.tables;
     latest_are = puts.latest_are ∙ ap (λ xs. xs ++ new_placed place row s ∷ []) has.latest_are ∙ rw none refl;
-    dead_are = puts.dead_are ∙ has.dead_are;
+    dead_are = IsPermutation-trans _ _ _ has.dead_are puts.dead_are;
   }
 
   pub put_again : length (filter (has_key row.table row.id row.group) (latest_in old)) == 0 ≡ false → HasVersions (map (renewed place row s) (latest_in mid)) (dead_in mid) end
@@ -83,10 +110,5 @@ module _ (old mid end : Held MemStore) (row : RowValue) (s place : ℕ) (has : H
   put_again some puts = record {
     tables = puts.tables;
     latest_are = puts.latest_are ∙ ap (map (renewed place row s)) has.latest_are ∙ rw some refl;
-    dead_are = puts.dead_are ∙ has.dead_are;
+    dead_are = IsPermutation-trans _ _ _ has.dead_are puts.dead_are;
   }
-
--- ---- a reading leaves all as it was
-
-pub leaving_same : (from : ℕ) (placed : List Placed) (old new : Held MemStore) (r : Result (Vec Row Global) Error) → IsLeaving from placed old new r → IsSame old new
-leaving_same from placed old new r it = record { kept = it.kept; latest = it.latest; earlier = it.earlier }
