@@ -26,6 +26,7 @@ pub mod HeldLemmas
 pub mod ChangeSteps
 pub mod ViewLemmas
 pub mod Finding
+pub mod Answering
 pub mod KeepingLemmas
 pub mod Listed
 pub mod UsesLemmas
