@@ -21,6 +21,9 @@ use Rattle.sqlite.proofs.Callers.{command_of, statement_of, IsPlain}
 use Rattle.txc_rows.specs.declared.texts.TheConstants.{ADD_LATEST, END_VERSION, RENEW_LATEST}
 use Rattle.txc_rows.specs.declared.texts.Segment.{Segment}
 use Rattle.txc_rows.specs.declared.texts.Segment.TheVariants.{First, Second, Third, Fourth, Fifth, Sixth, Seventh}
+use Rattle.txc_rows.specs.declared.texts.Source.{Source}
+use Rattle.txc_rows.specs.declared.texts.Source.TheVariants.{Latest, Dead}
+use Rattle.txc_rows.specs.Reads.{tree_read, table_text, row_text, group_text, range_text}
 use Rattle.txc_rows.specs.Texts.{version_schema, place_of, tree_of, add_text, copy_text}
 
 -- ---- rows that are given
@@ -179,3 +182,47 @@ group_filter = op2 (Compare Eq Binary) (col 1 2) (col 0 0) ∷ op2 (Compare Eq B
 
 abbrev pub range_filter : List Term
 range_filter = op2 (Compare Eq Binary) (col 1 2) (col 0 0) ∷ op2 (Compare Ge Binary) (col 1 3) (col 0 3) ∷ op2 (Compare Le Binary) (col 1 3) (col 0 4) ∷ left_test ∷ []
+
+pub table_is : (s : Source) → IsListingOf (tree_read s) table_filter (table_text s)
+unfolding understood everything
+table_is Latest = record { command = refl; rows = refl; plain = (refl, refl) }
+table_is (Dead First) = record { command = refl; rows = refl; plain = (refl, refl) }
+table_is (Dead Second) = record { command = refl; rows = refl; plain = (refl, refl) }
+table_is (Dead Third) = record { command = refl; rows = refl; plain = (refl, refl) }
+table_is (Dead Fourth) = record { command = refl; rows = refl; plain = (refl, refl) }
+table_is (Dead Fifth) = record { command = refl; rows = refl; plain = (refl, refl) }
+table_is (Dead Sixth) = record { command = refl; rows = refl; plain = (refl, refl) }
+table_is (Dead Seventh) = record { command = refl; rows = refl; plain = (refl, refl) }
+
+pub row_is : (s : Source) → IsListingOf (tree_read s) row_filter (row_text s)
+unfolding understood everything
+row_is Latest = record { command = refl; rows = refl; plain = (refl, refl) }
+row_is (Dead First) = record { command = refl; rows = refl; plain = (refl, refl) }
+row_is (Dead Second) = record { command = refl; rows = refl; plain = (refl, refl) }
+row_is (Dead Third) = record { command = refl; rows = refl; plain = (refl, refl) }
+row_is (Dead Fourth) = record { command = refl; rows = refl; plain = (refl, refl) }
+row_is (Dead Fifth) = record { command = refl; rows = refl; plain = (refl, refl) }
+row_is (Dead Sixth) = record { command = refl; rows = refl; plain = (refl, refl) }
+row_is (Dead Seventh) = record { command = refl; rows = refl; plain = (refl, refl) }
+
+pub group_is : (s : Source) → IsListingOf (tree_read s) group_filter (group_text s)
+unfolding understood everything
+group_is Latest = record { command = refl; rows = refl; plain = (refl, refl) }
+group_is (Dead First) = record { command = refl; rows = refl; plain = (refl, refl) }
+group_is (Dead Second) = record { command = refl; rows = refl; plain = (refl, refl) }
+group_is (Dead Third) = record { command = refl; rows = refl; plain = (refl, refl) }
+group_is (Dead Fourth) = record { command = refl; rows = refl; plain = (refl, refl) }
+group_is (Dead Fifth) = record { command = refl; rows = refl; plain = (refl, refl) }
+group_is (Dead Sixth) = record { command = refl; rows = refl; plain = (refl, refl) }
+group_is (Dead Seventh) = record { command = refl; rows = refl; plain = (refl, refl) }
+
+pub range_is : (s : Source) → IsListingOf (tree_read s) range_filter (range_text s)
+unfolding understood everything
+range_is Latest = record { command = refl; rows = refl; plain = (refl, refl) }
+range_is (Dead First) = record { command = refl; rows = refl; plain = (refl, refl) }
+range_is (Dead Second) = record { command = refl; rows = refl; plain = (refl, refl) }
+range_is (Dead Third) = record { command = refl; rows = refl; plain = (refl, refl) }
+range_is (Dead Fourth) = record { command = refl; rows = refl; plain = (refl, refl) }
+range_is (Dead Fifth) = record { command = refl; rows = refl; plain = (refl, refl) }
+range_is (Dead Sixth) = record { command = refl; rows = refl; plain = (refl, refl) }
+range_is (Dead Seventh) = record { command = refl; rows = refl; plain = (refl, refl) }

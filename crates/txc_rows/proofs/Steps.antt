@@ -66,8 +66,7 @@ module _ (schema : Schema) (text : List ℕ) (table : Table) (is : command_of (u
       let same : made.table ≡ table = cc in
       let after : first.0.schema ≡ created schema table = made.is ∙ ap (λ s. created s made.table) has ∙ ap (created schema) same in
       let none : lacks_sequence first.0.schema ≡ false = ap lacks_sequence after ∙ lacks in
-      let now : new.now ≡ first.0 = ap (λ (p : Tally × Database). p.1) (same_value all.2) ∙ same_value (rw none at first.2) in
-      (
+      let now : new.now ≡ first.0 = ap (λ (p : Tally × Database). p.1) (same_value all.2) ∙ same_value (rw none at first.2) in (
         ap (λ (d : Database). d.schema) now ∙ after,
         ap (λ (d : Database). d.trees (next_tree schema)) now ∙ subst (λ s. first.0.trees (next_tree s) ≡ []) has made.empty,
         subst (λ (d : Database). KeepsRows schema.tables old.now.trees d.trees) (sym now) (subst (λ s. KeepsRows s.tables old.now.trees first.0.trees) has made.others),
@@ -93,8 +92,7 @@ module _ (name : List ℕ) (tree : ℕ) (keys : List (List ℕ)) (limit : Option
       let counted = went written.2 in
       let is = same_value counted.2 in
       let trees : done.0.trees ≡ written.0 = ap (λ (it : Written). it.trees) is ∙ same_value counted.1 in
-      let step = one_step version_schema mode.keys db written.0 (edit_of db table [] Chosen 0 given.0) refl written.1 in
-      (
+      let step = one_step version_schema mode.keys db written.0 (edit_of db table [] Chosen 0 given.0) refl written.1 in (
         given.0,
         given.1,
         ap (λ (p : Tally × Database). p.1.schema) said,
@@ -111,8 +109,7 @@ module _ (name : List ℕ) (tree : ℕ) (keys : List (List ℕ)) (limit : Option
       let given = went done.1 in
       let written = went given.2 in
       let trees : done.0.trees ≡ written.0 = ap (λ (it : Written). it.trees) (same_value written.2) in
-      let step = one_step version_schema mode.keys db written.0 (edit_of db table (ids_of given.0) Given 1 given.0) refl written.1 in
-      (
+      let step = one_step version_schema mode.keys db written.0 (edit_of db table (ids_of given.0) Given 1 given.0) refl written.1 in (
         given.0,
         given.1,
         ap (λ (p : Tally × Database). p.1.schema) said,

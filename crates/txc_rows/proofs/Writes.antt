@@ -305,14 +305,11 @@ copies j old new t i g count has latest dead few h = go (filter (λ r. has_key t
 
     collated : List Collation
     collated = copy_query.collations
-
     ran = runs_as (copy_text j) params old new version_schema has (Insert (place_of j) (source.Query (alone copy_query))) (copy_is j) (copy_plain j) count h
 
     text : List ℕ
     text = statement_of (copy_text j) (understood version_schema (copy_text j))
-
     done = subst (λ s. Does old.step_limit (mode_of old) params (record old.now { schema = s }) text None (Insert (place_of j) (source.Query (alone copy_query))) (Ok (ran.tally, new.now))) has ran.changed
-
     it = inserts_rows (name_of j) tree segment_keys old.step_limit (mode_of old) params db (place_of j) (source.Query (alone copy_query)) ran.tally new.now (on_segment old.step_limit (mode_of old) params old.now text (source.Query (alone copy_query)) _ j done)
 
     page : IsPage 0 collated key_filter project [] endless params (db 0) it.0
@@ -331,18 +328,16 @@ copies j old new t i g count has latest dead few h = go (filter (λ r. has_key t
         → Leaves (placed_all (db 0)) (dead_among db segments ++ filter (has_key t i g) (placed_all (db 0))) new × (count ≡ length (filter (has_key t i g) (placed_all (db 0))))
     go [] is short =
         let none = given_none key_filter project params (has_key t i g) (copy_test t i g) copied_given (λ id x. refl) collated (db 0) it.0 latest.each is page in
-        let rows : new.now.trees tree ≡ db tree = it.4.rows ∙ ap (λ all. edited db (edit_of db (segment_table j) [] Chosen 0 all)) none in
-        (
+        let rows : new.now.trees tree ≡ db tree = it.4.rows ∙ ap (λ all. edited db (edit_of db (segment_table j) [] Chosen 0 all)) none in (
           segment_written j db _ new it.2 other it.4.tables.1 (rw rows own) (ap placed_all rows ∙ sym (append-nil (placed_all (db tree))) ∙ ap (λ more. placed_all (db tree) ++ more) (sym (hits [] is))) latest dead,
           counted [] none ∙ ap length (sym (hits [] is)),
         )
     go (x ∷ []) is short =
         let one = given_one key_filter project params (has_key t i g) (copy_test t i g) copied_given (λ id y. refl) collated (db 0) it.0 x latest.each is page in
         let rows : new.now.trees tree ≡ put_row (stored (next_rowid (db tree)) (placed_in x)) (db tree)
-        = it.4.rows ∙ ap (λ all. edited db (edit_of db (segment_table j) [] Chosen 0 all)) one ∙ one_more (name_of j) tree segment_keys old.step_limit (mode_of old) params db (placed_in x) in
-        (
+        = it.4.rows ∙ ap (λ all. edited db (edit_of db (segment_table j) [] Chosen 0 all)) one ∙ one_more (name_of j) tree segment_keys old.step_limit (mode_of old) params db (placed_in x) in (
           segment_written j db _ new it.2 other it.4.tables.1 (rw rows (stored_put (next_rowid (db tree)) (placed_in x) (db tree) own))
-          (ap placed_all rows ∙ placed_put (placed_in x) (db tree) own ∙ ap (λ more. placed_all (db tree) ++ more) (sym (hits (x ∷ []) is))) latest dead,
+              (ap placed_all rows ∙ placed_put (placed_in x) (db tree) own ∙ ap (λ more. placed_all (db tree) ++ more) (sym (hits (x ∷ []) is))) latest dead,
           counted (copied_given (id_in (rowid x)) (placed_in x) ∷ []) one ∙ ap length (sym (hits (x ∷ []) is)),
         )
     go (x ∷ y ∷ more) is short = absurd (omega arith)

@@ -17,7 +17,9 @@ use Rattle.txc_rows.specs.Holdable.{IsHoldable}
 use Rattle.sqlite.specs.Tree.{Trees}
 use Rattle.txc_rows.specs.declared.texts.Segment.{Segment}
 use Rattle.txc_rows.specs.Texts.{version_schema, segments, tree_of}
-use Rattle.txc_rows.specs.Placed.{Placed, versions_by_place, left_from, placed_left, AreBelow, AreApart, AreWritten}
+use Rattle.txc_rows.specs.declared.texts.Source.{Source}
+use Rattle.txc_rows.specs.Reads.{tree_read}
+use Rattle.txc_rows.specs.Placed.{Placed, version_of, versions_by_place, left_from, placed_left, AreBelow, AreApart, AreWritten}
 use Rattle.txc_rows.specs.Stored.{placed_all, placed_from, AreStored, AreCells, shown, version_shown}
 
 -- the last versions of each table, id and group, as the transaction sees them
@@ -96,10 +98,18 @@ pub record IsListing (q : Query) (versions : List Versioned) (rows : List Row) :
   pub finds : Finds q versions found
   pub first : map (version_shown (query_table q)) rows ≡ take MOST_READ found
 
--- a reading for a query: the rows show the versions that match of those that did not die before a stamp, or it
--- is refused. All versions are as they were.
-pub record IsReading (q : Query) (from : ℕ) (old new : Held MemStore) (outcome : Result (Vec Row Global) Error)
-    : Type 0 where
+-- the versions in the table that is read
+abbrev pub placed_read : Source → Held MemStore → List Placed
+placed_read s h = placed_all ((state over_memory h).now.trees (tree_read s))
+
+-- the tables are as they were, and no transaction is under way
+pub record IsSame (old new : Held MemStore) : Type 0 where
   pub kept : IsKept new
-  pub same : placed_of new ≡ placed_of old
-  pub lists : IfOk outcome (λ rows. IsListing q (left_from from (versions_of old)) rows.items)
+  pub trees : (state over_memory new).now.trees ≡ (state over_memory old).now.trees
+
+-- a reading of one table for a query: the rows show the versions in it that match, of those that did not die before
+-- a stamp, or it is refused. All tables are as they were.
+pub record IsReading (q : Query) (from : ℕ) (s : Source) (old new : Held MemStore) (outcome : Result (Vec Row Global) Error)
+    : Type 0 where
+  pub same : IsSame old new
+  pub lists : IfOk outcome (λ rows. IsListing q (left_from from (map version_of (placed_read s old))) rows.items)

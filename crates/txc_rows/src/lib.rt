@@ -4,6 +4,7 @@
 mod decode;
 mod laws;
 mod query;
+mod reads;
 mod row;
 mod segments;
 mod statements;

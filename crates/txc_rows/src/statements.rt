@@ -1,8 +1,8 @@
 //! The statements on the tables of versions.
 
-use crate::query::Query;
 use crate::texts::{
-    ADD_LATEST, DROP_LATEST, LEFT_LATEST, MAKE_LATEST, MOST_READ, SEGMENTS, Segment, Test, add_text, dead_text, drop_text, latest_text, left_text, make_text,
+    ADD_LATEST, DROP_LATEST, LEFT_LATEST, MAKE_LATEST, SEGMENTS, Segment, add_text, drop_text,
+    left_text, make_text,
 };
 use sqlite::{Connection, Error, MemStore, Transaction, params};
 use std::alloc::Global;
@@ -120,59 +120,4 @@ pub(crate) fn sweep_all(
     }
     tx.commit()?;
     Ok((latest.len(), kept))
-}
-
-// ---- reading
-
-fn read(
-    conn: &mut Connection<MemStore>,
-    query: &Query,
-    from: u32,
-    text: &'static str,
-) -> Result<Vec<sqlite::Row>, Error> {
-    match *query {
-        Query::ById(table, id) => conn.query_all(
-            text,
-            params![u32::from(table.number()), MOST_READ, from, id],
-        ),
-        Query::ByGroup(table, group) => conn.query_all(
-            text,
-            params![u32::from(table.number()), MOST_READ, from, group],
-        ),
-        Query::All(table) => {
-            conn.query_all(text, params![u32::from(table.number()), MOST_READ, from])
-        }
-        Query::Range(table, first, last) => conn.query_all(
-            text,
-            params![u32::from(table.number()), MOST_READ, from, first, last],
-        ),
-    }
-}
-
-fn test_of(query: &Query) -> Test {
-    match query {
-        Query::ById(..) => Test::Row,
-        Query::ByGroup(..) => Test::Group,
-        Query::All(..) => Test::Table,
-        Query::Range(..) => Test::Range,
-    }
-}
-
-/// The last versions that match and did not die before the stamp, by id and birth, at most so many of them.
-pub(crate) fn read_latest(
-    conn: &mut Connection<MemStore>,
-    query: &Query,
-    from: u32,
-) -> Result<Vec<sqlite::Row>, Error> {
-    read(conn, query, from, latest_text(test_of(query)))
-}
-
-/// The same of a segment.
-pub(crate) fn read_dead(
-    conn: &mut Connection<MemStore>,
-    query: &Query,
-    from: u32,
-    segment: Segment,
-) -> Result<Vec<sqlite::Row>, Error> {
-    read(conn, query, from, dead_text(segment, test_of(query)))
 }

@@ -10,10 +10,11 @@ ghost use Rattle.txc_rows.specs.declared.store_error.TheConstants.{MAX_MATCHING}
 
 use crate::decode::versions_from;
 use crate::query::{Change, Query};
+use crate::reads::read;
 use crate::segments::Segments;
-use crate::statements::{create, read_dead, read_latest, sweep_all, sweep_dead};
+use crate::statements::{create, sweep_all, sweep_dead};
 use crate::store_error::{MAX_MATCHING, StoreError};
-use crate::texts::SEGMENTS;
+use crate::texts::{SEGMENTS, Source};
 use crate::version::Versioned;
 use crate::writes::write_all;
 use sqlite::{Connection, MemStore};
@@ -109,7 +110,7 @@ impl VersionRows {
         ensures refused { result ≡ Err StoreError.TooManyRows
             → MAX_MATCHING < length (filter (suits query.now) self.old) }
     {
-        let rows = read_latest(&mut self.conn, query, self.kept_from)?;
+        let rows = read(&mut self.conn, Source::Latest, query, self.kept_from)?;
         if rows.len() > MAX_MATCHING {
             return Err(StoreError::TooManyRows);
         }
@@ -118,7 +119,8 @@ impl VersionRows {
         let mut is_mixed = false;
         for at in 0..self.segments.used.min(7) {
             if found.is_empty() || self.segments.may_have(at, changed) {
-                let rows = read_dead(&mut self.conn, query, self.kept_from, SEGMENTS[at])?;
+                let source = Source::Dead(SEGMENTS[at]);
+                let rows = read(&mut self.conn, source, query, self.kept_from)?;
                 if found.len().saturating_add(rows.len()) > MAX_MATCHING {
                     return Err(StoreError::TooManyRows);
                 }

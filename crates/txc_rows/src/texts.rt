@@ -1,7 +1,8 @@
 //! The texts of the statements on the tables of versions.
 
 ghost use Rattle.std.specs.Prelude.{◌≡◌};
-ghost use Rattle.txc_rows.specs.Texts.{add_text, copy_text};
+ghost use Rattle.txc_rows.specs.Texts.{add_text, copy_text, drop_text};
+ghost use Rattle.txc_rows.specs.Reads.{table_text, row_text, group_text, range_text};
 
 use crate::store_error::MAX_MATCHING;
 
@@ -109,31 +110,7 @@ pub(crate) const RENEW_LATEST: &str =
 
 pub(crate) const LEFT_LATEST: &str = left_in!("latest");
 
-// ---- which version is read from which table
-
-/// A test of a query.
-#[derive(Clone, Copy)]
-pub(crate) enum Test {
-    Table,
-    Row,
-    Group,
-    Range,
-}
-
-macro_rules! read_by {
-    ($test:ident, $name:literal) => {
-        match $test {
-            Test::Table => read_from!($name, ""),
-            Test::Row => read_from!($name, " AND id = ?4"),
-            Test::Group => read_from!($name, " AND group_number = ?4"),
-            Test::Range => read_from!($name, " AND id >= ?4 AND id <= ?5"),
-        }
-    };
-}
-
-pub(crate) fn latest_text(test: Test) -> &'static str {
-    read_by!(test, "latest")
-}
+// ---- the segments
 
 macro_rules! by_segment {
     ($segment:ident, $make:ident) => {
@@ -175,7 +152,9 @@ pub(crate) fn make_text(segment: Segment) -> &'static str {
     by_segment!(segment, make_segment)
 }
 
-pub(crate) fn drop_text(segment: Segment) -> &'static str {
+pub(crate) fn drop_text(segment: Segment) -> &'static str
+    ensures { result.now ≡ drop_text segment }
+{
     by_segment!(segment, drop_table)
 }
 
@@ -195,14 +174,50 @@ pub(crate) fn left_text(segment: Segment) -> &'static str {
     by_segment!(segment, left_in)
 }
 
-pub(crate) fn dead_text(segment: Segment, test: Test) -> &'static str {
-    match segment {
-        Segment::First => read_by!(test, "dead_1"),
-        Segment::Second => read_by!(test, "dead_2"),
-        Segment::Third => read_by!(test, "dead_3"),
-        Segment::Fourth => read_by!(test, "dead_4"),
-        Segment::Fifth => read_by!(test, "dead_5"),
-        Segment::Sixth => read_by!(test, "dead_6"),
-        Segment::Seventh => read_by!(test, "dead_7"),
-    }
+// ---- what is read
+
+/// A table that is read.
+#[derive(Clone, Copy)]
+pub(crate) enum Source {
+    Latest,
+    Dead(Segment),
+}
+
+macro_rules! by_source {
+    ($source:ident, $test:literal) => {
+        match $source {
+            Source::Latest => read_from!("latest", $test),
+            Source::Dead(Segment::First) => read_from!("dead_1", $test),
+            Source::Dead(Segment::Second) => read_from!("dead_2", $test),
+            Source::Dead(Segment::Third) => read_from!("dead_3", $test),
+            Source::Dead(Segment::Fourth) => read_from!("dead_4", $test),
+            Source::Dead(Segment::Fifth) => read_from!("dead_5", $test),
+            Source::Dead(Segment::Sixth) => read_from!("dead_6", $test),
+            Source::Dead(Segment::Seventh) => read_from!("dead_7", $test),
+        }
+    };
+}
+
+pub(crate) fn table_text(source: Source) -> &'static str
+    ensures { result.now ≡ table_text source }
+{
+    by_source!(source, "")
+}
+
+pub(crate) fn row_text(source: Source) -> &'static str
+    ensures { result.now ≡ row_text source }
+{
+    by_source!(source, " AND id = ?4")
+}
+
+pub(crate) fn group_text(source: Source) -> &'static str
+    ensures { result.now ≡ group_text source }
+{
+    by_source!(source, " AND group_number = ?4")
+}
+
+pub(crate) fn range_text(source: Source) -> &'static str
+    ensures { result.now ≡ range_text source }
+{
+    by_source!(source, " AND id >= ?4 AND id <= ?5")
 }

@@ -104,7 +104,7 @@ fn copy_latest(
     ensures count { IfOk result (λ n. n ≡ length (filter (has_key table id group) (latest_in tx.old.conn.now))) }
     ensures step { IsStep
         (HasVersions (latest_in tx.old.conn.now)
-            (dead_in tx.old.conn.now ++ filter (has_key table id group) (latest_in tx.old.conn.now)))
+        (dead_in tx.old.conn.now ++ filter (has_key table id group) (latest_in tx.old.conn.now)))
         tx.old.conn.now tx.new.conn.now result }
 {
     tx.execute(
@@ -157,7 +157,7 @@ fn put_version(
     ensures row { IsRow row.now }
     ensures step { IsStep
         (HasVersions (put_latest place row.now stamp (latest_in tx.old.conn.now))
-            (put_dead row.now (latest_in tx.old.conn.now) (dead_in tx.old.conn.now)))
+        (put_dead row.now (latest_in tx.old.conn.now) (dead_in tx.old.conn.now)))
         tx.old.conn.now tx.new.conn.now result }
 {
     let copied = copy_latest(tx, row.table(), row.id(), row.group(), segment)?;
