@@ -1,5 +1,5 @@
 -- What the statements do to a connection over the tables.
-use Rattle.std.proofs.Common.{◌≡◌, inl, inr, ℕ, ℤ, List, [], ◌∷◌, ◌++◌, map, filter, length, Bool, true, false, Some, Ok, Err, Result, OnOk, OnErr, IfErr, IfOk, refl, sym, ap, ap₂, subst, ◌∙◌, arith, IsTrue}
+use Rattle.std.proofs.Common.{◌≡◌, inl, inr, ℕ, ℤ, List, [], ◌∷◌, ◌++◌, map, filter, length, Bool, true, false, cond, Some, Ok, Err, Result, OnOk, OnErr, IfErr, IfOk, refl, sym, ap, ap₂, subst, ◌∙◌, arith, IsTrue}
 use Rattle.std.specs.List.{AllByRecursion, list_all}
 use Rattle.sqlite.specs.Order.{Row}
 use Rattle.sqlite.specs.Term.{Term, holds, eval}
@@ -14,12 +14,28 @@ use Rattle.sqlite.specs.Steps.{over_memory, IsEmpty, FailsToCommit}
 use Rattle.sqlite.specs.Effect.{Database}
 use Rattle.sqlite.proofs.Callers.{IsPlain}
 use Rattle.sqlite_trees.specs.declared.memory.MemStore.{MemStore}
-use Rattle.txc_rows.specs.Texts.{segments}
+use Rattle.txc_rows.specs.Texts.{segments, tree_of}
+use Rattle.txc_rows.specs.Reads.{tree_read}
+use Rattle.txc_rows.specs.declared.query.Query.{Query}
+use Rattle.txc_rows.specs.declared.texts.TheConstants.{MOST_READ}
+use Rattle.txc_rows.specs.declared.texts.Segment.{Segment}
+use Rattle.txc_rows.specs.declared.texts.Segment.TheVariants.{First, Second, Third, Fourth, Fifth, Sixth, Seventh}
+use Rattle.txc_rows.specs.declared.texts.Source.{Source}
+use Rattle.txc_rows.specs.declared.texts.Source.TheVariants.{Latest, Dead}
+use Rattle.txc_rows.specs.Holdable.{IsHoldable}
+use Rattle.sqlite.specs.Tree.{Trees}
+use Rattle.sqlite.specs.Program.{overlay}
+use borrow.Author.Tests.{eqb-true}
+use Rattle.txc_rows.proofs.SegmentLemmas.{is_tree, once}
+use Rattle.txc_rows.proofs.PutLemmas.{all_front, all_back}
+use Rattle.txc_rows.proofs.Commands.{IsListingOf, most_shown}
+use Rattle.txc_rows.proofs.StoredRows.{is_asked}
 use Rattle.txc_rows.specs.Placed.{Placed, AreApart}
 use Rattle.txc_rows.specs.Stored.{stored, number, placed_in, placed_all, AreStored}
-use Rattle.txc_rows.specs.Kept.{latest_in, dead_among, dead_in, placed_of, AreStoredIn, HasTables, HasVersions, IsKept, IsStep, IsCall}
-use Rattle.txc_rows.proofs.Writes.{Leaves}
-use Rattle.txc_rows.proofs.Refusals.{Refused}
+use Rattle.txc_rows.specs.Kept.{latest_in, dead_among, dead_in, placed_of, placed_read, AreStoredIn, HasTables, HasVersions, IsKept, IsStep, IsCall, IsSame, IsReading}
+use Rattle.txc_rows.proofs.Writes.{Leaves, segment_rows}
+use Rattle.txc_rows.proofs.Refusals.{Refused, query_refused, shown_same}
+use Rattle.txc_rows.proofs.Answering.{selects, listing}
 
 -- ---- one statement of a transaction
 
@@ -43,30 +59,31 @@ has_left latest dead h it = record {
 
 -- ---- calls on a connection
 
-pub record IsSame (old new : Held MemStore) : Type 0 where
-  pub kept : IsKept new
-  pub latest : latest_in new ≡ latest_in old
-  pub dead : dead_in new ≡ dead_in old
-
 pub placed_same : (old new : Held MemStore) → IsSame old new → placed_of new ≡ placed_of old
-placed_same old new same = ap₂ (λ (xs ys : List Placed). xs ++ ys) same.latest same.dead
+placed_same old new same = ap (λ t. placed_all (t 0) ++ dead_among t segments) same.trees
+
+-- what is seen is what was seen, and it is committed
+now_same : (old new : Held MemStore) → HasTables old → AreApart (latest_in old) (dead_in old) → (state over_memory new).now ≡ (state over_memory old).now → (state over_memory new).committed ≡ (state over_memory new).now → new.in_transaction ≡ false
+    → IsSame old new
+now_same old new tables apart now settled idle =
+    let trees : (state over_memory new).now.trees ≡ (state over_memory old).now.trees = ap (λ (d : Database). d.trees) now in
+    record {
+      kept = record {
+        tables = record {
+          schema = ap (λ (d : Database). d.schema) now ∙ tables.schema;
+          latest = subst (λ t. AreStored (t 0)) (sym trees) tables.latest;
+          dead = subst (λ t. AreStoredIn t segments) (sym trees) tables.dead;
+        };
+        idle = idle;
+        settled = settled;
+        apart = subst (λ t. AreApart (placed_all (t 0)) (dead_among t segments)) (sym trees) apart;
+      };
+      trees = trees;
+    }
 
 -- what is seen and what is committed did not change
 pub kept_same : (old new : Held MemStore) → IsKept old → (state over_memory new).now ≡ (state over_memory old).now → (state over_memory new).committed ≡ (state over_memory old).committed → new.in_transaction ≡ false → IsSame old new
-kept_same old new kept now base idle =
-    let latest = ap (λ (d : Database). d.trees 0) now in
-    let trees = ap (λ (d : Database). d.trees) now in
-    let dead = ap (λ t. dead_among t segments) trees in
-    record {
-      kept = record {
-        tables = record { schema = ap (λ (d : Database). d.schema) now ∙ kept.tables.schema; latest = subst AreStored (sym latest) kept.tables.latest; dead = subst (λ t. AreStoredIn t segments) (sym trees) kept.tables.dead };
-        idle = idle;
-        settled = base ∙ kept.settled ∙ sym now;
-        apart = rw (ap placed_all latest, dead) kept.apart;
-      };
-      latest = ap placed_all latest;
-      dead = dead;
-    }
+kept_same old new kept now base idle = now_same old new kept.tables kept.apart now (base ∙ kept.settled ∙ sym now) idle
 
 pub refused_same : (old new : Held MemStore) → IsKept old → Refused (state over_memory old) (state over_memory new) → IsSame old new
 refused_same old new kept (inl same) = kept_same old new kept same.0.now_is same.0.committed_is (same.0.mode ∙ kept.idle)
@@ -84,21 +101,7 @@ undone_call old mid end kept base back =
 -- what a commit leaves
 pub committed_kept : (mid end : Held MemStore) → HasTables mid → AreApart (latest_in mid) (dead_in mid) → end.in_transaction ≡ false
     → Shows (state over_memory mid) (state over_memory end) (state over_memory mid).now (state over_memory mid).now false → IsSame mid end
-committed_kept mid end tables apart idle shown =
-    let now = shown.now_is in
-    let latest = ap (λ (d : Database). d.trees 0) now in
-    let trees = ap (λ (d : Database). d.trees) now in
-    let dead = ap (λ t. dead_among t segments) trees in
-    record {
-      kept = record {
-        tables = record { schema = ap (λ (d : Database). d.schema) now ∙ tables.schema; latest = subst AreStored (sym latest) tables.latest; dead = subst (λ t. AreStoredIn t segments) (sym trees) tables.dead };
-        idle = idle;
-        settled = shown.committed_is ∙ sym now;
-        apart = rw (ap placed_all latest, dead) apart;
-      };
-      latest = ap placed_all latest;
-      dead = dead;
-    }
+committed_kept mid end tables apart idle shown = now_same mid end tables apart shown.now_is (shown.committed_is ∙ sym shown.now_is) idle
 
 pub ended_call : (L : List Placed → Type 0) (old mid end : Held MemStore) (r : Result (Unit {0}) Error) → IsKept old → HasTables mid → AreApart (latest_in mid) (dead_in mid) → L (placed_of mid)
     → (state over_memory mid).committed ≡ (state over_memory old).committed → end.in_transaction ≡ false
@@ -109,3 +112,46 @@ ended_call L old mid end (Ok _) kept tables apart leaves base idle ok err inside
     record { kept = same.kept; leaves = subst L (sym (placed_same mid end same)) leaves; unchanged = tt }
 ended_call L old mid end (Err e) kept tables apart leaves base idle ok (inl fails) inside = refused_call L old end e (undone_call old mid end kept base fails.3)
 ended_call L old mid end (Err e) kept tables apart leaves base idle ok (inr late) inside = absurd (let off = late.1 in cc)
+
+-- ---- the versions of a query in one table
+
+-- the rows of the table that is read
+pub rows_read : (s : Source) (h : Held MemStore) → HasTables h → AreStored ((state over_memory h).now.trees (tree_read s))
+rows_read Latest h has = has.latest
+rows_read (Dead j) h has = segment_rows j (state over_memory h).now.trees segments (once j) has.dead
+
+tree_itself : (s : Source) (trees : Trees) → overlay trees [] (tree_read s) ≡ trees (tree_read s)
+tree_itself Latest trees = refl
+tree_itself (Dead First) trees = refl
+tree_itself (Dead Second) trees = refl
+tree_itself (Dead Third) trees = refl
+tree_itself (Dead Fourth) trees = refl
+tree_itself (Dead Fifth) trees = refl
+tree_itself (Dead Sixth) trees = refl
+tree_itself (Dead Seventh) trees = refl
+
+-- each version of all tables can be held
+dead_each : (P : Placed → Type 0) (j : Segment) (trees : Trees) (ss : List Segment) → length (filter (is_tree j) ss) ≡ 1 → AllByRecursion P (dead_among trees ss) → AllByRecursion P (placed_all (trees (tree_of j)))
+dead_each P j trees [] one all = absurd (omega (arith, one))
+dead_each P j trees (s ∷ ss) one all = go (is_tree j s) refl one
+  where
+    go : (b : Bool) → is_tree j s ≡ b → length (cond b (s ∷ filter (is_tree j) ss) (filter (is_tree j) ss)) ≡ 1 → AllByRecursion P (placed_all (trees (tree_of j)))
+    go true e h = subst (λ t. AllByRecursion P (placed_all (trees t))) (eqb-true (tree_of s) (tree_of j) e) (all_front P (placed_all (trees (tree_of s))) (dead_among trees ss) all)
+    go false e h = dead_each P j trees ss h (all_back P (placed_all (trees (tree_of s))) (dead_among trees ss) all)
+
+each_read : (s : Source) (h : Held MemStore) → AreApart (latest_in h) (dead_in h) → AllByRecursion (λ x. IsHoldable x.version) (placed_read s h)
+each_read Latest h apart = all_front (λ x. IsHoldable x.version) (latest_in h) (dead_in h) apart.each
+each_read (Dead j) h apart = dead_each (λ x. IsHoldable x.version) j (state over_memory h).now.trees segments (once j) (all_back (λ x. IsHoldable x.version) (latest_in h) (dead_in h) apart.each)
+
+module _ (q : Query) (from : ℕ) (s : Source) (fs : List Term) (text : List ℕ) (is : IsListingOf (tree_read s) fs text) (params : Row)
+    (test : (id : ℤ) (x : Placed) → list_all (holds (params ∷ stored id x ∷ [])) fs ≡ is_asked q from x.version) (limit : as_count (eval most_shown (params ∷ [])) ≡ Some MOST_READ) (old new : Held MemStore) (kept : IsKept old) where
+  plain : IsPlain (understood (state over_memory old).now.schema text)
+  plain = subst (λ c. IsPlain (understood c text)) (sym kept.tables.schema) is.plain
+
+  pub lists : (r : Result (Vec Row Global) Error) → IfOk r (λ rows. Shown text params (state over_memory old) (state over_memory new) rows.items)
+      → IfErr r (FailsToQuery text params (state over_memory old) (state over_memory new)) → IsReading q from s old new r
+  lists (Ok rows) ok err =
+      let same = refused_same old new kept (inl (shown_same text params (state over_memory old) (state over_memory new) rows.items plain ok)) in
+      let found = selects (tree_read s) fs params text (is_asked q from) MOST_READ test limit is (state over_memory old) (state over_memory new) rows.items (tree_itself s (state over_memory old).now.trees) kept.tables.schema (rows_read s old kept.tables) ok in
+      record { same = same; lists = listing q from (placed_read s old) rows.items (each_read s old kept.apart) found }
+  lists (Err e) ok err = record { same = refused_same old new kept (query_refused text params (state over_memory old) (state over_memory new) e plain err); lists = tt }

@@ -82,7 +82,7 @@ segment_written j db more s schema other same rows are latest stored = record {
 }
 
 -- the rows of a segment
-segment_rows : (j : Segment) (trees : Trees) (ss : List Segment) → length (filter (is_tree j) ss) ≡ 1 → AreStoredIn trees ss → AreStored (trees (tree_of j))
+pub segment_rows : (j : Segment) (trees : Trees) (ss : List Segment) → length (filter (is_tree j) ss) ≡ 1 → AreStoredIn trees ss → AreStored (trees (tree_of j))
 segment_rows j trees [] one each = absurd (omega (arith, one))
 segment_rows j trees (s ∷ ss) one each = go (is_tree j s) refl one
   where
