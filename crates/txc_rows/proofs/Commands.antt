@@ -23,7 +23,7 @@ use Rattle.txc_rows.specs.declared.texts.Segment.{Segment}
 use Rattle.txc_rows.specs.declared.texts.Segment.TheVariants.{First, Second, Third, Fourth, Fifth, Sixth, Seventh}
 use Rattle.txc_rows.specs.declared.texts.Source.{Source}
 use Rattle.txc_rows.specs.declared.texts.Source.TheVariants.{Latest, Dead}
-use Rattle.txc_rows.specs.Reads.{tree_read, table_text, row_text, group_text, range_text}
+use Rattle.txc_rows.specs.Readings.{tree_read, table_text, row_text, group_text, range_text}
 use Rattle.txc_rows.specs.Texts.{version_schema, place_of, tree_of, add_text, copy_text}
 
 -- ---- rows that are given

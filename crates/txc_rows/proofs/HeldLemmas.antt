@@ -15,7 +15,7 @@ use Rattle.sqlite.specs.Effect.{Database}
 use Rattle.sqlite.proofs.Callers.{IsPlain}
 use Rattle.sqlite_trees.specs.declared.memory.MemStore.{MemStore}
 use Rattle.txc_rows.specs.Texts.{segments, tree_of}
-use Rattle.txc_rows.specs.Reads.{tree_read}
+use Rattle.txc_rows.specs.Readings.{tree_read}
 use Rattle.txc_rows.specs.declared.query.Query.{Query}
 use Rattle.txc_rows.specs.declared.texts.TheConstants.{MOST_READ}
 use Rattle.txc_rows.specs.declared.texts.Segment.{Segment}
@@ -33,7 +33,7 @@ use Rattle.txc_rows.proofs.StoredRows.{is_asked}
 use Rattle.txc_rows.specs.Placed.{Placed, AreApart}
 use Rattle.txc_rows.specs.Stored.{stored, number, placed_in, placed_all, AreStored}
 use Rattle.txc_rows.specs.Kept.{latest_in, dead_among, dead_in, placed_of, placed_read, AreStoredIn, HasTables, HasVersions, IsKept, IsStep, IsCall, IsSame, IsReading}
-use Rattle.txc_rows.proofs.Writes.{Leaves, segment_rows}
+use Rattle.txc_rows.proofs.WriteLemmas.{Leaves, segment_rows}
 use Rattle.txc_rows.proofs.Refusals.{Refused, query_refused, shown_same}
 use Rattle.txc_rows.proofs.Answering.{selects, listing}
 

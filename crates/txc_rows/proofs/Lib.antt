@@ -20,7 +20,7 @@ pub mod PutLemmas
 pub mod SweepLemmas
 pub mod Tables
 pub mod SegmentLemmas
-pub mod Writes
+pub mod WriteLemmas
 pub mod Refusals
 pub mod HeldLemmas
 pub mod ChangeSteps

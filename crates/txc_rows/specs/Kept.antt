@@ -18,7 +18,7 @@ use Rattle.sqlite.specs.Tree.{Trees}
 use Rattle.txc_rows.specs.declared.texts.Segment.{Segment}
 use Rattle.txc_rows.specs.Texts.{version_schema, segments, tree_of}
 use Rattle.txc_rows.specs.declared.texts.Source.{Source}
-use Rattle.txc_rows.specs.Reads.{tree_read}
+use Rattle.txc_rows.specs.Readings.{tree_read}
 use Rattle.txc_rows.specs.Placed.{Placed, version_of, versions_by_place, left_from, placed_left, AreBelow, AreApart, AreWritten}
 use Rattle.txc_rows.specs.Stored.{placed_all, placed_from, AreStored, AreCells, shown, version_shown}
 

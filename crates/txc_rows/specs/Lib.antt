@@ -9,7 +9,7 @@ pub mod Found
 pub mod StoreErrors
 pub mod Holdable
 pub mod Texts
-pub mod Reads
+pub mod Readings
 pub mod Placed
 pub mod Stored
 pub mod Kept

@@ -2,7 +2,7 @@
 
 ghost use Rattle.std.specs.Prelude.{◌≡◌};
 ghost use Rattle.txc_rows.specs.Texts.{add_text, copy_text, drop_text};
-ghost use Rattle.txc_rows.specs.Reads.{table_text, row_text, group_text, range_text};
+ghost use Rattle.txc_rows.specs.Readings.{table_text, row_text, group_text, range_text};
 
 use crate::store_error::MAX_MATCHING;
 

@@ -7,7 +7,7 @@ use Rattle.sqlite.proofs.Callers.{memory_is_clean}
 use Rattle.txc_rows.specs.declared.query.Query.TheVariants.{ByGroup}
 use Rattle.txc_rows.specs.declared.texts.TheConstants.{MOST_READ}
 use Rattle.txc_rows.specs.Stored.{number}
-use Rattle.txc_rows.specs.Reads.{group_text}
+use Rattle.txc_rows.specs.Readings.{group_text}
 use Rattle.txc_rows.proofs.Commands.{group_filter, group_is}
 use Rattle.txc_rows.proofs.StoredRows.{group_test}
 use Rattle.txc_rows.proofs.HeldLemmas.{lists}

@@ -7,7 +7,7 @@ use Rattle.txc_rows.specs.declared.texts.TheConstants.{ADD_LATEST}
 use Rattle.txc_rows.specs.Placed.{Placed, new_placed}
 use Rattle.txc_rows.specs.Stored.{cells_of}
 use Rattle.txc_rows.specs.Kept.{latest_in, dead_in, HasVersions}
-use Rattle.txc_rows.proofs.Writes.{adds_latest}
+use Rattle.txc_rows.proofs.WriteLemmas.{adds_latest}
 use Rattle.txc_rows.proofs.HeldLemmas.{steps, has_left}
 use Rattle.txc_rows.proofs.writes.add_latest.Goals as goal
 

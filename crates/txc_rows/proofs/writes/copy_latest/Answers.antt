@@ -11,7 +11,7 @@ use Rattle.txc_rows.specs.Placed.{has_key, HaveOwnKeys}
 use Rattle.txc_rows.specs.Stored.{number}
 use Rattle.txc_rows.specs.Kept.{latest_in, dead_in, HasTables, HasVersions}
 use Rattle.txc_rows.proofs.PutLemmas.{few_keys}
-use Rattle.txc_rows.proofs.Writes.{copies}
+use Rattle.txc_rows.proofs.WriteLemmas.{copies}
 use Rattle.txc_rows.proofs.HeldLemmas.{steps, has_left}
 use Rattle.txc_rows.proofs.writes.copy_latest.Goals as goal
 

@@ -8,7 +8,7 @@ use Rattle.txc_rows.specs.Placed.{closed_placed}
 use Rattle.txc_rows.specs.Stored.{number}
 use Rattle.txc_rows.specs.Kept.{latest_in, dead_in, HasVersions}
 use Rattle.txc_rows.proofs.PutLemmas.{few_current}
-use Rattle.txc_rows.proofs.Writes.{closes}
+use Rattle.txc_rows.proofs.WriteLemmas.{closes}
 use Rattle.txc_rows.proofs.HeldLemmas.{steps, has_left}
 use Rattle.txc_rows.proofs.writes.end_version.Goals as goal
 

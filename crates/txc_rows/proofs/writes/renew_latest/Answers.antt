@@ -7,7 +7,7 @@ use Rattle.txc_rows.specs.declared.texts.TheConstants.{RENEW_LATEST}
 use Rattle.txc_rows.specs.Placed.{renewed}
 use Rattle.txc_rows.specs.Kept.{latest_in, dead_in, HasVersions}
 use Rattle.txc_rows.proofs.PutLemmas.{few_keys}
-use Rattle.txc_rows.proofs.Writes.{renew_params, renews}
+use Rattle.txc_rows.proofs.WriteLemmas.{renew_params, renews}
 use Rattle.txc_rows.proofs.HeldLemmas.{steps, has_left}
 use Rattle.txc_rows.proofs.writes.renew_latest.Goals as goal
 
