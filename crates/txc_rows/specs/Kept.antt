@@ -1,5 +1,5 @@
 -- What a connection over the tables of versions keeps: words that only this crate's private functions promise.
-use Rattle.std.specs.Prelude.{◌≡◌, ◌≤◌, ℕ, true, false, List, ◌++◌, map, take, Result, Vec, OnOk, OnErr, IfOk}
+use Rattle.std.specs.Prelude.{◌≡◌, ◌≤◌, ℕ, true, false, List, [], ◌∷◌, ◌++◌, map, take, Result, Vec, OnOk, OnErr, IfOk}
 use Rattle.std.specs.declared.alloc.Global.{Global}
 use Rattle.sqlite.specs.declared.error.Error.{Error}
 use Rattle.std.specs.List.{AllByRecursion}
@@ -16,7 +16,8 @@ use Rattle.txc_rows.specs.Found.{Finds}
 use Rattle.txc_rows.specs.Holdable.{IsHoldable}
 use Rattle.sqlite.specs.Tree.{Trees}
 use Rattle.txc_rows.specs.declared.texts.Segment.{Segment}
-use Rattle.txc_rows.specs.Texts.{version_schema, segments, tree_of}
+use Rattle.sqlite.specs.Schema.{Schema}
+use Rattle.txc_rows.specs.Texts.{no_schema, version_schema, segments, tree_of}
 use Rattle.txc_rows.specs.declared.texts.Source.{Source}
 use Rattle.txc_rows.specs.Readings.{tree_read}
 use Rattle.txc_rows.specs.Placed.{Placed, version_of, versions_by_place, left_from, placed_left, AreBelow, AreApart, AreWritten}
@@ -113,3 +114,27 @@ pub record IsReading (q : Query) (from : ℕ) (s : Source) (old new : Held MemSt
     : Type 0 where
   pub same : IsSame old new
   pub lists : IfOk outcome (λ rows. IsListing q (left_from from (map version_of (placed_read s old))) rows.items)
+
+-- ---- tables that come and go
+
+-- no table is there
+pub record HasNoTable (h : Held MemStore) : Type 0 where
+  pub schema : (state over_memory h).now.schema ≡ no_schema
+
+-- the tables of a schema are there: these are the last versions, and these segments are empty
+pub record HasMade (schema : Schema) (latest : List Placed) (empty : List Segment) (h : Held MemStore) : Type 0 where
+  pub schema_is : (state over_memory h).now.schema ≡ schema
+  pub rows : AreStored ((state over_memory h).now.trees 0)
+  pub latest_are : latest_in h ≡ latest
+  pub are_empty : AllByRecursion (λ s. (state over_memory h).now.trees (tree_of s) ≡ []) empty
+
+-- the tables of a schema are there, and these are the last versions
+abbrev pub HasLatest : Schema → List Placed → Held MemStore → Type 0
+HasLatest schema latest = HasMade schema latest []
+
+-- a reading of the versions of one table that did not die before a stamp, or it is refused. All tables are as they
+-- were.
+pub record IsLeaving (from : ℕ) (s : Source) (old new : Held MemStore) (outcome : Result (Vec Row Global) Error) : Type 0 where
+  pub same : IsSame old new
+  pub cells : IfOk outcome (λ rows. AllByRecursion AreCells rows.items)
+  pub left : IfOk outcome (λ rows. IsPermutation (placed_left from (placed_read s old)) (map placed_from rows.items))

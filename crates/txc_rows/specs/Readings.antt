@@ -35,3 +35,8 @@ group_text = read_text (codes " AND group_number = ?4")
 -- those of the ids of a range
 abbrev pub range_text : Source → List ℕ
 range_text = read_text (codes " AND id >= ?4 AND id <= ?5")
+
+-- all versions of a table that did not die before a stamp, with their places
+abbrev pub left_text : Source → List ℕ
+left_text s = codes "SELECT place, table_number, id, born, group_number, body, died FROM " ++ name_read s
+    ++ codes " WHERE died IS NULL OR died >= ?1"

@@ -118,6 +118,16 @@ schema_before Third = schema_to Fourth
 schema_before Second = schema_to Third
 schema_before First = schema_to Second
 
+-- the segments that are made before a segment
+abbrev pub made_before : Segment → List Segment
+made_before Seventh = []
+made_before Sixth = Seventh ∷ []
+made_before Fifth = Sixth ∷ Seventh ∷ []
+made_before Fourth = Fifth ∷ Sixth ∷ Seventh ∷ []
+made_before Third = Fourth ∷ Fifth ∷ Sixth ∷ Seventh ∷ []
+made_before Second = Third ∷ Fourth ∷ Fifth ∷ Sixth ∷ Seventh ∷ []
+made_before First = Second ∷ Third ∷ Fourth ∷ Fifth ∷ Sixth ∷ Seventh ∷ []
+
 -- the schema with all tables
 abbrev pub version_schema : Schema
 version_schema = schema_to First
@@ -137,6 +147,11 @@ add_text s = codes "INSERT INTO " ++ name_of s
 abbrev pub copy_text : Segment → List ℕ
 copy_text s = codes "INSERT INTO " ++ name_of s
     ++ codes " (place, table_number, id, born, group_number, body, died) SELECT place, table_number, id, born, group_number, body, died FROM latest WHERE table_number = ?1 AND id = ?2 AND group_number = ?3"
+
+-- it is made
+abbrev pub make_text : Segment → List ℕ
+make_text s = codes "CREATE TABLE " ++ name_of s
+    ++ codes " (place INTEGER NOT NULL, table_number INTEGER NOT NULL, id INTEGER NOT NULL, born INTEGER NOT NULL, group_number INTEGER NOT NULL, body BLOB NOT NULL, died INTEGER, PRIMARY KEY (table_number, id, born), UNIQUE (table_number, group_number, id, born), CHECK (died IS NULL OR born < died)) STRICT"
 
 -- it is dropped
 abbrev pub drop_text : Segment → List ℕ

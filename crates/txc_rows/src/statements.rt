@@ -1,48 +1,116 @@
-//! The statements on the tables of versions.
+//! The statements that make and drop tables, and leave out what died.
+
+ghost use Rattle.std.specs.Prelude.{◌≡◌, ◌++◌, ◌∷◌, [], true, map, OnOk};
+ghost use Rattle.std.specs.List.{AllByRecursion};
+ghost use Rattle.sqlite.specs.Held.{state};
+ghost use Rattle.sqlite.specs.Steps.{over_memory, IsEmpty};
+ghost use Rattle.txc_rows.specs.Placed.{AreSwept, AreLeft};
+ghost use Rattle.txc_rows.specs.Stored.{AreCells, placed_from};
+ghost use Rattle.txc_rows.specs.Texts.{latest_schema, version_schema, schema_to, schema_before, made_before, segments};
+ghost use Rattle.txc_rows.specs.Kept.{latest_in, dead_in, placed_of, HasNoTable, HasMade, HasLatest, HasTables, HasVersions, IsKept, IsStep, IsCall, IsLeaving};
 
 use crate::texts::{
-    ADD_LATEST, DROP_LATEST, LEFT_LATEST, MAKE_LATEST, SEGMENTS, Segment, add_text, drop_text,
+    ADD_LATEST, DROP_LATEST, MAKE_LATEST, SEGMENTS, Segment, Source, add_text, drop_text,
     left_text, make_text,
 };
-use sqlite::{Connection, Error, MemStore, Transaction, params};
+use sqlite::{Connection, Error, ErrorCode, MemStore, Transaction, params};
 use std::alloc::Global;
 
 // ---- the tables
 
-/// Makes the tables in a store that has none: the last versions, and the segments from the last to the first.
-pub(crate) fn create(conn: &mut Connection<MemStore>) -> Result<(), Error> {
+fn make_latest(tx: &mut Transaction<'_, MemStore>) -> Result<usize, Error>
+    requires table { HasNoTable tx.old.conn.now }
+    requires inside { tx.old.conn.now.in_transaction ≡ true }
+    ensures same_reference { tx.new.conn.ghost_name ≡ tx.old.conn.ghost_name }
+    ensures step { IsStep (HasLatest latest_schema []) tx.old.conn.now tx.new.conn.now result }
+{
+    tx.execute(MAKE_LATEST, &[])
+}
+
+/// Makes a segment, where those before it have been made and no other.
+fn make_segment(tx: &mut Transaction<'_, MemStore>, segment: Segment) -> Result<usize, Error>
+    requires table { HasMade (schema_before segment) (latest_in tx.old.conn.now) (made_before segment) tx.old.conn.now }
+    requires inside { tx.old.conn.now.in_transaction ≡ true }
+    ensures same_reference { tx.new.conn.ghost_name ≡ tx.old.conn.ghost_name }
+    ensures step { IsStep
+        (HasMade (schema_to segment) (latest_in tx.old.conn.now) (segment ∷ made_before segment))
+        tx.old.conn.now tx.new.conn.now result }
+{
+    tx.execute(make_text(segment), &[])
+}
+
+/// Makes all segments, each empty.
+fn make_segments(tx: &mut Transaction<'_, MemStore>) -> Result<usize, Error>
+    requires table { HasLatest latest_schema (latest_in tx.old.conn.now) tx.old.conn.now }
+    requires inside { tx.old.conn.now.in_transaction ≡ true }
+    ensures same_reference { tx.new.conn.ghost_name ≡ tx.old.conn.ghost_name }
+    ensures step { IsStep (HasVersions (latest_in tx.old.conn.now) []) tx.old.conn.now tx.new.conn.now result }
+{
+    make_segment(tx, Segment::Seventh)?;
+    make_segment(tx, Segment::Sixth)?;
+    make_segment(tx, Segment::Fifth)?;
+    make_segment(tx, Segment::Fourth)?;
+    make_segment(tx, Segment::Third)?;
+    make_segment(tx, Segment::Second)?;
+    make_segment(tx, Segment::First)
+}
+
+/// Drops a segment, where those before it are there and no other.
+fn drop_segment(tx: &mut Transaction<'_, MemStore>, segment: Segment) -> Result<usize, Error>
+    requires table { HasLatest (schema_to segment) (latest_in tx.old.conn.now) tx.old.conn.now }
+    requires inside { tx.old.conn.now.in_transaction ≡ true }
+    ensures same_reference { tx.new.conn.ghost_name ≡ tx.old.conn.ghost_name }
+    ensures step { IsStep
+        (HasLatest (schema_before segment) (latest_in tx.old.conn.now))
+        tx.old.conn.now tx.new.conn.now result }
+{
+    tx.execute(drop_text(segment), &[])
+}
+
+/// Drops all segments.
+fn drop_segments(tx: &mut Transaction<'_, MemStore>) -> Result<usize, Error>
+    requires table { HasTables tx.old.conn.now }
+    requires inside { tx.old.conn.now.in_transaction ≡ true }
+    ensures same_reference { tx.new.conn.ghost_name ≡ tx.old.conn.ghost_name }
+    ensures step { IsStep
+        (HasLatest latest_schema (latest_in tx.old.conn.now))
+        tx.old.conn.now tx.new.conn.now result }
+{
+    drop_segment(tx, Segment::First)?;
+    drop_segment(tx, Segment::Second)?;
+    drop_segment(tx, Segment::Third)?;
+    drop_segment(tx, Segment::Fourth)?;
+    drop_segment(tx, Segment::Fifth)?;
+    drop_segment(tx, Segment::Sixth)?;
+    drop_segment(tx, Segment::Seventh)
+}
+
+/// Makes the tables in a store that has none.
+pub(crate) fn create(conn: &mut Connection<MemStore>) -> Result<(), Error>
+    requires { IsEmpty (state over_memory conn.old) }
+    ensures kept { OnOk result (IsKept conn.new) }
+    ensures empty { OnOk result (placed_of conn.new ≡ []) }
+{
     let mut tx = conn.transaction();
-    tx.execute(MAKE_LATEST, &[])?;
-    make_segments(&mut tx, SEGMENTS.len())?;
+    make_latest(&mut tx)?;
+    make_segments(&mut tx)?;
     tx.commit()
-}
-
-/// Makes so many of the segments, the first of them last.
-fn make_segments(tx: &mut Transaction<'_, MemStore>, count: usize) -> Result<(), Error> {
-    for at in 0..count {
-        tx.execute(make_text(SEGMENTS[count - 1 - at]), &[])?;
-    }
-    Ok(())
-}
-
-/// Drops so many of the segments, the first of them first.
-fn drop_segments(tx: &mut Transaction<'_, MemStore>, count: usize) -> Result<(), Error> {
-    for at in 0..count {
-        tx.execute(drop_text(SEGMENTS[at]), &[])?;
-    }
-    Ok(())
 }
 
 // ---- leaving out what died
 
-/// Adds a version that was read.
-fn copy_row(
-    tx: &mut Transaction<'_, MemStore>,
-    text: &'static str,
-    row: &sqlite::Row,
-) -> Result<usize, Error> {
+/// Adds a version that was read to the last ones.
+fn add_row(tx: &mut Transaction<'_, MemStore>, row: &sqlite::Row) -> Result<usize, Error>
+    requires table { HasTables tx.old.conn.now }
+    requires inside { tx.old.conn.now.in_transaction ≡ true }
+    requires cells { AreCells row.now }
+    ensures same_reference { tx.new.conn.ghost_name ≡ tx.old.conn.ghost_name }
+    ensures step { IsStep
+        (HasVersions (latest_in tx.old.conn.now ++ placed_from row.now ∷ []) (dead_in tx.old.conn.now))
+        tx.old.conn.now tx.new.conn.now result }
+{
     tx.execute(
-        text,
+        ADD_LATEST,
         &[
             row.get_ref(0)?,
             row.get_ref(1)?,
@@ -55,69 +123,133 @@ fn copy_row(
     )
 }
 
-fn fill(
+/// Adds a version that was read to a segment.
+fn add_dead(
     tx: &mut Transaction<'_, MemStore>,
-    text: &'static str,
-    rows: &[sqlite::Row],
-) -> Result<(), Error> {
+    segment: Segment,
+    row: &sqlite::Row,
+) -> Result<usize, Error>
+    requires table { HasTables tx.old.conn.now }
+    requires inside { tx.old.conn.now.in_transaction ≡ true }
+    requires cells { AreCells row.now }
+    ensures same_reference { tx.new.conn.ghost_name ≡ tx.old.conn.ghost_name }
+    ensures step { IsStep
+        (HasVersions (latest_in tx.old.conn.now) (dead_in tx.old.conn.now ++ placed_from row.now ∷ []))
+        tx.old.conn.now tx.new.conn.now result }
+{
+    tx.execute(
+        add_text(segment),
+        &[
+            row.get_ref(0)?,
+            row.get_ref(1)?,
+            row.get_ref(2)?,
+            row.get_ref(3)?,
+            row.get_ref(4)?,
+            row.get_ref(5)?,
+            row.get_ref(6)?,
+        ],
+    )
+}
+
+fn fill_latest(tx: &mut Transaction<'_, MemStore>, rows: &[sqlite::Row]) -> Result<(), Error>
+    requires table { HasTables tx.old.conn.now }
+    requires inside { tx.old.conn.now.in_transaction ≡ true }
+    requires cells { AllByRecursion AreCells rows.now }
+    ensures same_reference { tx.new.conn.ghost_name ≡ tx.old.conn.ghost_name }
+    ensures step { IsStep
+        (HasVersions (latest_in tx.old.conn.now ++ map placed_from rows.now) (dead_in tx.old.conn.now))
+        tx.old.conn.now tx.new.conn.now result }
+{
     for row in rows {
-        copy_row(tx, text, row)?;
+        add_row(tx, row)?;
     }
     Ok(())
 }
 
-/// Drops so many segments, makes them anew, and puts what did not die before the stamp into the first one. It
-/// answers how many that are.
+fn fill_dead(
+    tx: &mut Transaction<'_, MemStore>,
+    segment: Segment,
+    rows: &[sqlite::Row],
+) -> Result<(), Error>
+    requires table { HasTables tx.old.conn.now }
+    requires inside { tx.old.conn.now.in_transaction ≡ true }
+    requires cells { AllByRecursion AreCells rows.now }
+    ensures same_reference { tx.new.conn.ghost_name ≡ tx.old.conn.ghost_name }
+    ensures step { IsStep
+        (HasVersions (latest_in tx.old.conn.now) (dead_in tx.old.conn.now ++ map placed_from rows.now))
+        tx.old.conn.now tx.new.conn.now result }
+{
+    for row in rows {
+        add_dead(tx, segment, row)?;
+    }
+    Ok(())
+}
+
+/// The versions of a table that did not die before the stamp.
+fn read_left(
+    conn: &mut Connection<MemStore>,
+    source: Source,
+    from: u32,
+) -> Result<Vec<sqlite::Row>, Error>
+    requires { IsKept conn.old }
+    ensures { IsLeaving from source conn.old conn.new result }
+{
+    conn.query_all(left_text(source), params![from])
+}
+
+/// The versions of all segments that did not die before the stamp.
+fn read_all_left(
+    conn: &mut Connection<MemStore>,
+    alloc: Global,
+    from: u32,
+) -> Result<Vec<sqlite::Row>, Error> {
+    let mut left = Vec::new(alloc);
+    for at in 0..SEGMENTS.len() {
+        for row in read_left(conn, Source::Dead(SEGMENTS[at]), from)? {
+            if left.push(row).is_err() {
+                return Err(Error::SqliteFailure(ErrorCode::OutOfMemory));
+            }
+        }
+    }
+    Ok(left)
+}
+
+/// Makes the segments anew, with what did not die before the stamp in the first one. It answers how many that are.
 pub(crate) fn sweep_dead(
     conn: &mut Connection<MemStore>,
     alloc: Global,
     from: u32,
-    count: usize,
-) -> Result<usize, Error> {
-    let mut left = Vec::new(alloc);
-    let mut kept = 0usize;
-    for at in 0..count {
-        let rows = conn.query_all(left_text(SEGMENTS[at]), params![from])?;
-        kept = kept.wrapping_add(rows.len());
-        if left.push(rows).is_err() {
-            return Err(Error::SqliteFailure(sqlite::ErrorCode::OutOfMemory));
-        }
-    }
+) -> Result<usize, Error>
+    requires { IsKept conn.old }
+    ensures { IsCall (AreSwept from (placed_of conn.old)) conn.old conn.new result }
+{
+    let left = read_all_left(conn, alloc, from)?;
     let mut tx = conn.transaction();
-    drop_segments(&mut tx, count)?;
-    make_segments(&mut tx, count)?;
-    for rows in &left {
-        fill(&mut tx, add_text(Segment::First), rows)?;
-    }
+    drop_segments(&mut tx)?;
+    make_segments(&mut tx)?;
+    fill_dead(&mut tx, Segment::First, &left)?;
     tx.commit()?;
-    Ok(kept)
+    Ok(left.len())
 }
 
-/// The same for all tables.
+/// The same for all tables. It answers how many last versions are left, and how many others.
 pub(crate) fn sweep_all(
     conn: &mut Connection<MemStore>,
     alloc: Global,
     from: u32,
-) -> Result<(usize, usize), Error> {
-    let mut left = Vec::new(alloc);
-    let mut kept = 0usize;
-    let latest = conn.query_all(LEFT_LATEST, params![from])?;
-    for segment in SEGMENTS {
-        let rows = conn.query_all(left_text(segment), params![from])?;
-        kept = kept.wrapping_add(rows.len());
-        if left.push(rows).is_err() {
-            return Err(Error::SqliteFailure(sqlite::ErrorCode::OutOfMemory));
-        }
-    }
+) -> Result<(usize, usize), Error>
+    requires { IsKept conn.old }
+    ensures { IsCall (AreLeft from (placed_of conn.old)) conn.old conn.new result }
+{
+    let latest = read_left(conn, Source::Latest, from)?;
+    let left = read_all_left(conn, alloc, from)?;
     let mut tx = conn.transaction();
-    drop_segments(&mut tx, SEGMENTS.len())?;
+    drop_segments(&mut tx)?;
     tx.execute(DROP_LATEST, &[])?;
-    tx.execute(MAKE_LATEST, &[])?;
-    make_segments(&mut tx, SEGMENTS.len())?;
-    fill(&mut tx, ADD_LATEST, &latest)?;
-    for rows in &left {
-        fill(&mut tx, add_text(Segment::First), rows)?;
-    }
+    make_latest(&mut tx)?;
+    make_segments(&mut tx)?;
+    fill_latest(&mut tx, &latest)?;
+    fill_dead(&mut tx, Segment::First, &left)?;
     tx.commit()?;
-    Ok((latest.len(), kept))
+    Ok((latest.len(), left.len()))
 }

@@ -22,8 +22,11 @@ use std::alloc::Global;
 use std::marker::Model;
 use txc_stamp::Stamp;
 
-/// The tables are made anew without what died where so many are gone at least.
-const LEAST_GONE: usize = 1024;
+/// The segments are made anew where so many of their versions are gone at least.
+const LEAST_DEAD: usize = 256;
+
+/// All tables are made anew where so many of the last versions are gone at least.
+const LEAST_ENDED: usize = 1024;
 
 /// Row versions in a store in memory. Contracts see the list of its versions, the earliest put first.
 #[derive(Drop)]
@@ -92,7 +95,7 @@ impl VersionRows {
             conn,
             next_place: 0,
             kept_from: 0,
-            segments: Segments::with(0, u32::MAX, 0),
+            segments: Segments::empty(),
             rows: 0,
             ended: 0,
             marked: (0, 0),
@@ -117,18 +120,16 @@ impl VersionRows {
         let mut found = versions_from(self.alloc, query.table(), &rows)?;
         let changed = last_birth(&found);
         let mut is_mixed = false;
-        for at in 0..self.segments.used.min(7) {
-            if found.is_empty() || self.segments.may_have(at, changed) {
+        for at in 0..self.segments.used() {
+            if self.segments.may_have(at, changed) {
                 let source = Source::Dead(SEGMENTS[at]);
                 let rows = read(&mut self.conn, source, query, self.kept_from)?;
                 if found.len().saturating_add(rows.len()) > MAX_MATCHING {
                     return Err(StoreError::TooManyRows);
                 }
-                if !rows.is_empty() {
-                    is_mixed = true;
-                    for version in versions_from(self.alloc, query.table(), &rows)? {
-                        found.push(version)?;
-                    }
+                is_mixed = is_mixed || !rows.is_empty();
+                for version in versions_from(self.alloc, query.table(), &rows)? {
+                    found.push(version)?;
                 }
             }
         }
@@ -140,21 +141,15 @@ impl VersionRows {
 
     /// Makes the segments anew, without what died before the stamp.
     fn sweep(&mut self, from: u32) -> Result<(), StoreError> {
-        let (first, last) = (self.segments.first(), self.segments.last());
-        let kept = sweep_dead(&mut self.conn, self.alloc, from, self.segments.used)?;
-        self.segments = if kept == 0 {
-            Segments::with(0, u32::MAX, 0)
-        } else {
-            Segments::with(kept, first, last)
-        };
+        let kept = sweep_dead(&mut self.conn, self.alloc, from)?;
+        self.segments = self.segments.joined(kept);
         Ok(())
     }
 
     /// Makes all tables anew, without what died before the stamp.
     fn sweep_all(&mut self, from: u32) -> Result<(), StoreError> {
-        let last = self.segments.last();
         let (rows, kept) = sweep_all(&mut self.conn, self.alloc, from)?;
-        self.segments = Segments::with(kept, 0, last);
+        self.segments = self.segments.joined(kept);
         self.rows = rows;
         self.ended = 0;
         self.marked = (0, self.newest);
@@ -185,14 +180,16 @@ impl VersionRows {
             self.next_place,
             self.segments.newest(),
         )?;
-        self.segments.note(written.copied, stamp.number(), stamp.number() < self.newest);
+        let is_late = stamp.number() < self.newest;
+        let first = if is_late { 0 } else { stamp.number() };
+        self.newest = self.newest.max(stamp.number());
+        self.segments.note(written.copied, first, self.newest);
         self.rows = self.rows.wrapping_add(written.added);
         self.ended = self
             .ended
             .wrapping_add(written.ended)
             .saturating_sub(written.copied);
         self.next_place = next_place;
-        self.newest = self.newest.max(stamp.number());
         Ok(())
     }
 
@@ -204,11 +201,11 @@ impl VersionRows {
         ensures refused { IfErr result IsStoreRefusal }
     {
         let from = self.kept_from.max(horizon.number() + 1);
-        if self.marked.1 < from && self.ended.min(self.marked.0) >= LEAST_GONE.max(self.rows / 2) {
+        if self.marked.1 < from && self.ended.min(self.marked.0) >= LEAST_ENDED.max(self.rows / 2) {
             self.sweep_all(from)?;
         } else {
             let gone = self.segments.count_before(from);
-            if gone > 0 && gone >= self.segments.count() / 2 {
+            if gone >= LEAST_DEAD && gone >= self.segments.count() / 2 {
                 self.sweep(from)?;
             }
         }

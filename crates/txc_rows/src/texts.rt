@@ -1,8 +1,8 @@
 //! The texts of the statements on the tables of versions.
 
 ghost use Rattle.std.specs.Prelude.{◌≡◌};
-ghost use Rattle.txc_rows.specs.Texts.{add_text, copy_text, drop_text};
-ghost use Rattle.txc_rows.specs.Readings.{table_text, row_text, group_text, range_text};
+ghost use Rattle.txc_rows.specs.Texts.{add_text, copy_text, drop_text, make_text};
+ghost use Rattle.txc_rows.specs.Readings.{table_text, row_text, group_text, range_text, left_text};
 
 use crate::store_error::MAX_MATCHING;
 
@@ -108,8 +108,6 @@ pub(crate) const RENEW_LATEST: &str =
     "UPDATE latest SET place = ?4, born = ?5, body = ?6, died = NULL \
      WHERE table_number = ?1 AND id = ?2 AND group_number = ?3";
 
-pub(crate) const LEFT_LATEST: &str = left_in!("latest");
-
 // ---- the segments
 
 macro_rules! by_segment {
@@ -148,7 +146,9 @@ pub(crate) const SEGMENTS: [Segment; 7] = [
     Segment::Seventh,
 ];
 
-pub(crate) fn make_text(segment: Segment) -> &'static str {
+pub(crate) fn make_text(segment: Segment) -> &'static str
+    ensures { result.now ≡ make_text segment }
+{
     by_segment!(segment, make_segment)
 }
 
@@ -170,8 +170,19 @@ pub(crate) fn copy_text(segment: Segment) -> &'static str
     by_segment!(segment, copy_to)
 }
 
-pub(crate) fn left_text(segment: Segment) -> &'static str {
-    by_segment!(segment, left_in)
+pub(crate) fn left_text(source: Source) -> &'static str
+    ensures { result.now ≡ left_text source }
+{
+    match source {
+        Source::Latest => left_in!("latest"),
+        Source::Dead(Segment::First) => left_in!("dead_1"),
+        Source::Dead(Segment::Second) => left_in!("dead_2"),
+        Source::Dead(Segment::Third) => left_in!("dead_3"),
+        Source::Dead(Segment::Fourth) => left_in!("dead_4"),
+        Source::Dead(Segment::Fifth) => left_in!("dead_5"),
+        Source::Dead(Segment::Sixth) => left_in!("dead_6"),
+        Source::Dead(Segment::Seventh) => left_in!("dead_7"),
+    }
 }
 
 // ---- what is read
