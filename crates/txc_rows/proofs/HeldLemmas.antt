@@ -133,11 +133,11 @@ tree_itself (Dead Seventh) trees = refl
 -- each version of all tables can be held
 dead_each : (P : Placed → Type 0) (j : Segment) (trees : Trees) (ss : List Segment) → length (filter (is_tree j) ss) ≡ 1 → AllByRecursion P (dead_among trees ss) → AllByRecursion P (placed_all (trees (tree_of j)))
 dead_each P j trees [] one all = absurd (omega (arith, one))
-dead_each P j trees (s ∷ ss) one all = go (is_tree j s) refl one
+dead_each P j trees (s ∷ ss) one all = go (is_tree j s) refl one (λ h. dead_each P j trees ss h (all_back P (placed_all (trees (tree_of s))) (dead_among trees ss) all))
   where
-    go : (b : Bool) → is_tree j s ≡ b → length (cond b (s ∷ filter (is_tree j) ss) (filter (is_tree j) ss)) ≡ 1 → AllByRecursion P (placed_all (trees (tree_of j)))
-    go true e h = subst (λ t. AllByRecursion P (placed_all (trees t))) (eqb-true (tree_of s) (tree_of j) e) (all_front P (placed_all (trees (tree_of s))) (dead_among trees ss) all)
-    go false e h = dead_each P j trees ss h (all_back P (placed_all (trees (tree_of s))) (dead_among trees ss) all)
+    go : (b : Bool) → is_tree j s ≡ b → length (cond b (s ∷ filter (is_tree j) ss) (filter (is_tree j) ss)) ≡ 1 → (length (filter (is_tree j) ss) ≡ 1 → AllByRecursion P (placed_all (trees (tree_of j)))) → AllByRecursion P (placed_all (trees (tree_of j)))
+    go true e h on = subst (λ t. AllByRecursion P (placed_all (trees t))) (eqb-true (tree_of s) (tree_of j) e) (all_front P (placed_all (trees (tree_of s))) (dead_among trees ss) all)
+    go false e h on = on h
 
 each_read : (s : Source) (h : Held MemStore) → AreApart (latest_in h) (dead_in h) → AllByRecursion (λ x. IsHoldable x.version) (placed_read s h)
 each_read Latest h apart = all_front (λ x. IsHoldable x.version) (latest_in h) (dead_in h) apart.each

@@ -70,8 +70,11 @@ put_in_turned x y apart (z ∷ zs) = go (nat_lt x.place z.place) refl (nat_lt y.
     go : (a : Bool) → nat_lt x.place z.place ≡ a → (b : Bool) → nat_lt y.place z.place ≡ b → (c : Bool) → nat_lt x.place y.place ≡ c → put_in x (put_in y zs) ≡ put_in y (put_in x zs)
         → put_in x (put_in y (z ∷ zs)) ≡ put_in y (put_in x (z ∷ zs))
     go true e true f true g more = rw (e, f, g, back true g, f) refl
-    go true e true f false g more = rw (f, e, g, back false g, e) refl
-    go true e false f true g more = rw (e, f, back true g, e, f) refl
+    go true e true f false g more = rw (f, e, g, back false g) refl
+    go true e false f true g more =
+        let one : put_in x (put_in y (z ∷ zs)) ≡ x ∷ (z ∷ put_in y zs) = rw (f, e) refl in
+        let other : put_in y (put_in x (z ∷ zs)) ≡ x ∷ (z ∷ put_in y zs) = rw (e, back true g, f) refl in
+        one ∙ sym other
     go true e false f false g more = absurd (let h : nat_lt y.place z.place ≡ true = lt_through y.place x.place z.place (back false g) e in cc)
     go false e true f true g more = absurd (let h : nat_lt x.place z.place ≡ true = lt_through x.place y.place z.place g f in cc)
     go false e true f false g more = rw (e, f, g, e) refl

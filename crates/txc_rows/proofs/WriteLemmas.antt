@@ -48,6 +48,8 @@ use borrow.Author.Tests.{eqb-true}
 use Rattle.std.proofs.lemmas.List.Sorted.{IsPermutation-refl}
 use Rattle.sqlite.specs.Source.{Source}
 use Rattle.sqlite.specs.declared.run.Mode.{Mode}
+use Rattle.sqlite_schema.specs.declared.schema.Keys.{Keys}
+use Rattle.sqlite_rules.specs.Edit.{Applies}
 use Rattle.sqlite.specs.Rows.{Outcome}
 
 -- both tables are there, and these are the versions in them
@@ -84,11 +86,11 @@ segment_written j db more s schema other same rows are latest stored = record {
 -- the rows of a segment
 pub segment_rows : (j : Segment) (trees : Trees) (ss : List Segment) → length (filter (is_tree j) ss) ≡ 1 → AreStoredIn trees ss → AreStored (trees (tree_of j))
 segment_rows j trees [] one each = absurd (omega (arith, one))
-segment_rows j trees (s ∷ ss) one each = go (is_tree j s) refl one
+segment_rows j trees (s ∷ ss) one each = go (is_tree j s) refl one (λ h. segment_rows j trees ss h each.1)
   where
-    go : (b : Bool) → is_tree j s ≡ b → length (cond b (s ∷ filter (is_tree j) ss) (filter (is_tree j) ss)) ≡ 1 → AreStored (trees (tree_of j))
-    go true e h = subst (λ t. AreStored (trees t)) (eqb-true (tree_of s) (tree_of j) e) each.0
-    go false e h = segment_rows j trees ss h each.1
+    go : (b : Bool) → is_tree j s ≡ b → length (cond b (s ∷ filter (is_tree j) ss) (filter (is_tree j) ss)) ≡ 1 → (length (filter (is_tree j) ss) ≡ 1 → AreStored (trees (tree_of j))) → AreStored (trees (tree_of j))
+    go true e h on = subst (λ t. AreStored (trees t)) (eqb-true (tree_of s) (tree_of j) e) each.0
+    go false e h on = on h
 
 -- an insertion that names a segment writes its table
 module _ (limit : Option ℕ) (mode : Mode) (params : Row) (db : Database) (text : List ℕ) (from : Source) (out : Outcome (Tally × Database)) where
@@ -281,63 +283,63 @@ renews old new place s row count = updates key_filter renew_project (renew_param
 abbrev copied_given : ℤ → Placed → Row
 copied_given id x = Null ∷ cells_of x
 
+abbrev copied_project : List Term
+copied_project = lit Null ∷ cells_project
+
+abbrev copied_by : List Collation
+copied_by = copy_query.collations
+
+module _ (j : Segment) (keys : Keys) (db : Trees) (new : State) (t i g : ℕ) (latest : AreStored (db 0)) (dead : AreStoredIn db segments) (given : List Row)
+    (page : IsPage 0 copied_by key_filter copied_project [] endless (number t ∷ number i ∷ number g ∷ []) (db 0) given) (schema : new.now.schema ≡ version_schema)
+    (applies : Applies version_schema keys db (edit_of db (segment_table j) [] Chosen 0 given) new.now.trees) where
+  abbrev tree : ℕ
+  tree = tree_of j
+
+  own : AreStored (db tree)
+  own = segment_rows j db segments (once j) dead
+
+  abbrev copied : List Placed
+  copied = filter (has_key t i g) (placed_all (db 0))
+
+  found : (x : List Row) → filter (λ r. has_key t i g (placed_in r)) (db 0) ≡ x → copied ≡ map placed_in x
+  found x is = filter-map (has_key t i g) placed_in (db 0) ∙ ap (map placed_in) is
+
+  other : new.now.trees 0 ≡ db 0
+  other = applies.tables.0 (λ e. not_latest j (sym e))
+
+  abbrev Copied : Type 0
+  Copied = Leaves (placed_all (db 0)) (dead_among db segments ++ copied) new × (length (edit_of db (segment_table j) [] Chosen 0 given).news ≡ length copied)
+
+  copied_hits : (limit : Option ℕ) (mode : Mode) (x : List Row) → filter (λ r. has_key t i g (placed_in r)) (db 0) ≡ x → length x ≤ 1 → Copied
+  copied_hits limit mode [] is short =
+      let none = given_none key_filter copied_project (number t ∷ number i ∷ number g ∷ []) (has_key t i g) (copy_test t i g) copied_given (λ id x. refl) copied_by (db 0) given latest.each is page in
+      let rows : new.now.trees tree ≡ db tree = applies.rows ∙ ap (λ all. edited db (edit_of db (segment_table j) [] Chosen 0 all)) none in
+      let are : placed_all (new.now.trees tree) ≡ placed_all (db tree) ++ copied = ap placed_all rows ∙ sym (append-nil (placed_all (db tree))) ∙ ap (λ more. placed_all (db tree) ++ more) (sym (found [] is)) in
+      (segment_written j db copied new schema other applies.tables.1 (rw rows own) are latest dead, ap (λ all. length (edit_of db (segment_table j) [] Chosen 0 all).news) none ∙ ap length (sym (found [] is)))
+  copied_hits limit mode (x ∷ []) is short =
+      let one = given_one key_filter copied_project (number t ∷ number i ∷ number g ∷ []) (has_key t i g) (copy_test t i g) copied_given (λ id y. refl) copied_by (db 0) given x latest.each is page in
+      let rows : new.now.trees tree ≡ put_row (stored (next_rowid (db tree)) (placed_in x)) (db tree)
+      = applies.rows ∙ ap (λ all. edited db (edit_of db (segment_table j) [] Chosen 0 all)) one ∙ one_more (name_of j) tree segment_keys limit mode [] db (placed_in x) in
+      let are : placed_all (new.now.trees tree) ≡ placed_all (db tree) ++ copied = ap placed_all rows ∙ placed_put (placed_in x) (db tree) own ∙ ap (λ more. placed_all (db tree) ++ more) (sym (found (x ∷ []) is)) in
+      (
+        segment_written j db copied new schema other applies.tables.1 (rw rows (stored_put (next_rowid (db tree)) (placed_in x) (db tree) own)) are latest dead,
+        ap (λ all. length (edit_of db (segment_table j) [] Chosen 0 all).news) one ∙ ap length (sym (found (x ∷ []) is)),
+      )
+  copied_hits limit mode (x ∷ y ∷ more) is short = absurd (omega arith)
+
 pub copies : (j : Segment) (old new : State) (t i g : ℕ) (count : ℕ) → old.now.schema ≡ version_schema → AreStored (old.now.trees 0) → AreStoredIn old.now.trees segments
     → length (filter (has_key t i g) (placed_all (old.now.trees 0))) ≤ 1
     → Executes (copy_text j) (number t ∷ number i ∷ number g ∷ []) old new (Ok count)
     → Leaves (placed_all (old.now.trees 0)) (dead_among old.now.trees segments ++ filter (has_key t i g) (placed_all (old.now.trees 0))) new
     × (count ≡ length (filter (has_key t i g) (placed_all (old.now.trees 0))))
-copies j old new t i g count has latest dead few h = go (filter (λ r. has_key t i g (placed_in r)) (db 0)) refl (few_rows (has_key t i g) (db 0) few)
-  where
-    db : Trees
-    db = old.now.trees
-
-    tree : ℕ
-    tree = tree_of j
-
-    own : AreStored (db tree)
-    own = segment_rows j db segments (once j) dead
-
-    params : Row
-    params = number t ∷ number i ∷ number g ∷ []
-
-    project : List Term
-    project = lit Null ∷ cells_project
-
-    collated : List Collation
-    collated = copy_query.collations
-    ran = runs_as (copy_text j) params old new version_schema has (Insert (place_of j) (source.Query (alone copy_query))) (copy_is j) (copy_plain j) count h
-
-    text : List ℕ
-    text = statement_of (copy_text j) (understood version_schema (copy_text j))
-    done = subst (λ s. Does old.step_limit (mode_of old) params (record old.now { schema = s }) text None (Insert (place_of j) (source.Query (alone copy_query))) (Ok (ran.tally, new.now))) has ran.changed
-    it = inserts_rows (name_of j) tree segment_keys old.step_limit (mode_of old) params db (place_of j) (source.Query (alone copy_query)) ran.tally new.now (on_segment old.step_limit (mode_of old) params old.now text (source.Query (alone copy_query)) _ j done)
-
-    page : IsPage 0 collated key_filter project [] endless params (db 0) it.0
-    page = answered 0 collated key_filter project [] endless (overlay db []) params it.0 it.1.answer
-
-    hits : (x : List Row) → filter (λ r. has_key t i g (placed_in r)) (db 0) ≡ x → filter (has_key t i g) (placed_all (db 0)) ≡ map placed_in x
-    hits x is = filter-map (has_key t i g) placed_in (db 0) ∙ ap (map placed_in) is
-
-    other : new.now.trees 0 ≡ db 0
-    other = it.4.tables.0 (λ e. not_latest j (sym e))
-
-    counted : (given : List Row) → it.0 ≡ given → count ≡ length (edit_of db (segment_table j) [] Chosen 0 given).news
-    counted given is = ran.counted ∙ ap (λ n. unwrap_or n 0) it.3 ∙ ap (λ all. length (edit_of db (segment_table j) [] Chosen 0 all).news) is
-
-    go : (x : List Row) → filter (λ r. has_key t i g (placed_in r)) (db 0) ≡ x → length x ≤ 1
-        → Leaves (placed_all (db 0)) (dead_among db segments ++ filter (has_key t i g) (placed_all (db 0))) new × (count ≡ length (filter (has_key t i g) (placed_all (db 0))))
-    go [] is short =
-        let none = given_none key_filter project params (has_key t i g) (copy_test t i g) copied_given (λ id x. refl) collated (db 0) it.0 latest.each is page in
-        let rows : new.now.trees tree ≡ db tree = it.4.rows ∙ ap (λ all. edited db (edit_of db (segment_table j) [] Chosen 0 all)) none in (
-          segment_written j db _ new it.2 other it.4.tables.1 (rw rows own) (ap placed_all rows ∙ sym (append-nil (placed_all (db tree))) ∙ ap (λ more. placed_all (db tree) ++ more) (sym (hits [] is))) latest dead,
-          counted [] none ∙ ap length (sym (hits [] is)),
-        )
-    go (x ∷ []) is short =
-        let one = given_one key_filter project params (has_key t i g) (copy_test t i g) copied_given (λ id y. refl) collated (db 0) it.0 x latest.each is page in
-        let rows : new.now.trees tree ≡ put_row (stored (next_rowid (db tree)) (placed_in x)) (db tree)
-        = it.4.rows ∙ ap (λ all. edited db (edit_of db (segment_table j) [] Chosen 0 all)) one ∙ one_more (name_of j) tree segment_keys old.step_limit (mode_of old) params db (placed_in x) in (
-          segment_written j db _ new it.2 other it.4.tables.1 (rw rows (stored_put (next_rowid (db tree)) (placed_in x) (db tree) own))
-              (ap placed_all rows ∙ placed_put (placed_in x) (db tree) own ∙ ap (λ more. placed_all (db tree) ++ more) (sym (hits (x ∷ []) is))) latest dead,
-          counted (copied_given (id_in (rowid x)) (placed_in x) ∷ []) one ∙ ap length (sym (hits (x ∷ []) is)),
-        )
-    go (x ∷ y ∷ more) is short = absurd (omega arith)
+copies j old new t i g count has latest dead few h =
+    let db = old.now.trees in
+    let params : Row = number t ∷ number i ∷ number g ∷ [] in
+    let from : Source = source.Query (alone copy_query) in
+    let ran = runs_as (copy_text j) params old new version_schema has (Insert (place_of j) from) (copy_is j) (copy_plain j) count h in
+    let text = statement_of (copy_text j) (understood version_schema (copy_text j)) in
+    let done = subst (λ s. Does old.step_limit (mode_of old) params (record old.now { schema = s }) text None (Insert (place_of j) from) (Ok (ran.tally, new.now))) has ran.changed in
+    let it = inserts_rows (name_of j) (tree_of j) segment_keys old.step_limit (mode_of old) params db (place_of j) from ran.tally new.now (on_segment old.step_limit (mode_of old) params old.now text from _ j done) in
+    let page : IsPage 0 copied_by key_filter copied_project [] endless params (db 0) it.0 = answered 0 copied_by key_filter copied_project [] endless (overlay db []) params it.0 it.1.answer in
+    let all = copied_hits j _ db new t i g latest dead it.0 page it.2 it.4 old.step_limit (mode_of old) (filter (λ r. has_key t i g (placed_in r)) (db 0)) refl (few_rows (has_key t i g) (db 0) few) in
+    (all.0, ran.counted ∙ ap (λ n. unwrap_or n 0) it.3 ∙ all.1)

@@ -98,26 +98,6 @@ segment_table s = table_of_versions (name_of s) (tree_of s) segment_keys
 abbrev pub latest_schema : Schema
 latest_schema = created no_schema latest_table
 
--- the schema with a segment and those that are made before it
-abbrev pub schema_to : Segment → Schema
-schema_to Seventh = created latest_schema (segment_table Seventh)
-schema_to Sixth = created (schema_to Seventh) (segment_table Sixth)
-schema_to Fifth = created (schema_to Sixth) (segment_table Fifth)
-schema_to Fourth = created (schema_to Fifth) (segment_table Fourth)
-schema_to Third = created (schema_to Fourth) (segment_table Third)
-schema_to Second = created (schema_to Third) (segment_table Second)
-schema_to First = created (schema_to Second) (segment_table First)
-
--- the schema with those that are made before a segment
-abbrev pub schema_before : Segment → Schema
-schema_before Seventh = latest_schema
-schema_before Sixth = schema_to Seventh
-schema_before Fifth = schema_to Sixth
-schema_before Fourth = schema_to Fifth
-schema_before Third = schema_to Fourth
-schema_before Second = schema_to Third
-schema_before First = schema_to Second
-
 -- the segments that are made before a segment
 abbrev pub made_before : Segment → List Segment
 made_before Seventh = []
@@ -127,6 +107,19 @@ made_before Fourth = Fifth ∷ Sixth ∷ Seventh ∷ []
 made_before Third = Fourth ∷ Fifth ∷ Sixth ∷ Seventh ∷ []
 made_before Second = Third ∷ Fourth ∷ Fifth ∷ Sixth ∷ Seventh ∷ []
 made_before First = Second ∷ Third ∷ Fourth ∷ Fifth ∷ Sixth ∷ Seventh ∷ []
+
+-- the schema with these segments, of which the last is made first
+abbrev pub schema_with : List Segment → Schema
+schema_with [] = latest_schema
+schema_with (s ∷ ss) = created (schema_with ss) (segment_table s)
+
+-- the schema with those that are made before a segment
+abbrev pub schema_before : Segment → Schema
+schema_before s = schema_with (made_before s)
+
+-- the schema with it too
+abbrev pub schema_to : Segment → Schema
+schema_to s = schema_with (s ∷ made_before s)
 
 -- the schema with all tables
 abbrev pub version_schema : Schema
