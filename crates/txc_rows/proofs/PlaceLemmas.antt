@@ -69,7 +69,7 @@ put_in_turned x y apart (z ∷ zs) = go (nat_lt x.place z.place) refl (nat_lt y.
 
     go : (a : Bool) → nat_lt x.place z.place ≡ a → (b : Bool) → nat_lt y.place z.place ≡ b → (c : Bool) → nat_lt x.place y.place ≡ c → put_in x (put_in y zs) ≡ put_in y (put_in x zs)
         → put_in x (put_in y (z ∷ zs)) ≡ put_in y (put_in x (z ∷ zs))
-    go true e true f true g more = rw (e, f, g, back true g, f) refl
+    go true e true f true g more = rw (e, f, g, back true g) refl
     go true e true f false g more = rw (f, e, g, back false g) refl
     go true e false f true g more =
         let one : put_in x (put_in y (z ∷ zs)) ≡ x ∷ (z ∷ put_in y zs) = rw (f, e) refl in

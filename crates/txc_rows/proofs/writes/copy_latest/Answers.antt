@@ -15,7 +15,7 @@ use Rattle.txc_rows.proofs.WriteLemmas.{copies}
 use Rattle.txc_rows.proofs.HeldLemmas.{steps, has_left}
 use Rattle.txc_rows.proofs.writes.copy_latest.Goals as goal
 
-ran : (c : goal.Exit-returns) → ExecutesInside 0 (copy_text c.args.segment) (number c.args.table ∷ number c.args.id ∷ number c.args.group ∷ []) (state over_memory c.args.tx.now.conn.now) (state over_memory c.execute.new.self.conn.now) c.execute.result
+ran : (c : goal.After-execute) → ExecutesInside 0 (copy_text c.args.segment) (number c.args.table ∷ number c.args.id ∷ number c.args.group ∷ []) (state over_memory c.args.tx.now.conn.now) (state over_memory c.execute.new.self.conn.now) c.execute.result
 ran c = rw (c.copy_text.ensures, c.params-to_sql.ensures, c.params-to_sql-2.ensures, c.params-to_sql-3.ensures, c.from.ensures, c.number.ensures.answer) at (c.execute.ensures.runs (memory_is_clean c.execute.new.self.conn.now) c.requires.inside)
 
 counts : (j : Segment) (t i g : ℕ) (old new : Held MemStore) (r : Result ℕ Error) → HasTables old → HaveOwnKeys (latest_in old) → ExecutesInside 0 (copy_text j) (number t ∷ number i ∷ number g ∷ []) (state over_memory old) (state over_memory new) r
