@@ -92,6 +92,13 @@ refused_same old new kept (inr back) = kept_same old new kept ((back.undone refl
 pub refused_call : {X : Type 0} (L : List Placed → Type 0) (old new : Held MemStore) (e : Error) → IsSame old new → IsCall {X = X} L old new (Err e)
 refused_call L old new e same = record { kept = same.kept; leaves = tt; unchanged = placed_same old new same }
 
+-- what a call answers says nothing of the tables
+pub recast_ok : {X Y : Type 0} (L : List Placed → Type 0) (old new : Held MemStore) (x : X) (y : Y) → IsCall {X = X} L old new (Ok x) → IsCall {X = Y} L old new (Ok y)
+recast_ok L old new x y call = record { kept = call.kept; leaves = call.leaves; unchanged = tt }
+
+pub recast_err : {X Y : Type 0} (L : List Placed → Type 0) (old new : Held MemStore) (e f : Error) → IsCall {X = X} L old new (Err e) → IsCall {X = Y} L old new (Err f)
+recast_err L old new e f call = record { kept = call.kept; leaves = tt; unchanged = call.unchanged }
+
 -- ---- the end of a transaction
 
 pub undone_call : (old mid end : Held MemStore) → IsKept old → (state over_memory mid).committed ≡ (state over_memory old).committed → IsRolledBack (state over_memory mid) (state over_memory end) → IsSame old end

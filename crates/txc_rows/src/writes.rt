@@ -1,6 +1,6 @@
 //! The statements that write versions.
 
-ghost use Rattle.std.specs.Prelude.{◌≡◌, ◌++◌, ◌∷◌, [], ◌≤◌, ◌<◌, ◌+◌, ◌^◌, true, map, length, filter, IfOk};
+ghost use Rattle.std.specs.Prelude.{◌≡◌, ◌++◌, ◌∷◌, [], ◌≤◌, ◌<◌, ◌+◌, ◌^◌, true, map, length, filter, IfOk, OnOk};
 ghost use Rattle.txc_stamp.specs.declared.stamp.TheConstants.{LAST_STAMP};
 ghost use Rattle.txc_rows.specs.Values.{IsRow};
 ghost use Rattle.txc_rows.specs.Versions.{put, after_write, after_net};
@@ -48,6 +48,7 @@ fn add_latest(
     requires table { HasTables tx.old.conn.now }
     requires inside { tx.old.conn.now.in_transaction ≡ true }
     ensures same_reference { tx.new.conn.ghost_name ≡ tx.old.conn.ghost_name }
+    ensures row { IsRow row.now }
     ensures step { IsStep
         (HasVersions (latest_in tx.old.conn.now ++ new_placed place row.now stamp ∷ []) (dead_in tx.old.conn.now))
         tx.old.conn.now tx.new.conn.now result }
@@ -124,6 +125,7 @@ fn renew_latest(
     requires inside { tx.old.conn.now.in_transaction ≡ true }
     requires keys { HaveOwnKeys (latest_in tx.old.conn.now) }
     ensures same_reference { tx.new.conn.ghost_name ≡ tx.old.conn.ghost_name }
+    ensures row { IsRow row.now }
     ensures step { IsStep
         (HasVersions (map (renewed place row.now stamp) (latest_in tx.old.conn.now)) (dead_in tx.old.conn.now))
         tx.old.conn.now tx.new.conn.now result }
@@ -154,7 +156,7 @@ fn put_version(
     requires inside { tx.old.conn.now.in_transaction ≡ true }
     requires keys { HaveOwnKeys (latest_in tx.old.conn.now) }
     ensures same_reference { tx.new.conn.ghost_name ≡ tx.old.conn.ghost_name }
-    ensures row { IsRow row.now }
+    ensures row { OnOk result (IsRow row.now) }
     ensures step { IsStep
         (HasVersions (put_latest place row.now stamp (latest_in tx.old.conn.now))
         (put_dead row.now (latest_in tx.old.conn.now) (dead_in tx.old.conn.now)))

@@ -10,38 +10,28 @@ use Rattle.txc_rows.specs.Kept.{IsCall, versions_of}
 use Rattle.txc_rows.proofs.HeldLemmas.{undone_call, refused_call, ended_call}
 use Rattle.txc_rows.proofs.writes.write_all.Goals as goal
 
-pub returns-in_err-write_change : goal.returns-in_err-write_change
-returns-in_err-write_change c =
+pub returns-in_err-one : goal.returns-in_err-one
+returns-in_err-one c =
     let old = c.args.conn.now in
     let mid = c.write_change.new.tx.conn.now in
     let end = c.drop-tx.new.self.0 in
     let same : end ≡ c.conn-1.given.0 = search rules in
-    let base : (state over_memory mid).committed ≡ (state over_memory old).committed = c.in_err-write_change.ensures.step.base ∙ c.loop-change.invariant.base in
+    let base : (state over_memory mid).committed ≡ (state over_memory old).committed = c.in_err-one.ensures.step.base ∙ c.loop-change.invariant.base in
     let kept = undone_call old mid end c.requires.kept base (c.drop-tx.ensures.undone (memory_is_clean end)) in
     let p = err_from_is_err_and c.from_residual.result c.from_residual.ensures.1 in
     let leaves = AreWritten (after_net c.args.stamp c.args.net.now (versions_of old)) (c.args.place + length c.args.net.now) in
     rw p.1 (subst (λ h. IsCall leaves old h (Err p.0)) same (refused_call leaves old end p.0 kept))
 
+pub returns-in_err-commit : goal.returns-in_err-commit
+returns-in_err-commit c = ?
+
 pub returns : goal.returns
-returns c =
-    let old = c.args.conn.now in
-    let mid = c.loop-change.tx.conn.now in
-    let end = c.commit.new.self.0 in
-    let same : end ≡ c.conn-2-1.given.0 = search rules in
-    let i = c.loop-change.invariant in
-    let vs = after_net c.args.stamp c.args.net.now (versions_of old) in
-    let leaves = AreWritten vs (c.args.place + length c.args.net.now) in
-    let past = drop_all c.loop-change.change-index c.args.net.now c.loop-change-test.false in
-    let are : versions_of mid ≡ vs = ap (λ cs. after_net c.args.stamp cs (versions_of mid)) (sym past) ∙ i.rest in
-    let last : c.loop-change.next ≡ c.args.place + length c.args.net.now = omega (arith, i.next, i.within, c.loop-change-test.false) in
-    let written : leaves _ = record { versions_are = are; below = rw (← last) i.written.written.below } in
-    subst (λ h. IsCall leaves old h c.commit.result) same
-    (ended_call leaves old mid end c.commit.result c.requires.kept i.written.tables i.written.apart written i.base c.commit.ensures.ended (c.commit.ensures.ok (memory_is_clean end)) (c.commit.ensures.err (memory_is_clean end)) i.inside)
+returns c = ?
 
 pub loop-change-preserved : goal.loop-change-preserved
 loop-change-preserved c =
     let i = c.loop-change.invariant in
-    let step = c.in_ok-write_change.ensures.step in
+    let step = c.in_ok-one.ensures.step in
     let mid = versions_of c.loop-change.tx.conn.now in
     let net = c.args.net.now in
     let at = c.loop-change.change-index in
@@ -56,5 +46,5 @@ loop-change-preserved c =
       within = omega (arith, c.loop-change-test.true);
       base = step.base ∙ i.base;
       rest = ap (after_net c.args.stamp (drop (at + 1) net)) left.written.versions_are ∙ next ∙ i.rest;
-      same = c.in_ok-write_change.ensures.same_reference ∙ i.same;
+      same = c.in_ok-one.ensures.same_reference ∙ i.same;
     }
