@@ -1,5 +1,5 @@
 -- What the statements of one change leave together.
-use Rattle.std.proofs.Common.{◌≡◌, ℕ, List, ◌+◌, ◌≤◌, ◌==◌, [], ◌∷◌, ◌++◌, map, filter, length, false, Result, Ok, Err, refl, None, sym, ap, subst, ◌∙◌}
+use Rattle.std.proofs.Common.{◌≡◌, ◌≢◌, ◌<◌, ℕ, List, ◌+◌, ◌≤◌, ◌==◌, [], ◌∷◌, ◌++◌, map, filter, length, false, Result, Ok, Err, refl, None, sym, ap, subst, ◌∙◌}
 use Rattle.sqlite.specs.Held.{Held, state}
 use Rattle.sqlite.specs.Steps.{over_memory}
 use Rattle.sqlite_trees.specs.declared.memory.MemStore.{MemStore}

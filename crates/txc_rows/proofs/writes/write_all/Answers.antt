@@ -1,4 +1,4 @@
-use Rattle.std.proofs.Common.{◌≡◌, ◌+◌, ◌∷◌, drop, length, sym, subst, ap, ◌∙◌, rules, refl, Err, arith}
+use Rattle.std.proofs.Common.{◌≡◌, ◌+◌, ◌∷◌, drop, length, sym, subst, ap, ◌∙◌, rules, refl, Ok, Err, arith}
 use Rattle.std.proofs.lemmas.Result.{err_from_is_err_and}
 use Rattle.std.proofs.lemmas.List.{drop_all, at_drop_more}
 use Rattle.sqlite.specs.Held.{state}
@@ -7,7 +7,7 @@ use Rattle.sqlite.proofs.Callers.{memory_is_clean}
 use Rattle.txc_rows.specs.Versions.{after_net}
 use Rattle.txc_rows.specs.Placed.{AreWritten}
 use Rattle.txc_rows.specs.Kept.{IsCall, versions_of}
-use Rattle.txc_rows.proofs.HeldLemmas.{undone_call, refused_call, ended_call}
+use Rattle.txc_rows.proofs.HeldLemmas.{undone_call, refused_call, ended_call, recast_ok, recast_err}
 use Rattle.txc_rows.proofs.writes.write_all.Goals as goal
 
 pub returns-in_err-one : goal.returns-in_err-one
@@ -23,10 +23,41 @@ returns-in_err-one c =
     rw p.1 (subst (λ h. IsCall leaves old h (Err p.0)) same (refused_call leaves old end p.0 kept))
 
 pub returns-in_err-commit : goal.returns-in_err-commit
-returns-in_err-commit c = ?
+returns-in_err-commit c =
+    let old = c.args.conn.now in
+    let mid = c.loop-change.tx.conn.now in
+    let end = c.commit.new.self.0 in
+    let same : end ≡ c.conn-2-1.given.0 = search rules in
+    let i = c.loop-change.invariant in
+    let vs = after_net c.args.stamp c.args.net.now (versions_of old) in
+    let leaves = AreWritten vs (c.args.place + length c.args.net.now) in
+    let past = drop_all c.loop-change.change-index c.args.net.now c.loop-change-test.false in
+    let are : versions_of mid ≡ vs = ap (λ cs. after_net c.args.stamp cs (versions_of mid)) (sym past) ∙ i.rest in
+    let last : c.loop-change.next ≡ c.args.place + length c.args.net.now = omega (arith, i.next, i.within, c.loop-change-test.false) in
+    let written : leaves _ = record { versions_are = are; below = rw (← last) i.written.written.below } in
+    let call : IsCall leaves old end c.commit.result
+    = ended_call leaves old mid end c.commit.result c.requires.kept i.written.tables i.written.apart written i.base c.commit.ensures.ended (c.commit.ensures.ok (memory_is_clean end)) (c.commit.ensures.err (memory_is_clean end)) i.inside in
+    let failed : IsCall leaves old end (Err c.in_err-commit.field-0.0) = subst (IsCall leaves old end) c.in_err-commit.was call in
+    let p = err_from_is_err_and c.from_residual-in_err-commit.result c.from_residual-in_err-commit.ensures.1 in
+    rw p.1 (subst (λ h. IsCall leaves old h (Err p.0)) same (recast_err leaves old end c.in_err-commit.field-0.0 p.0 failed))
 
 pub returns : goal.returns
-returns c = ?
+returns c =
+    let old = c.args.conn.now in
+    let mid = c.loop-change.tx.conn.now in
+    let end = c.commit.new.self.0 in
+    let same : end ≡ c.conn-2-1.given.0 = search rules in
+    let i = c.loop-change.invariant in
+    let vs = after_net c.args.stamp c.args.net.now (versions_of old) in
+    let leaves = AreWritten vs (c.args.place + length c.args.net.now) in
+    let past = drop_all c.loop-change.change-index c.args.net.now c.loop-change-test.false in
+    let are : versions_of mid ≡ vs = ap (λ cs. after_net c.args.stamp cs (versions_of mid)) (sym past) ∙ i.rest in
+    let last : c.loop-change.next ≡ c.args.place + length c.args.net.now = omega (arith, i.next, i.within, c.loop-change-test.false) in
+    let written : leaves _ = record { versions_are = are; below = rw (← last) i.written.written.below } in
+    let call : IsCall leaves old end c.commit.result
+    = ended_call leaves old mid end c.commit.result c.requires.kept i.written.tables i.written.apart written i.base c.commit.ensures.ended (c.commit.ensures.ok (memory_is_clean end)) (c.commit.ensures.err (memory_is_clean end)) i.inside in
+    let done : IsCall leaves old end (Ok c.in_ok-commit.field-0) = subst (IsCall leaves old end) c.in_ok-commit.was call in
+    subst (λ h. IsCall leaves old h (Ok c.loop-change.written)) same (recast_ok leaves old end c.in_ok-commit.field-0 c.loop-change.written done)
 
 pub loop-change-preserved : goal.loop-change-preserved
 loop-change-preserved c =
