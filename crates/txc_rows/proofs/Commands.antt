@@ -23,7 +23,7 @@ use Rattle.txc_rows.specs.declared.texts.Segment.{Segment}
 use Rattle.txc_rows.specs.declared.texts.Segment.TheVariants.{First, Second, Third, Fourth, Fifth, Sixth, Seventh}
 use Rattle.txc_rows.specs.declared.texts.Source.{Source}
 use Rattle.txc_rows.specs.declared.texts.Source.TheVariants.{Latest, Dead}
-use Rattle.txc_rows.specs.Readings.{tree_read, table_text, row_text, group_text, range_text}
+use Rattle.txc_rows.specs.Readings.{tree_read, table_text, row_text, group_text, range_text, left_text}
 use Rattle.txc_rows.specs.Texts.{version_schema, place_of, tree_of, add_text, copy_text}
 
 -- ---- rows that are given
@@ -226,3 +226,38 @@ range_is (Dead Fourth) = record { command = refl; rows = refl; plain = (refl, re
 range_is (Dead Fifth) = record { command = refl; rows = refl; plain = (refl, refl) }
 range_is (Dead Sixth) = record { command = refl; rows = refl; plain = (refl, refl) }
 range_is (Dead Seventh) = record { command = refl; rows = refl; plain = (refl, refl) }
+
+-- ---- what is left of a table
+
+pub left_reads : (s : Source) → command_of (understood version_schema (left_text s)) ≡ Select (alone (whole (tree_read s) (left_filter 0) cells_project)) cells_names
+unfolding understood everything
+left_reads Latest = refl
+left_reads (Dead First) = refl
+left_reads (Dead Second) = refl
+left_reads (Dead Third) = refl
+left_reads (Dead Fourth) = refl
+left_reads (Dead Fifth) = refl
+left_reads (Dead Sixth) = refl
+left_reads (Dead Seventh) = refl
+
+pub left_plain : (s : Source) → IsPlain (understood version_schema (left_text s))
+unfolding understood everything
+left_plain Latest = (refl, refl)
+left_plain (Dead First) = (refl, refl)
+left_plain (Dead Second) = (refl, refl)
+left_plain (Dead Third) = (refl, refl)
+left_plain (Dead Fourth) = (refl, refl)
+left_plain (Dead Fifth) = (refl, refl)
+left_plain (Dead Sixth) = (refl, refl)
+left_plain (Dead Seventh) = (refl, refl)
+
+pub left_lists : (s : Source) → reads_listing version_schema (left_text s) ≡ false
+unfolding understood everything
+left_lists Latest = refl
+left_lists (Dead First) = refl
+left_lists (Dead Second) = refl
+left_lists (Dead Third) = refl
+left_lists (Dead Fourth) = refl
+left_lists (Dead Fifth) = refl
+left_lists (Dead Sixth) = refl
+left_lists (Dead Seventh) = refl

@@ -15,7 +15,7 @@ use Rattle.sqlite.specs.Effect.{Database}
 use Rattle.sqlite.proofs.Callers.{IsPlain}
 use Rattle.sqlite_trees.specs.declared.memory.MemStore.{MemStore}
 use Rattle.txc_rows.specs.Texts.{segments, tree_of}
-use Rattle.txc_rows.specs.Readings.{tree_read}
+use Rattle.txc_rows.specs.Readings.{tree_read, left_text}
 use Rattle.txc_rows.specs.declared.query.Query.{Query}
 use Rattle.txc_rows.specs.declared.texts.TheConstants.{MOST_READ}
 use Rattle.txc_rows.specs.declared.texts.Segment.{Segment}
@@ -28,11 +28,12 @@ use Rattle.sqlite.specs.Program.{overlay}
 use borrow.Author.Tests.{eqb-true}
 use Rattle.txc_rows.proofs.SegmentLemmas.{is_tree, once}
 use Rattle.txc_rows.proofs.PutLemmas.{all_front, all_back}
-use Rattle.txc_rows.proofs.Commands.{IsListingOf, most_shown}
+use Rattle.txc_rows.proofs.Commands.{IsListingOf, most_shown, left_plain}
+use Rattle.txc_rows.proofs.LeftLemmas.{leaves_rows}
 use Rattle.txc_rows.proofs.StoredRows.{is_asked}
 use Rattle.txc_rows.specs.Placed.{Placed, AreApart}
 use Rattle.txc_rows.specs.Stored.{stored, number, placed_in, placed_all, AreStored}
-use Rattle.txc_rows.specs.Kept.{latest_in, dead_among, dead_in, placed_of, placed_read, AreStoredIn, HasTables, HasVersions, IsKept, IsStep, IsCall, IsSame, IsReading}
+use Rattle.txc_rows.specs.Kept.{latest_in, dead_among, dead_in, placed_of, placed_read, AreStoredIn, HasTables, HasVersions, IsKept, IsStep, IsCall, IsSame, IsReading, IsLeaving}
 use Rattle.txc_rows.proofs.WriteLemmas.{Leaves, segment_rows}
 use Rattle.txc_rows.proofs.Refusals.{Refused, query_refused, shown_same}
 use Rattle.txc_rows.proofs.Answering.{selects, listing}
@@ -162,3 +163,16 @@ module _ (q : Query) (from : ℕ) (s : Source) (fs : List Term) (text : List ℕ
       let found = selects (tree_read s) fs params text (is_asked q from) MOST_READ test limit is (state over_memory old) (state over_memory new) rows.items (tree_itself s (state over_memory old).now.trees) kept.tables.schema (rows_read s old kept.tables) ok in
       record { same = same; lists = listing q from (placed_read s old) rows.items (each_read s old kept.apart) found }
   lists (Err e) ok err = record { same = refused_same old new kept (query_refused text params (state over_memory old) (state over_memory new) e plain err); lists = tt }
+
+-- ---- the versions that are left in one table
+
+pub leaves : (s : Source) (from : ℕ) (old new : Held MemStore) → IsKept old → (r : Result (Vec Row Global) Error)
+    → IfOk r (λ rows. Shown (left_text s) (number from ∷ []) (state over_memory old) (state over_memory new) rows.items)
+    → IfErr r (FailsToQuery (left_text s) (number from ∷ []) (state over_memory old) (state over_memory new)) → IsLeaving from s old new r
+leaves s from old new kept (Ok rows) ok err =
+    let plain = subst (λ c. IsPlain (understood c (left_text s))) (sym kept.tables.schema) (left_plain s) in
+    let left = leaves_rows s from (state over_memory old) (state over_memory new) rows.items (tree_itself s (state over_memory old).now.trees) kept.tables.schema (rows_read s old kept.tables) ok in
+    record { same = refused_same old new kept (inl (shown_same (left_text s) (number from ∷ []) (state over_memory old) (state over_memory new) rows.items plain ok)); cells = left.0; left = left.1 }
+leaves s from old new kept (Err e) ok err =
+    let plain = subst (λ c. IsPlain (understood c (left_text s))) (sym kept.tables.schema) (left_plain s) in
+    record { same = refused_same old new kept (query_refused (left_text s) (number from ∷ []) (state over_memory old) (state over_memory new) e plain err); cells = tt; left = tt }

@@ -22,6 +22,7 @@ pub mod Tables
 pub mod SegmentLemmas
 pub mod WriteLemmas
 pub mod Refusals
+pub mod LeftLemmas
 pub mod HeldLemmas
 pub mod ChangeSteps
 pub mod ViewLemmas
