@@ -24,7 +24,7 @@ use Rattle.txc_rows.specs.declared.texts.Segment.TheVariants.{First, Second, Thi
 use Rattle.txc_rows.specs.declared.texts.Source.{Source}
 use Rattle.txc_rows.specs.declared.texts.Source.TheVariants.{Latest, Dead}
 use Rattle.txc_rows.specs.Readings.{tree_read, table_text, row_text, group_text, range_text, left_text}
-use Rattle.txc_rows.specs.Texts.{version_schema, place_of, tree_of, add_text, copy_text}
+use Rattle.txc_rows.specs.Texts.{version_schema, place_of, tree_of, segment_table, schema_before, schema_to, add_text, copy_text, make_text, drop_text}
 
 -- ---- rows that are given
 
@@ -261,3 +261,55 @@ left_lists (Dead Fourth) = refl
 left_lists (Dead Fifth) = refl
 left_lists (Dead Sixth) = refl
 left_lists (Dead Seventh) = refl
+
+-- ---- the segments
+
+pub make_is : (s : Segment) → (command_of (understood (schema_before s) (make_text s)) ≡ CreateTable) × (statement_of (make_text s) (understood (schema_before s) (make_text s)) ≡ make_text s)
+unfolding understood everything
+make_is First = (refl, refl)
+make_is Second = (refl, refl)
+make_is Third = (refl, refl)
+make_is Fourth = (refl, refl)
+make_is Fifth = (refl, refl)
+make_is Sixth = (refl, refl)
+make_is Seventh = (refl, refl)
+
+pub make_defines : (s : Segment) → table_defined_by (make_text s) ≡ Ok (record (segment_table s) { tree = 0 })
+unfolding understood everything
+make_defines First = refl
+make_defines Second = refl
+make_defines Third = refl
+make_defines Fourth = refl
+make_defines Fifth = refl
+make_defines Sixth = refl
+make_defines Seventh = refl
+
+pub make_plain : (s : Segment) → IsPlain (understood (schema_before s) (make_text s))
+unfolding understood everything
+make_plain First = (refl, refl)
+make_plain Second = (refl, refl)
+make_plain Third = (refl, refl)
+make_plain Fourth = (refl, refl)
+make_plain Fifth = (refl, refl)
+make_plain Sixth = (refl, refl)
+make_plain Seventh = (refl, refl)
+
+pub drop_is : (s : Segment) → command_of (understood (schema_to s) (drop_text s)) ≡ DropTable (place_of s)
+unfolding understood everything
+drop_is First = refl
+drop_is Second = refl
+drop_is Third = refl
+drop_is Fourth = refl
+drop_is Fifth = refl
+drop_is Sixth = refl
+drop_is Seventh = refl
+
+pub drop_plain : (s : Segment) → IsPlain (understood (schema_to s) (drop_text s))
+unfolding understood everything
+drop_plain First = (refl, refl)
+drop_plain Second = (refl, refl)
+drop_plain Third = (refl, refl)
+drop_plain Fourth = (refl, refl)
+drop_plain Fifth = (refl, refl)
+drop_plain Sixth = (refl, refl)
+drop_plain Seventh = (refl, refl)

@@ -23,6 +23,7 @@ pub mod SegmentLemmas
 pub mod WriteLemmas
 pub mod Refusals
 pub mod LeftLemmas
+pub mod MakeLemmas
 pub mod HeldLemmas
 pub mod ChangeSteps
 pub mod ViewLemmas
