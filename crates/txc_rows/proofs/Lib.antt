@@ -24,6 +24,7 @@ pub mod WriteLemmas
 pub mod Refusals
 pub mod LeftLemmas
 pub mod MakeLemmas
+pub mod DropLemmas
 pub mod HeldLemmas
 pub mod ChangeSteps
 pub mod ViewLemmas
