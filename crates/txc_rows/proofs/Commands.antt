@@ -18,13 +18,13 @@ use Rattle.sqlite_value.specs.declared.keys.Key.{Key}
 use Rattle.sqlite_tied.specs.Compute.{everything}
 use Rattle.sqlite.specs.Listing.{understood, reads_listing}
 use Rattle.sqlite.proofs.Callers.{command_of, statement_of, IsPlain}
-use Rattle.txc_rows.specs.declared.texts.TheConstants.{ADD_LATEST, END_VERSION, RENEW_LATEST}
+use Rattle.txc_rows.specs.declared.texts.TheConstants.{MAKE_LATEST, ADD_LATEST, END_VERSION, RENEW_LATEST}
 use Rattle.txc_rows.specs.declared.texts.Segment.{Segment}
 use Rattle.txc_rows.specs.declared.texts.Segment.TheVariants.{First, Second, Third, Fourth, Fifth, Sixth, Seventh}
 use Rattle.txc_rows.specs.declared.texts.Source.{Source}
 use Rattle.txc_rows.specs.declared.texts.Source.TheVariants.{Latest, Dead}
 use Rattle.txc_rows.specs.Readings.{tree_read, table_text, row_text, group_text, range_text, left_text}
-use Rattle.txc_rows.specs.Texts.{version_schema, place_of, tree_of, segment_table, schema_before, schema_to, add_text, copy_text, make_text, drop_text}
+use Rattle.txc_rows.specs.Texts.{no_schema, latest_table, version_schema, place_of, tree_of, segment_table, schema_before, schema_to, add_text, copy_text, make_text, drop_text}
 
 -- ---- rows that are given
 
@@ -313,3 +313,11 @@ drop_plain Fourth = (refl, refl)
 drop_plain Fifth = (refl, refl)
 drop_plain Sixth = (refl, refl)
 drop_plain Seventh = (refl, refl)
+
+pub make_latest_is : (command_of (understood no_schema MAKE_LATEST.now) ≡ CreateTable) × (statement_of MAKE_LATEST.now (understood no_schema MAKE_LATEST.now) ≡ MAKE_LATEST.now) × (table_defined_by MAKE_LATEST.now ≡ Ok latest_table)
+unfolding understood everything
+make_latest_is = (refl, refl, refl)
+
+pub make_latest_plain : IsPlain (understood no_schema MAKE_LATEST.now)
+unfolding understood everything
+make_latest_plain = (refl, refl)

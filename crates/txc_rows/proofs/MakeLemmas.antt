@@ -6,11 +6,17 @@ use Rattle.sqlite.specs.Steps.{over_memory}
 use Rattle.sqlite_trees.specs.declared.memory.MemStore.{MemStore}
 use Rattle.txc_rows.specs.declared.texts.Segment.{Segment}
 use Rattle.txc_rows.specs.declared.texts.Segment.TheVariants.{First, Second, Third, Fourth, Fifth, Sixth, Seventh}
-use Rattle.txc_rows.specs.Texts.{segment_table, schema_before, schema_to, made_before, make_text}
+use Rattle.txc_rows.specs.declared.texts.TheConstants.{MAKE_LATEST}
+use Rattle.txc_rows.specs.Texts.{no_schema, latest_table, latest_schema, segment_table, schema_before, schema_to, made_before, make_text}
 use Rattle.txc_rows.specs.Stored.{placed_all, AreStored}
-use Rattle.txc_rows.specs.Kept.{latest_in, HasMade}
-use Rattle.txc_rows.proofs.Commands.{make_is, make_defines, make_plain}
+use Rattle.txc_rows.specs.Kept.{latest_in, HasNoTable, HasMade, HasLatest}
+use Rattle.txc_rows.proofs.Commands.{make_latest_is, make_latest_plain, make_is, make_defines, make_plain}
 use Rattle.txc_rows.proofs.Steps.{creates}
+
+pub makes_latest : (old new : Held MemStore) → HasNoTable old → (count : ℕ) → Executes MAKE_LATEST.now [] (state over_memory old) (state over_memory new) (Ok count) → HasLatest latest_schema [] new
+makes_latest old new has count h =
+    let it = creates no_schema MAKE_LATEST.now latest_table make_latest_is.0 make_latest_is.1 make_latest_plain make_latest_is.2 refl (state over_memory old) (state over_memory new) count has.schema h in
+    record { schema_is = it.0; rows = rw it.1 (record { table = tt; each = tt }); latest_are = ap placed_all it.1; are_empty = tt }
 
 pub makes : (s : Segment) (old new : Held MemStore) (count : ℕ) → HasMade (schema_before s) (latest_in old) (made_before s) old → Executes (make_text s) [] (state over_memory old) (state over_memory new) (Ok count)
     → HasMade (schema_to s) (latest_in old) (s ∷ made_before s) new
