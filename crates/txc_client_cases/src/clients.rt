@@ -4,6 +4,8 @@ mod caller;
 mod calling;
 mod desk;
 mod explained;
+mod quiet;
 mod rows;
 mod sessions;
 mod threads;
+pub(crate) mod watch;

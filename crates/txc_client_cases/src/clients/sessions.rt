@@ -58,9 +58,9 @@ type Script = (u64, &'static str);
 const SCRIPTS: [Script; 2] = [(4, SEEN), (4, COUNTS)];
 
 /// After how long a pin is renewed.
-const RENEW_AFTER: u64 = 5000;
+pub(super) const RENEW_AFTER: u64 = 5000;
 
-fn node<J: Naming>(
+pub(super) fn node<J: Naming>(
     alloc: Global,
     number: usize,
     row: EventRow<Record>,
