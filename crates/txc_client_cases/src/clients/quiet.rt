@@ -166,6 +166,17 @@ impl<'a, J: Naming> Slot<'a, J> {
 }
 
 impl<'a, J: Naming, R: Wait> Reader<'a, J, R> {
+    /// Ends what is open.
+    fn end(self) {
+        let Reader {
+            rt,
+            database: _,
+            cushion: _,
+            slot,
+        } = self;
+        end(rt, slot);
+    }
+
     /// Pins as often as the pincushion takes pins, and keeps no hold.
     fn fill(&self, alloc: Global, now: u64) -> Option<()> {
         for _ in 0..MAX_PINS {
@@ -276,7 +287,7 @@ fn play<J: Naming>(
         watch: Watch::new(rt, alloc, (&database, &cushion), pool),
     };
     let played = is_played(&mut watched, alloc, "", script, answer);
-    end(rt, mem::replace(&mut reader.slot, None));
+    reader.end();
     Some(played)
 }
 
