@@ -190,7 +190,7 @@ impl<'a, J: Naming, R: Wait> Reader<'a, J, R> {
     fn retire(&self, alloc: Global, answer: &mut String) -> Option<()> {
         let stamps = self.cushion.retire(self.rt, alloc, u64::MAX, 0).ok()?;
         for stamp in &stamps {
-            write!(answer, "{stamp} ").ok()?;
+            write!(answer, " {stamp}").ok()?;
             self.database.unpin(self.rt, *stamp).ok()?;
         }
         Some(())
