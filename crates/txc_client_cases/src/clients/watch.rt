@@ -10,9 +10,7 @@ use txc_db::{Database, DbCore, Naming};
 use txc_permits::PermitPool;
 use txc_players::{Obeys, Player};
 use txc_stamp::Stamp;
-
-/// More permits than the pools of the cases have.
-const PERMITS: u32 = 16;
+use txc_stand_ins::free;
 
 /// A database, its pincushion and the permits of its callers' functions, which nobody else calls.
 #[derive(Drop)]
@@ -92,17 +90,6 @@ impl<'a, J: Naming, R: Wait> Watch<'a, J, R> {
         Some(())
     }
 
-    /// How many permits are free, all of which are taken and dropped.
-    fn free(&mut self, alloc: Global) -> Option<usize> {
-        let mut taken = Vec::new(alloc);
-        for _ in 0..PERMITS {
-            if let Some(permit) = self.pool.take() {
-                taken.push(permit).ok()?;
-            }
-        }
-        Some(taken.len())
-    }
-
     /// What there is now. None where memory was refused.
     fn seen(&mut self, alloc: Global) -> Option<String> {
         let mut text = String::new(alloc);
@@ -110,7 +97,7 @@ impl<'a, J: Naming, R: Wait> Watch<'a, J, R> {
         write!(text, "{newest} events").ok()?;
         self.say_pins(alloc, &mut text)?;
         let horizon = self.database.vacuum(self.rt).ok()?;
-        let free = self.free(alloc)?;
+        let free = free(&mut self.pool);
         write!(text, ", horizon {horizon}, {free} free").ok()?;
         Some(text)
     }
