@@ -181,7 +181,7 @@ module _ (node_rows : ℕ → List ℕ) (olds news : List PassValue) (node : ℕ
       added_at at node (exchanges.Insert at entry) (InsertLeaves node_rows entry) olds news p
       (λ old new grown called. elim called [
         | inl made ↦
-            added_one old new grown (exchanges.Insert at entry) (ops.Insert entry) (replies.Inserted made.1.inserted) made.1.made (λ one. inr one) (refl, made.1.inserted, refl)
+            added_one old new grown (exchanges.Insert at entry) (ops.Insert entry) (replies.Inserted made.1.inserted) made.1.made (λ one. inr one) (refl, (made.1.inserted, refl))
         | inr refused ↦ added_no old new grown (exchanges.Insert at entry) (inl refl) (node_rows old.settings.number) refused.error refused.left
       ]) h is
 
