@@ -7,7 +7,8 @@ use Rattle.txc_registry.specs.Objects.{Objects, numbers_of}
 use Rattle.txc_ports.specs.declared.reply.PortReply.{PortReply}
 use Rattle.txc_ports.specs.declared.turn.Turn.{Turn}
 use Rattle.txc_ports.specs.Fronts.{front_of}
-use Rattle.txc_txn.specs.Core.{CoreValue, CoreHolds, IsAsk, IsCore, IsRight, IsTurn, KeepsSettings, PinsAfter}
+use Rattle.txc_txn.specs.Core.{CoreValue, CoreHolds, IsCore, IsRight, IsTurn, KeepsSettings, PinsAfter}
+use Rattle.txc_ports.specs.Turns.{IsAsk}
 use Rattle.txc_txn.specs.Core.{left_after, left_pin, open_call, recorded_after, taken_after, AddsOnly, IsOneOf}
 use Rattle.txc_txn.specs.Leading.{ReplyLeads}
 
@@ -17,7 +18,7 @@ pub record TxnValue : Type 0 where
   pub objects : Objects
 
 -- it is what it is in any history, and its pin set means what it says in the history that it has seen
-pub record IsKept (next : Next) (t : TxnValue) : Type 0 where
+pub record IsTxn (next : Next) (t : TxnValue) : Type 0 where
   pub fits : IsCore next t.objects t.core
   pub holds : CoreHolds next t.core.seen.history t.objects t.core
 

@@ -22,7 +22,8 @@ use txc_validity::Found;
 impl TxnCore {
     ghost use Rattle.txc_txn.specs.Core.{left_after, left_pin, open_call, recorded_after, taken_after};
     ghost use Rattle.txc_txn.specs.Core.{value_of, CoreHolds};
-    ghost use Rattle.txc_txn.specs.Core.{AddsOnly, IsAnswered, IsAsk, IsCore, IsNoAdding, IsOneOf, IsRight};
+    ghost use Rattle.txc_txn.specs.Core.{AddsOnly, IsAnswered, IsCore, IsNoAdding, IsOneOf, IsRight};
+    ghost use Rattle.txc_ports.specs.Turns.{IsAsk};
     ghost use Rattle.txc_txn.specs.Core.{IsTurn, PinsAfter};
     ghost use Rattle.txc_txn.specs.Leading.{ReplyLeads};
 

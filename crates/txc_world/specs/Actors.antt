@@ -26,10 +26,11 @@ use Rattle.txc_world.specs.declared.did.Did.TheVariants.{Hit, Miss}
 use Rattle.txc_world.specs.declared.reply.End.{End}
 use Rattle.txc_world.specs.declared.reply.End.TheVariants as ends
 use Rattle.txc_txn.specs.declared.pinning.PinStep.TheVariants.{Dropping}
-use Rattle.txc_txn.specs.Core.{CoreValue, begun_core, open_call, IsAsk, IsAt, IsIdle, IsNoValue, IsTurn}
+use Rattle.txc_txn.specs.Core.{CoreValue, begun_core, open_call, IsIdle, IsNoValue, IsTurn}
 use Rattle.txc_rw.specs.declared.given.Given.{Given}
 use Rattle.txc_rw.specs.Core.{answers_after, IsOfCall, RwHolds, RwValue}
-use Rattle.txc_rw.specs.Core.{IsAsk as IsRwAsk, IsIdle as IsRwIdle, IsRw, IsTurn as IsRwTurn}
+use Rattle.txc_rw.specs.Core.{IsIdle as IsRwIdle, IsRw, IsTurn as IsRwTurn}
+use Rattle.txc_ports.specs.Turns.{IsAsk}
 use Rattle.txc_world.specs.declared.actor.OpenCall.{OpenCall}
 use Rattle.txc_world.specs.declared.actor.OpenTxn.{OpenTxn}
 use Rattle.txc_world.specs.declared.actor.OpenRw.{OpenRw}
@@ -102,8 +103,8 @@ told_answers (Some call) answers = told_by_turn call.turn answers
 pub record IsRwCall (c : RwValue) (call : OpenCall) : Type 0 where
   pub turn : IsRwTurn c call.turn
   pub kind : IsOfCall call.turn
-  pub key : IsRwAsk call.turn → c.call.top ≡ call.key
-  pub is_open : IsRwAsk call.turn → IsSome c.call.need
+  pub key : IsAsk call.turn → c.call.top ≡ call.key
+  pub is_open : IsAsk call.turn → IsSome c.call.need
   pub answers : c.answers ≡ answers_after (told_by_turn call.turn c.answers) call.key None call.turn
   pub not_lost : IfTurnLost call.turn ⊥
 

@@ -3,7 +3,8 @@ ghost use Rattle.std.specs.Prelude.{◌≡◌, ℕ, ◌≤◌, ◌<◌, ◌∷�
 ghost use Rattle.txc_registry.specs.Objects.{AllIdle, Objects};
 ghost use Rattle.txc_app.specs.Eval.{Next};
 ghost use Rattle.txc_rw.specs.Core.{IsOfCall};
-ghost use Rattle.txc_txn.specs.Core.{open_call, recorded_after, value_of, CoreHolds, IsAsk, IsAsking, IsCore, IsTurn};
+ghost use Rattle.txc_txn.specs.Core.{open_call, recorded_after, value_of, CoreHolds, IsAsking, IsCore, IsTurn};
+ghost use Rattle.txc_ports.specs.Turns.{IsAsk};
 ghost use Rattle.txc_world.specs.Actors.{counted, holds_any, story_of, AddsPart, DropsNone, HasAsked, HasBegun, IsActor, IsBegun, IsNoted, IsOpenTxn};
 ghost use Rattle.txc_world.specs.Acts.{ActLeads, LeavingLeads, ReadingLeads, RestingLeads};
 ghost use Rattle.txc_world.specs.Cast.{actor_value, opened, reading_value};

@@ -3,7 +3,8 @@ ghost use Rattle.std.specs.Prelude.{◌≡◌, ℕ, ◌++◌, ◌∷◌, ◌<◌
 ghost use Rattle.txc_rows.specs.declared.query.Change.{Change};
 ghost use Rattle.txc_registry.specs.Objects.{AllIdle};
 ghost use Rattle.txc_rw.specs.declared.rw_core.TheConstants.{MAX_CHANGES};
-ghost use Rattle.txc_rw.specs.Core.{answers_after, IsAsk, IsCallEnd, IsIdle, IsOfCall, IsOfQuery, IsRw, IsTurn, IsWriteRefused, RwHolds};
+ghost use Rattle.txc_rw.specs.Core.{answers_after, IsIdle, IsOfCall, IsOfQuery, IsRw, IsTurn, IsWriteRefused, RwHolds};
+ghost use Rattle.txc_ports.specs.Turns.{IsAsk, IsCallEnd};
 ghost use Rattle.txc_world.specs.Actors.{asked_query, story_of, IsActor, IsEndOf, IsOpenRw, IsToldQuery};
 ghost use Rattle.txc_world.specs.Books.{account_of, nothing, ActCounts, HasLost};
 ghost use Rattle.txc_world.specs.Losing.{IfDidLose, IfTurnLost};
