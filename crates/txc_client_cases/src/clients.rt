@@ -4,6 +4,7 @@ mod caller;
 mod calling;
 mod desk;
 mod explained;
+mod refusals;
 mod rows;
 mod sessions;
 mod threads;

@@ -17,9 +17,10 @@ use txc_client::Client;
 use txc_cushion::Pincushion;
 use txc_db::{Database, DbCore, Naming};
 use txc_functions::{Again, BodiesAndBody, BodiesIn, BodyAt, Function, Itself, Program};
+use txc_judge::{Verdict, play_lines};
 use txc_node::Record;
 use txc_permits::PermitPool;
-use txc_players::{is_played, room};
+use txc_players::room;
 use txc_registry::{Cacheable, Registry, enlist};
 use txc_shared::{NodeSettings, SharedNode};
 use txc_stream::EventRow;
@@ -63,9 +64,9 @@ fn work_of<
     rows: (DbCore, EventRow<Record>),
     one: Vec<C>,
     other: Vec<C>,
-    plan: (Work, PermitPool),
+    plan: (Work, PermitPool, u64),
     answer: &mut String,
-) -> Option<bool>
+) -> Option<Verdict>
     requires database { rows.0.events ≡ J.database_row }
     requires node { rows.1 ≡ J.node_rows 0 }
     requires idle { All (λ c. C.activity c ≡ idle) one.items }
@@ -74,7 +75,7 @@ fn work_of<
     requires means_too { All (λ c. C.says c ≡ A.next (C.number c)) other.items }
 {
     let (core, row) = rows;
-    let (work, pool) = plan;
+    let (work, pool, permits) = plan;
     let database = Database::<J>::new(alloc, core).ok()?;
     let cushion = Pincushion::new(alloc, &database).ok()?;
     let mut nodes = Vec::new(alloc);
@@ -98,15 +99,16 @@ fn work_of<
                 (one, other),
                 pool,
             );
-            Some(is_played(&mut desk, alloc, "", lines, answer))
+            play_lines(&mut desk, alloc, lines, permits as usize, answer)
         }
-        Work::Threads => Some(are_explained(
-            rt,
-            alloc,
-            (&database, &cushion, &nodes[0]),
-            keeper,
-            (one, other),
-        )),
+        Work::Threads => {
+            let ports = (&database, &cushion, &nodes[0]);
+            if are_explained(rt, alloc, ports, keeper, (one, other)) {
+                Some(Verdict::Wanted(0))
+            } else {
+                None
+            }
+        }
     }
 }
 
@@ -119,16 +121,24 @@ fn work_over<R: Threads + Wait + Sync, C: Cacheable + Send>(
     script: Script,
     pool: PermitPool,
     answer: &mut String,
-) -> Option<bool>
+) -> Option<Verdict>
     requires idle { All (λ c. C.activity c ≡ idle) one.items }
     requires means { All (λ c. C.says c ≡ program (C.number c)) one.items }
     requires idle_too { All (λ c. C.activity c ≡ idle) other.items }
     requires means_too { All (λ c. C.says c ≡ program (C.number c)) other.items }
 {
-    let (_, events, records, work) = script;
+    let (permits, events, records, work) = script;
     let core = DbCore::new(alloc, events.clamp(1, 4096)).ok()?;
     let row = EventRow::new(alloc, records.clamp(1, 16384)).ok()?;
-    work_of::<Program, C, Brand, R>(rt, alloc, (core, row), one, other, (work, pool), answer)
+    work_of::<Program, C, Brand, R>(
+        rt,
+        alloc,
+        (core, row),
+        one,
+        other,
+        (work, pool, permits),
+        answer,
+    )
 }
 
 /// Makes functions for two clients: the first has all but the count, the other three.
@@ -137,7 +147,7 @@ fn started<R: Threads + Wait + Sync>(
     alloc: Global,
     script: Script,
     answer: &mut String,
-) -> Result<Option<bool>, AllocError> {
+) -> Result<Option<Verdict>, AllocError> {
     let mut pool = PermitPool::new(alloc, script.0.clamp(1, 16))?;
     let mut one: Vec<Boxed> = Vec::new(alloc);
     let body_at = Function::new(alloc, pool.share()?, BodyAt);
@@ -160,39 +170,44 @@ fn started<R: Threads + Wait + Sync>(
     Ok(work_over::<R, Boxed>(rt, alloc, one, other, script, pool, answer))
 }
 
-/// Whether all is answered as wanted: anew where memory was refused, since then a call may be made twice.
-fn is_answered<R: Threads + Wait + Sync>(
+/// How many receipts there are where all is answered as wanted: anew where memory was refused, since then a call
+/// may be made twice. None where something is wrong.
+fn answered<R: Threads + Wait + Sync>(
     rt: &R,
     alloc: Global,
     script: Script,
     answer: &mut String,
-) -> bool {
+) -> Option<u32> {
     for _ in 0..2u32 {
         answer.clear();
-        if let Ok(Some(true)) = started(rt, alloc, script, answer) {
-            return true;
+        match started(rt, alloc, script, answer) {
+            Ok(Some(Verdict::Wanted(receipts))) => return Some(receipts),
+            Ok(Some(Verdict::Wrong)) => return None,
+            _ => {}
         }
     }
-    false
+    None
 }
 
 fn play<R: Threads + Wait + Sync + Abort + AllocGlobal>(
     rt: &R,
     scripts: &[Script],
+    wanted: u32,
 ) -> Result<(), Fail> {
     let mut answer = room(rt.alloc())?;
+    let mut receipts = 0u32;
     for script in scripts {
-        assert!(rt;
-            is_answered(rt, rt.alloc(), *script, &mut answer),
-            "{answer}"
-        );
+        let count = answered(rt, rt.alloc(), *script, &mut answer);
+        assert!(rt; count.is_some(), "{answer}");
+        receipts = receipts.saturating_add(count.unwrap_or(0));
     }
+    assert!(rt; receipts == wanted, "{receipts} receipts");
     Ok(())
 }
 
 #[test]
 fn clients_are_answered_as_worked(rt: HostRuntime) -> Result<(), Fail> {
-    play(&rt, &SCRIPTS)
+    play(&rt, &SCRIPTS, 22)
 }
 
 /// With permits for both clients.
@@ -200,5 +215,5 @@ const ON_THREADS: Script = (4, 4096, 16384, Work::Threads);
 
 #[test]
 fn receipts_of_threads_are_explained(rt: HostRuntime) -> Result<(), Fail> {
-    play(&rt, &[ON_THREADS])
+    play(&rt, &[ON_THREADS], 0)
 }
