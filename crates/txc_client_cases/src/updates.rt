@@ -1,5 +1,6 @@
 //! Read-write transactions over the locked database.
 mod player;
+mod quiet;
 mod threads;
 mod transaction;
 
