@@ -1,5 +1,5 @@
 #!/usr/bin/env python3
-"""Writes the parts of docs/ that are made by script: the pages of docs/crates/, from the crates' src/ and
+"""Writes the parts of docs/ that are made by script: docs/PROMISE.md and the pages of docs/crates/, from the crates' src/ and
 specs/, the lists of docs/WRONG_BODIES.md, from their edits, the examples of docs/SCRIPTS.md, from examples/, and the code of
 docs/CALLING.md, from the tests. The session of a world in docs/SCRIPTS.md has to be that of its script.
 
@@ -7,7 +7,7 @@ usage: docs.py [--check]      --check writes nothing, and ends with 1 where a fi
 """
 import re, sys
 
-import pages
+import pages, promise
 from sources import ROOT, crates
 
 LISTS = "## All of them, by crate"
@@ -121,7 +121,7 @@ def written():
     """Each file that is made by script, or has parts that are, beside its text."""
     made = {"WRONG_BODIES.md": wrong_bodies, "SCRIPTS.md": scripts, "CALLING.md": calling}
     texts = {ROOT / "docs" / name: make((ROOT / "docs" / name).read_text()) for name, make in made.items()}
-    return {**texts, **pages.written()}
+    return {**texts, **pages.written(), promise.PAGE: promise.written()}
 
 
 def main():
