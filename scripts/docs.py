@@ -3,11 +3,12 @@
 specs/, the lists of docs/WRONG_BODIES.md, from their edits, the examples of docs/SCRIPTS.md, from examples/, and the code of
 docs/CALLING.md, from the tests. The session of a world in docs/SCRIPTS.md has to be that of its script.
 
-usage: docs.py [--check]      --check writes nothing, and ends with 1 where a file is not what would be written
+usage: docs.py [--check]      --check writes nothing, and ends with 1 where a file is not what would be written, or where what
+                              the documents claim is not so (scripts/claims.py)
 """
 import re, sys
 
-import pages, promise
+import claims, pages, promise
 from sources import ROOT, crates
 
 LISTS = "## All of them, by crate"
@@ -107,11 +108,11 @@ def scripts(text):
 
 
 def calling(text):
-    """Fills each block that is headed by a file with what the file has before its tests, but for its `use` lines."""
+    """Fills each block that is headed by a file with what the file has before its tests, its imports too."""
 
     def block(head):
         lines = (ROOT / head[1]).read_text().partition("\n#[test]")[0].rstrip().split("\n")
-        code = [line for line in lines if not line.startswith(("//!", "use ", "ghost use "))]
+        code = [line for line in lines if not line.startswith("//!")]
         return f"```rust {head[1]}\n" + "\n".join(code).strip() + "\n```"
 
     return re.sub(r"```rust (\S+)\n.*?```", block, text, flags=re.S)
@@ -136,6 +137,9 @@ def main():
         if is_check:
             sys.exit(f"{path.relative_to(ROOT)} is of no crate: run `make docs`")
         path.unlink()
+    found = claims.faults()
+    print("".join(f"{it}\n" for it in found), end="", file=sys.stderr)
+    sys.exit(int(is_check and bool(found)))
 
 
 main()
