@@ -10,6 +10,7 @@ from sources import ROOT
 
 README = ROOT / "README.md"
 MOST_WORDS = 1_400
+MOST_WORDS_OF_A_SENTENCE = 40
 # Mode world's commands, with which a line of a session begins.
 COMMANDS = {"put", "remove", "pin", "ro", "rw", "call", "ask", "write", "step", "finish", "commit", "abort", "advance", "insert", "lookup", "event", "sweep"}
 
@@ -98,6 +99,20 @@ def words():
         yield README, f"has {count} words, and may have {MOST_WORDS}"
 
 
+def sentences(path):
+    """The sentences of a document, each word of code as one word."""
+    text = re.sub(r"^(?:    .*|\|.*|#.*|<!--.*|@.*)$", "", prose(path), flags=re.M)
+    for block in re.split(r"\n\s*\n|\n\s*(?=- |\d+\. )", re.sub(r"`[^`\n]*`", "x", text)):
+        yield from re.split(r"(?<=[.?!:])\s+(?=[A-Z`x(\[])", " ".join(block.split()))
+
+
+def long_sentences():
+    for document in [README, *(ROOT / "docs" / it for it in ("SCRIPTS.md", "CALLING.md", "ARCHITECTURE.md", "promise.in.md"))]:
+        for sentence in sentences(document):
+            if len(sentence.split()) > MOST_WORDS_OF_A_SENTENCE:
+                yield document, f"has a sentence of {len(sentence.split())} words: {sentence}"
+
+
 def crate_tables():
     """Each crate has a row in ARCHITECTURE, which names some of the libraries that it uses and no other."""
     document = ROOT / "docs/ARCHITECTURE.md"
@@ -175,6 +190,6 @@ def toolchain():
 def faults():
     """What the documents claim that is not so, each as a line of text."""
     found = []
-    for check in (links, paths, counted, words, crate_tables, help_shown, settings, sessions, toolchain):
+    for check in (links, paths, counted, words, long_sentences, crate_tables, help_shown, settings, sessions, toolchain):
         found += [f"{document.relative_to(ROOT)} {said}" for document, said in check()]
     return found

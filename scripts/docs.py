@@ -1,6 +1,6 @@
 #!/usr/bin/env python3
 """Writes the parts of docs/ that are made by script: docs/PROMISE.md and the pages of docs/crates/, from the crates' src/ and
-specs/, the lists of docs/WRONG_BODIES.md, from their edits, the examples of docs/SCRIPTS.md, from examples/, and the code of
+specs/, the lists of docs/WRONG_BODIES.md, from their edits, the table of proofs of docs/ARCHITECTURE.md, the examples of docs/SCRIPTS.md, from examples/, and the code of
 docs/CALLING.md, from the tests. The session of a world in docs/SCRIPTS.md has to be that of its script.
 
 usage: docs.py [--check]      --check writes nothing, and ends with 1 where a file is not what would be written, or where what
@@ -16,6 +16,7 @@ EXAMPLES = "## The examples, with the replies beside their lines"
 SESSION = "### A world, line by line"
 # Of more commands in a row than this, only the first and the last are shown.
 MOST_SHOWN = 12
+PROOFS = "| Module | Says | Used by |\n|---|---|---|\n"
 
 
 def named():
@@ -118,9 +119,40 @@ def calling(text):
     return re.sub(r"```rust (\S+)\n.*?```", block, text, flags=re.S)
 
 
+def used_proofs():
+    """The modules of proofs that other crates use, but for those that are offered: each with the crates that do."""
+    used = {}
+    for crate in crates():
+        for path in (ROOT / "crates" / crate).glob("**/*"):
+            if path.suffix in (".antt", ".rt") and "out" not in path.parts:
+                for other, module in re.findall(r"Rattle\.(txc\w*)\.proofs\.((?:\w+\.)*\w+)", path.read_text()):
+                    if other != crate and not module.startswith("Offered"):
+                        used.setdefault((other, module), set()).add(crate)
+    return used
+
+
+def says(crate, module):
+    """The first sentence of a module of proofs."""
+    if module.endswith(".TheSendSync"):
+        return f"`{module.split('.')[-2]}` may go to threads, where its parts may"
+    lines = (ROOT / "crates" / crate / "proofs" / f"{module.replace('.', '/')}.antt").read_text().split("\n")
+    start = next((n for n, line in enumerate(lines) if line.startswith("-- ")), len(lines))
+    end = next((n for n, line in enumerate(lines) if n > start and not line.startswith("-- ")), len(lines))
+    return " ".join(line[3:] for line in lines[start:end]).split(". ")[0].rstrip(".")
+
+
+def architecture(text):
+    start, _, after = text.partition(PROOFS)
+    rows = ""
+    for (crate, module), users in sorted(used_proofs().items()):
+        place = module if module.endswith(".TheSendSync") else f"proofs/{module.replace('.', '/')}.antt"
+        rows += f"| `{crate}`: `{place}` | {says(crate, module)} | {', '.join(f'`{it}`' for it in sorted(users))} |\n"
+    return start + PROOFS + rows + re.sub(r"^(?:\|.*\n)*", "", after)
+
+
 def written():
     """Each file that is made by script, or has parts that are, beside its text."""
-    made = {"WRONG_BODIES.md": wrong_bodies, "SCRIPTS.md": scripts, "CALLING.md": calling}
+    made = {"WRONG_BODIES.md": wrong_bodies, "SCRIPTS.md": scripts, "CALLING.md": calling, "ARCHITECTURE.md": architecture}
     texts = {ROOT / "docs" / name: make((ROOT / "docs" / name).read_text()) for name, make in made.items()}
     return {**texts, **pages.written(), promise.PAGE: promise.written()}
 
