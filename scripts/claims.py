@@ -16,9 +16,9 @@ COMMANDS = {"put", "remove", "pin", "ro", "rw", "call", "ask", "write", "step", 
 
 
 def documents():
-    """The documents of the repository, but for the template of one."""
+    """The documents of the repository, but for the template of one, and for one that is to take another's place."""
     found = [README, ROOT / "CHANGELOG.md", *sorted((ROOT / "docs").glob("*.md")), *sorted((ROOT / "docs/crates").glob("*.md"))]
-    return [it for it in found if it.is_file() and not it.name.endswith(".in.md")]
+    return [it for it in found if it.is_file() and not it.name.endswith((".in.md", ".proposed.md"))]
 
 
 @lru_cache(None)
@@ -187,9 +187,36 @@ def toolchain():
             yield README, f"names the logic {named[1]}, and `rt version` prints `{said.strip()}`"
 
 
+def version():
+    """The landing that README names, if it names one, is the newest of CHANGELOG."""
+    newest = re.search(r"^## (\d{4}-\d\d-\d\d), (\w{8})", (ROOT / "CHANGELOG.md").read_text(), re.M)
+    named = re.search(r"landing of (\S+), `(\w+)`", " ".join(README.read_text().split()))
+    if named and named.groups() != newest.groups():
+        yield README, f"names the landing of {named[1]}, {named[2]}, and the newest is that of {newest[1]}, {newest[2]}"
+
+
+def names():
+    """Each file and each function of a type that ARCHITECTURE, CALLING and DECISIONS name in backticks is there."""
+    files = {path.name for path in ROOT.glob("crates/**/*") if path.suffix in (".rt", ".antt") and "out" not in path.parts}
+    methods = {}
+    for crate in sources.crates():
+        for word in sources.rust_items(crate).values():
+            methods.setdefault(word.name, set()).update(re.findall(r"\w+", word.text))
+        for call in sources.functions(crate):
+            methods.setdefault(call.owner, set()).add(call.name)
+    for name in ("ARCHITECTURE.md", "CALLING.md", "DECISIONS.md"):
+        document = ROOT / "docs" / name
+        for said in re.findall(r"`([^`\n]+)`", prose(document)):
+            kind, _, method = said.partition("::")
+            if re.fullmatch(r"[\w/]+\.(rt|antt)", said) and said.split("/")[-1] not in files:
+                yield document, f"names the file `{said}`, which is not there"
+            elif kind in methods and re.fullmatch(r"\w+", method) and method not in methods[kind]:
+                yield document, f"names `{said}`, which is not there"
+
+
 def faults():
     """What the documents claim that is not so, each as a line of text."""
     found = []
-    for check in (links, paths, counted, words, long_sentences, crate_tables, help_shown, settings, sessions, toolchain):
+    for check in (links, paths, counted, words, long_sentences, crate_tables, help_shown, settings, sessions, toolchain, version, names):
         found += [f"{document.relative_to(ROOT)} {said}" for document, said in check()]
     return found
