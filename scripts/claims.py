@@ -197,7 +197,7 @@ def version():
 
 def names():
     """Each file and each function of a type that ARCHITECTURE, CALLING and DECISIONS name in backticks is there."""
-    files = {path.name for path in ROOT.glob("crates/**/*") if path.suffix in (".rt", ".antt") and "out" not in path.parts}
+    files = [f"/{it.as_posix()}" for it in ROOT.glob("crates/**/*") if it.suffix in (".rt", ".antt") and "out" not in it.parts]
     methods = {}
     for crate in sources.crates():
         for word in sources.rust_items(crate).values():
@@ -208,7 +208,7 @@ def names():
         document = ROOT / "docs" / name
         for said in re.findall(r"`([^`\n]+)`", prose(document)):
             kind, _, method = said.partition("::")
-            if re.fullmatch(r"[\w/]+\.(rt|antt)", said) and said.split("/")[-1] not in files:
+            if re.fullmatch(r"[\w/]+\.(rt|antt)", said) and not any(it.endswith(f"/{said}") for it in files):
                 yield document, f"names the file `{said}`, which is not there"
             elif kind in methods and re.fullmatch(r"\w+", method) and method not in methods[kind]:
                 yield document, f"names `{said}`, which is not there"
