@@ -49,19 +49,6 @@ def needed():
     return found
 
 
-def shown_text(kind):
-    """A type's text, without its private fields."""
-    lines = kind.text.split("\n")
-    is_struct = re.match(r"pub(?:\([^)]*\))? struct", lines[0])
-    if is_struct and lines[0].endswith("{"):
-        kept = [n for n, line in enumerate(lines[1:-1], 1) if re.match(r"    pub \w", line)]
-        if not kept:
-            return lines[0].removesuffix(" {") + " { .. }"
-        if any(re.match(r"    (?!pub )\w.*: ", line) for line in lines):
-            return "\n".join([lines[0], *(lines[n] for n in kept), "    ..", "}"])
-    return "\n".join(lines)
-
-
 def seen_as(kind):
     """What a contract sees the type's values as."""
     model = sources.model_of(kind)
@@ -83,8 +70,7 @@ def type_entry(kind, calls):
     anchors = [kind.anchor, *(anchor_of(it) for it in calls if is_trait)]
     text = "".join(f'<a id="{it}"></a>' for it in anchors) + f"\n\n### `{kind.name}`\n\n"
     text += paragraphs(kind.said) + "\n\n" if kind.said else ""
-    shown = shown_text(kind)
-    text += fenced(shown, "rust") + seen_as(kind)
+    text += fenced(kind.shown, "rust") + seen_as(kind)
     if not sources.model_of(kind):
         text += words_line([it for it in kind.uses if it.key in needed()], kind.crate)
     return text if is_trait else text + "".join(call_entry(it) for it in calls)

@@ -33,7 +33,7 @@ class Page:
     """The page while it is written: the words that it has shown, and those of the promise at hand that are to be shown."""
 
     def __init__(self):
-        self.shown, self.roots, self.rows = [], [], []
+        self.shown, self.roots, self.rows, self.texts = [], [], [], []
 
     def show_clauses(self, crate, path, wanted):
         call = sources.function(crate, path)
@@ -41,6 +41,7 @@ class Page:
         if missing:
             sys.exit(f"{TEMPLATE.name}: {path} of {crate} has no clause {', '.join(sorted(missing))}")
         self.roots += [it for it in call.words(wanted or None) if it not in self.roots]
+        self.texts.append((path, call.text(wanted or None), call.scope))
         link = f"[`{path}`](crates/{crate}.md#{pages.anchor_of(call)})"
         rest = len(call.clauses) - len(wanted) if wanted else 0
         more = f"; {rest} more {'clauses stand' if rest > 1 else 'clause stands'} on its page" if rest else ""
@@ -83,7 +84,7 @@ def entry(word):
     text = f'<a id="{anchor(word)}"></a>**`{word.name}`**, [`{word.place}`](../{word.place}):\n\n'
     if word.is_rust:
         said = [f"/// {line}".rstrip() for line in word.said.split("\n") if word.said]
-        text += pages.fenced("\n".join([*said, pages.shown_text(word)]), kind) + seen_fields(word)
+        text += pages.fenced("\n".join([*said, word.shown]), kind) + seen_fields(word)
     else:
         text += pages.fenced(word.code, kind)
     uses = ", ".join(named(it) for it in word.uses)
@@ -103,7 +104,7 @@ def linked(text, page):
     on_page = {}
     for word in page.shown:
         on_page.setdefault(word.name, []).append(word)
-    names = {name for _, name, _ in library_names(page)}
+    names = {name for _, name in library_names(page)}
 
     def one(found, line):
         said = found[1]
@@ -136,18 +137,14 @@ def linked(text, page):
 
 
 def library_names(page):
-    """The names of Rattle's library that the definitions on the page use: word, name, path."""
+    """The names of Rattle's library that the page uses, each beside what uses it."""
     found = []
-    for word in page.shown:
-        scope = word.scope
+    for user, text, scope in [*((it.name, it.shown, it.scope) for it in page.shown), *page.texts]:
         for path, listed, _ in [*scope.lines, *(scope.base.lines if scope.base else [])]:
-            if path.startswith("Rattle.txc"):
-                continue
-            for _, name in sources.listed_names(listed):
-                parts = [it for it in name.replace("◌", " ").split()]
-                inside = lambda it: re.search(rf"(?<![\w.]){re.escape(it)}(?!\w)" if it[0].isalnum() else re.escape(it), word.text)
-                if parts and all(inside(it) for it in parts):
-                    found.append((word, name, path))
+            for _, name in sources.listed_names(listed) if not path.startswith("Rattle.txc") else []:
+                parts = name.replace("◌", " ").split()
+                if parts and all(re.search(rf"(?<![\w.]){re.escape(it)}(?!\w)" if it[0].isalnum() else re.escape(it), text) for it in parts):
+                    found.append((user, name))
     return found
 
 
@@ -156,9 +153,9 @@ def check_glossary(text, page):
     table = text.partition("| Sign or word |")[2].partition("\n\n")[0].replace("\\|", "|")
     said = [it for line in table.split("\n") for it in re.findall(r"`([^`]+)`", line.split(" | ")[0])]
     explained = set(re.findall(r"[^\s,()]+", " ".join(said)))
-    for word, name, _ in library_names(page):
+    for user, name in library_names(page):
         if not all(it in explained or it == "if" for it in name.replace("◌", " ").split()):
-            sys.exit(f"{TEMPLATE.name}: no row says what `{name}` is, of which {word.name} is made")
+            sys.exit(f"{TEMPLATE.name}: no row says what `{name}` is, of which {user} is made")
 
 
 def written():

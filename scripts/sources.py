@@ -55,6 +55,21 @@ class Word:
         return "\n".join([*(f"{mark} {line}".rstrip() for line in self.said.split("\n") if self.said), self.text])
 
     @property
+    def shown(self):
+        """Its text, without the private fields of a type."""
+        lines = self.text.split("\n")
+        if not re.match(r"pub(?:\([^)]*\))? struct", lines[0]) or not lines[0].endswith("{"):
+            return self.text
+        kept = [n for n, line in enumerate(lines) if re.match(r"    pub \w", line)]
+        if not kept:
+            return lines[0].removesuffix(" {") + " { .. }"
+        if not any(re.match(r"    (?!pub )\w.*: ", line) for line in lines):
+            return self.text
+        # a field's comment goes with it
+        before = {n - 1 - k for n in kept for k in range(n) if all(it.strip().startswith("//") for it in lines[n - 1 - k:n])}
+        return "\n".join([lines[0], *(lines[n] for n in sorted({*kept, *before})), "    ..", "}"])
+
+    @property
     def fields(self):
         """The types of src/ that its text names."""
         return rust_types(self) if self.is_rust else []
@@ -63,7 +78,7 @@ class Word:
     def uses(self):
         """The words that its text uses, in order, each once; and of a type of src/ what its fields are seen as."""
         if self._uses is None:
-            found = self.scope.words(self.text)
+            found = self.scope.words(self.shown)
             for kind in self.fields:
                 found += [kind] if kind.seen is None else kind.seen
             self._uses = [it for n, it in enumerate(found) if it is not self and it not in found[:n]]
@@ -279,7 +294,8 @@ def rust_types(word):
         for name in [one] if one else re.split(r",\s*", listed):
             where[name.split(" ")[0]] = crate
     found = []
-    code = re.sub(r"//.*", "", word.text)
+    # the name of a variant is none of a type
+    code = re.sub(r"^    [A-Z]\w*", "", re.sub(r"//.*", "", word.shown), flags=re.M)
     for name in re.findall(r"\b[A-Z]\w*\b", code):
         crate = where.get(name, word.crate)
         item = rust_item(crate, name) if (ROOT / "crates" / crate).is_dir() else None
