@@ -91,48 +91,54 @@ def entry(word):
     return text + (f"Words: {uses}.\n\n" if uses else "")
 
 
-def linked(text, page):
-    """The sentences, with each name that they have as a link; ends where there is no such name."""
-    functions, kinds = {}, {}
-    for crate in sources.crates():
-        for call in sources.functions(crate):
-            functions.setdefault(call.path, []).append(call)
-            functions.setdefault(call.name, []).append(call)
-        for word in sources.public_api(crate)[0]:
-            kinds.setdefault(word.name, []).append(word)
-    clauses = {name for calls in functions.values() for call in calls for name, _ in call.clauses}
-    on_page = {}
-    for word in page.shown:
-        on_page.setdefault(word.name, []).append(word)
-    names = {name for _, name in library_names(page)}
+class Names:
+    """The names that the sentences may have, with what each is a link to."""
 
-    def one(found, line):
-        said = found[1]
-        crates = re.findall(r"`(txc_\w+)`", line.split("|")[1]) if line.startswith("| `txc_") else None
-        of_row = lambda them: sorted(them, key=lambda it: it.crate not in (crates or []))
-        if SIGNS.search(said) or said in names:
-            return found[0]
+    def __init__(self, page):
+        self.pages = {crate for crate in sources.crates() if pages.page(crate)}
+        self.signs = {name for _, name in library_names(page)}
+        self.shown, self.kinds, self.calls, self.clauses = {}, {}, {}, set()
+        for word in page.shown:
+            self.shown.setdefault(word.name, []).append(word)
+        for crate in sources.crates():
+            kinds, calls = sources.public_api(crate)
+            for kind in kinds:
+                self.kinds.setdefault(kind.name, []).append(kind)
+            for call in calls:
+                self.calls.setdefault(call.path, []).append(call)
+                self.calls.setdefault(call.name, []).append(call)
+            self.clauses |= {name for call in sources.functions(crate) for name, _ in call.clauses}
+
+    def link(self, said, line):
+        """A name as a link, where it is one of a definition, a crate, a type, a call or a test; ends where it is nothing."""
+        # in a row of the table of crates a name is one of its crate, where that has it
+        crates = re.findall(r"`(txc_\w+)`", line.split("|")[1]) if line.startswith("| `txc_") else []
+        if SIGNS.search(said) or said in self.signs or (not crates and said in self.clauses):
+            return f"`{said}`"
         if said in sources.crates():
-            return f"[`{said}`](crates/{said}.md)" if (said in page.has_page) else found[0]
-        if crates is None and len(on_page.get(said, [])) == 1:
-            return named(on_page[said][0])
-        for word in of_row(kinds.get(said, []))[:1]:
-            return f"[`{said}`](crates/{word.crate}.md#{word.anchor})"
-        public = [it for it in of_row(functions.get(said, [])) if it in sources.public_api(it.crate)[1]]
-        if public:
-            return f"[`{said}`](crates/{public[0].crate}.md#{pages.anchor_of(public[0])})"
-        tests = [path for path in ROOT.glob("crates/*_cases/src/**/*.rt") if f"fn {said}(" in path.read_text()]
-        if tests:
-            return f"[`{said}`](../{tests[0].relative_to(ROOT)})"
-        if said in clauses or said == "laws" and all("laws" in sources.exported(it)[1] for it in crates or []):
-            return found[0]
+            return f"[`{said}`](crates/{said}.md)" if said in self.pages else f"`{said}`"
+        if not crates and len(self.shown.get(said, [])) == 1:
+            return named(self.shown[said][0])
+        own_first = lambda them: sorted(them, key=lambda it: it.crate not in crates)
+        for kind in own_first(self.kinds.get(said, [])):
+            return f"[`{said}`](crates/{kind.crate}.md#{kind.anchor})"
+        for call in own_first(self.calls.get(said, [])):
+            return f"[`{said}`](crates/{call.crate}.md#{pages.anchor_of(call)})"
+        for path in ROOT.glob("crates/*_cases/src/**/*.rt"):
+            if f"fn {said}(" in path.read_text():
+                return f"[`{said}`](../{path.relative_to(ROOT)})"
+        if said == "laws" and all("laws" in sources.exported(it)[1] for it in crates):
+            return "`laws`"
         sys.exit(f"{TEMPLATE.name}: there is no `{said}`")
 
-    lines, in_code = [], False
+
+def linked(text, page):
+    """The sentences, with each name that they have as a link."""
+    names, lines, in_code = Names(page), [], False
     for line in text.split("\n"):
         in_code ^= line.startswith("```")
-        plain = in_code or line.startswith(("```", "#", "Words: ", "<a id", "[`", "Seen in", "<!--"))
-        lines.append(line if plain else re.sub(r"(?<!\[)`([^`]+)`", lambda it: one(it, line), line))
+        is_made = in_code or line.startswith(("```", "#", "Words: ", "<a id", "[`", "Seen in", "<!--"))
+        lines.append(line if is_made else re.sub(r"(?<!\[)`([^`]+)`", lambda it: names.link(it[1], line), line))
     return "\n".join(lines)
 
 
@@ -160,7 +166,6 @@ def check_glossary(text, page):
 
 def written():
     page = Page()
-    page.has_page = {crate for crate in sources.crates() if pages.page(crate)}
     source, text, title = TEMPLATE.read_text(), "", ""
     for line in source.split("\n"):
         title = line[3:] if line.startswith("## ") else title
