@@ -12,6 +12,7 @@ import claims, pages, promise
 from sources import ROOT, crates
 
 LISTS = "## All of them, by crate"
+FIRST, SECOND = "## What no clause can refuse", "## The ones that break a cache"
 EXAMPLES = "## The examples, with the replies beside their lines"
 SESSION = "### A world, line by line"
 # Of more commands in a row than this, only the first and the last are shown.
@@ -52,8 +53,16 @@ def lists():
     return text
 
 
+def in_order(text):
+    """With what no clause can refuse before what clauses refuse: a reader wants to know it first."""
+    sections = re.split(r"(?m)^(?=## )", text)
+    first = next(it for it in sections if it.startswith(FIRST))
+    at = next(n for n, it in enumerate(sections) if it.startswith(SECOND))
+    return "".join([*sections[:at], first, *(it for it in sections[at:] if it != first)]) if first not in sections[:at] else text
+
+
 def wrong_bodies(text):
-    start, _, after = text.partition(LISTS)
+    start, _, after = in_order(text).partition(LISTS)
     return start + LISTS + after.partition("\n### ")[0].rstrip() + "\n" + lists()
 
 
