@@ -181,7 +181,8 @@ def comment(lines, end, mark="-- "):
 
 
 def use_lines(text):
-    return [(path, listed, alias) for path, listed, alias in USE.findall(re.sub(r"\{([^}]*)\n([^}]*)\}", r"{\1 \2}", text))]
+    """The imports of a text: of each its path, the names that it lists, and its alias."""
+    return USE.findall(re.sub(r"\.\{[^{}]*\}", lambda it: " ".join(it[0].split()), text))
 
 
 @lru_cache(None)
