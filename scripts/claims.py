@@ -11,8 +11,8 @@ from sources import ROOT
 README = ROOT / "README.md"
 MOST_WORDS = 1_400
 MOST_WORDS_OF_A_SENTENCE = 40
-# Mode world's commands, with which a line of a session begins.
-COMMANDS = {"put", "remove", "pin", "ro", "rw", "call", "ask", "write", "step", "finish", "commit", "abort", "advance", "insert", "lookup", "event", "sweep"}
+# The commands of scripts, with which a line of a session begins.
+COMMANDS = set("put remove pin pins ro rw session call ask write step finish commit abort advance tidy counts insert lookup event sweep".split())
 
 
 def documents():
@@ -170,12 +170,14 @@ def is_within(shown, example):
 
 
 def sessions():
-    """Each session of mode world that README shows in a block of code is that of one example, or a part of it."""
-    for block in re.findall(r"(?:^    .+\n)+", README.read_text(), re.M):
-        shown = [re.split(r" {2,}", line.strip(), maxsplit=1) for line in block.rstrip().split("\n")]
-        shown = [it for it in shown if it[0].split(" ")[0] in COMMANDS and len(it) == 2]
-        if shown and not any(is_within(shown, example) for _, example in examples()):
-            yield README, f"shows a session that no example has: it begins with `{shown[0][0]}`"
+    """Each session that README or a section of SCRIPTS shows in blocks of code is that of one example, or a part of it."""
+    for document in (README, ROOT / "docs/SCRIPTS.md"):
+        for section in re.split(r"(?m)^(?=#+ )", document.read_text()):
+            lines = [it.strip() for it in section.split("\n") if it.startswith("    ")]
+            shown = [re.split(r" {2,}", it, maxsplit=1) for it in lines if it.split(" ")[0] in COMMANDS]
+            shown = [it for it in shown if len(it) == 2]
+            if shown and not any(is_within(shown, example) for _, example in examples()):
+                yield document, f"shows a session that no example has: it begins with `{shown[0][0]}`"
 
 
 def toolchain():
