@@ -180,6 +180,19 @@ def sessions():
                 yield document, f"shows a session that no example has: it begins with `{shown[0][0]}`"
 
 
+def commands():
+    """Each `make` command that a document shows has its target, and the script that it names is there."""
+    targets = {it for line in re.findall(r"^([a-z ]+):", (ROOT / "Makefile").read_text(), re.M) for it in line.split()}
+    for document in documents():
+        text = document.read_text() if document.parent.name != "crates" else ""
+        for target in re.findall(r"(?:^    |`)make (\w+)", text, re.M):
+            if target not in targets:
+                yield document, f"shows `make {target}`, which the Makefile doesn't have"
+        for script in re.findall(r"\bSCRIPT=([\w./]+)", text):
+            if not (ROOT / script).is_file():
+                yield document, f"shows SCRIPT={script}, which is not there"
+
+
 def toolchain():
     """The logic that README names is that of this machine's toolchain, where there is one."""
     named = re.search(r"logic (\w+)", README.read_text())
@@ -219,6 +232,7 @@ def names():
 def faults():
     """What the documents claim that is not so, each as a line of text."""
     found = []
-    for check in (links, paths, counted, words, long_sentences, crate_tables, help_shown, settings, sessions, toolchain, version, names):
+    checks = (links, paths, counted, words, long_sentences, crate_tables, help_shown, settings, sessions, commands, toolchain, version, names)
+    for check in checks:
         found += [f"{document.relative_to(ROOT)} {said}" for document, said in check()]
     return found
