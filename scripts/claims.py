@@ -189,7 +189,7 @@ def commands():
             if target not in targets:
                 yield document, f"shows `make {target}`, which the Makefile doesn't have"
         for script in re.findall(r"\bSCRIPT=([\w./]+)", text):
-            if not (ROOT / script).is_file():
+            if "NAME" not in script and not (ROOT / script).is_file():
                 yield document, f"shows SCRIPT={script}, which is not there"
 
 
