@@ -11,8 +11,8 @@ from sources import ROOT
 README = ROOT / "README.md"
 MOST_WORDS = 1_400
 MOST_WORDS_OF_A_SENTENCE = 40
-# Mode world's commands, with which a line of a session begins.
-COMMANDS = {"put", "remove", "pin", "ro", "rw", "call", "ask", "write", "step", "finish", "commit", "abort", "advance", "insert", "lookup", "event", "sweep"}
+# The commands of scripts, with which a line of a session begins.
+COMMANDS = set("put remove pin pins ro rw session call ask write step finish commit abort advance tidy counts insert lookup event sweep".split())
 
 
 def documents():
@@ -170,12 +170,27 @@ def is_within(shown, example):
 
 
 def sessions():
-    """Each session of mode world that README shows in a block of code is that of one example, or a part of it."""
-    for block in re.findall(r"(?:^    .+\n)+", README.read_text(), re.M):
-        shown = [re.split(r" {2,}", line.strip(), maxsplit=1) for line in block.rstrip().split("\n")]
-        shown = [it for it in shown if it[0].split(" ")[0] in COMMANDS and len(it) == 2]
-        if shown and not any(is_within(shown, example) for _, example in examples()):
-            yield README, f"shows a session that no example has: it begins with `{shown[0][0]}`"
+    """Each session that README or a section of SCRIPTS shows in blocks of code is that of one example, or a part of it."""
+    for document in (README, ROOT / "docs/SCRIPTS.md"):
+        for section in re.split(r"(?m)^(?=#+ )", document.read_text()):
+            lines = [it.strip() for it in section.split("\n") if it.startswith("    ")]
+            shown = [re.split(r" {2,}", it, maxsplit=1) for it in lines if it.split(" ")[0] in COMMANDS]
+            shown = [it for it in shown if len(it) == 2]
+            if shown and not any(is_within(shown, example) for _, example in examples()):
+                yield document, f"shows a session that no example has: it begins with `{shown[0][0]}`"
+
+
+def commands():
+    """Each `make` command that a document shows has its target, and the script that it names is there."""
+    targets = {it for line in re.findall(r"^([a-z ]+):", (ROOT / "Makefile").read_text(), re.M) for it in line.split()}
+    for document in documents():
+        text = document.read_text() if document.parent.name != "crates" else ""
+        for target in re.findall(r"(?:^    |`)make (\w+)", text, re.M):
+            if target not in targets:
+                yield document, f"shows `make {target}`, which the Makefile doesn't have"
+        for script in re.findall(r"\bSCRIPT=([\w./]+)", text):
+            if "NAME" not in script and not (ROOT / script).is_file():
+                yield document, f"shows SCRIPT={script}, which is not there"
 
 
 def toolchain():
@@ -217,6 +232,7 @@ def names():
 def faults():
     """What the documents claim that is not so, each as a line of text."""
     found = []
-    for check in (links, paths, counted, words, long_sentences, crate_tables, help_shown, settings, sessions, toolchain, version, names):
+    checks = (links, paths, counted, words, long_sentences, crate_tables, help_shown, settings, sessions, commands, toolchain, version, names)
+    for check in checks:
         found += [f"{document.relative_to(ROOT)} {said}" for document, said in check()]
     return found

@@ -181,7 +181,8 @@ def comment(lines, end, mark="-- "):
 
 
 def use_lines(text):
-    return [(path, listed, alias) for path, listed, alias in USE.findall(re.sub(r"\{([^}]*)\n([^}]*)\}", r"{\1 \2}", text))]
+    """The imports of a text: of each its path, the names that it lists, and its alias."""
+    return USE.findall(re.sub(r"\.\{[^{}]*\}", lambda it: " ".join(it[0].split()), text))
 
 
 @lru_cache(None)
@@ -284,24 +285,33 @@ def rust_item(crate, name, file=None):
     return next((word for (_, other), word in items.items() if other == name), None)
 
 
-def rust_types(word):
-    """The types of src/ that the text of one names, but for itself."""
-    text = source_files(word.crate)[word.file.removeprefix("src/")]
-    where = {}
-    for path, one, listed in RUST_USE.findall(re.sub(r"\{([^}]*)\}", lambda it: "{" + " ".join(it[1].split()) + "}", text)):
+@lru_cache(None)
+def rust_uses(crate, file):
+    """The crate of each name that a file takes in."""
+    text = re.sub(r"\{([^}]*)\}", lambda it: "{" + " ".join(it[1].split()) + "}", source_files(crate)[file])
+    found = {}
+    for path, one, listed in RUST_USE.findall(text):
         first = path.split("::")[0]
-        crate = word.crate if first in ("crate", "self", "super") else first
         for name in [one] if one else re.split(r",\s*", listed):
-            where[name.split(" ")[0]] = crate
+            found[name.split(" ")[0]] = crate if first in ("crate", "self", "super") else first
+    return found
+
+
+def rust_words(crate, file, text):
+    """The types and constants of src/ that a text of a file names, in order, each once."""
     found = []
-    # the name of a variant is none of a type
-    code = re.sub(r"^    [A-Z]\w*", "", re.sub(r"//.*", "", word.shown), flags=re.M)
-    for name in re.findall(r"\b[A-Z]\w*\b", code):
-        crate = where.get(name, word.crate)
-        item = rust_item(crate, name) if (ROOT / "crates" / crate).is_dir() else None
-        if item and item is not word and item not in found:
+    for name in re.findall(r"(?<![\w.])[A-Z]\w*", re.sub(r"//.*", "", text)):
+        owner = rust_uses(crate, file).get(name, crate)
+        item = rust_item(owner, name) if (ROOT / "crates" / owner).is_dir() else None
+        if item and item not in found:
             found.append(item)
     return found
+
+
+def rust_types(word):
+    """The types and constants of src/ that the text of one names, but for itself; the name of a variant is none of them."""
+    code = re.sub(r"^    [A-Z]\w*", "", word.shown, flags=re.M)
+    return [it for it in rust_words(word.crate, word.file.removeprefix("src/"), code) if it is not word]
 
 
 @lru_cache(None)
@@ -369,7 +379,11 @@ class Function:
         return dedent("\n".join([self.head, *kept]))
 
     def words(self, wanted=None):
-        return self.scope.words("\n".join(text for name, text in self.clauses if wanted is None or name in wanted))
+        """The words of its clauses: definitions first, and then types and constants that they name as Rust does."""
+        text = "\n".join(text for name, text in self.clauses if wanted is None or name in wanted)
+        found, known = self.scope.words(text), self.scope.known()[0]
+        named = rust_words(self.crate, self.file, without_labels(text))
+        return found + [it for it in named if it.name not in known and it not in found]
 
 
 def dedent(text):
