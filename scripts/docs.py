@@ -1,7 +1,11 @@
 #!/usr/bin/env python3
-"""Writes the parts of docs/ that are made by script: docs/PROMISE.md and the pages of docs/crates/, from the crates' src/ and
-specs/, the lists of docs/WRONG_BODIES.md, from their edits, the table of proofs of docs/ARCHITECTURE.md, the examples of docs/SCRIPTS.md, from examples/, and the code of
-docs/CALLING.md, from the tests. The session of a world in docs/SCRIPTS.md has to be that of its script.
+"""Writes the parts of docs/ that are made by script:
+
+  PROMISE.md, crates/  from the crates' src/ and specs/, and docs/promise.in.md (scripts/promise.py, scripts/pages.py)
+  WRONG_BODIES.md      its lists, from the crates' edits
+  ARCHITECTURE.md      the table of proofs that other crates use
+  SCRIPTS.md           the examples, from examples/; the session of a world has to be that of its script
+  CALLING.md           its code, from the tests
 
 usage: docs.py [--check]      --check writes nothing, and ends with 1 where a file is not what would be written, or where what
                               the documents claim is not so (scripts/claims.py)
