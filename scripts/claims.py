@@ -129,6 +129,22 @@ def crate_tables():
                 yield document, f"says that {crate} stands on {other}, which it does not use"
 
 
+def promised():
+    """Each library that is not there for tests alone has a row in PROMISE."""
+    lines = [line.split("#")[0] for line in (ROOT / "crates.txt").read_text().split("\n")]
+    uses = {line.split(":")[0].strip(): line.split(":")[1].split() for line in lines if ":" in line}
+    of_tests = {it for it in uses if it.endswith("_cases")}
+    for crate in reversed(uses):
+        users = {it for it in uses if crate in uses[it]}
+        if users and users <= of_tests:
+            of_tests.add(crate)
+    document = ROOT / "docs/promise.in.md"
+    rows = re.findall(r"^\| (`txc_.*?) \|", document.read_text(), re.M)
+    for crate in uses:
+        if crate not in of_tests and (ROOT / "crates" / crate / "src/lib.rt").is_file() and not any(f"`{crate}`" in it for it in rows):
+            yield document, f"has no row for {crate} in its table of crates"
+
+
 def help_shown():
     """The help in SCRIPTS is the one that the tests of the command line compare."""
     document = ROOT / "docs/SCRIPTS.md"
@@ -232,7 +248,7 @@ def names():
 def faults():
     """What the documents claim that is not so, each as a line of text."""
     found = []
-    checks = (links, paths, counted, words, long_sentences, crate_tables, help_shown, settings, sessions, commands, toolchain, version, names)
+    checks = (links, paths, counted, words, long_sentences, crate_tables, promised, help_shown, settings, sessions, commands, toolchain, version, names)
     for check in checks:
         found += [f"{document.relative_to(ROOT)} {said}" for document, said in check()]
     return found
