@@ -80,6 +80,7 @@ def counts():
         "public functions": len([it for it in functions if it.is_public]),
         "definitions": len(defined),
         "wrong bodies": edits("must-fail") + edits("more-edits"),
+        "tests": sum(text.count("#[test]") for crate in names for text in sources.source_files(crate).values()),
         "examples": len([it for it in ROOT.glob("examples/**/*.tx?")]),
     }
 
@@ -87,7 +88,7 @@ def counts():
 def counted():
     """What README, PROMISE and ARCHITECTURE count, in digits, is what the tree has."""
     for document in (README, ROOT / "docs/PROMISE.md", ROOT / "docs/ARCHITECTURE.md"):
-        for number, what in re.findall(r"\b(\d[\d,]*) ((?:library |public )?crates|(?:public )?functions|definitions|wrong bodies|examples)\b",
+        for number, what in re.findall(r"\b(\d[\d,]*) ((?:library |public )?crates|(?:public )?functions|definitions|wrong bodies|tests|examples)\b",
                                        prose(document)):
             if int(number.replace(",", "")) != counts()[what]:
                 yield document, f"counts {number} {what}, and there are {counts()[what]:,}"
