@@ -30,10 +30,12 @@ fn add(
     function: AnyFunction,
 ) -> Result<(), AllocError>
     requires idle { All (λ o. ⟦<Object as Cacheable>⟧.activity o ≡ idle) objects.old.items }
-    requires means { All (λ o. ⟦<Object as Cacheable>⟧.says o ≡ program (⟦<Object as Cacheable>⟧.number o)) objects.old.items }
+    requires means { All (λ o. ⟦<Object as Cacheable>⟧.says o
+        ≡ program (⟦<Object as Cacheable>⟧.number o)) objects.old.items }
     requires pools { All (λ o. pool_of o ≡ pool.old) objects.old.items }
     ensures idle { All (λ o. ⟦<Object as Cacheable>⟧.activity o ≡ idle) objects.new.items }
-    ensures means { All (λ o. ⟦<Object as Cacheable>⟧.says o ≡ program (⟦<Object as Cacheable>⟧.number o)) objects.new.items }
+    ensures means { All (λ o. ⟦<Object as Cacheable>⟧.says o
+        ≡ program (⟦<Object as Cacheable>⟧.number o)) objects.new.items }
     ensures pools { All (λ o. pool_of o ≡ pool.old) objects.new.items }
     ensures numbers { OnOk result (map ⟦<Object as Cacheable>⟧.number objects.new.items
         ≡ map ⟦<Object as Cacheable>⟧.number objects.old.items ++ number_of function ∷ []) }
@@ -45,10 +47,12 @@ fn add(
 
 /// An idle object of each function, which takes its permits of the pool.
 pub fn object_of_each(alloc: Global, pool: &mut PermitPool) -> Result<Vec<Object>, AllocError>
-    ensures all { IfOk result (λ objects. map ⟦<Object as Cacheable>⟧.number objects.items ≡ ALL_NUMBERS) }
-    ensures idle { IfOk result (λ objects. All (λ o. ⟦<Object as Cacheable>⟧.activity o ≡ idle) objects.items) }
-    ensures means { IfOk result (λ objects.
-        All (λ o. ⟦<Object as Cacheable>⟧.says o ≡ program (⟦<Object as Cacheable>⟧.number o)) objects.items) }
+    ensures all { IfOk result (λ objects.
+        map ⟦<Object as Cacheable>⟧.number objects.items ≡ ALL_NUMBERS) }
+    ensures idle { IfOk result (λ objects.
+        All (λ o. ⟦<Object as Cacheable>⟧.activity o ≡ idle) objects.items) }
+    ensures means { IfOk result (λ objects. All (λ o. ⟦<Object as Cacheable>⟧.says o
+        ≡ program (⟦<Object as Cacheable>⟧.number o)) objects.items) }
     ensures pools { IfOk result (λ objects. All (λ o. pool_of o ≡ pool.old) objects.items) }
     ensures same_pool { pool.new ≡ pool.old }
 {
