@@ -287,6 +287,7 @@ fn play<J: Naming>(
         watch: Watch::new(rt, alloc, (&database, &cushion), pool),
     };
     let played = is_played(&mut watched, alloc, "", script, answer);
+    drop(watched);
     reader.end();
     Some(played)
 }

@@ -63,6 +63,7 @@ fn play<J: Naming>(rt: &impl Wait, alloc: Global, core: DbCore, answer: &mut Str
         watch: Watch::new(rt, alloc, (&database, &cushion), pool),
     };
     let played = is_played(&mut watched, alloc, "", UPDATES, answer);
+    drop(watched);
     updates.end();
     Some(played)
 }
