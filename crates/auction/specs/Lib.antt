@@ -1,0 +1,3 @@
+pub mod Auction
+pub mod Objects
+pub mod Pages

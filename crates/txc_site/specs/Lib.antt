@@ -1,0 +1,5 @@
+pub mod Attempts
+pub mod Plans
+pub mod Rows
+pub mod Sites
+pub mod Writes

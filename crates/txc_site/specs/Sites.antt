@@ -1,0 +1,39 @@
+-- Sites and their clients.
+use Rattle.std.specs.Prelude.{◌≡◌, ◌⊎◌, ℕ, List, Any}
+use Rattle.txc_registry.specs.Objects.{Objects, HasTwice}
+use Rattle.txc_client.specs.Txn.{ClientValue}
+use Rattle.txc_db.specs.Refusals.{IsWant}
+use Rattle.txc_ports.specs.declared.error.TxnError.{TxnError}
+use Rattle.txc_site.specs.declared.plan.Plan.{Plan}
+use Rattle.txc_site.specs.declared.error.SiteError.{SiteError}
+use Rattle.txc_site.specs.declared.error.SiteError.TheVariants as sites
+use Rattle.txc_site.specs.declared.error.ReadError.{ReadError}
+use Rattle.txc_site.specs.declared.error.ReadError.TheVariants as reads
+use Rattle.txc_site.specs.Plans.{IsPlan}
+
+-- a client of a site: the one that reads, and what the objects do that a change calls
+pub record SiteClientValue : Type 0 where
+  pub reader : ClientValue
+  pub writer : Objects
+
+-- of a registry: two functions have the number; or out of memory
+abbrev pub IsRegistryRefused : List ℕ → SiteError → Type 0
+IsRegistryRefused numbers (sites.Twice f) = HasTwice f numbers
+IsRegistryRefused numbers sites.Memory = Unit {0}
+IsRegistryRefused numbers error = ⊥
+
+-- of a client: as a registry is; or a node gives no pass
+abbrev pub IsClientRefused : List ℕ → SiteError → Type 0
+IsClientRefused numbers (sites.Node cause) = Unit {0}
+IsClientRefused numbers error = IsRegistryRefused numbers error
+
+-- of a site: its plan is none; else as a registry is, or the database can't be made
+abbrev pub IsSiteRefused : Plan → List ℕ → SiteError → Type 0
+IsSiteRefused plan numbers sites.Plan = ¬ (IsPlan plan)
+IsSiteRefused plan numbers (sites.Database cause) = IsPlan plan × IsWant cause
+IsSiteRefused plan numbers error = IsPlan plan × IsRegistryRefused numbers error
+
+-- of a page: out of memory before it began; or as the page itself is
+abbrev pub IsReadRefused : (TxnError → Type 0) → ReadError → Type 0
+IsReadRefused refuses reads.Memory = Unit {0}
+IsReadRefused refuses (reads.Page cause) = refuses cause

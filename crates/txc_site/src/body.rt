@@ -1,0 +1,25 @@
+use crate::application::Application;
+use crate::site::Site;
+use std::alloc::Global;
+use std::sync::Wait;
+use txc_db::Naming;
+use txc_functions::Definition;
+
+/// What is done with a site. It is generic in what names the site's rows, so that nothing of one site is
+/// used with another.
+pub trait Body<A: Application<D>, D: Definition, R: Wait> {
+    /// What it comes to.
+    type Output;
+
+    // What its output says.
+    ghost gives: { Self → Self.Output → Type 0 };
+
+    /// Does it. The site is new: its database is empty, and no client of it was made.
+    fn run<J: Naming + Send + Sync>(
+        self,
+        rt: &R,
+        alloc: Global,
+        site: &mut Site<'_, A, D, J>,
+    ) -> Self::Output
+        ensures { gives self result };
+}
