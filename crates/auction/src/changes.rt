@@ -15,10 +15,10 @@ use txc_site::{Change, Function};
 use txc_tags::Table;
 
 /// How many items there are.
-pub const ITEMS: u32 = 8;
+pub const ITEM_COUNT: u32 = 8;
 
 /// How many users there are.
-pub const USERS: u32 = 3;
+pub const USER_COUNT: u32 = 3;
 
 type Writing<'a, J> = RwTxn<'a, J, Auction, Function<AuctionFunction>>;
 
@@ -39,6 +39,7 @@ fn put<J: Naming>(
 }
 
 /// Puts the users, the items, and a first bid on each.
+#[derive(Drop)]
 pub struct Opening;
 
 impl Change<Auction, AuctionFunction> for Opening {
@@ -54,13 +55,18 @@ impl Change<Auction, AuctionFunction> for Opening {
         alloc: Global,
         txn: &mut Writing<'_, J>,
     ) -> Result<(), TxnError> {
-        for user in 0..USERS {
+        for user in 0..USER_COUNT {
             let name = format!(in alloc; "user{user}")?;
             put(alloc, txn, (users(), user, 0), name.as_str())?;
         }
-        for item in 0..ITEMS {
+        for item in 0..ITEM_COUNT {
             let title = format!(in alloc; "item{item}")?;
-            put(alloc, txn, (items(), item, item % USERS), title.as_str())?;
+            put(
+                alloc,
+                txn,
+                (items(), item, item % USER_COUNT),
+                title.as_str(),
+            )?;
             put(alloc, txn, (bids(), item, 0), "10:user0")?;
         }
         Ok(())
@@ -68,6 +74,7 @@ impl Change<Auction, AuctionFunction> for Opening {
 }
 
 /// Bids more than the highest bid on an item.
+#[derive(Drop)]
 pub struct Bid {
     pub item: u32,
     pub user: u32,

@@ -1,20 +1,26 @@
 //! The visitors, who render pages and bid, each on a thread.
 use crate::arguments::Arguments;
-use crate::changes::{Bid, ITEMS, USERS};
+use crate::changes::{Bid, ITEM_COUNT, USER_COUNT};
 use crate::functions::{Auction, AuctionFunction};
 use crate::pages::{BothBids, ItemPage, OneCall};
 use std::alloc::Global;
 use std::sync::Wait;
 use txc_db::Naming;
 use txc_ports::Bounds;
-use txc_site::{SiteClient, Visitor};
+use txc_site::{Keeper, SiteClient, Visitor};
 use txc_stamp::Stamp;
 
 /// A visitor's client.
 type Guest<'a, J> = SiteClient<'a, Auction, AuctionFunction, J>;
 
+/// The keeper, whom the first visitor brings.
+type Housekeeper<'a, J> = Option<Keeper<'a, Auction, J>>;
+
 /// How often a bid is tried.
 const TRIES: u32 = 8;
+
+/// How many rounds a pin stays.
+const AGE: u64 = 16;
 
 /// What a visitor came to.
 #[derive(Clone, Copy)]
@@ -24,6 +30,7 @@ pub struct Tally {
     pub refused: u32,
     pub bids: u32,
     pub conflicts: u32,
+    pub kept: u32,
     pub lookups: u64,
     pub hits: u64,
 }
@@ -35,15 +42,20 @@ impl Tally {
         refused: 0,
         bids: 0,
         conflicts: 0,
+        kept: 0,
         lookups: 0,
         hits: 0,
     };
 
     fn count(&mut self, both: Option<BothBids>) {
-        match both {
-            Some(both) if both.is_whole() => self.whole = self.whole.saturating_add(1),
-            Some(_) => self.torn = self.torn.saturating_add(1),
-            None => self.refused = self.refused.saturating_add(1),
+        let Some(both) = both else {
+            self.refused = self.refused.saturating_add(1);
+            return;
+        };
+        if both.is_whole() {
+            self.whole = self.whole.saturating_add(1);
+        } else {
+            self.torn = self.torn.saturating_add(1);
         }
     }
 
@@ -54,6 +66,7 @@ impl Tally {
         self.refused = self.refused.saturating_add(other.refused);
         self.bids = self.bids.saturating_add(other.bids);
         self.conflicts = self.conflicts.saturating_add(other.conflicts);
+        self.kept = self.kept.saturating_add(other.kept);
         self.lookups = self.lookups.saturating_add(other.lookups);
         self.hits = self.hits.saturating_add(other.hits);
     }
@@ -86,7 +99,7 @@ impl Crowd {
     ) -> Guest<'a, J> {
         let bid = Bid {
             item,
-            user: round % USERS,
+            user: round % USER_COUNT,
             more: round.wrapping_add(self.arguments.seed) % 7,
         };
         let (written, client) = client.write(rt, alloc, TRIES, &bid);
@@ -97,6 +110,23 @@ impl Crowd {
                 .saturating_add(written.conflicts.len().min(8) as u32);
         }
         client
+    }
+
+    /// Keeps the site, where this visitor does.
+    fn keep<'a, J: Naming, R: Wait>(
+        &self,
+        rt: &R,
+        alloc: Global,
+        keeper: Housekeeper<'a, J>,
+        round: u32,
+        tally: &mut Tally,
+    ) -> Housekeeper<'a, J> {
+        let keeper = keeper?;
+        let (kept, keeper) = keeper.keep(rt, alloc, u64::from(round), AGE);
+        if kept.is_ok() {
+            tally.kept = tally.kept.saturating_add(1);
+        }
+        Some(keeper)
     }
 
     /// Reads an item's highest bid and its page, in one transaction.
@@ -145,16 +175,17 @@ impl Crowd {
                 id: item,
             },
         );
-        match (highest, page) {
-            (Ok(highest), Ok(page)) => {
-                let both = BothBids {
-                    highest: highest.output,
-                    page: page.output,
-                };
-                (Some(both), client)
-            }
-            _ => (None, client),
-        }
+        let Ok(highest) = highest else {
+            return (None, client);
+        };
+        let Ok(page) = page else {
+            return (None, client);
+        };
+        let both = BothBids {
+            highest: highest.output,
+            page: page.output,
+        };
+        (Some(both), client)
     }
 }
 
@@ -171,10 +202,15 @@ impl<R: Wait> Visitor<Auction, AuctionFunction, R> for Crowd {
         client: Guest<'_, J>,
     ) -> Tally {
         let mut tally = Tally::ZERO;
+        let mut keeper = if number == 0 {
+            client.keeper(rt, alloc).ok()
+        } else {
+            None
+        };
         let mut client = client;
         let first = (number.min(64) as u32).wrapping_add(self.arguments.seed);
         for round in 0..self.arguments.pages {
-            let item = round.wrapping_add(first) % ITEMS;
+            let item = round.wrapping_add(first) % ITEM_COUNT;
             let (both, left) = if self.arguments.is_plain {
                 self.plain_page(rt, alloc, client, item, round, &mut tally)
             } else {
@@ -182,6 +218,7 @@ impl<R: Wait> Visitor<Auction, AuctionFunction, R> for Crowd {
             };
             tally.count(both);
             client = self.bid(rt, alloc, left, item, round, &mut tally);
+            keeper = self.keep(rt, alloc, keeper, round, &mut tally);
         }
         if let Some(counts) = client.counts(0) {
             for function in 0..3u8 {

@@ -19,6 +19,7 @@ use txc_db::Naming;
 use txc_site::{Body, Plan, Site, SiteError, with_site};
 
 /// What is done with the site: the first rows are written, and then the visitors come.
+#[derive(Drop)]
 struct Evening {
     arguments: Arguments,
 }
@@ -61,11 +62,17 @@ fn main(rt: HostRuntime) -> io::Result<()> {
         records: 65_536,
         ..Plan::DEFAULT
     };
-    let Ok(Ok(all)) = with_site::<Auction, AuctionFunction, _, _>(&rt, alloc, plan, evening) else {
-        return println!(rt; "the site was not opened");
+    let Ok(ended) = with_site::<Auction, AuctionFunction, _, _>(&rt, alloc, plan, evening) else {
+        return println!(rt; "the site was not made");
+    };
+    let Ok(all) = ended else {
+        return println!(rt; "the visitors did not come");
     };
     let pages = all.whole.saturating_add(all.torn);
     println!(rt; "{pages} pages, {} torn, {} refused", all.torn, all.refused)?;
-    println!(rt; "{} bids, {} conflicts", all.bids, all.conflicts)?;
+    println!(rt;
+        "{} bids, {} conflicts, kept {} times",
+        all.bids, all.conflicts, all.kept
+    )?;
     println!(rt; "{} hits of {} lookups", all.hits, all.lookups)
 }

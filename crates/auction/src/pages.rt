@@ -33,17 +33,16 @@ pub struct BothBids {
 impl BothBids {
     /// Whether the page shows that highest bid.
     pub fn is_whole(&self) -> bool {
-        let shown = self
-            .page
-            .bytes()
-            .rsplit(|byte| *byte == b'|')
-            .next()
-            .unwrap_or(&[]);
+        let mut parts = self.page.bytes().split(|byte| *byte == b'|');
+        let _title = parts.next();
+        let _seller = parts.next();
+        let shown = parts.next().unwrap_or(&[]);
         shown == self.highest.bytes()
     }
 }
 
 /// The page that reads both in one transaction.
+#[derive(Drop)]
 pub struct ItemPage {
     pub item: u32,
 }
@@ -70,6 +69,7 @@ impl Page<Auction, AuctionFunction> for ItemPage {
 }
 
 /// The page of one call.
+#[derive(Drop)]
 pub struct OneCall {
     pub function: u8,
     pub id: u32,

@@ -1,4 +1,5 @@
 pub mod Attempts
+pub mod Keeping
 pub mod Plans
 pub mod Rows
 pub mod Sites

@@ -22,6 +22,12 @@ IsRegistryRefused numbers (sites.Twice f) = HasTwice f numbers
 IsRegistryRefused numbers sites.Memory = Unit {0}
 IsRegistryRefused numbers error = ⊥
 
+-- of the database and the rows of the nodes: the database can't be made; or out of memory
+abbrev pub IsDatabaseRefused : SiteError → Type 0
+IsDatabaseRefused (sites.Database cause) = IsWant cause
+IsDatabaseRefused sites.Memory = Unit {0}
+IsDatabaseRefused error = ⊥
+
 -- of a client: as a registry is; or a node gives no pass
 abbrev pub IsClientRefused : List ℕ → SiteError → Type 0
 IsClientRefused numbers (sites.Node cause) = Unit {0}

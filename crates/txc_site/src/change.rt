@@ -15,7 +15,7 @@ pub trait Change<A: App, D: Definition> {
     ghost use Rattle.txc_ports.specs.declared.error.TxnError.{TxnError};
 
     /// What the change comes to.
-    type Output;
+    type Output: Drop;
 
     // What it says of the transaction that is to be committed: of its base, its answers and its changes.
     ghost makes: { Self → RwValue → Self.Output → Type 0 };

@@ -7,8 +7,9 @@ ghost use Rattle.txc_txn.specs.Core.{Explains};
 ghost use Rattle.txc_txn.specs.Sessions.{IsAtLeast};
 
 use crate::change::Change;
-use crate::error::{ReadError, WriteError};
+use crate::error::{ReadError, SiteError, WriteError};
 use crate::foundation::Foundation;
+use crate::keeper::Keeper;
 use crate::page::Page;
 use crate::reading::{Shown, read_page};
 use crate::writing::{Written, write_change};
@@ -131,6 +132,11 @@ impl<'a, A: App, D: Definition, J: Naming> SiteClient<'a, A, D, J> {
             writer,
         };
         (written, client)
+    }
+
+    /// A keeper of the site, with a pass of its own through each node.
+    pub fn keeper(&self, rt: &impl Wait, alloc: Global) -> Result<Keeper<'a, A, J>, SiteError> {
+        Keeper::new(rt, alloc, self.foundation)
     }
 
     /// The counts of what the client has seen of a node; none where there is no such node.

@@ -88,7 +88,7 @@ pub enum ReadError {
 pub enum WriteError {
     /// Each of the tries was a conflict: the first event of each that matches what was read, in a front that
     /// shows it.
-    #[error("there was a conflict at each of {} tries", .0.len())]
+    #[error("there was a conflict at each try")]
     Conflicts(Vec<Answered<Stamp>>),
     /// A transaction was not begun.
     #[error("{0}")]

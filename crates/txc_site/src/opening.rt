@@ -2,7 +2,7 @@
 ghost use Rattle.std.specs.Prelude.{◌≡◌, ◌≤◌, Err, IfErr, IfOk, IsErr, vec_len};
 ghost use Rattle.txc_site.specs.Plans.{IsPlan};
 ghost use Rattle.txc_site.specs.Rows.{AreRowsOf};
-ghost use Rattle.txc_site.specs.Sites.{IsSiteRefused};
+ghost use Rattle.txc_site.specs.Sites.{IsDatabaseRefused, IsSiteRefused};
 ghost use Rattle.txc_stream.specs.declared.row.TheConstants.{MAX_CAPACITY as MAX_ROOM};
 
 use crate::application::{Application, registry};
@@ -34,19 +34,19 @@ fn node_rows(alloc: Global, nodes: usize, room: usize) -> Result<Vec<EventRow<Re
 
 /// The rows of a site, which have no name yet.
 #[derive(Drop)]
-struct Rows {
+struct Unnamed {
     core: DbCore,
     nodes: Vec<EventRow<Record>>,
     ghost some: { 1 ≤ vec_len nodes },
 }
 
-fn rows(alloc: Global, plan: Plan) -> Result<Rows, SiteError>
+fn rows(alloc: Global, plan: Plan) -> Result<Unnamed, SiteError>
     requires { IsPlan plan }
-    ensures { IfErr result (λ error. ⊤) }
+    ensures { IfErr result IsDatabaseRefused }
 {
     let core = DbCore::new(alloc, plan.events)?;
     let nodes = node_rows(alloc, plan.nodes, plan.records)?;
-    Ok(Rows { core, nodes })
+    Ok(Unnamed { core, nodes })
 }
 
 /// Makes a site by the plan, and runs the body with it. An `Ok` is what the body came to. An error hands the
@@ -72,7 +72,7 @@ where
         return Err((SiteError::Plan, body));
     }
     match rows(alloc, plan) {
-        Ok(Rows { core, nodes }) => over_rows::<Brand, A, D, B, R>(
+        Ok(Unnamed { core, nodes }) => over_rows::<Brand, A, D, B, R>(
             rt, alloc, plan, core, nodes, body,
         ),
         Err(error) => Err((error, body)),

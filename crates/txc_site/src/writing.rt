@@ -52,9 +52,12 @@ fn attempt<A: App, D: Definition, J: Naming, C: Change<A, D>, R: Wait>(
     };
     match txn.commit(rt, alloc) {
         Ok((committed, registry)) => (Attempt::Done(output, committed), registry),
-        Err((txn, CommitError::Conflict(conflict))) => (Attempt::Conflict(conflict), txn.abort(rt)),
-        Err((txn, CommitError::Database(cause))) => {
-            (Attempt::Refused(WriteError::Commit(cause)), txn.abort(rt))
+        Err((txn, cause)) => {
+            let attempt = match cause {
+                CommitError::Conflict(conflict) => Attempt::Conflict(conflict),
+                CommitError::Database(cause) => Attempt::Refused(WriteError::Commit(cause)),
+            };
+            (attempt, txn.abort(rt))
         }
     }
 }
@@ -86,9 +89,9 @@ pub(crate) fn write_change<A: App, D: Definition, J: Naming, C: Change<A, D>, R:
     };
     let mut registry = registry;
     for _ in 0..tries {
-        let (attempt, left) = attempt(rt, alloc, database, registry, change);
+        let (outcome, left) = attempt(rt, alloc, database, registry, change);
         registry = left;
-        match attempt {
+        match outcome {
             Attempt::Done(output, committed) => {
                 let written = Written {
                     output,
