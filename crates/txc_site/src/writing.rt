@@ -31,7 +31,7 @@ pub(crate) enum Attempt<T> {
 }
 
 /// Runs the change once, in a transaction of its own.
-fn attempt<A: App, D: Definition, J: Naming, C: Change<A, D>, R: Wait>(
+fn run_once<A: App, D: Definition, J: Naming, C: Change<A, D>, R: Wait>(
     rt: &R,
     alloc: Global,
     database: &Database<J>,
@@ -89,7 +89,7 @@ pub(crate) fn write_change<A: App, D: Definition, J: Naming, C: Change<A, D>, R:
     };
     let mut registry = registry;
     for _ in 0..tries {
-        let (outcome, left) = attempt(rt, alloc, database, registry, change);
+        let (outcome, left) = run_once(rt, alloc, database, registry, change);
         registry = left;
         match outcome {
             Attempt::Done(output, committed) => {
