@@ -1,2 +1,4 @@
+pub mod Crosses
 mod Keeping
+mod Listing
 mod NodeRows

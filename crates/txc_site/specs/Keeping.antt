@@ -30,7 +30,7 @@ pub record HasAdvanced (rows : ℕ → List ℕ) (old : PassValue) (taken : ℕ)
   pub last : PassValue
   pub took : HasTakenAll old stamps last
   pub counted : taken ≡ length stamps
-  pub ended : HasEnded rows last taken ended new
+  pub end : HasEnded rows last taken ended new
 
 -- the node was swept, and dropped so many entries; or refused the sweep; without a horizon it was not swept
 abbrev pub HasSwept : (ℕ → List ℕ) → PassValue → Option ℕ → Option (Result ℕ NodeError) → PassValue → Type 0

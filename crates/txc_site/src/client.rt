@@ -1,5 +1,5 @@
 //! Clients of a site.
-ghost use Rattle.std.specs.Prelude.{◌≡◌, ◌⊎◌, Any, IfErr, IfOk, vec_len, length, map, ◌≤◌};
+ghost use Rattle.std.specs.Prelude.{◌≡◌, ◌+◌, ◌≤◌, IfErr, IfOk, vec_len};
 ghost use Rattle.txc_registry.specs.Objects.{AllIdle};
 ghost use Rattle.txc_site.specs.Sites.{IsReadRefused};
 ghost use Rattle.txc_site.specs.Writes.{AreConflicts, IsWritten, IsWriteRefused};
@@ -50,7 +50,7 @@ impl<'a, A: App, D: Definition, J: Naming> SiteClient<'a, A, D, J> {
         writer: Registry<A, Function<D>>,
     ) -> Self
         requires { AllIdle writer }
-        ensures { result ≡ record { reader = reader; writer = writer } }
+        ensures { result ≡ record { reader = reader.entry; writer = writer } }
     {
         SiteClient {
             foundation,

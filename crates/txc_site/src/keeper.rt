@@ -1,5 +1,5 @@
 //! The keeping of a site.
-ghost use Rattle.std.specs.Prelude.{◌≡◌, ◌+◌, ◌⊎◌, IfErr, IfOk, OnErr, Some, length};
+ghost use Rattle.std.specs.Prelude.{◌≡◌, ◌+◌, ◌≤◌, ◌⊎◌, [], IfErr, IfOk, OnErr, Some, length, map, vec_capacity, vec_len};
 ghost use Rattle.txc_cushion.specs.Cushion.{retired};
 ghost use Rattle.txc_cushion.specs.Shared.{MayAnswer};
 ghost use Rattle.txc_db.specs.Calls.{IsHoldRefused, IsPinRefused, IsVacuumRefused};
@@ -185,6 +185,30 @@ fn stamp_of(horizon: &Result<Stamp, DbError>) -> Option<Stamp>
     }
 }
 
+/// Keeps each node. There is room for what is done with them, and for the stations that are left.
+fn keep_all<'a, A: App, J: Naming>(
+    rt: &impl Wait,
+    alloc: Global,
+    horizon: &Result<Stamp, DbError>,
+    stations: Vec<Station<'a, A, J>>,
+    mut nodes: Vec<KeptNode>,
+    mut left: Vec<Station<'a, A, J>>,
+) -> (Vec<KeptNode>, Vec<Station<'a, A, J>>)
+    requires none { nodes.items ≡ [] }
+    requires none_left { left.items ≡ [] }
+    requires room { vec_len stations ≤ vec_capacity nodes }
+    requires room_left { vec_len stations ≤ vec_capacity left }
+    ensures { HaveKept J.node_rows (ok_of horizon.now) (map (λ s. s.pass) stations.entry.items) result.0.items
+        (map (λ s. s.pass) result.1.items) }
+{
+    for station in stations {
+        let (kept, station) = station.keep(rt, alloc, stamp_of(horizon));
+        nodes.push_reserved(kept);
+        left.push_reserved(station);
+    }
+    (nodes, left)
+}
+
 impl<'a, A: App, J: Naming> Model for Keeper<'a, A, J> {
     ghost use Rattle.std.specs.Prelude.{List, map};
     ghost use Rattle.txc_shared.specs.Passes.{PassValue};
@@ -247,14 +271,14 @@ impl<'a, A: App, J: Naming> Keeper<'a, A, J> {
         } = self;
         let (database, cushion) = (&foundation.database, &foundation.cushion);
         let count = stations.len();
-        let Ok(mut nodes) = Vec::with_capacity(alloc, count) else {
+        let Ok(nodes) = Vec::with_capacity(alloc, count) else {
             let keeper = Keeper {
                 foundation,
                 stations,
             };
             return (Err(DbError::Memory), keeper);
         };
-        let Ok(mut left) = Vec::with_capacity(alloc, count) else {
+        let Ok(left) = Vec::with_capacity(alloc, count) else {
             let keeper = Keeper {
                 foundation,
                 stations,
@@ -273,12 +297,7 @@ impl<'a, A: App, J: Naming> Keeper<'a, A, J> {
         };
         let retired = retire(rt, alloc, database, cushion, now, age);
         let horizon = database.vacuum(rt);
-        let at = stamp_of(&horizon);
-        for station in stations {
-            let (kept, station) = station.keep(rt, alloc, at);
-            nodes.push_reserved(kept);
-            left.push_reserved(station);
-        }
+        let (nodes, stations) = keep_all(rt, alloc, &horizon, stations, nodes, left);
         let events_left = events_left(&seen);
         let kept = Kept {
             seen,
@@ -292,7 +311,7 @@ impl<'a, A: App, J: Naming> Keeper<'a, A, J> {
             Ok(kept),
             Keeper {
                 foundation,
-                stations: left,
+                stations,
             },
         )
     }

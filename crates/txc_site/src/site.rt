@@ -1,6 +1,5 @@
 //! A site, and the threads that it starts.
 ghost use Rattle.std.specs.Prelude.{◌≡◌, ◌<◌, ◌+◌, ◌≤◌, ℕ, All, IfErr, IfOk, vec_len};
-ghost use Rattle.std.specs.List.{AllIndexed};
 ghost use Rattle.txc_registry.specs.Objects.{numbers_of};
 ghost use Rattle.txc_site.specs.Sites.{IsClientRefused};
 

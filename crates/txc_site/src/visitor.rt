@@ -7,13 +7,8 @@ use txc_functions::Definition;
 
 /// What is done on each of the threads that a site starts.
 pub trait Visitor<A: Application<D>, D: Definition, R: Wait> {
-    ghost use Rattle.std.specs.Prelude.{ℕ};
-
     /// What a thread comes to.
     type Output: Send + Drop;
-
-    // What the output of the thread of a number says.
-    ghost gives: { Self → ℕ → Self.Output → Type 0 };
 
     /// Does what the thread of that number does, by a client of its own.
     fn visit<J: Naming + Send + Sync>(
@@ -22,6 +17,5 @@ pub trait Visitor<A: Application<D>, D: Definition, R: Wait> {
         alloc: Global,
         number: usize,
         client: SiteClient<'_, A, D, J>,
-    ) -> Self::Output
-        ensures { gives self.now number result };
+    ) -> Self::Output;
 }
