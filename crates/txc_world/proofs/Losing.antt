@@ -32,7 +32,8 @@ use Rattle.txc_ports.specs.Refusals.{refused_call, refused_pin, refused_request}
 use Rattle.txc_txn.specs.declared.pinning.Pinning.{Pinning}
 use Rattle.txc_txn.specs.declared.pinning.PinStep.{PinStep}
 use Rattle.txc_txn.specs.declared.pinning.PinStep.TheVariants.{Adding, Dropping}
-use Rattle.txc_txn.specs.Core.{first_call, left_after, left_pin, CoreValue, IsAnswered, IsAsk, IsAt, IsTurn}
+use Rattle.txc_txn.specs.Core.{first_call, left_after, left_pin, CoreValue, IsAnswered, IsAt, IsTurn}
+use Rattle.txc_ports.specs.Turns.{IsAsk}
 use Rattle.txc_txn.specs.Kept.{TxnValue}
 use Rattle.txc_txn.specs.Leading.{AsksLookup, AsksPin, BeginLeads, CallLeads, HitLeads, IsWanting, PinLeads, ReplyLeads, StandingLeads, StartLeads}
 use Rattle.txc_rw.specs.Core.{RwValue}
