@@ -192,6 +192,8 @@ impl Crowd {
 impl<R: Wait> Visitor<Auction, AuctionFunction, R> for Crowd {
     type Output = Tally;
 
+    ghost gives = { λ crowd number tally. Unit {0} };
+
     fn visit<J: Naming + Send + Sync>(
         &self,
         rt: &R,

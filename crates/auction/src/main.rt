@@ -27,7 +27,7 @@ struct Evening {
 impl<R: Threads + Wait + Sync> Body<Auction, AuctionFunction, R> for Evening {
     type Output = Result<Tally, SiteError>;
 
-    ghost gives = { λ evening tally. Unit {0} };
+    ghost gives = { λ evening plan tally. Unit {0} };
 
     fn run<J: Naming + Send + Sync>(
         self,

@@ -1,4 +1,6 @@
 pub mod Crosses
-mod Keeping
+mod Guests
+pub mod Keeping
 mod Listing
 mod NodeRows
+mod Tried

@@ -1,5 +1,5 @@
 -- What a keeper did with the nodes of a site.
-use Rattle.std.specs.Prelude.{◌≡◌, ℕ, ◌+◌, List, [], ◌∷◌, length, Option, Some, None, Ok, Err, Result}
+use Rattle.std.specs.Prelude.{◌≡◌, ℕ, ◌+◌, List, [], ◌∷◌, length, Option, Some, None, Ok, Err, IfErr, IfOk, Result}
 use Rattle.txc_node.specs.declared.op.Op.TheVariants.{Sweep}
 use Rattle.txc_node.specs.declared.reply.Reply.TheVariants.{Swept}
 use Rattle.txc_shared.specs.declared.advanced.Advanced.{Advanced}
@@ -34,16 +34,20 @@ pub record HasAdvanced (rows : ℕ → List ℕ) (old : PassValue) (taken : ℕ)
 
 -- the node was swept, and dropped so many entries; or refused the sweep; without a horizon it was not swept
 abbrev pub HasSwept : (ℕ → List ℕ) → PassValue → Option ℕ → Option (Result ℕ NodeError) → PassValue → Type 0
-HasSwept rows old (Some horizon) (Some (Ok count)) new = HasMade old new (Sweep horizon) (Swept count)
-HasSwept rows old (Some horizon) (Some (Err error)) new = IsPassLeft (rows old.settings.number) old new error
+HasSwept rows old (Some horizon) (Some result) new =
+    IfOk result (λ count. HasMade old new (Sweep horizon) (Swept count))
+    × IfErr result (IsPassLeft (rows old.settings.number) old new)
 HasSwept rows old None None new = new ≡ old
 HasSwept rows old horizon swept new = ⊥
 
--- what was done with a node through its pass, and the room that is left after what the pass has seen
+-- what was done with a node through its pass, which is the same one, and the room that is left after what the pass
+-- has seen
 pub record HasKeptNode (rows : ℕ → List ℕ) (horizon : Option ℕ) (old : PassValue) (kept : KeptNode) (new : PassValue) : Type 0 where
   pub between : PassValue
   pub advanced : HasAdvanced rows old kept.taken kept.ended between
   pub swept : HasSwept rows between horizon kept.swept new
+  pub settings : new.settings ≡ old.settings
+  pub pass : new.pass ≡ old.pass
   pub left : kept.records_left + length new.records ≡ length (rows new.settings.number)
 
 -- the same of each node, in order

@@ -1,7 +1,9 @@
 //! Clients of a site.
-ghost use Rattle.std.specs.Prelude.{◌≡◌, ◌+◌, ◌≤◌, IfErr, IfOk, vec_len};
+ghost use Rattle.std.specs.Prelude.{◌≡◌, ◌+◌, ◌<◌, ◌≤◌, ◌↔◌, [], All, IfErr, IfOk, IfSome, IsSome, MatchOption, None, length, map, slice_get, vec_len};
+ghost use Rattle.txc_node.specs.Counts.{AreCountsOf};
 ghost use Rattle.txc_registry.specs.Objects.{AllIdle};
-ghost use Rattle.txc_site.specs.Sites.{IsReadRefused};
+ghost use Rattle.txc_site.specs.Plans.{nodes_of};
+ghost use Rattle.txc_site.specs.Sites.{IsKeeperRefused, IsReadRefused};
 ghost use Rattle.txc_site.specs.Writes.{AreConflicts, IsWritten, IsWriteRefused};
 ghost use Rattle.txc_txn.specs.Core.{Explains};
 ghost use Rattle.txc_txn.specs.Sessions.{IsAtLeast};
@@ -38,7 +40,7 @@ impl<'a, A: App, D: Definition, J: Naming> Model for SiteClient<'a, A, D, J> {
 
     ghost Value = { SiteClientValue };
 
-    ghost view = { λ c. record { reader = c.reader; writer = c.writer } };
+    ghost view = { λ c. record { plan = c.foundation.now.plan; reader = c.reader; writer = c.writer } };
 
     ghost invariant = { λ c. AllIdle c.writer };
 }
@@ -50,7 +52,8 @@ impl<'a, A: App, D: Definition, J: Naming> SiteClient<'a, A, D, J> {
         writer: Registry<A, Function<D>>,
     ) -> Self
         requires { AllIdle writer }
-        ensures { result ≡ record { reader = reader.entry; writer = writer } }
+        ensures { result
+            ≡ record { plan = foundation.now.plan; reader = reader.entry; writer = writer } }
     {
         SiteClient {
             foundation,
@@ -78,6 +81,7 @@ impl<'a, A: App, D: Definition, J: Naming> SiteClient<'a, A, D, J> {
         ensures refused { IfErr result.0 (IsReadRefused (P.refuses page.now)) }
         ensures functions { result.1.reader.objects ≡ self.entry.reader.objects }
         ensures renew_after { result.1.reader.renew_after ≡ self.entry.reader.renew_after }
+        ensures plan { result.1.plan ≡ self.entry.plan }
         ensures writer { result.1.writer ≡ self.entry.writer }
     {
         let SiteClient {
@@ -135,12 +139,21 @@ impl<'a, A: App, D: Definition, J: Naming> SiteClient<'a, A, D, J> {
     }
 
     /// A keeper of the site, with a pass of its own through each node.
-    pub fn keeper(&self, rt: &impl Wait, alloc: Global) -> Result<Keeper<'a, A, J>, SiteError> {
+    pub fn keeper(&self, rt: &impl Wait, alloc: Global) -> Result<Keeper<'a, A, J>, SiteError>
+        ensures nodes { IfOk result (λ keeper.
+            map (λ pass. pass.settings) keeper ≡ nodes_of self.now.plan) }
+        ensures records { IfOk result (λ keeper. All (λ pass. pass.records ≡ []) keeper) }
+        ensures refused { IfErr result IsKeeperRefused }
+    {
         Keeper::new(rt, alloc, self.foundation)
     }
 
     /// The counts of what the client has seen of a node; none where there is no such node.
-    pub fn counts(&self, node: usize) -> Option<Counts> {
+    pub fn counts(&self, node: usize) -> Option<Counts>
+        ensures answer { MatchOption (slice_get self.now.reader.passes node) (result ≡ None)
+            (λ pass. IfSome result (AreCountsOf pass.records)) }
+        ensures only_if { IsSome result ↔ (node < length self.now.reader.passes) }
+    {
         self.reader.counts(node)
     }
 }

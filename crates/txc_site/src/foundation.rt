@@ -1,6 +1,6 @@
 //! What a site stands on.
-ghost use Rattle.std.specs.Prelude.{◌≡◌, ◌≤◌, IfErr, IfOk, ◌⊎◌, vec_len};
-ghost use Rattle.txc_site.specs.Plans.{IsPlan};
+ghost use Rattle.std.specs.Prelude.{◌≡◌, ◌≤◌, IfOk, vec_len};
+ghost use Rattle.txc_site.specs.Plans.{nodes_of, IsPlan};
 ghost use Rattle.txc_site.specs.Rows.{AreRowsOf};
 
 use crate::plan::Plan;
@@ -12,13 +12,15 @@ use txc_node::Record;
 use txc_shared::{NodeSettings, SharedNode};
 use txc_stream::EventRow;
 
-/// The database, its pincushion and its nodes, of which there are some.
+/// The database, its pincushion and its nodes, as the plan says.
 #[derive(Drop)]
 pub(crate) struct Foundation<A: App, J: Naming> {
     pub(crate) database: Database<J>,
     pub(crate) cushion: Pincushion<J>,
     pub(crate) nodes: Vec<SharedNode<A, J>>,
+    pub(crate) plan: Plan,
     ghost some: { 1 ≤ vec_len nodes },
+    ghost planned: { nodes.items ≡ nodes_of plan },
 }
 
 /// The nodes of the rows, by their numbers.
@@ -29,8 +31,10 @@ fn nodes<A: App, J: Naming>(
     database: &Database<J>,
 ) -> Result<Vec<SharedNode<A, J>>, AllocError>
     requires plan { IsPlan plan }
+    requires each { vec_len rows ≡ plan.nodes }
     requires rows { AreRowsOf J.node_rows 0 rows.items }
-    ensures each { IfOk result (λ nodes. vec_len nodes ≡ vec_len rows) }
+    ensures each { IfOk result (λ nodes. vec_len nodes ≡ plan.nodes) }
+    ensures made { IfOk result (λ nodes. nodes.items ≡ nodes_of plan) }
 {
     let mut nodes = Vec::with_capacity(alloc, rows.len())?;
     for row in rows {
@@ -54,8 +58,9 @@ impl<A: App, J: Naming> Foundation<A, J> {
     ) -> Result<Foundation<A, J>, AllocError>
         requires plan { IsPlan plan }
         requires database { core.events ≡ J.database_row }
-        requires some { 1 ≤ vec_len rows }
+        requires each { vec_len rows ≡ plan.nodes }
         requires rows { AreRowsOf J.node_rows 0 rows.items }
+        ensures { IfOk result (λ foundation. foundation.plan ≡ plan) }
     {
         let database = Database::<J>::new(alloc, core)?;
         let cushion = Pincushion::new(alloc, &database)?;
@@ -64,6 +69,7 @@ impl<A: App, J: Naming> Foundation<A, J> {
             database,
             cushion,
             nodes,
+            plan,
         })
     }
 }

@@ -1,11 +1,13 @@
 //! The keeping of a site.
-ghost use Rattle.std.specs.Prelude.{◌≡◌, ◌+◌, ◌≤◌, ◌⊎◌, [], IfErr, IfOk, OnErr, Some, length, map, vec_capacity, vec_len};
+ghost use Rattle.std.specs.Prelude.{◌≡◌, ◌+◌, ◌≤◌, ◌⊎◌, [], All, IfErr, IfOk, OnErr, Some, length, map, vec_capacity, vec_len};
 ghost use Rattle.txc_cushion.specs.Cushion.{retired};
 ghost use Rattle.txc_cushion.specs.Shared.{MayAnswer};
 ghost use Rattle.txc_db.specs.Calls.{IsHoldRefused, IsPinRefused, IsVacuumRefused};
 ghost use Rattle.txc_db.specs.History.{event_at, pin_event};
 ghost use Rattle.txc_db.specs.Shared.{MayRefuse};
-ghost use Rattle.txc_site.specs.Keeping.{HasAdvanced, HasKeptNode, HaveKept, ok_of};
+ghost use Rattle.txc_site.specs.Keeping.{HasAdvanced, HasKeptNode, HasSwept, HaveKept, ok_of};
+ghost use Rattle.txc_site.specs.Plans.{nodes_of};
+ghost use Rattle.txc_site.specs.Sites.{IsKeeperRefused};
 
 use crate::error::SiteError;
 use crate::foundation::Foundation;
@@ -78,13 +80,16 @@ pub struct Keeper<'a, A: App, J: Naming> {
 }
 
 /// Lets the node take events through the pass, [`MAX_TAKEN`] at most.
+#[tactic(auto, using(crate::proofs::Keeping::same_settings, crate::proofs::Keeping::same_pass))]
 fn advance<A: App, J: Naming>(
     rt: &impl Wait,
     alloc: Global,
     node: &SharedNode<A, J>,
     pass: &mut NodePass<J>,
 ) -> (usize, Ended)
-    ensures { HasAdvanced J.node_rows pass.old result.0 result.1 pass.new }
+    ensures did { HasAdvanced J.node_rows pass.old result.0 result.1 pass.new }
+    ensures settings { pass.new.settings ≡ pass.old.settings }
+    ensures pass { pass.new.pass ≡ pass.old.pass }
 {
     let mut taken = 0;
     for _ in 0..MAX_TAKEN {
@@ -97,16 +102,52 @@ fn advance<A: App, J: Naming>(
     (taken, Ended::Paused)
 }
 
+/// Sweeps the node through the pass, where there is a horizon.
+#[tactic(auto, using(crate::proofs::Keeping::same_settings, crate::proofs::Keeping::same_pass))]
+fn sweep<A: App, J: Naming>(
+    rt: &impl Wait,
+    alloc: Global,
+    node: &SharedNode<A, J>,
+    pass: &mut NodePass<J>,
+    horizon: Option<Stamp>,
+) -> Option<Result<usize, NodeError>>
+    ensures did { HasSwept J.node_rows pass.old horizon result pass.new }
+    ensures settings { pass.new.settings ≡ pass.old.settings }
+    ensures pass { pass.new.pass ≡ pass.old.pass }
+{
+    match horizon {
+        Some(horizon) => Some(pass.sweep(rt, alloc, node, horizon)),
+        None => None,
+    }
+}
+
+/// Each node with a new pass through it.
+fn stations<'a, A: App, J: Naming>(
+    rt: &impl Wait,
+    alloc: Global,
+    nodes: &'a [SharedNode<A, J>],
+) -> Result<Vec<Station<'a, A, J>>, SiteError>
+    ensures nodes { IfOk result (λ stations.
+        map (λ pass. pass.settings) (map (λ s. s.pass) stations.items) ≡ nodes.now) }
+    ensures records { IfOk result (λ stations.
+        All (λ pass. pass.records ≡ []) (map (λ s. s.pass) stations.items)) }
+    ensures refused { IfErr result IsKeeperRefused }
+{
+    let mut stations = Vec::with_capacity(alloc, nodes.len())?;
+    for node in nodes {
+        let pass = node.pass(rt, alloc)?;
+        stations.push(Station { node, pass })?;
+    }
+    Ok(stations)
+}
+
 impl<A: App, J: Naming> Station<'_, A, J> {
     fn keep(self, rt: &impl Wait, alloc: Global, horizon: Option<Stamp>) -> (KeptNode, Self)
         ensures { HasKeptNode J.node_rows horizon self.entry.pass result.0 result.1.pass }
     {
         let Station { node, mut pass } = self;
         let (taken, ended) = advance(rt, alloc, node, &mut pass);
-        let swept = match horizon {
-            Some(horizon) => Some(pass.sweep(rt, alloc, node, horizon)),
-            None => None,
-        };
+        let swept = sweep(rt, alloc, node, &mut pass, horizon);
         let kept = KeptNode {
             taken,
             ended,
@@ -223,12 +264,13 @@ impl<'a, A: App, J: Naming> Keeper<'a, A, J> {
         rt: &impl Wait,
         alloc: Global,
         foundation: &'a Foundation<A, J>,
-    ) -> Result<Keeper<'a, A, J>, SiteError> {
-        let mut stations = Vec::with_capacity(alloc, foundation.nodes.len())?;
-        for node in foundation.nodes.as_slice() {
-            let pass = node.pass(rt, alloc)?;
-            stations.push(Station { node, pass })?;
-        }
+    ) -> Result<Keeper<'a, A, J>, SiteError>
+        ensures nodes { IfOk result (λ keeper.
+            map (λ pass. pass.settings) keeper ≡ nodes_of foundation.now.plan) }
+        ensures records { IfOk result (λ keeper. All (λ pass. pass.records ≡ []) keeper) }
+        ensures refused { IfErr result IsKeeperRefused }
+    {
+        let stations = stations(rt, alloc, &foundation.nodes)?;
         Ok(Keeper {
             foundation,
             stations,

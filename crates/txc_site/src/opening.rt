@@ -37,19 +37,20 @@ fn node_rows(alloc: Global, nodes: usize, room: usize) -> Result<Vec<EventRow<Re
 struct Unnamed {
     core: DbCore,
     nodes: Vec<EventRow<Record>>,
-    ghost some: { 1 ≤ vec_len nodes },
 }
 
 fn rows(alloc: Global, plan: Plan) -> Result<Unnamed, SiteError>
     requires { IsPlan plan }
-    ensures { IfErr result IsDatabaseRefused }
+    ensures each { IfOk result (λ rows. vec_len rows.nodes ≡ plan.nodes) }
+    ensures refused { IfErr result IsDatabaseRefused }
 {
     let core = DbCore::new(alloc, plan.events)?;
     let nodes = node_rows(alloc, plan.nodes, plan.records)?;
     Ok(Unnamed { core, nodes })
 }
 
-/// Makes a site by the plan, and runs the body with it. An `Ok` is what the body came to. An error hands the
+/// Makes a site by the plan, and runs the body with it. An `Ok` is what the body came to with a site of that
+/// plan. An error hands the
 /// body back, which was not run: the plan is out of its limits, two functions have one number, or there was
 /// no memory.
 pub fn with_site<A, D, B, R>(
@@ -63,7 +64,7 @@ where
     D: Definition,
     B: Body<A, D, R>,
     R: Wait,
-    ensures gives { IfOk result (B.gives body) }
+    ensures gives { IfOk result (B.gives body plan) }
     ensures unsound { ¬ (IsPlan plan) → result ≡ Err (SiteError.Plan, body) }
     ensures refused { IfErr result (λ e. IsSiteRefused plan A.numbers e.0) }
     ensures handed_back { IfErr result (λ e. e.1 ≡ body) }
@@ -96,9 +97,9 @@ where
     R: Wait,
     requires plan { IsPlan plan }
     requires database { core.events ≡ J.database_row }
-    requires some { 1 ≤ vec_len rows }
+    requires each { vec_len rows ≡ plan.nodes }
     requires rows { AreRowsOf J.node_rows 0 rows.items }
-    ensures gives { IfOk result (B.gives body) }
+    ensures gives { IfOk result (B.gives body plan) }
     ensures refused { IfErr result (λ e. IsSiteRefused plan A.numbers e.0) }
     ensures handed_back { IfErr result (λ e. e.1 ≡ body) }
 {
@@ -111,6 +112,6 @@ where
     if let Err(error) = registry::<A, D>(alloc, &mut pool) {
         return Err((error, body));
     }
-    let mut site = Site::new(&foundation, pool, plan.renew_after);
+    let mut site = Site::new(&foundation, pool);
     Ok(body.run::<J>(rt, alloc, &mut site))
 }

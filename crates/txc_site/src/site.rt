@@ -1,7 +1,8 @@
 //! A site, and the threads that it starts.
-ghost use Rattle.std.specs.Prelude.{◌≡◌, ◌<◌, ◌+◌, ◌≤◌, ℕ, All, IfErr, IfOk, vec_len};
-ghost use Rattle.txc_registry.specs.Objects.{numbers_of};
-ghost use Rattle.txc_site.specs.Sites.{IsClientRefused};
+ghost use Rattle.std.specs.Prelude.{◌≡◌, [], All, IfErr, IfOk, map, vec_len};
+ghost use Rattle.txc_registry.specs.Objects.{numbers_of, AllIdle};
+ghost use Rattle.txc_site.specs.Plans.{nodes_of};
+ghost use Rattle.txc_site.specs.Sites.{numbers_below, HaveCome, IsClientRefused};
 
 use crate::application::{Application, registry};
 use crate::client::SiteClient;
@@ -9,7 +10,7 @@ use crate::error::SiteError;
 use crate::foundation::Foundation;
 use crate::visitor::Visitor;
 use std::alloc::Global;
-use std::marker::PhantomData;
+use std::marker::{Model, PhantomData};
 use std::sync::Wait;
 use std::thread;
 use std::thread::Threads;
@@ -19,13 +20,21 @@ use txc_db::Naming;
 use txc_functions::Definition;
 use txc_permits::PermitPool;
 
-/// A database, its pincushion and its nodes, with the permits of the functions of its clients.
+/// A database, its pincushion and its nodes, with the permits of the functions of its clients. Contracts see
+/// the plan by which they were made.
 #[derive(Drop)]
 pub struct Site<'a, A: App, D: Definition, J: Naming> {
     foundation: &'a Foundation<A, J>,
     pool: PermitPool,
-    renew_after: u64,
     of: PhantomData<D>,
+}
+
+impl<'a, A: App, D: Definition, J: Naming> Model for Site<'a, A, D, J> {
+    ghost use Rattle.txc_site.specs.declared.plan.Plan.{Plan};
+
+    ghost Value = { Plan };
+
+    ghost view = { λ s. s.foundation.now.plan };
 }
 
 /// The client of a thread of this number.
@@ -36,15 +45,12 @@ struct Guest<C> {
 }
 
 impl<'a, A: Application<D>, D: Definition, J: Naming> Site<'a, A, D, J> {
-    pub(crate) fn new(
-        foundation: &'a Foundation<A, J>,
-        pool: PermitPool,
-        renew_after: u64,
-    ) -> Self {
+    pub(crate) fn new(foundation: &'a Foundation<A, J>, pool: PermitPool) -> Self
+        ensures { result ≡ foundation.now.plan }
+    {
         Site {
             foundation,
             pool,
-            renew_after,
             of: PhantomData,
         }
     }
@@ -56,6 +62,12 @@ impl<'a, A: Application<D>, D: Definition, J: Naming> Site<'a, A, D, J> {
         rt: &impl Wait,
         alloc: Global,
     ) -> Result<SiteClient<'a, A, D, J>, SiteError>
+        ensures same { self.new ≡ self.old }
+        ensures plan { IfOk result (λ client. client.plan ≡ self.old) }
+        ensures nodes { IfOk result (λ client.
+            map (λ pass. pass.settings) client.reader.passes ≡ nodes_of self.old) }
+        ensures records { IfOk result (λ client. All (λ pass. pass.records ≡ []) client.reader.passes) }
+        ensures renew_after { IfOk result (λ client. client.reader.renew_after ≡ self.old.renew_after) }
         ensures reader { IfOk result (λ client. numbers_of client.reader.objects ≡ A.numbers) }
         ensures writer { IfOk result (λ client. numbers_of client.writer ≡ A.numbers) }
         ensures refused { IfErr result (IsClientRefused A.numbers) }
@@ -69,7 +81,7 @@ impl<'a, A: Application<D>, D: Definition, J: Naming> Site<'a, A, D, J> {
             &foundation.cushion,
             &foundation.nodes,
             functions,
-            self.renew_after,
+            foundation.plan.renew_after,
         )?;
         let writer = registry::<A, D>(alloc, &mut self.pool)?;
         Ok(SiteClient::new(foundation, reader, writer))
@@ -88,7 +100,10 @@ where
         alloc: Global,
         count: usize,
     ) -> Result<Vec<Guest<SiteClient<'a, A, D, J>>>, SiteError>
+        ensures same { self.new ≡ self.old }
         ensures each { IfOk result (λ guests. vec_len guests ≡ count) }
+        ensures numbers { IfOk result (λ guests.
+            map (λ guest. guest.number) guests.items ≡ numbers_below count) }
         ensures refused { IfErr result (IsClientRefused A.numbers) }
     {
         let mut guests = Vec::with_capacity(alloc, count)?;
@@ -112,14 +127,18 @@ where
     where
         V: Visitor<A, D, R> + Sync,
         R: Threads + Wait + Sync,
+        ensures same { self.new ≡ self.old }
         ensures each { IfOk result (λ outputs. vec_len outputs ≡ count) }
+        ensures gives { IfOk result (λ outputs. HaveCome (V.gives visitors.now) outputs.items) }
         ensures refused { IfErr result (IsClientRefused A.numbers) }
     {
         let guests = self.guests(rt, alloc, count)?;
         let visited = thread::map_vec(
             rt,
             guests,
-            &|guest| {
+            &|guest: Guest<SiteClient<'a, A, D, J>>| -> V::Output
+                ensures { V.gives visitors.entry.now guest.entry.number result }
+            {
                 let Guest { number, client } = guest;
                 visitors.visit(rt, alloc, number, client)
             },

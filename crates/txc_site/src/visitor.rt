@@ -7,8 +7,13 @@ use txc_functions::Definition;
 
 /// What is done on each of the threads that a site starts.
 pub trait Visitor<A: Application<D>, D: Definition, R: Wait> {
+    ghost use Rattle.std.specs.Prelude.{ℕ};
+
     /// What a thread comes to.
     type Output: Send + Drop;
+
+    // What the thread of a number comes to.
+    ghost gives: { Self → ℕ → Self.Output → Type 0 };
 
     /// Does what the thread of that number does, by a client of its own.
     fn visit<J: Naming + Send + Sync>(
@@ -17,5 +22,6 @@ pub trait Visitor<A: Application<D>, D: Definition, R: Wait> {
         alloc: Global,
         number: usize,
         client: SiteClient<'_, A, D, J>,
-    ) -> Self::Output;
+    ) -> Self::Output
+        ensures { gives self.now number result };
 }
