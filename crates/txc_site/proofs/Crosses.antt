@@ -20,12 +20,13 @@ use Rattle.txc_client.proofs.Crosses.{client_send}
 use Rattle.txc_site.specs.contracts.client.SiteClient as SiteClient
 use Rattle.txc_site.specs.contracts.client.SiteClient.TheInside as inside
 use Rattle.txc_site.specs.contracts.foundation.Foundation as Foundation
+use Rattle.txc_site.proofs.plan.Plan.TheSendSync as plan
 
 module _ (A J : RattleType) (a : app.Ghosts A.Denot) (g : naming.Ghosts J.Denot) where
   pub foundation_sync : IsSync (Foundation.the_row A J a g)
   foundation_sync = declared_sync (Foundation.the_type A J a g) (
     database_sync J g,
-    (cushion.the_sync J g, (Vec-sync (SharedNode.the_row A J a g) (node_sync A a J g), tt)),
+    (cushion.the_sync J g, (Vec-sync (SharedNode.the_row A J a g) (node_sync A a J g), (plan.the_sync, tt))),
   )
 
 module _ (l : NamedLft) (A D J : RattleType) (a : app.Ghosts A.Denot) (d : definition.Ghosts D.Denot) (g : naming.Ghosts J.Denot) where
