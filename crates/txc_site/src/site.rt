@@ -136,7 +136,7 @@ where
         let visited = thread::map_vec(
             rt,
             guests,
-            &|guest: Guest<SiteClient<'a, A, D, J>>| -> V::Output
+            &|guest: Guest<SiteClient<'_, A, D, J>>| -> V::Output
                 ensures { V.gives visitors.entry.now guest.entry.number result }
             {
                 let Guest { number, client } = guest;
