@@ -19,7 +19,7 @@ same_pass old new grown = ap (λ (p : PassValue). p.pass) grown.is
 -- one event more was taken
 pub one_taken_more : (old last new : PassValue) (stamps : List ℕ) (stamp closed : ℕ) → HasTakenAll old stamps last
     → HasTaken last new (advances.Taken stamp closed) → HasTakenAll old (stamp ∷ stamps) new
-one_taken_more old last new stamps stamp closed before taken = (last, (closed, (before, taken)))
+one_taken_more old last new stamps stamp closed before taken = (last, closed, before, taken)
 
 one_kept_more : (rows : ℕ → List ℕ) (h : Option ℕ) (olds : List PassValue) (all : List KeptNode) (news : List PassValue)
     (old : PassValue) (kept : KeptNode) (new : PassValue) → HaveKept rows h olds all news → HasKeptNode rows h old kept new
@@ -31,6 +31,13 @@ one_kept_more rows h [] [] (n ∷ news) old kept new before one = absurd before
 one_kept_more rows h [] (k ∷ all) news old kept new before one = absurd before
 one_kept_more rows h (o ∷ olds) [] news old kept new before one = absurd before
 one_kept_more rows h (o ∷ olds) (k ∷ all) [] old kept new before one = absurd before
+
+-- none was kept
+pub none_kept : {T : Type 0} (pass : T → PassValue) (rows : ℕ → List ℕ) (h : Option ℕ) (nodes : List KeptNode) (left : List T) → nodes ≡ []
+    → left ≡ [] → HaveKept rows h [] nodes (map pass left)
+none_kept {T} pass rows h nodes left no_node none =
+    subst (λ (all : List KeptNode). HaveKept rows h [] all (map pass left)) (sym no_node)
+    (subst (λ (xs : List T). HaveKept rows h [] [] (map pass xs)) (sym none) tt)
 
 -- one station more was kept, and is left with those that were
 pub one_left_more : {T : Type 0} (pass : T → PassValue) (rows : ℕ → List ℕ) (h : Option ℕ) (olds : List PassValue)
