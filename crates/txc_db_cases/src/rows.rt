@@ -155,13 +155,13 @@ list all 1 => 7:d [6,) 8:c [4,)
 /// Two births of one id at one stamp are refused, after a put and a removal that could be written.
 const REFUSED: &str = "write 1: put 1 7 2 a =>
 write 2: put 1 6 2 x, remove 1 7, put 1 8 2 y, put 1 8 2 z => \
-the store refused: UNIQUE constraint failed
+the store refused: CHECK constraint failed
 list all 1 => 7:a [1,)
 write 2: put 1 8 2 z =>
 list all 1 => 7:a [1,) 8:z [2,)
 ";
 
-/// The put of 7 looks at as many versions as there are of it, so that it stops the store, after the put of 5.
+/// The put of 7 finds a version and that of 5 finds none, so that it stops the store, after the put of 5.
 const STOPPED: &str = "write 1: put 1 7 2 a =>
 write 2: put 1 7 2 b =>
 write 3: put 1 7 2 c =>
@@ -170,17 +170,13 @@ write 5: put 1 7 2 e =>
 write 6: put 1 7 2 f =>
 write 7: put 1 7 2 g =>
 write 8: put 1 7 2 h =>
-limit 4 =>
+limit 2 =>
 write 9: put 1 6 2 x =>
 limit 0 =>
 write 10: put 1 5 2 y, put 1 7 2 i, put 1 8 2 z => the store refused: interrupted: the limit on steps was met
 limit 1 =>
 write 10: put 1 5 2 y, put 1 7 2 i, put 1 8 2 z => the store refused: interrupted: the limit on steps was met
 limit 2 =>
-write 10: put 1 5 2 y, put 1 7 2 i, put 1 8 2 z => the store refused: interrupted: the limit on steps was met
-limit 3 =>
-write 10: put 1 5 2 y, put 1 7 2 i, put 1 8 2 z => the store refused: interrupted: the limit on steps was met
-limit 4 =>
 write 10: put 1 5 2 y, put 1 7 2 i, put 1 8 2 z => the store refused: interrupted: the limit on steps was met
 limit none =>
 list all 1 => 6:x [9,) 7:a [1,2) 7:b [2,3) 7:c [3,4) 7:d [4,5) 7:e [5,6) 7:f [6,7) 7:g [7,8) 7:h [8,)
