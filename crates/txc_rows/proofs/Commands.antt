@@ -18,13 +18,13 @@ use Rattle.sqlite_value.specs.declared.keys.Key.{Key}
 use Rattle.sqlite_tied.specs.Compute.{everything}
 use Rattle.sqlite.specs.Listing.{understood, reads_listing}
 use Rattle.sqlite.proofs.Callers.{command_of, statement_of, IsPlain}
-use Rattle.txc_rows.specs.declared.texts.TheConstants.{MAKE_LATEST, ADD_LATEST, END_VERSION, RENEW_LATEST}
+use Rattle.txc_rows.specs.declared.texts.TheConstants.{MAKE_LATEST, DROP_LATEST, ADD_LATEST, END_VERSION, RENEW_LATEST}
 use Rattle.txc_rows.specs.declared.texts.Segment.{Segment}
 use Rattle.txc_rows.specs.declared.texts.Segment.TheVariants.{First, Second, Third, Fourth, Fifth, Sixth, Seventh}
 use Rattle.txc_rows.specs.declared.texts.Source.{Source}
 use Rattle.txc_rows.specs.declared.texts.Source.TheVariants.{Latest, Dead}
 use Rattle.txc_rows.specs.Readings.{tree_read, table_text, row_text, group_text, range_text, left_text}
-use Rattle.txc_rows.specs.Texts.{no_schema, latest_table, version_schema, place_of, tree_of, segment_table, schema_before, schema_to, add_text, copy_text, make_text, drop_text}
+use Rattle.txc_rows.specs.Texts.{no_schema, latest_table, latest_schema, version_schema, place_of, tree_of, segment_table, schema_before, schema_to, add_text, copy_text, make_text, drop_text}
 
 -- ---- rows that are given
 
@@ -321,3 +321,11 @@ make_latest_is = (refl, refl, refl)
 pub make_latest_plain : IsPlain (understood no_schema MAKE_LATEST.now)
 unfolding understood everything
 make_latest_plain = (refl, refl)
+
+pub drop_latest_is : command_of (understood latest_schema DROP_LATEST.now) ≡ DropTable 0
+unfolding understood everything
+drop_latest_is = refl
+
+pub drop_latest_plain : IsPlain (understood latest_schema DROP_LATEST.now)
+unfolding understood everything
+drop_latest_plain = (refl, refl)

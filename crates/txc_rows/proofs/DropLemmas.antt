@@ -12,10 +12,11 @@ use Rattle.sqlite.proofs.Callers.{statement_of, runs_as}
 use Rattle.sqlite_trees.specs.declared.memory.MemStore.{MemStore}
 use Rattle.txc_rows.specs.declared.texts.Segment.{Segment}
 use Rattle.txc_rows.specs.declared.texts.Segment.TheVariants.{First, Second, Third, Fourth, Fifth, Sixth, Seventh}
-use Rattle.txc_rows.specs.Texts.{schema_before, schema_to, place_of, drop_text}
+use Rattle.txc_rows.specs.Texts.{no_schema, latest_schema, schema_before, schema_to, place_of, drop_text}
 use Rattle.txc_rows.specs.Stored.{placed_all, AreStored}
-use Rattle.txc_rows.specs.Kept.{latest_in, HasLatest}
-use Rattle.txc_rows.proofs.Commands.{drop_is, drop_plain}
+use Rattle.txc_rows.specs.declared.texts.TheConstants.{DROP_LATEST}
+use Rattle.txc_rows.specs.Kept.{latest_in, HasNoTable, HasLatest}
+use Rattle.txc_rows.proofs.Commands.{drop_is, drop_plain, drop_latest_is, drop_latest_plain}
 use Rattle.txc_rows.proofs.Steps.{went, same_value}
 
 pub drops_table : (s : Segment) (old new : State) (count : ℕ) → old.now.schema ≡ schema_to s → Executes (drop_text s) [] old new (Ok count) → (new.now.schema ≡ schema_before s) × (new.now.trees 0 ≡ old.now.trees 0)
@@ -94,3 +95,16 @@ pub drops : (s : Segment) (old new : Held MemStore) (count : ℕ) → HasLatest 
 drops s old new count has h =
     let it = drops_table s (state over_memory old) (state over_memory new) count has.schema_is h in
     record { schema_is = it.0; rows = subst AreStored (sym it.1) has.rows; latest_are = ap placed_all it.1; are_empty = tt }
+
+pub drops_latest : (latest : _) (old new : Held MemStore) (count : ℕ) → HasLatest latest_schema latest old → Executes DROP_LATEST.now [] (state over_memory old) (state over_memory new) (Ok count) → HasNoTable new
+drops_latest latest old new count has h =
+    let was = state over_memory old in
+    let now = state over_memory new in
+    let w = runs_as DROP_LATEST.now [] was now latest_schema has.schema_is (DropTable 0) drop_latest_is drop_latest_plain count h in
+    let text = statement_of DROP_LATEST.now (understood latest_schema DROP_LATEST.now) in
+    let done = went (subst (λ c. Does was.step_limit (mode_of was) [] (record was.now { schema = c }) text None (DropTable 0) (Ok (w.tally, now.now))) has.schema_is w.changed) in
+    let counted = went done.2 in
+    let tested = went counted.2 in
+    let left = went tested.2 in
+    let is : now.now ≡ left.0 = ap (λ (p : Tally × Database). p.1) (same_value left.2) in
+    record { schema = ap (λ (d : Database). d.schema) is ∙ left.1.0 }

@@ -26,14 +26,14 @@ use Rattle.txc_rows.specs.Holdable.{IsHoldable}
 use Rattle.sqlite.specs.Tree.{Trees}
 use Rattle.sqlite.specs.Program.{overlay}
 use borrow.Author.Tests.{eqb-true}
-use Rattle.txc_rows.proofs.SegmentLemmas.{is_tree, once}
+use Rattle.txc_rows.proofs.SegmentLemmas.{AreSame, at_segment, is_tree, once}
 use Rattle.txc_rows.proofs.PutLemmas.{all_front, all_back}
 use Rattle.txc_rows.proofs.Commands.{IsListingOf, most_shown, left_plain}
 use Rattle.txc_rows.proofs.LeftLemmas.{leaves_rows}
 use Rattle.txc_rows.proofs.StoredRows.{is_asked}
 use Rattle.txc_rows.specs.Placed.{Placed, AreApart}
 use Rattle.txc_rows.specs.Stored.{stored, number, placed_in, placed_all, AreStored}
-use Rattle.txc_rows.specs.Kept.{latest_in, dead_among, dead_in, placed_of, placed_read, AreStoredIn, HasTables, HasVersions, IsKept, IsStep, IsCall, IsSame, IsReading, IsLeaving}
+use Rattle.txc_rows.specs.Kept.{latest_in, dead_among, dead_in, placed_of, placed_read, AreStoredIn, HasTables, HasVersions, IsKept, IsStep, IsCall, IsSame, OthersStay, IsReading, IsLeaving}
 use Rattle.txc_rows.proofs.WriteLemmas.{Leaves, segment_rows}
 use Rattle.txc_rows.proofs.Refusals.{Refused, query_refused, shown_same}
 use Rattle.txc_rows.proofs.Answering.{selects, listing}
@@ -51,17 +51,26 @@ pub steps : (sql : List ℕ) (params : Row) (L : Held MemStore → Type 0) (old 
 steps sql params L old new (Err e) h leaves = record { leaves = tt; inside = tt; base = refused_base old new sql params e h }
 steps sql params L old new (Ok count) h leaves = record { leaves = leaves count h.0; inside = h.1.mode; base = h.1.committed_is }
 
-pub has_left : (latest dead : List Placed) (h : Held MemStore) → Leaves latest dead (state over_memory h) → HasVersions latest dead h
+pub has_left : {tree : ℕ} {db : Trees} (latest dead : List Placed) (h : Held MemStore) → Leaves tree db latest dead (state over_memory h) → HasVersions latest dead h
 has_left latest dead h it = record {
   tables = record { schema = it.schema; latest = it.latest_rows; dead = it.dead_rows };
   latest_are = it.latest_are;
   dead_are = it.dead_are;
 }
 
+-- where a statement is run, no other segment is written
+pub others_stay : (sql : List ℕ) (params : Row) (tree : ℕ) (old new : Held MemStore) (r : Result ℕ Error) → ExecutesInside 0 sql params (state over_memory old) (state over_memory new) r
+    → ((count : ℕ) → Executes sql params (state over_memory old) (state over_memory new) (Ok count) → AreSame tree (state over_memory old).now.trees (state over_memory new).now.trees segments) → OnOk r (OthersStay tree old new)
+others_stay sql params tree old new (Err e) h same = tt
+others_stay sql params tree old new (Ok count) h same = at_segment tree (state over_memory old).now.trees (state over_memory new).now.trees (same count h.0)
+
 -- ---- calls on a connection
 
+pub placed_by : (old new : Held MemStore) → (state over_memory new).now.trees ≡ (state over_memory old).now.trees → placed_of new ≡ placed_of old
+placed_by old new same = ap (λ (t : Trees). placed_all (t 0) ++ dead_among t segments) same
+
 pub placed_same : (old new : Held MemStore) → IsSame old new → placed_of new ≡ placed_of old
-placed_same old new same = ap (λ t. placed_all (t 0) ++ dead_among t segments) same.trees
+placed_same old new same = placed_by old new same.trees
 
 -- what is seen is what was seen, and it is committed
 now_same : (old new : Held MemStore) → HasTables old → AreApart (latest_in old) (dead_in old) → (state over_memory new).now ≡ (state over_memory old).now → (state over_memory new).committed ≡ (state over_memory new).now → new.in_transaction ≡ false
@@ -91,7 +100,7 @@ refused_same old new kept (inl same) = kept_same old new kept same.0.now_is same
 refused_same old new kept (inr back) = kept_same old new kept ((back.undone refl).0 ∙ kept.settled) (back.undone refl).1 back.autocommit
 
 pub refused_call : {X : Type 0} (L : List Placed → Type 0) (old new : Held MemStore) (e : Error) → IsSame old new → IsCall {X = X} L old new (Err e)
-refused_call L old new e same = record { kept = same.kept; leaves = tt; unchanged = placed_same old new same }
+refused_call L old new e same = record { kept = same.kept; leaves = tt; unchanged = same.trees }
 
 -- what a call answers says nothing of the tables
 pub recast_ok : {X Y : Type 0} (L : List Placed → Type 0) (old new : Held MemStore) (x : X) (y : Y) → IsCall {X = X} L old new (Ok x) → IsCall {X = Y} L old new (Ok y)

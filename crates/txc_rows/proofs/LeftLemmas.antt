@@ -58,8 +58,7 @@ left_from_page : (tree from : ℕ) (table rows : List Row) → AreStored table �
     → AllByRecursion AreCells rows × IsPermutation (placed_left from (placed_all table)) (map placed_from rows)
 left_from_page tree from table rows keeps page =
     let same = one_table tree [] (left_filter 0) cells_project (number from ∷ []) (λ x. is_left from x.version) (left_test_is from) cells_of (λ id x. refl) table rows keeps.each page in
-    let back = IsPermutation-map placed_from _ rows same in
-    (
+    let back = IsPermutation-map placed_from _ rows same in (
       all-permutation AreCells _ rows same (all_cells (placed_left from (placed_all table))),
       subst (λ xs. IsPermutation xs (map placed_from rows)) (from_cells (placed_left from (placed_all table))) back,
     )

@@ -27,10 +27,13 @@ pub mod MakeLemmas
 pub mod DropLemmas
 pub mod HeldLemmas
 pub mod ChangeSteps
+pub mod SweepCalls
 pub mod ViewLemmas
 pub mod Finding
 pub mod Answering
 pub mod KeepingLemmas
 pub mod Listed
+pub mod FindLemmas
+pub mod StoreLemmas
 pub mod UsesLemmas
 pub mod Offered

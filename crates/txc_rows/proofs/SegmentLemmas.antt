@@ -38,6 +38,15 @@ once Fifth = refl
 once Sixth = refl
 once Seventh = refl
 
+pub at_segment : (tree : ℕ) (old new : Trees) → AreSame tree old new segments → (s : Segment) → tree_of s ≢ tree → new (tree_of s) ≡ old (tree_of s)
+at_segment tree old new same Seventh off = same.0 off
+at_segment tree old new same Sixth off = same.1.0 off
+at_segment tree old new same Fifth off = same.1.1.0 off
+at_segment tree old new same Fourth off = same.1.1.1.0 off
+at_segment tree old new same Third off = same.1.1.1.1.0 off
+at_segment tree old new same Second off = same.1.1.1.1.1.0 off
+at_segment tree old new same First off = same.1.1.1.1.1.1.0 off
+
 -- none of them is written
 pub none_written : (tree : ℕ) (old new : Trees) (ss : List Segment) → AllByRecursion (λ s. tree_of s ≢ tree) ss → AreSame tree old new ss → dead_among new ss ≡ dead_among old ss
 none_written tree old new [] apart same = refl

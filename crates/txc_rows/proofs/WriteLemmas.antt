@@ -53,34 +53,37 @@ use Rattle.sqlite_rules.specs.Edit.{Applies}
 use Rattle.sqlite.specs.Rows.{Outcome}
 
 -- both tables are there, and these are the versions in them
-pub record Leaves (latest dead : List Placed) (s : State) : Type 0 where
+pub record Leaves (tree : ℕ) (db : Trees) (latest dead : List Placed) (s : State) : Type 0 where
   pub schema : s.now.schema ≡ version_schema
   pub latest_rows : AreStored (s.now.trees 0)
   pub dead_rows : AreStoredIn s.now.trees segments
   pub latest_are : placed_all (s.now.trees 0) ≡ latest
   pub dead_are : IsPermutation dead (dead_among s.now.trees segments)
+  pub others : AreSame tree db s.now.trees segments
 
 -- the table of the last versions was written alone
 latest_written : (db : Trees) (latest : List Placed) (s : State) → s.now.schema ≡ version_schema → AreStored (s.now.trees 0) → placed_all (s.now.trees 0) ≡ latest → AreSame 0 db s.now.trees segments
-    → AreStoredIn db segments → Leaves latest (dead_among db segments) s
+    → AreStoredIn db segments → Leaves 0 db latest (dead_among db segments) s
 latest_written db latest s schema rows are same stored = record {
   schema = schema;
   latest_rows = rows;
   dead_rows = none_stored 0 db s.now.trees segments (all_not_latest segments) same stored;
   latest_are = are;
   dead_are = rw (none_written 0 db s.now.trees segments (all_not_latest segments) same) (IsPermutation-refl (dead_among db segments));
+  others = same;
 }
 
 -- a segment was written alone, and got more versions
 segment_written : (j : Segment) (db : Trees) (more : List Placed) (s : State) → s.now.schema ≡ version_schema → s.now.trees 0 ≡ db 0 → AreSame (tree_of j) db s.now.trees segments
     → AreStored (s.now.trees (tree_of j)) → placed_all (s.now.trees (tree_of j)) ≡ placed_all (db (tree_of j)) ++ more
-    → AreStored (db 0) → AreStoredIn db segments → Leaves (placed_all (db 0)) (dead_among db segments ++ more) s
+    → AreStored (db 0) → AreStoredIn db segments → Leaves (tree_of j) db (placed_all (db 0)) (dead_among db segments ++ more) s
 segment_written j db more s schema other same rows are latest stored = record {
   schema = schema;
   latest_rows = rw other latest;
   dead_rows = stored_with j db s.now.trees more are rows segments same stored;
   latest_are = ap placed_all other;
   dead_are = one_written j db s.now.trees more are rows segments same (once j);
+  others = same;
 }
 
 -- the rows of a segment
@@ -124,7 +127,7 @@ placed_put x rows h =
     ∙ map-append placed_in rows (stored (next_rowid rows) x ∷ []) ∙ ap (λ w. placed_all rows ++ w ∷ []) (placed_again (next_rowid rows) x)
 
 pub adds_latest : (old new : State) (x : Placed) (count : ℕ) → old.now.schema ≡ version_schema → AreStored (old.now.trees 0) → AreStoredIn old.now.trees segments → Executes ADD_LATEST.now (cells_of x) old new (Ok count)
-    → Leaves (placed_all (old.now.trees 0) ++ x ∷ []) (dead_among old.now.trees segments) new
+    → Leaves 0 old.now.trees (placed_all (old.now.trees 0) ++ x ∷ []) (dead_among old.now.trees segments) new
 adds_latest old new x count has latest dead h =
     let params = cells_of x in
     let db = old.now.trees in
@@ -137,7 +140,7 @@ adds_latest old new x count has latest dead h =
     latest_written db _ new it.2 (rw rows (stored_put (next_rowid (db 0)) x (db 0) latest)) (ap placed_all rows ∙ placed_put x (db 0) latest) it.4.tables.1 dead
 
 pub adds_dead : (j : Segment) (old new : State) (x : Placed) (count : ℕ) → old.now.schema ≡ version_schema → AreStored (old.now.trees 0) → AreStoredIn old.now.trees segments → Executes (add_text j) (cells_of x) old new (Ok count)
-    → Leaves (placed_all (old.now.trees 0)) (dead_among old.now.trees segments ++ x ∷ []) new
+    → Leaves (tree_of j) old.now.trees (placed_all (old.now.trees 0)) (dead_among old.now.trees segments ++ x ∷ []) new
 adds_dead j old new x count has latest dead h =
     let params = cells_of x in
     let db = old.now.trees in
@@ -230,7 +233,7 @@ module _ (fs project : List Term) (params : Row) (P : Placed → Bool) (test : (
 
     pub updates : (sql : List ℕ) → command_of (understood version_schema sql) ≡ Update 0 (alone (whole 0 fs project)) → IsPlain (understood version_schema sql)
         → (old new : State) (count : ℕ) → old.now.schema ≡ version_schema → AreStored (old.now.trees 0) → AreStoredIn old.now.trees segments → length (filter P (placed_all (old.now.trees 0))) ≤ 1 → Executes sql params old new (Ok count)
-        → Leaves (map F (placed_all (old.now.trees 0))) (dead_among old.now.trees segments) new
+        → Leaves 0 old.now.trees (map F (placed_all (old.now.trees 0))) (dead_among old.now.trees segments) new
     updates sql is plain old new count has latest dead few h =
         let db = old.now.trees in
         let w = runs_as sql params old new version_schema has (Update 0 (alone (whole 0 fs project))) is plain count h in
@@ -253,7 +256,7 @@ ends_one t i s db id x hit = rw (hit, cast_int id, cast_int (pos x.place), cast_
 pub closes : (old new : State) (t i s : ℕ) (count : ℕ) → old.now.schema ≡ version_schema → AreStored (old.now.trees 0) → AreStoredIn old.now.trees segments
     → length (filter (λ x. is_at t i x.version.row && is_current x.version) (placed_all (old.now.trees 0))) ≤ 1
     → Executes END_VERSION.now (number t ∷ number i ∷ number s ∷ []) old new (Ok count)
-    → Leaves (map (closed_placed t i s) (placed_all (old.now.trees 0))) (dead_among old.now.trees segments) new
+    → Leaves 0 old.now.trees (map (closed_placed t i s) (placed_all (old.now.trees 0))) (dead_among old.now.trees segments) new
 closes old new t i s count = updates close_filter close_project (number t ∷ number i ∷ number s ∷ []) (λ x. is_at t i x.version.row && is_current x.version) (close_test t i s)
     (ended_given s) (λ id x. refl) (closed_placed t i s) (λ x off. rw off refl) (ends_one t i s) END_VERSION.now close_is close_plain old new count
 
@@ -274,7 +277,7 @@ renew_params place s row = number row.table ∷ number row.id ∷ number row.gro
 pub renews : (old new : State) (place s : ℕ) (row : RowValue) (count : ℕ) → old.now.schema ≡ version_schema → AreStored (old.now.trees 0) → AreStoredIn old.now.trees segments
     → length (filter (has_key row.table row.id row.group) (placed_all (old.now.trees 0))) ≤ 1
     → Executes RENEW_LATEST.now (renew_params place s row) old new (Ok count)
-    → Leaves (map (renewed place row s) (placed_all (old.now.trees 0))) (dead_among old.now.trees segments) new
+    → Leaves 0 old.now.trees (map (renewed place row s) (placed_all (old.now.trees 0))) (dead_among old.now.trees segments) new
 renews old new place s row count = updates key_filter renew_project (renew_params place s row) (has_key row.table row.id row.group) (renew_test row.table row.id row.group place s row.body)
     (renewed_given place s row.body) (λ id x. refl) (renewed place row s) (λ x off. rw off refl) (renews_one place s row) RENEW_LATEST.now renew_is renew_plain old new count
 
@@ -308,7 +311,7 @@ module _ (j : Segment) (keys : Keys) (db : Trees) (new : State) (t i g : ℕ) (l
   other = applies.tables.0 (λ e. not_latest j (sym e))
 
   abbrev Copied : Type 0
-  Copied = Leaves (placed_all (db 0)) (dead_among db segments ++ copied) new × (length (edit_of db (segment_table j) [] Chosen 0 given).news ≡ length copied)
+  Copied = Leaves (tree_of j) db (placed_all (db 0)) (dead_among db segments ++ copied) new × (length (edit_of db (segment_table j) [] Chosen 0 given).news ≡ length copied)
 
   copied_hits : (limit : Option ℕ) (mode : Mode) (x : List Row) → filter (λ r. has_key t i g (placed_in r)) (db 0) ≡ x → length x ≤ 1 → Copied
   copied_hits limit mode [] is short =
@@ -320,8 +323,7 @@ module _ (j : Segment) (keys : Keys) (db : Trees) (new : State) (t i g : ℕ) (l
       let one = given_one key_filter copied_project (number t ∷ number i ∷ number g ∷ []) (has_key t i g) (copy_test t i g) copied_given (λ id y. refl) copied_by (db 0) given x latest.each is page in
       let rows : new.now.trees tree ≡ put_row (stored (next_rowid (db tree)) (placed_in x)) (db tree)
       = applies.rows ∙ ap (λ all. edited db (edit_of db (segment_table j) [] Chosen 0 all)) one ∙ one_more (name_of j) tree segment_keys limit mode [] db (placed_in x) in
-      let are : placed_all (new.now.trees tree) ≡ placed_all (db tree) ++ copied = ap placed_all rows ∙ placed_put (placed_in x) (db tree) own ∙ ap (λ more. placed_all (db tree) ++ more) (sym (found (x ∷ []) is)) in
-      (
+      let are : placed_all (new.now.trees tree) ≡ placed_all (db tree) ++ copied = ap placed_all rows ∙ placed_put (placed_in x) (db tree) own ∙ ap (λ more. placed_all (db tree) ++ more) (sym (found (x ∷ []) is)) in (
         segment_written j db copied new schema other applies.tables.1 (rw rows (stored_put (next_rowid (db tree)) (placed_in x) (db tree) own)) are latest dead,
         ap (λ all. length (edit_of db (segment_table j) [] Chosen 0 all).news) one ∙ ap length (sym (found (x ∷ []) is)),
       )
@@ -330,7 +332,7 @@ module _ (j : Segment) (keys : Keys) (db : Trees) (new : State) (t i g : ℕ) (l
 pub copies : (j : Segment) (old new : State) (t i g : ℕ) (count : ℕ) → old.now.schema ≡ version_schema → AreStored (old.now.trees 0) → AreStoredIn old.now.trees segments
     → length (filter (has_key t i g) (placed_all (old.now.trees 0))) ≤ 1
     → Executes (copy_text j) (number t ∷ number i ∷ number g ∷ []) old new (Ok count)
-    → Leaves (placed_all (old.now.trees 0)) (dead_among old.now.trees segments ++ filter (has_key t i g) (placed_all (old.now.trees 0))) new
+    → Leaves (tree_of j) old.now.trees (placed_all (old.now.trees 0)) (dead_among old.now.trees segments ++ filter (has_key t i g) (placed_all (old.now.trees 0))) new
     × (count ≡ length (filter (has_key t i g) (placed_all (old.now.trees 0))))
 copies j old new t i g count has latest dead few h =
     let db = old.now.trees in

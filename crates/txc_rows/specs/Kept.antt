@@ -1,5 +1,5 @@
 -- What a connection over the tables of versions keeps: words that only this crate's private functions promise.
-use Rattle.std.specs.Prelude.{◌≡◌, ◌≤◌, ℕ, true, false, List, [], ◌∷◌, ◌++◌, map, take, Result, Vec, OnOk, OnErr, IfOk}
+use Rattle.std.specs.Prelude.{◌≡◌, ◌≢◌, ◌+◌, ◌-◌, ◌<◌, min, ◌≤◌, ℕ, true, false, List, [], ◌∷◌, ◌++◌, map, filter, length, take, Result, Vec, OnOk, OnErr, IfOk}
 use Rattle.std.specs.declared.alloc.Global.{Global}
 use Rattle.sqlite.specs.declared.error.Error.{Error}
 use Rattle.std.specs.List.{AllByRecursion}
@@ -12,12 +12,15 @@ use Rattle.txc_rows.specs.declared.version.Versioned.{Versioned}
 use Rattle.txc_rows.specs.declared.query.Query.{Query}
 use Rattle.txc_rows.specs.declared.texts.TheConstants.{MOST_READ}
 use Rattle.txc_rows.specs.States.{query_table}
+use Rattle.txc_rows.specs.declared.store_error.TheConstants.{MAX_MATCHING}
+use Rattle.txc_rows.specs.Versions.{suits}
 use Rattle.txc_rows.specs.Found.{Finds}
 use Rattle.txc_rows.specs.Holdable.{IsHoldable}
 use Rattle.sqlite.specs.Tree.{Trees}
 use Rattle.txc_rows.specs.declared.texts.Segment.{Segment}
+use Rattle.txc_rows.specs.declared.tally.Tally.{Tally}
 use Rattle.sqlite.specs.Schema.{Schema}
-use Rattle.txc_rows.specs.Texts.{no_schema, version_schema, segments, tree_of}
+use Rattle.txc_rows.specs.Texts.{no_schema, version_schema, segments, place_of, tree_of}
 use Rattle.txc_rows.specs.declared.texts.Source.{Source}
 use Rattle.txc_rows.specs.Readings.{tree_read}
 use Rattle.txc_rows.specs.Placed.{Placed, version_of, versions_by_place, left_from, placed_left, AreBelow, AreApart, AreWritten}
@@ -85,7 +88,7 @@ pub record IsCall {X : Type 0} (Leaves : List Placed → Type 0) (old new : Held
     (outcome : Result X Error) : Type 0 where
   pub kept : IsKept new
   pub leaves : OnOk outcome (Leaves (placed_of new))
-  pub unchanged : OnErr outcome (placed_of new ≡ placed_of old)
+  pub unchanged : OnErr outcome ((state over_memory new).now.trees ≡ (state over_memory old).now.trees)
 
 -- the row shows a version of the table
 pub record IsShown (table : ℕ) (r : Row) : Type 0 where
@@ -115,6 +118,24 @@ pub record IsReading (q : Query) (from : ℕ) (s : Source) (old new : Held MemSt
   pub same : IsSame old new
   pub lists : IfOk outcome (λ rows. IsListing q (left_from from (map version_of (placed_read s old))) rows.items)
 
+-- ---- segments that are not written
+
+-- each segment whose rows stand in another tree has the rows that it had
+abbrev pub OthersStay : ℕ → Held MemStore → Held MemStore → Type 0
+OthersStay tree old new = (s : Segment) → tree_of s ≢ tree → (state over_memory new).now.trees (tree_of s) ≡ (state over_memory old).now.trees (tree_of s)
+
+-- each segment but this one is empty
+abbrev pub OthersAreEmpty : Segment → Held MemStore → Type 0
+OthersAreEmpty j h = (s : Segment) → tree_of s ≢ tree_of j → (state over_memory h).now.trees (tree_of s) ≡ []
+
+-- so many segments are in use beside the first
+abbrev pub newest_of : Tally → ℕ
+newest_of t = min t.segments.used 7 - 1
+
+-- where so many are in use beside the first, those that are made before them are empty
+abbrev pub AreEmptyBefore : ℕ → Held MemStore → Type 0
+AreEmptyBefore n h = (s : Segment) → place_of s + n < 7 → (state over_memory h).now.trees (tree_of s) ≡ []
+
 -- ---- tables that come and go
 
 -- no table is there
@@ -138,3 +159,29 @@ pub record IsLeaving (from : ℕ) (s : Source) (old new : Held MemStore) (outcom
   pub same : IsSame old new
   pub cells : IfOk outcome (λ rows. AllByRecursion AreCells rows.items)
   pub left : IfOk outcome (λ rows. IsPermutation (placed_left from (placed_read s old)) (map placed_from rows.items))
+
+-- ---- a store
+
+-- the store may write: its versions are as they were, and those that died at the stamp are not hidden. Or it is refused,
+-- and the same versions are shown from the stamp from which they were.
+pub record IsRoom (from stamp : ℕ) (old new : Held MemStore) (outcome : Result ℕ Error) : Type 0 where
+  pub kept : IsKept new
+  pub below : (next : ℕ) → AreBelow next (placed_of old) → AreBelow next (placed_of new)
+  pub low : IfOk outcome (λ first. first ≤ stamp)
+  pub shown : IfOk outcome (λ first. left_from first (versions_of new) ≡ left_from from (versions_of old))
+  pub unchanged : OnErr outcome (left_from from (versions_of new) ≡ left_from from (versions_of old))
+
+-- the versions that a query asks for, of those in a table that did not die before a stamp, came to the found ones, of
+-- which there are no more than may match
+pub record IsFinding (q : Query) (from : ℕ) (placed : List Placed) (old new : List Versioned) : Type 0 where
+  pub more : List Versioned
+  pub same : IsPermutation (filter (suits q) (left_from from (map version_of placed))) more
+  pub are : new ≡ old ++ more
+  pub few : length new ≤ MAX_MATCHING
+
+-- the tables are in order, each version has a lower place than the next one, and the segments that are not in use are
+-- empty
+pub record IsStore (next : ℕ) (tally : Tally) (h : Held MemStore) : Type 0 where
+  pub kept : IsKept h
+  pub below : AreBelow next (placed_of h)
+  pub empty : AreEmptyBefore (newest_of tally) h

@@ -11,6 +11,7 @@ mod statements;
 mod store;
 mod store_error;
 mod store_laws;
+mod tally;
 mod texts;
 mod version;
 mod writes;

@@ -1,6 +1,9 @@
-//! What is known of the segments without looking into them.
+//! Which segments are in use, and how many versions they have.
 
-use crate::texts::{SEGMENTS, Segment};
+ghost use Rattle.std.specs.Prelude.{◌≡◌, ◌≤◌, ◌+◌, ◌-◌, min};
+ghost use Rattle.txc_rows.specs.Texts.{place_of};
+
+use crate::texts::Segment;
 
 /// A segment takes so many versions at least.
 const LEAST_ROOM: usize = 1024;
@@ -11,9 +14,6 @@ pub(crate) struct Segments {
     used: usize,
     /// How many versions each has.
     counts: [usize; 7],
-    /// Each version of a segment has one of its table, id and group among the last versions, which was born at
-    /// this stamp or later and is gone only where it is gone itself; or the stamp is 0.
-    firsts: [u32; 7],
     /// No version of the segment died after this stamp.
     lasts: [u32; 7],
     /// How many versions the newest takes.
@@ -21,53 +21,54 @@ pub(crate) struct Segments {
 }
 
 impl Segments {
-    /// The first segment is in use. It has so many versions, of rows that changed at a stamp or later, and none
-    /// died after another.
-    pub(crate) fn with(count: usize, first: u32, last: u32) -> Segments {
+    /// The first segment is in use. It has so many versions, and none died after the stamp.
+    pub(crate) fn with(count: usize, last: u32) -> Segments
+        ensures { result.used ≡ 1 }
+    {
         let mut counts = [0usize; 7];
-        let mut firsts = [u32::MAX; 7];
         let mut lasts = [0u32; 7];
         counts[0] = count;
-        firsts[0] = first;
         lasts[0] = last;
         Segments {
             used: 1,
             counts,
-            firsts,
             lasts,
             room: LEAST_ROOM.max(count / 6),
         }
     }
 
-    pub(crate) fn empty() -> Segments {
-        Segments::with(0, u32::MAX, 0)
+    pub(crate) fn empty() -> Segments
+        ensures { result.used ≡ 1 }
+    {
+        Segments::with(0, 0)
     }
 
-    /// How many are in use.
-    pub(crate) fn used(&self) -> usize {
-        self.used.min(7)
-    }
-
-    fn newest_at(&self) -> usize {
-        self.used().saturating_sub(1)
+    /// How many are in use beside the first.
+    pub(crate) fn newest_at(&self) -> usize
+        ensures { result ≡ min self.now.used 7 - 1 }
+    {
+        self.used.min(7).saturating_sub(1)
     }
 
     /// The segment to which the next versions go.
-    pub(crate) fn newest(&self) -> Segment {
-        SEGMENTS[self.newest_at()]
-    }
-
-    /// Whether a segment can have a version of rows of which none changed after the stamp.
-    pub(crate) fn may_have(&self, at: usize, changed: u32) -> bool {
-        self.firsts[at] <= changed
-    }
-
-    /// So many versions were copied to the newest segment by a write. No version is born before `first` by it;
-    /// it is 0 where the write is earlier than another.
-    pub(crate) fn note(&mut self, copied: usize, first: u32, last: u32) {
-        for at in 0..self.used() {
-            self.firsts[at] = self.firsts[at].min(first);
+    pub(crate) fn newest(&self) -> Segment
+        ensures { place_of result + (min self.now.used 7 - 1) ≡ 7 }
+    {
+        match self.newest_at() {
+            0 => Segment::First,
+            1 => Segment::Second,
+            2 => Segment::Third,
+            3 => Segment::Fourth,
+            4 => Segment::Fifth,
+            5 => Segment::Sixth,
+            _ => Segment::Seventh,
         }
+    }
+
+    /// So many versions, of which none died after the stamp, were copied to the newest segment.
+    pub(crate) fn note(&mut self, copied: usize, last: u32)
+        ensures { self.new.used ≡ self.old.used }
+    {
         let at = self.newest_at();
         self.counts[at] = self.counts[at].wrapping_add(copied);
         self.lasts[at] = self.lasts[at].max(last);
@@ -79,7 +80,9 @@ impl Segments {
     }
 
     /// Goes on to the next segment, if there is one.
-    pub(crate) fn advance(&mut self) -> bool {
+    pub(crate) fn advance(&mut self) -> bool
+        ensures { self.old.used ≤ self.new.used }
+    {
         let is_one_more = self.used < 7;
         if is_one_more {
             self.used += 1;
@@ -108,16 +111,16 @@ impl Segments {
     }
 
     /// All in the first segment, of which so many are left.
-    pub(crate) fn joined(&self, count: usize) -> Segments {
+    pub(crate) fn joined(&self, count: usize) -> Segments
+        ensures { result.used ≡ 1 }
+    {
         if count == 0 {
             return Segments::empty();
         }
-        let mut first = u32::MAX;
         let mut last = 0;
         for at in 0..7usize {
-            first = first.min(self.firsts[at]);
             last = last.max(self.lasts[at]);
         }
-        Segments::with(count, first, last)
+        Segments::with(count, last)
     }
 }

@@ -1,19 +1,23 @@
 //! The statements that make and drop tables, and leave out what died.
 
-ghost use Rattle.std.specs.Prelude.{◌≡◌, ◌++◌, ◌∷◌, [], true, map, OnOk};
+ghost use Rattle.std.specs.Prelude.{◌≡◌, ◌++◌, ◌∷◌, [], true, map, OnOk, IfOk};
+ghost use Rattle.std.specs.List.Sorted.{IsPermutation};
 ghost use Rattle.std.specs.List.{AllByRecursion};
 ghost use Rattle.sqlite.specs.Held.{state};
 ghost use Rattle.sqlite.specs.Steps.{over_memory, IsEmpty};
-ghost use Rattle.txc_rows.specs.Placed.{AreSwept, AreLeft};
+ghost use Rattle.sqlite.specs.Values.{bound};
+ghost use Rattle.txc_rows.specs.Placed.{AreSwept, AreLeft, placed_left};
 ghost use Rattle.txc_rows.specs.Stored.{AreCells, placed_from};
-ghost use Rattle.txc_rows.specs.Texts.{latest_schema, version_schema, schema_to, schema_before, made_before, segments};
-ghost use Rattle.txc_rows.specs.Kept.{latest_in, dead_in, placed_of, HasNoTable, HasMade, HasLatest, HasTables, HasVersions, IsKept, IsStep, IsCall, IsLeaving};
+ghost use Rattle.txc_rows.specs.declared.texts.Segment.{Segment};
+ghost use Rattle.txc_rows.specs.Texts.{latest_schema, version_schema, schema_to, schema_before, made_before, segments, tree_of};
+ghost use Rattle.txc_rows.specs.declared.texts.Segment.TheVariants.{First};
+ghost use Rattle.txc_rows.specs.Kept.{latest_in, dead_in, placed_of, HasNoTable, HasMade, HasLatest, HasTables, HasVersions, IsKept, IsSame, IsStep, IsCall, IsLeaving, OthersStay, OthersAreEmpty};
 
 use crate::texts::{
     ADD_LATEST, DROP_LATEST, MAKE_LATEST, SEGMENTS, Segment, Source, add_text, drop_text,
     left_text, make_text,
 };
-use sqlite::{Connection, Error, ErrorCode, MemStore, Transaction, params};
+use sqlite::{Connection, Error, ErrorCode, MemStore, Transaction, ValueRef, params};
 use std::alloc::Global;
 
 // ---- the tables
@@ -45,6 +49,7 @@ fn make_segments(tx: &mut Transaction<'_, MemStore>) -> Result<usize, Error>
     requires inside { tx.old.conn.now.in_transaction ≡ true }
     ensures same_reference { tx.new.conn.ghost_name ≡ tx.old.conn.ghost_name }
     ensures step { IsStep (HasVersions (latest_in tx.old.conn.now) []) tx.old.conn.now tx.new.conn.now result }
+    ensures empty { OnOk result ((s : Segment) → (state over_memory tx.new.conn.now).now.trees (tree_of s) ≡ []) }
 {
     make_segment(tx, Segment::Seventh)?;
     make_segment(tx, Segment::Sixth)?;
@@ -90,6 +95,7 @@ pub(crate) fn create(conn: &mut Connection<MemStore>) -> Result<(), Error>
     requires { IsEmpty (state over_memory conn.old) }
     ensures kept { OnOk result (IsKept conn.new) }
     ensures empty { OnOk result (placed_of conn.new ≡ []) }
+    ensures unused { OnOk result (OthersAreEmpty First conn.new) }
 {
     let mut tx = conn.transaction();
     make_latest(&mut tx)?;
@@ -98,6 +104,22 @@ pub(crate) fn create(conn: &mut Connection<MemStore>) -> Result<(), Error>
 }
 
 // ---- leaving out what died
+
+/// The columns of a version that was read.
+fn columns(row: &sqlite::Row) -> Result<[ValueRef<'_>; 7], Error>
+    requires { AreCells row.now }
+    ensures { IfOk result (λ columns. bound columns ≡ row.now) }
+{
+    Ok([
+        row.get_ref(0)?,
+        row.get_ref(1)?,
+        row.get_ref(2)?,
+        row.get_ref(3)?,
+        row.get_ref(4)?,
+        row.get_ref(5)?,
+        row.get_ref(6)?,
+    ])
+}
 
 /// Adds a version that was read to the last ones.
 fn add_row(tx: &mut Transaction<'_, MemStore>, row: &sqlite::Row) -> Result<usize, Error>
@@ -108,19 +130,10 @@ fn add_row(tx: &mut Transaction<'_, MemStore>, row: &sqlite::Row) -> Result<usiz
     ensures step { IsStep
         (HasVersions (latest_in tx.old.conn.now ++ placed_from row.now ∷ []) (dead_in tx.old.conn.now))
         tx.old.conn.now tx.new.conn.now result }
+    ensures others { OnOk result (OthersStay 0 tx.old.conn.now tx.new.conn.now) }
 {
-    tx.execute(
-        ADD_LATEST,
-        &[
-            row.get_ref(0)?,
-            row.get_ref(1)?,
-            row.get_ref(2)?,
-            row.get_ref(3)?,
-            row.get_ref(4)?,
-            row.get_ref(5)?,
-            row.get_ref(6)?,
-        ],
-    )
+    let columns = columns(row)?;
+    tx.execute(ADD_LATEST, &columns)
 }
 
 /// Adds a version that was read to a segment.
@@ -136,19 +149,10 @@ fn add_dead(
     ensures step { IsStep
         (HasVersions (latest_in tx.old.conn.now) (dead_in tx.old.conn.now ++ placed_from row.now ∷ []))
         tx.old.conn.now tx.new.conn.now result }
+    ensures others { OnOk result (OthersStay (tree_of segment) tx.old.conn.now tx.new.conn.now) }
 {
-    tx.execute(
-        add_text(segment),
-        &[
-            row.get_ref(0)?,
-            row.get_ref(1)?,
-            row.get_ref(2)?,
-            row.get_ref(3)?,
-            row.get_ref(4)?,
-            row.get_ref(5)?,
-            row.get_ref(6)?,
-        ],
-    )
+    let columns = columns(row)?;
+    tx.execute(add_text(segment), &columns)
 }
 
 fn fill_latest(tx: &mut Transaction<'_, MemStore>, rows: &[sqlite::Row]) -> Result<(), Error>
@@ -159,6 +163,7 @@ fn fill_latest(tx: &mut Transaction<'_, MemStore>, rows: &[sqlite::Row]) -> Resu
     ensures step { IsStep
         (HasVersions (latest_in tx.old.conn.now ++ map placed_from rows.now) (dead_in tx.old.conn.now))
         tx.old.conn.now tx.new.conn.now result }
+    ensures others { OnOk result (OthersStay 0 tx.old.conn.now tx.new.conn.now) }
 {
     for row in rows {
         add_row(tx, row)?;
@@ -178,6 +183,7 @@ fn fill_dead(
     ensures step { IsStep
         (HasVersions (latest_in tx.old.conn.now) (dead_in tx.old.conn.now ++ map placed_from rows.now))
         tx.old.conn.now tx.new.conn.now result }
+    ensures others { OnOk result (OthersStay (tree_of segment) tx.old.conn.now tx.new.conn.now) }
 {
     for row in rows {
         add_dead(tx, segment, row)?;
@@ -202,16 +208,69 @@ fn read_all_left(
     conn: &mut Connection<MemStore>,
     alloc: Global,
     from: u32,
-) -> Result<Vec<sqlite::Row>, Error> {
+) -> Result<Vec<sqlite::Row>, Error>
+    requires { IsKept conn.old }
+    ensures same { IsSame conn.old conn.new }
+    ensures cells { IfOk result (λ rows. AllByRecursion AreCells rows.items) }
+    ensures left { IfOk result (λ rows. IsPermutation (placed_left from (dead_in conn.old)) (map placed_from rows.items)) }
+{
     let mut left = Vec::new(alloc);
-    for at in 0..SEGMENTS.len() {
-        for row in read_left(conn, Source::Dead(SEGMENTS[at]), from)? {
-            if left.push(row).is_err() {
-                return Err(Error::SqliteFailure(ErrorCode::OutOfMemory));
-            }
-        }
+    for segment in &SEGMENTS {
+        let mut rows = read_left(conn, Source::Dead(*segment), from)?;
+        let Ok(()) = left.append(&mut rows) else {
+            return Err(Error::SqliteFailure(ErrorCode::OutOfMemory));
+        };
     }
     Ok(left)
+}
+
+/// The segments are made anew, with these versions in the first one.
+fn refill_dead(tx: &mut Transaction<'_, MemStore>, left: &[sqlite::Row]) -> Result<(), Error>
+    requires table { HasTables tx.old.conn.now }
+    requires inside { tx.old.conn.now.in_transaction ≡ true }
+    requires cells { AllByRecursion AreCells left.now }
+    ensures same_reference { tx.new.conn.ghost_name ≡ tx.old.conn.ghost_name }
+    ensures step { IsStep
+        (HasVersions (latest_in tx.old.conn.now) (map placed_from left.now))
+        tx.old.conn.now tx.new.conn.now result }
+    ensures rest { OnOk result (OthersAreEmpty First tx.new.conn.now) }
+{
+    drop_segments(tx)?;
+    make_segments(tx)?;
+    fill_dead(tx, Segment::First, left)
+}
+
+fn drop_latest(tx: &mut Transaction<'_, MemStore>) -> Result<usize, Error>
+    requires table { HasLatest latest_schema (latest_in tx.old.conn.now) tx.old.conn.now }
+    requires inside { tx.old.conn.now.in_transaction ≡ true }
+    ensures same_reference { tx.new.conn.ghost_name ≡ tx.old.conn.ghost_name }
+    ensures step { IsStep HasNoTable tx.old.conn.now tx.new.conn.now result }
+{
+    tx.execute(DROP_LATEST, &[])
+}
+
+/// All tables are made anew, with these last versions and these others.
+fn refill_all(
+    tx: &mut Transaction<'_, MemStore>,
+    latest: &[sqlite::Row],
+    left: &[sqlite::Row],
+) -> Result<(), Error>
+    requires table { HasTables tx.old.conn.now }
+    requires inside { tx.old.conn.now.in_transaction ≡ true }
+    requires latest { AllByRecursion AreCells latest.now }
+    requires cells { AllByRecursion AreCells left.now }
+    ensures same_reference { tx.new.conn.ghost_name ≡ tx.old.conn.ghost_name }
+    ensures step { IsStep
+        (HasVersions (map placed_from latest.now) (map placed_from left.now))
+        tx.old.conn.now tx.new.conn.now result }
+    ensures rest { OnOk result (OthersAreEmpty First tx.new.conn.now) }
+{
+    drop_segments(tx)?;
+    drop_latest(tx)?;
+    make_latest(tx)?;
+    make_segments(tx)?;
+    fill_latest(tx, latest)?;
+    fill_dead(tx, Segment::First, left)
 }
 
 /// Makes the segments anew, with what did not die before the stamp in the first one. It answers how many that are.
@@ -221,13 +280,12 @@ pub(crate) fn sweep_dead(
     from: u32,
 ) -> Result<usize, Error>
     requires { IsKept conn.old }
-    ensures { IsCall (AreSwept from (placed_of conn.old)) conn.old conn.new result }
+    ensures call { IsCall (AreSwept from (placed_of conn.old)) conn.old conn.new result }
+    ensures rest { OnOk result (OthersAreEmpty First conn.new) }
 {
     let left = read_all_left(conn, alloc, from)?;
     let mut tx = conn.transaction();
-    drop_segments(&mut tx)?;
-    make_segments(&mut tx)?;
-    fill_dead(&mut tx, Segment::First, &left)?;
+    refill_dead(&mut tx, &left)?;
     tx.commit()?;
     Ok(left.len())
 }
@@ -239,17 +297,13 @@ pub(crate) fn sweep_all(
     from: u32,
 ) -> Result<(usize, usize), Error>
     requires { IsKept conn.old }
-    ensures { IsCall (AreLeft from (placed_of conn.old)) conn.old conn.new result }
+    ensures call { IsCall (AreLeft from (placed_of conn.old)) conn.old conn.new result }
+    ensures rest { OnOk result (OthersAreEmpty First conn.new) }
 {
     let latest = read_left(conn, Source::Latest, from)?;
     let left = read_all_left(conn, alloc, from)?;
     let mut tx = conn.transaction();
-    drop_segments(&mut tx)?;
-    tx.execute(DROP_LATEST, &[])?;
-    make_latest(&mut tx)?;
-    make_segments(&mut tx)?;
-    fill_latest(&mut tx, &latest)?;
-    fill_dead(&mut tx, Segment::First, &left)?;
+    refill_all(&mut tx, &latest, &left)?;
     tx.commit()?;
     Ok((latest.len(), left.len()))
 }

@@ -1,7 +1,12 @@
 //! The store of row versions.
 
-ghost use Rattle.std.specs.Prelude.{◌≡◌, ℕ, ◌<◌, ◌≤◌, [], Ok, IfOk, IfErr, OnOk, OnErr, length, filter};
-ghost use Rattle.txc_rows.specs.Versions.{suits, purged, after_net};
+ghost use Rattle.std.specs.Prelude.{◌≡◌, ℕ, ◌+◌, ◌^◌, ◌<◌, ◌≤◌, [], Ok, IfOk, IfErr, OnOk, OnErr, length, filter, map};
+ghost use Rattle.std.specs.List.Sorted.{IsPermutation, IsSorted};
+ghost use Rattle.txc_rows.specs.Versions.{suits, purged, after_net, version_cmp};
+ghost use Rattle.txc_rows.specs.declared.texts.Segment.TheVariants.{First};
+ghost use Rattle.txc_rows.specs.declared.texts.Source.TheVariants.{Dead};
+ghost use Rattle.txc_rows.specs.Placed.{version_of, left_from, AreSwept};
+ghost use Rattle.txc_rows.specs.Kept.{placed_of, placed_read, versions_of, newest_of, AreEmptyBefore, OthersAreEmpty, IsKept, IsCall, IsSame, IsRoom, IsFinding};
 ghost use Rattle.txc_rows.specs.States.{State};
 ghost use Rattle.txc_rows.specs.Found.{Finds};
 ghost use Rattle.txc_rows.specs.Keeping.{KeepsStates, KeepsWritten, KeepsPurged, AnswersStates};
@@ -11,22 +16,16 @@ ghost use Rattle.txc_rows.specs.declared.store_error.TheConstants.{MAX_MATCHING}
 use crate::decode::versions_from;
 use crate::query::{Change, Query};
 use crate::reads::read;
-use crate::segments::Segments;
 use crate::statements::{create, sweep_all, sweep_dead};
 use crate::store_error::{MAX_MATCHING, StoreError};
-use crate::texts::{SEGMENTS, Source};
+use crate::tally::Tally;
+use crate::texts::{SEGMENTS, Segment, Source};
 use crate::version::Versioned;
 use crate::writes::write_all;
 use sqlite::{Connection, MemStore};
 use std::alloc::Global;
 use std::marker::Model;
 use txc_stamp::Stamp;
-
-/// The segments are made anew where so many of their versions are gone at least.
-const LEAST_DEAD: usize = 256;
-
-/// All tables are made anew where so many of the last versions are gone at least.
-const LEAST_ENDED: usize = 1024;
 
 /// Row versions in a store in memory. Contracts see the list of its versions, the earliest put first.
 #[derive(Drop)]
@@ -36,50 +35,173 @@ pub struct VersionRows {
     next_place: u32,
     /// Versions that died before it are gone, though the tables may still have them.
     kept_from: u32,
-    segments: Segments,
-    /// How many rows the table of last versions has, and how many of them have died.
-    rows: usize,
-    ended: usize,
-    /// So many had died at that stamp.
-    marked: (usize, u32),
-    newest: u32,
+    tally: Tally,
     alloc: Global,
 }
 
 impl Model for VersionRows {
     ghost use Rattle.std.specs.Prelude.{List};
     ghost use Rattle.txc_rows.specs.declared.version.Versioned.{Versioned};
-    ghost use Rattle.txc_rows.specs.Kept.{versions_of, IsKept};
+    ghost use Rattle.txc_rows.specs.Placed.{left_from};
+    ghost use Rattle.txc_rows.specs.Kept.{versions_of, IsStore};
 
     ghost Value = { List Versioned };
 
-    ghost view = { λ a. versions_of a.conn };
+    ghost view = { λ a. left_from a.kept_from (versions_of a.conn) };
 
-    ghost invariant = { λ a. IsKept a.conn };
+    ghost invariant = { λ a. IsStore a.next_place a.tally a.conn };
 }
 
 /// A connection with the tables and no version.
-fn open_tables(alloc: Global) -> Result<Connection<MemStore>, sqlite::Error> {
+fn open_tables(alloc: Global) -> Result<Connection<MemStore>, sqlite::Error>
+    ensures kept { IfOk result IsKept }
+    ensures empty { IfOk result (λ conn. placed_of conn ≡ []) }
+    ensures unused { IfOk result (OthersAreEmpty First) }
+{
     let mut conn = Connection::open_in_memory(alloc)?;
     create(&mut conn)?;
     Ok(conn)
 }
 
 /// The next place after so many more versions, if there are so many.
-fn place_after(place: u32, more: usize) -> Result<u32, sqlite::Error> {
+fn place_after(place: u32, more: usize) -> Result<u32, sqlite::Error>
+    ensures next { IfOk result (λ next. next ≡ place + more) }
+    ensures room { OnOk result (place + more < 2 ^ 32) }
+{
     if more > (u32::MAX - place) as usize {
         return Err(sqlite::Error::SqliteFailure(sqlite::ErrorCode::NoRowid));
     }
     Ok(place + more as u32)
 }
 
-/// The last birth of these versions.
-fn last_birth(versions: &[Versioned]) -> u32 {
-    let mut last = 0;
-    for version in versions {
-        last = last.max(version.born.number());
+/// Makes tables anew without what died before the stamp, where that is as much as what is left.
+fn sweep(
+    conn: &mut Connection<MemStore>,
+    alloc: Global,
+    tally: &mut Tally,
+    from: u32,
+) -> Result<(), sqlite::Error>
+    requires { IsKept conn.old }
+    ensures call { IsCall (AreSwept from (placed_of conn.old)) conn.old conn.new result }
+    ensures empty { AreEmptyBefore (newest_of tally.old) conn.old → AreEmptyBefore (newest_of tally.new) conn.new }
+{
+    if tally.is_mostly_ended(from) {
+        let (rows, kept) = sweep_all(conn, alloc, from)?;
+        tally.sweep_all(rows, kept);
+    } else if tally.is_mostly_dead(from) {
+        let kept = sweep_dead(conn, alloc, from)?;
+        tally.sweep_dead(kept);
     }
-    last
+    Ok(())
+}
+
+/// Before a write at the stamp: a segment has room, and no death at the stamp is hidden. It answers from which
+/// stamp on deaths are shown.
+fn make_room(
+    conn: &mut Connection<MemStore>,
+    alloc: Global,
+    tally: &mut Tally,
+    kept_from: u32,
+    stamp: u32,
+) -> Result<u32, sqlite::Error>
+    requires { IsKept conn.old }
+    ensures room { IsRoom kept_from stamp conn.old conn.new result }
+    ensures empty { AreEmptyBefore (newest_of tally.old) conn.old → AreEmptyBefore (newest_of tally.new) conn.new }
+{
+    if stamp < kept_from {
+        let (rows, kept) = sweep_all(conn, alloc, kept_from)?;
+        tally.sweep_all(rows, kept);
+        return Ok(0);
+    }
+    if !tally.has_room() {
+        let kept = sweep_dead(conn, alloc, kept_from)?;
+        tally.sweep_dead(kept);
+    }
+    Ok(kept_from)
+}
+
+/// The versions of one table that match, of those that did not die before the stamp, come to the found ones.
+fn find(
+    conn: &mut Connection<MemStore>,
+    alloc: Global,
+    source: Source,
+    query: &Query,
+    from: u32,
+    found: &mut Vec<Versioned>,
+) -> Result<(), StoreError>
+    requires kept { IsKept conn.old }
+    requires few { length found.old.items ≤ MAX_MATCHING }
+    ensures same { IsSame conn.old conn.new }
+    ensures finds { OnOk result (IsFinding query.now from (placed_read source conn.old) found.old.items found.new.items) }
+    ensures refused { result ≡ Err StoreError.TooManyRows
+        → MAX_MATCHING < length found.old.items + length (filter (suits query.now) (left_from from (map version_of (placed_read source conn.old)))) }
+{
+    let rows = read(conn, source, query, from)?;
+    if rows.len() > MAX_MATCHING - found.len() {
+        return Err(StoreError::TooManyRows);
+    }
+    let mut more = versions_from(alloc, query.table(), &rows)?;
+    found.append(&mut more)?;
+    Ok(())
+}
+
+/// The same of a segment, which is read where it is in use.
+fn find_dead(
+    conn: &mut Connection<MemStore>,
+    alloc: Global,
+    segment: Segment,
+    query: &Query,
+    from: u32,
+    tally: &Tally,
+    found: &mut Vec<Versioned>,
+) -> Result<(), StoreError>
+    requires kept { IsKept conn.old }
+    requires few { length found.old.items ≤ MAX_MATCHING }
+    requires empty { AreEmptyBefore (newest_of tally.now) conn.old }
+    ensures same { IsSame conn.old conn.new }
+    ensures finds { OnOk result (IsFinding query.now from (placed_read (Dead segment) conn.old) found.old.items found.new.items) }
+    ensures refused { result ≡ Err StoreError.TooManyRows
+        → MAX_MATCHING < length found.old.items + length (filter (suits query.now) (left_from from (map version_of (placed_read (Dead segment) conn.old)))) }
+{
+    if !tally.uses(segment) {
+        return Ok(());
+    }
+    find(conn, alloc, Source::Dead(segment), query, from, found)
+}
+
+/// By id, and then by birth.
+fn sort(versions: &mut Vec<Versioned>) -> Result<(), StoreError>
+    ensures same { IsPermutation versions.old.items versions.new.items }
+    ensures sorted { OnOk result (IsSorted version_cmp versions.new.items) }
+    ensures refused { IfErr result (λ e. e ≡ StoreError.Memory) }
+{
+    versions.sort_by_key(|version| (version.row.id(), version.born.number()))?;
+    Ok(())
+}
+
+/// The versions that match, of those that did not die before the stamp, by id and then by birth.
+fn find_all(
+    conn: &mut Connection<MemStore>,
+    alloc: Global,
+    query: &Query,
+    from: u32,
+    tally: &Tally,
+) -> Result<Vec<Versioned>, StoreError>
+    requires kept { IsKept conn.old }
+    requires empty { AreEmptyBefore (newest_of tally.now) conn.old }
+    ensures same { IsSame conn.old conn.new }
+    ensures finds { IfOk result (λ found. Finds query.now (left_from from (versions_of conn.old)) found.items) }
+    ensures bound { IfOk result (λ found. length found.items ≤ MAX_MATCHING) }
+    ensures refused { result ≡ Err StoreError.TooManyRows
+        → MAX_MATCHING < length (filter (suits query.now) (left_from from (versions_of conn.old))) }
+{
+    let mut found = Vec::new(alloc);
+    find(conn, alloc, Source::Latest, query, from, &mut found)?;
+    for segment in &SEGMENTS {
+        find_dead(conn, alloc, *segment, query, from, tally, &mut found)?;
+    }
+    sort(&mut found)?;
+    Ok(found)
 }
 
 impl VersionRows {
@@ -95,11 +217,7 @@ impl VersionRows {
             conn,
             next_place: 0,
             kept_from: 0,
-            segments: Segments::empty(),
-            rows: 0,
-            ended: 0,
-            marked: (0, 0),
-            newest: 0,
+            tally: Tally::empty(),
             alloc,
         })
     }
@@ -113,47 +231,13 @@ impl VersionRows {
         ensures refused { result ≡ Err StoreError.TooManyRows
             → MAX_MATCHING < length (filter (suits query.now) self.old) }
     {
-        let rows = read(&mut self.conn, Source::Latest, query, self.kept_from)?;
-        if rows.len() > MAX_MATCHING {
-            return Err(StoreError::TooManyRows);
-        }
-        let mut found = versions_from(self.alloc, query.table(), &rows)?;
-        let changed = last_birth(&found);
-        let mut is_mixed = false;
-        for at in 0..self.segments.used() {
-            if self.segments.may_have(at, changed) {
-                let source = Source::Dead(SEGMENTS[at]);
-                let rows = read(&mut self.conn, source, query, self.kept_from)?;
-                if found.len().saturating_add(rows.len()) > MAX_MATCHING {
-                    return Err(StoreError::TooManyRows);
-                }
-                is_mixed = is_mixed || !rows.is_empty();
-                for version in versions_from(self.alloc, query.table(), &rows)? {
-                    found.push(version)?;
-                }
-            }
-        }
-        if is_mixed {
-            found.sort_by_key(|version| (version.row.id(), version.born.number()))?;
-        }
-        Ok(found)
-    }
-
-    /// Makes the segments anew, without what died before the stamp.
-    fn sweep(&mut self, from: u32) -> Result<(), StoreError> {
-        let kept = sweep_dead(&mut self.conn, self.alloc, from)?;
-        self.segments = self.segments.joined(kept);
-        Ok(())
-    }
-
-    /// Makes all tables anew, without what died before the stamp.
-    fn sweep_all(&mut self, from: u32) -> Result<(), StoreError> {
-        let (rows, kept) = sweep_all(&mut self.conn, self.alloc, from)?;
-        self.segments = self.segments.joined(kept);
-        self.rows = rows;
-        self.ended = 0;
-        self.marked = (0, self.newest);
-        Ok(())
+        find_all(
+            &mut self.conn,
+            self.alloc,
+            query,
+            self.kept_from,
+            &self.tally,
+        )
     }
 
     /// Writes the net changes of the commit with this stamp, all or none. A change ends the current version
@@ -164,31 +248,18 @@ impl VersionRows {
         ensures unchanged { OnErr result (self.new ≡ self.old) }
         ensures refused { IfErr result IsStoreRefusal }
     {
-        let next_place = place_after(self.next_place, net.len())?;
-        if stamp.number() < self.kept_from {
-            self.sweep_all(self.kept_from)?;
-            self.kept_from = 0;
-        }
-        if self.segments.is_full() && !self.segments.advance() {
-            self.sweep(self.kept_from)?;
-            self.segments.advance();
-        }
-        let written = write_all(
+        let place = self.next_place;
+        let next_place = place_after(place, net.len())?;
+        let number = stamp.number();
+        self.kept_from = make_room(
             &mut self.conn,
-            net,
-            stamp,
-            self.next_place,
-            self.segments.newest(),
+            self.alloc,
+            &mut self.tally,
+            self.kept_from,
+            number,
         )?;
-        let is_late = stamp.number() < self.newest;
-        let first = if is_late { 0 } else { stamp.number() };
-        self.newest = self.newest.max(stamp.number());
-        self.segments.note(written.copied, first, self.newest);
-        self.rows = self.rows.wrapping_add(written.added);
-        self.ended = self
-            .ended
-            .wrapping_add(written.ended)
-            .saturating_sub(written.copied);
+        let written = write_all(&mut self.conn, net, stamp, place, self.tally.segment())?;
+        self.tally.note(written, number);
         self.next_place = next_place;
         Ok(())
     }
@@ -201,17 +272,8 @@ impl VersionRows {
         ensures refused { IfErr result IsStoreRefusal }
     {
         let from = self.kept_from.max(horizon.number() + 1);
-        if self.marked.1 < from && self.ended.min(self.marked.0) >= LEAST_ENDED.max(self.rows / 2) {
-            self.sweep_all(from)?;
-        } else {
-            let gone = self.segments.count_before(from);
-            if gone >= LEAST_DEAD && gone >= self.segments.count() / 2 {
-                self.sweep(from)?;
-            }
-        }
-        if self.marked.1 < from {
-            self.marked = (self.ended, self.newest);
-        }
+        sweep(&mut self.conn, self.alloc, &mut self.tally, from)?;
+        self.tally.mark(from);
         self.kept_from = from;
         Ok(())
     }

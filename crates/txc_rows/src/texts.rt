@@ -1,7 +1,7 @@
 //! The texts of the statements on the tables of versions.
 
 ghost use Rattle.std.specs.Prelude.{◌≡◌};
-ghost use Rattle.txc_rows.specs.Texts.{add_text, copy_text, drop_text, make_text};
+ghost use Rattle.txc_rows.specs.Texts.{place_of, add_text, copy_text, drop_text, make_text};
 ghost use Rattle.txc_rows.specs.Readings.{table_text, row_text, group_text, range_text, left_text};
 
 use crate::store_error::MAX_MATCHING;
@@ -136,15 +136,33 @@ pub(crate) enum Segment {
     Seventh,
 }
 
+/// The segments in the order in which they are made: the first one last.
 pub(crate) const SEGMENTS: [Segment; 7] = [
-    Segment::First,
-    Segment::Second,
-    Segment::Third,
-    Segment::Fourth,
-    Segment::Fifth,
-    Segment::Sixth,
     Segment::Seventh,
+    Segment::Sixth,
+    Segment::Fifth,
+    Segment::Fourth,
+    Segment::Third,
+    Segment::Second,
+    Segment::First,
 ];
+
+impl Segment {
+    /// Its place among the tables.
+    pub(crate) fn place(self) -> usize
+        ensures { result ≡ place_of self }
+    {
+        match self {
+            Segment::First => 7,
+            Segment::Second => 6,
+            Segment::Third => 5,
+            Segment::Fourth => 4,
+            Segment::Fifth => 3,
+            Segment::Sixth => 2,
+            Segment::Seventh => 1,
+        }
+    }
+}
 
 pub(crate) fn make_text(segment: Segment) -> &'static str
     ensures { result.now ≡ make_text segment }

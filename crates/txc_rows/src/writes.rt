@@ -5,7 +5,8 @@ ghost use Rattle.txc_stamp.specs.declared.stamp.TheConstants.{LAST_STAMP};
 ghost use Rattle.txc_rows.specs.Values.{IsRow};
 ghost use Rattle.txc_rows.specs.Versions.{put, after_write, after_net};
 ghost use Rattle.txc_rows.specs.Placed.{has_key, closed_placed, new_placed, renewed, put_latest, put_dead, HaveOwnKeys, AreBelow, AreApart, AreWritten};
-ghost use Rattle.txc_rows.specs.Kept.{latest_in, dead_in, placed_of, versions_of, HasTables, HasVersions, HasWritten, IsKept, IsStep, IsCall};
+ghost use Rattle.txc_rows.specs.Texts.{tree_of};
+ghost use Rattle.txc_rows.specs.Kept.{latest_in, dead_in, placed_of, versions_of, HasTables, HasVersions, HasWritten, OthersStay, IsKept, IsStep, IsCall};
 
 use crate::query::Change;
 use crate::row::Row;
@@ -52,6 +53,7 @@ fn add_latest(
     ensures step { IsStep
         (HasVersions (latest_in tx.old.conn.now ++ new_placed place row.now stamp ∷ []) (dead_in tx.old.conn.now))
         tx.old.conn.now tx.new.conn.now result }
+    ensures others { OnOk result (OthersStay 0 tx.old.conn.now tx.new.conn.now) }
 {
     tx.execute(
         ADD_LATEST,
@@ -82,6 +84,7 @@ fn end_version(
     ensures step { IsStep
         (HasVersions (map (closed_placed table id stamp) (latest_in tx.old.conn.now)) (dead_in tx.old.conn.now))
         tx.old.conn.now tx.new.conn.now result }
+    ensures others { OnOk result (OthersStay 0 tx.old.conn.now tx.new.conn.now) }
 {
     tx.execute(
         END_VERSION,
@@ -107,6 +110,7 @@ fn copy_latest(
         (HasVersions (latest_in tx.old.conn.now)
         (dead_in tx.old.conn.now ++ filter (has_key table id group) (latest_in tx.old.conn.now)))
         tx.old.conn.now tx.new.conn.now result }
+    ensures others { OnOk result (OthersStay (tree_of segment) tx.old.conn.now tx.new.conn.now) }
 {
     tx.execute(
         copy_text(segment),
@@ -129,6 +133,7 @@ fn renew_latest(
     ensures step { IsStep
         (HasVersions (map (renewed place row.now stamp) (latest_in tx.old.conn.now)) (dead_in tx.old.conn.now))
         tx.old.conn.now tx.new.conn.now result }
+    ensures others { OnOk result (OthersStay 0 tx.old.conn.now tx.new.conn.now) }
 {
     tx.execute(
         RENEW_LATEST,
@@ -161,6 +166,7 @@ fn put_version(
         (HasVersions (put_latest place row.now stamp (latest_in tx.old.conn.now))
         (put_dead row.now (latest_in tx.old.conn.now) (dead_in tx.old.conn.now)))
         tx.old.conn.now tx.new.conn.now result }
+    ensures others { OnOk result (OthersStay (tree_of segment) tx.old.conn.now tx.new.conn.now) }
 {
     let copied = copy_latest(tx, row.table(), row.id(), row.group(), segment)?;
     if copied == 0 {
@@ -186,6 +192,7 @@ fn write_put(
     ensures step { IsStep
         (HasWritten (put row.now stamp (versions_of tx.old.conn.now)) (place + 1))
         tx.old.conn.now tx.new.conn.now result }
+    ensures others { OnOk result (OthersStay (tree_of segment) tx.old.conn.now tx.new.conn.now) }
 {
     let ended = end_version(tx, row.table(), row.id(), stamp)?;
     let copied = put_version(tx, place, row, stamp, segment)?;
@@ -211,6 +218,7 @@ fn write_change(
     ensures step { IsStep
         (HasWritten (after_write stamp change.now (versions_of tx.old.conn.now)) (place + 1))
         tx.old.conn.now tx.new.conn.now result }
+    ensures others { OnOk result (OthersStay (tree_of segment) tx.old.conn.now tx.new.conn.now) }
 {
     match change {
         Change::Put(row) => write_put(tx, row, stamp, place, segment),
@@ -236,9 +244,10 @@ pub(crate) fn write_all(
     requires kept { IsKept conn.old }
     requires below { AreBelow place (placed_of conn.old) }
     requires room { place + length net.now < 2 ^ 32 }
-    ensures { IsCall
+    ensures call { IsCall
         (AreWritten (after_net stamp net.now (versions_of conn.old)) (place + length net.now))
         conn.old conn.new result }
+    ensures others { OnOk result (OthersStay (tree_of segment) conn.old conn.new) }
 {
     let mut tx = conn.transaction();
     let mut written = Written::NOTHING;

@@ -6,13 +6,13 @@ use Rattle.sqlite.specs.declared.error.Error.{Error}
 use Rattle.sqlite.proofs.Callers.{memory_is_clean}
 use Rattle.sqlite_trees.specs.declared.memory.MemStore.{MemStore}
 use Rattle.txc_rows.specs.declared.texts.Segment.{Segment}
-use Rattle.txc_rows.specs.Texts.{copy_text}
+use Rattle.txc_rows.specs.Texts.{copy_text, tree_of}
 use Rattle.txc_rows.specs.Placed.{has_key, HaveOwnKeys}
 use Rattle.txc_rows.specs.Stored.{number}
 use Rattle.txc_rows.specs.Kept.{latest_in, dead_in, HasTables, HasVersions}
 use Rattle.txc_rows.proofs.PutLemmas.{few_keys}
 use Rattle.txc_rows.proofs.WriteLemmas.{copies}
-use Rattle.txc_rows.proofs.HeldLemmas.{steps, has_left}
+use Rattle.txc_rows.proofs.HeldLemmas.{steps, has_left, others_stay}
 use Rattle.txc_rows.proofs.writes.copy_latest.Goals as goal
 
 ran : (c : goal.After-execute) → ExecutesInside 0 (copy_text c.args.segment) (number c.args.table ∷ number c.args.id ∷ number c.args.group ∷ []) (state over_memory c.args.tx.now.conn.now) (state over_memory c.execute.new.self.conn.now) c.execute.result
@@ -37,3 +37,15 @@ returns-clause-step c =
 
 pub returns-clause-count : goal.returns-clause-count
 returns-clause-count c = counts c.args.segment c.args.table c.args.id c.args.group c.args.tx.now.conn.now c.execute.new.self.conn.now c.execute.result c.requires.table c.requires.keys (ran c)
+
+pub returns-clause-others : goal.returns-clause-others
+returns-clause-others c =
+    let old = c.args.tx.now.conn.now in
+    let new = c.execute.new.self.conn.now in
+    let j = c.args.segment in
+    let t = c.args.table in
+    let i = c.args.id in
+    let g = c.args.group in
+    let has = c.requires.table in
+    others_stay (copy_text j) (number t ∷ number i ∷ number g ∷ []) (tree_of j) old new c.execute.result (ran c)
+    (λ count run. (copies j (state over_memory old) (state over_memory new) t i g count has.schema has.latest has.dead (few_keys t i g (latest_in old) c.requires.keys) run).0.others)

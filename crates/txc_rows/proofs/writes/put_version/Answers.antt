@@ -2,6 +2,7 @@ use Rattle.std.proofs.Common.{◌≡◌, ◌==◌, false, ℕ, length, filter, s
 use borrow.Author.Tests.{ne_eqb}
 use Rattle.txc_rows.specs.Placed.{has_key, put_dead}
 use Rattle.txc_rows.specs.Kept.{latest_in, dead_in, HasVersions}
+use Rattle.txc_rows.proofs.SegmentLemmas.{not_latest}
 use Rattle.txc_rows.proofs.ChangeSteps.{put_first, put_again}
 use Rattle.txc_rows.proofs.writes.put_version.Goals as goal
 
@@ -36,3 +37,9 @@ returns-in_ok-renew_latest-clause-step c =
       inside = last.inside;
       base = last.base ∙ first.base;
     }
+
+pub returns-in_ok-add_latest-clause-others : goal.returns-in_ok-add_latest-clause-others
+returns-in_ok-add_latest-clause-others c = λ s off. c.in_ok-add_latest.ensures.others s (not_latest s) ∙ c.in_ok-copied.ensures.others s off
+
+pub returns-in_ok-renew_latest-clause-others : goal.returns-in_ok-renew_latest-clause-others
+returns-in_ok-renew_latest-clause-others c = λ s off. c.in_ok-renew_latest.ensures.others s (not_latest s) ∙ c.in_ok-copied.ensures.others s off

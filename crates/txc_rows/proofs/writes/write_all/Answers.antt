@@ -6,12 +6,14 @@ use Rattle.sqlite.specs.Steps.{over_memory}
 use Rattle.sqlite.proofs.Callers.{memory_is_clean}
 use Rattle.txc_rows.specs.Versions.{after_net}
 use Rattle.txc_rows.specs.Placed.{AreWritten}
-use Rattle.txc_rows.specs.Kept.{IsCall, versions_of}
-use Rattle.txc_rows.proofs.HeldLemmas.{undone_call, refused_call, ended_call, recast_ok, recast_err}
+use Rattle.sqlite.specs.Tree.{Trees}
+use Rattle.txc_rows.specs.Texts.{tree_of}
+use Rattle.txc_rows.specs.Kept.{IsCall, versions_of, OthersStay}
+use Rattle.txc_rows.proofs.HeldLemmas.{undone_call, refused_call, ended_call, committed_kept, recast_ok, recast_err}
 use Rattle.txc_rows.proofs.writes.write_all.Goals as goal
 
-pub returns-in_err-one : goal.returns-in_err-one
-returns-in_err-one c =
+pub returns-in_err-one-clause-call : goal.returns-in_err-one-clause-call
+returns-in_err-one-clause-call c =
     let old = c.args.conn.now in
     let mid = c.write_change.new.tx.conn.now in
     let end = c.drop-tx.new.self.0 in
@@ -22,8 +24,8 @@ returns-in_err-one c =
     let leaves = AreWritten (after_net c.args.stamp c.args.net.now (versions_of old)) (c.args.place + length c.args.net.now) in
     rw p.1 (subst (λ h. IsCall leaves old h (Err p.0)) same (refused_call leaves old end p.0 kept))
 
-pub returns-in_err-commit : goal.returns-in_err-commit
-returns-in_err-commit c =
+pub returns-in_err-commit-clause-call : goal.returns-in_err-commit-clause-call
+returns-in_err-commit-clause-call c =
     let old = c.args.conn.now in
     let mid = c.loop-change.tx.conn.now in
     let end = c.commit.new.self.0 in
@@ -41,8 +43,8 @@ returns-in_err-commit c =
     let p = err_from_is_err_and c.from_residual-in_err-commit.result c.from_residual-in_err-commit.ensures.1 in
     rw p.1 (subst (λ h. IsCall leaves old h (Err p.0)) same (recast_err leaves old end c.in_err-commit.field-0.0 p.0 failed))
 
-pub returns : goal.returns
-returns c =
+pub returns-clause-call : goal.returns-clause-call
+returns-clause-call c =
     let old = c.args.conn.now in
     let mid = c.loop-change.tx.conn.now in
     let end = c.commit.new.self.0 in
@@ -78,4 +80,16 @@ loop-change-preserved c =
       base = step.base ∙ i.base;
       rest = ap (after_net c.args.stamp (drop (at + 1) net)) left.written.versions_are ∙ next ∙ i.rest;
       same = c.in_ok-one.ensures.same_reference ∙ i.same;
+      others = λ s off. c.in_ok-one.ensures.others s off ∙ i.others s off;
     }
+
+pub returns-clause-others : goal.returns-clause-others
+returns-clause-others c =
+    let old = c.args.conn.now in
+    let mid = c.loop-change.tx.conn.now in
+    let end = c.commit.new.self.0 in
+    let same : end ≡ c.conn-2-1.given.0 = search rules in
+    let i = c.loop-change.invariant in
+    let done = committed_kept mid end i.written.tables i.written.apart c.commit.ensures.ended (c.in_ok-commit.ensures.ok (memory_is_clean end)).1 in
+    let stay : OthersStay (tree_of c.args.segment) old end = λ s off. ap (λ (t : Trees). t (tree_of s)) done.trees ∙ i.others s off in
+    subst (OthersStay (tree_of c.args.segment) old) same stay

@@ -1,6 +1,7 @@
 use Rattle.std.proofs.Common.{◌+◌, sym, subst}
 use Rattle.txc_rows.specs.Versions.{after_write}
 use Rattle.txc_rows.specs.Kept.{versions_of, HasWritten}
+use Rattle.txc_rows.proofs.SegmentLemmas.{not_latest}
 use Rattle.txc_rows.proofs.ChangeSteps.{removed_step}
 use Rattle.txc_rows.proofs.writes.write_change.Goals as goal
 
@@ -15,3 +16,6 @@ returns-in_ok-ended-in-Remove-clause-step c =
       inside = step.inside;
       base = step.base;
     }
+
+pub returns-in_ok-ended-in-Remove-clause-others : goal.returns-in_ok-ended-in-Remove-clause-others
+returns-in_ok-ended-in-Remove-clause-others c = λ s off. c.in_ok-ended-in-Remove.ensures.others s (not_latest s)

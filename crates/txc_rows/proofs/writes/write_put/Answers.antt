@@ -1,6 +1,7 @@
 use Rattle.std.proofs.Common.{map, ◌∙◌}
 use Rattle.txc_rows.specs.Placed.{closed_placed}
 use Rattle.txc_rows.specs.Kept.{latest_in, dead_in, HasVersions}
+use Rattle.txc_rows.proofs.SegmentLemmas.{not_latest}
 use Rattle.txc_rows.proofs.ChangeSteps.{ended_is_apart, put_step}
 use Rattle.txc_rows.proofs.writes.write_put.Goals as goal
 
@@ -25,3 +26,6 @@ returns-clause-step c =
       inside = last.inside;
       base = last.base ∙ first.base;
     }
+
+pub returns-clause-others : goal.returns-clause-others
+returns-clause-others c = λ s off. c.in_ok-copied.ensures.others s off ∙ c.in_ok-ended.ensures.others s (not_latest s)

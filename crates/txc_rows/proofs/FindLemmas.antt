@@ -1,0 +1,61 @@
+-- What is found in one table after another is what is found.
+use Rattle.std.proofs.Common.{◌≡◌, ℕ, ◌+◌, ◌<◌, ◌≤◌, List, [], ◌∷◌, ◌++◌, map, filter, length, sym, ap, subst, ◌∙◌, refl, append_assoc, append-nil, length-append, arith}
+use Rattle.std.proofs.lemmas.List.{map-append}
+use Rattle.std.proofs.lemmas.List.Elements.{filter-append}
+use Rattle.std.specs.List.Sorted.{IsPermutation}
+use Rattle.std.proofs.lemmas.List.Sorted.{IsPermutation-refl, IsPermutation-map, IsPermutation-sym, IsPermutation-trans, IsPermutation-append_left, IsPermutation-append_right, length_permutation}
+use Rattle.sqlite_trees.proofs.ListLemmas.{IsPermutation-filter}
+use Rattle.txc_rows.specs.declared.store_error.TheConstants.{MAX_MATCHING}
+use Rattle.txc_rows.specs.declared.version.Versioned.{Versioned}
+use Rattle.txc_rows.specs.declared.query.Query.{Query}
+use Rattle.txc_rows.specs.Versions.{suits}
+use Rattle.txc_rows.specs.Placed.{Placed, version_of, by_place, versions_by_place, is_left, left_from}
+use Rattle.sqlite.specs.Held.{Held, state}
+use Rattle.sqlite.specs.Steps.{over_memory}
+use Rattle.sqlite.specs.Order.{Row}
+use Rattle.sqlite_trees.specs.declared.memory.MemStore.{MemStore}
+use Rattle.txc_rows.specs.declared.texts.Segment.{Segment}
+use Rattle.txc_rows.specs.declared.texts.Source.TheVariants.{Dead}
+use Rattle.txc_rows.specs.Texts.{tree_of}
+use Rattle.txc_rows.specs.Stored.{placed_all}
+use Rattle.txc_rows.specs.Kept.{placed_read, IsKept, IsSame, IsFinding}
+use Rattle.txc_rows.proofs.PlaceLemmas.{by_place_permutes}
+
+module _ (q : Query) (from : ℕ) where
+  -- what the query asks for of these
+  abbrev pub asked : List Placed → List Versioned
+  asked xs = filter (suits q) (left_from from (map version_of xs))
+
+  asked_append : (xs ys : List Placed) → asked (xs ++ ys) ≡ asked xs ++ asked ys
+  asked_append xs ys =
+      ap (λ vs. filter (suits q) (left_from from vs)) (map-append version_of xs ys)
+      ∙ ap (filter (suits q)) (filter-append (is_left from) (map version_of xs) (map version_of ys))
+      ∙ filter-append (suits q) (left_from from (map version_of xs)) (left_from from (map version_of ys))
+
+  pub all_asked : (xs : List Placed) → IsPermutation (filter (suits q) (left_from from (versions_by_place xs))) (asked xs)
+  all_asked xs =
+      IsPermutation-filter (suits q) _ _ (IsPermutation-filter (is_left from) _ _ (IsPermutation-map version_of _ _ (IsPermutation-sym _ _ (by_place_permutes xs))))
+
+  module _ (all old new : List Versioned) (here rest : List Placed) (so_far : IsPermutation all (old ++ asked (here ++ rest))) where
+    pub found_more : IsFinding q from here old new → IsPermutation all (new ++ asked rest)
+    found_more finding =
+        let apart : IsPermutation all (old ++ (asked here ++ asked rest)) = subst (λ ys. IsPermutation all (old ++ ys)) (asked_append here rest) so_far in
+        let moved = IsPermutation-trans _ _ _ apart (IsPermutation-append_right old _ _ (IsPermutation-append_left (asked rest) _ _ finding.same)) in
+        rw (finding.are, append_assoc old finding.more (asked rest)) moved
+
+    pub found_many : MAX_MATCHING < length old + length (asked here) → MAX_MATCHING < length all
+    found_many many =
+        let apart = ap length (asked_append here rest) ∙ length-append (asked here) (asked rest) in
+        omega (arith, many, length_permutation _ _ so_far, length-append old (asked (here ++ rest)), apart)
+
+-- an empty segment has nothing of the query
+pub unused_finding : (q : Query) (from : ℕ) (j : Segment) (h : Held MemStore) (found : List Versioned) → (state over_memory h).now.trees (tree_of j) ≡ [] → length found ≤ MAX_MATCHING → IsFinding q from (placed_read (Dead j) h) found found
+unused_finding q from j h found empty few = record {
+  more = [];
+  same = subst (λ (rows : List Row). IsPermutation (filter (suits q) (left_from from (map version_of (placed_all rows)))) []) (sym empty) (IsPermutation-refl []);
+  are = sym (append-nil found);
+  few = few;
+}
+
+pub same_itself : (h : Held MemStore) → IsKept h → IsSame h h
+same_itself h kept = record { kept = kept; trees = refl }

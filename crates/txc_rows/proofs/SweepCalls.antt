@@ -1,0 +1,153 @@
+-- What making tables anew leaves of a connection.
+use Rattle.std.proofs.Common.{◌≡◌, ℕ, List, [], ◌∷◌, ◌++◌, map, length, false, true, None, Some, Option, Ok, Err, Result, OnOk, IfErr, IsTrue, refl, sym, ap, subst, ◌∙◌, append_assoc, arith}
+use Rattle.std.specs.List.{AllByRecursion}
+use Rattle.std.specs.List.Sorted.{IsPermutation}
+use Rattle.std.proofs.lemmas.List.Elements.{filter-append}
+use Rattle.std.proofs.lemmas.List.Sorted.{IsPermutation-trans, IsPermutation-append_left, IsPermutation-append_right, length_permutation}
+use Rattle.sqlite.specs.declared.error.Error.{Error}
+use Rattle.sqlite.specs.State.{Shows, KeepsCounts, IsRolledBack}
+use Rattle.sqlite.specs.Held.{Held, state}
+use Rattle.sqlite.specs.Steps.{over_memory, FailsToCommit}
+use Rattle.sqlite.specs.Tree.{Trees}
+use Rattle.sqlite_trees.specs.declared.memory.MemStore.{MemStore}
+use Rattle.sqlite.specs.Order.{Row, column}
+use Rattle.sqlite.specs.Values.{bound_value}
+use Rattle.txc_rows.specs.declared.texts.Segment.{Segment}
+use Rattle.txc_rows.specs.declared.texts.Segment.TheVariants.{First, Second, Third, Fourth, Fifth, Sixth, Seventh}
+use Rattle.txc_rows.specs.Texts.{tree_of, segments}
+use Rattle.txc_rows.specs.Placed.{Placed, is_left, placed_left, AreApart, AreSwept, AreLeft}
+use Rattle.txc_rows.specs.Stored.{AreCells, death, placed_all, placed_from}
+use Rattle.txc_rows.specs.Kept.{latest_in, dead_among, dead_in, placed_of, HasVersions, IsKept, IsCall, IsSame, OthersStay, OthersAreEmpty}
+use Rattle.txc_rows.proofs.SweepLemmas.{swept_earlier, swept_apart, swept_both, both_apart}
+use Rattle.txc_rows.proofs.HeldLemmas.{placed_same, undone_call, refused_call, committed_kept, ended_call}
+
+pub same_then : (a b c : Held MemStore) → IsSame a b → IsSame b c → IsSame a c
+same_then a b c first next = record { kept = next.kept; trees = next.trees ∙ first.trees }
+
+pub call_since : {X : Type 0} (L : List Placed → Type 0) (old first end : Held MemStore) (r : Result X Error) → IsSame old first → IsCall L first end r → IsCall L old end r
+call_since L old first end (Ok x) same call = record { kept = call.kept; leaves = call.leaves; unchanged = tt }
+call_since L old first end (Err e) same call = record { kept = call.kept; leaves = tt; unchanged = call.unchanged ∙ same.trees }
+
+pub undone_since : {X : Type 0} (L : List Placed → Type 0) (old first mid end : Held MemStore) (e : Error) → IsSame old first → (state over_memory mid).committed ≡ (state over_memory first).committed → IsRolledBack (state over_memory mid) (state over_memory end)
+    → IsCall {X = X} L old end (Err e)
+undone_since L old first mid end e same base back = refused_call L old end e (same_then old first end same (undone_call first mid end same.kept base back))
+
+no_more : (ys : List Placed) → IsPermutation [] ys → ys ≡ []
+no_more [] h = refl
+no_more (y ∷ ys) h = absurd (omega (arith, length_permutation [] (y ∷ ys) h))
+
+-- ---- a row that was read is given
+
+bound_death : (d : Option ℕ) → bound_value (death d) ≡ death d
+bound_death None = refl
+bound_death (Some d) = refl
+
+pub bound_cells : (r : Row) → AreCells r → map bound_value (column r 0 ∷ column r 1 ∷ column r 2 ∷ column r 3 ∷ column r 4 ∷ column r 5 ∷ column r 6 ∷ []) ≡ r
+bound_cells r is =
+    let x = placed_from r in
+    subst (λ (y : Row). map bound_value (column y 0 ∷ column y 1 ∷ column y 2 ∷ column y 3 ∷ column y 4 ∷ column y 5 ∷ column y 6 ∷ []) ≡ y) (sym is) (rw (bound_death x.version.died) refl)
+
+-- ---- tables that are filled
+
+pub filled_dead : (latest xs : List Placed) (mid end : Held MemStore) → HasVersions latest [] mid → HasVersions (latest_in mid) (dead_in mid ++ xs) end → HasVersions latest xs end
+filled_dead latest xs mid end made filled = record {
+  tables = filled.tables;
+  latest_are = filled.latest_are ∙ made.latest_are;
+  dead_are = subst (λ ys. IsPermutation (ys ++ xs) (dead_in end)) (no_more (dead_in mid) made.dead_are) filled.dead_are;
+}
+
+pub filled_latest : (xs : List Placed) (mid end : Held MemStore) → HasVersions [] [] mid → HasVersions (latest_in mid ++ xs) (dead_in mid) end → HasVersions xs [] end
+filled_latest xs mid end made filled = record {
+  tables = filled.tables;
+  latest_are = filled.latest_are ∙ ap (λ ys. ys ++ xs) made.latest_are;
+  dead_are = subst (λ ys. IsPermutation ys (dead_in end)) (no_more (dead_in mid) made.dead_are) filled.dead_are;
+}
+
+-- no segment has a row
+rows_of : (rows : List Row) → placed_all rows ≡ [] → rows ≡ []
+rows_of [] e = refl
+rows_of (r ∷ rows) e = absurd (let f = e in cc)
+
+front_none : {X : Type 0} (xs ys : List X) → xs ++ ys ≡ [] → xs ≡ []
+front_none [] ys e = refl
+front_none (x ∷ xs) ys e = absurd (let f = e in cc)
+
+back_none : {X : Type 0} (xs ys : List X) → xs ++ ys ≡ [] → ys ≡ []
+back_none [] ys e = e
+back_none (x ∷ xs) ys e = absurd (let f = e in cc)
+
+none_among : (trees : Trees) (ss : List Segment) → dead_among trees ss ≡ [] → AllByRecursion (λ s. trees (tree_of s) ≡ []) ss
+none_among trees [] e = tt
+none_among trees (s ∷ ss) e =
+    (rows_of (trees (tree_of s)) (front_none (placed_all (trees (tree_of s))) (dead_among trees ss) e), none_among trees ss (back_none (placed_all (trees (tree_of s))) (dead_among trees ss) e))
+
+pub all_empty : (latest : List Placed) (h : Held MemStore) → HasVersions latest [] h → (s : Segment) → (state over_memory h).now.trees (tree_of s) ≡ []
+all_empty latest h has = at (none_among (state over_memory h).now.trees segments (no_more (dead_in h) has.dead_are))
+  where
+    at : AllByRecursion (λ s. (state over_memory h).now.trees (tree_of s) ≡ []) segments → (s : Segment) → (state over_memory h).now.trees (tree_of s) ≡ []
+    at all Seventh = all.0
+    at all Sixth = all.1.0
+    at all Fifth = all.1.1.0
+    at all Fourth = all.1.1.1.0
+    at all Third = all.1.1.1.1.0
+    at all Second = all.1.1.1.1.1.0
+    at all First = all.1.1.1.1.1.1.0
+
+-- the first is filled
+pub rest_empty : (mid end : Held MemStore) (r : Result (Unit {0}) Error) → ((s : Segment) → (state over_memory mid).now.trees (tree_of s) ≡ []) → OnOk r (OthersStay (tree_of First) mid end) → OnOk r (OthersAreEmpty First end)
+rest_empty mid end (Ok x) empty stay = λ s off. stay s off ∙ empty s
+rest_empty mid end (Err e) empty stay = tt
+
+-- ---- the tables of a new store
+
+none_apart : AreApart [] []
+none_apart = record { places = tt; keys = tt; current = tt; ended = tt; each = tt }
+
+abbrev Commits : Held MemStore → Held MemStore → Type 0
+Commits mid end = IsTrue (state over_memory mid).in_transaction × Shows (state over_memory mid) (state over_memory end) (state over_memory mid).now (state over_memory mid).now false × KeepsCounts (state over_memory mid) (state over_memory end) × ((state over_memory end).marks ≡ [])
+
+made_same : (mid end : Held MemStore) → HasVersions [] [] mid → end.in_transaction ≡ false → Commits mid end → IsSame mid end
+made_same mid end has idle ok = committed_kept mid end has.tables (rw (has.latest_are, no_more (dead_in mid) has.dead_are) none_apart) idle ok.1
+
+pub made_kept : (mid end : Held MemStore) (r : Result (Unit {0}) Error) → HasVersions [] [] mid → end.in_transaction ≡ false → OnOk r (Commits mid end) → OnOk r (IsKept end)
+made_kept mid end (Ok x) has idle ok = (made_same mid end has idle ok).kept
+made_kept mid end (Err e) has idle ok = tt
+
+pub made_empty : (mid end : Held MemStore) (r : Result (Unit {0}) Error) → HasVersions [] [] mid → end.in_transaction ≡ false → OnOk r (Commits mid end) → OnOk r (placed_of end ≡ [])
+made_empty mid end (Ok x) has idle ok = placed_same mid end (made_same mid end has idle ok) ∙ rw (has.latest_are, no_more (dead_in mid) has.dead_are) refl
+made_empty mid end (Err e) has idle ok = tt
+
+-- ---- what is read of one segment more
+
+pub left_more : (from : ℕ) (trees : Trees) (s : Segment) (rest : List Segment) (all xs more : List Placed) → IsPermutation (placed_left from (placed_all (trees (tree_of s)))) more
+    → IsPermutation all (xs ++ placed_left from (dead_among trees (s ∷ rest))) → IsPermutation all ((xs ++ more) ++ placed_left from (dead_among trees rest))
+left_more from trees s rest all xs more here so_far =
+    let later = placed_left from (dead_among trees rest) in
+    let apart : placed_left from (dead_among trees (s ∷ rest)) ≡ placed_left from (placed_all (trees (tree_of s))) ++ later = filter-append (λ x. is_left from x.version) (placed_all (trees (tree_of s))) (dead_among trees rest) in
+    rw (append_assoc xs more later) (IsPermutation-trans _ _ _ (subst (λ ys. IsPermutation all (xs ++ ys)) apart so_far) (IsPermutation-append_right xs _ _ (IsPermutation-append_left later _ _ here)))
+
+-- ---- a sweep of the segments
+
+module _ (from : ℕ) (old first mid : Held MemStore) (same : IsSame old first) (left : List Placed) (two : IsPermutation (placed_left from (dead_in old)) left) (kept : IsKept old) where
+  module _ (has : HasVersions (latest_in first) left mid) where
+    latest : latest_in mid ≡ latest_in old
+    latest = has.latest_are ∙ ap (λ (t : Trees). placed_all (t 0)) same.trees
+
+    dead : IsPermutation (placed_left from (dead_in old)) (dead_in mid)
+    dead = IsPermutation-trans _ _ _ two has.dead_are
+
+    pub dead_call : (end : Held MemStore) (r : Result (Unit {0}) Error) → (state over_memory mid).committed ≡ (state over_memory first).committed → end.in_transaction ≡ false → OnOk r (Commits mid end)
+        → IfErr r (FailsToCommit (state over_memory mid) (state over_memory end)) → mid.in_transaction ≡ true → IsCall (AreSwept from (placed_of old)) old end r
+    dead_call end r base idle ok err inside =
+        let apart : AreApart (latest_in mid) (dead_in mid) = rw latest (swept_apart from (latest_in old) (dead_in old) (dead_in mid) dead kept.apart) in
+        let swept : AreSwept from (placed_of old) (placed_of mid) = rw latest (swept_earlier from (latest_in old) (dead_in old) (dead_in mid) dead) in
+        call_since _ old first end r same (ended_call (AreSwept from (placed_of old)) first mid end r same.kept has.tables apart swept base idle ok err inside)
+
+  module _ (last : List Placed) (one : IsPermutation (placed_left from (latest_in old)) last) (has : HasVersions last left mid) where
+    pub all_call : (end : Held MemStore) (r : Result (Unit {0}) Error) → (state over_memory mid).committed ≡ (state over_memory first).committed → end.in_transaction ≡ false → OnOk r (Commits mid end)
+        → IfErr r (FailsToCommit (state over_memory mid) (state over_memory end)) → mid.in_transaction ≡ true → IsCall (AreLeft from (placed_of old)) old end r
+    all_call end r base idle ok err inside =
+        let before : IsPermutation (placed_left from (dead_in old)) (dead_in mid) = IsPermutation-trans _ _ _ two has.dead_are in
+        let apart : AreApart (latest_in mid) (dead_in mid) = rw has.latest_are (both_apart from (latest_in old) (dead_in old) last (dead_in mid) one before kept.apart) in
+        let swept : AreLeft from (placed_of old) (placed_of mid) = rw has.latest_are (swept_both from (latest_in old) (dead_in old) last (dead_in mid) one before) in
+        call_since _ old first end r same (ended_call (AreLeft from (placed_of old)) first mid end r same.kept has.tables apart swept base idle ok err inside)

@@ -1,0 +1,49 @@
+use Rattle.std.proofs.Common.{◌≡◌, map, Ok, Err, subst, rules}
+use Rattle.std.proofs.lemmas.Result.{err_from_is_err_and}
+use Rattle.std.specs.List.Sorted.{IsPermutation}
+use Rattle.sqlite.specs.Held.{state}
+use Rattle.sqlite.specs.Steps.{over_memory}
+use Rattle.sqlite.proofs.Callers.{memory_is_clean}
+use Rattle.txc_rows.specs.Placed.{placed_left, AreSwept}
+use Rattle.txc_rows.specs.Stored.{placed_from}
+use Rattle.txc_rows.specs.Kept.{latest_in, dead_in, placed_of, HasVersions, IsCall}
+use Rattle.txc_rows.proofs.HeldLemmas.{refused_call, recast_ok, recast_err}
+use Rattle.txc_rows.proofs.SweepCalls.{undone_since, dead_call}
+use Rattle.txc_rows.proofs.statements.sweep_dead.Goals as goal
+
+pub returns-in_err-left-clause-call : goal.returns-in_err-left-clause-call
+returns-in_err-left-clause-call c =
+    let old = c.args.conn.now in
+    let p = err_from_is_err_and c.from_residual.result c.from_residual.ensures.1 in
+    rw p.1 (refused_call (AreSwept c.args.from (placed_of old)) old c.read_all_left.new.conn p.0 c.in_err-left.ensures.same)
+
+pub returns-in_err-refill_dead-clause-call : goal.returns-in_err-refill_dead-clause-call
+returns-in_err-refill_dead-clause-call c =
+    let old = c.args.conn.now in
+    let first = c.read_all_left.new.conn in
+    let mid = c.refill_dead.new.tx.conn.now in
+    let end = c.drop-tx.new.self.0 in
+    let same : end ≡ c.conn-1.given.0 = search rules in
+    let p = err_from_is_err_and c.from_residual-in_err-refill_dead.result c.from_residual-in_err-refill_dead.ensures.1 in
+    let L = AreSwept c.args.from (placed_of old) in
+    rw p.1 (subst (λ h. IsCall L old h (Err p.0)) same (undone_since L old first mid end p.0 c.in_ok-left.ensures.same c.in_err-refill_dead.ensures.step.base (c.drop-tx.ensures.undone (memory_is_clean end))))
+
+call : (c : goal.After-commit) → IsCall (AreSwept c.args.from (placed_of c.args.conn.now)) c.args.conn.now c.commit.new.self.0 c.commit.result
+call c =
+    let old = c.args.conn.now in
+    let first = c.read_all_left.new.conn in
+    let mid = c.refill_dead.new.tx.conn.now in
+    let end = c.commit.new.self.0 in
+    let step = c.in_ok-refill_dead.ensures.step in
+    let left = map placed_from c.in_ok-left.left.items in
+    let has : HasVersions (latest_in first) left mid = rw c.deref.ensures.value at step.leaves in
+    dead_call c.args.from old first mid c.in_ok-left.ensures.same left c.in_ok-left.ensures.left c.requires has end c.commit.result step.base c.commit.ensures.ended (c.commit.ensures.ok (memory_is_clean end)) (c.commit.ensures.err (memory_is_clean end)) step.inside
+
+pub returns-in_err-commit-clause-call : goal.returns-in_err-commit-clause-call
+returns-in_err-commit-clause-call c = ?
+
+pub returns-clause-call : goal.returns-clause-call
+returns-clause-call c = ?
+
+pub returns-clause-rest : goal.returns-clause-rest
+returns-clause-rest c = ?
