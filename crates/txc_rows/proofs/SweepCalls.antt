@@ -17,7 +17,7 @@ use Rattle.txc_rows.specs.declared.texts.Segment.TheVariants.{First, Second, Thi
 use Rattle.txc_rows.specs.Texts.{tree_of, segments}
 use Rattle.txc_rows.specs.Placed.{Placed, is_left, placed_left, AreApart, AreSwept, AreLeft}
 use Rattle.txc_rows.specs.Stored.{AreCells, death, placed_all, placed_from}
-use Rattle.txc_rows.specs.Kept.{latest_in, dead_among, dead_in, placed_of, HasVersions, IsKept, IsCall, IsSame, OthersStay, OthersAreEmpty}
+use Rattle.txc_rows.specs.Kept.{HasTables, latest_in, dead_among, dead_in, placed_of, HasVersions, IsKept, IsCall, IsSame, OthersStay, OthersAreEmpty}
 use Rattle.txc_rows.proofs.SweepLemmas.{swept_earlier, swept_apart, swept_both, both_apart}
 use Rattle.txc_rows.proofs.HeldLemmas.{placed_same, undone_call, refused_call, committed_kept, ended_call}
 
@@ -117,6 +117,11 @@ pub made_empty : (mid end : Held MemStore) (r : Result (Unit {0}) Error) → Has
 made_empty mid end (Ok x) has idle ok = placed_same mid end (made_same mid end has idle ok) ∙ rw (has.latest_are, no_more (dead_in mid) has.dead_are) refl
 made_empty mid end (Err e) has idle ok = tt
 
+-- what is committed stays
+pub rest_kept : (mid end : Held MemStore) (r : Result (Unit {0}) Error) → HasTables mid → AreApart (latest_in mid) (dead_in mid) → end.in_transaction ≡ false → OnOk r (Commits mid end) → OthersAreEmpty First mid → OnOk r (OthersAreEmpty First end)
+rest_kept mid end (Ok x) tables apart idle ok empty = λ s off. ap (λ (t : Trees). t (tree_of s)) (committed_kept mid end tables apart idle ok.1).trees ∙ empty s off
+rest_kept mid end (Err e) tables apart idle ok empty = tt
+
 -- ---- what is read of one segment more
 
 pub left_more : (from : ℕ) (trees : Trees) (s : Segment) (rest : List Segment) (all xs more : List Placed) → IsPermutation (placed_left from (placed_all (trees (tree_of s)))) more
@@ -136,18 +141,30 @@ module _ (from : ℕ) (old first mid : Held MemStore) (same : IsSame old first) 
     dead : IsPermutation (placed_left from (dead_in old)) (dead_in mid)
     dead = IsPermutation-trans _ _ _ two has.dead_are
 
+    apart : AreApart (latest_in mid) (dead_in mid)
+    apart = rw latest (swept_apart from (latest_in old) (dead_in old) (dead_in mid) dead kept.apart)
+
     pub dead_call : (end : Held MemStore) (r : Result (Unit {0}) Error) → (state over_memory mid).committed ≡ (state over_memory first).committed → end.in_transaction ≡ false → OnOk r (Commits mid end)
         → IfErr r (FailsToCommit (state over_memory mid) (state over_memory end)) → mid.in_transaction ≡ true → IsCall (AreSwept from (placed_of old)) old end r
     dead_call end r base idle ok err inside =
-        let apart : AreApart (latest_in mid) (dead_in mid) = rw latest (swept_apart from (latest_in old) (dead_in old) (dead_in mid) dead kept.apart) in
         let swept : AreSwept from (placed_of old) (placed_of mid) = rw latest (swept_earlier from (latest_in old) (dead_in old) (dead_in mid) dead) in
         call_since _ old first end r same (ended_call (AreSwept from (placed_of old)) first mid end r same.kept has.tables apart swept base idle ok err inside)
 
+    pub dead_rest : (end : Held MemStore) (r : Result (Unit {0}) Error) → end.in_transaction ≡ false → OnOk r (Commits mid end) → OthersAreEmpty First mid → OnOk r (OthersAreEmpty First end)
+    dead_rest end r idle ok = rest_kept mid end r has.tables apart idle ok
+
   module _ (last : List Placed) (one : IsPermutation (placed_left from (latest_in old)) last) (has : HasVersions last left mid) where
+    before : IsPermutation (placed_left from (dead_in old)) (dead_in mid)
+    before = IsPermutation-trans _ _ _ two has.dead_are
+
+    both : AreApart (latest_in mid) (dead_in mid)
+    both = rw has.latest_are (both_apart from (latest_in old) (dead_in old) last (dead_in mid) one before kept.apart)
+
     pub all_call : (end : Held MemStore) (r : Result (Unit {0}) Error) → (state over_memory mid).committed ≡ (state over_memory first).committed → end.in_transaction ≡ false → OnOk r (Commits mid end)
         → IfErr r (FailsToCommit (state over_memory mid) (state over_memory end)) → mid.in_transaction ≡ true → IsCall (AreLeft from (placed_of old)) old end r
     all_call end r base idle ok err inside =
-        let before : IsPermutation (placed_left from (dead_in old)) (dead_in mid) = IsPermutation-trans _ _ _ two has.dead_are in
-        let apart : AreApart (latest_in mid) (dead_in mid) = rw has.latest_are (both_apart from (latest_in old) (dead_in old) last (dead_in mid) one before kept.apart) in
         let swept : AreLeft from (placed_of old) (placed_of mid) = rw has.latest_are (swept_both from (latest_in old) (dead_in old) last (dead_in mid) one before) in
-        call_since _ old first end r same (ended_call (AreLeft from (placed_of old)) first mid end r same.kept has.tables apart swept base idle ok err inside)
+        call_since _ old first end r same (ended_call (AreLeft from (placed_of old)) first mid end r same.kept has.tables both swept base idle ok err inside)
+
+    pub all_rest : (end : Held MemStore) (r : Result (Unit {0}) Error) → end.in_transaction ≡ false → OnOk r (Commits mid end) → OthersAreEmpty First mid → OnOk r (OthersAreEmpty First end)
+    all_rest end r idle ok = rest_kept mid end r has.tables both idle ok

@@ -1,4 +1,4 @@
-use Rattle.std.proofs.Common.{◌≡◌, ◌+◌, ◌++◌, ◌∷◌, [], map, drop, sym, ap, subst, ◌∙◌, append_assoc, append-nil}
+use Rattle.std.proofs.Common.{◌≡◌, ◌+◌, ◌++◌, ◌∷◌, [], map, drop, sym, ap, subst, ◌∙◌, refl, append_assoc, append-nil}
 use Rattle.std.specs.List.{AllByRecursion}
 use Rattle.std.specs.List.Sorted.{IsPermutation}
 use Rattle.std.proofs.lemmas.List.{drop_all, at_drop_more}
@@ -45,3 +45,15 @@ returns-clause-step c =
       inside = i.inside;
       base = i.base;
     }
+
+pub loop-row-init : goal.loop-row-init
+loop-row-init c = record {
+  tables = c.requires.table;
+  latest = refl;
+  dead = IsPermutation-refl _;
+  inside = c.requires.inside;
+  base = refl;
+  rest = c.requires.cells;
+  same = refl;
+  others = λ s off. refl;
+}

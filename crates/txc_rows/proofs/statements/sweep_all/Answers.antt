@@ -1,14 +1,15 @@
-use Rattle.std.proofs.Common.{◌≡◌, map, Ok, Err, subst, rules}
+use Rattle.std.proofs.Common.{◌≡◌, List, map, Ok, Err, OnOk, subst, rules}
 use Rattle.std.proofs.lemmas.Result.{err_from_is_err_and}
 use Rattle.std.specs.List.Sorted.{IsPermutation}
 use Rattle.sqlite.specs.Held.{state}
 use Rattle.sqlite.specs.Steps.{over_memory}
 use Rattle.sqlite.proofs.Callers.{memory_is_clean}
-use Rattle.txc_rows.specs.Placed.{placed_left, AreLeft}
+use Rattle.txc_rows.specs.declared.texts.Segment.TheVariants.{First}
+use Rattle.txc_rows.specs.Placed.{Placed, placed_left, AreLeft}
 use Rattle.txc_rows.specs.Stored.{placed_from}
-use Rattle.txc_rows.specs.Kept.{latest_in, dead_in, placed_of, HasVersions, IsCall}
+use Rattle.txc_rows.specs.Kept.{latest_in, dead_in, placed_of, HasVersions, IsCall, IsSame, OthersAreEmpty}
 use Rattle.txc_rows.proofs.HeldLemmas.{refused_call, recast_ok, recast_err}
-use Rattle.txc_rows.proofs.SweepCalls.{same_then, undone_since, all_call}
+use Rattle.txc_rows.proofs.SweepCalls.{same_then, undone_since, all_call, all_rest}
 use Rattle.txc_rows.proofs.statements.sweep_all.Goals as goal
 
 pub returns-in_err-latest-clause-call : goal.returns-in_err-latest-clause-call
@@ -18,16 +19,74 @@ returns-in_err-latest-clause-call c =
     rw p.1 (refused_call (AreLeft c.args.from (placed_of old)) old c.read_left.new.conn p.0 c.in_err-latest.ensures.same)
 
 pub returns-in_err-left-clause-call : goal.returns-in_err-left-clause-call
-returns-in_err-left-clause-call c = ?
+returns-in_err-left-clause-call c =
+    let old = c.args.conn.now in
+    let first = c.read_left.new.conn in
+    let same = same_then old first c.read_all_left.new.conn c.in_ok-latest.ensures.same c.in_err-left.ensures.same in
+    let p = err_from_is_err_and c.from_residual-in_err-left.result c.from_residual-in_err-left.ensures.1 in
+    rw p.1 (refused_call (AreLeft c.args.from (placed_of old)) old c.read_all_left.new.conn p.0 same)
 
 pub returns-in_err-refill_all-clause-call : goal.returns-in_err-refill_all-clause-call
-returns-in_err-refill_all-clause-call c = ?
+returns-in_err-refill_all-clause-call c =
+    let old = c.args.conn.now in
+    let first = c.read_all_left.new.conn in
+    let mid = c.refill_all.new.tx.conn.now in
+    let end = c.drop-tx.new.self.0 in
+    let here = same_then old c.read_left.new.conn first c.in_ok-latest.ensures.same c.in_ok-left.ensures.same in
+    let same : end ≡ c.conn-1.given.0 = search rules in
+    let p = err_from_is_err_and c.from_residual-in_err-refill_all.result c.from_residual-in_err-refill_all.ensures.1 in
+    let L = AreLeft c.args.from (placed_of old) in
+    rw p.1 (subst (λ h. IsCall L old h (Err p.0)) same (undone_since L old first mid end p.0 here c.in_err-refill_all.ensures.step.base (c.drop-tx.ensures.undone (memory_is_clean end))))
+
+module _ (c : goal.After-commit) where
+  abbrev last : List Placed
+  last = map placed_from c.in_ok-latest.latest.items
+
+  abbrev left : List Placed
+  left = map placed_from c.in_ok-left.left.items
+
+  here : IsSame c.args.conn.now c.read_all_left.new.conn
+  here = same_then c.args.conn.now c.read_left.new.conn c.read_all_left.new.conn c.in_ok-latest.ensures.same c.in_ok-left.ensures.same
+
+  two : IsPermutation (placed_left c.args.from (dead_in c.args.conn.now)) left
+  two = rw (← c.in_ok-latest.ensures.same.trees) c.in_ok-left.ensures.left
+
+  has : HasVersions last left c.refill_all.new.tx.conn.now
+  has = rw (c.deref.ensures.value, c.deref-2.ensures.value) at c.in_ok-refill_all.ensures.step.leaves
+
+  call : IsCall (AreLeft c.args.from (placed_of c.args.conn.now)) c.args.conn.now c.commit.new.self.0 c.commit.result
+  call =
+      let end = c.commit.new.self.0 in
+      let step = c.in_ok-refill_all.ensures.step in
+      all_call c.args.from c.args.conn.now c.read_all_left.new.conn c.refill_all.new.tx.conn.now here left two c.requires last c.in_ok-latest.ensures.left has end c.commit.result step.base c.commit.ensures.ended (c.commit.ensures.ok (memory_is_clean end)) (c.commit.ensures.err (memory_is_clean end)) step.inside
+
+  rest : OnOk c.commit.result (OthersAreEmpty First c.commit.new.self.0)
+  rest =
+      let end = c.commit.new.self.0 in
+      all_rest c.args.from c.args.conn.now c.read_all_left.new.conn c.refill_all.new.tx.conn.now here left two c.requires last c.in_ok-latest.ensures.left has end c.commit.result c.commit.ensures.ended (c.commit.ensures.ok (memory_is_clean end)) c.in_ok-refill_all.ensures.rest
 
 pub returns-in_err-commit-clause-call : goal.returns-in_err-commit-clause-call
-returns-in_err-commit-clause-call c = ?
+returns-in_err-commit-clause-call c =
+    let old = c.args.conn.now in
+    let end = c.commit.new.self.0 in
+    let L = AreLeft c.args.from (placed_of old) in
+    let same : end ≡ c.conn-2-1.given.0 = search rules in
+    let failed : IsCall L old end (Err c.in_err-commit.field-0.0) = subst (IsCall L old end) c.in_err-commit.was (call c) in
+    let p = err_from_is_err_and c.from_residual-in_err-commit.result c.from_residual-in_err-commit.ensures.1 in
+    rw p.1 (subst (λ h. IsCall L old h (Err p.0)) same (recast_err L old end c.in_err-commit.field-0.0 p.0 failed))
 
 pub returns-clause-call : goal.returns-clause-call
-returns-clause-call c = ?
+returns-clause-call c =
+    let old = c.args.conn.now in
+    let end = c.commit.new.self.0 in
+    let L = AreLeft c.args.from (placed_of old) in
+    let same : end ≡ c.conn-2-1.given.0 = search rules in
+    let done : IsCall L old end (Ok c.in_ok-commit.field-0) = subst (IsCall L old end) c.in_ok-commit.was (call c) in
+    subst (λ h. IsCall L old h _) same (recast_ok L old end c.in_ok-commit.field-0 _ done)
 
 pub returns-clause-rest : goal.returns-clause-rest
-returns-clause-rest c = ?
+returns-clause-rest c =
+    let end = c.commit.new.self.0 in
+    let same : end ≡ c.conn-2-1.given.0 = search rules in
+    let done : OthersAreEmpty First end = subst (λ r. OnOk r (OthersAreEmpty First end)) c.in_ok-commit.was (rest c) in
+    subst (OthersAreEmpty First) same done

@@ -1,14 +1,15 @@
-use Rattle.std.proofs.Common.{◌≡◌, map, Ok, Err, subst, rules}
+use Rattle.std.proofs.Common.{◌≡◌, List, map, Ok, Err, OnOk, subst, rules}
 use Rattle.std.proofs.lemmas.Result.{err_from_is_err_and}
 use Rattle.std.specs.List.Sorted.{IsPermutation}
 use Rattle.sqlite.specs.Held.{state}
 use Rattle.sqlite.specs.Steps.{over_memory}
 use Rattle.sqlite.proofs.Callers.{memory_is_clean}
-use Rattle.txc_rows.specs.Placed.{placed_left, AreSwept}
+use Rattle.txc_rows.specs.declared.texts.Segment.TheVariants.{First}
+use Rattle.txc_rows.specs.Placed.{Placed, placed_left, AreSwept}
 use Rattle.txc_rows.specs.Stored.{placed_from}
-use Rattle.txc_rows.specs.Kept.{latest_in, dead_in, placed_of, HasVersions, IsCall}
+use Rattle.txc_rows.specs.Kept.{latest_in, dead_in, placed_of, HasVersions, IsCall, IsSame, OthersAreEmpty}
 use Rattle.txc_rows.proofs.HeldLemmas.{refused_call, recast_ok, recast_err}
-use Rattle.txc_rows.proofs.SweepCalls.{undone_since, dead_call}
+use Rattle.txc_rows.proofs.SweepCalls.{undone_since, dead_call, dead_rest}
 use Rattle.txc_rows.proofs.statements.sweep_dead.Goals as goal
 
 pub returns-in_err-left-clause-call : goal.returns-in_err-left-clause-call
@@ -39,11 +40,38 @@ call c =
     let has : HasVersions (latest_in first) left mid = rw c.deref.ensures.value at step.leaves in
     dead_call c.args.from old first mid c.in_ok-left.ensures.same left c.in_ok-left.ensures.left c.requires has end c.commit.result step.base c.commit.ensures.ended (c.commit.ensures.ok (memory_is_clean end)) (c.commit.ensures.err (memory_is_clean end)) step.inside
 
+rest : (c : goal.After-commit) → OnOk c.commit.result (OthersAreEmpty First c.commit.new.self.0)
+rest c =
+    let old = c.args.conn.now in
+    let first = c.read_all_left.new.conn in
+    let mid = c.refill_dead.new.tx.conn.now in
+    let end = c.commit.new.self.0 in
+    let left = map placed_from c.in_ok-left.left.items in
+    let has : HasVersions (latest_in first) left mid = rw c.deref.ensures.value at c.in_ok-refill_dead.ensures.step.leaves in
+    dead_rest c.args.from old first mid c.in_ok-left.ensures.same left c.in_ok-left.ensures.left c.requires has end c.commit.result c.commit.ensures.ended (c.commit.ensures.ok (memory_is_clean end)) c.in_ok-refill_dead.ensures.rest
+
 pub returns-in_err-commit-clause-call : goal.returns-in_err-commit-clause-call
-returns-in_err-commit-clause-call c = ?
+returns-in_err-commit-clause-call c =
+    let old = c.args.conn.now in
+    let end = c.commit.new.self.0 in
+    let L = AreSwept c.args.from (placed_of old) in
+    let same : end ≡ c.conn-2-1.given.0 = search rules in
+    let failed : IsCall L old end (Err c.in_err-commit.field-0.0) = subst (IsCall L old end) c.in_err-commit.was (call c) in
+    let p = err_from_is_err_and c.from_residual-in_err-commit.result c.from_residual-in_err-commit.ensures.1 in
+    rw p.1 (subst (λ h. IsCall L old h (Err p.0)) same (recast_err L old end c.in_err-commit.field-0.0 p.0 failed))
 
 pub returns-clause-call : goal.returns-clause-call
-returns-clause-call c = ?
+returns-clause-call c =
+    let old = c.args.conn.now in
+    let end = c.commit.new.self.0 in
+    let L = AreSwept c.args.from (placed_of old) in
+    let same : end ≡ c.conn-2-1.given.0 = search rules in
+    let done : IsCall L old end (Ok c.in_ok-commit.field-0) = subst (IsCall L old end) c.in_ok-commit.was (call c) in
+    subst (λ h. IsCall L old h _) same (recast_ok L old end c.in_ok-commit.field-0 _ done)
 
 pub returns-clause-rest : goal.returns-clause-rest
-returns-clause-rest c = ?
+returns-clause-rest c =
+    let end = c.commit.new.self.0 in
+    let same : end ≡ c.conn-2-1.given.0 = search rules in
+    let done : OthersAreEmpty First end = subst (λ r. OnOk r (OthersAreEmpty First end)) c.in_ok-commit.was (rest c) in
+    subst (OthersAreEmpty First) same done
