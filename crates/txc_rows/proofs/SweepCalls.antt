@@ -14,10 +14,11 @@ use Rattle.sqlite.specs.Order.{Row, column}
 use Rattle.sqlite.specs.Values.{bound_value}
 use Rattle.txc_rows.specs.declared.texts.Segment.{Segment}
 use Rattle.txc_rows.specs.declared.texts.Segment.TheVariants.{First, Second, Third, Fourth, Fifth, Sixth, Seventh}
-use Rattle.txc_rows.specs.Texts.{tree_of, segments}
+use Rattle.sqlite.specs.Schema.{Schema}
+use Rattle.txc_rows.specs.Texts.{tree_of, segments, made_before}
 use Rattle.txc_rows.specs.Placed.{Placed, is_left, placed_left, AreApart, AreSwept, AreLeft}
 use Rattle.txc_rows.specs.Stored.{AreCells, death, placed_all, placed_from}
-use Rattle.txc_rows.specs.Kept.{HasTables, latest_in, dead_among, dead_in, placed_of, HasVersions, IsKept, IsCall, IsSame, OthersStay, OthersAreEmpty}
+use Rattle.txc_rows.specs.Kept.{HasTables, HasMade, latest_in, dead_among, dead_in, placed_of, HasVersions, IsKept, IsCall, IsSame, OthersStay, OthersAreEmpty}
 use Rattle.txc_rows.proofs.SweepLemmas.{swept_earlier, swept_apart, swept_both, both_apart}
 use Rattle.txc_rows.proofs.HeldLemmas.{placed_same, undone_call, refused_call, committed_kept, ended_call}
 
@@ -63,35 +64,19 @@ filled_latest xs mid end made filled = record {
   dead_are = subst (λ ys. IsPermutation ys (dead_in end)) (no_more (dead_in mid) made.dead_are) filled.dead_are;
 }
 
--- no segment has a row
-rows_of : (rows : List Row) → placed_all rows ≡ [] → rows ≡ []
-rows_of [] e = refl
-rows_of (r ∷ rows) e = absurd (let f = e in cc)
-
-front_none : {X : Type 0} (xs ys : List X) → xs ++ ys ≡ [] → xs ≡ []
-front_none [] ys e = refl
-front_none (x ∷ xs) ys e = absurd (let f = e in cc)
-
-back_none : {X : Type 0} (xs ys : List X) → xs ++ ys ≡ [] → ys ≡ []
-back_none [] ys e = e
-back_none (x ∷ xs) ys e = absurd (let f = e in cc)
-
-none_among : (trees : Trees) (ss : List Segment) → dead_among trees ss ≡ [] → AllByRecursion (λ s. trees (tree_of s) ≡ []) ss
-none_among trees [] e = tt
-none_among trees (s ∷ ss) e =
-    (rows_of (trees (tree_of s)) (front_none (placed_all (trees (tree_of s))) (dead_among trees ss) e), none_among trees ss (back_none (placed_all (trees (tree_of s))) (dead_among trees ss) e))
-
-pub all_empty : (latest : List Placed) (h : Held MemStore) → HasVersions latest [] h → (s : Segment) → (state over_memory h).now.trees (tree_of s) ≡ []
-all_empty latest h has = at (none_among (state over_memory h).now.trees segments (no_more (dead_in h) has.dead_are))
+-- each segment was made
+pub all_made : {schema : Schema} {latest : List Placed} (h : Held MemStore) (r : Result ℕ Error) → OnOk r (HasMade schema latest (First ∷ made_before First) h) → OnOk r ((s : Segment) → (state over_memory h).now.trees (tree_of s) ≡ [])
+all_made h (Err e) made = tt
+all_made h (Ok n) made = at made.are_empty
   where
-    at : AllByRecursion (λ s. (state over_memory h).now.trees (tree_of s) ≡ []) segments → (s : Segment) → (state over_memory h).now.trees (tree_of s) ≡ []
-    at all Seventh = all.0
-    at all Sixth = all.1.0
-    at all Fifth = all.1.1.0
+    at : AllByRecursion (λ s. (state over_memory h).now.trees (tree_of s) ≡ []) (First ∷ made_before First) → (s : Segment) → (state over_memory h).now.trees (tree_of s) ≡ []
+    at all First = all.0
+    at all Second = all.1.0
+    at all Third = all.1.1.0
     at all Fourth = all.1.1.1.0
-    at all Third = all.1.1.1.1.0
-    at all Second = all.1.1.1.1.1.0
-    at all First = all.1.1.1.1.1.1.0
+    at all Fifth = all.1.1.1.1.0
+    at all Sixth = all.1.1.1.1.1.0
+    at all Seventh = all.1.1.1.1.1.1.0
 
 -- the first is filled
 pub rest_empty : (mid end : Held MemStore) (r : Result (Unit {0}) Error) → ((s : Segment) → (state over_memory mid).now.trees (tree_of s) ≡ []) → OnOk r (OthersStay (tree_of First) mid end) → OnOk r (OthersAreEmpty First end)
@@ -121,6 +106,9 @@ made_empty mid end (Err e) has idle ok = tt
 pub rest_kept : (mid end : Held MemStore) (r : Result (Unit {0}) Error) → HasTables mid → AreApart (latest_in mid) (dead_in mid) → end.in_transaction ≡ false → OnOk r (Commits mid end) → OthersAreEmpty First mid → OnOk r (OthersAreEmpty First end)
 rest_kept mid end (Ok x) tables apart idle ok empty = λ s off. ap (λ (t : Trees). t (tree_of s)) (committed_kept mid end tables apart idle ok.1).trees ∙ empty s off
 rest_kept mid end (Err e) tables apart idle ok empty = tt
+
+pub made_rest : (mid end : Held MemStore) (r : Result (Unit {0}) Error) → HasVersions [] [] mid → end.in_transaction ≡ false → OnOk r (Commits mid end) → OthersAreEmpty First mid → OnOk r (OthersAreEmpty First end)
+made_rest mid end r has idle ok = rest_kept mid end r has.tables (rw (has.latest_are, no_more (dead_in mid) has.dead_are) none_apart) idle ok
 
 -- ---- what is read of one segment more
 

@@ -17,7 +17,8 @@ use crate::texts::{
     ADD_LATEST, DROP_LATEST, MAKE_LATEST, SEGMENTS, Segment, Source, add_text, drop_text,
     left_text, make_text,
 };
-use sqlite::{Connection, Error, ErrorCode, MemStore, Transaction, ValueRef, params};
+use sqlite::types::ValueRef;
+use sqlite::{Connection, Error, ErrorCode, MemStore, Transaction, params};
 use std::alloc::Global;
 
 // ---- the tables

@@ -6,8 +6,10 @@ use Rattle.sqlite.specs.Steps.{over_memory}
 use Rattle.sqlite.proofs.Callers.{memory_is_clean}
 use Rattle.txc_rows.specs.declared.texts.Segment.TheVariants.{First}
 use Rattle.txc_rows.specs.Placed.{Placed, placed_left, AreLeft}
+use Rattle.sqlite.specs.Tree.{Trees}
+use Rattle.txc_rows.specs.Texts.{segments}
 use Rattle.txc_rows.specs.Stored.{placed_from}
-use Rattle.txc_rows.specs.Kept.{latest_in, dead_in, placed_of, HasVersions, IsCall, IsSame, OthersAreEmpty}
+use Rattle.txc_rows.specs.Kept.{latest_in, dead_among, dead_in, placed_of, HasVersions, IsCall, IsSame, OthersAreEmpty}
 use Rattle.txc_rows.proofs.HeldLemmas.{refused_call, recast_ok, recast_err}
 use Rattle.txc_rows.proofs.SweepCalls.{same_then, undone_since, all_call, all_rest}
 use Rattle.txc_rows.proofs.statements.sweep_all.Goals as goal
@@ -49,7 +51,7 @@ module _ (c : goal.After-commit) where
   here = same_then c.args.conn.now c.read_left.new.conn c.read_all_left.new.conn c.in_ok-latest.ensures.same c.in_ok-left.ensures.same
 
   two : IsPermutation (placed_left c.args.from (dead_in c.args.conn.now)) left
-  two = rw (← c.in_ok-latest.ensures.same.trees) c.in_ok-left.ensures.left
+  two = subst (λ (t : Trees). IsPermutation (placed_left c.args.from (dead_among t segments)) left) c.in_ok-latest.ensures.same.trees c.in_ok-left.ensures.left
 
   has : HasVersions last left c.refill_all.new.tx.conn.now
   has = rw (c.deref.ensures.value, c.deref-2.ensures.value) at c.in_ok-refill_all.ensures.step.leaves
