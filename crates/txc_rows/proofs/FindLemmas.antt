@@ -1,6 +1,6 @@
 -- What is found in one table after another is what is found.
-use Rattle.std.proofs.Common.{◌≡◌, ℕ, ◌+◌, ◌<◌, ◌≤◌, List, [], ◌∷◌, ◌++◌, map, filter, length, sym, ap, subst, ◌∙◌, refl, append_assoc, append-nil, length-append, arith}
-use Rattle.std.proofs.lemmas.List.{map-append}
+use Rattle.std.proofs.Common.{◌≡◌, ℕ, ◌+◌, ◌-◌, ◌<◌, ◌≤◌, List, [], ◌∷◌, ◌++◌, map, filter, length, sym, ap, subst, ◌∙◌, refl, append_assoc, append-nil, length-append, arith}
+use Rattle.std.proofs.lemmas.List.{map-append, length-map}
 use Rattle.std.proofs.lemmas.List.Elements.{filter-append}
 use Rattle.std.specs.List.Sorted.{IsPermutation}
 use Rattle.std.proofs.lemmas.List.Sorted.{IsPermutation-refl, IsPermutation-map, IsPermutation-sym, IsPermutation-trans, IsPermutation-append_left, IsPermutation-append_right, length_permutation}
@@ -17,9 +17,11 @@ use Rattle.sqlite_trees.specs.declared.memory.MemStore.{MemStore}
 use Rattle.txc_rows.specs.declared.texts.Segment.{Segment}
 use Rattle.txc_rows.specs.declared.texts.Source.TheVariants.{Dead}
 use Rattle.txc_rows.specs.Texts.{tree_of}
-use Rattle.txc_rows.specs.Stored.{placed_all}
-use Rattle.txc_rows.specs.Kept.{placed_read, IsKept, IsSame, IsFinding}
+use Rattle.txc_rows.specs.States.{query_table}
+use Rattle.txc_rows.specs.Stored.{placed_all, version_shown}
+use Rattle.txc_rows.specs.Kept.{placed_read, IsKept, IsSame, IsListing, IsFinding}
 use Rattle.txc_rows.proofs.PlaceLemmas.{by_place_permutes}
+use Rattle.txc_rows.proofs.Listed.{finds}
 
 module _ (q : Query) (from : ℕ) where
   -- what the query asks for of these
@@ -59,3 +61,13 @@ unused_finding q from j h found empty few = record {
 
 pub same_itself : (h : Held MemStore) → IsKept h → IsSame h h
 same_itself h kept = record { kept = kept; trees = refl }
+
+-- what was read of a table is found
+pub read_finding : (q : Query) (from : ℕ) (placed : List Placed) (old new : List Versioned) (rows : List Row) → IsListing q (left_from from (map version_of placed)) rows → length old ≤ MAX_MATCHING → length rows ≤ MAX_MATCHING - length old
+    → new ≡ old ++ map (version_shown (query_table q)) rows → IsFinding q from placed old new
+read_finding q from placed old new rows listing room few are = record {
+  more = map (version_shown (query_table q)) rows;
+  same = (finds q (left_from from (map version_of placed)) rows listing (omega (arith, few))).same;
+  are = are;
+  few = omega (arith, few, room, ap length are, length-append old (map (version_shown (query_table q)) rows), length-map rows (version_shown (query_table q)));
+}
