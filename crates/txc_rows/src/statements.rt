@@ -5,7 +5,6 @@ ghost use Rattle.std.specs.List.Sorted.{IsPermutation};
 ghost use Rattle.std.specs.List.{AllByRecursion};
 ghost use Rattle.sqlite.specs.Held.{state};
 ghost use Rattle.sqlite.specs.Steps.{over_memory, IsEmpty};
-ghost use Rattle.sqlite.specs.Values.{bound};
 ghost use Rattle.txc_rows.specs.Placed.{AreSwept, AreLeft, placed_left};
 ghost use Rattle.txc_rows.specs.Stored.{AreCells, placed_from};
 ghost use Rattle.txc_rows.specs.declared.texts.Segment.{Segment};
@@ -17,7 +16,6 @@ use crate::texts::{
     ADD_LATEST, DROP_LATEST, MAKE_LATEST, SEGMENTS, Segment, Source, add_text, drop_text,
     left_text, make_text,
 };
-use sqlite::types::ValueRef;
 use sqlite::{Connection, Error, ErrorCode, MemStore, Transaction, params};
 use std::alloc::Global;
 
@@ -106,22 +104,6 @@ pub(crate) fn create(conn: &mut Connection<MemStore>) -> Result<(), Error>
 
 // ---- leaving out what died
 
-/// The columns of a version that was read.
-fn columns(row: &sqlite::Row) -> Result<[ValueRef<'_>; 7], Error>
-    requires { AreCells row.now }
-    ensures { IfOk result (λ columns. bound columns ≡ row.now) }
-{
-    Ok([
-        row.get_ref(0)?,
-        row.get_ref(1)?,
-        row.get_ref(2)?,
-        row.get_ref(3)?,
-        row.get_ref(4)?,
-        row.get_ref(5)?,
-        row.get_ref(6)?,
-    ])
-}
-
 /// Adds a version that was read to the last ones.
 fn add_row(tx: &mut Transaction<'_, MemStore>, row: &sqlite::Row) -> Result<usize, Error>
     requires table { HasTables tx.old.conn.now }
@@ -133,7 +115,15 @@ fn add_row(tx: &mut Transaction<'_, MemStore>, row: &sqlite::Row) -> Result<usiz
         tx.old.conn.now tx.new.conn.now result }
     ensures others { OnOk result (OthersStay 0 tx.old.conn.now tx.new.conn.now) }
 {
-    let columns = columns(row)?;
+    let columns = [
+        row.get_ref(0)?,
+        row.get_ref(1)?,
+        row.get_ref(2)?,
+        row.get_ref(3)?,
+        row.get_ref(4)?,
+        row.get_ref(5)?,
+        row.get_ref(6)?,
+    ];
     tx.execute(ADD_LATEST, &columns)
 }
 
@@ -152,7 +142,15 @@ fn add_dead(
         tx.old.conn.now tx.new.conn.now result }
     ensures others { OnOk result (OthersStay (tree_of segment) tx.old.conn.now tx.new.conn.now) }
 {
-    let columns = columns(row)?;
+    let columns = [
+        row.get_ref(0)?,
+        row.get_ref(1)?,
+        row.get_ref(2)?,
+        row.get_ref(3)?,
+        row.get_ref(4)?,
+        row.get_ref(5)?,
+        row.get_ref(6)?,
+    ];
     tx.execute(add_text(segment), &columns)
 }
 
