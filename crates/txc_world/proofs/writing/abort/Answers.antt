@@ -1,6 +1,16 @@
 use Rattle.std.proofs.Common.{refl}
 use Rattle.txc_world.proofs.WritingCounts.{counts_based}
+use Rattle.txc_world.proofs.PortsLemmas.{keeps_itself}
 use Rattle.txc_world.proofs.writing.abort.Goals as goal
 
-pub returns-clause-counts : goal.returns-clause-counts
-returns-clause-counts g c = counts_based c.args.whole.now c.args.whole.now c.args.current.core.base c.base-base.result _ refl c.base-base.ensures tt
+pub returns-clause-acted : goal.returns-clause-acted
+returns-clause-acted g c = record {
+  fits = c.cancel-unpin.ensures.idle;
+  told = refl;
+  history = refl;
+  due = tt;
+  explained = tt;
+  keeps = keeps_itself c.args.whole.now;
+  spare = refl;
+  counts = counts_based c.args.whole.now c.args.whole.now c.args.current.core.base c.base-base.result _ refl c.base-base.ensures tt;
+}

@@ -1,20 +1,18 @@
 use Rattle.txc_world.specs.Books.{HasLost}
 use Rattle.txc_world.proofs.Losing.{rows_lost}
 use Rattle.txc_world.proofs.WritingCounts.{based, counts_based}
-use Rattle.txc_world.proofs.Fairness.{counts_itself}
 use Rattle.std.proofs.Common.{None, refl, ap, sym, ◌∙◌}
 use Rattle.txc_registry.specs.Objects.{Objects}
 use Rattle.txc_world.specs.Cast.{call_value, writes}
 use Rattle.txc_world.proofs.Leading.{with_call, without_call}
+use Rattle.std.proofs.Common.{rules}
+use Rattle.txc_world.specs.declared.actor.Actor.TheVariants.{Writing}
+use Rattle.txc_world.specs.declared.reply.Refusal.TheVariants.{MidCall}
+use Rattle.txc_world.specs.declared.step.Act.TheVariants.{Ask}
+use Rattle.txc_world.specs.Ports.{PortsValue}
+use Rattle.txc_world.proofs.PortsLemmas.{keeps_same}
+use Rattle.txc_world.proofs.Acting.{due_mid_call, due_no_call, refused_so}
 use Rattle.txc_world.proofs.writing.ask.Goals as goal
-
-pub returns-then-is_some-clause-counts : goal.returns-then-is_some-clause-counts
-returns-then-is_some-clause-counts g c = counts_itself c.args.ports.now (based c.args.current.core.base) _ tt
-
-pub returns-clause-counts : goal.returns-clause-counts
-returns-clause-counts g c =
-    counts_based c.args.ports.now c.find-turn.new.ports c.args.current.core.base c.find-turn.new.core.base c.told_rows.result c.find-turn.ensures.same_ports c.find-turn.ensures.base
-    (rows_lost (HasLost c.args.ports.now (based c.args.current.core.base)) c.find-turn.result c.told_rows.result c.told_rows.ensures c.find-turn.ensures.loss)
 
 pub returns-then-is_some-clause-leads : goal.returns-then-is_some-clause-leads
 returns-then-is_some-clause-leads g c = with_call call_value _ _ c.args.current.call (sym c.is_some.ensures ∙ c.if-is_some.true) (λ call. (refl, refl))
@@ -32,3 +30,22 @@ returns-clause-leads g c = without_call call_value _ _ c.args.current.call (sym 
     same = c.find-turn.ensures.same;
   },
 )
+
+pub returns-then-is_some-clause-acted : goal.returns-then-is_some-clause-acted
+returns-then-is_some-clause-acted g c =
+    refused_so g.A.App.next (Ask c.args.query.now) c.args.ports.now (Writing c.args.current) MidCall c.requires
+    (due_mid_call c.args.current.call _ (sym c.is_some.ensures ∙ c.if-is_some.true)) tt
+
+pub returns-clause-acted : goal.returns-clause-acted
+returns-clause-acted g c = record {
+  fits = search rules;
+  told = search rules;
+  history = search rules;
+  due = search rules;
+  explained = search rules;
+  keeps = keeps_same c.args.ports.now c.find-turn.new.ports c.find-turn.ensures.same_ports;
+  spare = ap (λ (p : PortsValue). p.spare) c.find-turn.ensures.same_ports;
+  counts =
+      counts_based c.args.ports.now c.find-turn.new.ports c.args.current.core.base c.find-turn.new.core.base c.told_rows.result c.find-turn.ensures.same_ports c.find-turn.ensures.base
+        (rows_lost (HasLost c.args.ports.now (based c.args.current.core.base)) c.find-turn.result c.told_rows.result c.told_rows.ensures c.find-turn.ensures.loss);
+}

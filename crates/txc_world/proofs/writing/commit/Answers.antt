@@ -1,36 +1,16 @@
 use Rattle.std.proofs.Common.{refl, sym, ◌∙◌}
 use Rattle.txc_world.proofs.CommitLemmas.{explained_lent, explained_open}
 use Rattle.txc_world.proofs.WritingLemmas.{none_by_test}
-use Rattle.txc_world.proofs.WritingCounts.{based, fair_commit, fair_not_committed}
-use Rattle.txc_world.proofs.Fairness.{counts_itself}
+use Rattle.txc_world.proofs.WritingCounts.{fair_commit, fair_not_committed}
 use Rattle.txc_world.specs.Cast.{call_value}
 use Rattle.txc_world.proofs.Leading.{with_call, without_call}
+use Rattle.std.proofs.Common.{ap, rules}
+use Rattle.txc_world.specs.declared.actor.Actor.TheVariants.{Writing}
+use Rattle.txc_world.specs.declared.reply.Refusal.TheVariants.{MidCall}
+use Rattle.txc_world.specs.declared.step.Act.TheVariants.{Commit}
+use Rattle.txc_world.specs.Told.{leaving}
+use Rattle.txc_world.proofs.Acting.{due_mid_call, due_no_call, refused_so}
 use Rattle.txc_world.proofs.writing.commit.Goals as goal
-
-pub returns-in-Ok-clause-explained : goal.returns-in-Ok-clause-explained
-returns-in-Ok-clause-explained g c =
-    explained_open g.A.App.next c.commit.new.self.database.history _ c.args.current.core c.in-Ok.stamp c.args.current.call
-    (none_by_test c.args.current.call (sym c.is_some.ensures ∙ c.if-is_some.false))
-    (explained_lent g.A.App.next c.args.current.registry c.args.current.core c.args.ports.now.database c.requires.holds
-    c.answers_are_right.ensures.base c.answers_are_right.ensures.quiet c.answers_are_right.ensures.event c.transactions_stay_right.ensures.longer
-    c.states_stay.ensures.states c.states_stay.ensures.tags
-    c.args.ports.now c.commit.new.self c.base-base.result c.tags-read.result.now c.changes-changes.result.now c.in-Ok.stamp refl c.in-Ok.ensures.leads
-    c.base-base.ensures c.tags-read.ensures c.changes-changes.ensures.answer)
-
-pub returns-then-is_some-clause-counts : goal.returns-then-is_some-clause-counts
-returns-then-is_some-clause-counts g c = counts_itself c.args.ports.now (based c.args.current.core.base) _ tt
-
-pub returns-in-Ok-clause-counts : goal.returns-in-Ok-clause-counts
-returns-in-Ok-clause-counts g c = record {
-  fair = fair_commit c.args.ports.now c.commit.new.self c.base-base.result c.args.current.core.base c.base-base.result c.in-Ok.stamp _ _ c.in-Ok.ensures.leads c.base-base.ensures;
-  loss = tt;
-}
-
-pub returns-in-Err-clause-counts : goal.returns-in-Err-clause-counts
-returns-in-Err-clause-counts g c = record {
-  fair = fair_not_committed c.args.ports.now c.commit.new.self c.base-base.result c.args.current.core.base _ _ c.in-Err.refusal c.in-Err.ensures.leads;
-  loss = tt;
-}
 
 pub returns-then-is_some-clause-leads : goal.returns-then-is_some-clause-leads
 returns-then-is_some-clause-leads g c = with_call call_value _ _ c.args.current.call (sym c.is_some.ensures ∙ c.if-is_some.true) (λ call. (refl, refl))
@@ -46,3 +26,45 @@ returns-in-Err-clause-leads g c = without_call call_value _ _ c.args.current.cal
   rw (sym c.base-base.ensures, sym c.tags-read.ensures, sym c.changes-changes.ensures.answer) c.in-Err.ensures.leads,
   refl,
 )
+
+pub returns-then-is_some-clause-acted : goal.returns-then-is_some-clause-acted
+returns-then-is_some-clause-acted g c =
+    refused_so g.A.App.next Commit c.args.ports.now (Writing c.args.current) MidCall c.requires
+    (due_mid_call c.args.current.call _ (sym c.is_some.ensures ∙ c.if-is_some.true)) tt
+
+pub returns-in-Ok-clause-acted : goal.returns-in-Ok-clause-acted
+returns-in-Ok-clause-acted g c = record {
+  fits = c.cancel-unpin.ensures.idle;
+  told = ap leaving c.base-base.ensures;
+  history = search rules;
+  due = due_no_call c.args.current.call _ _ (sym c.is_some.ensures ∙ c.if-is_some.false) tt;
+  explained =
+      explained_open g.A.App.next c.commit.new.self.database.history _ c.args.current.core c.in-Ok.stamp c.args.current.call
+      (none_by_test c.args.current.call (sym c.is_some.ensures ∙ c.if-is_some.false))
+      (explained_lent g.A.App.next c.args.current.registry c.args.current.core c.args.ports.now.database c.requires.holds
+      c.answers_are_right.ensures.base c.answers_are_right.ensures.quiet c.answers_are_right.ensures.event c.transactions_stay_right.ensures.longer
+      c.states_stay.ensures.states c.states_stay.ensures.tags
+      c.args.ports.now c.commit.new.self c.base-base.result c.tags-read.result.now c.changes-changes.result.now c.in-Ok.stamp refl c.in-Ok.ensures.leads
+      c.base-base.ensures c.tags-read.ensures c.changes-changes.ensures.answer);
+  keeps = c.commit.ensures.keeps;
+  spare = search rules;
+  counts = record {
+    fair = fair_commit c.args.ports.now c.commit.new.self c.base-base.result c.args.current.core.base c.base-base.result c.in-Ok.stamp _ _ c.in-Ok.ensures.leads c.base-base.ensures;
+    loss = tt;
+  };
+}
+
+pub returns-in-Err-clause-acted : goal.returns-in-Err-clause-acted
+returns-in-Err-clause-acted g c = record {
+  fits = search rules;
+  told = refl;
+  history = search rules;
+  due = due_no_call c.args.current.call _ _ (sym c.is_some.ensures ∙ c.if-is_some.false) tt;
+  explained = tt;
+  keeps = c.commit.ensures.keeps;
+  spare = search rules;
+  counts = record {
+    fair = fair_not_committed c.args.ports.now c.commit.new.self c.base-base.result c.args.current.core.base _ _ c.in-Err.refusal c.in-Err.ensures.leads;
+    loss = tt;
+  };
+}

@@ -6,17 +6,11 @@ use Rattle.txc_world.proofs.Leading.{noted_seen, some_there}
 use Rattle.txc_world.specs.Books.{HasLost}
 use Rattle.txc_world.proofs.Losing.{noted_lost}
 use Rattle.txc_world.proofs.WritingCounts.{asked_lost, based, counts_based}
+use Rattle.std.proofs.Common.{rules}
+use Rattle.txc_world.specs.Ports.{PortsValue}
+use Rattle.txc_world.proofs.PortsLemmas.{keeps_same}
+use Rattle.txc_world.proofs.Acting.{due_in_call}
 use Rattle.txc_world.proofs.writing.request.Goals as goal
-
-pub returns-clause-counts : goal.returns-clause-counts
-returns-clause-counts g c =
-    let loss = c.go_on-did.ensures.loss in
-    counts_based c.args.ports.now c.go_on-did.new.ports c.args.current.core.base c.go_on-did.new.core.base _ c.go_on-did.ensures.same_ports c.go_on-did.ensures.base (
-      loss,
-      noted_lost (HasLost c.args.ports.now (based c.args.current.core.base)) (opened c.in-Some.field-0.key) c.go_on-did.result.turn c.note-call.result.0 c.note-call.result.1 c.note-call.ensures
-          (asked_lost (HasLost c.args.ports.now (based c.args.current.core.base)) g.A.App.next c.in-Some-asked.query c.args.ports.now c.args.current.core c.go_on-did.new.core
-          c.args.current.registry c.go_on-did.new.registry c.go_on-did.result.did c.go_on-did.result.turn c.go_on-did.ensures.asks loss),
-    )
 
 pub returns-clause-leads : goal.returns-clause-leads
 returns-clause-leads g c =
@@ -35,3 +29,22 @@ returns-clause-leads g c =
         noted = noted_seen call_value (opened c.in-Some.field-0.key) c.go_on-did.result.turn c.note-call.result.0 c.note-call.result.1 c.note-call.ensures;
       }),
     )
+
+pub returns-clause-acted : goal.returns-clause-acted
+returns-clause-acted g c =
+    let loss = c.go_on-did.ensures.loss in
+    record {
+      fits = search rules;
+      told = search rules;
+      history = ap (λ (p : PortsValue). p.database.history) c.go_on-did.ensures.same_ports;
+      due = due_in_call c.args.current.call _ _ _ c.in-Some.is tt;
+      explained = tt;
+      keeps = keeps_same c.args.ports.now c.go_on-did.new.ports c.go_on-did.ensures.same_ports;
+      spare = ap (λ (p : PortsValue). p.spare) c.go_on-did.ensures.same_ports;
+      counts = counts_based c.args.ports.now c.go_on-did.new.ports c.args.current.core.base c.go_on-did.new.core.base _ c.go_on-did.ensures.same_ports c.go_on-did.ensures.base (
+            loss,
+            noted_lost (HasLost c.args.ports.now (based c.args.current.core.base)) (opened c.in-Some.field-0.key) c.go_on-did.result.turn c.note-call.result.0 c.note-call.result.1 c.note-call.ensures
+                (asked_lost (HasLost c.args.ports.now (based c.args.current.core.base)) g.A.App.next c.in-Some-asked.query c.args.ports.now c.args.current.core c.go_on-did.new.core
+                c.args.current.registry c.go_on-did.new.registry c.go_on-did.result.did c.go_on-did.result.turn c.go_on-did.ensures.asks loss),
+          );
+    }

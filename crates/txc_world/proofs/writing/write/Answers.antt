@@ -3,32 +3,17 @@ use Rattle.txc_world.proofs.WritingLemmas.{fits_with, holds_with, none_by_test, 
 use Rattle.std.proofs.Common.{refl, ap}
 use Rattle.txc_rw.specs.Core.{RwValue}
 use Rattle.txc_world.specs.Books.{HasLost}
-use Rattle.txc_world.proofs.WritingCounts.{based, counts_based, loss_write}
-use Rattle.txc_world.proofs.Fairness.{counts_itself}
+use Rattle.txc_world.proofs.WritingCounts.{counts_based, loss_write}
 use Rattle.std.specs.Option.{option_map}
 use Rattle.txc_world.specs.Cast.{call_value, writes}
 use Rattle.txc_world.proofs.Leading.{with_call, without_call}
+use Rattle.std.proofs.Common.{rules}
+use Rattle.txc_world.specs.declared.actor.Actor.TheVariants.{Writing}
+use Rattle.txc_world.specs.declared.reply.Refusal.TheVariants.{MidCall}
+use Rattle.txc_world.specs.declared.step.Act.TheVariants.{Write}
+use Rattle.txc_world.proofs.PortsLemmas.{keeps_itself}
+use Rattle.txc_world.proofs.Acting.{due_mid_call, due_no_call, refused_so}
 use Rattle.txc_world.proofs.writing.write.Goals as goal
-
-pub returns-in-Ok-clause-fits : goal.returns-in-Ok-clause-fits
-returns-in-Ok-clause-fits g c = record {
-  fits = fits_with g.A.App.next c.args.current.registry c.args.current.core c.keep_change.new.core _ c.in-Ok.ensures.after c.requires.fits;
-  holds = holds_with g.A.App.next c.args.whole.now.database.history c.args.current.registry c.args.current.core c.keep_change.new.core _ c.in-Ok.ensures.after c.requires.holds;
-  call = still_open c.args.current.core c.keep_change.new.core _ c.args.current.call
-      (none_by_test c.args.current.call (sym c.is_some.ensures ∙ c.if-is_some.false)) c.in-Ok.ensures.after c.requires.call;
-}
-
-pub returns-then-is_some-clause-counts : goal.returns-then-is_some-clause-counts
-returns-then-is_some-clause-counts g c = counts_itself c.args.whole.now (based c.args.current.core.base) _ tt
-
-pub returns-in-Ok-clause-counts : goal.returns-in-Ok-clause-counts
-returns-in-Ok-clause-counts g c =
-    counts_based c.args.whole.now c.args.whole.now c.args.current.core.base c.keep_change.new.core.base _ refl (ap (λ (v : RwValue). v.base) c.in-Ok.ensures.after) tt
-
-pub returns-in-Err-clause-counts : goal.returns-in-Err-clause-counts
-returns-in-Err-clause-counts g c =
-    counts_based c.args.whole.now c.args.whole.now c.args.current.core.base c.keep_change.new.core.base _ refl (ap (λ (v : RwValue). v.base) c.in-Err.ensures.unchanged)
-    (loss_write (HasLost c.args.whole.now (based c.args.current.core.base)) _ c.in-Err.error c.in-Err.ensures.refused)
 
 pub returns-then-is_some-clause-leads : goal.returns-then-is_some-clause-leads
 returns-then-is_some-clause-leads g c = with_call call_value _ _ c.args.current.call (sym c.is_some.ensures ∙ c.if-is_some.true) (λ call. (refl, refl))
@@ -40,3 +25,40 @@ returns-in-Ok-clause-leads g c = without_call call_value _ _ c.args.current.call
 pub returns-in-Err-clause-leads : goal.returns-in-Err-clause-leads
 returns-in-Err-clause-leads g c = without_call call_value _ _ c.args.current.call (sym c.is_some.ensures ∙ c.if-is_some.false)
     (refl, ap (λ (core : RwValue). writes (record { core = core; objects = c.args.current.registry; call = option_map call_value c.args.current.call })) c.in-Err.ensures.unchanged)
+
+pub returns-then-is_some-clause-acted : goal.returns-then-is_some-clause-acted
+returns-then-is_some-clause-acted g c =
+    refused_so g.A.App.next (Write c.args.change.now) c.args.whole.now (Writing c.args.current) MidCall c.requires
+    (due_mid_call c.args.current.call _ (sym c.is_some.ensures ∙ c.if-is_some.true)) tt
+
+pub returns-in-Ok-clause-acted : goal.returns-in-Ok-clause-acted
+returns-in-Ok-clause-acted g c = record {
+  fits = record {
+    fits = fits_with g.A.App.next c.args.current.registry c.args.current.core c.keep_change.new.core _ c.in-Ok.ensures.after c.requires.fits;
+    holds = holds_with g.A.App.next c.args.whole.now.database.history c.args.current.registry c.args.current.core c.keep_change.new.core _ c.in-Ok.ensures.after c.requires.holds;
+    call = still_open c.args.current.core c.keep_change.new.core _ c.args.current.call
+        (none_by_test c.args.current.call (sym c.is_some.ensures ∙ c.if-is_some.false)) c.in-Ok.ensures.after c.requires.call;
+  };
+  told = search rules;
+  history = refl;
+  due = due_no_call c.args.current.call _ _ (sym c.is_some.ensures ∙ c.if-is_some.false) c.in-Ok.ensures.only_if;
+  explained = tt;
+  keeps = keeps_itself c.args.whole.now;
+  spare = refl;
+  counts =
+      counts_based c.args.whole.now c.args.whole.now c.args.current.core.base c.keep_change.new.core.base _ refl (ap (λ (v : RwValue). v.base) c.in-Ok.ensures.after) tt;
+}
+
+pub returns-in-Err-clause-acted : goal.returns-in-Err-clause-acted
+returns-in-Err-clause-acted g c = record {
+  fits = search rules;
+  told = search rules;
+  history = refl;
+  due = due_no_call c.args.current.call _ _ (sym c.is_some.ensures ∙ c.if-is_some.false) c.in-Err.ensures.refused;
+  explained = tt;
+  keeps = keeps_itself c.args.whole.now;
+  spare = refl;
+  counts =
+      counts_based c.args.whole.now c.args.whole.now c.args.current.core.base c.keep_change.new.core.base _ refl (ap (λ (v : RwValue). v.base) c.in-Err.ensures.unchanged)
+      (loss_write (HasLost c.args.whole.now (based c.args.current.core.base)) _ c.in-Err.error c.in-Err.ensures.refused);
+}
