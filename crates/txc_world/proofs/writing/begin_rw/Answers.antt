@@ -2,7 +2,8 @@ use Rattle.std.proofs.Common.{ℕ, sym, subst}
 use Rattle.txc_world.specs.declared.reply.Reply.TheVariants.{Based}
 use Rattle.txc_world.specs.Books.{nothing, ActCounts}
 use Rattle.txc_world.proofs.WritingCounts.{based, counts_begun, counts_unchanged}
-use Rattle.std.proofs.Common.{rules}
+use Rattle.std.proofs.Common.{ap, rules}
+use Rattle.txc_world.specs.Ports.{PortsValue}
 use Rattle.txc_world.proofs.writing.begin_rw.Goals as goal
 
 pub returns-in-Ok-clause-acted : goal.returns-in-Ok-clause-acted
@@ -13,7 +14,7 @@ returns-in-Ok-clause-acted g c = record {
   due = tt;
   explained = tt;
   keeps = c.hold.ensures.keeps;
-  spare = search rules;
+  spare = ap (λ (p : PortsValue). p.spare) c.hold.ensures.same;
   counts =
       subst (λ (b : ℕ). ActCounts c.args.ports.now c.hold.new.self nothing (based b) (Based c.in-Ok.base)) (sym c.begin-core.ensures.at_base)
       (counts_begun c.args.ports.now c.hold.new.self c.in-Ok.base c.in-Ok.ensures.leads);
@@ -27,7 +28,7 @@ returns-in-Err-clause-acted g c = record {
   due = tt;
   explained = tt;
   keeps = c.hold.ensures.keeps;
-  spare = search rules;
+  spare = ap (λ (p : PortsValue). p.spare) c.hold.ensures.same;
   counts =
       counts_unchanged c.args.ports.now c.hold.new.self nothing _ c.in-Err.ensures.leads.0 tt;
 }

@@ -10,6 +10,7 @@ use Rattle.txc_world.specs.declared.reply.Refusal.TheVariants.{MidCall}
 use Rattle.txc_world.specs.declared.step.Act.TheVariants.{Commit}
 use Rattle.txc_world.specs.Told.{leaving}
 use Rattle.txc_world.proofs.Acting.{due_mid_call, due_no_call, refused_so}
+use Rattle.txc_world.specs.Ports.{PortsValue}
 use Rattle.txc_world.proofs.writing.commit.Goals as goal
 
 pub returns-then-is_some-clause-leads : goal.returns-then-is_some-clause-leads
@@ -47,7 +48,7 @@ returns-in-Ok-clause-acted g c = record {
       c.args.ports.now c.commit.new.self c.base-base.result c.tags-read.result.now c.changes-changes.result.now c.in-Ok.stamp refl c.in-Ok.ensures.leads
       c.base-base.ensures c.tags-read.ensures c.changes-changes.ensures.answer);
   keeps = c.commit.ensures.keeps;
-  spare = search rules;
+  spare = ap (λ (p : PortsValue). p.spare) c.in-Ok.ensures.leads.0;
   counts = record {
     fair = fair_commit c.args.ports.now c.commit.new.self c.base-base.result c.args.current.core.base c.base-base.result c.in-Ok.stamp _ _ c.in-Ok.ensures.leads c.base-base.ensures;
     loss = tt;
@@ -62,7 +63,7 @@ returns-in-Err-clause-acted g c = record {
   due = due_no_call c.args.current.call _ _ (sym c.is_some.ensures ∙ c.if-is_some.false) tt;
   explained = tt;
   keeps = c.commit.ensures.keeps;
-  spare = search rules;
+  spare = ap (λ (p : PortsValue). p.spare) c.in-Err.ensures.leads.0.is;
   counts = record {
     fair = fair_not_committed c.args.ports.now c.commit.new.self c.base-base.result c.args.current.core.base _ _ c.in-Err.refusal c.in-Err.ensures.leads;
     loss = tt;
