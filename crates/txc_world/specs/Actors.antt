@@ -26,7 +26,7 @@ use Rattle.txc_world.specs.declared.did.Did.TheVariants.{Hit, Miss}
 use Rattle.txc_world.specs.declared.reply.End.{End}
 use Rattle.txc_world.specs.declared.reply.End.TheVariants as ends
 use Rattle.txc_txn.specs.declared.pinning.PinStep.TheVariants.{Dropping}
-use Rattle.txc_txn.specs.Core.{CoreValue, begun_core, open_call, IsIdle, IsNoValue, IsTurn}
+use Rattle.txc_txn.specs.Core.{CoreValue, begun_core, open_call, IsAt, IsIdle, IsNoValue, IsTurn}
 use Rattle.txc_rw.specs.declared.given.Given.{Given}
 use Rattle.txc_rw.specs.Core.{answers_after, IsOfCall, RwHolds, RwValue}
 use Rattle.txc_rw.specs.Core.{IsIdle as IsRwIdle, IsRw, IsTurn as IsRwTurn}
