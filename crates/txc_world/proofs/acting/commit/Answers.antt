@@ -8,7 +8,7 @@ use Rattle.txc_world.specs.declared.reply.Reply.TheVariants.{Receipt}
 use Rattle.txc_world.specs.Cast.{call_value, resting}
 use Rattle.txc_world.specs.Keeping.{GiveBackLeads}
 use Rattle.txc_world.proofs.Leading.{with_call, without_call}
-use Rattle.txc_world.proofs.Acting.{due_mid_call, due_no_call, refused_so}
+use Rattle.txc_world.proofs.Acted.{due_mid_call, due_no_call, refused_so}
 use Rattle.txc_world.specs.declared.actor.Actor.TheVariants.{Reading}
 use Rattle.txc_world.specs.declared.reply.Refusal.TheVariants.{MidCall}
 use Rattle.txc_world.specs.declared.step.Act.TheVariants.{Commit}

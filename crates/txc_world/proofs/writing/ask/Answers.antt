@@ -11,7 +11,7 @@ use Rattle.txc_world.specs.declared.reply.Refusal.TheVariants.{MidCall}
 use Rattle.txc_world.specs.declared.step.Act.TheVariants.{Ask}
 use Rattle.txc_world.specs.Ports.{PortsValue}
 use Rattle.txc_world.proofs.PortsLemmas.{keeps_same}
-use Rattle.txc_world.proofs.Acting.{due_mid_call, due_no_call, refused_so}
+use Rattle.txc_world.proofs.Acted.{due_mid_call, due_no_call, refused_so}
 use Rattle.txc_world.proofs.writing.ask.Goals as goal
 
 pub returns-then-is_some-clause-leads : goal.returns-then-is_some-clause-leads

@@ -9,7 +9,7 @@ use Rattle.txc_world.specs.declared.actor.Actor.TheVariants.{Writing}
 use Rattle.txc_world.specs.declared.reply.Refusal.TheVariants.{MidCall}
 use Rattle.txc_world.specs.declared.step.Act.TheVariants.{Commit}
 use Rattle.txc_world.specs.Told.{leaving}
-use Rattle.txc_world.proofs.Acting.{due_mid_call, due_no_call, refused_so}
+use Rattle.txc_world.proofs.Acted.{due_mid_call, due_no_call, refused_so}
 use Rattle.txc_world.specs.Ports.{PortsValue}
 use Rattle.txc_world.proofs.writing.commit.Goals as goal
 

@@ -9,7 +9,7 @@ use Rattle.txc_world.proofs.WritingCounts.{asked_lost, based, counts_based}
 use Rattle.std.proofs.Common.{rules}
 use Rattle.txc_world.specs.Ports.{PortsValue}
 use Rattle.txc_world.proofs.PortsLemmas.{keeps_same}
-use Rattle.txc_world.proofs.Acting.{due_in_call}
+use Rattle.txc_world.proofs.Acted.{due_in_call}
 use Rattle.txc_world.proofs.writing.request.Goals as goal
 
 pub returns-clause-leads : goal.returns-clause-leads

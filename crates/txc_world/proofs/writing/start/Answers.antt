@@ -18,7 +18,7 @@ use Rattle.txc_world.specs.declared.actor.Actor.TheVariants.{Writing}
 use Rattle.txc_world.specs.declared.reply.Refusal.TheVariants.{MidCall}
 use Rattle.txc_world.specs.declared.step.Act.TheVariants.{Start}
 use Rattle.txc_world.proofs.PortsLemmas.{keeps_itself}
-use Rattle.txc_world.proofs.Acting.{due_mid_call, due_no_call, refused_so}
+use Rattle.txc_world.proofs.Acted.{due_mid_call, due_no_call, refused_so}
 use Rattle.txc_world.proofs.writing.start.Goals as goal
 
 pub returns-then-is_some-clause-leads : goal.returns-then-is_some-clause-leads
