@@ -1,122 +1,27 @@
 #!/usr/bin/env python3
-"""Writes the parts of docs/ that are made by script: docs/DEFINITIONS.md, from the comments of the crates' specs/, the
-lists of docs/WRONG_BODIES.md, from their edits, the examples of docs/SCRIPTS.md, from examples/, and the code of
-docs/CALLING.md, from the tests. The session of a world in docs/SCRIPTS.md has to be that of its script.
+"""Writes the parts of docs/ that are made by script:
 
-usage: docs.py [--check]      --check writes nothing, and ends with 1 where a file is not what would be written
+  PROMISE.md, crates/  from the crates' src/ and specs/, and docs/promise.in.md (scripts/promise.py, scripts/pages.py)
+  WRONG_BODIES.md      its lists, from the crates' edits
+  ARCHITECTURE.md      the table of proofs that other crates use
+  SCRIPTS.md           the examples, from examples/; the session of a world has to be that of its script
+  CALLING.md           its code, from the tests
+
+usage: docs.py [--check]      --check writes nothing, and ends with 1 where a file is not what would be written, or where what
+                              the documents claim is not so (scripts/claims.py)
 """
-import pathlib, re, sys
+import re, sys
 
-ROOT = pathlib.Path(__file__).resolve().parent.parent
+import claims, pages, promise
+from sources import ROOT, crates
+
 LISTS = "## All of them, by crate"
+FIRST, SECOND = "## What no clause can refuse", "## The ones that break a cache"
 EXAMPLES = "## The examples, with the replies beside their lines"
 SESSION = "### A world, line by line"
 # Of more commands in a row than this, only the first and the last are shown.
 MOST_SHOWN = 12
-DEFINITIONS = """# Definitions
-
-Every word that a contract uses, beside what it says: of each crate first the words of its public clauses, each after those
-that it is made of. They stand in the crate's `specs/`, as functions and relations over whole lists, with the same words in a
-comment. This page is made by `make docs`.
-
-The laws over them are contracts of public functions with empty bodies (`laws.rt` of each crate): such a function runs
-nothing, and its contract is a theorem that the gate proves.
-"""
-ITEM = re.compile(r"(?:abbrev pub|pub record|pub data|pub abbrev|pub|record pub|data pub) ([^\s:{(]+)")
-
-
-def crates():
-    """The crates' names, in the order of crates.txt."""
-    rows = [line.split("#")[0] for line in (ROOT / "crates.txt").read_text().split("\n")]
-    return [row.split(":")[0].strip() for row in rows if ":" in row]
-
-
-def comment(lines, end):
-    """The comment that ends just before a line, as one text."""
-    start = end
-    while start > 0 and lines[start - 1].startswith("-- ") and not lines[start - 1].startswith("-- ----"):
-        start -= 1
-    return " ".join(line[3:].strip() for line in lines[start:end])
-
-
-def words(crate):
-    """The words that a crate defines: the name of each, beside what its comment says, its text, and its file."""
-    found = {}
-    for file in sorted(it for it in crate.glob("specs/*.antt") if it.stem != "Lib"):
-        lines = file.read_text().split("\n")
-        at = [n for n, line in enumerate(lines) if ITEM.match(line)]
-        for start, end in zip(at, at[1:] + [len(lines)]):
-            said = comment(lines, start)
-            if said:
-                text = "\n".join(line for line in lines[start:end] if not line.startswith("--"))
-                found[ITEM.match(lines[start])[1]] = (said, text, file.stem)
-    return found
-
-
-def names(text):
-    return set(re.findall(r"[^\s(){}\[\].,;:λ]+", text))
-
-
-def public_clauses(crate):
-    """The texts of the clauses of a crate's public functions and types."""
-    text = ""
-    for file in crate.glob("src/**/*.rt"):
-        is_public = False
-        for line in file.read_text().split("\n"):
-            if re.match(r" *(pub )?(const |unsafe )*(fn|struct|enum|trait|impl)\b", line):
-                is_public = re.match(r" *pub ", line) is not None or line.startswith(("impl", "trait"))
-                # the functions of a public trait are public, and those of an impl of a trait as public as the trait
-                starts = line.startswith("pub trait") or (line.startswith("impl") and " for " in line)
-                in_trait = starts or (line.startswith("    ") and text and in_trait)
-                is_public = is_public or in_trait
-            elif re.match(r" *pub\(", line):
-                is_public = False
-            if is_public:
-                text += line + "\n"
-    return text
-
-
-def in_order(found, wanted):
-    """The wanted words and those that their definitions use, each after what it is made of."""
-    order = []
-
-    def add(name):
-        if name not in order and name not in on_the_way:
-            on_the_way.add(name)
-            for other in found:
-                if other != name and other in names(found[name][1]):
-                    add(other)
-            order.append(name)
-
-    on_the_way = set()
-    for name in found:
-        if name in wanted:
-            add(name)
-    return order
-
-
-def table(found, order):
-    rows = (f"| `{it}` | {found[it][0].replace('|', chr(92) + '|')} | {found[it][2]} |\n" for it in order)
-    return "\n| Name | In words | File |\n|---|---|---|\n" + "".join(rows)
-
-
-def definitions():
-    text = DEFINITIONS
-    for name in crates():
-        crate = ROOT / "crates" / name
-        found = words(crate)
-        if not found:
-            continue
-        root = next(it for it in (crate / "src/lib.rt", crate / "src/main.rt") if it.exists())
-        head = re.match(r"((?://! .*\n)+)", root.read_text())[1]
-        text += f"\n## `{name}`\n\n" + " ".join(line[4:] for line in head.strip().split("\n")).split(". ")[0].rstrip(".") + ".\n"
-        public = in_order(found, names(public_clauses(crate)))
-        if public:
-            text += "\nWords of its public clauses:\n" + table(found, public)
-        others = [it for it in in_order(found, found) if it not in public]
-        if others:
-            text += "\nWords of private clauses, worked examples and proofs:\n" + table(found, others)
-    return text
+PROOFS = "| Module | Says | Used by |\n|---|---|---|\n"
 
 
 def named():
@@ -152,8 +57,16 @@ def lists():
     return text
 
 
+def in_order(text):
+    """With what no clause can refuse before what clauses refuse: a reader wants to know it first."""
+    sections = re.split(r"(?m)^(?=## )", text)
+    first = next(it for it in sections if it.startswith(FIRST))
+    at = next(n for n, it in enumerate(sections) if it.startswith(SECOND))
+    return "".join([*sections[:at], first, *(it for it in sections[at:] if it != first)]) if first not in sections[:at] else text
+
+
 def wrong_bodies(text):
-    start, _, after = text.partition(LISTS)
+    start, _, after = in_order(text).partition(LISTS)
     return start + LISTS + after.partition("\n### ")[0].rstrip() + "\n" + lists()
 
 
@@ -209,25 +122,69 @@ def scripts(text):
 
 
 def calling(text):
-    """Fills each block that is headed by a file with what the file has before its tests, but for its `use` lines."""
+    """Fills each block that is headed by a file with what the file has before its tests, its imports too."""
 
     def block(head):
         lines = (ROOT / head[1]).read_text().partition("\n#[test]")[0].rstrip().split("\n")
-        code = [line for line in lines if not line.startswith(("//!", "use ", "ghost use "))]
+        code = [line for line in lines if not line.startswith("//!")]
         return f"```rust {head[1]}\n" + "\n".join(code).strip() + "\n```"
 
     return re.sub(r"```rust (\S+)\n.*?```", block, text, flags=re.S)
 
 
+def used_proofs():
+    """The modules of proofs that other crates use, but for those that are offered: each with the crates that do."""
+    used = {}
+    for crate in crates():
+        for path in (ROOT / "crates" / crate).glob("**/*"):
+            if path.suffix in (".antt", ".rt") and "out" not in path.parts:
+                for other, module in re.findall(r"Rattle\.(txc\w*)\.proofs\.((?:\w+\.)*\w+)", path.read_text()):
+                    if other != crate and not module.startswith("Offered"):
+                        used.setdefault((other, module), set()).add(crate)
+    return used
+
+
+def says(crate, module):
+    """The first sentence of a module of proofs."""
+    if module.endswith(".TheSendSync"):
+        return f"`{module.split('.')[-2]}` may go to threads, where its parts may"
+    lines = (ROOT / "crates" / crate / "proofs" / f"{module.replace('.', '/')}.antt").read_text().split("\n")
+    start = next((n for n, line in enumerate(lines) if line.startswith("-- ")), len(lines))
+    end = next((n for n, line in enumerate(lines) if n > start and not line.startswith("-- ")), len(lines))
+    return " ".join(line[3:] for line in lines[start:end]).split(". ")[0].rstrip(".")
+
+
+def architecture(text):
+    start, _, after = text.partition(PROOFS)
+    rows = ""
+    for (crate, module), users in sorted(used_proofs().items()):
+        place = module if module.endswith(".TheSendSync") else f"proofs/{module.replace('.', '/')}.antt"
+        rows += f"| `{crate}`: `{place}` | {says(crate, module)} | {', '.join(f'`{it}`' for it in sorted(users))} |\n"
+    return start + PROOFS + rows + re.sub(r"^(?:\|.*\n)*", "", after)
+
+
+def written():
+    """Each file that is made by script, or has parts that are, beside its text."""
+    made = {"WRONG_BODIES.md": wrong_bodies, "SCRIPTS.md": scripts, "CALLING.md": calling, "ARCHITECTURE.md": architecture}
+    texts = {ROOT / "docs" / name: make((ROOT / "docs" / name).read_text()) for name, make in made.items()}
+    return {**texts, **pages.written(), promise.PAGE: promise.written()}
+
+
 def main():
-    made = {"DEFINITIONS.md": lambda _: definitions(), "WRONG_BODIES.md": wrong_bodies, "SCRIPTS.md": scripts, "CALLING.md": calling}
-    wanted = {name: make((ROOT / "docs" / name).read_text()) for name, make in made.items()}
-    for name, text in wanted.items():
-        path = ROOT / "docs" / name
-        if "--check" not in sys.argv[1:]:
+    texts, is_check = written(), "--check" in sys.argv[1:]
+    for path, text in texts.items():
+        if not is_check:
+            path.parent.mkdir(exist_ok=True)
             path.write_text(text)
-        elif path.read_text() != text:
-            sys.exit(f"docs/{name} is not what scripts/docs.py writes: run `make docs`")
+        elif not path.is_file() or path.read_text() != text:
+            sys.exit(f"{path.relative_to(ROOT)} is not what scripts/docs.py writes: run `make docs`")
+    for path in sorted(set(pages.FOLDER.glob("*.md")) - set(texts)):
+        if is_check:
+            sys.exit(f"{path.relative_to(ROOT)} is of no crate: run `make docs`")
+        path.unlink()
+    found = claims.faults()
+    print("".join(f"{it}\n" for it in found), end="", file=sys.stderr)
+    sys.exit(int(is_check and bool(found)))
 
 
 main()

@@ -10,7 +10,7 @@ import pathlib, re, sys
 MOST_BYTES = 1_500
 
 # Nor are the worlds that are written for a reader, but for the first one: the prover goes over all constants of a table in one function.
-FOR_READERS = {"a_session_line_by_line"}
+FOR_READERS = {"a_page_beside_a_commit", "a_session_line_by_line"}
 
 HEAD = """//! The scripts of examples/ with their output: written by scripts/examples.py, which the gate compares.
 

@@ -6,7 +6,7 @@ use super::desk::{
 };
 use super::sessions::{RENEW_AFTER, node};
 use super::watch::{Watch, Watched};
-use std::alloc::Global;
+use std::alloc::{AllocError, Global};
 use std::marker::Brand;
 use std::mem;
 use std::str::SplitWhitespace;
@@ -83,6 +83,24 @@ struct Reader<'a, J: Naming, R: Wait> {
     slot: Option<Slot<'a, J>>,
 }
 
+type Begun<'a, J> = Result<
+    RoTxn<'a, Program, Object, J>,
+    (AllocError, Client<'a, Program, Object, J>),
+>;
+
+fn begun<'a, J: Naming>(
+    client: Client<'a, Program, Object, J>,
+    rt: &impl Wait,
+    alloc: Global,
+    is_in_session: bool,
+    bounds: &Bounds,
+) -> Begun<'a, J> {
+    if is_in_session {
+        return client.begin_in(rt, alloc, &Session::new(), bounds.now, bounds.staleness);
+    }
+    client.begin_ro(rt, alloc, *bounds)
+}
+
 impl<'a, J: Naming> Slot<'a, J> {
     fn begin(
         self,
@@ -101,11 +119,7 @@ impl<'a, J: Naming> Slot<'a, J> {
             staleness: long(words),
             at_least: stamp(words),
         };
-        let begun = if is_in_session {
-            client.begin_in(rt, alloc, &Session::new(), bounds.now, bounds.staleness)
-        } else {
-            client.begin_ro(rt, alloc, bounds)
-        };
+        let begun = begun(client, rt, alloc, is_in_session, &bounds);
         match begun {
             Ok(txn) => {
                 say_pins(answer, &txn);
@@ -166,6 +180,20 @@ impl<'a, J: Naming> Slot<'a, J> {
 }
 
 impl<'a, J: Naming, R: Wait> Reader<'a, J, R> {
+    fn new(
+        rt: &'a R,
+        database: &'a Database<J>,
+        cushion: &'a Pincushion<J>,
+        client: Client<'a, Program, Object, J>,
+    ) -> Self {
+        Reader {
+            rt,
+            database,
+            cushion,
+            slot: Some(Slot::Resting(client)),
+        }
+    }
+
     /// Ends what is open.
     fn end(self) {
         let Reader {
@@ -276,18 +304,13 @@ fn play<J: Naming>(
         RENEW_AFTER,
     )
     .ok()?;
-    let mut reader = Reader {
-        rt,
-        database: &database,
-        cushion: &cushion,
-        slot: Some(Slot::Resting(client)),
-    };
     let mut watched = Watched {
-        player: &mut reader,
+        player: Reader::new(rt, &database, &cushion, client),
         watch: Watch::new(rt, alloc, (&database, &cushion), pool),
     };
     let played = is_played(&mut watched, alloc, "", script, answer);
-    reader.end();
+    let Watched { player, watch: _ } = watched;
+    player.end();
     Some(played)
 }
 

@@ -119,9 +119,8 @@ impl<'a, J: Naming, R: Wait> Watch<'a, J, R> {
 }
 
 /// A player after each of whose commands it is looked what there is.
-#[derive(Drop)]
 pub(crate) struct Watched<'a, P: Obeys, J: Naming, R: Wait> {
-    pub(crate) player: &'a mut P,
+    pub(crate) player: P,
     pub(crate) watch: Watch<'a, J, R>,
 }
 

@@ -57,13 +57,13 @@ fn play<J: Naming>(rt: &impl Wait, alloc: Global, core: DbCore, answer: &mut Str
     let database = Database::<J>::new(alloc, core).ok()?;
     let cushion = Pincushion::new(alloc, &database).ok()?;
     let shared = Shared::new(rt, alloc, &database, false).ok()?;
-    let mut updates = Updates::new(rt, &database, shared, first, second);
     let mut watched = Watched {
-        player: &mut updates,
+        player: Updates::new(rt, &database, shared, first, second),
         watch: Watch::new(rt, alloc, (&database, &cushion), pool),
     };
     let played = is_played(&mut watched, alloc, "", UPDATES, answer);
-    updates.end();
+    let Watched { player, watch: _ } = watched;
+    player.end();
     Some(played)
 }
 

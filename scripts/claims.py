@@ -1,0 +1,255 @@
+"""Whether what the documents claim is so: that what they link to exists, that their counts are those of the tree, and that the help,
+the settings, the sessions and the toolchain that they show are those of the sources, of examples/ and of this machine."""
+import re
+import shutil
+import subprocess
+from functools import lru_cache
+
+import sources
+from sources import ROOT
+
+README = ROOT / "README.md"
+MOST_WORDS = 1_400
+MOST_WORDS_OF_A_SENTENCE = 40
+# The commands of scripts, with which a line of a session begins.
+COMMANDS = set("put remove pin pins ro rw session call ask write step finish commit abort advance tidy counts insert lookup event sweep".split())
+
+
+def documents():
+    """The documents of the repository, but for the template of one, and for one that is to take another's place."""
+    found = [README, ROOT / "CHANGELOG.md", *sorted((ROOT / "docs").glob("*.md")), *sorted((ROOT / "docs/crates").glob("*.md"))]
+    return [it for it in found if it.is_file() and not it.name.endswith((".in.md", ".proposed.md"))]
+
+
+@lru_cache(None)
+def prose(path):
+    """A document without its blocks of code."""
+    return re.sub(r"^```.*?^```$", "", path.read_text(), flags=re.M | re.S)
+
+
+@lru_cache(None)
+def anchors(path):
+    """The places of a document that a link may name."""
+    found = set(re.findall(r'<a id="([^"]+)">', prose(path)))
+    for title in re.findall(r"^#+ (.+)$", prose(path), re.M):
+        found.add(re.sub(r"[^\w -]", "", title.lower()).replace(" ", "-"))
+    return found
+
+
+def links():
+    for document in documents():
+        text = re.sub(r"(?<!\[)`[^`\n]*`(?!\])", "", prose(document))
+        for target in re.findall(r"\]\(([^)\s]+)\)", text):
+            path, _, place = target.partition("#")
+            if re.match(r"\w+:", target):
+                continue
+            file = (document.parent / path).resolve() if path else document
+            if not file.exists():
+                yield document, f"links to {path}, which is not there"
+            elif place and file.suffix == ".md" and place not in anchors(file):
+                yield document, f"links to {target}, and there is no such place"
+
+
+def paths():
+    """The paths that documents name in backticks; README has links in their place."""
+    for document in documents():
+        if document == README or document.parent.name == "crates":
+            continue
+        for name in re.findall(r"`((?:docs|crates|scripts|examples|bench)/[^`\s]*)`", prose(document)):
+            # a word in capitals stands for any name; what is built is there only once it is built
+            pattern = re.sub(r"(?<![A-Za-z_])[A-Z]{2,}(?![A-Za-z_.])|\{[^}]*\}", "*", name.rstrip("/"))
+            if "out" not in pattern.split("/") and not any(ROOT.glob(pattern)):
+                yield document, f"names `{name}`, which is not there"
+
+
+def edits(pattern):
+    return len([*ROOT.glob(f"crates/*/{pattern}/*.edit")])
+
+
+@lru_cache(None)
+def counts():
+    """What a document may count, and how many there are in the tree."""
+    names = sources.crates()
+    functions = [it for crate in names for it in sources.functions(crate)]
+    specs = [path for crate in names for path in (ROOT / "crates" / crate / "specs").glob("*.antt")]
+    defined = {word for path in specs for word in sources.spec_file(path.parts[-3], path.stem).values() if word.crate == path.parts[-3]}
+    return {
+        "crates": len(names),
+        "library crates": len([it for it in names if not it.endswith("_cases") and it != "txcache"]),
+        "functions": len(functions),
+        "public functions": len([it for it in functions if it.is_public]),
+        "definitions": len(defined),
+        "wrong bodies": edits("must-fail") + edits("more-edits"),
+        "tests": sum(text.count("#[test]") for crate in names for text in sources.source_files(crate).values()),
+        "examples": len([it for it in ROOT.glob("examples/**/*.tx?")]),
+    }
+
+
+def counted():
+    """What README, PROMISE and ARCHITECTURE count, in digits, is what the tree has."""
+    for document in (README, ROOT / "docs/PROMISE.md", ROOT / "docs/ARCHITECTURE.md"):
+        for number, what in re.findall(r"\b(\d[\d,]*) ((?:library |public )?crates|(?:public )?functions|definitions|wrong bodies|tests|examples)\b",
+                                       prose(document)):
+            if int(number.replace(",", "")) != counts()[what]:
+                yield document, f"counts {number} {what}, and there are {counts()[what]:,}"
+
+
+def words():
+    count = len(README.read_text().split())
+    if count > MOST_WORDS:
+        yield README, f"has {count} words, and may have {MOST_WORDS}"
+
+
+def sentences(path):
+    """The sentences of a document, each word of code as one word."""
+    text = re.sub(r"^(?:    .*|\|.*|#.*|<!--.*|@.*)$", "", prose(path), flags=re.M)
+    for block in re.split(r"\n\s*\n|\n\s*(?=- |\d+\. )", re.sub(r"`[^`\n]*`", "x", text)):
+        yield from re.split(r"(?<=[.?!:])\s+(?=[A-Z`x(\[])", " ".join(block.split()))
+
+
+def long_sentences():
+    for document in [README, *(ROOT / "docs" / it for it in ("SCRIPTS.md", "CALLING.md", "ARCHITECTURE.md", "promise.in.md"))]:
+        for sentence in sentences(document):
+            if len(sentence.split()) > MOST_WORDS_OF_A_SENTENCE:
+                yield document, f"has a sentence of {len(sentence.split())} words: {sentence}"
+
+
+def crate_tables():
+    """Each crate has a row in ARCHITECTURE, which names some of the libraries that it uses and no other."""
+    document = ROOT / "docs/ARCHITECTURE.md"
+    rows = dict(re.findall(r"^\| `(tx\w+)` \|[^|]*\|([^|]*)\|$", document.read_text(), re.M))
+    lines = [line.split("#")[0] for line in (ROOT / "crates.txt").read_text().split("\n")]
+    uses = {line.split(":")[0].strip(): line.split(":")[1].split() for line in lines if ":" in line}
+    for crate in uses.keys() - rows.keys():
+        yield document, f"has no row for {crate}"
+    for crate in rows.keys() - uses.keys():
+        yield document, f"has a row for {crate}, which is no crate"
+    for crate in rows.keys() & uses.keys():
+        for other in re.findall(r"`(\w+)`", rows[crate]):
+            if other not in uses[crate]:
+                yield document, f"says that {crate} stands on {other}, which it does not use"
+
+
+def promised():
+    """Each library that is not there for tests alone has a row in PROMISE."""
+    lines = [line.split("#")[0] for line in (ROOT / "crates.txt").read_text().split("\n")]
+    uses = {line.split(":")[0].strip(): line.split(":")[1].split() for line in lines if ":" in line}
+    of_tests = {it for it in uses if it.endswith("_cases")}
+    for crate in reversed(uses):
+        users = {it for it in uses if crate in uses[it]}
+        if users and users <= of_tests:
+            of_tests.add(crate)
+    document = ROOT / "docs/promise.in.md"
+    rows = re.findall(r"^\| (`txc_.*?) \|", document.read_text(), re.M)
+    for crate in uses:
+        if crate not in of_tests and (ROOT / "crates" / crate / "src/lib.rt").is_file() and not any(f"`{crate}`" in it for it in rows):
+            yield document, f"has no row for {crate} in its table of crates"
+
+
+def help_shown():
+    """The help in SCRIPTS is the one that the tests of the command line compare."""
+    document = ROOT / "docs/SCRIPTS.md"
+    text = (ROOT / "crates/txc_cases/src/command.rt").read_text()
+    said = re.search(r"^txcache --help = 0 (.*?[^\\])\n", re.sub(r"\\\n", "", text), re.M)[1]
+    wanted = [line.rstrip() for line in said.rstrip(";").split(";")]
+    shown = re.search(r"^    \$ txcache --help\n((?:    .*\n|\n)+)", document.read_text(), re.M)
+    if not shown or [line[4:].rstrip() for line in shown[1].rstrip().split("\n")] != wanted:
+        yield document, "shows another help than the program's (crates/txc_cases/src/command.rt)"
+
+
+def settings():
+    """The settings in SCRIPTS have the ranges and the defaults of txc_settings."""
+    document, crate = ROOT / "docs/SCRIPTS.md", ROOT / "crates/txc_settings/src"
+    limits = {}
+    for path in [*ROOT.glob("crates/txc_settings/src/*.rt"), *ROOT.glob("crates/txc_node/src/*.rt")]:
+        for name, value in re.findall(r"^pub const (MAX_\w+): \w+ = ([\d_]+);", path.read_text(), re.M):
+            limits[name] = int(value)
+    ranges = re.findall(r'"(\w+)" => Some\(\((\d), (MAX_\w+)', (crate / "keys.rt").read_text())
+    defaults = dict(re.findall(r'setting\(&table, "(\w+)", ([\d_]+)\)', (crate / "read.rt").read_text()))
+    wanted = {key: (f"{least} to {limits[most]}", str(int(defaults[key]))) for key, least, most in ranges}
+    rows = re.findall(r"^\| `(\w+)` \|[^|]*\| (\d+ to \d+) \| (\d+) \|$", document.read_text(), re.M)
+    shown = {key: (reach, default) for key, reach, default in rows}
+    if shown != wanted:
+        yield document, f"has other settings than txc_settings: {dict(shown.items() ^ wanted.items())}"
+
+
+def examples():
+    """Each script of examples/, as its commands with their replies."""
+    for script in sorted(ROOT.glob("examples/**/*.tx?")):
+        lines = [it for it in script.read_text().split("\n") if it and not it.startswith("#")]
+        yield script, [*zip(lines, script.with_suffix(".out").read_text().split("\n"))]
+
+
+def is_within(shown, example):
+    """Whether the lines stand in the example, in their order, with these replies."""
+    rest = iter(example)
+    return all(any(line == command and said.startswith(reply) for command, reply in rest) for line, said in shown)
+
+
+def sessions():
+    """Each session that README or a section of SCRIPTS shows in blocks of code is that of one example, or a part of it."""
+    for document in (README, ROOT / "docs/SCRIPTS.md"):
+        for section in re.split(r"(?m)^(?=#+ )", document.read_text()):
+            lines = [it.strip() for it in section.split("\n") if it.startswith("    ")]
+            shown = [re.split(r" {2,}", it, maxsplit=1) for it in lines if it.split(" ")[0] in COMMANDS]
+            shown = [it for it in shown if len(it) == 2]
+            if shown and not any(is_within(shown, example) for _, example in examples()):
+                yield document, f"shows a session that no example has: it begins with `{shown[0][0]}`"
+
+
+def commands():
+    """Each `make` command that a document shows has its target, and the script that it names is there."""
+    targets = {it for line in re.findall(r"^([a-z ]+):", (ROOT / "Makefile").read_text(), re.M) for it in line.split()}
+    for document in documents():
+        text = document.read_text() if document.parent.name != "crates" else ""
+        for target in re.findall(r"(?:^    |`)make (\w+)", text, re.M):
+            if target not in targets:
+                yield document, f"shows `make {target}`, which the Makefile doesn't have"
+        for script in re.findall(r"\bSCRIPT=([\w./]+)", text):
+            if "NAME" not in script and not (ROOT / script).is_file():
+                yield document, f"shows SCRIPT={script}, which is not there"
+
+
+def toolchain():
+    """The logic that README names is that of this machine's toolchain, where there is one."""
+    named = re.search(r"logic (\w+)", README.read_text())
+    if shutil.which("rt") and named:
+        said = subprocess.run(["rt", "version"], stdout=subprocess.PIPE, text=True).stdout
+        if f"logic {named[1]}" not in said:
+            yield README, f"names the logic {named[1]}, and `rt version` prints `{said.strip()}`"
+
+
+def version():
+    """The landing that README names, if it names one, is the newest of CHANGELOG."""
+    newest = re.search(r"^## (\d{4}-\d\d-\d\d), (\w{8})", (ROOT / "CHANGELOG.md").read_text(), re.M)
+    named = re.search(r"landing of (\S+), `(\w+)`", " ".join(README.read_text().split()))
+    if named and named.groups() != newest.groups():
+        yield README, f"names the landing of {named[1]}, {named[2]}, and the newest is that of {newest[1]}, {newest[2]}"
+
+
+def names():
+    """Each file and each function of a type that ARCHITECTURE, CALLING and DECISIONS name in backticks is there."""
+    files = [f"/{it.as_posix()}" for it in ROOT.glob("crates/**/*") if it.suffix in (".rt", ".antt") and "out" not in it.parts]
+    methods = {}
+    for crate in sources.crates():
+        for word in sources.rust_items(crate).values():
+            methods.setdefault(word.name, set()).update(re.findall(r"\w+", word.text))
+        for call in sources.functions(crate):
+            methods.setdefault(call.owner, set()).add(call.name)
+    for name in ("ARCHITECTURE.md", "CALLING.md", "DECISIONS.md"):
+        document = ROOT / "docs" / name
+        for said in re.findall(r"`([^`\n]+)`", prose(document)):
+            kind, _, method = said.partition("::")
+            if re.fullmatch(r"[\w/]+\.(rt|antt)", said) and not any(it.endswith(f"/{said}") for it in files):
+                yield document, f"names the file `{said}`, which is not there"
+            elif kind in methods and re.fullmatch(r"\w+", method) and method not in methods[kind]:
+                yield document, f"names `{said}`, which is not there"
+
+
+def faults():
+    """What the documents claim that is not so, each as a line of text."""
+    found = []
+    checks = (links, paths, counted, words, long_sentences, crate_tables, promised, help_shown, settings, sessions, commands, toolchain, version, names)
+    for check in checks:
+        found += [f"{document.relative_to(ROOT)} {said}" for document, said in check()]
+    return found
