@@ -57,6 +57,6 @@ pub due_no_call : (call : Option OpenCall) (Suits : Type 0) (reply : Reply) → 
 due_no_call None Suits reply is suits = suits
 due_no_call (Some call) Suits reply is suits = absurd (cc is)
 
-pub due_in_call : (call : Option OpenCall) (open : OpenCall) (Suits : Type 0) (reply : Reply) → call ≡ Some open → Suits
+pub due_in_call : (call : Option OpenCall) (there : OpenCall) (Suits : Type 0) (reply : Reply) → call ≡ Some there → Suits
     → IsDueOr (due_by_call (option_map (λ c. c.key) call) None (Some NoRequest)) Suits reply
-due_in_call call open Suits reply is suits = rw is suits
+due_in_call call there Suits reply is suits = rw is suits

@@ -1,6 +1,7 @@
-use Rattle.std.proofs.Common.{ap, rules}
+use Rattle.std.proofs.Common.{ap, rules, arith}
 use Rattle.txc_world.specs.Ports.{PortsValue}
 use Rattle.txc_world.proofs.Whole.{keeps_cushion}
+use Rattle.std.proofs.lemmas.Grind.{common_steps}
 use Rattle.txc_world.proofs.acting.begin_ro.Goals as goal
 
 pub new-txn-requires : goal.new-txn-requires
@@ -11,24 +12,24 @@ new-txn-requires g c = record {
 
 pub returns-in-Ok-clause-acted : goal.returns-in-Ok-clause-acted
 returns-in-Ok-clause-acted g c = record {
-  fits = search rules;
-  told = search rules;
+  fits = first_of (search rules, grind (arith, common_steps));
+  told = first_of (search rules, grind (arith, common_steps));
   history = ap (λ (p : PortsValue). p.database.history) c.begun.ensures.same;
-  due = search rules;
+  due = first_of (search rules, grind (arith, common_steps));
   explained = tt;
   keeps = keeps_cushion c.args.ports.now c.begun.new.ports c.begun.ensures.same;
   spare = ap (λ (p : PortsValue). p.spare) c.begun.ensures.same;
-  counts = search rules;
+  counts = first_of (search rules, grind (arith, common_steps));
 }
 
 pub returns-in-Err-clause-acted : goal.returns-in-Err-clause-acted
 returns-in-Err-clause-acted g c = record {
-  fits = search rules;
-  told = search rules;
+  fits = first_of (search rules, grind (arith, common_steps));
+  told = first_of (search rules, grind (arith, common_steps));
   history = ap (λ (p : PortsValue). p.database.history) c.begun.ensures.same;
-  due = search rules;
+  due = first_of (search rules, grind (arith, common_steps));
   explained = tt;
   keeps = keeps_cushion c.args.ports.now c.begun.new.ports c.begun.ensures.same;
   spare = ap (λ (p : PortsValue). p.spare) c.begun.ensures.same;
-  counts = search rules;
+  counts = first_of (search rules, grind (arith, common_steps));
 }

@@ -9,12 +9,13 @@ use Rattle.txc_txn.proofs.Offered.{adds_none}
 use Rattle.txc_world.specs.Parts.{IsPartOf}
 use Rattle.txc_world.specs.Ports.{whole_of}
 use Rattle.txc_world.proofs.Losing.{none_left, start_not_lost}
-use Rattle.std.proofs.Common.{rules}
+use Rattle.std.proofs.Common.{rules, arith}
 use Rattle.txc_world.specs.declared.actor.Actor.TheVariants.{Reading}
 use Rattle.txc_world.specs.declared.reply.Refusal.TheVariants.{MidCall}
 use Rattle.txc_world.specs.declared.step.Act.TheVariants.{Start}
 use Rattle.txc_world.proofs.PortsLemmas.{keeps_itself}
 use Rattle.txc_world.proofs.Acted.{due_mid_call, due_no_call, refused_so}
+use Rattle.std.proofs.lemmas.Grind.{common_steps}
 use Rattle.txc_world.proofs.acting.start.Goals as goal
 
 pub returns-then-is_some-clause-leads : goal.returns-then-is_some-clause-leads
@@ -54,11 +55,11 @@ returns-clause-acted g c =
           drops = none_left c.start-turn.new.self.core c.start-turn.ensures.left;
         };
       };
-      told = search rules;
+      told = first_of (search rules, grind (arith, common_steps));
       history = refl;
       due = due_no_call c.args.current.call _ _ (sym c.is_some.ensures ∙ c.if-is_some.false) refl;
       explained = tt;
       keeps = keeps_itself c.args.whole.now;
       spare = refl;
-      counts = search rules;
+      counts = first_of (search rules, grind (arith, common_steps));
     }

@@ -5,13 +5,14 @@ use Rattle.std.proofs.Common.{None, refl, ap, sym, ◌∙◌}
 use Rattle.txc_registry.specs.Objects.{Objects}
 use Rattle.txc_world.specs.Cast.{call_value, writes}
 use Rattle.txc_world.proofs.Leading.{with_call, without_call}
-use Rattle.std.proofs.Common.{rules}
+use Rattle.std.proofs.Common.{rules, arith}
 use Rattle.txc_world.specs.declared.actor.Actor.TheVariants.{Writing}
 use Rattle.txc_world.specs.declared.reply.Refusal.TheVariants.{MidCall}
 use Rattle.txc_world.specs.declared.step.Act.TheVariants.{Ask}
 use Rattle.txc_world.specs.Ports.{PortsValue}
 use Rattle.txc_world.proofs.PortsLemmas.{keeps_same}
 use Rattle.txc_world.proofs.Acted.{due_mid_call, due_no_call, refused_so}
+use Rattle.std.proofs.lemmas.Grind.{common_steps}
 use Rattle.txc_world.proofs.writing.ask.Goals as goal
 
 pub returns-then-is_some-clause-leads : goal.returns-then-is_some-clause-leads
@@ -38,11 +39,11 @@ returns-then-is_some-clause-acted g c =
 
 pub returns-clause-acted : goal.returns-clause-acted
 returns-clause-acted g c = record {
-  fits = search rules;
-  told = search rules;
-  history = search rules;
-  due = search rules;
-  explained = search rules;
+  fits = first_of (search rules, grind (arith, common_steps));
+  told = first_of (search rules, grind (arith, common_steps));
+  history = first_of (search rules, grind (arith, common_steps));
+  due = first_of (search rules, grind (arith, common_steps));
+  explained = first_of (search rules, grind (arith, common_steps));
   keeps = keeps_same c.args.ports.now c.find-turn.new.ports c.find-turn.ensures.same_ports;
   spare = ap (λ (p : PortsValue). p.spare) c.find-turn.ensures.same_ports;
   counts =

@@ -2,14 +2,15 @@ use Rattle.std.proofs.Common.{ℕ, sym, subst}
 use Rattle.txc_world.specs.declared.reply.Reply.TheVariants.{Based}
 use Rattle.txc_world.specs.Books.{nothing, ActCounts}
 use Rattle.txc_world.proofs.WritingCounts.{based, counts_begun, counts_unchanged}
-use Rattle.std.proofs.Common.{ap, rules}
+use Rattle.std.proofs.Common.{ap, rules, arith}
 use Rattle.txc_world.specs.Ports.{PortsValue}
+use Rattle.std.proofs.lemmas.Grind.{common_steps}
 use Rattle.txc_world.proofs.writing.begin_rw.Goals as goal
 
 pub returns-in-Ok-clause-acted : goal.returns-in-Ok-clause-acted
 returns-in-Ok-clause-acted g c = record {
-  fits = search rules;
-  told = search rules;
+  fits = first_of (search rules, grind (arith, common_steps));
+  told = first_of (search rules, grind (arith, common_steps));
   history = c.hold.ensures.history;
   due = tt;
   explained = tt;
@@ -22,8 +23,8 @@ returns-in-Ok-clause-acted g c = record {
 
 pub returns-in-Err-clause-acted : goal.returns-in-Err-clause-acted
 returns-in-Err-clause-acted g c = record {
-  fits = search rules;
-  told = search rules;
+  fits = first_of (search rules, grind (arith, common_steps));
+  told = first_of (search rules, grind (arith, common_steps));
   history = c.hold.ensures.history;
   due = tt;
   explained = tt;

@@ -4,13 +4,14 @@ use Rattle.txc_world.proofs.WritingLemmas.{none_by_test}
 use Rattle.txc_world.proofs.WritingCounts.{fair_commit, fair_not_committed}
 use Rattle.txc_world.specs.Cast.{call_value}
 use Rattle.txc_world.proofs.Leading.{with_call, without_call}
-use Rattle.std.proofs.Common.{ap, rules}
+use Rattle.std.proofs.Common.{ap, rules, arith}
 use Rattle.txc_world.specs.declared.actor.Actor.TheVariants.{Writing}
 use Rattle.txc_world.specs.declared.reply.Refusal.TheVariants.{MidCall}
 use Rattle.txc_world.specs.declared.step.Act.TheVariants.{Commit}
 use Rattle.txc_world.specs.Told.{leaving}
 use Rattle.txc_world.proofs.Acted.{due_mid_call, due_no_call, refused_so}
 use Rattle.txc_world.specs.Ports.{PortsValue}
+use Rattle.std.proofs.lemmas.Grind.{common_steps}
 use Rattle.txc_world.proofs.writing.commit.Goals as goal
 
 pub returns-then-is_some-clause-leads : goal.returns-then-is_some-clause-leads
@@ -37,7 +38,7 @@ pub returns-in-Ok-clause-acted : goal.returns-in-Ok-clause-acted
 returns-in-Ok-clause-acted g c = record {
   fits = c.cancel-unpin.ensures.idle;
   told = ap leaving c.base-base.ensures;
-  history = search rules;
+  history = first_of (search rules, grind (arith, common_steps));
   due = due_no_call c.args.current.call _ _ (sym c.is_some.ensures ∙ c.if-is_some.false) tt;
   explained =
       explained_open g.A.App.next c.commit.new.self.database.history _ c.args.current.core c.in-Ok.stamp c.args.current.call
@@ -57,9 +58,9 @@ returns-in-Ok-clause-acted g c = record {
 
 pub returns-in-Err-clause-acted : goal.returns-in-Err-clause-acted
 returns-in-Err-clause-acted g c = record {
-  fits = search rules;
+  fits = first_of (search rules, grind (arith, common_steps));
   told = refl;
-  history = search rules;
+  history = first_of (search rules, grind (arith, common_steps));
   due = due_no_call c.args.current.call _ _ (sym c.is_some.ensures ∙ c.if-is_some.false) tt;
   explained = tt;
   keeps = c.commit.ensures.keeps;

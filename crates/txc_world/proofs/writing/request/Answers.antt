@@ -6,10 +6,11 @@ use Rattle.txc_world.proofs.Leading.{noted_seen, some_there}
 use Rattle.txc_world.specs.Books.{HasLost}
 use Rattle.txc_world.proofs.Losing.{noted_lost}
 use Rattle.txc_world.proofs.WritingCounts.{asked_lost, based, counts_based}
-use Rattle.std.proofs.Common.{rules}
+use Rattle.std.proofs.Common.{rules, arith}
 use Rattle.txc_world.specs.Ports.{PortsValue}
 use Rattle.txc_world.proofs.PortsLemmas.{keeps_same}
 use Rattle.txc_world.proofs.Acted.{due_in_call}
+use Rattle.std.proofs.lemmas.Grind.{common_steps}
 use Rattle.txc_world.proofs.writing.request.Goals as goal
 
 pub returns-clause-leads : goal.returns-clause-leads
@@ -34,8 +35,8 @@ pub returns-clause-acted : goal.returns-clause-acted
 returns-clause-acted g c =
     let loss = c.go_on-did.ensures.loss in
     record {
-      fits = search rules;
-      told = search rules;
+      fits = first_of (search rules, grind (arith, common_steps));
+      told = first_of (search rules, grind (arith, common_steps));
       history = ap (λ (p : PortsValue). p.database.history) c.go_on-did.ensures.same_ports;
       due = due_in_call c.args.current.call _ _ _ c.in-Some.is tt;
       explained = tt;

@@ -7,12 +7,13 @@ use Rattle.txc_world.proofs.WritingCounts.{counts_based, loss_write}
 use Rattle.std.specs.Option.{option_map}
 use Rattle.txc_world.specs.Cast.{call_value, writes}
 use Rattle.txc_world.proofs.Leading.{with_call, without_call}
-use Rattle.std.proofs.Common.{rules}
+use Rattle.std.proofs.Common.{rules, arith}
 use Rattle.txc_world.specs.declared.actor.Actor.TheVariants.{Writing}
 use Rattle.txc_world.specs.declared.reply.Refusal.TheVariants.{MidCall}
 use Rattle.txc_world.specs.declared.step.Act.TheVariants.{Write}
 use Rattle.txc_world.proofs.PortsLemmas.{keeps_itself}
 use Rattle.txc_world.proofs.Acted.{due_mid_call, due_no_call, refused_so}
+use Rattle.std.proofs.lemmas.Grind.{common_steps}
 use Rattle.txc_world.proofs.writing.write.Goals as goal
 
 pub returns-then-is_some-clause-leads : goal.returns-then-is_some-clause-leads
@@ -39,7 +40,7 @@ returns-in-Ok-clause-acted g c = record {
     call = still_open c.args.current.core c.keep_change.new.core _ c.args.current.call
         (none_by_test c.args.current.call (sym c.is_some.ensures ∙ c.if-is_some.false)) c.in-Ok.ensures.after c.requires.call;
   };
-  told = search rules;
+  told = first_of (search rules, grind (arith, common_steps));
   history = refl;
   due = due_no_call c.args.current.call _ _ (sym c.is_some.ensures ∙ c.if-is_some.false) c.in-Ok.ensures.only_if;
   explained = tt;
@@ -51,8 +52,8 @@ returns-in-Ok-clause-acted g c = record {
 
 pub returns-in-Err-clause-acted : goal.returns-in-Err-clause-acted
 returns-in-Err-clause-acted g c = record {
-  fits = search rules;
-  told = search rules;
+  fits = first_of (search rules, grind (arith, common_steps));
+  told = first_of (search rules, grind (arith, common_steps));
   history = refl;
   due = due_no_call c.args.current.call _ _ (sym c.is_some.ensures ∙ c.if-is_some.false) c.in-Err.ensures.refused;
   explained = tt;
