@@ -15,7 +15,7 @@ returns g c = record {
   fits = search rules;
   holds = search rules;
   turn_fits = search rules;
-  leads = 
+  leads =
       let gone : kept c.in-Some.hit.answer.reach c.args.self.now.pins.members ≡ [] = c.in-Err.ensures.refused.0 refl in
       rw c.in-Some.is (λ k is. record {
         held = λ some. absurd (some gone);
