@@ -39,11 +39,11 @@ returns-clause-acted g c = record {
   history = ap (λ (p : PortsValue). p.database.history) c.give_back.ensures.same;
   due = due_no_call c.args.current.call _ _ (sym c.is_some.ensures ∙ c.if-is_some.false) tt;
   explained =
-    let explained = rw (c.finish-receipt.ensures.seen, c.finish-receipt.ensures.answers) at c.finish-receipt.ensures.explained in
-        subst (λ (p : PortsValue). Explains g.A.App.next p.database.history c.args.current.txn.core.bounds c.finish-receipt.result.0.pin c.args.current.txn.core.recorded)
-        (sym c.give_back.ensures.same)
-        (explained_later g.A.App.next c.args.current.txn.core.seen.history c.args.ports.now.database.history
-        c.args.current.txn.core.bounds c.finish-receipt.result.0.pin c.args.current.txn.core.recorded c.requires.seen.begins explained);
+      let explained = rw (c.finish-receipt.ensures.seen, c.finish-receipt.ensures.answers) at c.finish-receipt.ensures.explained in
+      subst (λ (p : PortsValue). Explains g.A.App.next p.database.history c.args.current.txn.core.bounds c.finish-receipt.result.0.pin c.args.current.txn.core.recorded)
+      (sym c.give_back.ensures.same)
+      (explained_later g.A.App.next c.args.current.txn.core.seen.history c.args.ports.now.database.history
+      c.args.current.txn.core.bounds c.finish-receipt.result.0.pin c.args.current.txn.core.recorded c.requires.seen.begins explained);
   keeps = c.give_back.ensures.keeps;
   spare = ap (λ (p : PortsValue). p.spare) c.give_back.ensures.same;
   counts = record {

@@ -48,5 +48,5 @@ returns-clause-acted g c = record {
   spare = ap (λ (p : PortsValue). p.spare) c.find-turn.ensures.same_ports;
   counts =
       counts_based c.args.ports.now c.find-turn.new.ports c.args.current.core.base c.find-turn.new.core.base c.told_rows.result c.find-turn.ensures.same_ports c.find-turn.ensures.base
-        (rows_lost (HasLost c.args.ports.now (based c.args.current.core.base)) c.find-turn.result c.told_rows.result c.told_rows.ensures c.find-turn.ensures.loss);
+      (rows_lost (HasLost c.args.ports.now (based c.args.current.core.base)) c.find-turn.result c.told_rows.result c.told_rows.ensures c.find-turn.ensures.loss);
 }

@@ -43,9 +43,9 @@ returns-clause-acted g c =
       keeps = keeps_same c.args.ports.now c.go_on-did.new.ports c.go_on-did.ensures.same_ports;
       spare = ap (λ (p : PortsValue). p.spare) c.go_on-did.ensures.same_ports;
       counts = counts_based c.args.ports.now c.go_on-did.new.ports c.args.current.core.base c.go_on-did.new.core.base _ c.go_on-did.ensures.same_ports c.go_on-did.ensures.base (
-            loss,
-            noted_lost (HasLost c.args.ports.now (based c.args.current.core.base)) (opened c.in-Some.field-0.key) c.go_on-did.result.turn c.note-call.result.0 c.note-call.result.1 c.note-call.ensures
-                (asked_lost (HasLost c.args.ports.now (based c.args.current.core.base)) g.A.App.next c.in-Some-asked.query c.args.ports.now c.args.current.core c.go_on-did.new.core
-                c.args.current.registry c.go_on-did.new.registry c.go_on-did.result.did c.go_on-did.result.turn c.go_on-did.ensures.asks loss),
-          );
+        loss,
+        noted_lost (HasLost c.args.ports.now (based c.args.current.core.base)) (opened c.in-Some.field-0.key) c.go_on-did.result.turn c.note-call.result.0 c.note-call.result.1 c.note-call.ensures
+            (asked_lost (HasLost c.args.ports.now (based c.args.current.core.base)) g.A.App.next c.in-Some-asked.query c.args.ports.now c.args.current.core c.go_on-did.new.core
+            c.args.current.registry c.go_on-did.new.registry c.go_on-did.result.did c.go_on-did.result.turn c.go_on-did.ensures.asks loss),
+      );
     }
