@@ -300,7 +300,7 @@ fn events_come_before_the_value(rt: HostRuntime) -> Result<(), Fail> {
 fn a_request_that_is_refused_ends_its_call(rt: HostRuntime) -> Result<(), Fail> {
     let mut answer = room(rt.alloc())?;
     let played = play_refused(rt.alloc(), &mut answer);
-    assert!(rt; played == Some(31), "{played:?} {answer}");
+    assert!(rt; played == Some(32), "{played:?} {answer}");
     Ok(())
 }
 

@@ -207,7 +207,7 @@ fn play<R: Threads + Wait + Sync + Abort + AllocGlobal>(
 
 #[test]
 fn clients_are_answered_as_worked(rt: HostRuntime) -> Result<(), Fail> {
-    play(&rt, &SCRIPTS, 22)
+    play(&rt, &SCRIPTS, 23)
 }
 
 /// With permits for both clients.
