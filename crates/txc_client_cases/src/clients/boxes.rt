@@ -1,5 +1,5 @@
 //! Clients of the program's functions, in boxes, and all that they stand on.
-ghost use Rattle.std.specs.Prelude.{◌≡◌, ◌≤◌, All};
+ghost use Rattle.std.specs.Prelude.{◌≡◌, ◌≤◌, All, IfOk};
 ghost use Rattle.txc_registry.specs.Activity.{idle};
 ghost use Rattle.txc_functions.specs.Program.{program};
 
@@ -16,7 +16,9 @@ use txc_app::App;
 use txc_client::Client;
 use txc_cushion::Pincushion;
 use txc_db::{Database, DbCore, Naming};
-use txc_functions::{Again, BodiesAndBody, BodiesIn, BodyAt, Function, Itself, Program};
+use txc_functions::{
+    Again, BodiesAndBody, BodiesIn, BodyAt, Definition, Function, Itself, Program,
+};
 use txc_judge::{Verdict, play_lines};
 use txc_node::Record;
 use txc_permits::PermitPool;
@@ -141,6 +143,19 @@ fn work_over<R: Threads + Wait + Sync, C: Cacheable + Send>(
     )
 }
 
+/// The object of a function, which takes its permits from the pool.
+fn function<D: Definition>(
+    alloc: Global,
+    pool: &mut PermitPool,
+    definition: D,
+) -> Result<Function<D>, AllocError>
+    ensures idle { IfOk result (λ f. ⟦<Function<D> as Cacheable>⟧.activity f ≡ idle) }
+    ensures number { IfOk result (λ f. ⟦<Function<D> as Cacheable>⟧.number f ≡ D.number definition) }
+    ensures says { IfOk result (λ f. ⟦<Function<D> as Cacheable>⟧.says f ≡ D.says definition) }
+{
+    Ok(Function::new(alloc, pool.share()?, definition))
+}
+
 /// Makes functions for two clients: the first has all but the count, the other three.
 fn started<R: Threads + Wait + Sync>(
     rt: &R,
@@ -150,22 +165,22 @@ fn started<R: Threads + Wait + Sync>(
 ) -> Result<Option<Verdict>, AllocError> {
     let mut pool = PermitPool::new(alloc, script.0.clamp(1, 16))?;
     let mut one: Vec<Boxed> = Vec::new(alloc);
-    let body_at = Function::new(alloc, pool.share()?, BodyAt);
+    let body_at = function(alloc, &mut pool, BodyAt)?;
     enlist::<Program, Boxed>(&mut one, Box::new(alloc, body_at)?)?;
-    let bodies_in = Function::new(alloc, pool.share()?, BodiesIn);
+    let bodies_in = function(alloc, &mut pool, BodiesIn)?;
     enlist::<Program, Boxed>(&mut one, Box::new(alloc, bodies_in)?)?;
-    let bodies_and_body = Function::new(alloc, pool.share()?, BodiesAndBody);
+    let bodies_and_body = function(alloc, &mut pool, BodiesAndBody)?;
     enlist::<Program, Boxed>(&mut one, Box::new(alloc, bodies_and_body)?)?;
-    let itself = Function::new(alloc, pool.share()?, Itself);
+    let itself = function(alloc, &mut pool, Itself)?;
     enlist::<Program, Boxed>(&mut one, Box::new(alloc, itself)?)?;
-    let again = Function::new(alloc, pool.share()?, Again);
+    let again = function(alloc, &mut pool, Again)?;
     enlist::<Program, Boxed>(&mut one, Box::new(alloc, again)?)?;
     let mut other: Vec<Boxed> = Vec::new(alloc);
-    let body_at = Function::new(alloc, pool.share()?, BodyAt);
+    let body_at = function(alloc, &mut pool, BodyAt)?;
     enlist::<Program, Boxed>(&mut other, Box::new(alloc, body_at)?)?;
-    let bodies_in = Function::new(alloc, pool.share()?, BodiesIn);
+    let bodies_in = function(alloc, &mut pool, BodiesIn)?;
     enlist::<Program, Boxed>(&mut other, Box::new(alloc, bodies_in)?)?;
-    let bodies_and_body = Function::new(alloc, pool.share()?, BodiesAndBody);
+    let bodies_and_body = function(alloc, &mut pool, BodiesAndBody)?;
     enlist::<Program, Boxed>(&mut other, Box::new(alloc, bodies_and_body)?)?;
     Ok(work_over::<R, Boxed>(rt, alloc, one, other, script, pool, answer))
 }
