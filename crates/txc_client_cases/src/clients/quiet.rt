@@ -277,7 +277,7 @@ fn play<J: Naming>(
     rt: &impl Wait,
     alloc: Global,
     rows: (DbCore, EventRow<Record>, EventRow<Record>),
-    script: &str,
+    script: Script,
     answer: &mut String,
 ) -> Option<bool>
     requires database { rows.0.events ≡ J.database_row }
@@ -308,7 +308,7 @@ fn play<J: Naming>(
         player: Reader::new(rt, &database, &cushion, client),
         watch: Watch::new(rt, alloc, (&database, &cushion), pool),
     };
-    let played = is_played(&mut watched, alloc, "", script, answer);
+    let played = is_played(&mut watched, alloc, "", script.1, answer);
     let Watched { player, watch: _ } = watched;
     player.end();
     Some(played)
@@ -316,11 +316,10 @@ fn play<J: Naming>(
 
 /// Makes the rows, and plays the script.
 fn start(rt: &impl Wait, alloc: Global, script: Script, answer: &mut String) -> Option<bool> {
-    let (events, commands) = script;
-    let core = core_of(alloc, events)?;
+    let core = core_of(alloc, script.0)?;
     let one = EventRow::new(alloc, 64).ok()?;
     let other = EventRow::new(alloc, 64).ok()?;
-    play::<Brand>(rt, alloc, (core, one, other), commands, answer)
+    play::<Brand>(rt, alloc, (core, one, other), script, answer)
 }
 
 /// Whether all is answered as wanted: anew where memory was refused, since then a call may be made twice.

@@ -2,7 +2,7 @@
 ghost use Rattle.std.specs.Prelude.{◌≡◌};
 
 use super::caller::Reader;
-use super::sessions::{How, RENEW_AFTER, is_answered, node};
+use super::sessions::{How, RENEW_AFTER, Script, is_answered, node};
 use std::alloc::{AllocError, Global};
 use std::marker::Brand;
 use std::sync::Wait;
@@ -52,7 +52,7 @@ ro 1 9000 0: f0(7), commit => 62; receipt 4 9000
 ";
 
 /// With how much room for events each is played, and how.
-const BROKEN: [(usize, How, &str); 3] = [
+const BROKEN: [Script; 3] = [
     (64, How::Broken, BROKEN_NODE),
     (64, How::Compared, BROKEN_DATABASE),
     (64, How::Compared, LOST),
@@ -76,7 +76,7 @@ unpin 2 =>
 ro 0 9000 0: f0(7), commit => 61; receipt 3 9000
 ";
 
-const LIMITS: [(usize, How, &str); 2] = [
+const LIMITS: [Script; 2] = [
     (4096, How::Compared, FULL_CUSHION),
     (64, How::Compared, HOLDS),
 ];
@@ -113,11 +113,11 @@ pub(super) fn append_event(alloc: Global, events: &EventRow<Event>) -> Result<()
 fn find_other(
     rt: &impl Wait,
     alloc: Global,
-    scripts: &[(usize, How, &str)],
+    scripts: &[Script],
     answer: &mut String,
 ) -> Option<usize> {
-    for (place, (events, how, script)) in scripts.iter().enumerate() {
-        if !is_answered(rt, alloc, (*events, *how), script, answer) {
+    for (place, script) in scripts.iter().enumerate() {
+        if !is_answered(rt, alloc, *script, answer) {
             return Some(place);
         }
     }

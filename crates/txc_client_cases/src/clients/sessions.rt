@@ -55,7 +55,7 @@ counts 0 2 1 => no such node
 ";
 
 /// The scripts, and how many receipts are judged.
-const SCRIPTS: [(&str, u32); 2] = [(SEEN, 6), (COUNTS, 2)];
+const SCRIPTS: [(Script, u32); 2] = [((64, How::Judged, SEEN), 6), ((64, How::Judged, COUNTS), 2)];
 
 /// How many permits there are for all functions.
 const PERMITS: u64 = 3;
@@ -88,13 +88,15 @@ pub(super) enum How {
     Judged,
 }
 
+/// How many events there is room for, how the commands are played, and they.
+pub(super) type Script = (usize, How, &'static str);
+
 /// Plays the script to a caller with two clients over two nodes. None where memory for these was refused.
 fn play<J: Naming>(
     rt: &impl Wait,
     alloc: Global,
     rows: (DbCore, EventRow<Record>, EventRow<Record>),
-    how: How,
-    script: &str,
+    script: Script,
     answer: &mut String,
 ) -> Option<Verdict>
     requires database { rows.0.events ≡ J.database_row }
@@ -102,6 +104,7 @@ fn play<J: Naming>(
     requires other { rows.2 ≡ J.node_rows 1 }
 {
     let (core, one, other) = rows;
+    let (_, how, commands) = script;
     let database = Database::<J>::new(alloc, core).ok()?;
     let cushion = Pincushion::new(alloc, &database).ok()?;
     let mut nodes = Vec::new(alloc);
@@ -122,9 +125,9 @@ fn play<J: Naming>(
     let shared = Shared::new(rt, alloc, &database, false).ok()?;
     let mut caller = Caller::new(rt, (&database, &cushion), shared, pool, (one, other));
     if how == How::Judged {
-        return play_lines(&mut caller, alloc, script, PERMITS as usize, answer);
+        return play_lines(&mut caller, alloc, commands, PERMITS as usize, answer);
     }
-    if is_played(&mut caller, alloc, "", script, answer) {
+    if is_played(&mut caller, alloc, "", commands, answer) {
         Some(Verdict::Wanted(0))
     } else {
         Some(Verdict::Other)
@@ -136,34 +139,24 @@ pub(super) fn core_of(alloc: Global, events: usize) -> Option<DbCore> {
     DbCore::new(alloc, events.clamp(1, 4096)).ok()
 }
 
-/// Makes the rows, with room for so many events, and plays the script.
-fn start(
-    rt: &impl Wait,
-    alloc: Global,
-    events: usize,
-    how: How,
-    script: &str,
-    answer: &mut String,
-) -> Option<Verdict> {
-    let core = core_of(alloc, events)?;
+/// Makes the rows, and plays the script.
+fn start(rt: &impl Wait, alloc: Global, script: Script, answer: &mut String) -> Option<Verdict> {
+    let core = core_of(alloc, script.0)?;
     let one = EventRow::new(alloc, 64).ok()?;
     let other = EventRow::new(alloc, 64).ok()?;
-    play::<Brand>(rt, alloc, (core, one, other), how, script, answer)
+    play::<Brand>(rt, alloc, (core, one, other), script, answer)
 }
 
 /// Whether all is answered as wanted: anew where memory was refused, since then a call may be made twice.
 pub(super) fn is_answered(
     rt: &impl Wait,
     alloc: Global,
-    made: (usize, How),
-    script: &str,
+    script: Script,
     answer: &mut String,
 ) -> bool {
     for _ in 0..2u32 {
         answer.clear();
-        let (events, how) = made;
-        let played = start(rt, alloc, events, how, script, answer);
-        if let Some(Verdict::Wanted(_)) = played {
+        if let Some(Verdict::Wanted(_)) = start(rt, alloc, script, answer) {
             return true;
         }
     }
@@ -172,10 +165,10 @@ pub(super) fn is_answered(
 
 /// How many receipts there are where all is answered as wanted: anew where memory was refused. None where something
 /// is wrong.
-fn judged(rt: &impl Wait, alloc: Global, script: &str, answer: &mut String) -> Option<u32> {
+fn judged(rt: &impl Wait, alloc: Global, script: Script, answer: &mut String) -> Option<u32> {
     for _ in 0..2u32 {
         answer.clear();
-        match start(rt, alloc, 64, How::Judged, script, answer) {
+        match start(rt, alloc, script, answer) {
             Some(Verdict::Wanted(receipts)) => return Some(receipts),
             Some(Verdict::Wrong) => return None,
             _ => {}
