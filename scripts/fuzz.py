@@ -153,6 +153,24 @@ def ran(program: str, run: Run) -> Ended:
         return Ended(None, None, f"had not ended after {TIMEOUT} seconds")
 
 
+def break_streams(program: str, maker: Maker) -> int:
+    """Runs each mode where the first read fails, of a folder, and where the first write fails, to a full device. Returns in
+    how many runs something was wrong: the status is 4, and why is said."""
+    wrong = 0
+    for mode, texts in maker.scripts.items():
+        script = b"\n".join(texts[0])
+        folder = os.open(".", os.O_RDONLY)
+        with open("/dev/full", "wb") as full:
+            read = subprocess.run([program, mode], stdin=folder, capture_output=True, timeout=TIMEOUT)
+            write = subprocess.run([program, mode], input=script, stdout=full, stderr=subprocess.PIPE, timeout=TIMEOUT)
+        os.close(folder)
+        for what, ended in ("reader", read), ("writer", write):
+            if ended.returncode != 4 or not ended.stderr:
+                wrong += 1
+                print(f"{mode}, a {what} that fails: status {ended.returncode}, {ended.stderr!r}", flush=True)
+    return wrong
+
+
 def run_for(program: str, maker: Maker, seconds: float):
     """Runs the built program until the time is over."""
     until = time.monotonic() + seconds
@@ -213,7 +231,7 @@ def main() -> int:
     is_built = os.access(program, os.X_OK)
     maker = Maker(seed, is_built)
     counts = collections.Counter()
-    wrong = 0
+    wrong = break_streams(os.path.abspath(program), maker) if is_built else 0
     for run, ended in run_for(os.path.abspath(program), maker, seconds) if is_built else try_for(maker, seconds):
         counts[run.words[0], ended.status] += 1
         if why := wrong_of(ended):

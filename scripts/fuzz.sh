@@ -8,6 +8,8 @@
 #   PROGRAM   the program, by default the proved one, where `make run` has built it. Else `rt try` compiles the program with
 #             checks of its own, in some three minutes more, and runs it over twenty scripts for each second.
 #
+# Before that the built program is run in each mode with a reader and with a writer that fail.
+#
 # It prints how many runs ended with which status in each mode. A run that crashes, hangs, ends with a status outside 0 to 5, or prints
 # what no run with its status prints, is written to fuzz-found/, and the exit status is 1.
 set -euo pipefail

@@ -28,7 +28,7 @@ LEFT_OUT = {
 }
 
 # A run with at most so many allocations has each refused, a longer one an evenly spaced sample.
-ALL = 10_000
+ALL = 79_999
 SAMPLE = 2_000
 SECONDS = 60
 

@@ -1,38 +1,53 @@
-//! Whole runs of batches' scripts. Where a run is refused memory, the first line that is not wanted is compared
-//! with what may stand there then, and it is run once more.
+//! Whole runs of batches' scripts. Each run is judged, whatever was refused memory; where that is not what is written
+//! otherwise, it is run once more.
 mod calling;
 mod faults;
 mod scripts;
 mod sharing;
 mod streams;
 
-use calling::run;
+use calling::{pool_of, run};
 use faults::other_fault;
 use scripts::SCRIPTS;
 use sharing::shares;
-use std::alloc::Global;
+use std::alloc::{AllocError, Global};
 use std::process::Abort;
 use std::sync::Wait;
+use std::test::Fail;
 use std::thread::Threads;
-use streams::{other_cut, other_stream};
+use streams::{endless_reader_ends, other_comment, other_cut, other_stream};
+use txc_judge::{Counts, Played, Ran, Size, judge_batch};
+use txc_permits::{Permit, PermitPool};
+use txc_players::room;
 use txc_script::exit_of;
 use txc_settings::Settings;
 
 /// More than a run of a case writes.
 const ROOM: usize = 1 << 14;
 
+/// The most permits of a pool.
+const PERMITS: usize = 1 << 10;
+
 /// The status of the program that is out of memory.
 const OUT_OF_MEMORY: u8 = 5;
-
-/// How a line ends where memory was refused, also to a function and to the store.
-const REFUSED_MEMORY: [&str; 3] = ["refused memory", "refused K6", "refused R3"];
 
 /// A script, what its run is to write, and the status of the program after it.
 #[derive(Clone, Copy)]
 struct Case<'a> {
     settings: &'a str,
-    script: &'a [u8],
-    replies: &'a [u8],
+    script: &'a str,
+    replies: &'a str,
+    status: u8,
+}
+
+/// How a case was played: how many receipts there were, whether what is wanted was written, and how often memory
+/// was refused.
+#[derive(Clone, Copy)]
+struct Tried {
+    receipts: u32,
+    is_wanted: bool,
+    wants: u32,
+    /// The status of the program.
     status: u8,
 }
 
@@ -47,7 +62,7 @@ fn settings_of(alloc: Global, document: &str) -> Option<Settings> {
 }
 
 /// Room for what a run writes.
-fn room(alloc: Global) -> Option<Vec<u8>> {
+fn output(alloc: Global) -> Option<Vec<u8>> {
     for _ in 0..2u32 {
         if let Ok(written) = Vec::with_capacity(alloc, ROOM) {
             return Some(written);
@@ -56,59 +71,156 @@ fn room(alloc: Global) -> Option<Vec<u8>> {
     None
 }
 
-/// Whether a run that was refused memory wrote what is wanted up to there: whole lines of it, and no more, where
-/// the run ended; or that a job was refused memory.
-fn is_left(written: &[u8], replies: &[u8], status: u8) -> bool {
-    if status == OUT_OF_MEMORY {
-        return replies.starts_with(written);
-    }
-    let (Ok(written), Ok(replies)) = (str::from_utf8(written), str::from_utf8(replies)) else {
-        return false;
-    };
-    let mut wanted = replies.lines();
-    for line in written.lines() {
-        if line != wanted.next().unwrap_or("") {
-            return REFUSED_MEMORY.iter().any(|end| line.ends_with(end));
-        }
-    }
-    false
-}
-
-/// Whether a run gives what is wanted; `Some(false)` where it was refused memory, and wrote what it may then.
-fn is_given<H: Threads + Wait + Sync>(rt: &H, alloc: Global, case: Case) -> Option<bool> {
-    let settings = settings_of(alloc, case.settings)?;
-    let mut written = room(alloc)?;
-    let mut reader = case.script;
-    let status = exit_of(&run(rt, alloc, settings, &mut reader, &mut written));
-    if written.as_slice() == case.replies && status == case.status {
-        return Some(true);
-    }
-    is_left(&written, case.replies, status).then_some(false)
-}
-
-/// Whether a run gives what is wanted, once more where it was refused memory.
-fn is_played<H: Threads + Wait + Sync>(rt: &H, alloc: Global, case: Case) -> bool {
-    match is_given(rt, alloc, case) {
-        Some(true) => true,
-        Some(false) => is_given(rt, alloc, case) == Some(true),
-        None => false,
-    }
-}
-
-/// The first of the scripts that gives something else.
-fn other_script<H: Threads + Wait + Sync>(rt: &H, alloc: Global) -> Option<&'static str> {
-    for (name, settings, script, replies, status) in &SCRIPTS {
-        let case = Case {
-            settings,
-            script: script.as_bytes(),
-            replies: replies.as_bytes(),
-            status: *status,
+/// How many permits can be taken.
+fn count_free(alloc: Global, pool: &mut PermitPool) -> Result<usize, AllocError> {
+    let mut permits: Vec<Permit> = Vec::with_capacity(alloc, PERMITS)?;
+    for _ in 0..PERMITS {
+        let Some(permit) = pool.take() else {
+            break;
         };
-        if !is_played(rt, alloc, case) {
-            return Some(*name);
+        permits.push(permit)?;
+    }
+    Ok(permits.len())
+}
+
+/// Runs a script, and answers with what status the program ends then. None where memory was refused beside it.
+fn run_case<H: Threads + Wait + Sync>(
+    rt: &H,
+    alloc: Global,
+    settings: Settings,
+    script: &str,
+) -> Option<(Ran, u8)> {
+    let mut written = output(alloc)?;
+    let mut pool = pool_of(alloc, settings)?;
+    let mut reader = script.as_bytes();
+    let ended = run(rt, alloc, settings, &mut pool, &mut reader, &mut written);
+    let status = exit_of(&ended);
+    let free = match count_free(alloc, &mut pool) {
+        Ok(free) => free,
+        Err(_) => count_free(alloc, &mut pool).ok()?,
+    };
+    let is_cut = status == OUT_OF_MEMORY;
+    Some((
+        Ran {
+            written,
+            is_cut,
+            free,
+        },
+        status,
+    ))
+}
+
+/// Judges a run, once more where memory was refused beside it.
+fn judged(
+    alloc: Global,
+    case: Case<'_>,
+    settings: Settings,
+    run: &Ran,
+    answer: &mut String,
+) -> Option<Counts> {
+    let size = Size {
+        actors: 0,
+        nodes: settings.nodes,
+        permits: settings.permits,
+        row_cap: settings.row_cap,
+    };
+    let played = Played {
+        script: case.script,
+        wanted: case.replies,
+    };
+    for _ in 0..2u32 {
+        answer.clear();
+        if let Ok(counts) = judge_batch(alloc, size, played, run, answer) {
+            return counts;
         }
     }
     None
+}
+
+/// Runs a case and judges it. None where something is not right; no receipts where memory was refused beside the
+/// run.
+fn try_play<H: Threads + Wait + Sync>(
+    rt: &H,
+    alloc: Global,
+    case: Case<'_>,
+    answer: &mut String,
+) -> Option<Tried> {
+    let settings = settings_of(alloc, case.settings)?;
+    let Some((run, status)) = run_case(rt, alloc, settings, case.script) else {
+        return Some(Tried {
+            receipts: 0,
+            is_wanted: false,
+            wants: 1,
+            status: OUT_OF_MEMORY,
+        });
+    };
+    let counts = judged(alloc, case, settings, &run, answer)?;
+    let is_wanted = run.written.as_slice() == case.replies.as_bytes() && status == case.status;
+    Some(Tried {
+        receipts: counts.receipts,
+        is_wanted,
+        wants: counts.wants,
+        status,
+    })
+}
+
+/// Plays a case, once more where it was refused memory, as one allocation at most is. Answers how many receipts
+/// there were; none where something is not right, and writes what.
+fn play<H: Threads + Wait + Sync>(
+    rt: &H,
+    alloc: Global,
+    case: Case<'_>,
+    answer: &mut String,
+) -> Option<u32> {
+    let first = try_play(rt, alloc, case, answer)?;
+    if first.is_wanted {
+        return Some(first.receipts);
+    }
+    if first.wants != 1 {
+        let _ = answer.push_str("other replies");
+        return None;
+    }
+    let second = try_play(rt, alloc, case, answer)?;
+    second.is_wanted.then_some(second.receipts)
+}
+
+/// Plays the script of this name, or all where there is none. Answers how many receipts there were; none where
+/// something is not right, and writes what.
+fn play_scripts<H: Threads + Wait + Sync>(
+    rt: &H,
+    alloc: Global,
+    wanted: &str,
+    answer: &mut String,
+) -> Option<u32> {
+    let mut receipts = 0u32;
+    for (name, settings, script, replies, status) in &SCRIPTS {
+        if !(wanted.is_empty() || *name == wanted) {
+            continue;
+        }
+        let case = Case {
+            settings,
+            script,
+            replies,
+            status: *status,
+        };
+        let Some(count) = play(rt, alloc, case, answer) else {
+            let _ = write!(answer, " in {name}");
+            return None;
+        };
+        receipts = receipts.saturating_add(count);
+    }
+    Some(receipts)
+}
+
+fn play_all<R: Abort + AllocGlobal + Threads + Wait + Sync>(
+    rt: &R,
+    name: &str,
+    receipts: u32,
+) -> Result<(), Fail> {
+    let mut answer = room(rt.alloc())?;
+    let played = play_scripts(rt, rt.alloc(), name, &mut answer);
+    assert!(rt; played == Some(receipts), "{played:?} {answer}");
+    Ok(())
 }
 
 fn say(rt: &impl Abort, other: Option<&'static str>) {
@@ -118,8 +230,14 @@ fn say(rt: &impl Abort, other: Option<&'static str>) {
 }
 
 #[test]
-fn scripts_give_their_replies(rt: HostRuntime) {
-    say(&rt, other_script(&rt, rt.alloc()));
+fn scripts_give_their_replies(rt: HostRuntime) -> Result<(), Fail> {
+    play_all(&rt, "", 27)
+}
+
+// By itself, so that each of its allocations can be refused.
+#[test]
+fn one_worker_runs_two_jobs(rt: HostRuntime) -> Result<(), Fail> {
+    play_all(&rt, "two jobs", 2)
 }
 
 #[test]
@@ -128,18 +246,32 @@ fn a_malformed_line_says_what_is_wrong(rt: HostRuntime) {
 }
 
 #[test]
-fn two_workers_may_share_one_permit(rt: HostRuntime) {
-    assert!(&rt; shares(&rt, rt.alloc()));
+fn two_workers_may_share_one_permit(rt: HostRuntime) -> Result<(), Fail> {
+    let mut answer = room(rt.alloc())?;
+    assert!(&rt; shares(&rt, rt.alloc(), &mut answer), "{answer}");
+    Ok(())
 }
 
 #[test]
-fn a_script_that_ends_early_runs_what_it_has(rt: HostRuntime) {
-    let other = other_cut(&rt, rt.alloc());
-    assert!(&rt; other.is_none(), "{other:?}");
+fn a_script_that_ends_early_runs_what_it_has(rt: HostRuntime) -> Result<(), Fail> {
+    let mut answer = room(rt.alloc())?;
+    let other = other_cut(&rt, rt.alloc(), &mut answer);
+    assert!(&rt; other.is_none(), "{other:?} {answer}");
+    Ok(())
 }
 
 #[test]
 fn a_reader_and_a_writer_may_fail(rt: HostRuntime) {
     let other = other_stream(&rt, rt.alloc());
     assert!(&rt; other.is_none(), "{other:?}");
+}
+
+#[test]
+fn a_reader_that_never_ends(rt: HostRuntime) {
+    say(&rt, endless_reader_ends(&rt, rt.alloc()));
+}
+
+#[test]
+fn comments_may_be_long(rt: HostRuntime) {
+    say(&rt, other_comment(&rt, rt.alloc()));
 }

@@ -26,7 +26,7 @@ use Rattle.txc_app.specs.declared.ask.Answer.TheVariants as answers
 use Rattle.txc_cushion.specs.Pinning.{pin_of}
 use Rattle.txc_call.specs.Turns.{Turn as CallTurn}
 use Rattle.txc_txn.specs.Core.{CoreValue, IsAnswered, IsAsking, IsAt, IsNarrowed, IsTurn, PinningFits, PinsAfter, WaitsForPin}
-use Rattle.txc_txn.specs.Kept.{TxnValue, IsKept, HasGoneOn}
+use Rattle.txc_txn.specs.Kept.{TxnValue, IsTxn, HasGoneOn}
 use Rattle.txc_txn.specs.Leading.{CallLeads, HitLeads, ReplyLeads, StandingLeads}
 use Rattle.txc_ports.specs.Refusals.{refused_pin}
 use Rattle.txc_ports.specs.declared.request.PortRequest.{PortRequest}
@@ -201,7 +201,7 @@ lost_present reach old new same is = let no : false ≡ true = sym (ap (λ (p : 
 
 -- ---- what comes of a reply
 
-module _ (next : Next) (old new : TxnValue) (was : IsKept next old) (now : IsKept next new) (request : PortRequest) (asking : IsAsking new.core request) where
+module _ (next : Next) (old new : TxnValue) (was : IsTxn next old) (now : IsTxn next new) (request : PortRequest) (asking : IsAsking new.core request) where
   -- to what the call needs
   call_leads_less : (need : Need) (reply : Reply) → old.core.pinning ≡ None → (new.core.pins.has_present ≡ true → old.core.pins.has_present ≡ true)
       → CallLeads next old.core old.objects need reply new.core new.objects (turns.Ask request) → left_of new.core < left_of old.core
@@ -265,7 +265,7 @@ none_less : (b : ℕ) → 0 < suc b
 none_less b = omega arith
 
 -- each reply leaves fewer requests to come
-pub goes_down : (next : Next) (old new : TxnValue) (reply : PortReply) (turn : Turn) → IsKept next old → IsKept next new → IsAnswered old.core reply
+pub goes_down : (next : Next) (old new : TxnValue) (reply : PortReply) (turn : Turn) → IsTxn next old → IsTxn next new → IsAnswered old.core reply
     → HasGoneOn next old reply new turn → requests_left turn new.core < suc (left_of old.core)
 goes_down next old new reply turn was now answered on = go turn on.turn_fits on.leads
   where

@@ -6,9 +6,9 @@ use Rattle.txc_registry.proofs.Offered.{idle_same}
 use Rattle.txc_call.specs.declared.need.Need.{Need}
 use Rattle.txc_call.specs.Needs.{NeedFits}
 use Rattle.txc_txn.specs.Core.{IsIdle}
-use Rattle.txc_txn.specs.Kept.{TxnValue, IsKept}
+use Rattle.txc_txn.specs.Kept.{TxnValue, IsTxn}
 
-module _ (next : Next) (old : TxnValue) (kept : IsKept next old) (idle : IsIdle old.core) where
+module _ (next : Next) (old : TxnValue) (kept : IsTxn next old) (idle : IsIdle old.core) where
   pub all_idle : AllIdle old.objects
   all_idle = (subst (λ (n : Option Need). NeedFits next old.objects old.core.call.top n old.core.call.frames) idle.0 kept.fits.call).1
 

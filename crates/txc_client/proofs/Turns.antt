@@ -7,11 +7,12 @@ use Rattle.txc_ports.specs.declared.recorded.Recorded.{Recorded}
 use Rattle.txc_ports.specs.declared.request.PortRequest.{PortRequest}
 use Rattle.txc_ports.specs.declared.turn.Turn.{Turn}
 use Rattle.txc_ports.specs.declared.turn.Turn.TheVariants.{Ask, Value, Rows, Refused}
-use Rattle.txc_txn.specs.Core.{CoreValue, recorded_after, IsEnd, IsIdle, IsNoValue, IsTurn, KeepsSettings}
+use Rattle.txc_txn.specs.Core.{CoreValue, recorded_after, IsIdle, IsNoValue, IsTurn, KeepsSettings}
+use Rattle.txc_ports.specs.Turns.{IsCallEnd}
 use Rattle.txc_client.proofs.Grown.{prefix_self}
 
 -- a turn that asks nothing has ended the call
-pub turn_ends : (c : CoreValue) (turn : Turn) → IsTurn c turn → ((request : PortRequest) → turn ≢ Ask request) → IsEnd turn × IsIdle c
+pub turn_ends : (c : CoreValue) (turn : Turn) → IsTurn c turn → ((request : PortRequest) → turn ≢ Ask request) → IsCallEnd turn × IsIdle c
 turn_ends c (Ask request) fits none = absurd (none request refl)
 turn_ends c (Value value) fits none = (tt, fits)
 turn_ends c (Rows rows) fits none = absurd fits

@@ -14,7 +14,8 @@ use Rattle.txc_ports.specs.declared.turn.Turn.TheVariants.{Ask, Value, Refused}
 use Rattle.txc_ports.specs.Exchanges.{Exchange, reply_of, request_of}
 use Rattle.txc_ports.specs.Exchanges as exchanges
 use Rattle.txc_ports.specs.Asking.{IsAnsweredRight, IsOfRow}
-use Rattle.txc_txn.specs.Core.{open_call, IsAsk, IsTurn}
+use Rattle.txc_txn.specs.Core.{open_call, IsTurn}
+use Rattle.txc_ports.specs.Turns.{IsAsk}
 use Rattle.txc_txn.specs.Kept.{HasGoneOn}
 use Rattle.txc_txn.specs.Leading.{StartLeads}
 use Rattle.txc_client.specs.Ports.{PassesAfter}

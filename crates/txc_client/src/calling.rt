@@ -3,7 +3,8 @@ ghost use Rattle.std.specs.Prelude.{◌≡◌, ◌≢◌, [], IsNone, Some, leng
 ghost use mathlib.Core.List.{IsPrefix};
 ghost use Rattle.txc_registry.specs.Objects.{activity_of, numbers_of};
 ghost use Rattle.txc_call.specs.declared.error.CallError.TheVariants.{NoFunction};
-ghost use Rattle.txc_txn.specs.Core.{recorded_after, IsEnd, IsIdle, KeepsSettings};
+ghost use Rattle.txc_txn.specs.Core.{recorded_after, IsIdle, KeepsSettings};
+ghost use Rattle.txc_ports.specs.Turns.{IsCallEnd};
 ghost use Rattle.txc_client.specs.Ports.{HaveGrown};
 ghost use Rattle.txc_client.specs.Run.{HasRun};
 
@@ -30,7 +31,7 @@ pub(crate) fn call_at<A: App, C: Cacheable, J: Naming>(
     requires events { txn.old.core.seen.events ≡ J.database_row }
     requires nodes { txn.old.core.nodes ≡ length ports.old }
     ensures passes { HaveGrown ports.old ports.new }
-    ensures ended { IsEnd result }
+    ensures ended { IsCallEnd result }
     ensures idle { IsIdle txn.new.core }
     ensures recorded { txn.new.core.recorded ≡ recorded_after txn.old.core.recorded result (Some key) }
     ensures settings { KeepsSettings txn.old.core txn.new.core }

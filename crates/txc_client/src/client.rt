@@ -8,7 +8,7 @@ ghost use Rattle.txc_app.specs.Eval.{Next};
 ghost use Rattle.txc_shared.specs.Refusals.{IsNewPassRefused, MayRefuse};
 ghost use Rattle.txc_registry.specs.Objects.{Objects};
 ghost use Rattle.txc_txn.specs.Core.{value_of, CoreHolds, IsCore, IsIdle};
-ghost use Rattle.txc_txn.specs.Kept.{IsKept};
+ghost use Rattle.txc_txn.specs.Kept.{IsTxn};
 ghost use Rattle.txc_client.specs.Txn.{client_of};
 
 use crate::ports::Ports;
@@ -92,7 +92,7 @@ impl<'a, A: App, C: Cacheable, J: Naming> Client<'a, A, C, J> {
     ) -> Result<RoTxn<'a, A, C, J>, (AllocError, Client<'a, A, C, J>)>
         ensures bounds { IfOk result (λ txn. txn.txn.core.bounds ≡ bounds) }
         ensures recorded { IfOk result (λ txn. txn.txn.core.recorded ≡ []) }
-        ensures meant { IfOk result (λ txn. IsKept A.next txn.txn) }
+        ensures meant { IfOk result (λ txn. IsTxn A.next txn.txn) }
         ensures members { IfOk result (MayAnswer J.database_row (λ c txn. (txn.txn.core.seen ≡ front_of c)
             × (txn.txn.core.pins.members ≡ handed_out c bounds.now bounds.staleness bounds.at_least))) }
         ensures taken { IfOk result (λ txn. txn.txn.core.taken
@@ -139,7 +139,7 @@ impl<'a, A: App, C: Cacheable, J: Naming> Client<'a, A, C, J> {
         ensures bounds { IfOk result (λ txn. txn.txn.core.bounds
             ≡ record { now = now; staleness = staleness; at_least = session.now }) }
         ensures recorded { IfOk result (λ txn. txn.txn.core.recorded ≡ []) }
-        ensures meant { IfOk result (λ txn. IsKept A.next txn.txn) }
+        ensures meant { IfOk result (λ txn. IsTxn A.next txn.txn) }
         ensures members { IfOk result (MayAnswer J.database_row (λ c txn. (txn.txn.core.seen ≡ front_of c)
             × (txn.txn.core.pins.members ≡ handed_out c now staleness session.now))) }
         ensures taken { IfOk result (λ txn. txn.txn.core.taken

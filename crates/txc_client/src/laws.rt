@@ -3,8 +3,9 @@
 ghost use Rattle.txc_client.specs.Laws.{CallsStandOnce};
 ghost use Rattle.txc_client.specs.Sessions.{BeginningNotesNothing, NobodyGoesBack};
 
-/// What a call of a transaction asked of a node stands in that node's history under the client's pass, each
-/// once, in the order in which it was asked, but for what was refused.
+/// Of what a call of a transaction asked of a node, each hit stands in that node's history once, and each miss
+/// and each insertion at most once, as a node may refuse: under the client's pass, in the order in which it was
+/// asked, as far as the pass has seen. The pass has made no other record there.
 pub fn calls_stand_once()
     ensures { CallsStandOnce }
 {}

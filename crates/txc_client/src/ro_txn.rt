@@ -4,7 +4,7 @@ ghost use mathlib.Core.List.{IsPrefix};
 ghost use Rattle.txc_registry.specs.Objects.{activity_of, AllIdle};
 ghost use Rattle.txc_call.specs.declared.error.CallError.TheVariants.{NoFunction};
 ghost use Rattle.txc_txn.specs.Core.{receipt_pin, Explains, KeepsSettings};
-ghost use Rattle.txc_txn.specs.Kept.{IsKept};
+ghost use Rattle.txc_txn.specs.Kept.{IsTxn};
 ghost use Rattle.txc_txn.specs.Sessions.{IsAtLeast};
 ghost use Rattle.txc_client.specs.Ports.{HaveGrown};
 ghost use Rattle.txc_client.specs.Run.{turn_of, HasRun};
@@ -58,7 +58,7 @@ impl<'a, A: App, C: Cacheable, J: Naming> RoTxn<'a, A, C, J> {
         ensures recorded { IfOk result (λ value. self.new.txn.core.recorded
             ≡ self.old.txn.core.recorded ++ record { key = key; value = value } ∷ []) }
         ensures unchanged { OnErr result (self.new.txn.core.recorded ≡ self.old.txn.core.recorded) }
-        ensures meant { IsKept A.next self.new.txn }
+        ensures meant { IsTxn A.next self.new.txn }
         ensures idle { AllIdle self.new.txn.objects }
         ensures functions { self.new.txn.objects ≡ self.old.txn.objects }
         ensures run { HasRun A.next J.database_row J.node_rows self.old key self.new (turn_of result) }
@@ -109,7 +109,7 @@ impl<'a, A: App, C: Cacheable, J: Naming> RoTxn<'a, A, C, J> {
 
     /// What its pin set means. It does nothing when it runs.
     pub fn is_kept(&self)
-        ensures meant { IsKept A.next self.now.txn }
+        ensures meant { IsTxn A.next self.now.txn }
         ensures idle { AllIdle self.now.txn.objects }
     {
         self.txn.is_kept();

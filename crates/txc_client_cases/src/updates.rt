@@ -1,5 +1,6 @@
 //! Read-write transactions over the locked database.
 mod player;
+mod quiet;
 mod threads;
 mod transaction;
 
@@ -133,16 +134,51 @@ abort 0 => aborted
 begin 0 => the database is broken
 ";
 
-/// What was called before, and what is called.
-type Script = (&'static str, &'static str);
+/// A full history takes no commit of what changes something. The transaction is open after the refusal, with what it
+/// read and its changes: where these change nothing more, it commits.
+const FULL: &str = "begin 0 => open 4
+call 0 f1(2) => 612c62
+write 0: put 1 9 2 c => 1 kept
+commit 0 => the history is full
+answers 0 => open; f1(2) 612c62
+ask 0 id 1 9 => rows
+commit 0 => the history is full
+write 0: remove 1 9 => 1 kept
+commit 0 => at 4; f1(2) 612c62; rows
+";
 
-const SCRIPTS: [Script; 6] = [
-    (HISTORY, READ),
-    (HISTORY, QUIET),
-    (HISTORY, TWO_WRITERS),
-    (HISTORY, SKEW),
-    (HISTORY, REFUSED),
-    (TWO_EVENTS, BROKEN),
+/// The hold of its base is taken away past it, and the base is gone: each query is refused, its own and that of a
+/// call. What it read before stays, and what it commits is compared with the events since.
+const LOST: &str = "begin 0 => open 4
+call 0 f0(7) => 61
+write 0: put 1 9 2 c => 1 kept
+db commit 4 -: put 1 8 2 z => 5
+db unpin 4 =>
+db unpin 4 =>
+db unpin 2 =>
+db vacuum => 5
+ask 0 id 1 8 => the snapshot is gone: the horizon is 5
+call 0 f2(2,9) => the snapshot is gone: the horizon is 5
+answers 0 => open; f0(7) 61
+call 0 f9() => there is no function 9
+commit 0 => at 6; f0(7) 61
+begin 1 => open 6
+call 1 f1(2) => 612c7a2c63
+abort 1 => aborted
+";
+
+/// How much room there is for events, what was called before, and what is called.
+type Script = (usize, &'static str, &'static str);
+
+const SCRIPTS: [Script; 8] = [
+    (16, HISTORY, READ),
+    (16, HISTORY, QUIET),
+    (16, HISTORY, TWO_WRITERS),
+    (16, HISTORY, SKEW),
+    (16, HISTORY, REFUSED),
+    (16, TWO_EVENTS, BROKEN),
+    (4, HISTORY, FULL),
+    (16, HISTORY, LOST),
 ];
 
 /// Plays the script to two transactions over the database.
@@ -165,14 +201,14 @@ fn play<J: Naming>(
     let database = Database::<J>::new(alloc, core).ok()?;
     let shared = Shared::new(rt, alloc, &database, false).ok()?;
     let mut updates = Updates::new(rt, &database, shared, first, second);
-    let played = is_played(&mut updates, alloc, "", script.1, answer);
+    let played = is_played(&mut updates, alloc, "", script.2, answer);
     updates.end();
     Some(played)
 }
 
 /// Plays it. None where memory was refused before the first line.
 fn start(rt: &impl Wait, alloc: Global, script: Script, answer: &mut String) -> Option<bool> {
-    let core = played(alloc, 16, script.0, answer)?;
+    let core = played(alloc, script.0, script.1, answer)?;
     play::<Brand>(rt, alloc, core, script, answer)
 }
 

@@ -1,4 +1,5 @@
 pub mod AnyFunction
+pub mod Pools
 pub mod Program
 pub mod Running
 pub mod Worked

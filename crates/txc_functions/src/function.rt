@@ -1,23 +1,25 @@
-ghost use Rattle.std.specs.Prelude.{◌≡◌};
+ghost use Rattle.std.specs.Prelude.{◌≡◌, ◌≢◌, [], None, Some, IfOk};
+ghost use Rattle.std.specs.Option.{ForSome};
 
 use crate::definition::Definition;
 use crate::held::Held;
-use std::alloc::Global;
+use std::alloc::{AllocError, Global};
 use txc_app::{Answer, Ask};
 use txc_permits::PermitPool;
 use txc_registry::{Cacheable, CallFault};
 
 /// The object of a function. A permit of its pool is out while it runs an activation, and only then.
-#[derive(Drop)]
 pub struct Function<D: Definition> {
     definition: D,
     alloc: Global,
     pool: PermitPool,
     held: Option<Held>,
+    ghost of_its_pool: { ForSome held (λ h. h.grant ≡ pool.name) },
 }
 
 impl<D: Definition> Function<D> {
     ghost use Rattle.txc_registry.specs.Activity.{idle};
+    ghost use Rattle.txc_functions.specs.Pools.{pool_of};
 
     /// The object of the function with this definition, idle. It takes its memory from the allocator, and its
     /// permit from the pool, as it runs.
@@ -25,6 +27,7 @@ impl<D: Definition> Function<D> {
         ensures idle { ⟦<Function<D> as Cacheable>⟧.activity result ≡ idle }
         ensures number { ⟦<Function<D> as Cacheable>⟧.number result ≡ D.number definition }
         ensures says { ⟦<Function<D> as Cacheable>⟧.says result ≡ D.says definition }
+        ensures pool { pool_of result ≡ pool }
     {
         Function {
             definition,
@@ -32,6 +35,16 @@ impl<D: Definition> Function<D> {
             pool,
             held: None,
         }
+    }
+
+    // What is asked first, and the arguments to keep.
+    fn first(&self, args: &[u32]) -> Result<(Ask, Vec<u32>), AllocError>
+        requires { D.says self.now.definition args.now [] ≢ None }
+        ensures asks { IfOk result (λ made. D.says self.now.definition args.now [] ≡ Some made.0) }
+        ensures args { IfOk result (λ made. made.1.items ≡ args.now) }
+    {
+        let ask = self.definition.first(self.alloc, args)?;
+        Ok((ask, args.to_vec(self.alloc)?))
     }
 }
 
@@ -52,16 +65,17 @@ impl<D: Definition> Cacheable for Function<D> {
         if !self.definition.accepts(args) {
             return Err(CallFault::Args);
         }
-        let Some(permit) = self.pool.take() else {
+        let Some(grant) = self.pool.grant() else {
             return Err(CallFault::Busy);
         };
-        let Ok(ask) = self.definition.first(self.alloc, args) else {
+        let Ok((ask, args)) = self.first(args) else {
+            grant.give_back();
             return Err(CallFault::Memory);
         };
-        let Ok(held) = Held::new(self.alloc, permit, args) else {
-            return Err(CallFault::Memory);
-        };
-        self.held = Some(held);
+        let held = Held::new(self.alloc, grant, args);
+        if let Some(before) = self.held.replace(held) {
+            before.give_back();
+        }
         Ok(ask)
     }
 
@@ -76,6 +90,22 @@ impl<D: Definition> Cacheable for Function<D> {
     }
 
     fn release(&mut self) {
-        self.held = None;
+        if let Some(held) = self.held.take() {
+            held.give_back();
+        }
+    }
+}
+
+impl<D: Definition> Drop for Function<D> {
+    fn drop(self) {
+        let Function {
+            definition: _,
+            alloc: _,
+            pool: _,
+            held,
+        } = self;
+        if let Some(held) = held {
+            held.give_back();
+        }
     }
 }

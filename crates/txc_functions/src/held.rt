@@ -4,27 +4,37 @@ ghost use Rattle.txc_registry.specs.Activity.{WantsAnswer};
 use crate::definition::Definition;
 use std::alloc::{AllocError, Global};
 use txc_app::{Answer, Ask};
-use txc_permits::Permit;
+use txc_permits::Grant;
 
-/// What a running object holds: its permit, its arguments and the answers so far.
-#[derive(Drop)]
+/// What a running object holds: its permit, its arguments and the answers so far. It cannot be let go: the
+/// permit is given back.
 pub struct Held {
-    permit: Permit,
+    pub(crate) grant: Grant,
     pub(crate) args: Vec<u32>,
     pub(crate) answers: Vec<Answer>,
 }
 
 impl Held {
-    pub(crate) fn new(alloc: Global, permit: Permit, args: &[u32]) -> Result<Held, AllocError>
-        ensures args { IfOk result (λ held. held.args.items ≡ args.now) }
-        ensures answers { IfOk result (λ held. held.answers.items ≡ []) }
+    pub(crate) fn new(alloc: Global, grant: Grant, args: Vec<u32>) -> Held
+        ensures grant { result.grant ≡ grant }
+        ensures args { result.args.items ≡ args.items }
+        ensures answers { result.answers.items ≡ [] }
     {
-        let args = args.to_vec(alloc)?;
-        Ok(Held {
-            permit,
+        Held {
+            grant,
             args,
             answers: Vec::new(alloc),
-        })
+        }
+    }
+
+    /// Frees the memory, and gives the permit back to its pool.
+    pub(crate) fn give_back(self) {
+        let Held {
+            grant,
+            args: _,
+            answers: _,
+        } = self;
+        grant.give_back();
     }
 
     /// What is asked after one answer more, which is kept only where that can be said.
@@ -40,6 +50,7 @@ impl Held {
         ensures after { OnOk result (self.new.answers.items ≡ self.old.answers.items ++ answer ∷ []) }
         ensures unchanged { OnErr result (self.new.answers.items ≡ self.old.answers.items) }
         ensures same_args { self.new.args.items ≡ self.old.args.items }
+        ensures same_grant { self.new.grant ≡ self.old.grant }
     {
         let ask = definition.next(
             alloc,

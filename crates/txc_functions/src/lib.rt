@@ -27,6 +27,6 @@ pub use definition::Definition;
 pub use endless::{Again, Itself};
 pub use function::Function;
 pub use ids_in::IdsIn;
-pub use objects::{Object, registries, registry};
+pub use objects::{Object, object_of_each, registries, registry};
 pub use program::Program;
 pub use row_count::RowCount;

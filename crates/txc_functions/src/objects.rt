@@ -1,7 +1,10 @@
 //! Registries of the program's functions.
-ghost use Rattle.std.specs.Prelude.{◌≡◌, vec_len, All, IfOk};
+ghost use Rattle.std.specs.Prelude.{◌≡◌, [], ◌∷◌, ◌++◌, map, vec_len, All, IfOk, OnOk};
+ghost use Rattle.txc_registry.specs.Activity.{idle};
 ghost use Rattle.txc_registry.specs.Objects.{numbers_of, AllIdle};
-ghost use Rattle.txc_functions.specs.AnyFunction.{ALL_NUMBERS};
+ghost use Rattle.txc_functions.specs.AnyFunction.{ALL_NUMBERS, number_of};
+ghost use Rattle.txc_functions.specs.Pools.{pool_of};
+ghost use Rattle.txc_functions.specs.Program.{program};
 
 use crate::any_function::AnyFunction;
 use crate::bodies_and_body::BodiesAndBody;
@@ -14,10 +17,60 @@ use crate::program::Program;
 use crate::row_count::RowCount;
 use std::alloc::{AllocError, Global};
 use txc_permits::PermitPool;
-use txc_registry::{Registry, enlist};
+use txc_registry::{Cacheable, Registry, enlist};
 
 /// An object of one of the functions.
 pub type Object = Function<AnyFunction>;
+
+// One object more, which takes its permits of the pool.
+fn add(
+    alloc: Global,
+    pool: &mut PermitPool,
+    objects: &mut Vec<Object>,
+    function: AnyFunction,
+) -> Result<(), AllocError>
+    requires idle { All (λ o. ⟦<Object as Cacheable>⟧.activity o ≡ idle) objects.old.items }
+    requires means { All (λ o. ⟦<Object as Cacheable>⟧.says o
+        ≡ program (⟦<Object as Cacheable>⟧.number o)) objects.old.items }
+    requires pools { All (λ o. pool_of o ≡ pool.old) objects.old.items }
+    ensures idle { All (λ o. ⟦<Object as Cacheable>⟧.activity o ≡ idle) objects.new.items }
+    ensures means { All (λ o. ⟦<Object as Cacheable>⟧.says o
+        ≡ program (⟦<Object as Cacheable>⟧.number o)) objects.new.items }
+    ensures pools { All (λ o. pool_of o ≡ pool.old) objects.new.items }
+    ensures numbers { OnOk result (map ⟦<Object as Cacheable>⟧.number objects.new.items
+        ≡ map ⟦<Object as Cacheable>⟧.number objects.old.items ++ number_of function ∷ []) }
+    ensures same_pool { pool.new ≡ pool.old }
+{
+    let object = Function::new(alloc, pool.share()?, function);
+    enlist::<Program, Object>(objects, object)
+}
+
+/// An idle object of each function, which takes its permits of the pool.
+pub fn object_of_each(alloc: Global, pool: &mut PermitPool) -> Result<Vec<Object>, AllocError>
+    ensures all { IfOk result (λ objects.
+        map ⟦<Object as Cacheable>⟧.number objects.items ≡ ALL_NUMBERS) }
+    ensures idle { IfOk result (λ objects.
+        All (λ o. ⟦<Object as Cacheable>⟧.activity o ≡ idle) objects.items) }
+    ensures means { IfOk result (λ objects. All (λ o. ⟦<Object as Cacheable>⟧.says o
+        ≡ program (⟦<Object as Cacheable>⟧.number o)) objects.items) }
+    ensures pools { IfOk result (λ objects. All (λ o. pool_of o ≡ pool.old) objects.items) }
+    ensures same_pool { pool.new ≡ pool.old }
+{
+    let mut objects = Vec::new(alloc);
+    add(alloc, pool, &mut objects, AnyFunction::BodyAt(BodyAt))?;
+    add(alloc, pool, &mut objects, AnyFunction::BodiesIn(BodiesIn))?;
+    add(
+        alloc,
+        pool,
+        &mut objects,
+        AnyFunction::BodiesAndBody(BodiesAndBody),
+    )?;
+    add(alloc, pool, &mut objects, AnyFunction::RowCount(RowCount))?;
+    add(alloc, pool, &mut objects, AnyFunction::Itself(Itself))?;
+    add(alloc, pool, &mut objects, AnyFunction::Again(Again))?;
+    add(alloc, pool, &mut objects, AnyFunction::IdsIn(IdsIn))?;
+    Ok(objects)
+}
 
 /// A registry with an object of each function, which takes its permits of the pool.
 pub fn registry(
@@ -26,26 +79,9 @@ pub fn registry(
 ) -> Result<Registry<Program, Object>, AllocError>
     ensures all { IfOk result (λ registry. numbers_of registry ≡ ALL_NUMBERS) }
     ensures idle { IfOk result AllIdle }
+    ensures same_pool { pool.new ≡ pool.old }
 {
-    let mut objects = Vec::new(alloc);
-    let body_at = Function::new(alloc, pool.share()?, AnyFunction::BodyAt(BodyAt));
-    enlist::<Program, Object>(&mut objects, body_at)?;
-    let bodies_in = Function::new(alloc, pool.share()?, AnyFunction::BodiesIn(BodiesIn));
-    enlist::<Program, Object>(&mut objects, bodies_in)?;
-    let bodies_and_body = Function::new(
-        alloc,
-        pool.share()?,
-        AnyFunction::BodiesAndBody(BodiesAndBody),
-    );
-    enlist::<Program, Object>(&mut objects, bodies_and_body)?;
-    let row_count = Function::new(alloc, pool.share()?, AnyFunction::RowCount(RowCount));
-    enlist::<Program, Object>(&mut objects, row_count)?;
-    let itself = Function::new(alloc, pool.share()?, AnyFunction::Itself(Itself));
-    enlist::<Program, Object>(&mut objects, itself)?;
-    let again = Function::new(alloc, pool.share()?, AnyFunction::Again(Again));
-    enlist::<Program, Object>(&mut objects, again)?;
-    let ids_in = Function::new(alloc, pool.share()?, AnyFunction::IdsIn(IdsIn));
-    enlist::<Program, Object>(&mut objects, ids_in)?;
+    let objects = object_of_each(alloc, pool)?;
     match Registry::<Program, Object>::new(objects) {
         Ok(registry) => Ok(registry),
         Err(_) => Err(AllocError),

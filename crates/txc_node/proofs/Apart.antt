@@ -71,7 +71,7 @@ others_elsewhere e (x ∷ es) =
 pub first_apart : (e : Entry) (es : List Entry) → AreApart es → AreApart (e ∷ others e es)
 first_apart e es h = (others_elsewhere e es, filter_apart (λ o. not (same_place o e)) es h)
 
-take_keeps : (P : Entry → Type 0) (n : ℕ) (es : List Entry) → AllByRecursion P es → AllByRecursion P (take n es)
+pub take_keeps : (P : Entry → Type 0) (n : ℕ) (es : List Entry) → AllByRecursion P es → AllByRecursion P (take n es)
 take_keeps P zero es h = tt
 take_keeps P (suc n) [] h = tt
 take_keeps P (suc n) (e ∷ es) h = (h.0, take_keeps P n es h.1)

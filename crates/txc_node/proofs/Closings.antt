@@ -18,9 +18,14 @@ use Rattle.txc_node.specs.declared.stored.Stored.{Stored}
 use Rattle.txc_node.specs.Places.{place_of, equal_places, equal_places_is}
 use Rattle.txc_node.specs.Entries.{same_place, AreApart}
 use Rattle.txc_node.specs.Cache.{is_invalidated, entry_after}
-use Rattle.txc_node.specs.Indexed.{entry_of, entries_of, entry_at, ArePlaced, entries_under, reaches_under, in_stead, has_place, equal_rows, lists_rows, AreSparedAt, listed, Relists, is_stale, stored_after, closed_reach, after_at, AreTied, Closes, IsSpared, StaySpared}
+use Rattle.txc_node.specs.Indexed.{Held, entry_of, entries_of, ArePlaced, entries_under, reaches_under, in_stead, has_place, equal_rows, lists_rows, AreSparedAt, listed, Relists, is_stale, stored_after, closed_reach, after_at, AreTied, Closes, IsSpared}
 use Rattle.txc_node.proofs.Apart.{eqb_sym, after_both, after_apart}
+use Rattle.txc_node.proofs.Pairs.{found_pair}
 use Rattle.txc_node.proofs.KeyLists.{indexes_by, under_yes, under_no}
+
+-- the entry of the pair at a place
+abbrev of_pair : List (Place × Stored) → Place → Option Entry
+of_pair ps q = option_map entry_of (lookup_entry (equal_places q) ps)
 
 module _ (stamp : ℕ) (tags : List Tag) where
   -- an entry that was closed is closed no more
@@ -93,13 +98,13 @@ module _ (stamp : ℕ) (tags : List Tag) where
       ]) refl
 
   -- what is stored after the change, at the place and elsewhere
-  set_at : (q r : Place) (ps : List (Place × Stored)) (s : Stored) (o : Entry) → lookup (equal_places q) ps ≡ Some s → entry_at (set_value (equal_places q) ps (stored_after stamp tags s)) r ≡ Some o
-      → (is_invalidated stamp tags o ≡ false) ⊎ (entry_at ps r ≡ Some o)
+  set_at : (q r : Place) (ps : List (Place × Stored)) (s : Stored) (o : Entry) → lookup (equal_places q) ps ≡ Some s → of_pair (set_value (equal_places q) ps (stored_after stamp tags s)) r ≡ Some o
+      → (is_invalidated stamp tags o ≡ false) ⊎ (of_pair ps r ≡ Some o)
   set_at q r [] s o h k = let none : None ≡ Some o = k in cc
   set_at q r (x ∷ ps) s o h k =
       let w = stored_after stamp tags s in
       let rest = set_value (equal_places q) ps w in
-      (elim (equal_places q x.0) as (λ v. equal_places q x.0 ≡ v → entry_at (cond v ((x.0, w) ∷ ps) (x ∷ rest)) r ≡ Some o → (is_invalidated stamp tags o ≡ false) ⊎ (entry_at (x ∷ ps) r ≡ Some o)) [
+      (elim (equal_places q x.0) as (λ v. equal_places q x.0 ≡ v → of_pair (cond v ((x.0, w) ∷ ps) (x ∷ rest)) r ≡ Some o → (is_invalidated stamp tags o ≡ false) ⊎ (of_pair (x ∷ ps) r ≡ Some o)) [
         | true ↦ λ t k.
             (elim (equal_places r x.0) as (λ u. option_map entry_of (cond u (Some (x.0, w)) (lookup_entry (equal_places r) ps)) ≡ Some o → (is_invalidated stamp tags o ≡ false) ⊎ (option_map entry_of (cond u (Some x) (lookup_entry (equal_places r) ps)) ≡ Some o)) [
               | true ↦ λ is. let is' : Some (entry_of (x.0, w)) ≡ Some o = is in let same : entry_of (x.0, w) ≡ o = cc in inl (ap (is_invalidated stamp tags) (sym same ∙ at_place x.0 s) ∙ closed_once (entry_of (x.0, s)))
@@ -112,21 +117,22 @@ module _ (stamp : ℕ) (tags : List Tag) where
             ]) k
       ]) refl k
 
-  set_spared : (q : Place) (ps : List (Place × Stored)) (s : Stored) → lookup (equal_places q) ps ≡ Some s → StaySpared stamp tags ps (set_value (equal_places q) ps (stored_after stamp tags s))
-  set_spared q ps s h r was o k = elim (set_at q r ps s o h k) [ inl no' ↦ no' | inr there ↦ was o there ]
+  set_spared : (q : Place) (ps : List (Place × Stored)) (s : Stored) → lookup (equal_places q) ps ≡ Some s → ArePlaced ps → (r : Place) → IsSpared stamp tags (entries_of ps) r → IsSpared stamp tags (entries_of (set_value (equal_places q) ps (stored_after stamp tags s))) r
+  set_spared q ps s h placed r was o k =
+      elim (set_at q r ps s o h (sym (found_pair r (set_value (equal_places q) ps (stored_after stamp tags s)) (set_placed (equal_places q) ps s h placed)) ∙ k)) [ inl no' ↦ no' | inr there ↦ was o (found_pair r ps placed ∙ there) ]
 
-  set_here : (q : Place) (ps : List (Place × Stored)) (s : Stored) → lookup (equal_places q) ps ≡ Some s → IsSpared stamp tags (set_value (equal_places q) ps (stored_after stamp tags s)) q
-  set_here q [] s h o k = let none : None ≡ Some o = k in cc
-  set_here q (x ∷ ps) s h o k =
+  set_here : (q : Place) (ps : List (Place × Stored)) (s : Stored) (o : Entry) → lookup (equal_places q) ps ≡ Some s → of_pair (set_value (equal_places q) ps (stored_after stamp tags s)) q ≡ Some o → is_invalidated stamp tags o ≡ false
+  set_here q [] s o h k = let none : None ≡ Some o = k in cc
+  set_here q (x ∷ ps) s o h k =
       let w = stored_after stamp tags s in
       let rest = set_value (equal_places q) ps w in
-      (elim (equal_places q x.0) as (λ v. equal_places q x.0 ≡ v → entry_at (cond v ((x.0, w) ∷ ps) (x ∷ rest)) q ≡ Some o → is_invalidated stamp tags o ≡ false) [
+      (elim (equal_places q x.0) as (λ v. equal_places q x.0 ≡ v → of_pair (cond v ((x.0, w) ∷ ps) (x ∷ rest)) q ≡ Some o → is_invalidated stamp tags o ≡ false) [
         | true ↦ λ t k.
             let is : Some (entry_of (x.0, w)) ≡ Some o = sym (ap (λ u. option_map entry_of (cond u (Some (x.0, w)) (lookup_entry (equal_places q) ps))) t) ∙ k in
             let same : entry_of (x.0, w) ≡ o = cc in
             ap (is_invalidated stamp tags) (sym same ∙ at_place x.0 s) ∙ closed_once (entry_of (x.0, s))
         | false ↦ λ t k.
-            set_here q ps s (found_later (equal_places q) x ps s t h) o (sym (ap (λ u. option_map entry_of (cond u (Some x) (lookup_entry (equal_places q) rest))) t) ∙ k)
+            set_here q ps s o (found_later (equal_places q) x ps s t h) (sym (ap (λ u. option_map entry_of (cond u (Some x) (lookup_entry (equal_places q) rest))) t) ∙ k)
       ]) refl k
 
   -- ---- the entries still stand apart
@@ -235,6 +241,9 @@ no_entry test (x ∷ ps) o h k = (elim (test x.0) as (λ v. cond v (Some x.1) (l
   | false ↦ λ h k. no_entry test ps o h k
 ]) h k
 
+abbrev held : List (Place × Stored) → ℕ → Held
+held ps n = record { entries = entries_of ps; capacity = n }
+
 module _ (stamp : ℕ) (tags : List Tag) where
   tied_after : (q : Place) (ps : List (Place × Stored)) (index new : List (Call × List Interval)) (s : Stored) → AreTied ps index → lookup (equal_places q) ps ≡ Some s
       → Relists q.key (map (in_stead (stored_after stamp tags s).reach) (listed index q.key)) index new → AreTied (set_value (equal_places q) ps (stored_after stamp tags s)) new
@@ -248,15 +257,17 @@ module _ (stamp : ℕ) (tags : List Tag) where
         keys = indexes_by q.key index new (entries_of ps) (entries_of (set_value (equal_places q) ps w)) tied.keys (subst (λ (rs : List Interval). Relists q.key rs index new) (sym reaches) relists) (λ k other. set_other_key q s w k ps other);
       }
 
-  closes_here : (q : Place) (ps : List (Place × Stored)) (s : Stored) → lookup (equal_places q) ps ≡ Some s → Closes stamp tags ps (set_value (equal_places q) ps (stored_after stamp tags s)) (cond (is_stale stamp tags s) 1 0)
-  closes_here q ps s h = record {
+  closes_here : (q : Place) (ps : List (Place × Stored)) (n : ℕ) (s : Stored) → ArePlaced ps → lookup (equal_places q) ps ≡ Some s
+      → Closes stamp tags (held ps n) (held (set_value (equal_places q) ps (stored_after stamp tags s)) n) (cond (is_stale stamp tags s) 1 0)
+  closes_here q ps n s placed h = record {
     after = set_kept stamp tags (equal_places q) ps s h;
+    capacity = refl;
     count = set_count stamp tags (equal_places q) ps s h;
-    spared = set_spared stamp tags q ps s h;
+    spared = set_spared stamp tags q ps s h placed;
   }
 
-  pub closes_none : (ps : List (Place × Stored)) → Closes stamp tags ps ps 0
-  closes_none ps = record { after = refl; count = omega arith; spared = λ q h. h }
+  pub closes_none : (h : Held) → Closes stamp tags h h 0
+  closes_none h = record { after = refl; capacity = refl; count = omega arith; spared = λ q k. k }
 
   -- where nothing is closed, nothing changes
   pub untouched : (q : Place) (ps : List (Place × Stored)) → closed_reach stamp tags (lookup (equal_places q) ps) ≡ None → after_at stamp tags q ps ≡ ps
@@ -287,22 +298,23 @@ module _ (stamp : ℕ) (tags : List Tag) where
       subst (λ f. AreTied (option_map_or (λ u. set_value (equal_places q) ps (stored_after stamp tags u)) f ps) new) (sym s.1)
       (tied_after q ps index new s.0 tied s.1 (subst (λ (i : Interval). Relists q.key (map (in_stead i) (listed index q.key)) index new) (sym s.3) relists))
 
-  pub closes_at : (q : Place) (ps : List (Place × Stored)) (r : Interval) → closed_reach stamp tags (lookup (equal_places q) ps) ≡ Some r → Closes stamp tags ps (after_at stamp tags q ps) 1
-  closes_at q ps r h =
+  pub closes_at : (q : Place) (ps : List (Place × Stored)) (n : ℕ) (r : Interval) → ArePlaced ps → closed_reach stamp tags (lookup (equal_places q) ps) ≡ Some r → Closes stamp tags (held ps n) (held (after_at stamp tags q ps) n) 1
+  closes_at q ps n r placed h =
       let s = closed_there (lookup (equal_places q) ps) r h in
-      subst (λ f. Closes stamp tags ps (option_map_or (λ u. set_value (equal_places q) ps (stored_after stamp tags u)) f ps) 1) (sym s.1)
-      (subst (λ b. Closes stamp tags ps (set_value (equal_places q) ps (stored_after stamp tags s.0)) (cond b 1 0)) s.2 (closes_here q ps s.0 s.1))
+      subst (λ f. Closes stamp tags (held ps n) (held (option_map_or (λ u. set_value (equal_places q) ps (stored_after stamp tags u)) f ps) n) 1) (sym s.1)
+      (subst (λ b. Closes stamp tags (held ps n) (held (set_value (equal_places q) ps (stored_after stamp tags s.0)) n) (cond b 1 0)) s.2 (closes_here q ps n s.0 placed s.1))
 
   -- it invalidates nothing there any more
-  pub spared_at : (q : Place) (ps : List (Place × Stored)) → IsSpared stamp tags (after_at stamp tags q ps) q
-  spared_at q ps = (elim (lookup (equal_places q) ps) as (λ f. lookup (equal_places q) ps ≡ f → IsSpared stamp tags (option_map_or (λ s. set_value (equal_places q) ps (stored_after stamp tags s)) f ps) q) [
-    | None ↦ λ t o k. absurd (false≢true (sym (no_entry (equal_places q) ps o t k)))
-    | Some s ↦ λ t. set_here stamp tags q ps s t
+  pub spared_at : (q : Place) (ps : List (Place × Stored)) → ArePlaced ps → IsSpared stamp tags (entries_of (after_at stamp tags q ps)) q
+  spared_at q ps placed = (elim (lookup (equal_places q) ps) as (λ f. lookup (equal_places q) ps ≡ f → IsSpared stamp tags (entries_of (option_map_or (λ s. set_value (equal_places q) ps (stored_after stamp tags s)) f ps)) q) [
+    | None ↦ λ t o k. absurd (false≢true (sym (no_entry (equal_places q) ps o t (sym (found_pair q ps placed) ∙ k))))
+    | Some s ↦ λ t o k. set_here stamp tags q ps s o t (sym (found_pair q (set_value (equal_places q) ps (stored_after stamp tags s)) (set_placed stamp tags (equal_places q) ps s t placed)) ∙ k)
   ]) refl
 
-  pub closes_more : (a b c : List (Place × Stored)) (m n : ℕ) → Closes stamp tags a b m → Closes stamp tags b c n → Closes stamp tags a c (m + n)
+  pub closes_more : (a b c : Held) (m n : ℕ) → Closes stamp tags a b m → Closes stamp tags b c n → Closes stamp tags a c (m + n)
   closes_more a b c m n h k = record {
     after = k.after ∙ h.after;
+    capacity = k.capacity ∙ h.capacity;
     count = omega (arith, h.count, k.count);
     spared = λ q s. k.spared q (h.spared q s);
   }
@@ -319,7 +331,7 @@ among P (x ∷ xs) q h is = (elim (equal_places q x) as (λ b. equal_places q x 
   | false ↦ λ t is. among P xs q h.1 is
 ]) refl is
 
-pub all_stay : (stamp : ℕ) (tags : List Tag) (old new : List (Place × Stored)) (places : List Place) → StaySpared stamp tags old new → AllByRecursion (IsSpared stamp tags old) places → AllByRecursion (IsSpared stamp tags new) places
+pub all_stay : (stamp : ℕ) (tags : List Tag) (old new : List Entry) (places : List Place) → ((q : Place) → IsSpared stamp tags old q → IsSpared stamp tags new q) → AllByRecursion (IsSpared stamp tags old) places → AllByRecursion (IsSpared stamp tags new) places
 all_stay stamp tags old new [] stay h = tt
 all_stay stamp tags old new (q ∷ places) stay h = (stay q h.0, all_stay stamp tags old new places stay h.1)
 
@@ -331,7 +343,7 @@ lookup_index test (x ∷ bs) b h = (elim (test x.0) as (λ v. cond v (Some x.1) 
   | false ↦ λ h. let k = lookup_index test bs b h in (suc k.0, omega (arith, k.1), k.2, k.3)
 ]) h
 
-pub table_spared : (stamp : ℕ) (tags : List Tag) (ps : List (Place × Stored)) (bs : List (Rows × List Place)) (r : Rows) (q : Place) → ((k : ℕ) → k < length bs → AreSparedAt stamp tags ps bs k) → lists_rows bs r q ≡ true → IsSpared stamp tags ps q
+pub table_spared : (stamp : ℕ) (tags : List Tag) (ps : List Entry) (bs : List (Rows × List Place)) (r : Rows) (q : Place) → ((k : ℕ) → k < length bs → AreSparedAt stamp tags ps bs k) → lists_rows bs r q ≡ true → IsSpared stamp tags ps q
 table_spared stamp tags ps bs r q h l = (elim (lookup (equal_rows r) bs) as (λ f. lookup (equal_rows r) bs ≡ f → has_place (unwrap_or f []) q ≡ true → IsSpared stamp tags ps q) [
   | None ↦ λ t l. absurd (false≢true l)
   | Some b ↦ λ t l. let k = lookup_index (equal_rows r) bs b t in among (IsSpared stamp tags ps) b q (h k.0 k.1 (k.2, b) k.3) l

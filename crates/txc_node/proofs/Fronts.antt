@@ -2,12 +2,9 @@
 use Rattle.std.proofs.Common.{◌≡◌, ℕ, true, false, cond, List, [], ◌∷◌, map, Some, None, refl, sym, ap, subst, ◌∙◌, suc, zero}
 use Rattle.std.specs.Prelude.{slice_get, remove}
 use Rattle.std.specs.List.{AllByRecursion, find}
-use Rattle.std.specs.Option.{option_map}
 use Rattle.std.specs.Map.{lookup_entry}
-use Rattle.std.specs.HashMap.{HashMap}
 use Rattle.lru.specs.LruCache.{promoted}
 use Rattle.txc_stamp.specs.Interval.{Interval}
-use Rattle.txc_tags.specs.declared.tag.Rows.{Rows}
 use Rattle.txc_tags.specs.Keys.{Call, same_call}
 use Rattle.txc_tags.proofs.Offered.{same_call_is}
 use Rattle.txc_node.specs.declared.entry.Entry.{Entry}
@@ -15,10 +12,10 @@ use Rattle.txc_node.specs.declared.place.Place.{Place}
 use Rattle.txc_node.specs.declared.stored.Stored.{Stored}
 use Rattle.txc_node.specs.Places.{place_of, place_at, equal_places}
 use Rattle.txc_node.specs.Entries.{same_place, others, AreApart}
-use Rattle.txc_node.specs.Indexed.{entry_of, entries_of, entry_at, ArePlaced, entries_under, reaches_under, listed, IndexesKeys, Relists, lists, IsIndexed}
+use Rattle.txc_node.specs.Indexed.{entry_of, entries_of, entry_at, ArePlaced, AreTied, entries_under, reaches_under, listed, IndexesKeys, Relists}
 use Rattle.txc_node.proofs.Apart.{filter_keeps, first_apart, same_place_self}
 use Rattle.txc_node.proofs.KeyLists.{all_under, brought_first}
-use Rattle.txc_node.proofs.Pairs.{stands_each, promoted_is, promoted_keeps}
+use Rattle.txc_node.proofs.Pairs.{pair_of, promoted_is, promoted_keeps}
 
 -- ---- one entry of a key
 
@@ -44,19 +41,12 @@ reach_at [] at e h = let none : None ≡ Some e = h in cc
 reach_at (x ∷ es) zero e h = let h' : Some x ≡ Some e = h in let same : x ≡ e = cc in ap (λ (o : Entry). Some o.reach) same
 reach_at (x ∷ es) (suc at) e h = reach_at es at e h
 
--- the pair of an entry
-pub pair_of : (ps : List (Place × Stored)) (q : Place) (e : Entry) → entry_at ps q ≡ Some e → (x : Place × Stored) × (lookup_entry (equal_places q) ps ≡ Some x) × (entry_of x ≡ e)
-pair_of ps q e h = (elim (lookup_entry (equal_places q) ps) as (λ f. lookup_entry (equal_places q) ps ≡ f → (x : Place × Stored) × (lookup_entry (equal_places q) ps ≡ Some x) × (entry_of x ≡ e)) [
-  | None ↦ λ t. let none : None ≡ Some e = sym (ap (λ f. option_map entry_of f) t) ∙ h in cc
-  | Some x ↦ λ t. let is : Some (entry_of x) ≡ Some e = sym (ap (λ f. option_map entry_of f) t) ∙ h in let same : entry_of x ≡ e = cc in (x, t, same)
-]) refl
-
 -- each entry is found at its place
 found_later : (y : Entry) (es xs : List Entry) → AllByRecursion (λ o. same_place o y ≡ false) xs → AllByRecursion (λ x. find (λ o. same_place x o) es ≡ Some x) xs → AllByRecursion (λ x. find (λ o. same_place x o) (y ∷ es) ≡ Some x) xs
 found_later y es [] other h = tt
 found_later y es (x ∷ xs) other h = (ap (λ b. cond b (Some y) (find (λ o. same_place x o) es)) other.0 ∙ h.0, found_later y es xs other.1 h.1)
 
-found_self : (es : List Entry) → AreApart es → AllByRecursion (λ x. find (λ o. same_place x o) es ≡ Some x) es
+pub found_self : (es : List Entry) → AreApart es → AllByRecursion (λ x. find (λ o. same_place x o) es ≡ Some x) es
 found_self [] apart = tt
 found_self (y ∷ es) apart = (ap (λ b. cond b (Some y) (find (λ o. same_place y o) es)) (same_place_self y), found_later y es es apart.0 (found_self es apart.1))
 
@@ -73,18 +63,10 @@ found_again key es at e r apart is reach =
 pub brought : (ps : List (Place × Stored)) (key : Call) (at : ℕ) (e : Entry) → ArePlaced ps → AreApart (entries_of ps) → slice_get (entries_under key (entries_of ps)) at ≡ Some e
     → entries_of (promoted (equal_places (place_of e)) ps) ≡ e ∷ others e (entries_of ps)
 brought ps key at e placed apart is =
-    let stands = holds_under (λ o. entry_at ps (place_of o) ≡ Some o) key (entries_of ps) at e (stands_each ps placed apart) is in
-    let x = pair_of ps (place_of e) e stands in
+    let stands = holds_under (λ o. entry_at (entries_of ps) (place_of o) ≡ Some o) key (entries_of ps) at e (found_self (entries_of ps) apart) is in
+    let x = pair_of ps (place_of e) e placed stands in
     let found : lookup_entry (equal_places (place_of (entry_of x.0))) ps ≡ Some x.0 = ap (λ (o : Entry). lookup_entry (equal_places (place_of o)) ps) x.2 ∙ x.1 in
     subst (λ (o : Entry). entries_of (promoted (equal_places (place_of o)) ps) ≡ o ∷ others o (entries_of ps)) x.2 (promoted_is ps x.0 placed apart found)
-
-pub of_pairs : (P : Entry → Type 0) (ps : List (Place × Stored)) → AllByRecursion P (entries_of ps) → AllByRecursion (λ p. P (entry_of p)) ps
-of_pairs P [] h = tt
-of_pairs P (x ∷ ps) h = (h.0, of_pairs P ps h.1)
-
-pub of_entries : (P : Entry → Type 0) (ps : List (Place × Stored)) → AllByRecursion (λ p. P (entry_of p)) ps → AllByRecursion P (entries_of ps)
-of_entries P [] h = tt
-of_entries P (x ∷ ps) h = (h.0, of_entries P ps h.1)
 
 -- the entries after the promotion of the place of a listed reach
 pub brought_entries : (ps : List (Place × Stored)) (key : Call) (at : ℕ) (r : Interval) (e : Entry) → ArePlaced ps → AreApart (entries_of ps) → slice_get (reaches_under key (entries_of ps)) at ≡ Some r
@@ -94,10 +76,10 @@ brought_entries ps key at r e placed apart listed_there is =
     let reach : e.reach ≡ r = cc in
     ap (λ (q : Place). entries_of (promoted (equal_places q) ps)) (sym (place_is key (entries_of ps) at e r is reach)) ∙ brought ps key at e placed apart is
 
-pub brought_indexed : {S : Type 0} (ps : List (Place × Stored)) (index new : List (Call × List Interval)) (tables : List (HashMap Rows (List Place) S)) (key : Call) (at : ℕ) (r : Interval)
-    → IsIndexed ps index tables → slice_get (reaches_under key (entries_of ps)) at ≡ Some r → Relists key (r ∷ remove (listed index key) at) index new
-    → IsIndexed (promoted (equal_places (place_at key r.lo)) ps) new tables
-brought_indexed ps index new tables key at r h is relists =
+pub brought_tied : (ps : List (Place × Stored)) (index new : List (Call × List Interval)) (key : Call) (at : ℕ) (r : Interval)
+    → AreTied ps index → slice_get (reaches_under key (entries_of ps)) at ≡ Some r → Relists key (r ∷ remove (listed index key) at) index new
+    → AreTied (promoted (equal_places (place_at key r.lo)) ps) new
+brought_tied ps index new key at r h is relists =
     let es = entries_of ps in
     let test = equal_places (place_at key r.lo) in
     let e = reach_of (entries_under key es) at r is in
@@ -106,12 +88,10 @@ brought_indexed ps index new tables key at r h is relists =
     let stands : slice_get (entries_under e.0.key es) at ≡ Some e.0 = subst (λ (k : Call). slice_get (entries_under k es) at ≡ Some e.0) (sym own) e.1 in
     let relisted : Relists e.0.key (e.0.reach ∷ remove (listed index e.0.key) at) index new =
     subst (λ (k : Call). Relists k (e.0.reach ∷ remove (listed index k) at) index new) (sym own) (subst (λ (i : Interval). Relists key (i ∷ remove (listed index key) at) index new) (sym e.2) relists) in
-    let T : Entry → Type 0 = λ o. o.reach.still ≡ true → AllByRecursion (λ t. lists tables t (place_of o) ≡ true) o.tags in
     record {
       placed = promoted_keeps (λ p. p.0 ≡ place_of (entry_of p)) test ps h.placed;
       apart = subst AreApart (sym after) (first_apart e.0 es h.apart);
       keys = subst (λ (xs : List Entry). IndexesKeys new xs) (sym after) (brought_first index new es e.0 e.0 at h.apart h.keys stands refl relisted);
-      tags = of_entries T (promoted test ps) (promoted_keeps (λ p. T (entry_of p)) test ps (of_pairs T ps h.tags));
     }
 
 -- the first reach of a key in its own stead changes nothing

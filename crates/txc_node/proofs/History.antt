@@ -5,12 +5,13 @@ use Rattle.txc_node.specs.declared.counts.FunctionCounts.{FunctionCounts}
 use Rattle.txc_node.specs.declared.record.Record.{Record}
 use Rattle.txc_node.specs.Counts.{Totals, counts_of, sum_of, events_by, closed_by, swept_by, step_counts, AreCountsOf}
 
-pub one_step_more : (steps : List Record) (step : Record) (old new : Totals)
+-- the counts of one step more
+pub counted_more : (steps : List Record) (step : Record) (old new : Totals)
     → ((f : ℕ) → counts_of new.functions f ≡ sum_of (counts_of old.functions f) (step_counts f step))
     → new.replies ≡ old.replies + 1 → new.events ≡ old.events + events_by step.reply
     → new.closed ≡ old.closed + closed_by step.reply → new.swept ≡ old.swept + swept_by step.reply
     → AreCountsOf steps old → AreCountsOf (steps ++ step ∷ []) new
-one_step_more steps step old new functions replies events closed swept h = record {
+counted_more steps step old new functions replies events closed swept h = record {
   lookups = λ f. ap (λ (k : FunctionCounts). k.lookups) (functions f) ∙ ap (λ n. n + (step_counts f step).lookups) (h.lookups f) ∙ sym (sum_by_push (λ s. (step_counts f s).lookups) steps step);
   hits = λ f. ap (λ (k : FunctionCounts). k.hits) (functions f) ∙ ap (λ n. n + (step_counts f step).hits) (h.hits f) ∙ sym (sum_by_push (λ s. (step_counts f s).hits) steps step);
   stored = λ f. ap (λ (k : FunctionCounts). k.stored) (functions f) ∙ ap (λ n. n + (step_counts f step).stored) (h.stored f) ∙ sym (sum_by_push (λ s. (step_counts f s).stored) steps step);

@@ -148,7 +148,7 @@ map_last : (xs : List Entry) (e : Entry) → map (λ o. o.reach) (xs ++ e ∷ []
 map_last [] e = refl
 map_last (x ∷ xs) e = ap (λ ys. x.reach ∷ ys) (map_last xs e)
 
-append_none : (xs : List Entry) → xs ++ [] ≡ xs
+pub append_none : (xs : List Entry) → xs ++ [] ≡ xs
 append_none [] = refl
 append_none (x ∷ xs) = ap (λ ys. x ∷ ys) (append_none xs)
 

@@ -1,24 +1,22 @@
 -- The entry that stands last.
-use Rattle.std.proofs.Common.{◌≡◌, ℕ, ◌-◌, true, false, not, cond, List, [], ◌∷◌, ◌++◌, length, get_or, take, Some, None, refl, sym, ap, subst, ◌∙◌, arith, suc, zero, length-append}
+use Rattle.std.proofs.Common.{◌≡◌, ℕ, ◌-◌, false, not, cond, List, [], ◌∷◌, ◌++◌, length, get_or, take, Some, None, refl, sym, ap, subst, ◌∙◌, arith, suc, zero, length-append}
 use Rattle.std.specs.Prelude.{slice_get, remove}
 use Rattle.std.specs.List.{AllByRecursion}
+use Rattle.std.specs.Option.{option_map_or}
 use Rattle.std.proofs.lemmas.Option.{slice_get-get_or}
-use Rattle.std.specs.HashMap.{HashMap}
 use Rattle.txc_stamp.specs.Interval.{Interval}
-use Rattle.txc_tags.specs.declared.tag.Rows.{Rows}
 use Rattle.txc_tags.specs.Keys.{Call}
 use Rattle.txc_node.specs.declared.entry.Entry.{Entry}
 use Rattle.txc_node.specs.declared.place.Place.{Place}
 use Rattle.txc_node.specs.declared.stored.Stored.{Stored}
 use Rattle.txc_node.specs.Places.{place_of, place_at, equal_places}
 use Rattle.txc_node.specs.Entries.{same_place, others, AreApart}
-use Rattle.txc_node.specs.Indexed.{entry_of, entries_of, entries_under, reaches_under, listed, IndexesKeys, IndexesTags, Relists, KeepsListed, lists, IsIndexed}
+use Rattle.txc_node.specs.Indexed.{entry_of, entries_of, entries_under, reaches_under, listed, IndexesKeys, Relists, AreTied, last_to_front}
 use Rattle.txc_node.proofs.KeyLists.{reaches_last, dropped_last, under_last, under_yes}
-use Rattle.txc_node.proofs.Fronts.{brought, brought_indexed}
+use Rattle.txc_node.proofs.Fronts.{brought, brought_tied}
 use Rattle.txc_node.proofs.Apart.{same_place_self, same_place_sym}
 use Rattle.txc_tags.proofs.Offered.{same_call_itself}
 use Rattle.lru.specs.LruCache.{promoted}
-use Rattle.txc_node.proofs.Invalidated.{kept_tags}
 
 -- ---- lists and their last
 
@@ -67,20 +65,9 @@ last_apart (y ∷ es) e h = (all_last (λ o. same_place o y ≡ false) es e h.0,
 
 -- ---- the last entry is dropped
 
-pub kept_elsewhere : {S : Type 0} (tables new : List (HashMap Rows (List Place) S)) (q : Place) (es : List Entry) → AllByRecursion (λ o. equal_places q (place_of o) ≡ false) es
-    → KeepsListed (λ t p. equal_places q p ≡ false) tables new → IndexesTags tables es → IndexesTags new es
-kept_elsewhere tables new q [] other keeps h = tt
-kept_elsewhere tables new q (e ∷ es) other keeps h =
-    (λ still. kept_tags tables new (place_of e) e.tags (λ t. keeps t (place_of e) other.0) (h.0 still), kept_elsewhere tables new q es other.1 keeps h.1)
-
-pub at_place : (q : Place) (e : Entry) (es : List Entry) → q ≡ place_of e → AllByRecursion (λ o. same_place e o ≡ false) es → AllByRecursion (λ o. equal_places q (place_of o) ≡ false) es
-at_place q e [] at h = tt
-at_place q e (o ∷ es) at h = (ap (λ p. equal_places p (place_of o)) at ∙ h.0, at_place q e es at h.1)
-
-pub forgotten : {S : Type 0} (front : List (Place × Stored)) (x : Place × Stored) (index new : List (Call × List Interval)) (tables new_tables : List (HashMap Rows (List Place) S))
-    → IsIndexed (front ++ x ∷ []) index tables → Relists x.0.key (take (length (listed index x.0.key) - 1) (listed index x.0.key)) index new
-    → KeepsListed (λ t q. equal_places x.0 q ≡ false) tables new_tables → IsIndexed front new new_tables
-forgotten {S} front x index new tables new_tables h relists keeps =
+pub dropped_tied : (front : List (Place × Stored)) (x : Place × Stored) (index new : List (Call × List Interval)) → AreTied (front ++ x ∷ []) index
+    → Relists x.0.key (take (length (listed index x.0.key) - 1) (listed index x.0.key)) index new → AreTied front new
+dropped_tied front x index new h relists =
     let e = entry_of x in
     let es = entries_of front in
     let split = entries_last front x in
@@ -88,13 +75,10 @@ forgotten {S} front x index new tables new_tables h relists keeps =
     let indexed : IndexesKeys index (es ++ e ∷ []) = subst (λ (xs : List Entry). IndexesKeys index xs) split h.keys in
     let reaches : take (length (listed index e.key) - 1) (listed index e.key) ≡ reaches_under e.key es =
     ap (λ (rs : List Interval). take (length rs - 1) rs) (reaches_last index es e indexed) ∙ take_init (reaches_under e.key es) e.reach in
-    let T : Entry → Type 0 = λ o. o.reach.still ≡ true → AllByRecursion (λ t. lists tables t (place_of o) ≡ true) o.tags in
     record {
       placed = all_front (λ p. p.0 ≡ place_of (entry_of p)) front x h.placed;
       apart = front_apart es e apart;
       keys = dropped_last index new es e indexed (subst (λ (rs : List Interval). Relists e.key rs index new) reaches relists);
-      tags = kept_elsewhere tables new_tables x.0 es (at_place x.0 e es (all_last (λ p. p.0 ≡ place_of (entry_of p)) front x h.placed) (last_apart es e apart)) keeps
-          (all_front T es e (subst (λ (xs : List Entry). AllByRecursion T xs) split h.tags));
     }
 
 -- ---- the last entry is brought to the front
@@ -110,26 +94,26 @@ others_last : (es : List Entry) (e : Entry) → AllByRecursion (λ o. same_place
 others_last [] e h = ap (λ b. cond (not b) (e ∷ []) []) (same_place_self e)
 others_last (o ∷ es) e h = ap (λ b. cond (not b) (o ∷ others e (es ++ e ∷ [])) (others e (es ++ e ∷ []))) (same_place_sym o e ∙ h.0) ∙ ap (λ xs. o ∷ xs) (others_last es e h.1)
 
-module _ {S : Type 0} (front : List (Place × Stored)) (x : Place × Stored) (index new : List (Call × List Interval)) (tables : List (HashMap Rows (List Place) S)) where
-  place_last : IsIndexed (front ++ x ∷ []) index tables → x.0 ≡ place_at x.0.key x.1.reach.lo
+module _ (front : List (Place × Stored)) (x : Place × Stored) (index new : List (Call × List Interval)) where
+  place_last : AreTied (front ++ x ∷ []) index → x.0 ≡ place_at x.0.key x.1.reach.lo
   place_last h = all_last (λ p. p.0 ≡ place_of (entry_of p)) front x h.placed
 
-  listed_last : IsIndexed (front ++ x ∷ []) index tables → slice_get (listed index x.0.key) (length (listed index x.0.key) - 1) ≡ Some x.1.reach
+  listed_last : AreTied (front ++ x ∷ []) index → slice_get (listed index x.0.key) (length (listed index x.0.key) - 1) ≡ Some x.1.reach
   listed_last h =
       let indexed : IndexesKeys index (entries_of front ++ entry_of x ∷ []) = subst (λ (xs : List Entry). IndexesKeys index xs) (entries_last front x) h.keys in
       ap (λ (rs : List Interval). slice_get rs (length rs - 1)) (reaches_last index (entries_of front) (entry_of x) indexed) ∙ last_there (reaches_under x.0.key (entries_of front)) x.1.reach
 
-  pub last_brought : IsIndexed (front ++ x ∷ []) index tables
+  pub last_brought : AreTied (front ++ x ∷ []) index
       → ((r : Interval) → slice_get (listed index x.0.key) (length (listed index x.0.key) - 1) ≡ Some r → Relists x.0.key (r ∷ remove (listed index x.0.key) (length (listed index x.0.key) - 1)) index new)
-      → IsIndexed (promoted (equal_places x.0) (front ++ x ∷ [])) new tables
+      → AreTied (promoted (equal_places x.0) (front ++ x ∷ [])) new
   last_brought h relists =
       let at = length (listed index x.0.key) - 1 in
       let there = listed_last h in
       let under : slice_get (reaches_under x.0.key (entries_of (front ++ x ∷ []))) at ≡ Some x.1.reach = ap (λ (rs : List Interval). slice_get rs at) (sym (h.keys x.0.key)) ∙ there in
-      subst (λ (q : Place). IsIndexed (promoted (equal_places q) (front ++ x ∷ [])) new tables) (sym (place_last h))
-      (brought_indexed (front ++ x ∷ []) index new tables x.0.key at x.1.reach h under (relists x.1.reach there))
+      subst (λ (q : Place). AreTied (promoted (equal_places q) (front ++ x ∷ [])) new) (sym (place_last h))
+      (brought_tied (front ++ x ∷ []) index new x.0.key at x.1.reach h under (relists x.1.reach there))
 
-  pub last_brought_entries : IsIndexed (front ++ x ∷ []) index tables → entries_of (promoted (equal_places x.0) (front ++ x ∷ [])) ≡ entry_of x ∷ entries_of front
+  pub last_brought_entries : AreTied (front ++ x ∷ []) index → entries_of (promoted (equal_places x.0) (front ++ x ∷ [])) ≡ entry_of x ∷ entries_of front
   last_brought_entries h =
       let e = entry_of x in
       let es = entries_of front in
@@ -142,6 +126,15 @@ module _ {S : Type 0} (front : List (Place × Stored)) (x : Place × Stored) (in
       ∙ brought (front ++ x ∷ []) x.0.key (length (entries_under x.0.key es)) e h.placed h.apart under
       ∙ ap (λ xs. e ∷ xs) (ap (others e) split ∙ others_last es e (last_apart es e apart))
 
-pub none_last : (ps : List (Place × Stored)) (e : Entry) → slice_get ps (length ps - 1) ≡ None → slice_get (entries_of ps) (length (entries_of ps) - 1) ≡ Some e → true ≡ false
-none_last [] e h k = let none : None ≡ Some e = k in cc
-none_last (y ∷ ps) e h k = let some : Some (get_or (y ∷ ps) (length (y ∷ ps) - 1) y) ≡ None = sym (slice_get-get_or (y ∷ ps) (length (y ∷ ps) - 1) y (omega arith)) ∙ h in cc
+-- what goes first of the entries, by the last pair
+pub last_moved : (ps : List (Place × Stored)) (x : Place × Stored) → slice_get ps (length ps - 1) ≡ Some x → entry_of x ∷ entries_of (take (length ps - 1) ps) ≡ last_to_front (entries_of ps)
+last_moved ps x is =
+    let front = take (length ps - 1) ps in
+    let whole : entries_of ps ≡ entries_of front ++ entry_of x ∷ [] = ap entries_of (last_split ps x is) ∙ entries_last front x in
+    let init : take (length (entries_of ps) - 1) (entries_of ps) ≡ entries_of front = ap (λ (xs : List Entry). take (length xs - 1) xs) whole ∙ take_init (entries_of front) (entry_of x) in
+    let last : slice_get (entries_of ps) (length (entries_of ps) - 1) ≡ Some (entry_of x) = ap (λ (xs : List Entry). slice_get xs (length xs - 1)) whole ∙ last_there (entries_of front) (entry_of x) in
+    ap (λ (xs : List Entry). entry_of x ∷ xs) (sym init) ∙ sym (ap (λ f. option_map_or (λ e. e ∷ take (length (entries_of ps) - 1) (entries_of ps)) f (entries_of ps)) last)
+
+pub none_moved : (ps : List (Place × Stored)) → slice_get ps (length ps - 1) ≡ None → entries_of ps ≡ last_to_front (entries_of ps)
+none_moved [] h = refl
+none_moved (y ∷ ps) h = let some : Some (get_or (y ∷ ps) (length (y ∷ ps) - 1) y) ≡ None = sym (slice_get-get_or (y ∷ ps) (length (y ∷ ps) - 1) y (omega arith)) ∙ h in cc

@@ -16,8 +16,9 @@ pub mod Fronts
 pub mod Closings
 pub mod Invalidated
 pub mod Lasts
+pub mod Listed
 pub mod Turns
 pub mod Buckets
 pub mod Puts
 pub mod Pairs
-mod History
+pub mod History

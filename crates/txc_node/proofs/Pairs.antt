@@ -1,38 +1,34 @@
 -- The entries of a cache at their places.
-use Rattle.std.proofs.Common.{◌≡◌, ℕ, ◌-◌, ◌<◌, ◌≤◌, Bool, true, false, not, cond, List, [], ◌∷◌, length, take, Option, Some, None, refl, sym, ap, subst, ◌∙◌, arith, suc, zero}
+use Rattle.std.proofs.Common.{◌≡◌, ℕ, Bool, true, false, not, cond, List, [], ◌∷◌, take, Option, Some, None, refl, sym, ap, subst, ◌∙◌, suc, zero}
 use Rattle.std.specs.List.{AllByRecursion, find}
 use Rattle.std.specs.Option.{option_map, option_map_or}
 use Rattle.std.specs.Map.{lookup, lookup_entry, remove_entry}
-use Rattle.std.proofs.lemmas.List.{take_all}
-use Rattle.lru.specs.LruCache.{LruCache, promoted, put_entries}
+use Rattle.lru.specs.LruCache.{promoted}
 use Rattle.txc_node.specs.declared.entry.Entry.{Entry}
 use Rattle.txc_node.specs.declared.place.Place.{Place}
 use Rattle.txc_node.specs.declared.stored.Stored.{Stored}
-use Rattle.txc_node.specs.Places.{place_of, equal_places, equal_places_is, equal_places_itself}
+use Rattle.txc_node.specs.Places.{place_of, equal_places, equal_places_is}
 use Rattle.txc_node.specs.Entries.{same_place, others, AreApart}
 use Rattle.txc_node.specs.Indexed.{entry_of, stored_of, entries_of, entry_at, ArePlaced}
 use Rattle.txc_node.proofs.Apart.{same_place_sym}
 
--- ---- each pair is found at its place
+-- ---- what is found at a place
 
-found_after : (x : Place × Stored) (ps xs : List (Place × Stored)) → x.0 ≡ place_of (entry_of x) → ArePlaced xs → AllByRecursion (λ o. same_place o (entry_of x) ≡ false) (entries_of xs)
-    → AllByRecursion (λ y. lookup_entry (equal_places y.0) ps ≡ Some y) xs → AllByRecursion (λ y. lookup_entry (equal_places y.0) (x ∷ ps) ≡ Some y) xs
-found_after x ps [] at placed apart h = tt
-found_after x ps (y ∷ ys) at placed apart h =
-    let other : equal_places y.0 x.0 ≡ false = ap (λ q. equal_places q x.0) placed.0 ∙ ap (equal_places (place_of (entry_of y))) at ∙ apart.0 in
-    (ap (λ b. cond b (Some x) (lookup_entry (equal_places y.0) ps)) other ∙ h.0, found_after x ps ys at placed.1 apart.1 h.1)
+-- the entry at a place is that of the pair there
+pub found_pair : (q : Place) (ps : List (Place × Stored)) → ArePlaced ps → entry_at (entries_of ps) q ≡ option_map entry_of (lookup_entry (equal_places q) ps)
+found_pair q [] placed = refl
+found_pair q (x ∷ ps) placed =
+    let e = entry_of x in
+    let rest = option_map entry_of (lookup_entry (equal_places q) ps) in
+    ap (λ (o : Option Entry). cond (equal_places q (place_of e)) (Some e) o) (found_pair q ps placed.1)
+    ∙ elim (equal_places q (place_of e)) as (λ b. cond b (Some e) rest ≡ option_map entry_of (cond b (Some x) (lookup_entry (equal_places q) ps))) [ true ↦ refl | false ↦ refl ]
+    ∙ ap (λ (r : Place). option_map entry_of (cond (equal_places q r) (Some x) (lookup_entry (equal_places q) ps))) (sym placed.0)
 
-pub found_each : (ps : List (Place × Stored)) → ArePlaced ps → AreApart (entries_of ps) → AllByRecursion (λ y. lookup_entry (equal_places y.0) ps ≡ Some y) ps
-found_each [] placed apart = tt
-found_each (x ∷ ps) placed apart = (ap (λ b. cond b (Some x) (lookup_entry (equal_places x.0) ps)) (equal_places_itself x.0), found_after x ps ps placed.0 placed.1 apart.0 (found_each ps placed.1 apart.1))
-
--- the pair of an entry of the list
-stand_each : (ps xs : List (Place × Stored)) → ArePlaced xs → AllByRecursion (λ y. lookup_entry (equal_places y.0) ps ≡ Some y) xs → AllByRecursion (λ o. entry_at ps (place_of o) ≡ Some o) (entries_of xs)
-stand_each ps [] placed h = tt
-stand_each ps (x ∷ xs) placed h = (ap (λ q. option_map entry_of (lookup_entry (equal_places q) ps)) (sym placed.0) ∙ ap (option_map entry_of) h.0, stand_each ps xs placed.1 h.1)
-
-pub stands_each : (ps : List (Place × Stored)) → ArePlaced ps → AreApart (entries_of ps) → AllByRecursion (λ o. entry_at ps (place_of o) ≡ Some o) (entries_of ps)
-stands_each ps placed apart = stand_each ps ps placed (found_each ps placed apart)
+pub pair_of : (ps : List (Place × Stored)) (q : Place) (e : Entry) → ArePlaced ps → entry_at (entries_of ps) q ≡ Some e → (x : Place × Stored) × (lookup_entry (equal_places q) ps ≡ Some x) × (entry_of x ≡ e)
+pair_of ps q e placed h = (elim (lookup_entry (equal_places q) ps) as (λ f. option_map entry_of f ≡ Some e → (x : Place × Stored) × (f ≡ Some x) × (entry_of x ≡ e)) [
+  | None ↦ λ h. let none : None ≡ Some e = h in cc
+  | Some x ↦ λ h. let is : Some (entry_of x) ≡ Some e = h in let same : entry_of x ≡ e = cc in (x, refl, same)
+]) (sym (found_pair q ps placed) ∙ h)
 
 -- what is stored at a place, by the entry that stands there
 pub stored_at : (q : Place) (ps : List (Place × Stored)) → ArePlaced ps → lookup (equal_places q) ps ≡ option_map stored_of (find (λ e. equal_places q (place_of e)) (entries_of ps))
@@ -103,45 +99,9 @@ promoted_keeps P test ps h = (elim (lookup_entry test ps) as (λ f. lookup_entry
   | Some e ↦ λ t. (looked_up P test ps e h t, removed_keeps P test ps h)
 ]) refl
 
-pub removed_length : (test : Place → Bool) (ps : List (Place × Stored)) (e : Place × Stored) → lookup_entry test ps ≡ Some e → suc (length (entries_of (remove_entry test ps))) ≡ length (entries_of ps)
-removed_length test [] e h = cc
-removed_length test (x ∷ ps) e h = (elim (test x.0) as (λ v. test x.0 ≡ v → suc (length (entries_of (remove_entry test (x ∷ ps)))) ≡ length (entries_of (x ∷ ps))) [
-  | true ↦ λ t. ap (λ v. suc (length (entries_of (cond v ps (x ∷ remove_entry test ps))))) t
-  | false ↦ λ t. ap (λ v. suc (length (entries_of (cond v ps (x ∷ remove_entry test ps))))) t ∙ ap (λ n. suc n) (removed_length test ps e (sym (ap (λ v. cond v (Some x) (lookup_entry test ps)) t) ∙ h))
-]) refl
-
 -- ---- what is put
 
 pub entries_take : (n : ℕ) (ps : List (Place × Stored)) → entries_of (take n ps) ≡ take n (entries_of ps)
 entries_take zero ps = refl
 entries_take (suc n) [] = refl
 entries_take (suc n) (x ∷ ps) = ap (λ ys. entry_of x ∷ ys) (entries_take n ps)
-
--- where none stands at the place of e, all are others
-pub absent_others : (ps : List (Place × Stored)) (e : Entry) → ArePlaced ps → lookup_entry (equal_places (place_of e)) ps ≡ None → others e (entries_of ps) ≡ entries_of ps
-absent_others [] e placed h = refl
-absent_others (x ∷ ps) e placed h =
-    let o = entry_of x in
-    let there : equal_places (place_of e) x.0 ≡ same_place o e = ap (equal_places (place_of e)) placed.0 ∙ same_place_sym e o in
-    (elim (equal_places (place_of e) x.0) as (λ v. equal_places (place_of e) x.0 ≡ v → others e (entries_of (x ∷ ps)) ≡ entries_of (x ∷ ps)) [
-      | true ↦ λ t. let no : Some x ≡ None = sym (ap (λ v. cond v (Some x) (lookup_entry (equal_places (place_of e)) ps)) t) ∙ h in cc
-      | false ↦ λ t. ap (λ v. cond (not v) (o ∷ others e (entries_of ps)) (others e (entries_of ps))) (sym there ∙ t) ∙ ap (λ ys. o ∷ ys) (absent_others ps e placed.1 (sym (ap (λ v. cond v (Some x) (lookup_entry (equal_places (place_of e)) ps)) t) ∙ h))
-    ]) refl
-
-take_first : (n : ℕ) (e : Entry) (xs : List Entry) → 0 < n → take n (e ∷ xs) ≡ e ∷ take (n - 1) xs
-take_first zero e xs h = absurd (omega arith)
-take_first (suc n) e xs h = ap (λ m. e ∷ take m xs) (omega arith)
-
--- what a cache holds after a put is what the list of entries holds after an insertion
-pub put_is : (c : LruCache Place Stored) (q : Place) (s : Stored) → q ≡ place_of (entry_of (q, s)) → ArePlaced c.entries → AreApart (entries_of c.entries) → length (entries_of c.entries) ≤ c.cap → 0 < c.cap
-    → entries_of (put_entries equal_places c q s) ≡ take c.cap (entry_of (q, s) ∷ others (entry_of (q, s)) (entries_of c.entries))
-put_is c q s at placed apart within some = (elim (lookup_entry (equal_places q) c.entries) as (λ f. lookup_entry (equal_places q) c.entries ≡ f → entries_of (option_map_or (λ p. (p.0, s) ∷ remove_entry (equal_places q) c.entries) f ((q, s) ∷ take (c.cap - 1) c.entries)) ≡ take c.cap (entry_of (q, s) ∷ others (entry_of (q, s)) (entries_of c.entries))) [
-  | None ↦ λ t.
-      ap (λ ys. entry_of (q, s) ∷ ys) (entries_take (c.cap - 1) c.entries) ∙ sym (take_first c.cap (entry_of (q, s)) (entries_of c.entries) some) ∙ ap (λ ys. take c.cap (entry_of (q, s) ∷ ys)) (sym (absent_others c.entries (entry_of (q, s)) placed (subst (λ (k : Place). lookup_entry (equal_places k) c.entries ≡ None) at t)))
-  | Some f ↦ λ t.
-      let here : f.0 ≡ q = (pair_at c.entries q f placed t).0 in
-      let rest : entries_of (remove_entry (equal_places q) c.entries) ≡ others (entry_of (q, s)) (entries_of c.entries) = ap (λ k. entries_of (remove_entry (equal_places k) c.entries)) at ∙ without_is_others c.entries (entry_of (q, s)) placed apart in
-      let short : suc (length (entries_of (remove_entry (equal_places q) c.entries))) ≤ c.cap = subst (λ (n : ℕ). n ≤ c.cap) (sym (removed_length (equal_places q) c.entries f t)) within in
-      let whole : suc (length (others (entry_of (q, s)) (entries_of c.entries))) ≤ c.cap = subst (λ (ys : List Entry). suc (length ys) ≤ c.cap) rest short in
-      ap (λ k. entry_of (k, s) ∷ entries_of (remove_entry (equal_places q) c.entries)) here ∙ ap (λ ys. entry_of (q, s) ∷ ys) rest ∙ sym (take_all c.cap (entry_of (q, s) ∷ others (entry_of (q, s)) (entries_of c.entries)) whole)
-]) refl

@@ -1,38 +1,29 @@
 -- A new entry that goes first.
-use Rattle.std.proofs.Common.{◌≡◌, ℕ, ◌-◌, ◌<◌, ◌≤◌, Bool, true, false, not, ◌||◌, cond, eqb, List, [], ◌∷◌, ◌++◌, length, take, Option, Some, None, refl, sym, ap, subst, ◌∙◌, arith, suc, zero}
+use Rattle.std.proofs.Common.{◌≡◌, ℕ, ◌-◌, ◌<◌, ◌≤◌, Bool, true, false, not, cond, List, [], ◌∷◌, ◌++◌, length, take, Option, Some, None, refl, sym, ap, subst, ◌∙◌, arith, suc, zero}
 use Rattle.std.specs.Prelude.{slice_get, remove}
 use Rattle.std.specs.List.{AllByRecursion, find}
 use Rattle.std.specs.Option.{option_map, option_map_or}
 use Rattle.std.specs.Map.{lookup, lookup_entry, remove_entry}
-use Rattle.std.specs.HashMap.{HashMap}
-use Rattle.std.proofs.lemmas.Bool.{false≢true}
 use Rattle.std.proofs.lemmas.List.{length-map}
-use Rattle.std.proofs.lemmas.Option.{slice_get_within, slice_get_past}
-use borrow.Author.Tests.{eq-eqb}
+use Rattle.std.proofs.lemmas.Option.{slice_get_within}
 use Rattle.lru.specs.LruCache.{LruCache, put_entries, displaced}
 use Rattle.txc_stamp.specs.Interval.{Interval}
-use Rattle.txc_tags.specs.declared.tag.Rows.{Rows}
-use Rattle.txc_tags.specs.declared.tag.Rows.TheVariants.{All, Id, Group}
-use Rattle.txc_tags.specs.declared.tag.Tag.{Tag}
-use Rattle.txc_tags.specs.Tags.{same_rows, same_tag, has_tag}
 use Rattle.txc_tags.specs.Keys.{Call, same_call}
-use Rattle.txc_tags.proofs.Offered.{and_true}
 use Rattle.txc_node.specs.declared.entry.Entry.{Entry}
 use Rattle.txc_node.specs.declared.place.Place.{Place}
 use Rattle.txc_node.specs.declared.stored.Stored.{Stored}
 use Rattle.txc_node.specs.declared.versions.Found.{Found}
-use Rattle.txc_node.specs.Places.{place_of, place_at, equal_places, equal_places_is}
+use Rattle.txc_node.specs.Places.{place_of, place_at, equal_places}
 use Rattle.txc_node.specs.Entries.{same_place, others, AreApart}
 use Rattle.txc_node.specs.Cache.{Cache, ends_no_earlier, is_kept, replayed_reach}
-use Rattle.txc_node.specs.Indexed.{entry_of, stored_of, entries_of, ArePlaced, entries_under, reaches_under, listed, IndexesKeys, Relists, StandsUnder, with_first, IsFound, lists, IsListed, IndexesTags, KeepsListed, IsIndexed}
-use Rattle.txc_node.proofs.Apart.{same_place_sym, first_apart, others_elsewhere, filter_keeps}
+use Rattle.txc_node.specs.Indexed.{entry_at, entry_of, entries_of, ArePlaced, AreTied, entries_under, reaches_under, listed, IndexesKeys, Relists, StandsUnder, with_first, IsFound}
+use Rattle.txc_node.proofs.Apart.{same_place_sym, first_apart}
 use Rattle.txc_node.proofs.Inserts.{others_like, others_none, filter_same, place_moved}
 use Rattle.txc_node.proofs.Swept.{find_same}
-use Rattle.txc_node.proofs.Pairs.{found_each, pair_at, without_is_others, removed_keeps, removed_length}
+use Rattle.txc_node.proofs.Pairs.{entries_take, found_pair, pair_at, without_is_others, removed_keeps}
 use Rattle.txc_node.proofs.KeyLists.{indexes_by, put_first, brought_first, relisted_there}
 use Rattle.txc_node.proofs.Fronts.{key_at}
-use Rattle.txc_node.proofs.Invalidated.{kept_tags}
-use Rattle.txc_node.proofs.Lasts.{kept_elsewhere, at_place, split_at, forgotten}
+use Rattle.txc_node.proofs.Lasts.{split_at, dropped_tied}
 use Rattle.txc_node.proofs.Turns.{get_entry}
 
 -- ---- what is found at a place
@@ -43,10 +34,6 @@ none_there p (x ∷ es) h = (elim (p x) as (λ b. p x ≡ b → cond b (Some x) 
   | true ↦ λ t h. let some : Some x ≡ None = h in cc
   | false ↦ λ t h. (t, none_there p es h)
 ]) refl h
-
-turned_round : (e : Entry) (es : List Entry) → AllByRecursion (λ o. same_place o e ≡ false) es → AllByRecursion (λ o. same_place e o ≡ false) es
-turned_round e [] h = tt
-turned_round e (o ∷ es) h = (same_place_sym e o ∙ h.0, turned_round e es h.1)
 
 -- where no entry stands, no pair does
 no_pair : (ps : List (Place × Stored)) (q : Place) (e : Entry) → q ≡ place_of e → ArePlaced ps → AllByRecursion (λ o. same_place o e ≡ false) (entries_of ps)
@@ -74,36 +61,6 @@ pair_there (y ∷ ps) q e o at placed h =
           (r.0, ap (λ b. cond b (Some y) (lookup_entry (equal_places q) ps)) (there ∙ t) ∙ r.1, ap (λ b. cond b (Some y.1) (lookup (equal_places q) ps)) (there ∙ t) ∙ r.2, r.3)
     ]) refl h
 
--- ---- the index of the tags
-
-module _ {S : Type 0} (tables new : List (HashMap Rows (List Place) S)) where
-  -- what is listed in excess does no harm
-  all_kept : (es : List Entry) → KeepsListed (λ t q. Unit {0}) tables new → IndexesTags tables es → IndexesTags new es
-  all_kept [] keeps h = tt
-  all_kept (e ∷ es) keeps h = (λ still. kept_tags tables new (place_of e) e.tags (λ t. keeps t (place_of e) tt) (h.0 still), all_kept es keeps h.1)
-
-  own_kept : (q : Place) (us ts : List Tag) → AllByRecursion (λ t. has_tag us t ≡ true) ts → KeepsListed (λ t p. has_tag us t ≡ true) tables new → AllByRecursion (λ t. lists tables t q ≡ true) ts → AllByRecursion (λ t. lists new t q ≡ true) ts
-  own_kept q us [] own keeps h = tt
-  own_kept q us (t ∷ ts) own keeps h = (keeps t q own.0 h.0, own_kept q us ts own.1 keeps h.1)
-
-same_tag_itself : (t : Tag) → same_tag t t ≡ true
-same_tag_itself t =
-    let rows : (r : Rows) → same_rows r r ≡ true = λ r. elim r as (λ x. same_rows x x ≡ true) [ All ↦ refl | Id n ↦ eq-eqb n n refl | Group n ↦ eq-eqb n n refl ] in
-    and_true (eqb t.table t.table) (same_rows t.rows t.rows) (eq-eqb t.table t.table refl) (rows t.rows)
-
-or_later : (a b : Bool) → b ≡ true → (a || b) ≡ true
-or_later true b h = refl
-or_later false b h = h
-
-has_more : (u : Tag) (us ts : List Tag) → AllByRecursion (λ t. has_tag us t ≡ true) ts → AllByRecursion (λ t. has_tag (u ∷ us) t ≡ true) ts
-has_more u us [] h = tt
-has_more u us (t ∷ ts) h = (or_later (same_tag t u) (has_tag us t) h.0, has_more u us ts h.1)
-
--- a set has each of its tags
-own_tags : (ts : List Tag) → AllByRecursion (λ t. has_tag ts t ≡ true) ts
-own_tags [] = tt
-own_tags (t ∷ ts) = (ap (λ b. b || has_tag ts t) (same_tag_itself t), has_more t ts ts (own_tags ts))
-
 -- ---- the index of the keys
 
 pub same_keys : (key : Call) (index new : List (Call × List Interval)) (es : List Entry) → IndexesKeys index es → Relists key (listed index key) index new → IndexesKeys new es
@@ -116,71 +73,18 @@ relists_over key rs ss a b c h k n = (elim (same_call key n) as (λ v. same_call
   | false ↦ λ t. relisted_there key n rs b c k t ∙ relisted_there key n ss a b h t
 ]) refl
 
--- ---- a new entry that finds no memory
-
-module _ {S : Type 0} (ps : List (Place × Stored)) (index new : List (Call × List Interval)) (tables mid left : List (HashMap Rows (List Place) S)) where
-  pub more_listed : IsIndexed ps index tables → KeepsListed (λ t q. Unit {0}) tables mid → IsIndexed ps index mid
-  more_listed h keeps = record { placed = h.placed; apart = h.apart; keys = h.keys; tags = all_kept tables mid (entries_of ps) keeps h.tags }
-
-  pub left_out : (q : Place) (e : Entry) → q ≡ place_of e → find (λ o. same_place o e) (entries_of ps) ≡ None → IsIndexed ps index tables → Relists q.key (listed index q.key) index new
-      → KeepsListed (λ t q. Unit {0}) tables mid → KeepsListed (λ t p. equal_places q p ≡ false) mid left → IsIndexed ps new left
-  left_out q e at absent h relists more fewer =
-      let es = entries_of ps in
-      let elsewhere = at_place q e es at (turned_round e es (none_there (λ o. same_place o e) es absent)) in
-      record {
-        placed = h.placed;
-        apart = h.apart;
-        keys = same_keys q.key index new es h.keys relists;
-        tags = kept_elsewhere mid left q es elsewhere fewer (all_kept tables mid es more h.tags);
-      }
-
-value_at : (test : Place → Bool) (ps : List (Place × Stored)) → lookup test ps ≡ option_map (λ p. p.1) (lookup_entry test ps)
-value_at test [] = refl
-value_at test (x ∷ ps) = elim (test x.0) as (λ b. cond b (Some x.1) (lookup test ps) ≡ option_map (λ p. p.1) (cond b (Some x) (lookup_entry test ps))) [ true ↦ refl | false ↦ value_at test ps ]
-
-values_at : (ps xs : List (Place × Stored)) → AllByRecursion (λ y. lookup_entry (equal_places y.0) ps ≡ Some y) xs → AllByRecursion (λ y. lookup (equal_places y.0) ps ≡ Some y.1) xs
-values_at ps [] h = tt
-values_at ps (x ∷ xs) h = (value_at (equal_places x.0) ps ∙ ap (option_map (λ p. p.1)) h.0, values_at ps xs h.1)
-
--- what was listed for it in excess is taken off again, and what stands at its place stays listed
-module _ {S : Type 0} (ps : List (Place × Stored)) (q : Place) (s : Stored) (mid left : List (HashMap Rows (List Place) S)) (at : lookup (equal_places q) ps ≡ Some s)
-    (places : KeepsListed (λ t p. equal_places q p ≡ false) mid left) (own : KeepsListed (λ t p. has_tag s.tags t ≡ true) mid left) where
-  all_restored : (xs : List (Place × Stored)) → ArePlaced xs → AllByRecursion (λ y. lookup (equal_places y.0) ps ≡ Some y.1) xs → IndexesTags mid (entries_of xs) → IndexesTags left (entries_of xs)
-  all_restored [] placed found h = tt
-  all_restored (y ∷ xs) placed found h =
-      let o = entry_of y in (
-        (elim (equal_places q y.0) as (λ b. equal_places q y.0 ≡ b → IsListed left (place_of o) (stored_of o)) [
-          | true ↦ λ t still.
-              let both : Some s ≡ Some y.1 = sym at ∙ ap (λ p. lookup (equal_places p) ps) (equal_places_is q y.0 t) ∙ found.0 in
-              let same : s ≡ y.1 = cc in
-              own_kept mid left (place_of o) s.tags o.tags (subst (λ (u : Stored). AllByRecursion (λ x. has_tag u.tags x ≡ true) y.1.tags) (sym same) (own_tags y.1.tags)) own (h.0 still)
-          | false ↦ λ t still. kept_tags mid left (place_of o) o.tags (λ x. places x (place_of o) (ap (equal_places q) (sym placed.0) ∙ t)) (h.0 still)
-        ]) refl,
-        all_restored xs placed.1 found.1 h.1,
-      )
-
-  pub restored : (index : List (Call × List Interval)) (tables : List (HashMap Rows (List Place) S)) → IsIndexed ps index tables → KeepsListed (λ t p. Unit {0}) tables mid → IsIndexed ps index left
-  restored index tables h more = record {
-    placed = h.placed;
-    apart = h.apart;
-    keys = h.keys;
-    tags = all_restored ps h.placed (values_at ps ps (found_each ps h.placed h.apart)) (all_kept tables mid (entries_of ps) more h.tags);
-  }
-
 -- ---- a new entry at a place where none stands
 
-module _ {S : Type 0} (ps : List (Place × Stored)) (q : Place) (s : Stored) (index new : List (Call × List Interval)) (tables mid : List (HashMap Rows (List Place) S)) where
-  pub put_indexed : q ≡ place_of (entry_of (q, s)) → find (λ o. same_place o (entry_of (q, s))) (entries_of ps) ≡ None → IsIndexed ps index tables → Relists q.key (s.reach ∷ listed index q.key) index new
-      → IsListed mid q s → KeepsListed (λ t q. Unit {0}) tables mid → IsIndexed ((q, s) ∷ ps) new mid
-  put_indexed at absent h relists own more =
-      let e = entry_of (q, s) in
-      let es = entries_of ps in
-      record {
-        placed = (at, h.placed);
-        apart = (none_there (λ o. same_place o e) es absent, h.apart);
-        keys = put_first index new es e h.keys relists;
-        tags = (subst (λ (p : Place). IsListed mid p s) at own, all_kept tables mid es more h.tags);
-      }
+pub put_tied : (ps : List (Place × Stored)) (q : Place) (s : Stored) (index new : List (Call × List Interval)) → q ≡ place_of (entry_of (q, s)) → find (λ o. same_place o (entry_of (q, s))) (entries_of ps) ≡ None
+    → AreTied ps index → Relists q.key (s.reach ∷ listed index q.key) index new → AreTied ((q, s) ∷ ps) new
+put_tied ps q s index new at absent h relists =
+    let e = entry_of (q, s) in
+    let es = entries_of ps in
+    record {
+      placed = (at, h.placed);
+      apart = (none_there (λ o. same_place o e) es absent, h.apart);
+      keys = put_first index new es e h.keys relists;
+    }
 
 pub absent_put : (c : LruCache Place Stored) (q : Place) (s : Stored) → q ≡ place_of (entry_of (q, s)) → find (λ o. same_place o (entry_of (q, s))) (entries_of c.entries) ≡ None → ArePlaced c.entries
     → (put_entries equal_places c q s ≡ (q, s) ∷ take (c.cap - 1) c.entries) × (displaced equal_places c q s ≡ slice_get c.entries (c.cap - 1))
@@ -192,6 +96,18 @@ absent_put c q s at absent placed =
 
 pub absent_others : (e : Entry) (es : List Entry) → find (λ o. same_place o e) es ≡ None → others e es ≡ es
 absent_others e es absent = others_none e es (none_there (λ o. same_place o e) es absent)
+
+take_first : (n : ℕ) (e : Entry) (xs : List Entry) → 0 < n → e ∷ take (n - 1) xs ≡ take n (e ∷ xs)
+take_first zero e xs h = absurd (omega arith)
+take_first (suc n) e xs h = ap (λ m. e ∷ take m xs) (omega arith)
+
+-- what the cache holds then
+pub absent_entries : (c : LruCache Place Stored) (q : Place) (s : Stored) → q ≡ place_of (entry_of (q, s)) → find (λ o. same_place o (entry_of (q, s))) (entries_of c.entries) ≡ None → ArePlaced c.entries → 0 < c.cap
+    → entries_of (put_entries equal_places c q s) ≡ take c.cap (with_first (entry_of (q, s)) (entries_of c.entries))
+absent_entries c q s at absent placed some =
+    let e = entry_of (q, s) in
+    ap (λ (qs : List (Place × Stored)). entries_of qs) (absent_put c q s at absent placed).0 ∙ ap (λ es. e ∷ es) (entries_take (c.cap - 1) c.entries)
+    ∙ take_first c.cap e (entries_of c.entries) some ∙ ap (λ es. take c.cap (e ∷ es)) (sym (absent_others e (entries_of c.entries) absent))
 
 pub take_past : {X : Type 0} (n : ℕ) (xs : List X) → slice_get xs n ≡ None → take n xs ≡ xs
 take_past zero [] h = refl
@@ -206,15 +122,18 @@ evicted_is zero ps e o some absent is = absurd (omega arith)
 evicted_is (suc n) ps e o some absent is =
     ap (option_map entry_of) (is ∙ ap (λ k. slice_get ps k) (omega arith)) ∙ sym (get_entry ps n) ∙ ap (λ (xs : List Entry). slice_get xs n) (sym (absent_others e (entries_of ps) absent))
 
+pub within_pairs : (ps : List (Place × Stored)) (n : ℕ) → length ps ≤ n → length (entries_of ps) ≤ n
+within_pairs ps n h = omega (arith, h, length-map ps entry_of)
+
 -- the last pair makes room
-pub pushed_out : {S : Type 0} (n : ℕ) (ps : List (Place × Stored)) (p x : Place × Stored) (index new : List (Call × List Interval)) (tables left : List (HashMap Rows (List Place) S))
-    → 0 < n → length (entries_of ps) ≤ n → slice_get ps (n - 1) ≡ Some x → IsIndexed (p ∷ ps) index tables
-    → Relists x.0.key (take (length (listed index x.0.key) - 1) (listed index x.0.key)) index new → KeepsListed (λ t q. equal_places x.0 q ≡ false) tables left → IsIndexed (p ∷ take (n - 1) ps) new left
-pushed_out n ps p x index new tables left some within is h relists keeps =
+pub pushed_out : (n : ℕ) (ps : List (Place × Stored)) (p x : Place × Stored) (index new : List (Call × List Interval))
+    → 0 < n → length (entries_of ps) ≤ n → slice_get ps (n - 1) ≡ Some x → AreTied (p ∷ ps) index
+    → Relists x.0.key (take (length (listed index x.0.key) - 1) (listed index x.0.key)) index new → AreTied (p ∷ take (n - 1) ps) new
+pushed_out n ps p x index new some within is h relists =
     let far : n - 1 < length ps = slice_get_within ps (n - 1) x is in
     let all : length ps ≡ suc (n - 1) = omega (arith, far, within, length-map ps entry_of) in
     let split : p ∷ ps ≡ (p ∷ take (n - 1) ps) ++ x ∷ [] = ap (λ ys. p ∷ ys) (split_at (n - 1) ps x all is) in
-    forgotten (p ∷ take (n - 1) ps) x index new tables left (subst (λ (qs : List (Place × Stored)). IsIndexed qs index tables) split h) relists keeps
+    dropped_tied (p ∷ take (n - 1) ps) x index new (subst (λ (qs : List (Place × Stored)). AreTied qs index) split h) relists
 
 -- ---- a new entry in the stead of the one at its place
 
@@ -229,6 +148,21 @@ there_put c q s at is there placed =
       x.2,
     )
 
+-- what stood there before
+pub there_before : (c : LruCache Place Stored) (q : Place) (s : Stored) (at : ℕ) → q ≡ place_of (entry_of (q, s)) → StandsUnder (entry_of (q, s)) (entries_of c.entries) at → ArePlaced c.entries → option_map entry_of (displaced equal_places c q s) ≡ entry_at (entries_of c.entries) q
+there_before c q s at is there placed =
+    let x = pair_there c.entries q (entry_of (q, s)) there.0 is placed there.1 in
+    let here : x.0.0 ≡ q = (pair_at c.entries q x.0 placed x.1).0 in
+    ap (λ f. option_map entry_of (option_map_or (λ old. Some (q, old)) f (slice_get c.entries (c.cap - 1)))) x.2 ∙ ap (λ (k : Place). Some (entry_of (k, x.0.1))) (sym here) ∙ sym (found_pair q c.entries placed ∙ ap (option_map entry_of) x.1)
+
+replaced_others : (ps : List (Place × Stored)) (q : Place) (s : Stored) {index : List (Call × List Interval)} → q ≡ place_of (entry_of (q, s)) → AreTied ps index → entries_of (remove_entry (equal_places q) ps) ≡ others (entry_of (q, s)) (entries_of ps)
+replaced_others ps q s is h = ap (λ k. entries_of (remove_entry (equal_places k) ps)) is ∙ without_is_others ps (entry_of (q, s)) h.placed h.apart
+
+-- the entries after it
+pub replaced_entries : (c : LruCache Place Stored) (q : Place) (s : Stored) (at : ℕ) {index : List (Call × List Interval)} → q ≡ place_of (entry_of (q, s)) → StandsUnder (entry_of (q, s)) (entries_of c.entries) at → AreTied c.entries index
+    → entries_of (put_entries equal_places c q s) ≡ with_first (entry_of (q, s)) (entries_of c.entries)
+replaced_entries c q s at is there h = ap (λ (xs : List (Place × Stored)). entries_of xs) (there_put c q s at is there h.placed).1 ∙ ap (λ (xs : List Entry). entry_of (q, s) ∷ xs) (replaced_others c.entries q s is h)
+
 -- where it stands in the index of the keys
 pub within_listed : (ps : List (Place × Stored)) (index : List (Call × List Interval)) (e : Entry) (at : ℕ) → IndexesKeys index (entries_of ps) → StandsUnder e (entries_of ps) at → at < length (listed index e.key)
 within_listed ps index e at indexed there =
@@ -236,37 +170,24 @@ within_listed ps index e at indexed there =
     let all : length (listed index e.key) ≡ length (reaches_under e.key (entries_of ps)) = ap (λ (rs : List Interval). length rs) (indexed e.key) in
     omega (arith, under, all, length-map (entries_under e.key (entries_of ps)) (λ (o : Entry). o.reach))
 
--- none is pushed out
-pub none_evicted : (n : ℕ) (ps : List (Place × Stored)) (e : Entry) (at : ℕ) → ArePlaced ps → AreApart (entries_of ps) → StandsUnder e (entries_of ps) at → length (entries_of ps) ≤ n → None ≡ slice_get (with_first e (entries_of ps)) n
-none_evicted n ps e at placed apart there within =
-    let x = pair_there ps (place_of e) e there.0 refl placed there.1 in
-    let fewer : suc (length (entries_of (remove_entry (equal_places (place_of e)) ps))) ≡ length (entries_of ps) = removed_length (equal_places (place_of e)) ps x.0 x.1 in
-    let same : length (entries_of (remove_entry (equal_places (place_of e)) ps)) ≡ length (others e (entries_of ps)) = ap (λ (xs : List Entry). length xs) (without_is_others ps e placed apart) in
-    sym (slice_get_past (with_first e (entries_of ps)) n (omega (arith, fewer, same, within)))
-
-module _ {S : Type 0} (ps : List (Place × Stored)) (q : Place) (s : Stored) (at : ℕ) (index new : List (Call × List Interval)) (tables mid left : List (HashMap Rows (List Place) S)) where
-  pub replaced_indexed : q ≡ place_of (entry_of (q, s)) → StandsUnder (entry_of (q, s)) (entries_of ps) at → IsIndexed ps index tables → Relists q.key (s.reach ∷ remove (listed index q.key) at) index new
-      → IsListed mid q s → KeepsListed (λ t q. Unit {0}) tables mid → KeepsListed (λ t p. equal_places q p ≡ false) mid left → KeepsListed (λ t p. has_tag s.tags t ≡ true) mid left
-      → IsIndexed ((q, s) ∷ remove_entry (equal_places q) ps) new left
-  replaced_indexed is there h relists own more places keeps =
-      let e = entry_of (q, s) in
-      let es = entries_of ps in
-      let o = there.0 in
-      let x = pair_there ps q e o is h.placed there.1 in
-      let key : o.key ≡ q.key = key_at q.key es at o there.2 in
-      let rest : entries_of (remove_entry (equal_places q) ps) ≡ others e es = ap (λ k. entries_of (remove_entry (equal_places k) ps)) is ∙ without_is_others ps e h.placed h.apart in
-      let stands : slice_get (entries_under o.key es) at ≡ Some o = subst (λ (k : Call). slice_get (entries_under k es) at ≡ Some o) (sym key) there.2 in
-      let relisted : Relists o.key (s.reach ∷ remove (listed index o.key) at) index new = subst (λ (k : Call). Relists k (s.reach ∷ remove (listed index k) at) index new) (sym key) relists in
-      let keys : IndexesKeys new (e ∷ others o es) = brought_first index new es o e at h.apart h.keys stands (sym key) relisted in
-      let first : e ∷ others o es ≡ e ∷ entries_of (remove_entry (equal_places q) ps) = ap (λ (xs : List Entry). e ∷ xs) (others_like o e es x.3 ∙ sym rest) in
-      let elsewhere = at_place q e (others e es) is (turned_round e (others e es) (others_elsewhere e es)) in
-      let kept = filter_keeps (λ d. IsListed mid (place_of d) (stored_of d)) (λ d. not (same_place d e)) es (all_kept tables mid es more h.tags) in
-      record {
-        placed = (is, removed_keeps (λ p. p.0 ≡ place_of (entry_of p)) (equal_places q) ps h.placed);
-        apart = subst (λ (xs : List Entry). AreApart (e ∷ xs)) (sym rest) (first_apart e es h.apart);
-        keys = subst (λ (xs : List Entry). IndexesKeys new xs) first keys;
-        tags = (subst (λ (p : Place). IsListed left p s) is (λ still. own_kept mid left q s.tags s.tags (own_tags s.tags) keeps (own still)), subst (λ (xs : List Entry). IndexesTags left xs) (sym rest) (kept_elsewhere mid left q (others e es) elsewhere places kept));
-      }
+pub replaced_tied : (ps : List (Place × Stored)) (q : Place) (s : Stored) (at : ℕ) (index new : List (Call × List Interval)) → q ≡ place_of (entry_of (q, s)) → StandsUnder (entry_of (q, s)) (entries_of ps) at
+    → AreTied ps index → Relists q.key (s.reach ∷ remove (listed index q.key) at) index new → AreTied ((q, s) ∷ remove_entry (equal_places q) ps) new
+replaced_tied ps q s at index new is there h relists =
+    let e = entry_of (q, s) in
+    let es = entries_of ps in
+    let o = there.0 in
+    let x = pair_there ps q e o is h.placed there.1 in
+    let key : o.key ≡ q.key = key_at q.key es at o there.2 in
+    let rest = replaced_others ps q s is h in
+    let stands : slice_get (entries_under o.key es) at ≡ Some o = subst (λ (k : Call). slice_get (entries_under k es) at ≡ Some o) (sym key) there.2 in
+    let relisted : Relists o.key (s.reach ∷ remove (listed index o.key) at) index new = subst (λ (k : Call). Relists k (s.reach ∷ remove (listed index k) at) index new) (sym key) relists in
+    let keys : IndexesKeys new (e ∷ others o es) = brought_first index new es o e at h.apart h.keys stands (sym key) relisted in
+    let first : e ∷ others o es ≡ e ∷ entries_of (remove_entry (equal_places q) ps) = ap (λ (xs : List Entry). e ∷ xs) (others_like o e es x.3 ∙ sym rest) in
+    record {
+      placed = (is, removed_keeps (λ p. p.0 ≡ place_of (entry_of p)) (equal_places q) ps h.placed);
+      apart = subst (λ (xs : List Entry). AreApart (e ∷ xs)) (sym rest) (first_apart e es h.apart);
+      keys = subst (λ (xs : List Entry). IndexesKeys new xs) first keys;
+    }
 
 -- ---- the entry that is handed in, in its new reach
 
@@ -284,22 +205,6 @@ module _ (e f : Entry) (i : Interval) (lo : i.lo ≡ e.reach.lo) (is : (let g : 
 
   pub place_is : place_of f ≡ place_of e
   place_is = ap place_of is ∙ ap (place_at e.key) lo
-
-pub same_first : (p q : Place) (s t : Stored) → (let P : Place × Stored = (p, s) in let Q : Place × Stored = (q, t) in Some P ≡ Some Q) → p ≡ q
-same_first p q s t h =
-    let P : Place × Stored = (p, s) in
-    let Q : Place × Stored = (q, t) in
-    let both : Some P ≡ Some Q = h in
-    let same : P ≡ Q = cc in
-    ap (λ (x : Place × Stored). x.0) same
-
--- what was there before is pushed out
-pub never_none : {A : Type 0} (q : Place) (s : Stored) → (let Q : Place × Stored = (q, s) in None ≡ Some Q) → A
-never_none q s h =
-    let Q : Place × Stored = (q, s) in
-    let none : None ≡ Some Q = h in
-    let no : true ≡ false = cc in
-    absurd (false≢true (sym no))
 
 -- ---- whether the old entry stays
 

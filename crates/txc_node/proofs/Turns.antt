@@ -1,5 +1,5 @@
 -- A sweep by one turn: each last entry is dropped or goes to the front.
-use Rattle.std.proofs.Common.{◌≡◌, ℕ, ◌+◌, ◌-◌, ◌<◌, Bool, true, false, not, cond, List, [], ◌∷◌, ◌++◌, length, take, drop, None, Some, ltb, leb, refl, sym, ap, ◌∙◌, arith, suc, zero}
+use Rattle.std.proofs.Common.{◌≡◌, ℕ, Option, ◌+◌, ◌-◌, ◌<◌, Bool, true, false, not, cond, List, [], ◌∷◌, ◌++◌, length, take, drop, None, Some, ltb, leb, refl, sym, ap, ◌∙◌, arith, suc, zero}
 use Rattle.std.specs.Prelude.{slice_get, unwrap_or}
 use Rattle.std.specs.List.{filter, count_by}
 use Rattle.std.specs.Option.{option_map}
@@ -10,10 +10,11 @@ use Rattle.std.proofs.lemmas.List.Sums.{length-filter}
 use Rattle.lru.specs.LruCache.{last_entry}
 use Rattle.txc_stamp.specs.Interval.{end_at}
 use Rattle.txc_node.specs.declared.entry.Entry.{Entry}
-use Rattle.txc_node.specs.Indexed.{entry_of, entries_of, turned, swept_to}
+use Rattle.txc_node.specs.Indexed.{entry_of, entries_of, stored_of, turned, swept_to}
 use Rattle.txc_node.specs.Cache.{has_ended}
 use Rattle.txc_node.specs.declared.place.Place.{Place}
 use Rattle.txc_node.specs.declared.stored.Stored.{Stored}
+use Rattle.txc_node.proofs.KeyLists.{append_none}
 use Rattle.txc_node.proofs.Pairs.{entries_take}
 use Rattle.txc_node.proofs.Lasts.{take_init, last_there}
 
@@ -46,21 +47,30 @@ get_entry (x ∷ ps) (suc n) = get_entry ps n
 not_after : (h n : ℕ) → ltb h n ≡ false → leb n h ≡ true
 not_after h n t = grind (arith, nat_tests)
 
--- the last entry, where it does not end after the horizon
-pub ended_last : (p h : ℕ) (ps : List (Place × Stored)) (e : Entry) → unwrap_or (option_map (λ q. ltb h (end_at p q.1.reach)) (last_entry ps)) false ≡ false
-    → slice_get (entries_of ps) (length (entries_of ps) - 1) ≡ Some e → has_ended p h e ≡ true
-ended_last p h ps e stays is =
-    let at : option_map entry_of (last_entry ps) ≡ Some e = sym (get_entry ps (length ps - 1)) ∙ ap (λ n. slice_get (entries_of ps) (n - 1)) (sym (length-map ps entry_of)) ∙ is in
-    (elim (last_entry ps) as (λ f. unwrap_or (option_map (λ q. ltb h (end_at p q.1.reach)) f) false ≡ false → option_map entry_of f ≡ Some e → has_ended p h e ≡ true) [
-      | None ↦ λ t k. let none : None ≡ Some e = k in cc
-      | Some x ↦ λ t k.
-          let some : Some (entry_of x) ≡ Some e = k in
-          let same : entry_of x ≡ e = cc in
-          not_after h (end_at p e.reach) (ap (λ (o : Entry). ltb h (end_at p o.reach)) (sym same) ∙ t)
-    ]) stays at
+-- the last entry is that of the last pair
+pub last_is : (ps : List (Place × Stored)) → slice_get (entries_of ps) (length (entries_of ps) - 1) ≡ option_map entry_of (last_entry ps)
+last_is ps = ap (λ n. slice_get (entries_of ps) (n - 1)) (length-map ps entry_of) ∙ get_entry ps (length ps - 1)
+
+pub last_stored : (ps : List (Place × Stored)) (o : Option (Place × Stored)) → o ≡ last_entry ps → option_map (λ p. p.1) o ≡ option_map stored_of (slice_get (entries_of ps) (length (entries_of ps) - 1))
+last_stored ps o h = elim o as (λ f. option_map (λ p. p.1) f ≡ option_map stored_of (option_map entry_of f)) [ None ↦ refl | Some p ↦ refl ] ∙ ap (option_map stored_of) (ap (option_map entry_of) h ∙ sym (last_is ps))
+
+before_end : (h n : ℕ) → ltb h n ≡ true → leb n h ≡ false
+before_end h n t = grind (arith, nat_tests)
+
+-- where the last entry ends after the horizon, it has not ended
+pub not_ended : (p h : ℕ) (es : List Entry) (e : Entry) → unwrap_or (option_map (λ o. ltb h (end_at p o.reach)) (slice_get es (length es - 1))) false ≡ true → slice_get es (length es - 1) ≡ Some e → has_ended p h e ≡ false
+not_ended p h es e stays is = before_end h (end_at p e.reach) (sym (ap (λ f. unwrap_or (option_map (λ o. ltb h (end_at p o.reach)) f) false) is) ∙ stays)
+
+-- where the last entry does not end after the horizon, it has ended
+pub ended_last : (p h : ℕ) (es : List Entry) (e : Entry) → unwrap_or (option_map (λ o. ltb h (end_at p o.reach)) (slice_get es (length es - 1))) false ≡ false → slice_get es (length es - 1) ≡ Some e → has_ended p h e ≡ true
+ended_last p h es e stays is = not_after h (end_at p e.reach) (sym (ap (λ f. unwrap_or (option_map (λ o. ltb h (end_at p o.reach)) f) false) is) ∙ stays)
 
 pub dropped_entries : (ps : List (Place × Stored)) → entries_of (take (length ps - 1) ps) ≡ take (length (entries_of ps) - 1) (entries_of ps)
 dropped_entries ps = entries_take (length ps - 1) ps ∙ ap (λ n. take (n - 1) (entries_of ps)) (sym (length-map ps entry_of))
+
+-- when all were looked at, those stay that have not ended
+pub swept_all : (ended : Entry → Bool) (es : List Entry) (n : ℕ) → n ≡ 0 → swept_to ended es n ≡ filter (λ e. not (ended e)) es
+swept_all ended es n none = ap (λ m. swept_to ended es m) none ∙ append_none (filter (λ e. not (ended e)) es)
 
 pub kept_count : (ended : Entry → Bool) (es : List Entry) → length (filter (λ e. not (ended e)) es) + count_by ended es ≡ length es
 kept_count ended es = omega (arith, length-filter ended es, length-filter_both ended (λ e. not (ended e)) (λ _. refl) es)

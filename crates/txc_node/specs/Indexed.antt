@@ -1,8 +1,8 @@
 -- The entries of a node as they are held, and the indexes that find them. Proofs alone need it, but for
 -- `entries_under`, of which a public contract speaks.
-use Rattle.std.specs.Prelude.{◌≡◌, ℕ, ◌+◌, ◌-◌, Bool, true, false, ◌&&◌, ◌||◌, ◌==◌, not, nat_lt, nat_le, if◌then◌else◌, Option, Some, None, unwrap_or, List, [], ◌∷◌, ◌++◌, map, length, take, drop, slice_get}
+use Rattle.std.specs.Prelude.{◌≡◌, ℕ, ◌+◌, ◌-◌, ◌<◌, ◌≤◌, Bool, true, false, ◌&&◌, ◌||◌, ◌==◌, not, nat_lt, nat_le, if◌then◌else◌, Option, Some, None, unwrap_or, List, [], ◌∷◌, ◌++◌, map, length, take, drop, slice_get}
 use Rattle.std.specs.List.{AllByRecursion, filter, find, list_any, count_by}
-use Rattle.std.specs.Map.{lookup, lookup_entry, set_value}
+use Rattle.std.specs.Map.{lookup, set_value}
 use Rattle.std.specs.HashMap.{HashMap}
 use Rattle.std.specs.Option.{option_map, option_map_or}
 use Rattle.txc_stamp.specs.Interval.{Interval, end_at, shown, closed_at}
@@ -43,12 +43,16 @@ abbrev pub ArePlaced : List (Place × Stored) → Type 0
 ArePlaced ps = AllByRecursion (λ p. p.0 ≡ place_of (entry_of p)) ps
 
 -- the entry at a place
-abbrev pub entry_at : List (Place × Stored) → Place → Option Entry
-entry_at ps q = option_map entry_of (lookup_entry (equal_places q) ps)
+abbrev pub entry_at : List Entry → Place → Option Entry
+entry_at es q = find (λ e. equal_places q (place_of e)) es
 
 -- a still valid entry stands at the place
-abbrev pub is_live : List (Place × Stored) → Place → Bool
-is_live ps q = unwrap_or (option_map (λ s. s.reach.still) (lookup (equal_places q) ps)) false
+unfoldable pub is_live : List Entry → Place → Bool
+is_live es q = unwrap_or (option_map (λ e. e.reach.still) (entry_at es q)) false
+
+-- the last goes first
+abbrev pub last_to_front : List Entry → List Entry
+last_to_front es = option_map_or (λ e. e ∷ take (length es - 1) es) (slice_get es (length es - 1)) es
 
 -- entries, the most recently used first, and the most that there may be
 pub record Held : Type 0 where
@@ -168,45 +172,40 @@ after_at stamp tags q ps =
     option_map_or (λ s. set_value (equal_places q) ps (stored_after stamp tags s)) (lookup (equal_places q) ps) ps
 
 -- the event invalidates no entry at the place
-abbrev pub IsSpared : ℕ → List Tag → List (Place × Stored) → Place → Type 0
-IsSpared stamp tags ps q = (e : Entry) → entry_at ps q ≡ Some e → is_invalidated stamp tags e ≡ false
-
--- where it invalidated none before, it does so now
-abbrev pub StaySpared : ℕ → List Tag → List (Place × Stored) → List (Place × Stored) → Type 0
-StaySpared stamp tags old new = (q : Place) → IsSpared stamp tags old q → IsSpared stamp tags new q
+abbrev pub IsSpared : ℕ → List Tag → List Entry → Place → Type 0
+IsSpared stamp tags es q = (e : Entry) → entry_at es q ≡ Some e → is_invalidated stamp tags e ≡ false
 
 -- it invalidates none at the places that a table lists under the rows at an index
-abbrev pub AreSparedAt : ℕ → List Tag → List (Place × Stored) → List (Rows × List Place) → ℕ → Type 0
-AreSparedAt stamp tags ps bs i = (x : Rows × List Place) → slice_get bs i ≡ Some x
-    → AllByRecursion (IsSpared stamp tags ps) x.1
+abbrev pub AreSparedAt : ℕ → List Tag → List Entry → List (Rows × List Place) → ℕ → Type 0
+AreSparedAt stamp tags es bs i = (x : Rows × List Place) → slice_get bs i ≡ Some x
+    → AllByRecursion (IsSpared stamp tags es) x.1
 
 -- it invalidates none at the places that are listed under tags which match this one
-abbrev pub AreSparedBy : {S : Type 0} → ℕ → List Tag → List (Place × Stored)
+abbrev pub AreSparedBy : {S : Type 0} → ℕ → List Tag → List Entry
     → List (HashMap Rows (List Place) S) → Tag → Type 0
-AreSparedBy stamp tags ps tables tag = (t : Tag) (q : Place) → tags_match tag t ≡ true
-    → lists tables t q ≡ true → IsSpared stamp tags ps q
+AreSparedBy stamp tags es tables tag = (t : Tag) (q : Place) → tags_match tag t ≡ true
+    → lists tables t q ≡ true → IsSpared stamp tags es q
 
--- of the old pairs the event has closed n
-pub record Closes (stamp : ℕ) (tags : List Tag) (old new : List (Place × Stored)) (n : ℕ) : Type 0 where
-  pub after : map (entry_after stamp tags) (entries_of new) ≡ map (entry_after stamp tags) (entries_of old)
-  pub count : n + count_by (is_invalidated stamp tags) (entries_of new)
-      ≡ count_by (is_invalidated stamp tags) (entries_of old)
-  pub spared : StaySpared stamp tags old new
+-- of the old entries the event has closed n, and where it invalidated none before, it does so now
+pub record Closes (stamp : ℕ) (tags : List Tag) (old new : Held) (n : ℕ) : Type 0 where
+  pub after : map (entry_after stamp tags) new.entries ≡ map (entry_after stamp tags) old.entries
+  pub capacity : new.capacity ≡ old.capacity
+  pub count : n + count_by (is_invalidated stamp tags) new.entries ≡ count_by (is_invalidated stamp tags) old.entries
+  pub spared : (q : Place) → IsSpared stamp tags old.entries q → IsSpared stamp tags new.entries q
+
+-- ---- all of it
+
+-- at most one entry for a place, and no more than there is room for
+pub record HoldsApart (h : Held) : Type 0 where
+  pub apart : AreApart h.entries
+  pub within : length h.entries ≤ h.capacity
+  pub some : 0 < h.capacity
 
 -- each entry at its place, at most one for a place, and each in the index of the keys
 pub record AreTied (ps : List (Place × Stored)) (index : List (Call × List Interval)) : Type 0 where
   pub placed : ArePlaced ps
   pub apart : AreApart (entries_of ps)
   pub keys : IndexesKeys index (entries_of ps)
-
--- ---- all of it
-
--- each entry at its place, at most one for a place, and each in the indexes
-pub record IsIndexed {S : Type 0} (ps : List (Place × Stored)) (index : List (Call × List Interval)) (tables : List (HashMap Rows (List Place) S)) : Type 0 where
-  pub placed : ArePlaced ps
-  pub apart : AreApart (entries_of ps)
-  pub keys : IndexesKeys index (entries_of ps)
-  pub tags : IndexesTags tables (entries_of ps)
 
 -- what a turn of a sweep leaves of entries whose last is e
 abbrev pub turned : (Entry → Bool) → List Entry → Entry → List Entry

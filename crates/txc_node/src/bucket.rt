@@ -4,10 +4,9 @@ ghost use Rattle.txc_node.specs.declared.place.Place.{Place};
 ghost use Rattle.txc_node.specs.Places.{equal_places};
 ghost use Rattle.txc_node.specs.Indexed.{has_place, is_live};
 
+use crate::keyed::KeyedEntries;
 use crate::place::Place;
-use crate::stored::Stored;
 use indexmap::IndexSet;
-use lru::LruCache;
 use std::alloc::{AllocError, Global};
 use std::marker::Model;
 
@@ -28,24 +27,24 @@ impl Model for Bucket {
 }
 
 // Whether a still valid entry stands at a place.
-fn is_live(cache: &LruCache<Place, Stored>, place: &Place) -> bool
-    ensures { result ≡ is_live cache.now.entries place.now }
+fn is_live(entries: &KeyedEntries, place: &Place) -> bool
+    ensures { result ≡ is_live entries.now.entries place.now }
 {
-    match cache.peek(place) {
+    match entries.get(place) {
         None => false,
         Some(stored) => stored.reach.is_still(),
     }
 }
 
 // Keeps of the places those at which still valid entries stand.
-fn clean(places: &mut IndexSet<Place>, cache: &LruCache<Place, Stored>)
-    ensures { (q : Place) → is_live cache.now.entries q ≡ true
+fn clean(places: &mut IndexSet<Place>, entries: &KeyedEntries)
+    ensures { (q : Place) → is_live entries.now.entries q ≡ true
         → has_place places.old.keys q ≡ true → has_place places.new.keys q ≡ true }
 {
     for i in (0..places.len()).rev() {
         let stays = match places.get_index(i) {
             None => true,
-            Some(place) => is_live(cache, place),
+            Some(place) => is_live(entries, place),
         };
         if !stays {
             places.swap_remove_index(i);
@@ -112,14 +111,14 @@ impl Bucket {
     }
 
     /// Keeps those at which still valid entries stand, and says whether there are any.
-    pub(crate) fn clean(&mut self, cache: &LruCache<Place, Stored>) -> bool
-        ensures kept { IsTrue result → (q : Place) → is_live cache.now.entries q ≡ true
+    pub(crate) fn clean(&mut self, entries: &KeyedEntries) -> bool
+        ensures kept { IsTrue result → (q : Place) → is_live entries.now.entries q ≡ true
             → has_place self.old q ≡ true → has_place self.new q ≡ true }
         ensures none { IsFalse result → (q : Place) → has_place self.old q ≡ true
-            → is_live cache.now.entries q ≡ false }
+            → is_live entries.now.entries q ≡ false }
     {
-        clean(&mut self.others, cache);
-        if is_live(cache, &self.first) {
+        clean(&mut self.others, entries);
+        if is_live(entries, &self.first) {
             return true;
         }
         self.drop_first()

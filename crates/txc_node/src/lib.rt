@@ -11,11 +11,13 @@
 #![tactic(auto)]
 
 mod bucket;
+mod closing;
 mod counts;
 mod entry;
 mod hit;
 mod indexed;
 mod key_index;
+mod keyed;
 pub mod laws;
 mod node;
 mod op;

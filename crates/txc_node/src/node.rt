@@ -112,7 +112,7 @@ fn hit_first(entries: &IndexedEntries, processed: Stamp, is_hit: bool) -> Option
     if !is_hit {
         return None;
     }
-    hit_of(entries.first(), processed)
+    hit_of(entries.keyed().first(), processed)
 }
 
 // Whether there is a reach that ends no earlier than a new one.
@@ -190,12 +190,13 @@ impl NodeCore {
         ensures answer { IfOk result (λ r. option_map seen r ≡ answer self.now key.now lo hi) }
     {
         check_range(lo, hi)?;
-        let (found, _) = self.entries.best(self.processed, key, lo, hi);
+        let entries = self.entries.keyed();
+        let (found, _) = entries.best(self.processed, key, lo, hi);
         let Some(found) = found else {
             return Ok(None);
         };
         let place = Place::new(key, found.reach.lo());
-        Ok(hit_of(self.entries.get(&place), self.processed))
+        Ok(hit_of(entries.get(&place), self.processed))
     }
 
     // Looks an entry up and moves it to the front, and says whether there is one, and how many entries were
@@ -210,7 +211,7 @@ impl NodeCore {
     {
         self.looked = 0;
         check_range(lo, hi)?;
-        let (found, looked) = self.entries.best(self.processed, key, lo, hi);
+        let (found, looked) = self.entries.keyed().best(self.processed, key, lo, hi);
         let looked = looked as u64;
         self.looked = looked;
         match found {
@@ -294,7 +295,7 @@ impl NodeCore {
         ensures handed_back { IfErr result (λ e. e.value ≡ entry) }
     {
         let reach = replay_for(&entry, self.processed, &self.recent);
-        let found = self.entries.standing(&entry);
+        let found = self.entries.keyed().standing(&entry);
         if ends_no_earlier(&found, reach, self.processed) {
             return Ok(Inserted::Kept(entry));
         }

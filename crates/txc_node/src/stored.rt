@@ -1,5 +1,6 @@
 //! Entries as a cache holds them: the key stands in the place alone.
 ghost use Rattle.std.specs.Prelude.{◌≡◌};
+ghost use Rattle.std.specs.Option.{option_map};
 ghost use Rattle.txc_node.specs.Places.{place_of};
 ghost use Rattle.txc_node.specs.Indexed.{entry_of};
 
@@ -48,6 +49,16 @@ pub(crate) fn join(place: Place, stored: Stored) -> Entry
         value,
         reach,
         tags,
+    }
+}
+
+/// The entry of a pair, if there is one.
+pub(crate) fn join_some(pair: Option<(Place, Stored)>) -> Option<Entry>
+    ensures { result ≡ option_map entry_of pair }
+{
+    match pair {
+        None => None,
+        Some((place, stored)) => Some(join(place, stored)),
     }
 }
 

@@ -6,13 +6,12 @@ ghost use Rattle.txc_tags.specs.declared.tag.Rows.{Rows};
 ghost use Rattle.txc_node.specs.declared.place.Place.{Place};
 ghost use Rattle.txc_tags.specs.Tags.{same_tag, has_tag};
 ghost use Rattle.txc_node.specs.Places.{equal_places};
-ghost use Rattle.txc_node.specs.Indexed.{equal_rows, has_place, lists_rows, lists, KeepsListed, is_live};
+ghost use Rattle.txc_node.specs.Indexed.{equal_rows, lists_rows, lists, KeepsListed, is_live};
 
 use crate::bucket::Bucket;
+use crate::keyed::KeyedEntries;
 use crate::place::Place;
-use crate::stored::Stored;
 use indexmap::IndexMap;
-use lru::LruCache;
 use std::alloc::{AllocError, Global};
 use txc_tags::{LAST_TABLE, Rows, Tag, TagSet};
 
@@ -63,13 +62,13 @@ fn unlist(buckets: &mut Buckets, rows: Rows, place: &Place)
 }
 
 // Keeps under rows of a table the places at which still valid entries stand.
-fn clean_rows(buckets: &mut Buckets, rows: Rows, cache: &LruCache<Place, Stored>)
-    ensures kept { (r : Rows) (q : Place) → is_live cache.now.entries q ≡ true
+fn clean_rows(buckets: &mut Buckets, rows: Rows, entries: &KeyedEntries)
+    ensures kept { (r : Rows) (q : Place) → is_live entries.now.entries q ≡ true
         → lists_rows buckets.old.entries r q ≡ true → lists_rows buckets.new.entries r q ≡ true }
 {
     let stays = match buckets.get_mut(&rows) {
         None => true,
-        Some(bucket) => bucket.clean(cache),
+        Some(bucket) => bucket.clean(entries),
     };
     if !stays {
         buckets.swap_remove(&rows);
@@ -77,8 +76,8 @@ fn clean_rows(buckets: &mut Buckets, rows: Rows, cache: &LruCache<Place, Stored>
 }
 
 // The same under all rows of a table.
-fn clean_all(buckets: &mut Buckets, cache: &LruCache<Place, Stored>)
-    ensures kept { (r : Rows) (q : Place) → is_live cache.now.entries q ≡ true
+fn clean_all(buckets: &mut Buckets, entries: &KeyedEntries)
+    ensures kept { (r : Rows) (q : Place) → is_live entries.now.entries q ≡ true
         → lists_rows buckets.old.entries r q ≡ true → lists_rows buckets.new.entries r q ≡ true }
 {
     for i in (0..buckets.len()).rev() {
@@ -86,7 +85,7 @@ fn clean_all(buckets: &mut Buckets, cache: &LruCache<Place, Stored>)
             None => Rows::All,
             Some((rows, _)) => *rows,
         };
-        clean_rows(buckets, rows, cache);
+        clean_rows(buckets, rows, entries);
     }
 }
 
@@ -182,17 +181,17 @@ impl TagIndex {
     }
 
     /// Keeps of the places under tags that match this one those at which still valid entries stand.
-    pub(crate) fn clean(&mut self, tag: &Tag, cache: &LruCache<Place, Stored>)
-        ensures { KeepsListed (λ t q. is_live cache.now.entries q ≡ true)
+    pub(crate) fn clean(&mut self, tag: &Tag, entries: &KeyedEntries)
+        ensures { KeepsListed (λ t q. is_live entries.now.entries q ≡ true)
             self.old.tables.items self.new.tables.items }
     {
         let at = tag.table.number() as usize;
         let buckets = &mut self.tables[at];
         if tag.is_wildcard() {
-            clean_all(buckets, cache);
+            clean_all(buckets, entries);
         } else {
-            clean_rows(buckets, tag.rows, cache);
-            clean_rows(buckets, Rows::All, cache);
+            clean_rows(buckets, tag.rows, entries);
+            clean_rows(buckets, Rows::All, entries);
         }
     }
 }

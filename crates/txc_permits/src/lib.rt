@@ -1,13 +1,14 @@
 //! A pool of permits, of which at most a fixed number are out at once.
 //!
-//! One word counts the permits that are out. A [`Permit`] is out from the [`PermitPool::take`] that gave it
-//! until it is dropped, on whichever threads. No call waits, and only `new` takes memory. A take may fail
-//! beside others that succeed; that it succeeds where a permit is left is not claimed.
+//! One word counts the permits that are out. A [`Grant`] is a permit that is out from the [`PermitPool::grant`]
+//! that gave it until it is given back, on whichever threads; no code can forget it. A [`Permit`] gives its own
+//! back as it is dropped. No call waits, and only `new` takes memory. A permit may be refused beside others that
+//! are taken; that it is had where one is left is not claimed.
 #![tactic(auto)]
 
 mod place;
 mod pool;
 mod word;
 
-pub use pool::{MAX_PERMITS, Permit, PermitPool};
+pub use pool::{Grant, MAX_PERMITS, Permit, PermitPool};
 pub use word::CountsPermits;

@@ -29,13 +29,14 @@ impl Model for PermitPool {
     ghost invariant = { λ p. IsAt (arc_value p.word).shared.table_id (arc_value p.word).shared.key p.place.seat.table_id p.most × (p.place.seat.me.0 ≡ false) };
 }
 
-/// The right to run. Its drop gives it back to its pool; a contract sees which pool that is.
-pub struct Permit {
+/// A permit that cannot be let go: it is spent by [`Grant::give_back`] alone. A contract sees which pool it is
+/// of.
+pub struct Grant {
     word: Arc<Word>,
     place: Place,
 }
 
-impl Model for Permit {
+impl Model for Grant {
     ghost use Rattle.std.specs.Prelude.{◌≡◌, true};
     ghost use Rattle.std.specs.Arc.{arc_value};
     ghost use Rattle.atomic_table.specs.Seated.{TableId, table_id_coded};
@@ -44,10 +45,25 @@ impl Model for Permit {
 
     ghost coded = { table_id_coded };
 
-    ghost view = { λ p. p.place.seat.table_id };
+    ghost view = { λ g. g.place.seat.table_id };
 
-    ghost invariant = { λ p. ((arc_value p.word).shared.table_id.words ≡ 1)
-        × (p.place.seat.table_id ≡ (arc_value p.word).shared.table_id) × (p.place.seat.me.0 ≡ true) };
+    ghost invariant = { λ g. ((arc_value g.word).shared.table_id.words ≡ 1)
+        × (g.place.seat.table_id ≡ (arc_value g.word).shared.table_id) × (g.place.seat.me.0 ≡ true) };
+}
+
+/// The right to run. Its drop gives it back to its pool; a contract sees which pool that is.
+pub struct Permit {
+    grant: Grant,
+}
+
+impl Model for Permit {
+    ghost use Rattle.atomic_table.specs.Seated.{TableId, table_id_coded};
+
+    ghost Value = { TableId };
+
+    ghost coded = { table_id_coded };
+
+    ghost view = { λ p. p.grant };
 }
 
 impl PermitPool {
@@ -78,9 +94,10 @@ impl PermitPool {
         })
     }
 
-    /// A permit. None where all are out, and it may be none beside other takes and drops.
-    pub fn take(&mut self) -> Option<Permit>
-        ensures answer { IfSome result (λ permit. permit ≡ self.old.name) }
+    /// A permit that its owner must give back. None where all are out, and it may be none beside other calls
+    /// that take permits or give them back.
+    pub fn grant(&mut self) -> Option<Grant>
+        ensures answer { IfSome result (λ grant. grant ≡ self.old.name) }
         ensures unchanged { self.new ≡ self.old }
     {
         let out = self.word.shared.peek(0);
@@ -95,7 +112,24 @@ impl PermitPool {
         if found != out {
             return None;
         }
-        Some(Permit { word, place })
+        Some(Grant { word, place })
+    }
+
+    /// A permit that its drop gives back. None as with [`PermitPool::grant`].
+    pub fn take(&mut self) -> Option<Permit>
+        ensures answer { IfSome result (λ permit. permit ≡ self.old.name) }
+        ensures unchanged { self.new ≡ self.old }
+    {
+        let grant = self.grant()?;
+        Some(Permit { grant })
+    }
+}
+
+impl Grant {
+    /// Gives the permit back to its pool.
+    pub fn give_back(self) {
+        let Grant { word, mut place } = self;
+        word.shared.fetch_sub::<Give>(&mut place.seat, 0, 1);
     }
 }
 
@@ -111,7 +145,7 @@ impl Drop for PermitPool {
 
 impl Drop for Permit {
     fn drop(self) {
-        let Permit { word, mut place } = self;
-        word.shared.fetch_sub::<Give>(&mut place.seat, 0, 1);
+        let Permit { grant } = self;
+        grant.give_back();
     }
 }

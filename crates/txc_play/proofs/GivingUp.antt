@@ -13,89 +13,46 @@ use Rattle.txc_world.specs.declared.step.Act.TheVariants as acts
 use Rattle.txc_world.specs.declared.step.Step.TheVariants.{Actor}
 use Rattle.txc_world.specs.Told.{Reading, Writing, Story, idle, reading, writing, leaving, given_up, story_after, Told, act_at, after, IsActDue, IsActReply, IsDue}
 use Rattle.txc_world.specs.Worlds.{WorldValue}
-use Rattle.txc_play.specs.TaskSteps.{AreTaken, HasGivenUp, IsClosed, IsTaken, give_up_steps}
+use Rattle.txc_play.specs.TaskSteps.{AreTaken, HasGivenUp, IsTaken, give_up_steps}
 use Rattle.txc_play.proofs.WorldSteps.{taken_more}
 
 -- ---- one actor
 
-closed_up : (left : Option ℕ) → IsClosed (given_up left)
-closed_up None = tt
-closed_up (Some stamp) = tt
+-- no transaction is open, but a hold may be left
+abbrev pub HasEnded : Story → Type 0
+HasEnded idle = Unit {0}
+HasEnded (reading x) = ⊥
+HasEnded (writing x) = ⊥
+HasEnded (leaving stamp) = Unit {0}
 
-reading_given_up : (x : Reading) (r : Reply) → IsActReply acts.Abort (reading x) r → IsClosed (story_after acts.Abort r (reading x))
-reading_given_up x replies.Begun h = absurd h
-reading_given_up x (replies.Based base) h = absurd h
-reading_given_up x replies.Started h = absurd h
-reading_given_up x (replies.Asked did end) h = absurd h
-reading_given_up x (replies.Ended end) h = absurd h
-reading_given_up x (replies.Answered rows) h = absurd h
-reading_given_up x replies.Kept h = absurd h
-reading_given_up x (replies.Receipt pin) h = absurd h
-reading_given_up x (replies.Aborted left) h = closed_up left
-reading_given_up x (replies.At stamp) h = absurd h
-reading_given_up x replies.Added h = absurd h
-reading_given_up x replies.GivenBack h = absurd h
-reading_given_up x (replies.Retired stamps) h = absurd h
-reading_given_up x replies.Unpinned h = absurd h
-reading_given_up x (replies.Vacuumed horizon) h = absurd h
-reading_given_up x (replies.Rows found) h = absurd h
-reading_given_up x (replies.Advanced advanced) h = absurd h
-reading_given_up x (replies.Swept count) h = absurd h
-reading_given_up x (replies.Refused refusal) h = absurd h
+given_up_ended : (left : Option ℕ) → HasEnded (given_up left)
+given_up_ended None = tt
+given_up_ended (Some stamp) = tt
 
-writing_given_up : (x : Writing) (r : Reply) → IsActReply acts.Abort (writing x) r → IsClosed (story_after acts.Abort r (writing x))
-writing_given_up x replies.Begun h = absurd h
-writing_given_up x (replies.Based base) h = absurd h
-writing_given_up x replies.Started h = absurd h
-writing_given_up x (replies.Asked did end) h = absurd h
-writing_given_up x (replies.Ended end) h = absurd h
-writing_given_up x (replies.Answered rows) h = absurd h
-writing_given_up x replies.Kept h = absurd h
-writing_given_up x (replies.Receipt pin) h = absurd h
-writing_given_up x (replies.Aborted left) h = closed_up left
-writing_given_up x (replies.At stamp) h = absurd h
-writing_given_up x replies.Added h = absurd h
-writing_given_up x replies.GivenBack h = absurd h
-writing_given_up x (replies.Retired stamps) h = absurd h
-writing_given_up x replies.Unpinned h = absurd h
-writing_given_up x (replies.Vacuumed horizon) h = absurd h
-writing_given_up x (replies.Rows found) h = absurd h
-writing_given_up x (replies.Advanced advanced) h = absurd h
-writing_given_up x (replies.Swept count) h = absurd h
-writing_given_up x (replies.Refused refusal) h = absurd h
+reading_given_up : (x : Reading) (r : Reply) → IsActReply acts.Abort (reading x) r → HasEnded (story_after acts.Abort r (reading x))
+reading_given_up x (replies.Aborted left) h = given_up_ended left
+reading_given_up x r h = absurd h
 
-abort_closes : (story : Story) (r : Reply) → IsActDue story acts.Abort r → IsClosed (story_after acts.Abort r story)
-abort_closes idle r due = subst (λ (x : Reply). IsClosed (story_after acts.Abort x idle)) (sym due) tt
-abort_closes (reading x) r due = reading_given_up x r due
-abort_closes (writing x) r due = writing_given_up x r due
-abort_closes (leaving stamp) r due = subst (λ (x : Reply). IsClosed (story_after acts.Abort x (leaving stamp))) (sym due) tt
+writing_given_up : (x : Writing) (r : Reply) → IsActReply acts.Abort (writing x) r → HasEnded (story_after acts.Abort r (writing x))
+writing_given_up x (replies.Aborted left) h = given_up_ended left
+writing_given_up x r h = absurd h
 
-left_closed : (stamp : ℕ) (r : Reply) → IsClosed (story_after acts.Request r (leaving stamp))
-left_closed stamp replies.Begun = tt
-left_closed stamp (replies.Based base) = tt
-left_closed stamp replies.Started = tt
-left_closed stamp (replies.Asked did end) = tt
-left_closed stamp (replies.Ended end) = tt
-left_closed stamp (replies.Answered rows) = tt
-left_closed stamp replies.Kept = tt
-left_closed stamp (replies.Receipt pin) = tt
-left_closed stamp (replies.Aborted left) = tt
-left_closed stamp (replies.At newest) = tt
-left_closed stamp replies.Added = tt
-left_closed stamp replies.GivenBack = tt
-left_closed stamp (replies.Retired stamps) = tt
-left_closed stamp replies.Unpinned = tt
-left_closed stamp (replies.Vacuumed horizon) = tt
-left_closed stamp (replies.Rows found) = tt
-left_closed stamp (replies.Advanced advanced) = tt
-left_closed stamp (replies.Swept count) = tt
-left_closed stamp (replies.Refused refusal) = tt
+abort_ends : (story : Story) (r : Reply) → IsActDue story acts.Abort r → HasEnded (story_after acts.Abort r story)
+abort_ends idle r due = subst (λ (x : Reply). HasEnded (story_after acts.Abort x idle)) (sym due) tt
+abort_ends (reading x) r due = reading_given_up x r due
+abort_ends (writing x) r due = writing_given_up x r due
+abort_ends (leaving stamp) r due = subst (λ (x : Reply). HasEnded (story_after acts.Abort x (leaving stamp))) (sym due) tt
 
-request_keeps_closed : (story : Story) (r : Reply) → IsActDue story acts.Request r → IsClosed story → IsClosed (story_after acts.Request r story)
-request_keeps_closed idle r due h = subst (λ (x : Reply). IsClosed (story_after acts.Request x idle)) (sym due) tt
-request_keeps_closed (reading x) r due h = absurd h
-request_keeps_closed (writing x) r due h = absurd h
-request_keeps_closed (leaving stamp) r due h = left_closed stamp r
+-- the hold that is left is taken away, or the database refuses, which lets it go
+left_idle : (stamp : ℕ) (r : Reply) → IsActReply acts.Request (leaving stamp) r → story_after acts.Request r (leaving stamp) ≡ idle
+left_idle stamp (replies.Asked did None) h = refl
+left_idle stamp r h = absurd h
+
+request_idles : (story : Story) (r : Reply) → IsActDue story acts.Request r → HasEnded story → story_after acts.Request r story ≡ idle
+request_idles idle r due h = subst (λ (x : Reply). story_after acts.Request x idle ≡ idle) (sym due) refl
+request_idles (reading x) r due h = absurd h
+request_idles (writing x) r due h = absurd h
+request_idles (leaving stamp) r due h = left_idle stamp r due
 
 -- ---- a step of an actor that is there
 
@@ -113,31 +70,34 @@ set_length (y ∷ xs) (suc i) x = ap suc (set_length xs i x)
 
 -- ---- the first actors
 
+abbrev pub IsIdle : Story → Type 0
+IsIdle story = story ≡ idle
+
 -- they gave up what they had open
 pub record HaveGivenUp (next : Next) (world : WorldValue) (count : ℕ) (now : WorldValue) : Type 0 where
   pub replied : List Reply
   pub taken : AreTaken next world (give_up_steps count) replied now
   pub same : length now.told.actors ≡ length world.told.actors
-  pub closed : All IsClosed (take count now.told.actors)
+  pub closed : All IsIdle (take count now.told.actors)
 
 pub none_gave_up : (next : Next) (world : WorldValue) → HaveGivenUp next world 0 world
-none_gave_up next world = record { replied = []; taken = refl; same = refl; closed = All-nil IsClosed }
+none_gave_up next world = record { replied = []; taken = refl; same = refl; closed = All-nil IsIdle }
 
 first_closed : (t m e : Told) (i : ℕ) (r q : Reply) → i < length t.actors → IsDue t (Actor i acts.Abort) r → m ≡ after t (Actor i acts.Abort) r → IsDue m (Actor i acts.Request) q
-    → e ≡ after m (Actor i acts.Request) q → All IsClosed (take i t.actors) → All IsClosed (take (i + 1) e.actors) × (length e.actors ≡ length t.actors)
+    → e ≡ after m (Actor i acts.Request) q → All IsIdle (take i t.actors) → All IsIdle (take (i + 1) e.actors) × (length e.actors ≡ length t.actors)
 first_closed t m e i r q lt due is due' is' closed =
     let y = story_after acts.Abort r (get_or t.actors i idle) in
     let set : m.actors ≡ slice_set t.actors i y = stories_after t m i acts.Abort r lt is in
     let count : length m.actors ≡ length t.actors = ap length set ∙ set_length t.actors i y in
     let within : i < length m.actors = omega (arith, lt, count) in
     let there : get_or m.actors i idle ≡ y = ap (λ (xs : List Story). get_or xs i idle) set ∙ get_or-set_same t.actors i y idle lt in
-    let up : IsClosed (get_or m.actors i idle) = subst IsClosed (sym there) (abort_closes (get_or t.actors i idle) r (due_of t i acts.Abort r lt due)) in
+    let up : HasEnded (get_or m.actors i idle) = subst HasEnded (sym there) (abort_ends (get_or t.actors i idle) r (due_of t i acts.Abort r lt due)) in
     let z = story_after acts.Request q (get_or m.actors i idle) in
     let set' : e.actors ≡ slice_set m.actors i z = stories_after m e i acts.Request q within is' in
     let before : take i m.actors ≡ take i t.actors = ap (take i) set ∙ take-set t.actors i y in
     let all : take (i + 1) e.actors ≡ take i m.actors ++ z ∷ [] = ap (take (i + 1)) set' ∙ take_more_set m.actors i z within in
-    let last : IsClosed z = request_keeps_closed (get_or m.actors i idle) q (due_of m i acts.Request q within due') up in
-    (subst (All IsClosed) (sym all) (All-push IsClosed (take i m.actors) z (subst (All IsClosed) (sym before) closed) last), ap length set' ∙ set_length m.actors i z ∙ count)
+    let last : IsIdle z = request_idles (get_or m.actors i idle) q (due_of m i acts.Request q within due') up in
+    (subst (All IsIdle) (sym all) (All-push IsIdle (take i m.actors) z (subst (All IsIdle) (sym before) closed) last), ap length set' ∙ set_length m.actors i z ∙ count)
 
 pub one_gave_up : (next : Next) (world t m e : WorldValue) (i : ℕ) (r q : Reply) → HaveGivenUp next world i t → i < length world.told.actors → IsTaken next t (Actor i acts.Abort) r m
     → IsTaken next m (Actor i acts.Request) q e → HaveGivenUp next world (i + 1) e
@@ -158,5 +118,5 @@ one_gave_up next world t m e i r q h lt one two =
 pub all_gave_up : (next : Next) (world e : WorldValue) (count : ℕ) → count ≡ length world.told.actors → HaveGivenUp next world count e → HasGivenUp next world e
 all_gave_up next world e count is h = record { replied = h.replied; taken = subst (λ n. AreTaken next world (give_up_steps n) h.replied e) is h.taken }
 
-pub all_closed : (next : Next) (world e : WorldValue) (count : ℕ) → count ≡ length world.told.actors → HaveGivenUp next world count e → All IsClosed e.told.actors
-all_closed next world e count is h = subst (All IsClosed) (take_all count e.told.actors (omega (arith, is, h.same))) h.closed
+pub all_closed : (next : Next) (world e : WorldValue) (count : ℕ) → count ≡ length world.told.actors → HaveGivenUp next world count e → All IsIdle e.told.actors
+all_closed next world e count is h = subst (All IsIdle) (take_all count e.told.actors (omega (arith, is, h.same))) h.closed

@@ -14,7 +14,7 @@ use Rattle.txc_world.specs.declared.reply.Refusal.TheVariants.{NoNode}
 use Rattle.txc_world.specs.Acts.{HasStepped}
 use Rattle.txc_world.specs.Cast.{reads, ReadingValue}
 use Rattle.txc_world.specs.Tidy.{purse_after, IsTidy, LosesNoSnapshot, Purse}
-use Rattle.txc_world.specs.Told.{Reading, Story, idle, reading, writing, leaving, IsDue, IsExplainedIn}
+use Rattle.txc_world.specs.Told.{Reading, reading, IsDue, IsExplainedIn}
 use Rattle.txc_world.specs.Worlds.{due_of_pins, AreMembersOf, IsBalanced, WorldValue}
 use Rattle.txc_play.specs.declared.printed.Printed.{Printed}
 use Rattle.txc_play.specs.declared.printed.Printed.TheVariants.{Replied, Ended, Members, Tidied, Counted}
@@ -199,10 +199,3 @@ give_up_steps (suc actor) = give_up_steps actor ++ Actor actor acts.Abort ∷ Ac
 pub record HasGivenUp (next : Next) (world left : WorldValue) : Type 0 where
   pub replied : List Reply
   pub taken : AreTaken next world (give_up_steps (length world.told.actors)) replied left
-
--- no transaction is open
-abbrev pub IsClosed : Story → Type 0
-IsClosed idle = Unit {0}
-IsClosed (reading r) = ⊥
-IsClosed (writing w) = ⊥
-IsClosed (leaving stamp) = Unit {0}

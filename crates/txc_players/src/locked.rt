@@ -139,6 +139,10 @@ impl<J: Naming, R: Wait> Calls for Shared<'_, J, R> {
     }
 
     fn hold(&mut self, alloc: Global, answer: &mut String) {
+        // Before the hold is taken: one that is answered is kept.
+        if self.held.reserve(1).is_err() {
+            return say_refusal(answer, DbError::Memory);
+        }
         match self.database.hold(self.rt, alloc) {
             Ok(held) => {
                 self.look(answer, held.front());

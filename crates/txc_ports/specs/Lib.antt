@@ -2,4 +2,5 @@ pub mod Refusals
 pub mod Answers
 pub mod Fronts
 pub mod Exchanges
+pub mod Turns
 pub mod Asking

@@ -4,9 +4,8 @@ use Rattle.std.specs.Prelude.{nat_eq, not, filter, if◌then◌else◌}
 use Rattle.std.specs.List.{list_any, sum_by}
 use Rattle.std.proofs.lemmas.Bool.Decides.{nat_tests}
 use Rattle.std.proofs.lemmas.Grind.{flat_map-append}
-use Rattle.std.proofs.lemmas.List.{append-nil, length-append}
+use Rattle.std.proofs.lemmas.List.{append-nil}
 use Rattle.std.proofs.lemmas.List.Elements.{filter-append}
-use Rattle.std.proofs.lemmas.List.Sums.{sum_by_push}
 use Rattle.txc_node.specs.declared.counts.FunctionCounts.{FunctionCounts}
 use Rattle.txc_node.specs.declared.hit.Hit.{Hit}
 use Rattle.txc_node.specs.declared.node.Inserted.TheVariants.{Stored, Kept}
@@ -14,31 +13,14 @@ use Rattle.txc_node.specs.declared.op.Op.{Op}
 use Rattle.txc_node.specs.declared.record.Record.{Record}
 use Rattle.txc_node.specs.declared.reply.Reply.{Reply}
 use Rattle.txc_node.specs.declared.reply.Reply.TheVariants as replies
-use Rattle.txc_node.specs.Counts.{Totals, AreCountsOf, counts_for, counts_of, sum_of, step_counts, events_by, closed_by, swept_by}
+use Rattle.txc_node.specs.Counts.{Totals, counts_for, counts_of, sum_of, events_by, closed_by, swept_by}
 use Rattle.txc_node.specs.Steps.{function_of, is_refusal, seen_reply}
 use Rattle.txc_node.specs.declared.hit.Shown.{Shown}
+use Rattle.txc_node.proofs.History.{counted_more}
 use Rattle.txc_script.specs.Kinds.{Given}
 use Rattle.txc_script.proofs.Counting.{counted_in}
 use Rattle.txc_script.specs.FunctionLines.{counts_in, function_line}
 use Rattle.txc_run.specs.Reports.{IsReportOf, before_others, functions_named, functions_text, step_by, steps_in, steps_of, steps_report, total_line, with_name}
-
--- the counts of one step more
-pub counted_more : (steps : List Record) (step : Record) (old new : Totals)
-    → ((f : ℕ) → counts_of new.functions f ≡ sum_of (counts_of old.functions f) (step_counts f step))
-    → new.replies ≡ old.replies + 1 → new.events ≡ old.events + events_by step.reply
-    → new.closed ≡ old.closed + closed_by step.reply → new.swept ≡ old.swept + swept_by step.reply
-    → AreCountsOf steps old → AreCountsOf (steps ++ step ∷ []) new
-counted_more steps step old new functions replies events closed swept h = record {
-  lookups = λ f. ap (λ (k : FunctionCounts). k.lookups) (functions f) ∙ ap (λ n. n + (step_counts f step).lookups) (h.lookups f) ∙ sym (sum_by_push (λ s. (step_counts f s).lookups) steps step);
-  hits = λ f. ap (λ (k : FunctionCounts). k.hits) (functions f) ∙ ap (λ n. n + (step_counts f step).hits) (h.hits f) ∙ sym (sum_by_push (λ s. (step_counts f s).hits) steps step);
-  stored = λ f. ap (λ (k : FunctionCounts). k.stored) (functions f) ∙ ap (λ n. n + (step_counts f step).stored) (h.stored f) ∙ sym (sum_by_push (λ s. (step_counts f s).stored) steps step);
-  kept = λ f. ap (λ (k : FunctionCounts). k.kept) (functions f) ∙ ap (λ n. n + (step_counts f step).kept) (h.kept f) ∙ sym (sum_by_push (λ s. (step_counts f s).kept) steps step);
-  evicted = λ f. ap (λ (k : FunctionCounts). k.evicted) (functions f) ∙ ap (λ n. n + (step_counts f step).evicted) (h.evicted f) ∙ sym (sum_by_push (λ s. (step_counts f s).evicted) steps step);
-  all = omega (arith, replies, h.all, length-append steps (step ∷ []));
-  events = events ∙ ap (λ n. n + events_by step.reply) h.events ∙ sym (sum_by_push (λ s. events_by s.reply) steps step);
-  closed = closed ∙ ap (λ n. n + closed_by step.reply) h.closed ∙ sym (sum_by_push (λ s. closed_by s.reply) steps step);
-  swept = swept ∙ ap (λ n. n + swept_by step.reply) h.swept ∙ sym (sum_by_push (λ s. swept_by s.reply) steps step);
-}
 
 -- a lent hit counts as what it shows
 pub counts_seen : (f : ℕ) (function : Option ℕ) (reply : Reply Hit) → counts_for f function (seen_reply reply) ≡ counts_for f function reply

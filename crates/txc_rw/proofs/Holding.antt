@@ -34,7 +34,7 @@ use Rattle.txc_call.specs.Calling.{Calling, CallHolds, InCall, IsCalling}
 use Rattle.txc_rw.specs.declared.given.Given.{Given}
 use Rattle.txc_rw.specs.declared.given.Given.TheVariants as given
 use Rattle.txc_rw.specs.Answers.{AgreeOn, AreRightIn, IsRightIn, committed, state_of}
-use Rattle.txc_rw.specs.Core.{RwValue, RwHolds, IsBegun, IsFoundAt, IsKept, IsOneMore, IsReady, IsRightReply, IsRw, ReadingFits, only_one, tags_of}
+use Rattle.txc_rw.specs.Core.{RwValue, RwHolds, IsBegun, IsFoundAt, IsRwState, IsOneMore, IsReady, IsRightReply, IsRw, ReadingFits, only_one, tags_of}
 use Rattle.txc_rw.specs.declared.reading.Reading.{Reading}
 use Rattle.txc_rw.proofs.Lists.{tags_push}
 use Rattle.txc_rw.proofs.Reached.{changes_of, reached}
@@ -157,8 +157,8 @@ need_of_call (Some p) (Some need) q fits is some =
     ap (λ (n : Need). Some n) (fits ∙ ap (λ (x : Query). needs.Query x) same)
 
 -- the query that was answered is kept
-pub kept_more : (tags : List Tag) (old new : Vec Query Global) (changes : List Change) (reading after : Option Reading) (x : Reading) → IsKept tags old changes reading
-    → reading ≡ Some x → after ≡ None → new.items ≡ old.items ++ x.query ∷ [] → IsKept x.tags new changes after
+pub kept_more : (tags : List Tag) (old new : Vec Query Global) (changes : List Change) (reading after : Option Reading) (x : Reading) → IsRwState tags old changes reading
+    → reading ≡ Some x → after ≡ None → new.items ≡ old.items ++ x.query ∷ [] → IsRwState x.tags new changes after
 kept_more tags old new changes reading after x h is none items =
     let ready = subst (λ (r : Option Reading). IsReady r tags (vec_len old) (vec_capacity old)) is h.ready in
     record {

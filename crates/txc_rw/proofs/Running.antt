@@ -24,7 +24,8 @@ use Rattle.txc_ports.specs.declared.turn.Turn.TheVariants.{Ask, Value, Rows, Ref
 use Rattle.txc_ports.specs.Refusals.{refused_call, refused_request}
 use Rattle.txc_rw.specs.declared.given.Given.{Given}
 use Rattle.txc_rw.specs.declared.given.Given.TheVariants as given
-use Rattle.txc_rw.specs.Core.{RwValue, answers_after, queried_after, IsAsk, IsIdle, IsTurn}
+use Rattle.txc_rw.specs.Core.{RwValue, answers_after, queried_after, IsIdle, IsTurn}
+use Rattle.txc_ports.specs.Turns.{IsAsk}
 use Rattle.txc_rw.specs.Leading.{query_in, queries_in, standing_of, CallLeads, EndsCall, IsLedAt, IsLedTo, IsRefusedAt, IsQueryRefusal, IsRun, IsStepAt, IsUncached, RowsLead, StandingLeads, Step}
 
 module _ (next : Next) (s : State) where

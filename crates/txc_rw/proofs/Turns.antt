@@ -12,7 +12,8 @@ use Rattle.txc_tags.specs.Keys.{Call}
 use Rattle.txc_db.specs.History.{History}
 use Rattle.txc_call.specs.declared.need.Need.{Need}
 use Rattle.txc_rw.specs.declared.given.Given.{Given}
-use Rattle.txc_rw.specs.Core.{RwValue, answers_after, asked_of, IsAsk, IsCallEnd, IsFoundAt, IsIdle, IsOfCall, IsOfNeed, IsRightReply, IsTurn}
+use Rattle.txc_rw.specs.Core.{RwValue, answers_after, asked_of, IsFoundAt, IsIdle, IsOfCall, IsOfNeed, IsRightReply, IsTurn}
+use Rattle.txc_ports.specs.Turns.{IsAsk, IsCallEnd}
 
 -- what a turn that asks a query asks
 pub turn_asks : (c : RwValue) (turn : Turn) (q : Query) (stamp : ℕ) → asked_of turn ≡ Some (q, stamp) → IsTurn c turn → (c.reading ≡ Some q) × (stamp ≡ c.base) × IsAsk turn

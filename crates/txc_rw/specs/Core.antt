@@ -59,7 +59,7 @@ IsReady (Some r) tags count room = (r.tags ≡ with_tag (query_tag r.query) tags
 
 -- the tags are those of the queries that were answered, no more changes are kept than may be, and the next
 -- query is ready
-pub record IsKept (tags : List Tag) (queried : Vec Query Global) (changes : List Change) (reading : Option Reading) : Type 0 where
+pub record IsRwState (tags : List Tag) (queried : Vec Query Global) (changes : List Change) (reading : Option Reading) : Type 0 where
   pub exact : tags ≡ tags_of queried.items
   pub few : length changes ≤ MAX_CHANGES
   pub ready : IsReady reading tags (vec_len queried) (vec_capacity queried)
@@ -153,17 +153,6 @@ IsOfQuery turn = ⊥
 abbrev pub IsOfNeed : Option Need → Turn → Type 0
 IsOfNeed None turn = IsOfQuery turn
 IsOfNeed (Some need) turn = IsOfCall turn
-
--- a call has its value, or is refused
-abbrev pub IsCallEnd : Turn → Type 0
-IsCallEnd (Value value) = Unit {0}
-IsCallEnd (Refused error) = Unit {0}
-IsCallEnd turn = ⊥
-
--- the turn asks
-abbrev pub IsAsk : Turn → Type 0
-IsAsk (Ask request) = Unit {0}
-IsAsk turn = ⊥
 
 -- it asks this query at the stamp, or is out of memory
 abbrev pub IsAsked : Query → ℕ → Turn → Type 0

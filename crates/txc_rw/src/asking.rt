@@ -22,7 +22,8 @@ use txc_rows::Query;
 use txc_tags::Key;
 
 impl RwCore {
-    ghost use Rattle.txc_rw.specs.Core.{answers_after, IsAsk, IsAsked, IsDone, IsOfCall, IsRefused, IsRw, IsTurn, RwHolds};
+    ghost use Rattle.txc_rw.specs.Core.{answers_after, IsAsked, IsDone, IsOfCall, IsRefused, IsRw, IsTurn, RwHolds};
+    ghost use Rattle.txc_ports.specs.Turns.{IsAsk};
     ghost use Rattle.txc_rw.specs.Leading.{standing_of, CallLeads, StandingLeads};
 
     // Makes the query ready: when it is answered, it takes no memory to keep that.

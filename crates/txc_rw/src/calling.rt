@@ -4,7 +4,8 @@ ghost use Rattle.txc_db.specs.History.{state_at};
 ghost use Rattle.txc_registry.specs.Objects.{activity_of, numbers_of};
 ghost use Rattle.txc_call.specs.declared.error.CallError.TheVariants.{NoFunction};
 ghost use Rattle.txc_call.specs.Calling.{started};
-ghost use Rattle.txc_rw.specs.Core.{asked_of, IsCallEnd, IsIdle, IsOfQuery, IsRw, RwHolds};
+ghost use Rattle.txc_rw.specs.Core.{asked_of, IsIdle, IsOfQuery, IsRw, RwHolds};
+ghost use Rattle.txc_ports.specs.Turns.{IsCallEnd};
 ghost use Rattle.txc_rw.specs.Leading.{standing_of, IsQueryLeft, IsQueryRefusal, IsRun};
 
 use crate::finding::find;

@@ -67,7 +67,8 @@ fn give_up<A: App, C: Cacheable>(machine: &mut CallMachine, registry: &mut Regis
 }
 
 impl RwCore {
-    ghost use Rattle.txc_rw.specs.Core.{answers_after, queried_after, IsAsk, IsOfNeed, IsOfQuery, IsOneMore, IsRightReply, IsRw, IsTurn, RwHolds};
+    ghost use Rattle.txc_rw.specs.Core.{answers_after, queried_after, IsOfNeed, IsOfQuery, IsOneMore, IsRightReply, IsRw, IsTurn, RwHolds};
+    ghost use Rattle.txc_ports.specs.Turns.{IsAsk};
     ghost use Rattle.txc_rw.specs.Leading.{standing_of, CallLeads, RowsLead};
 
     // Keeps the rows of the transaction's own query, and returns a copy of them.

@@ -33,7 +33,7 @@ pub struct RwCore {
 }
 
 impl Model for RwCore {
-    ghost use Rattle.txc_rw.specs.Core.{asked_query, RwValue, IsKept};
+    ghost use Rattle.txc_rw.specs.Core.{asked_query, RwValue, IsRwState};
 
     ghost Value = { RwValue };
 
@@ -46,7 +46,7 @@ impl Model for RwCore {
       reading = asked_query c.reading;
     } };
 
-    ghost invariant = { λ c. IsKept c.tags c.queried c.changes.items c.reading };
+    ghost invariant = { λ c. IsRwState c.tags c.queried c.changes.items c.reading };
 }
 
 impl RwCore {

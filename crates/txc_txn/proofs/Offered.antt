@@ -26,7 +26,7 @@ use Rattle.txc_ports.specs.declared.turn.Turn.TheVariants as turns
 use Rattle.txc_ports.specs.Fronts.{front_of}
 use Rattle.txc_txn.specs.Core.{CoreValue, AddsOnly, HoldsNewest, IsAnswered, IsAsking, IsNoAdding}
 use Rattle.txc_txn.specs.Leading.{ReplyLeads}
-use Rattle.txc_txn.specs.Kept.{TxnValue, IsKept, IsShownRight}
+use Rattle.txc_txn.specs.Kept.{TxnValue, IsTxn, IsShownRight}
 use Rattle.txc_ports.specs.Asking.{AddsSuch, IsAnsweredRight, IsReplyTo, MayAsk}
 use Rattle.txc_ports.specs.Exchanges.{Exchange, reply_of, request_of}
 use Rattle.txc_ports.specs.Exchanges as exchanges
@@ -64,7 +64,7 @@ module _ (P : FrontValue → Type 0) where
 
 -- ---- what is asked may be asked
 
-module _ (next : Next) (row : List ℕ) (t : TxnValue) (kept : IsKept next t) where
+module _ (next : Next) (row : List ℕ) (t : TxnValue) (kept : IsTxn next t) where
   node_there : (key : Call) (node nodes : ℕ) → node ≡ node_of t.core.nodes key → t.core.nodes ≡ nodes → node < nodes
   node_there key node nodes is same =
       subst (λ (n : ℕ). node < n) same (subst (λ (n : ℕ). n < t.core.nodes) (sym is) (mod_below (key.function + sum key.args) t.core.nodes kept.fits.nodes))

@@ -246,11 +246,6 @@ abbrev pub recorded_after : List Recorded → Turn → Option Call → List Reco
 recorded_after recorded (Value value) (Some k) = recorded ++ record { key = k; value = value } ∷ []
 recorded_after recorded turn k = recorded
 
--- the turn asks a port
-abbrev pub IsAsk : Turn → Type 0
-IsAsk (Ask request) = Unit {0}
-IsAsk turn = ⊥
-
 -- the turn does not ask the pincushion to add a pin
 abbrev pub IsNoAdding : Turn → Type 0
 IsNoAdding turn = AddsSuch (λ front. ⊥) turn
@@ -264,12 +259,6 @@ AddsOnly reply turn = IsNoAdding turn
 abbrev pub IsNoValue : Turn → Type 0
 IsNoValue (Value value) = ⊥
 IsNoValue turn = Unit {0}
-
--- the call has ended
-abbrev pub IsEnd : Turn → Type 0
-IsEnd (Value value) = Unit {0}
-IsEnd (Refused error) = Unit {0}
-IsEnd turn = ⊥
 
 -- the bounds, after how long the newest pin is renewed, and the number of nodes stay
 pub record KeepsSettings (old new : CoreValue) : Type 0 where

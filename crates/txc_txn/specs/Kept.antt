@@ -2,12 +2,14 @@
 use Rattle.std.specs.Prelude.{◌≡◌}
 use Rattle.std.specs.Option.{ForSome}
 use mathlib.Core.List.{IsPrefix}
+use Rattle.txc_db.specs.History.{History}
 use Rattle.txc_app.specs.Eval.{Next}
 use Rattle.txc_registry.specs.Objects.{Objects, numbers_of}
 use Rattle.txc_ports.specs.declared.reply.PortReply.{PortReply}
 use Rattle.txc_ports.specs.declared.turn.Turn.{Turn}
 use Rattle.txc_ports.specs.Fronts.{front_of}
-use Rattle.txc_txn.specs.Core.{CoreValue, CoreHolds, IsAsk, IsCore, IsRight, IsTurn, KeepsSettings, PinsAfter}
+use Rattle.txc_txn.specs.Core.{CoreValue, CoreHolds, IsCore, IsRight, IsTurn, KeepsSettings, PinsAfter}
+use Rattle.txc_ports.specs.Turns.{IsAsk}
 use Rattle.txc_txn.specs.Core.{left_after, left_pin, open_call, recorded_after, taken_after, AddsOnly, IsOneOf}
 use Rattle.txc_txn.specs.Leading.{ReplyLeads}
 
@@ -17,7 +19,7 @@ pub record TxnValue : Type 0 where
   pub objects : Objects
 
 -- it is what it is in any history, and its pin set means what it says in the history that it has seen
-pub record IsKept (next : Next) (t : TxnValue) : Type 0 where
+pub record IsTxn (next : Next) (t : TxnValue) : Type 0 where
   pub fits : IsCore next t.objects t.core
   pub holds : CoreHolds next t.core.seen.history t.objects t.core
 
@@ -44,3 +46,27 @@ pub record HasGoneOn (next : Next) (old : TxnValue) (reply : PortReply) (new : T
   pub longer : IsPrefix old.core.seen.history new.core.seen.history
   pub shown : ForSome (front_of reply) (λ front. IsPrefix front.history new.core.seen.history)
   pub one : IsOneOf old.core.seen (front_of reply) new.core.seen
+
+-- What comes of a reply, once what it shows was seen: the core fits its functions still, and means what it says in
+-- each history in which the reply is right; and a turn comes of it, as after the whole reply.
+pub record HasAnswered (next : Next) (old : CoreValue) (was : Objects) (reply : PortReply) (new : CoreValue)
+    (is : Objects) (turn : Turn) : Type 0 where
+  pub fits : IsCore next is new
+  pub holds : (L : History) → IsRight next L old.call.need reply → CoreHolds next L was old
+      → CoreHolds next L is new
+  pub turn_fits : IsTurn new turn
+  pub leads : ReplyLeads next old was reply new is turn
+  pub adds : AddsOnly reply turn
+  pub pins : PinsAfter old reply new.pins
+  pub taken : new.taken ≡ taken_after old.taken reply
+  pub left : left_pin new.pinning ≡ left_after reply
+  pub recorded : new.recorded ≡ recorded_after old.recorded turn (open_call old)
+  pub goes_on : IsAsk turn → open_call new ≡ open_call old
+  pub functions : numbers_of is ≡ numbers_of was
+  pub same : new ≡ record old {
+    pins = new.pins;
+    taken = new.taken;
+    recorded = new.recorded;
+    call = new.call;
+    pinning = new.pinning;
+  }

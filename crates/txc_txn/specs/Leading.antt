@@ -27,7 +27,8 @@ use Rattle.txc_ports.specs.declared.turn.Turn.{Turn}
 use Rattle.txc_ports.specs.declared.turn.Turn.TheVariants.{Ask, Value, Refused}
 use Rattle.txc_ports.specs.Refusals.{refused_call, refused_request, refused_pin}
 use Rattle.txc_txn.specs.declared.pinning.PinStep.TheVariants.{Asked, Dropping}
-use Rattle.txc_txn.specs.Core.{CoreValue, IsAsk, IsAt, first_call, least_present}
+use Rattle.txc_txn.specs.Core.{CoreValue, IsAt, first_call, least_present}
+use Rattle.txc_ports.specs.Turns.{IsAsk}
 
 -- ---- the call goes on
 

@@ -25,24 +25,25 @@ pub struct RunningTxn<A: App, C: Cacheable> {
 
 impl<A: App, C: Cacheable> Model for RunningTxn<A, C> {
     ghost use Rattle.txc_txn.specs.Core.{value_of};
-    ghost use Rattle.txc_txn.specs.Kept.{TxnValue, IsKept};
+    ghost use Rattle.txc_txn.specs.Kept.{TxnValue, IsTxn};
 
     ghost Value = { TxnValue };
 
     ghost view = { λ t. record { core = value_of t.core; objects = t.registry } };
 
-    ghost invariant = { λ t. IsKept A.next (record { core = value_of t.core; objects = t.registry }) };
+    ghost invariant = { λ t. IsTxn A.next (record { core = value_of t.core; objects = t.registry }) };
 }
 
 impl<A: App, C: Cacheable> RunningTxn<A, C> {
     ghost use Rattle.txc_txn.specs.Core.{left_pin, open_call, receipt_pin, value_of, Explains, IsAnswered};
-    ghost use Rattle.txc_txn.specs.Core.{IsAsk, IsIdle, IsNoAdding, IsNoValue, IsTurn};
-    ghost use Rattle.txc_txn.specs.Kept.{HasGoneOn, IsKept, IsShownRight};
+    ghost use Rattle.txc_txn.specs.Core.{IsIdle, IsNoAdding, IsNoValue, IsTurn};
+    ghost use Rattle.txc_ports.specs.Turns.{IsAsk};
+    ghost use Rattle.txc_txn.specs.Kept.{HasGoneOn, IsTxn, IsShownRight};
     ghost use Rattle.txc_txn.specs.Leading.{StartLeads};
 
     /// The core with its registry, where its pin set means what it says in the history that it has seen.
     pub fn new(core: TxnCore, registry: Registry<A, C>) -> RunningTxn<A, C>
-        requires { IsKept A.next (record { core = value_of core; objects = registry }) }
+        requires { IsTxn A.next (record { core = value_of core; objects = registry }) }
         ensures { result ≡ record { core = value_of core; objects = registry } }
     {
         RunningTxn { core, registry }
@@ -57,7 +58,7 @@ impl<A: App, C: Cacheable> RunningTxn<A, C> {
 
     /// What holds of every such transaction. It does nothing when it runs.
     pub fn is_kept(&self)
-        ensures { IsKept A.next self.now }
+        ensures { IsTxn A.next self.now }
     {
         let _core = &self.core;
     }

@@ -31,7 +31,8 @@ use txc_tags::Key;
 
 impl TxnCore {
     ghost use Rattle.txc_txn.specs.Core.{least_present, left_pin, open_call, recorded_after, value_of, CoreHolds};
-    ghost use Rattle.txc_txn.specs.Core.{IsAsk, IsCore, IsEnd, IsIdle, IsNarrowed, IsNoAdding, IsNoValue, IsTurn};
+    ghost use Rattle.txc_txn.specs.Core.{IsCore, IsIdle, IsNarrowed, IsNoAdding, IsNoValue, IsTurn};
+    ghost use Rattle.txc_ports.specs.Turns.{IsAsk, IsCallEnd};
     ghost use Rattle.txc_txn.specs.Core.{WaitsForPin};
     ghost use Rattle.txc_txn.specs.Leading.{AsksLookup, AsksPin, BeginLeads, CallLeads, IsBeyond, NeedLeads, StandsStill};
 
@@ -126,7 +127,7 @@ impl TxnCore {
             → CoreHolds next L objects (value_of self.old)
             → CoreHolds next L objects (value_of self.new) }
         ensures need { self.new.machine.need ≡ None }
-        ensures ended { IsEnd result }
+        ensures ended { IsCallEnd result }
         ensures leads { (objects objects' : Objects)
             → NeedLeads (value_of self.old) objects (value_of self.new) objects' result }
         ensures recorded { (next : Next) (objects : Objects) → IsCore next objects (value_of self.old)

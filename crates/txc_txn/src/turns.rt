@@ -44,7 +44,8 @@ fn receipt_pin(recorded: &[Recorded], members: &[Pin]) -> Option<Pin>
 
 impl TxnCore {
     ghost use Rattle.txc_txn.specs.Core.{begun_core, left_after, left_pin, open_call, recorded_after, taken_after};
-    ghost use Rattle.txc_txn.specs.Core.{value_of, CoreHolds, Explains, IsAnswered, IsAsk, IsCore, IsIdle};
+    ghost use Rattle.txc_txn.specs.Core.{value_of, CoreHolds, Explains, IsAnswered, IsCore, IsIdle};
+    ghost use Rattle.txc_ports.specs.Turns.{IsAsk};
     ghost use Rattle.txc_txn.specs.Core.{AddsOnly, IsNoAdding, IsNoValue, IsOneOf, IsRight, IsTurn, KeepsSettings};
     ghost use Rattle.txc_txn.specs.Core.{PinsAfter};
     ghost use Rattle.txc_txn.specs.Leading.{ReplyLeads, StartLeads};

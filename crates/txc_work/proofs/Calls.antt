@@ -7,7 +7,7 @@ use Rattle.txc_app.specs.Eval.{Next}
 use Rattle.txc_registry.specs.Objects.{Objects, numbers_of, AllIdle}
 use Rattle.txc_ports.specs.declared.bounds.Bounds.{Bounds}
 use Rattle.txc_ports.specs.declared.error.TxnError.{TxnError}
-use Rattle.txc_txn.specs.Kept.{IsKept}
+use Rattle.txc_txn.specs.Kept.{IsTxn}
 use Rattle.txc_client.specs.Run.{turn_of, HasRun}
 use Rattle.txc_client.specs.Txn.{RoTxnValue}
 use Rattle.txc_work.specs.Batches.{keys_of, IsRefusedAt}
@@ -20,7 +20,7 @@ passed_on (Err x) e P h k = subst P (sym h) k
 -- where the keys before this one were answered, its call is the first that was refused
 pub refused_at : (next : Next) (row : List ℕ) (node_rows : ℕ → List ℕ) (objects : Objects) (bounds : Bounds) (keys : List Call) (i : ℕ) (key copy : Call)
     (old new : RoTxnValue) (result : Result (List ℕ) TxnError) (error : TxnError)
-    → IsKept next old.txn → AllIdle old.txn.objects → old.txn.objects ≡ objects
+    → IsTxn next old.txn → AllIdle old.txn.objects → old.txn.objects ≡ objects
     → i < length keys → key ≡ get_or keys i key → copy ≡ key → keys_of old.txn.core.recorded ≡ take i keys
     → old.txn.core.bounds ≡ bounds → result ≡ Err error → HasRun next row node_rows old copy new (turn_of result)
     → IsRefusedAt next row node_rows (numbers_of objects) bounds keys error

@@ -9,7 +9,7 @@ use Rattle.txc_ports.specs.declared.error.TxnError.{TxnError}
 use Rattle.txc_ports.specs.declared.error.TxnError.TheVariants as refusals
 use Rattle.txc_ports.specs.declared.recorded.Recorded.{Recorded}
 use Rattle.txc_txn.specs.Core.{Explains}
-use Rattle.txc_txn.specs.Kept.{IsKept}
+use Rattle.txc_txn.specs.Kept.{IsTxn}
 use Rattle.txc_txn.specs.declared.receipt.Receipt.{Receipt}
 use Rattle.txc_client.specs.Run.{turn_of, HasRun}
 use Rattle.txc_client.specs.Txn.{RoTxnValue}
@@ -42,7 +42,7 @@ pub record IsRefusedAt (next : Next) (row : List ℕ) (node_rows : ℕ → List 
   pub old : RoTxnValue
   pub new : RoTxnValue
   pub stands : keys ≡ before ++ key ∷ after
-  pub meant : IsKept next old.txn
+  pub meant : IsTxn next old.txn
   pub idle : AllIdle old.txn.objects
   pub of_functions : numbers_of old.txn.objects ≡ functions
   pub bounded : old.txn.core.bounds ≡ bounds

@@ -152,6 +152,47 @@ fn run_on<J: Naming + Send + Sync, R: Threads + Wait + Sync>(
     judge(answer, alloc, case, batch, &watch, (were, pins), left)
 }
 
+/// The last of the jobs.
+fn last_of(jobs: &str) -> &str {
+    let mut last = "";
+    for line in jobs.lines() {
+        last = line;
+    }
+    last
+}
+
+/// Runs the jobs, and then the last of them once more, by a client of its own and when no pin is left: it is
+/// answered, and judged likewise.
+fn run_and_again<J: Naming + Send + Sync, R: Threads + Wait + Sync>(
+    rt: &R,
+    alloc: Global,
+    database: &Database<J>,
+    cushion: &Pincushion<J>,
+    nodes: &[SharedNode<Program, J>],
+    pins: u64,
+    case: &Case<'_>,
+    answer: &mut String,
+) -> Option<Verdict>
+    requires { 1 ≤ length nodes.now }
+{
+    let first = run_on(rt, alloc, database, cushion, nodes, pins, case, answer)?;
+    if first == Verdict::Wrong {
+        return Some(first);
+    }
+    let again = Case {
+        clients: 1,
+        before: "",
+        warm: "",
+        jobs: last_of(case.jobs),
+        wanted: "0-63: explained",
+        added: (0, 1),
+        holds: false,
+        spreads: false,
+    };
+    let second = run_on(rt, alloc, database, cushion, nodes, 0, &again, answer)?;
+    Some(first.and(second))
+}
+
 /// Runs the jobs over the rows. None where memory for anything else was refused.
 fn run_over<J: Naming + Send + Sync, R: Threads + Wait + Sync>(
     rt: &R,
@@ -169,7 +210,7 @@ fn run_over<J: Naming + Send + Sync, R: Threads + Wait + Sync>(
     let cushion = Pincushion::new(alloc, &database).ok()?;
     let nodes = nodes(alloc, one, other, &database)?;
     let pins = prepare_all(rt, alloc, &database, &cushion, &nodes, case)?;
-    run_on(rt, alloc, &database, &cushion, &nodes, pins, case, answer)
+    run_and_again(rt, alloc, &database, &cushion, &nodes, pins, case, answer)
 }
 
 /// Makes the rows, and runs the jobs over them.

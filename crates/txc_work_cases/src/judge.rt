@@ -43,7 +43,7 @@ pub(super) enum Verdict {
 
 impl Verdict {
     /// Both.
-    fn and(self, other: Verdict) -> Verdict {
+    pub(super) fn and(self, other: Verdict) -> Verdict {
         if self == Verdict::Wanted {
             other
         } else if other == Verdict::Wanted {
@@ -258,7 +258,8 @@ fn judge_left(
 ) -> Verdict {
     let all = PERMITS.saturating_mul(case.clients as u64);
     let added = left.events.saturating_sub(events);
-    let verdict = Verdict::unless(left.free == all && left.kept == 0 && events <= left.events);
+    let is_tidy = left.kept == 0 && left.horizon == left.events;
+    let verdict = Verdict::unless(left.free == all && is_tidy && events <= left.events);
     if is_refused {
         return verdict.and(Verdict::unless(added == 0 && left.retired == pins));
     }
@@ -294,10 +295,11 @@ pub(super) fn judge(
         retired,
         kept,
         free,
+        horizon,
     } = left;
     let _ = write!(
         answer,
-        "; gate {befores} {afters}, events {events}, retired {retired}, kept {kept}, free {free}"
+        "; gate {befores} {afters}, events {events}, retired {retired}, kept {kept}, free {free}, horizon {horizon}"
     );
     Some(verdict.and(judge_left(case, is_refused, before, &left, watch)))
 }

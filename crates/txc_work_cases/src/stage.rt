@@ -37,6 +37,8 @@ pub(super) struct Left {
     pub kept: u64,
     /// Permits that can be taken.
     pub free: u64,
+    /// The first stamp that is kept once the pins without users are gone.
+    pub horizon: u64,
 }
 
 fn node<J: Naming>(
@@ -172,9 +174,18 @@ pub(super) fn events<J: Naming>(
     None
 }
 
-fn retired<J: Naming>(rt: &impl Wait, alloc: Global, cushion: &Pincushion<J>) -> Option<u64> {
+/// Retires the pins without users, takes their holds away, and answers how many there were.
+fn retired<J: Naming>(
+    rt: &impl Wait,
+    alloc: Global,
+    database: &Database<J>,
+    cushion: &Pincushion<J>,
+) -> Option<u64> {
     for _ in 0..2u32 {
         if let Ok(stamps) = cushion.retire(rt, alloc, LATE, 0) {
+            for stamp in &stamps {
+                database.unpin(rt, *stamp).ok()?;
+            }
             return Some(stamps.len() as u64);
         }
     }
@@ -212,8 +223,9 @@ pub(super) fn count_left<J: Naming>(
     pools: &mut Vec<PermitPool>,
 ) -> Option<Left> {
     let events = events(rt, alloc, database)?;
-    let retired = retired(rt, alloc, cushion)?;
+    let retired = retired(rt, alloc, database, cushion)?;
     let kept = kept(rt, alloc, cushion)?;
+    let horizon = u64::from(database.vacuum(rt).ok()?.number());
     let mut free = 0u64;
     for pool in pools {
         let count = match taken(alloc, pool) {
@@ -227,5 +239,6 @@ pub(super) fn count_left<J: Naming>(
         retired,
         kept,
         free,
+        horizon,
     })
 }

@@ -28,7 +28,7 @@ use Rattle.txc_world.specs.Ports.{PortsValue, whole_of, KeepsRow, HasLedNode}
 use Rattle.txc_world.specs.Asks.{did_insert, AddLeads, DoesTell, HasFound, IsAsked, IsToldOf, PinLeads}
 use Rattle.txc_world.specs.Told.{did_in}
 use Rattle.txc_world.proofs.PartLemmas.{part_itself, part_then}
-use Rattle.txc_world.proofs.PortsLemmas.{keeps_itself, left_history}
+use Rattle.txc_world.proofs.PortsLemmas.{keeps_same, left_history}
 
 -- what was part of the whole is so after a step
 pub still_part : (old new : PortsValue) (front : FrontValue) → KeepsRow old new → IsPartOf (whole_of old) front → IsPartOf (whole_of new) front
@@ -136,18 +136,15 @@ module _ (next : Next) (old new : PortsValue) (keeps : KeepsRow old new) where
 -- ---- queries, which change nothing
 
 module _ (next : Next) (old new : PortsValue) (same : new ≡ old) (query : Query) (stamp : ℕ) where
-  keeps_same : KeepsRow old new
-  keeps_same = subst (λ (p : PortsValue). KeepsRow old p) (sym same) (keeps_itself old)
-
   pub asked_rows : (found : Answered Found) (rows : RowsFound) → HasFound query stamp old found → IsToldOf found.answer rows
       → IsAsked next (requests.Query query stamp) old new (record { did = dids.Rows rows; reply = replies.Query (Ok found) })
   asked_rows found rows h told = record {
     reply = h.over;
     row = for_this (λ (f : FrontValue). f.events ≡ old.database.events) found.front (ap (λ (f : FrontValue). f.events) h.front);
-    shown = for_this (IsPartOf (whole_of new)) found.front (still_part old new found.front keeps_same (subst (IsPartOf (whole_of old)) (sym h.front) (part_itself (whole_of old))));
+    shown = for_this (IsPartOf (whole_of new)) found.front (still_part old new found.front (keeps_same old new same) (subst (IsPartOf (whole_of old)) (sym h.front) (part_itself (whole_of old))));
     tells = (rows, refl, told);
     history = λ n is. ap (λ (p : PortsValue). p.database.history) same;
-    keeps = keeps_same;
+    keeps = keeps_same old new same;
     spare = ap (λ (p : PortsValue). p.spare) same;
   }
 
@@ -158,6 +155,6 @@ module _ (next : Next) (old new : PortsValue) (same : new ≡ old) (query : Quer
     shown = for_none (IsPartOf (whole_of new));
     tells = refl;
     history = λ n is. ap (λ (p : PortsValue). p.database.history) same;
-    keeps = keeps_same;
+    keeps = keeps_same old new same;
     spare = ap (λ (p : PortsValue). p.spare) same;
   }

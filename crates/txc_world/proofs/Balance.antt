@@ -1,5 +1,5 @@
 -- Each step leaves to each what is its own.
-use Rattle.std.proofs.Common.{◌≡◌, ◌∙◌, ℕ, List, [], ◌∷◌, ◌++◌, Result, Ok, Err, Option, Some, None, Vec, refl, ap, arith}
+use Rattle.std.proofs.Common.{◌≡◌, ◌∙◌, ℕ, List, [], ◌∷◌, ◌++◌, Ok, Err, Vec, refl, ap, arith}
 use Rattle.std.specs.declared.alloc.Global.{Global}
 use Rattle.txc_rows.specs.declared.query.Change.{Change}
 use Rattle.txc_db.specs.declared.error.DbError.{DbError}
@@ -8,33 +8,31 @@ use Rattle.txc_db.specs.DatabaseValue.{after_event_of, newest_net, newest_state,
 use Rattle.txc_cushion.specs.declared.error.AddError.{AddError}
 use Rattle.txc_cushion.specs.Cushion.{retired}
 use Rattle.txc_cushion.specs.Entries.{times}
+use Rattle.txc_world.specs.declared.step.Keep.{Keep}
 use Rattle.txc_world.specs.declared.step.Keep.TheVariants as keeps
+use Rattle.txc_world.specs.declared.reply.Reply.{Reply}
 use Rattle.txc_world.specs.declared.reply.Reply.TheVariants as replies
 use Rattle.txc_world.specs.declared.reply.Reply.TheVariants.{Refused}
 use Rattle.txc_world.specs.declared.reply.Refusal.TheVariants as refusals
 use Rattle.txc_shared.specs.Nodes.{NodeValue}
 use Rattle.txc_world.specs.Ports.{PortsValue, HasLedNode, HasRefused}
 use Rattle.txc_world.specs.Asks.{UnpinLeads}
-use Rattle.txc_world.specs.Keeping.{stamps_of as stamps_of_pins, GiveBackLeads, HasAddedSpare, AddSpareLeads, PinSpareLeads, RetireLeads, WriteLeads}
+use Rattle.txc_world.specs.Keeping.{stamps_of as stamps_of_pins, GiveBackLeads, HasAddedSpare, PinSpareLeads, RetireLeads, WriteLeads}
 use Rattle.txc_world.specs.Books.{books_of, Account, CountRight}
 use Rattle.txc_world.specs.Tidy.{AreBalanced, KeepsBalance, Purse}
-use Rattle.txc_world.specs.Kept.{told_addition}
+use Rattle.txc_world.specs.Kept.{KeepLeads}
 use Rattle.txc_world.proofs.KeptLemmas.{pinned_spare_stamps}
 use Rattle.txc_world.proofs.Times.{held_there, times_append, times_cons, times_one, times_without}
 use Rattle.txc_world.proofs.Fairness.{left_holds, pin_holds}
 
 module _ (old new : PortsValue) where
   -- a step that leaves holds and pins, and the keeper's pins
-  pub balance_same : (purse : Purse) (accounts : List Account) → new.database.holds ≡ old.database.holds → new.cushion ≡ old.cushion
+  balance_same : (purse : Purse) (accounts : List Account) → new.database.holds ≡ old.database.holds → new.cushion ≡ old.cushion
       → stamps_of_pins new.spare ≡ stamps_of_pins old.spare → AreBalanced (stamps_of_pins old.spare) (books_of old accounts) purse
       → AreBalanced (stamps_of_pins new.spare) (books_of new accounts) purse
   balance_same purse accounts holds cushion spare h = rw (holds, cushion, spare) (record { held = h.held; used = h.used })
 
-  pub balance_nothing : (purse : Purse) (accounts : List Account) → new ≡ old → AreBalanced (stamps_of_pins old.spare) (books_of old accounts) purse
-      → AreBalanced (stamps_of_pins new.spare) (books_of new accounts) purse
-  balance_nothing purse accounts same h = rw same h
-
-  pub balance_led : (at : ℕ) (leads : NodeValue → NodeValue → Type 0) → HasLedNode at leads old new → (purse : Purse) (accounts : List Account)
+  balance_led : (at : ℕ) (leads : NodeValue → NodeValue → Type 0) → HasLedNode at leads old new → (purse : Purse) (accounts : List Account)
       → AreBalanced (stamps_of_pins old.spare) (books_of old accounts) purse → AreBalanced (stamps_of_pins new.spare) (books_of new accounts) purse
   balance_led at leads led purse accounts h = rw led.is (record { held = h.held; used = h.used })
 
@@ -50,7 +48,7 @@ committed_holds d (c ∷ cs) other same = same
 -- ---- the database
 
 module _ (old new : PortsValue) where
-  pub keeps_written : (change : Change) (stamp : ℕ) → WriteLeads change old new (Ok stamp) → KeepsBalance (keeps.Write change) old new (replies.At stamp)
+  keeps_written : (change : Change) (stamp : ℕ) → WriteLeads change old new (Ok stamp) → KeepsBalance (keeps.Write change) old new (replies.At stamp)
   keeps_written change stamp leads = λ purse accounts tidy h.
       let d = old.database in
       let holds : new.database.holds ≡ old.database.holds =
@@ -58,13 +56,13 @@ module _ (old new : PortsValue) where
       ∙ committed_holds d (newest_net d (change ∷ [])) (after_event_of d (commit_event (newest_state d) (change ∷ [])) (newest_net d (change ∷ []))) refl in
       balance_same old new purse accounts holds (ap (λ (p : PortsValue). p.cushion) leads.0) (ap (λ (p : PortsValue). stamps_of_pins p.spare) leads.0) h
 
-  pub keeps_not_written : (change : Change) (e : DbError) → WriteLeads change old new (Err e) → KeepsBalance (keeps.Write change) old new (Refused (refusals.Database e))
+  keeps_not_written : (change : Change) (e : DbError) → WriteLeads change old new (Err e) → KeepsBalance (keeps.Write change) old new (Refused (refusals.Database e))
   keeps_not_written change e leads = λ purse accounts tidy h. balance_refused old new e leads.0 purse accounts h
 
-  pub keeps_not_pinned : (now : ℕ) (e : DbError) → PinSpareLeads now old new (Err e) → KeepsBalance (keeps.Pin now) old new (Refused (refusals.Database e))
+  keeps_not_pinned : (now : ℕ) (e : DbError) → PinSpareLeads now old new (Err e) → KeepsBalance (keeps.Pin now) old new (Refused (refusals.Database e))
   keeps_not_pinned now e leads = λ purse accounts tidy h. balance_refused old new e leads.0 purse accounts h
 
-  pub keeps_pinned : (now stamp : ℕ) → PinSpareLeads now old new (Ok stamp) → KeepsBalance (keeps.Pin now) old new (replies.At stamp)
+  keeps_pinned : (now stamp : ℕ) → PinSpareLeads now old new (Ok stamp) → KeepsBalance (keeps.Pin now) old new (replies.At stamp)
   keeps_pinned now stamp leads = λ purse accounts tidy h.
       let pinned = leads.pinned in
       let holds : new.database.holds ≡ old.database.holds ++ pinned.stamp ∷ [] =
@@ -79,7 +77,7 @@ module _ (old new : PortsValue) where
         used = h.used;
       })
 
-  pub keeps_unpinned : (stamp : ℕ) → CountRight old → UnpinLeads {A = Unit {0}} stamp old new (Ok tt) → KeepsBalance (keeps.Unpin stamp) old new replies.Unpinned
+  keeps_unpinned : (stamp : ℕ) → CountRight old → UnpinLeads {A = Unit {0}} stamp old new (Ok tt) → KeepsBalance (keeps.Unpin stamp) old new replies.Unpinned
   keeps_unpinned stamp right leads = λ purse accounts tidy h. rw leads.0 (record {
     held = λ t.
         let a = h.held t in
@@ -129,12 +127,7 @@ module _ (old new : PortsValue) where
         used = h.used;
       })
 
-  pub keeps_addition : (stamp : ℕ) (added : Option (Result (Unit {0}) AddError)) → CountRight old → AddSpareLeads stamp old new added → KeepsBalance (keeps.Add stamp) old new (told_addition added)
-  keeps_addition stamp (Some (Ok tt)) right leads = keeps_added stamp right leads
-  keeps_addition stamp (Some (Err e)) right leads = keeps_not_added stamp e right leads
-  keeps_addition stamp None right leads = λ purse accounts tidy h. balance_nothing old new purse accounts leads.0 h
-
-  pub keeps_given_back : (stamp : ℕ) → CountRight old → GiveBackLeads {A = Unit {0}} (stamp ∷ []) old new (Ok tt) → KeepsBalance (keeps.GiveBack stamp) old new replies.GivenBack
+  keeps_given_back : (stamp : ℕ) → CountRight old → GiveBackLeads {A = Unit {0}} (stamp ∷ []) old new (Ok tt) → KeepsBalance (keeps.GiveBack stamp) old new replies.GivenBack
   keeps_given_back stamp right leads = λ purse accounts tidy h. rw leads.0 (record {
     held = λ t.
         let a = h.held t in
@@ -149,7 +142,7 @@ module _ (old new : PortsValue) where
         omega (arith, a, b, c);
   })
 
-  pub keeps_retired : (now age : ℕ) (stamps : Vec ℕ Global) → CountRight old → RetireLeads {A = Unit {0}} now age old new (Ok stamps)
+  keeps_retired : (now age : ℕ) (stamps : Vec ℕ Global) → CountRight old → RetireLeads {A = Unit {0}} now age old new (Ok stamps)
       → KeepsBalance (keeps.Retire now age) old new (replies.Retired stamps)
   keeps_retired now age stamps right leads = λ purse accounts tidy h. rw (leads.0, leads.1) (record {
     held = λ t.
@@ -164,3 +157,36 @@ module _ (old new : PortsValue) where
         let b = one.users in
         omega (arith, a, b);
   })
+
+  -- ---- any step
+
+  nothing_spent : new ≡ old → (purse : Purse) (accounts : List Account) → AreBalanced (stamps_of_pins old.spare) (books_of old accounts) purse
+      → AreBalanced (stamps_of_pins new.spare) (books_of new accounts) purse
+  nothing_spent same purse accounts h = rw same h
+
+  pub kept_balance : CountRight old → (keep : Keep) (reply : Reply) → KeepLeads keep old new reply → KeepsBalance keep old new reply
+  kept_balance right (keeps.Write change) (replies.At stamp) leads = keeps_written change stamp leads
+  kept_balance right (keeps.Write change) (Refused (refusals.Database e)) leads = keeps_not_written change e leads
+  kept_balance right (keeps.Pin now) (replies.At stamp) leads = keeps_pinned now stamp leads
+  kept_balance right (keeps.Pin now) (Refused (refusals.Database e)) leads = keeps_not_pinned now e leads
+  kept_balance right (keeps.Add stamp) replies.Added leads = keeps_added stamp right leads
+  kept_balance right (keeps.Add stamp) (Refused (refusals.Pincushion e)) leads = keeps_not_added stamp e right leads
+  kept_balance right (keeps.Add stamp) (Refused refusals.NoRequest) leads = λ purse accounts tidy h. nothing_spent leads.0 purse accounts h
+  kept_balance right (keeps.GiveBack stamp) replies.GivenBack leads = keeps_given_back stamp right leads
+  kept_balance right (keeps.GiveBack stamp) (Refused (refusals.GiveBack unknown)) leads = λ purse accounts tidy h. nothing_spent leads.0 purse accounts h
+  kept_balance right (keeps.Retire now age) (replies.Retired stamps) leads = keeps_retired now age stamps right leads
+  kept_balance right (keeps.Retire now age) (Refused refusals.Memory) leads = λ purse accounts tidy h. nothing_spent leads purse accounts h
+  kept_balance right (keeps.Unpin stamp) replies.Unpinned leads = keeps_unpinned stamp right leads
+  kept_balance right (keeps.Unpin stamp) (Refused (refusals.Database e)) leads = λ purse accounts tidy h. nothing_spent leads.0 purse accounts h
+  kept_balance right keeps.Vacuum (replies.Vacuumed horizon) leads = λ purse accounts tidy h.
+      balance_same old new purse accounts (ap (λ (p : PortsValue). p.database.holds) leads.0) (ap (λ (p : PortsValue). p.cushion) leads.0) (ap (λ (p : PortsValue). stamps_of_pins p.spare) leads.0) h
+  kept_balance right keeps.Vacuum (Refused (refusals.Database e)) leads = λ purse accounts tidy h. nothing_spent leads.0 purse accounts h
+  kept_balance right (keeps.Query stamp query) (replies.Rows rows) leads = λ purse accounts tidy h. nothing_spent leads.0 purse accounts h
+  kept_balance right (keeps.Query stamp query) (Refused (refusals.Database e)) leads = λ purse accounts tidy h. nothing_spent leads.0 purse accounts h
+  kept_balance right (keeps.Advance node) (replies.Advanced advanced) leads = λ purse accounts tidy h. balance_led old new node _ leads purse accounts h
+  kept_balance right (keeps.Advance node) (Refused (refusals.Node e)) leads = λ purse accounts tidy h. balance_led old new node _ leads purse accounts h
+  kept_balance right (keeps.Advance node) (Refused refusals.NoNode) leads = λ purse accounts tidy h. nothing_spent leads.0 purse accounts h
+  kept_balance right (keeps.Sweep node horizon) (replies.Swept count) leads = λ purse accounts tidy h. balance_led old new node _ leads purse accounts h
+  kept_balance right (keeps.Sweep node horizon) (Refused (refusals.Node e)) leads = λ purse accounts tidy h. balance_led old new node _ leads purse accounts h
+  kept_balance right (keeps.Sweep node horizon) (Refused refusals.NoNode) leads = λ purse accounts tidy h. nothing_spent leads.0 purse accounts h
+  kept_balance right keep reply leads = absurd leads

@@ -6,23 +6,17 @@ use Rattle.std.proofs.lemmas.List.Sums.{sum_by-cons}
 use Rattle.std.proofs.lemmas.Option.{slice_get-map}
 use Rattle.std.proofs.lemmas.List.{map-set}
 use Rattle.std.specs.Option.{option_map}
-use Rattle.txc_db.specs.declared.error.DbError.TheVariants as errors
 use Rattle.txc_cushion.specs.Entries.{stamps_of, times}
 use Rattle.txc_world.specs.declared.actor.Actor.{Actor}
-use Rattle.txc_world.specs.declared.did.Did.{Did}
-use Rattle.txc_world.specs.declared.did.Did.TheVariants as dids
 use Rattle.txc_world.specs.declared.reply.Reply.{Reply}
-use Rattle.txc_world.specs.declared.reply.Reply.TheVariants as replies
-use Rattle.txc_world.specs.declared.reply.End.{End}
-use Rattle.txc_world.specs.declared.reply.Refusal.TheVariants as refusals
-use Rattle.txc_ports.specs.declared.error.TxnError.TheVariants as txns
 use Rattle.txc_world.specs.declared.settings.WorldSettings.{WorldSettings}
 use Rattle.txc_world.specs.declared.step.Step.{Step}
 use Rattle.txc_world.specs.Ports.{PortsValue}
 use Rattle.txc_world.specs.Keeping.{stamps_of as stamps_of_pins}
-use Rattle.txc_world.specs.Books.{account_at, account_of, books_of, nothing, Account, ActCounts, CountRight, HasLost, IsFair, IsLossOf}
+use Rattle.txc_world.specs.Books.{account_at, account_of, books_of, nothing, Account, ActCounts, CountRight, HasLost, IsFair}
 use Rattle.txc_world.specs.Tidy.{empty_purse, purse_after, purse_by, AreBalanced, AreTidy, IsTidy, LoseNoSnapshot, LosesNoSnapshot, LosesNothing, Purse}
 use Rattle.txc_world.specs.Worlds.{value_of, IsBalanced, WorldValue}
+use Rattle.txc_world.proofs.Losing.{reply_so}
 use Rattle.txc_world.proofs.Times.{sum_at, sum_set}
 use Rattle.txc_world.proofs.Stepping.{set_twice}
 
@@ -76,63 +70,8 @@ module _ (old new : PortsValue) (accounts : List Account) (place : ℕ) (before 
       let users = once.1 pins in
       absurd (omega (arith, a, b, c, d, e, gone, users))
 
-  did_not_lose : (did : Did) (end : Option End) → CountRight old → AreBalanced spare (books_of old accounts) purse → IsLossOf old before did → LosesNothing (replies.Asked did end)
-  did_not_lose (dids.Refused (errors.SnapshotGone horizon)) end right h lost = none_lost right h lost
-  did_not_lose (dids.Refused (errors.Conflict first)) end right h lost = tt
-  did_not_lose (dids.Refused errors.Full) end right h lost = tt
-  did_not_lose (dids.Refused (errors.Store cause)) end right h lost = tt
-  did_not_lose (dids.Refused errors.Broken) end right h lost = tt
-  did_not_lose (dids.Refused (errors.NotPinned named)) end right h lost = tt
-  did_not_lose (dids.Refused (errors.FutureStamp last)) end right h lost = tt
-  did_not_lose (dids.Refused errors.HoldsFull) end right h lost = tt
-  did_not_lose (dids.Refused errors.Memory) end right h lost = tt
-  did_not_lose (dids.Pinned stamp) end right h lost = tt
-  did_not_lose dids.Added end right h lost = tt
-  did_not_lose (dids.NotAdded e) end right h lost = tt
-  did_not_lose dids.Unpinned end right h lost = tt
-  did_not_lose (dids.Hit reach) end right h lost = tt
-  did_not_lose dids.Miss end right h lost = tt
-  did_not_lose (dids.Rows rows) end right h lost = tt
-  did_not_lose (dids.Stored reach) end right h lost = tt
-  did_not_lose dids.Kept end right h lost = tt
-  did_not_lose dids.Dropped end right h lost = tt
-
   loses_nothing : (reply : Reply) → CountRight old → AreBalanced spare (books_of old accounts) purse → ActCounts old new before after reply → LosesNothing reply
-  loses_nothing (replies.Asked did end) right h counts = did_not_lose did end right h counts.loss
-  loses_nothing replies.Begun right h counts = tt
-  loses_nothing replies.Started right h counts = tt
-  loses_nothing (replies.Ended end) right h counts = tt
-  loses_nothing (replies.Receipt pin) right h counts = tt
-  loses_nothing (replies.Aborted left) right h counts = tt
-  loses_nothing (replies.At stamp) right h counts = tt
-  loses_nothing replies.Added right h counts = tt
-  loses_nothing replies.GivenBack right h counts = tt
-  loses_nothing (replies.Retired stamps) right h counts = tt
-  loses_nothing replies.Unpinned right h counts = tt
-  loses_nothing (replies.Vacuumed horizon) right h counts = tt
-  loses_nothing (replies.Rows found) right h counts = tt
-  loses_nothing (replies.Advanced advanced) right h counts = tt
-  loses_nothing (replies.Swept count) right h counts = tt
-  loses_nothing (replies.Based base) right h counts = tt
-  loses_nothing (replies.Answered rows) right h counts = tt
-  loses_nothing replies.Kept right h counts = tt
-  loses_nothing (replies.Refused refusals.NoActor) right h counts = tt
-  loses_nothing (replies.Refused refusals.NoNode) right h counts = tt
-  loses_nothing (replies.Refused refusals.AlreadyOpen) right h counts = tt
-  loses_nothing (replies.Refused refusals.NotOpen) right h counts = tt
-  loses_nothing (replies.Refused refusals.MidCall) right h counts = tt
-  loses_nothing (replies.Refused refusals.NoRequest) right h counts = tt
-  loses_nothing (replies.Refused (refusals.Database e)) right h counts = tt
-  loses_nothing (replies.Refused (refusals.Pincushion e)) right h counts = tt
-  loses_nothing (replies.Refused (refusals.GiveBack e)) right h counts = tt
-  loses_nothing (replies.Refused (refusals.Node e)) right h counts = tt
-  loses_nothing (replies.Refused refusals.Memory) right h counts = tt
-  loses_nothing (replies.Refused (refusals.Transaction (txns.SnapshotLost horizon))) right h counts = none_lost right h counts.loss
-  loses_nothing (replies.Refused (refusals.Transaction (txns.Call cause))) right h counts = tt
-  loses_nothing (replies.Refused (refusals.Transaction (txns.Database cause))) right h counts = tt
-  loses_nothing (replies.Refused (refusals.Transaction txns.PinsFull)) right h counts = tt
-  loses_nothing (replies.Refused (refusals.Transaction txns.BufferFull)) right h counts = tt
-  loses_nothing (replies.Refused (refusals.Transaction txns.Memory)) right h counts = tt
+  loses_nothing reply right h counts = reply_so (HasLost old before) ⊥ (none_lost right h) reply counts.loss
 
 module _ {A C : Type 0} (settings : WorldSettings) (old new : PortsValue) (floors floors' : List ℕ) (actors : List (Option (Actor A C))) (place : ℕ) (actor actor' : Actor A C)
     (is : slice_get actors place ≡ Some (Some actor)) where

@@ -5,7 +5,6 @@ use Rattle.std.proofs.lemmas.List.{drop_all}
 use Rattle.std.proofs.lemmas.List.Elements.{All-head}
 use Rattle.std.specs.Prelude.{if◌then◌else◌}
 use Rattle.std.specs.List.{AllByRecursion}
-use Rattle.txc_stamp.specs.Interval.{Interval}
 use Rattle.txc_tags.specs.Keys.{Call}
 use Rattle.txc_rows.specs.declared.query.Query.{Query}
 use Rattle.txc_validity.specs.declared.answer.Found.{Found}
@@ -45,7 +44,9 @@ use Rattle.txc_world.specs.Keeping.{GiveBackLeads}
 use Rattle.txc_world.specs.declared.did.RowsFound.{RowsFound}
 use Rattle.txc_world.specs.declared.reply.Reply.{Reply}
 use Rattle.txc_world.specs.Actors.{counted, holds_any}
-use Rattle.txc_world.specs.Books.{account_of_core, gained, handed, listed, nothing, spent, Account, ActCounts, AskCounts, CountRight, HasLost, IsFair, IsGone, IsLossOf, ReplyIsLossOf}
+use Rattle.txc_world.specs.Books.{account_of_core, gained, handed, listed, nothing, spent, Account, ActCounts, AskCounts, CountRight, HasLost, IsFair, IsGone}
+use Rattle.txc_world.specs.Losing.{IfDidLose, IfReplyLost}
+use Rattle.txc_world.proofs.Losing.{did_so}
 use Rattle.txc_world.proofs.Times.{times_append, times_cons, times_off, times_one, times_there, times_without}
 
 -- ---- what is fair
@@ -124,50 +125,22 @@ module _ (p : PortsValue) (right : CountRight p) where
   pub gone_query : (query : Query) (stamp : ℕ) (e : DbError) → IsQueryRefused p.database query stamp e → IsGone (requests.Query query stamp) p (dids.Refused e)
   gone_query query stamp (errors.SnapshotGone horizon) h =
       none_held stamp p.database.horizon (newest p.database) p.database.holds h.1 (right.sound h.0).held
-  gone_query query stamp (errors.Conflict first) h = tt
-  gone_query query stamp errors.Full h = tt
-  gone_query query stamp (errors.Store cause) h = tt
-  gone_query query stamp errors.Broken h = tt
-  gone_query query stamp (errors.NotPinned named) h = tt
-  gone_query query stamp (errors.FutureStamp last) h = tt
-  gone_query query stamp errors.HoldsFull h = tt
-  gone_query query stamp errors.Memory h = tt
+  gone_query query stamp e h = tt
 
 gone_pin : (p : PortsValue) (now at_least : ℕ) (e : DbError) → IsPinRefused p.database at_least e → IsGone (requests.Pin now at_least) p (dids.Refused e)
 gone_pin p now at_least (errors.SnapshotGone horizon) h = h
-gone_pin p now at_least (errors.Conflict first) h = tt
-gone_pin p now at_least errors.Full h = tt
-gone_pin p now at_least (errors.Store cause) h = tt
-gone_pin p now at_least errors.Broken h = tt
-gone_pin p now at_least (errors.NotPinned named) h = tt
-gone_pin p now at_least (errors.FutureStamp last) h = tt
-gone_pin p now at_least errors.HoldsFull h = tt
-gone_pin p now at_least errors.Memory h = tt
+gone_pin p now at_least e h = tt
 
 gone_unpin : (p : PortsValue) (stamp : ℕ) (e : DbError) → IsUnpinRefused p.database stamp e → IsGone (requests.Unpin stamp) p (dids.Refused e)
 gone_unpin p stamp (errors.SnapshotGone horizon) h = h
-gone_unpin p stamp (errors.Conflict first) h = tt
-gone_unpin p stamp errors.Full h = tt
-gone_unpin p stamp (errors.Store cause) h = tt
-gone_unpin p stamp errors.Broken h = tt
-gone_unpin p stamp (errors.NotPinned named) h = tt
-gone_unpin p stamp (errors.FutureStamp last) h = tt
-gone_unpin p stamp errors.HoldsFull h = tt
-gone_unpin p stamp errors.Memory h = tt
+gone_unpin p stamp e h = tt
 
 -- ---- requests
 
 pub left_holds : (old new : DatabaseValue) (e : DbError) → IsLeft old new e → new.holds ≡ old.holds
-left_holds old new (errors.SnapshotGone horizon) left = ap (λ (d : DatabaseValue). d.holds) left
-left_holds old new (errors.Conflict first) left = ap (λ (d : DatabaseValue). d.holds) left
-left_holds old new errors.Full left = ap (λ (d : DatabaseValue). d.holds) left
-left_holds old new (errors.Store cause) left = ap (λ (d : DatabaseValue). d.holds) left
 left_holds old new errors.Broken (inl same) = ap (λ (d : DatabaseValue). d.holds) same.0
 left_holds old new errors.Broken (inr broke) = broke.holds
-left_holds old new (errors.NotPinned stamp) left = ap (λ (d : DatabaseValue). d.holds) left
-left_holds old new (errors.FutureStamp last) left = ap (λ (d : DatabaseValue). d.holds) left
-left_holds old new errors.HoldsFull left = ap (λ (d : DatabaseValue). d.holds) left
-left_holds old new errors.Memory left = ap (λ (d : DatabaseValue). d.holds) left
+left_holds old new e left = ap (λ (d : DatabaseValue). d.holds) left
 
 -- a pin holds the stamp of its event
 pub pin_holds : (old new : PortsValue) (now stamp : ℕ) → new.database ≡ after_pin old.database now → stamp ≡ newest new.database
@@ -251,12 +224,7 @@ spends c (requests.Insert node entry) asking = rw asking.0.0 refl
 -- what a reply brings comes to what was taken before
 brings : (t : ℕ) (taken : List ℕ) (reply : PortReply) → times t (taken_after taken reply) ≡ times t taken + times t (taken_after [] reply)
 brings t taken (replies.AddPin pinned (Ok added)) = times_append t taken (pinned.stamp ∷ [])
-brings t taken (replies.AddPin pinned (Err e)) = omega arith
-brings t taken (replies.Pin pinned) = omega arith
-brings t taken replies.Unpin = omega arith
-brings t taken (replies.Lookup hit) = omega arith
-brings t taken (replies.Query found) = omega arith
-brings t taken replies.Insert = omega arith
+brings t taken reply = omega arith
 
 pub fair_gone_on : (old new : PortsValue) (c c' : CoreValue) (request : PortRequest) (reply : PortReply) → IsAsking c request → IsFair old new (spent request) (gained reply)
     → c'.taken ≡ taken_after c.taken reply → left_pin c'.pinning ≡ left_after reply → IsFair old new (account_of_core c) (account_of_core c')
@@ -280,42 +248,27 @@ newest_taken now renew_after present (newest ∷ older) taken stamp is all = go 
     go true due = let no : Present ≡ At stamp = rw due at is in absurd (cc no)
     go false due = let same : At newest.stamp ≡ At stamp = rw due at is in let at : newest.stamp ≡ stamp = cc in subst (λ (s : ℕ). 0 < times s taken) at first
 
-module _ (next : Next) (objects : Objects) (p : PortsValue) (c : CoreValue) (fits : IsCore next objects c) where
-  lost : (request : PortRequest) (horizon : ℕ) → IsAsking c request → IsGone request p (dids.Refused (errors.SnapshotGone horizon)) → HasLost p (account_of_core c)
-  lost (requests.Query query stamp) horizon asking gone = record {
-    stamp = stamp;
-    had = let some = newest_taken c.bounds.now c.renew_after c.pins.has_present c.pins.members c.taken stamp asking.1 fits.taken in omega (arith, some);
-    lost = gone;
-  }
-  lost request horizon asking gone = absurd gone
+-- what is asked at a stamp that is gone, is asked at one that was taken
+pub loss_did : (next : Next) (objects : Objects) (p : PortsValue) (c : CoreValue) (request : PortRequest) (did : Did) → IsCore next objects c → IsAsking c request
+    → IsGone request p did → IfDidLose did (HasLost p (account_of_core c))
+loss_did next objects p c (requests.Query query stamp) did fits asking gone =
+    did_so (times stamp p.database.holds ≡ 0) (HasLost p (account_of_core c))
+    (λ none. record {
+      stamp = stamp;
+      had = let some = newest_taken c.bounds.now c.renew_after c.pins.has_present c.pins.members c.taken stamp asking.1 fits.taken in omega (arith, some);
+      lost = none;
+    })
+    did gone
+loss_did next objects p c request did fits asking gone = did_so ⊥ (HasLost p (account_of_core c)) (λ no. absurd no) did gone
 
-  lost_refused : (request : PortRequest) (e : DbError) → IsAsking c request → IsGone request p (dids.Refused e) → IsLossOf p (account_of_core c) (dids.Refused e)
-  lost_refused request (errors.SnapshotGone horizon) asking gone = lost request horizon asking gone
-  lost_refused request (errors.Conflict first) asking gone = tt
-  lost_refused request errors.Full asking gone = tt
-  lost_refused request (errors.Store cause) asking gone = tt
-  lost_refused request errors.Broken asking gone = tt
-  lost_refused request (errors.NotPinned named) asking gone = tt
-  lost_refused request (errors.FutureStamp last) asking gone = tt
-  lost_refused request errors.HoldsFull asking gone = tt
-  lost_refused request errors.Memory asking gone = tt
-
-  lost_hit : (members : List Pin) (reach : Interval) (b : Bool) → IsLossOf p (account_of_core c) (if b then dids.Hit reach else dids.Miss)
-  lost_hit members reach true = tt
-  lost_hit members reach false = tt
-
-  pub loss_counted : (members : List Pin) (request : PortRequest) (did : Did) → IsAsking c request → IsGone request p did → IsLossOf p (account_of_core c) (counted members did)
-  loss_counted members request (dids.Refused e) asking gone = lost_refused request e asking gone
-  loss_counted members request (dids.Hit reach) asking gone = lost_hit members reach (holds_any reach members)
-  loss_counted members request (dids.Pinned stamp) asking gone = tt
-  loss_counted members request dids.Added asking gone = tt
-  loss_counted members request (dids.NotAdded e) asking gone = tt
-  loss_counted members request dids.Unpinned asking gone = tt
-  loss_counted members request dids.Miss asking gone = tt
-  loss_counted members request (dids.Rows rows) asking gone = tt
-  loss_counted members request (dids.Stored reach) asking gone = tt
-  loss_counted members request dids.Kept asking gone = tt
-  loss_counted members request dids.Dropped asking gone = tt
+-- a hit that holds no member loses nothing either
+pub loss_counted : (P : Type 0) (members : List Pin) (did : Did) → IfDidLose did P → IfDidLose (counted members did) P
+loss_counted P members (dids.Hit reach) lost = go (holds_any reach members)
+  where
+    go : (b : Bool) → IfDidLose (if b then dids.Hit reach else dids.Miss) P
+    go true = tt
+    go false = tt
+loss_counted P members did lost = lost
 
 -- ---- the ends of a transaction
 
@@ -325,19 +278,11 @@ pub fair_ended : {A : Type 0} → (old new : PortsValue) (c : CoreValue) (stamps
 fair_ended old new c stamps given law leads same rest fewer =
     fair_give_back old new stamps given law leads c.taken [] (listed (left_pin c.pinning)) rest (λ t. rw same (omega arith)) fewer
 
-pub loss_unpin : (p : PortsValue) (a : Account) (stamp : ℕ) (e : DbError) → IsUnpinRefused p.database stamp e → IsLossOf p a (dids.Refused e)
-loss_unpin p a stamp (errors.SnapshotGone horizon) h = absurd h
-loss_unpin p a stamp (errors.Conflict first) h = tt
-loss_unpin p a stamp errors.Full h = tt
-loss_unpin p a stamp (errors.Store cause) h = tt
-loss_unpin p a stamp errors.Broken h = tt
-loss_unpin p a stamp (errors.NotPinned named) h = tt
-loss_unpin p a stamp (errors.FutureStamp last) h = tt
-loss_unpin p a stamp errors.HoldsFull h = tt
-loss_unpin p a stamp errors.Memory h = tt
+pub loss_unpin : (p : PortsValue) (a : Account) (stamp : ℕ) (e : DbError) → IsUnpinRefused p.database stamp e → IfDidLose (dids.Refused e) (HasLost p a)
+loss_unpin p a stamp e h = did_so ⊥ (HasLost p a) (λ no. absurd no) (dids.Refused e) (gone_unpin p stamp e h)
 
 -- a step that leaves the ports and the account
-pub counts_itself : (p : PortsValue) (a : Account) (reply : Reply) → ReplyIsLossOf p a reply → ActCounts p p a a reply
+pub counts_itself : (p : PortsValue) (a : Account) (reply : Reply) → IfReplyLost reply (HasLost p a) → ActCounts p p a a reply
 counts_itself p a reply loss = record { fair = fair_itself p a; loss = loss }
 
 -- one pin after another is given back

@@ -1,5 +1,5 @@
 -- What actors are told of transactions that begin in their sessions.
-use Rattle.std.proofs.Common.{◌≡◌, ◌∙◌, ℕ, zero, suc, ◌+◌, ◌<◌, ◌≤◌, max, List, [], ◌∷◌, ◌++◌, length, Option, Some, None, refl, sym, ap, subst, take, arith, slice_get, slice_set}
+use Rattle.std.proofs.Common.{◌≡◌, ◌∙◌, ℕ, zero, suc, ◌+◌, ◌<◌, ◌≤◌, List, [], ◌∷◌, ◌++◌, length, Option, Some, None, refl, sym, ap, subst, take, arith, slice_get, slice_set}
 use Rattle.std.proofs.Math.Seq.{take-length}
 use Rattle.std.specs.Prelude.{MatchOption}
 use Rattle.std.specs.List.{AllByRecursion}
@@ -15,7 +15,7 @@ use Rattle.txc_world.specs.declared.reply.End.{End}
 use Rattle.txc_world.specs.declared.reply.End.TheVariants as ends
 use Rattle.txc_world.specs.declared.reply.Reply.{Reply}
 use Rattle.txc_world.specs.declared.reply.Reply.TheVariants as replies
-use Rattle.txc_world.specs.Told.{Reading, Writing, Story, idle, reading, writing, leaving, Told, act_at, after, after_end, begin_at, floor_at, floor_by, story_after, AreExplained, IsCommitOf, IsExplainedIn, IsNoCommit, IsReceiptOf, ReplyExplains}
+use Rattle.txc_world.specs.Told.{Reading, Story, idle, reading, writing, leaving, Told, act_at, after, after_end, begin_at, floor_at, floor_by, story_after, AreExplained, IsCommitOf, IsExplainedIn, IsReceiptOf, ReplyExplains}
 use Rattle.txc_world.specs.Sessions.{replied, BeganNone, HaveBegunNone, HaveToldAtMost, NobodyGoesBack, ToldAtMost}
 use Rattle.txc_world.proofs.Stepping.{set_length}
 
@@ -35,26 +35,10 @@ floors_rise (f ∷ fs) (suc at) zero raise up = omega arith
 floors_rise (f ∷ fs) (suc at) (suc place) raise up = floors_rise fs at place raise up
 
 reply_raises : (reply : Reply) (floor : ℕ) → floor ≤ floor_by reply floor
-reply_raises replies.Begun floor = omega arith
-reply_raises (replies.Based base) floor = omega arith
-reply_raises replies.Started floor = omega arith
-reply_raises (replies.Asked did end) floor = omega arith
-reply_raises (replies.Ended end) floor = omega arith
-reply_raises (replies.Answered rows) floor = omega arith
-reply_raises replies.Kept floor = omega arith
 reply_raises (replies.Receipt None) floor = omega arith
 reply_raises (replies.Receipt (Some pin)) floor = omega arith
-reply_raises (replies.Aborted left) floor = omega arith
 reply_raises (replies.At stamp) floor = omega arith
-reply_raises replies.Added floor = omega arith
-reply_raises replies.GivenBack floor = omega arith
-reply_raises (replies.Retired stamps) floor = omega arith
-reply_raises replies.Unpinned floor = omega arith
-reply_raises (replies.Vacuumed horizon) floor = omega arith
-reply_raises (replies.Rows found) floor = omega arith
-reply_raises (replies.Advanced advanced) floor = omega arith
-reply_raises (replies.Swept count) floor = omega arith
-reply_raises (replies.Refused refusal) floor = omega arith
+reply_raises reply floor = omega arith
 
 -- each actor has a session
 abbrev pub HasSessions : Told → Type 0
@@ -132,36 +116,10 @@ module _ (next : Next) (L : History) (told : Told) (has : HasSessions told) (pla
 
   told_low : (step : Step) (reply : Reply) → IsExplainedIn next L told step reply → floor_at (after told step reply).floors place ≤ most
       → ToldAtMost place most step reply
-  told_low (Keeper keep) reply h low = tt
-  told_low (BeginIn at now staleness) reply h low = tt
-  told_low (Actor at (BeginRo bounds)) reply h low = tt
-  told_low (Actor at BeginRw) reply h low = tt
-  told_low (Actor at (Start key)) reply h low = tt
-  told_low (Actor at Request) reply h low = tt
-  told_low (Actor at (Ask query)) reply h low = tt
-  told_low (Actor at (Write change)) reply h low = tt
-  told_low (Actor at Abort) reply h low = tt
-  told_low (Actor at Commit) replies.Begun h low = tt
-  told_low (Actor at Commit) (replies.Based base) h low = tt
-  told_low (Actor at Commit) replies.Started h low = tt
-  told_low (Actor at Commit) (replies.Asked did end) h low = tt
-  told_low (Actor at Commit) (replies.Ended end) h low = tt
-  told_low (Actor at Commit) (replies.Answered rows) h low = tt
-  told_low (Actor at Commit) replies.Kept h low = tt
-  told_low (Actor at Commit) (replies.Receipt None) h low = tt
   told_low (Actor at Commit) (replies.Receipt (Some pin)) h low =
       stamp_low at pin.stamp (replies.Receipt (Some pin)) (λ floor. omega arith) (slice_get told.actors at) refl h low
-  told_low (Actor at Commit) (replies.Aborted left) h low = tt
   told_low (Actor at Commit) (replies.At stamp) h low = stamp_low at stamp (replies.At stamp) (λ floor. omega arith) (slice_get told.actors at) refl h low
-  told_low (Actor at Commit) replies.Added h low = tt
-  told_low (Actor at Commit) replies.GivenBack h low = tt
-  told_low (Actor at Commit) (replies.Retired stamps) h low = tt
-  told_low (Actor at Commit) replies.Unpinned h low = tt
-  told_low (Actor at Commit) (replies.Vacuumed horizon) h low = tt
-  told_low (Actor at Commit) (replies.Rows found) h low = tt
-  told_low (Actor at Commit) (replies.Advanced advanced) h low = tt
-  told_low (Actor at Commit) (replies.Swept count) h low = tt
-  told_low (Actor at Commit) (replies.Refused refusal) h low = tt
+  told_low step reply h low = tt
 
 before_low : (next : Next) (told : Told) (xs : List (Step × Reply)) (place most : ℕ) → HasSessions told → AreExplainedThrough next told xs
     → floor_at (told_through told xs).floors place ≤ most → HaveToldAtMost place most xs
@@ -193,176 +151,17 @@ module _ (P : ℕ → Type 0) where
 
   act_reads : (act : Act) (reply : Reply) (story : Story) → NotBegun reply → ReadsFrom P story → ReadsFrom P (story_after act reply story)
   act_reads (BeginRo bounds) replies.Begun story new h = absurd new
-  act_reads (BeginRo bounds) (replies.Based base) story new h = h
-  act_reads (BeginRo bounds) replies.Started story new h = h
-  act_reads (BeginRo bounds) (replies.Asked did end) story new h = h
-  act_reads (BeginRo bounds) (replies.Ended end) story new h = h
-  act_reads (BeginRo bounds) (replies.Answered rows) story new h = h
-  act_reads (BeginRo bounds) replies.Kept story new h = h
-  act_reads (BeginRo bounds) (replies.Receipt pin) story new h = h
-  act_reads (BeginRo bounds) (replies.Aborted left) story new h = h
-  act_reads (BeginRo bounds) (replies.At stamp) story new h = h
-  act_reads (BeginRo bounds) replies.Added story new h = h
-  act_reads (BeginRo bounds) replies.GivenBack story new h = h
-  act_reads (BeginRo bounds) (replies.Retired stamps) story new h = h
-  act_reads (BeginRo bounds) replies.Unpinned story new h = h
-  act_reads (BeginRo bounds) (replies.Vacuumed horizon) story new h = h
-  act_reads (BeginRo bounds) (replies.Rows found) story new h = h
-  act_reads (BeginRo bounds) (replies.Advanced advanced) story new h = h
-  act_reads (BeginRo bounds) (replies.Swept count) story new h = h
-  act_reads (BeginRo bounds) (replies.Refused refusal) story new h = h
-  act_reads BeginRw replies.Begun story new h = h
   act_reads BeginRw (replies.Based base) story new h = tt
-  act_reads BeginRw replies.Started story new h = h
-  act_reads BeginRw (replies.Asked did end) story new h = h
-  act_reads BeginRw (replies.Ended end) story new h = h
-  act_reads BeginRw (replies.Answered rows) story new h = h
-  act_reads BeginRw replies.Kept story new h = h
-  act_reads BeginRw (replies.Receipt pin) story new h = h
-  act_reads BeginRw (replies.Aborted left) story new h = h
-  act_reads BeginRw (replies.At stamp) story new h = h
-  act_reads BeginRw replies.Added story new h = h
-  act_reads BeginRw replies.GivenBack story new h = h
-  act_reads BeginRw (replies.Retired stamps) story new h = h
-  act_reads BeginRw replies.Unpinned story new h = h
-  act_reads BeginRw (replies.Vacuumed horizon) story new h = h
-  act_reads BeginRw (replies.Rows found) story new h = h
-  act_reads BeginRw (replies.Advanced advanced) story new h = h
-  act_reads BeginRw (replies.Swept count) story new h = h
-  act_reads BeginRw (replies.Refused refusal) story new h = h
-  act_reads (Start key) replies.Begun story new h = h
-  act_reads (Start key) (replies.Based base) story new h = h
-  act_reads (Start key) replies.Started idle new h = h
   act_reads (Start key) replies.Started (reading r) new h = h
-  act_reads (Start key) replies.Started (writing w) new h = tt
-  act_reads (Start key) replies.Started (leaving held) new h = h
-  act_reads (Start key) (replies.Asked did end) story new h = h
-  act_reads (Start key) (replies.Ended end) story new h = h
-  act_reads (Start key) (replies.Answered rows) story new h = h
-  act_reads (Start key) replies.Kept story new h = h
-  act_reads (Start key) (replies.Receipt pin) story new h = h
-  act_reads (Start key) (replies.Aborted left) story new h = h
-  act_reads (Start key) (replies.At stamp) story new h = h
-  act_reads (Start key) replies.Added story new h = h
-  act_reads (Start key) replies.GivenBack story new h = h
-  act_reads (Start key) (replies.Retired stamps) story new h = h
-  act_reads (Start key) replies.Unpinned story new h = h
-  act_reads (Start key) (replies.Vacuumed horizon) story new h = h
-  act_reads (Start key) (replies.Rows found) story new h = h
-  act_reads (Start key) (replies.Advanced advanced) story new h = h
-  act_reads (Start key) (replies.Swept count) story new h = h
-  act_reads (Start key) (replies.Refused refusal) story new h = h
-  act_reads Request replies.Begun story new h = h
-  act_reads Request (replies.Based base) story new h = h
-  act_reads Request replies.Started story new h = h
-  act_reads Request (replies.Asked did end) idle new h = h
   act_reads Request (replies.Asked did end) (reading r) new h = end_reads end r h
-  act_reads Request (replies.Asked did end) (writing w) new h = tt
-  act_reads Request (replies.Asked did end) (leaving held) new h = tt
-  act_reads Request (replies.Ended end) idle new h = h
   act_reads Request (replies.Ended end) (reading r) new h = end_reads (Some end) r h
-  act_reads Request (replies.Ended end) (writing w) new h = tt
-  act_reads Request (replies.Ended end) (leaving held) new h = h
-  act_reads Request (replies.Answered rows) story new h = h
-  act_reads Request replies.Kept story new h = h
-  act_reads Request (replies.Receipt pin) story new h = h
-  act_reads Request (replies.Aborted left) story new h = h
-  act_reads Request (replies.At stamp) story new h = h
-  act_reads Request replies.Added story new h = h
-  act_reads Request replies.GivenBack story new h = h
-  act_reads Request (replies.Retired stamps) story new h = h
-  act_reads Request replies.Unpinned story new h = h
-  act_reads Request (replies.Vacuumed horizon) story new h = h
-  act_reads Request (replies.Rows found) story new h = h
-  act_reads Request (replies.Advanced advanced) story new h = h
-  act_reads Request (replies.Swept count) story new h = h
-  act_reads Request (replies.Refused refusal) story new h = h
-  act_reads (Ask query) replies.Begun story new h = h
-  act_reads (Ask query) (replies.Based base) story new h = h
-  act_reads (Ask query) replies.Started story new h = h
-  act_reads (Ask query) (replies.Asked did end) story new h = h
-  act_reads (Ask query) (replies.Ended end) story new h = h
-  act_reads (Ask query) (replies.Answered rows) idle new h = h
-  act_reads (Ask query) (replies.Answered rows) (reading r) new h = h
   act_reads (Ask query) (replies.Answered rows) (writing w) new h = tt
-  act_reads (Ask query) (replies.Answered rows) (leaving held) new h = h
-  act_reads (Ask query) replies.Kept story new h = h
-  act_reads (Ask query) (replies.Receipt pin) story new h = h
-  act_reads (Ask query) (replies.Aborted left) story new h = h
-  act_reads (Ask query) (replies.At stamp) story new h = h
-  act_reads (Ask query) replies.Added story new h = h
-  act_reads (Ask query) replies.GivenBack story new h = h
-  act_reads (Ask query) (replies.Retired stamps) story new h = h
-  act_reads (Ask query) replies.Unpinned story new h = h
-  act_reads (Ask query) (replies.Vacuumed horizon) story new h = h
-  act_reads (Ask query) (replies.Rows found) story new h = h
-  act_reads (Ask query) (replies.Advanced advanced) story new h = h
-  act_reads (Ask query) (replies.Swept count) story new h = h
-  act_reads (Ask query) (replies.Refused refusal) story new h = h
-  act_reads (Write change) replies.Begun story new h = h
-  act_reads (Write change) (replies.Based base) story new h = h
-  act_reads (Write change) replies.Started story new h = h
-  act_reads (Write change) (replies.Asked did end) story new h = h
-  act_reads (Write change) (replies.Ended end) story new h = h
-  act_reads (Write change) (replies.Answered rows) story new h = h
-  act_reads (Write change) replies.Kept idle new h = h
-  act_reads (Write change) replies.Kept (reading r) new h = h
   act_reads (Write change) replies.Kept (writing w) new h = tt
-  act_reads (Write change) replies.Kept (leaving held) new h = h
-  act_reads (Write change) (replies.Receipt pin) story new h = h
-  act_reads (Write change) (replies.Aborted left) story new h = h
-  act_reads (Write change) (replies.At stamp) story new h = h
-  act_reads (Write change) replies.Added story new h = h
-  act_reads (Write change) replies.GivenBack story new h = h
-  act_reads (Write change) (replies.Retired stamps) story new h = h
-  act_reads (Write change) replies.Unpinned story new h = h
-  act_reads (Write change) (replies.Vacuumed horizon) story new h = h
-  act_reads (Write change) (replies.Rows found) story new h = h
-  act_reads (Write change) (replies.Advanced advanced) story new h = h
-  act_reads (Write change) (replies.Swept count) story new h = h
-  act_reads (Write change) (replies.Refused refusal) story new h = h
-  act_reads Commit replies.Begun story new h = h
-  act_reads Commit (replies.Based base) story new h = h
-  act_reads Commit replies.Started story new h = h
-  act_reads Commit (replies.Asked did end) story new h = h
-  act_reads Commit (replies.Ended end) story new h = h
-  act_reads Commit (replies.Answered rows) story new h = h
-  act_reads Commit replies.Kept story new h = h
   act_reads Commit (replies.Receipt pin) story new h = tt
-  act_reads Commit (replies.Aborted left) story new h = h
-  act_reads Commit (replies.At stamp) idle new h = h
-  act_reads Commit (replies.At stamp) (reading r) new h = h
   act_reads Commit (replies.At stamp) (writing w) new h = tt
-  act_reads Commit (replies.At stamp) (leaving held) new h = h
-  act_reads Commit replies.Added story new h = h
-  act_reads Commit replies.GivenBack story new h = h
-  act_reads Commit (replies.Retired stamps) story new h = h
-  act_reads Commit replies.Unpinned story new h = h
-  act_reads Commit (replies.Vacuumed horizon) story new h = h
-  act_reads Commit (replies.Rows found) story new h = h
-  act_reads Commit (replies.Advanced advanced) story new h = h
-  act_reads Commit (replies.Swept count) story new h = h
-  act_reads Commit (replies.Refused refusal) story new h = h
-  act_reads Abort replies.Begun story new h = h
-  act_reads Abort (replies.Based base) story new h = h
-  act_reads Abort replies.Started story new h = h
-  act_reads Abort (replies.Asked did end) story new h = h
-  act_reads Abort (replies.Ended end) story new h = h
-  act_reads Abort (replies.Answered rows) story new h = h
-  act_reads Abort replies.Kept story new h = h
-  act_reads Abort (replies.Receipt pin) story new h = h
   act_reads Abort (replies.Aborted None) story new h = tt
   act_reads Abort (replies.Aborted (Some held)) story new h = tt
-  act_reads Abort (replies.At stamp) story new h = h
-  act_reads Abort replies.Added story new h = h
-  act_reads Abort replies.GivenBack story new h = h
-  act_reads Abort (replies.Retired stamps) story new h = h
-  act_reads Abort replies.Unpinned story new h = h
-  act_reads Abort (replies.Vacuumed horizon) story new h = h
-  act_reads Abort (replies.Rows found) story new h = h
-  act_reads Abort (replies.Advanced advanced) story new h = h
-  act_reads Abort (replies.Swept count) story new h = h
-  act_reads Abort (replies.Refused refusal) story new h = h
+  act_reads act reply story new h = h
 
 -- what is set at a place is there
 set_there : (stories : List Story) (at : ℕ) (new story : Story) → slice_get (slice_set stories at new) at ≡ Some story → new ≡ story
@@ -393,45 +192,11 @@ module _ (P : ℕ → Type 0) (place : ℕ) where
 
   not_begun : (at : ℕ) (act : Act) (reply : Reply) → BeganNone place (Actor at act) reply → at ≡ place → NotBegun reply
   not_begun at act replies.Begun none same = absurd (none same)
-  not_begun at act (replies.Based base) none same = tt
-  not_begun at act replies.Started none same = tt
-  not_begun at act (replies.Asked did end) none same = tt
-  not_begun at act (replies.Ended end) none same = tt
-  not_begun at act (replies.Answered rows) none same = tt
-  not_begun at act replies.Kept none same = tt
-  not_begun at act (replies.Receipt pin) none same = tt
-  not_begun at act (replies.Aborted left) none same = tt
-  not_begun at act (replies.At stamp) none same = tt
-  not_begun at act replies.Added none same = tt
-  not_begun at act replies.GivenBack none same = tt
-  not_begun at act (replies.Retired stamps) none same = tt
-  not_begun at act replies.Unpinned none same = tt
-  not_begun at act (replies.Vacuumed horizon) none same = tt
-  not_begun at act (replies.Rows found) none same = tt
-  not_begun at act (replies.Advanced advanced) none same = tt
-  not_begun at act (replies.Swept count) none same = tt
-  not_begun at act (replies.Refused refusal) none same = tt
+  not_begun at act reply none same = tt
 
   not_begun_in : (at now staleness : ℕ) (reply : Reply) → BeganNone place (BeginIn at now staleness) reply → at ≡ place → NotBegun reply
   not_begun_in at now staleness replies.Begun none same = absurd (none same)
-  not_begun_in at now staleness (replies.Based base) none same = tt
-  not_begun_in at now staleness replies.Started none same = tt
-  not_begun_in at now staleness (replies.Asked did end) none same = tt
-  not_begun_in at now staleness (replies.Ended end) none same = tt
-  not_begun_in at now staleness (replies.Answered rows) none same = tt
-  not_begun_in at now staleness replies.Kept none same = tt
-  not_begun_in at now staleness (replies.Receipt pin) none same = tt
-  not_begun_in at now staleness (replies.Aborted left) none same = tt
-  not_begun_in at now staleness (replies.At stamp) none same = tt
-  not_begun_in at now staleness replies.Added none same = tt
-  not_begun_in at now staleness replies.GivenBack none same = tt
-  not_begun_in at now staleness (replies.Retired stamps) none same = tt
-  not_begun_in at now staleness replies.Unpinned none same = tt
-  not_begun_in at now staleness (replies.Vacuumed horizon) none same = tt
-  not_begun_in at now staleness (replies.Rows found) none same = tt
-  not_begun_in at now staleness (replies.Advanced advanced) none same = tt
-  not_begun_in at now staleness (replies.Swept count) none same = tt
-  not_begun_in at now staleness (replies.Refused refusal) none same = tt
+  not_begun_in at now staleness reply none same = tt
 
   step_reads : (told : Told) (step : Step) (reply : Reply) → BeganNone place step reply → Reads told → Reads (after told step reply)
   step_reads told (Actor at act) reply none h = place_reads told at act reply (not_begun at act reply none) h (slice_get told.actors at) refl
@@ -502,35 +267,9 @@ module _ (next : Next) (L : History) (told : Told) (place : ℕ) where
 
   told_none : (most : ℕ) (step : Step) (reply : Reply) → IsExplainedIn next L told step reply → (Reads (λ n. ⊥) place (after told step reply) → ⊥)
       → ToldAtMost place most step reply
-  told_none most (Keeper keep) reply h ends = tt
-  told_none most (BeginIn at now staleness) reply h ends = tt
-  told_none most (Actor at (BeginRo bounds)) reply h ends = tt
-  told_none most (Actor at BeginRw) reply h ends = tt
-  told_none most (Actor at (Start key)) reply h ends = tt
-  told_none most (Actor at Request) reply h ends = tt
-  told_none most (Actor at (Ask query)) reply h ends = tt
-  told_none most (Actor at (Write change)) reply h ends = tt
-  told_none most (Actor at Abort) reply h ends = tt
-  told_none most (Actor at Commit) replies.Begun h ends = tt
-  told_none most (Actor at Commit) (replies.Based base) h ends = tt
-  told_none most (Actor at Commit) replies.Started h ends = tt
-  told_none most (Actor at Commit) (replies.Asked did end) h ends = tt
-  told_none most (Actor at Commit) (replies.Ended end) h ends = tt
-  told_none most (Actor at Commit) (replies.Answered rows) h ends = tt
-  told_none most (Actor at Commit) replies.Kept h ends = tt
-  told_none most (Actor at Commit) (replies.Receipt None) h ends = tt
   told_none most (Actor at Commit) (replies.Receipt (Some pin)) h ends = λ same. absurd (ends (receipt_ends at (Some pin) same h))
-  told_none most (Actor at Commit) (replies.Aborted left) h ends = tt
   told_none most (Actor at Commit) (replies.At stamp) h ends = λ same. absurd (ends (commit_ends at stamp same h))
-  told_none most (Actor at Commit) replies.Added h ends = tt
-  told_none most (Actor at Commit) replies.GivenBack h ends = tt
-  told_none most (Actor at Commit) (replies.Retired stamps) h ends = tt
-  told_none most (Actor at Commit) replies.Unpinned h ends = tt
-  told_none most (Actor at Commit) (replies.Vacuumed horizon) h ends = tt
-  told_none most (Actor at Commit) (replies.Rows found) h ends = tt
-  told_none most (Actor at Commit) (replies.Advanced advanced) h ends = tt
-  told_none most (Actor at Commit) (replies.Swept count) h ends = tt
-  told_none most (Actor at Commit) (replies.Refused refusal) h ends = tt
+  told_none most step reply h ends = tt
 
 -- a transaction that is committed has been open since it began
 between_low : (next : Next) (L : History) (told : Told) (xs : List (Step × Reply)) (place : ℕ) (pin : Pin) → HaveBegunNone place xs → AreExplainedThrough next told xs

@@ -3,14 +3,16 @@ use Rattle.std.proofs.Common.{◌≡◌, ◌∙◌, ℕ, ◌+◌, ◌<◌, ◌�
 use Rattle.std.specs.Prelude.{if◌then◌else◌}
 use Rattle.std.proofs.lemmas.Bool.Decides.{nat_tests}
 use Rattle.std.proofs.lemmas.List.{map-append}
+use Rattle.std.proofs.lemmas.Option.{slice_get_within}
 use Rattle.txc_tags.specs.declared.tag.Tag.{Tag}
 use Rattle.txc_rows.specs.declared.query.Change.{Change}
 use Rattle.txc_db.specs.declared.error.DbError.{DbError}
 use Rattle.txc_db.specs.declared.pinned.Pinned.{Pinned}
 use Rattle.txc_db.specs.Facts.{EventValue}
-use Rattle.txc_db.specs.History.{commit_event, pin_event}
+use Rattle.txc_db.specs.History.{History, commit_event, pin_event}
 use Rattle.txc_db.specs.DatabaseValue.{DatabaseValue, after_commit, after_event_of, is_held, newest, newest_net, newest_state, where_some}
 use Rattle.txc_cushion.specs.declared.error.AddError.{AddError}
+use Rattle.txc_world.specs.declared.step.Keep.{Keep}
 use Rattle.txc_world.specs.declared.step.Keep.TheVariants as keeps
 use Rattle.txc_world.specs.declared.reply.Reply.{Reply}
 use Rattle.txc_world.specs.declared.reply.Reply.TheVariants as replies
@@ -18,9 +20,8 @@ use Rattle.txc_world.specs.declared.reply.Reply.TheVariants.{Refused}
 use Rattle.txc_world.specs.declared.reply.Refusal.TheVariants as refusals
 use Rattle.txc_world.specs.Ports.{PortsValue, HasRefused, HasLedNode, KeepsRow}
 use Rattle.txc_world.specs.Keeping.{stamps_of, CommitLeads, HasPinnedSpare, WriteLeads, AddSpareLeads}
-use Rattle.txc_world.specs.Kept.{told_addition, IsKept}
-use Rattle.txc_world.specs.Tidy.{KeepsBalance}
-use Rattle.txc_world.specs.Told.{commit_in, keep_in, IsDueOr}
+use Rattle.txc_world.specs.Kept.{told_addition, IsKept, KeepLeads}
+use Rattle.txc_world.specs.Told.{commit_in, keep_in, spare_after, IsDueOr, IsKeepDue, IsNoReceipt}
 use Rattle.txc_shared.specs.Nodes.{NodeValue}
 use Rattle.txc_world.proofs.PortsLemmas.{left_history}
 
@@ -95,42 +96,83 @@ due_no_node node nodes Suits above =
     let is : nat_lt node nodes ≡ false = grind (arith, nat_tests) in
     subst (λ (b : Bool). IsDueOr (if b then None else Some refusals.NoNode) Suits (Refused refusals.NoNode)) (sym is) refl
 
--- a node led on leaves the history and the keeper's pins
-pub led_history : (old new : PortsValue) (at : ℕ) (leads : NodeValue → NodeValue → Type 0) → HasLedNode at leads old new
-    → new.database.history ≡ old.database.history
-led_history old new at leads h = ap (λ (p : PortsValue). p.database.history) h.is
+-- ---- what is told of a step, by what it leads to
 
-pub led_spare : (old new : PortsValue) (at : ℕ) (leads : NodeValue → NodeValue → Type 0) → HasLedNode at leads old new
-    → stamps_of new.spare ≡ stamps_of old.spare
-led_spare old new at leads h = ap (λ (p : PortsValue). stamps_of p.spare) h.is
-
--- an addition is told so
+-- an addition
 pub kept_addition : (old new : PortsValue) (stamp : ℕ) (added : Option (Result (Unit {0}) AddError)) → AddSpareLeads stamp old new added
-    → KeepsRow old new → KeepsBalance (keeps.Add stamp) old new (told_addition added) → IsKept (keeps.Add stamp) old new (told_addition added)
-kept_addition old new stamp (Some (Ok added)) leads keeps balance = record {
-  leads = leads;
-  history = ap (λ (p : PortsValue). p.database.history) leads.added.0;
-  spare = leads.spare;
-  due = due_held (length old.nodes) stamp (stamps_of old.spare) replies.Added _ leads.held tt;
-  no_receipt = tt;
-  keeps = keeps;
-  balance = balance;
-}
-kept_addition old new stamp (Some (Err e)) leads keeps balance = record {
-  leads = leads;
-  history = ap (λ (p : PortsValue). p.database.history) leads.added.0;
-  spare = leads.spare;
-  due = due_held (length old.nodes) stamp (stamps_of old.spare) (Refused (refusals.Pincushion e)) _ leads.held tt;
-  no_receipt = tt;
-  keeps = keeps;
-  balance = balance;
-}
-kept_addition old new stamp None leads keeps balance = record {
-  leads = leads;
-  history = ap (λ (p : PortsValue). p.database.history) leads.0;
-  spare = ap (λ (p : PortsValue). stamps_of p.spare) leads.0;
-  due = due_not_held stamp (stamps_of old.spare) _ leads.1;
-  no_receipt = tt;
-  keeps = keeps;
-  balance = balance;
-}
+    → KeepsRow old new → IsKept (keeps.Add stamp) old new (told_addition added)
+kept_addition old new stamp (Some (Ok added)) leads keeps = record { leads = leads; keeps = keeps }
+kept_addition old new stamp (Some (Err e)) leads keeps = record { leads = leads; keeps = keeps }
+kept_addition old new stamp None leads keeps = record { leads = leads; keeps = keeps }
+
+module _ (old new : PortsValue) where
+  -- all else stays
+  abbrev pub TellsOf : History → List ℕ → Type 0
+  TellsOf history spare = (new.database.history ≡ history) × (stamps_of new.spare ≡ spare)
+
+  tells_so : (p : PortsValue) → new ≡ p → TellsOf p.database.history (stamps_of p.spare)
+  tells_so p is = (ap (λ (q : PortsValue). q.database.history) is, ap (λ (q : PortsValue). stamps_of q.spare) is)
+
+  pub kept_told : (keep : Keep) (reply : Reply) → KeepLeads keep old new reply
+      → TellsOf (keep_in keep reply old.database.history) (spare_after keep reply (stamps_of old.spare))
+  kept_told (keeps.Write change) (replies.At stamp) leads = (written old new change stamp leads, ap (λ (p : PortsValue). stamps_of p.spare) leads.0)
+  kept_told (keeps.Write change) (Refused (refusals.Database e)) leads = (refused_history old new e leads.0, refused_spare old new e leads.0)
+  kept_told (keeps.Pin now) (replies.At stamp) leads = (pinned_spare_history old new now stamp leads, pinned_spare_stamps old new now stamp leads)
+  kept_told (keeps.Pin now) (Refused (refusals.Database e)) leads = (refused_history old new e leads.0, refused_spare old new e leads.0)
+  kept_told (keeps.Add stamp) replies.Added leads = (ap (λ (p : PortsValue). p.database.history) leads.added.0, leads.spare)
+  kept_told (keeps.Add stamp) (Refused (refusals.Pincushion e)) leads = (ap (λ (p : PortsValue). p.database.history) leads.added.0, leads.spare)
+  kept_told (keeps.Add stamp) (Refused refusals.NoRequest) leads = tells_so _ leads.0
+  kept_told (keeps.GiveBack stamp) replies.GivenBack leads = tells_so _ leads.0
+  kept_told (keeps.GiveBack stamp) (Refused (refusals.GiveBack unknown)) leads = tells_so _ leads.0
+  kept_told (keeps.Retire now age) (replies.Retired stamps) leads = tells_so _ leads.0
+  kept_told (keeps.Retire now age) (Refused refusals.Memory) leads = tells_so _ leads
+  kept_told (keeps.Unpin stamp) replies.Unpinned leads = tells_so _ leads.0
+  kept_told (keeps.Unpin stamp) (Refused (refusals.Database e)) leads = tells_so _ leads.0
+  kept_told keeps.Vacuum (replies.Vacuumed horizon) leads = tells_so _ leads.0
+  kept_told keeps.Vacuum (Refused (refusals.Database e)) leads = tells_so _ leads.0
+  kept_told (keeps.Query stamp query) (replies.Rows rows) leads = tells_so _ leads.0
+  kept_told (keeps.Query stamp query) (Refused (refusals.Database e)) leads = tells_so _ leads.0
+  kept_told (keeps.Advance node) (replies.Advanced advanced) leads = tells_so _ leads.is
+  kept_told (keeps.Advance node) (Refused (refusals.Node e)) leads = tells_so _ leads.is
+  kept_told (keeps.Advance node) (Refused refusals.NoNode) leads = tells_so _ leads.0
+  kept_told (keeps.Sweep node horizon) (replies.Swept count) leads = tells_so _ leads.is
+  kept_told (keeps.Sweep node horizon) (Refused (refusals.Node e)) leads = tells_so _ leads.is
+  kept_told (keeps.Sweep node horizon) (Refused refusals.NoNode) leads = tells_so _ leads.0
+  kept_told keep reply leads = absurd leads
+
+  -- a node that was led is there
+  led_there : (at : ℕ) (leads : NodeValue → NodeValue → Type 0) → HasLedNode at leads old new → at < length old.nodes
+  led_there at leads led = slice_get_within old.nodes at led.before led.there
+
+  pub kept_due : (keep : Keep) (reply : Reply) → KeepLeads keep old new reply → IsKeepDue (length old.nodes) (stamps_of old.spare) keep reply
+  kept_due (keeps.Write change) (replies.At stamp) leads = tt
+  kept_due (keeps.Write change) (Refused (refusals.Database e)) leads = tt
+  kept_due (keeps.Pin now) (replies.At stamp) leads = tt
+  kept_due (keeps.Pin now) (Refused (refusals.Database e)) leads = tt
+  kept_due (keeps.Add stamp) replies.Added leads = due_held (length old.nodes) stamp (stamps_of old.spare) replies.Added _ leads.held tt
+  kept_due (keeps.Add stamp) (Refused (refusals.Pincushion e)) leads =
+      due_held (length old.nodes) stamp (stamps_of old.spare) (Refused (refusals.Pincushion e)) _ leads.held tt
+  kept_due (keeps.Add stamp) (Refused refusals.NoRequest) leads = due_not_held stamp (stamps_of old.spare) _ leads.1
+  kept_due (keeps.GiveBack stamp) replies.GivenBack leads = tt
+  kept_due (keeps.GiveBack stamp) (Refused (refusals.GiveBack unknown)) leads = tt
+  kept_due (keeps.Retire now age) (replies.Retired stamps) leads = tt
+  kept_due (keeps.Retire now age) (Refused refusals.Memory) leads = tt
+  kept_due (keeps.Unpin stamp) replies.Unpinned leads = tt
+  kept_due (keeps.Unpin stamp) (Refused (refusals.Database e)) leads = tt
+  kept_due keeps.Vacuum (replies.Vacuumed horizon) leads = tt
+  kept_due keeps.Vacuum (Refused (refusals.Database e)) leads = tt
+  kept_due (keeps.Query stamp query) (replies.Rows rows) leads = tt
+  kept_due (keeps.Query stamp query) (Refused (refusals.Database e)) leads = tt
+  kept_due (keeps.Advance node) (replies.Advanced advanced) leads = due_node node (length old.nodes) _ _ (led_there node _ leads) tt
+  kept_due (keeps.Advance node) (Refused (refusals.Node e)) leads = due_node node (length old.nodes) _ _ (led_there node _ leads) tt
+  kept_due (keeps.Advance node) (Refused refusals.NoNode) leads = due_no_node node (length old.nodes) _ leads.1
+  kept_due (keeps.Sweep node horizon) (replies.Swept count) leads = due_node node (length old.nodes) _ _ (led_there node _ leads) tt
+  kept_due (keeps.Sweep node horizon) (Refused (refusals.Node e)) leads = due_node node (length old.nodes) _ _ (led_there node _ leads) tt
+  kept_due (keeps.Sweep node horizon) (Refused refusals.NoNode) leads = due_no_node node (length old.nodes) _ leads.1
+  kept_due keep reply leads = absurd leads
+
+  -- no step is replied with a receipt
+  pub kept_no_receipt : (keep : Keep) (reply : Reply) → KeepLeads keep old new reply → IsNoReceipt reply
+  kept_no_receipt (keeps.Write change) (replies.Receipt pin) leads = absurd leads
+  kept_no_receipt keep (replies.Receipt pin) leads = absurd leads
+  kept_no_receipt keep reply leads = tt

@@ -6,12 +6,14 @@ pub mod AskLemmas
 pub mod MakingLemmas
 pub mod Explaining
 pub mod Whole
+pub mod TruthLemmas
 pub mod Tellings
 pub mod CommitLemmas
 pub mod WritingLemmas
 pub mod Turning
 pub mod Stepping
 pub mod MemberLemmas
+pub mod Losing
 pub mod Times
 pub mod Fairness
 pub mod Balance

@@ -9,7 +9,7 @@ use Rattle.txc_app.specs.Eval.{Next}
 use Rattle.txc_ports.specs.declared.bounds.Bounds.{Bounds}
 use Rattle.txc_ports.specs.declared.recorded.Recorded.{Recorded}
 use Rattle.txc_ports.specs.Answers.{AreConsistent, IsFresh}
-use Rattle.txc_txn.specs.Kept.{IsKept}
+use Rattle.txc_txn.specs.Kept.{IsTxn}
 use Rattle.txc_world.specs.declared.actor.OpenTxn.{OpenTxn}
 use Rattle.txc_world.specs.declared.actor.Actor.{Actor}
 use Rattle.txc_world.specs.declared.actor.Actor.TheVariants as actors
@@ -51,7 +51,7 @@ told_reading o = record { bounds = o.txn.core.bounds; call = option_map (λ c. c
 reading_is : (a b : Reading) → Some (reading a) ≡ Some (reading b) → a ≡ b
 reading_is a b same = cc same
 
-module _ {A C : Type 0} (next : Next) (o : OpenTxn A C) (kept : IsKept next o.txn) (M : History) (part : IsPrefix o.txn.core.seen.history M) where
+module _ {A C : Type 0} (next : Next) (o : OpenTxn A C) (kept : IsTxn next o.txn) (M : History) (part : IsPrefix o.txn.core.seen.history M) where
   members_of : AreMembersOf next M (told_reading o) o.txn.core.pins.has_present o.txn.core.pins.members
   members_of = record {
     some = kept.holds.meant.set.some;
@@ -65,7 +65,7 @@ module _ {A C : Type 0} (next : Next) (o : OpenTxn A C) (kept : IsKept next o.tx
 
 -- the actor at the place is as it is told
 pub members_there : {A C : Type 0} (next : Next) (settings : WorldSettings) (ports : PortsValue) (floors : List ℕ) (cast : List (Option (Actor A C))) (place : ℕ)
-    (o : OpenTxn A C) (now : Told) (r : Reading) → IsKept next o.txn → IsWorld next settings ports floors cast
+    (o : OpenTxn A C) (now : Told) (r : Reading) → IsTxn next o.txn → IsWorld next settings ports floors cast
     → slice_get cast place ≡ Some (Some (actors.Reading o)) → told_of settings ports floors cast ≡ now → slice_get now.actors place ≡ Some (reading r)
     → AreMembersOf next now.history r o.txn.core.pins.has_present o.txn.core.pins.members
 members_there next settings ports floors cast place o now r kept world is shows at =

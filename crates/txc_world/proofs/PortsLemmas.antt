@@ -45,6 +45,10 @@ ports_with_node p i old new are there at stays = record {
 pub keeps_itself : (p : PortsValue) → KeepsRow p p
 keeps_itself p = record { events = refl; longer = prefix_self p.database.history; count = refl; settings = refl; actors = refl }
 
+-- a step that changes nothing keeps all
+pub keeps_same : (old new : PortsValue) → new ≡ old → KeepsRow old new
+keeps_same old new same = subst (λ (p : PortsValue). KeepsRow old p) (sym same) (keeps_itself old)
+
 pub keeps_with_node : (p : PortsValue) (i : ℕ) (old new : NodeValue) → old ≡ get_or p.nodes i old
     → StaysNode (whole_of p) old new → KeepsRow p (record p { nodes = set p.nodes i new })
 keeps_with_node p i old new at stays = record {
@@ -79,28 +83,14 @@ module _ (p : PortsValue) (d : DatabaseValue) where
 -- a refusal leaves the row and the history
 module _ (old new : DatabaseValue) where
   pub left_events : (e : DbError) → IsLeft old new e → new.events ≡ old.events
-  left_events (errors.SnapshotGone horizon) left = ap (λ (d : DatabaseValue). d.events) left
-  left_events (errors.Conflict first) left = ap (λ (d : DatabaseValue). d.events) left
-  left_events errors.Full left = ap (λ (d : DatabaseValue). d.events) left
-  left_events (errors.Store cause) left = ap (λ (d : DatabaseValue). d.events) left
   left_events errors.Broken (inl same) = ap (λ (d : DatabaseValue). d.events) same.0
   left_events errors.Broken (inr broke) = broke.events
-  left_events (errors.NotPinned stamp) left = ap (λ (d : DatabaseValue). d.events) left
-  left_events (errors.FutureStamp newest) left = ap (λ (d : DatabaseValue). d.events) left
-  left_events errors.HoldsFull left = ap (λ (d : DatabaseValue). d.events) left
-  left_events errors.Memory left = ap (λ (d : DatabaseValue). d.events) left
+  left_events e left = ap (λ (d : DatabaseValue). d.events) left
 
   pub left_history : (e : DbError) → IsLeft old new e → new.history ≡ old.history
-  left_history (errors.SnapshotGone horizon) left = ap (λ (d : DatabaseValue). d.history) left
-  left_history (errors.Conflict first) left = ap (λ (d : DatabaseValue). d.history) left
-  left_history errors.Full left = ap (λ (d : DatabaseValue). d.history) left
-  left_history (errors.Store cause) left = ap (λ (d : DatabaseValue). d.history) left
   left_history errors.Broken (inl same) = ap (λ (d : DatabaseValue). d.history) same.0
   left_history errors.Broken (inr broke) = broke.history
-  left_history (errors.NotPinned stamp) left = ap (λ (d : DatabaseValue). d.history) left
-  left_history (errors.FutureStamp newest) left = ap (λ (d : DatabaseValue). d.history) left
-  left_history errors.HoldsFull left = ap (λ (d : DatabaseValue). d.history) left
-  left_history errors.Memory left = ap (λ (d : DatabaseValue). d.history) left
+  left_history e left = ap (λ (d : DatabaseValue). d.history) left
 
 -- a commit leaves the row, and the history or one that goes on from it
 commit_events : (d : DatabaseValue) (changes net : List Change) (other : DatabaseValue) → other.events ≡ d.events

@@ -40,7 +40,7 @@ module _ {X : Type 0} where
 module _ (old new : PortsValue) (keeps : KeepsRow old new) where
   call_later : (c : CoreValue) (call : Option OpenCall) → HasCall (whole_of old) c call → HasCall (whole_of new) c call
   call_later c None h = h
-  call_later c (Some call) h = record { turn = h.turn; no_value = h.no_value; key = h.key; adds = adds_weaker (IsPartOf (whole_of old)) (IsPartOf (whole_of new)) (λ front part. part_kept old new front keeps part) call.turn h.adds }
+  call_later c (Some call) h = record { turn = h.turn; no_value = h.no_value; key = h.key; adds = adds_weaker (IsPartOf (whole_of old)) (IsPartOf (whole_of new)) (λ front part. part_kept old new front keeps part) call.turn h.adds; not_lost = h.not_lost; drops = h.drops }
 
   module _ {A C : Type 0} (longer : HoldsInLonger) (next : Next) (count : ℕ) where
     actor_later : (actor : Actor A C) → IsActor next (whole_of old) count actor → IsActor next (whole_of new) count actor

@@ -11,7 +11,7 @@ use Rattle.txc_db.specs.History.{History, commit_event, pin_event, state_at}
 use Rattle.txc_cushion.specs.declared.pin.Pin.{Pin}
 use Rattle.txc_app.specs.Eval.{Next}
 use Rattle.txc_world.specs.declared.step.Act.{Act}
-use Rattle.txc_world.specs.declared.step.Act.TheVariants.{BeginRo, BeginRw, Start, Request, Ask, Write, Commit, Abort}
+use Rattle.txc_world.specs.declared.step.Act.TheVariants.{Request, Commit}
 use Rattle.txc_world.specs.declared.step.Keep.{Keep}
 use Rattle.txc_world.specs.declared.step.Keep.TheVariants as keeps
 use Rattle.txc_world.specs.declared.step.Step.{Step}
@@ -20,7 +20,7 @@ use Rattle.txc_world.specs.declared.did.Did.{Did}
 use Rattle.txc_world.specs.declared.did.Did.TheVariants as dids
 use Rattle.txc_world.specs.declared.reply.Reply.{Reply}
 use Rattle.txc_world.specs.declared.reply.Reply.TheVariants as replies
-use Rattle.txc_world.specs.Told.{Writing, Story, idle, reading, writing, leaving, Told, act_in, act_at, after, begin_at, commit_in, floor_at, did_in, keep_in, told_by, AreDue, AreExplained, AreExplainedIn, CommitExplains, CommitMakes, IsCommitOf, IsDue, IsExplainedIn, IsNoCommit, IsReceiptOf, ReplyExplains}
+use Rattle.txc_world.specs.Told.{Writing, Story, reading, writing, Told, act_in, act_at, after, begin_at, commit_in, floor_at, did_in, keep_in, told_by, AreDue, AreExplained, AreExplainedIn, CommitExplains, CommitMakes, IsCommitOf, IsDue, IsExplainedIn, IsNoCommit, IsReceiptOf, ReplyExplains}
 use Rattle.txc_stream.proofs.Offered.{prefix_self, prefix_take, prefix_trans}
 use Rattle.txc_world.proofs.Explaining.{explained_later, state_later}
 
@@ -56,40 +56,11 @@ due_more told (s ∷ steps) (r ∷ replies) step reply e h k =
 
 did_goes_on : (did : Did) (now : ℕ) (L : History) → IsPrefix L (did_in did now L)
 did_goes_on (dids.Pinned stamp) now L = (pin_event now ∷ [], refl)
-did_goes_on dids.Added now L = prefix_self L
-did_goes_on (dids.NotAdded error) now L = prefix_self L
-did_goes_on dids.Unpinned now L = prefix_self L
-did_goes_on (dids.Hit reach) now L = prefix_self L
-did_goes_on dids.Miss now L = prefix_self L
-did_goes_on (dids.Rows found) now L = prefix_self L
-did_goes_on (dids.Stored reach) now L = prefix_self L
-did_goes_on dids.Kept now L = prefix_self L
-did_goes_on dids.Dropped now L = prefix_self L
-did_goes_on (dids.Refused error) now L = prefix_self L
+did_goes_on did now L = prefix_self L
 
 request_goes_on : (reply : Reply) (story : Story) (L : History) → IsPrefix L (act_in Request reply story L)
 request_goes_on (replies.Asked did end) (reading r) L = did_goes_on did r.bounds.now L
-request_goes_on (replies.Asked did end) idle L = prefix_self L
-request_goes_on (replies.Asked did end) (writing w) L = prefix_self L
-request_goes_on (replies.Asked did end) (leaving stamp) L = prefix_self L
-request_goes_on replies.Begun story L = prefix_self L
-request_goes_on (replies.Based base) story L = prefix_self L
-request_goes_on replies.Started story L = prefix_self L
-request_goes_on (replies.Ended end) story L = prefix_self L
-request_goes_on (replies.Answered rows) story L = prefix_self L
-request_goes_on replies.Kept story L = prefix_self L
-request_goes_on (replies.Receipt pin) story L = prefix_self L
-request_goes_on (replies.Aborted left) story L = prefix_self L
-request_goes_on (replies.At stamp) story L = prefix_self L
-request_goes_on replies.Added story L = prefix_self L
-request_goes_on replies.GivenBack story L = prefix_self L
-request_goes_on (replies.Retired stamps) story L = prefix_self L
-request_goes_on replies.Unpinned story L = prefix_self L
-request_goes_on (replies.Vacuumed horizon) story L = prefix_self L
-request_goes_on (replies.Rows found) story L = prefix_self L
-request_goes_on (replies.Advanced advanced) story L = prefix_self L
-request_goes_on (replies.Swept count) story L = prefix_self L
-request_goes_on (replies.Refused refusal) story L = prefix_self L
+request_goes_on reply story L = prefix_self L
 
 if_goes_on : (L more : History) (b : Bool) → IsPrefix L (if b then L ++ more else L)
 if_goes_on L more true = (more, refl)
@@ -99,86 +70,18 @@ changes_go_on : (changes : List Change) (stamp : ℕ) (L : History) → IsPrefix
 changes_go_on changes stamp L = if_goes_on L (commit_event (state_at L (length L)) changes ∷ []) (nat_lt (length L) stamp)
 
 commit_goes_on : (reply : Reply) (story : Story) (L : History) → IsPrefix L (act_in Commit reply story L)
-commit_goes_on replies.Begun story L = prefix_self L
-commit_goes_on (replies.Based base) story L = prefix_self L
-commit_goes_on replies.Started story L = prefix_self L
-commit_goes_on (replies.Asked did end) story L = prefix_self L
-commit_goes_on (replies.Ended end) story L = prefix_self L
-commit_goes_on (replies.Answered rows) story L = prefix_self L
-commit_goes_on replies.Kept story L = prefix_self L
-commit_goes_on (replies.Receipt pin) story L = prefix_self L
-commit_goes_on (replies.Aborted left) story L = prefix_self L
 commit_goes_on (replies.At stamp) (writing w) L = changes_go_on w.changes stamp L
-commit_goes_on (replies.At stamp) idle L = prefix_self L
-commit_goes_on (replies.At stamp) (reading r) L = prefix_self L
-commit_goes_on (replies.At stamp) (leaving held) L = prefix_self L
-commit_goes_on replies.Added story L = prefix_self L
-commit_goes_on replies.GivenBack story L = prefix_self L
-commit_goes_on (replies.Retired stamps) story L = prefix_self L
-commit_goes_on replies.Unpinned story L = prefix_self L
-commit_goes_on (replies.Vacuumed horizon) story L = prefix_self L
-commit_goes_on (replies.Rows found) story L = prefix_self L
-commit_goes_on (replies.Advanced advanced) story L = prefix_self L
-commit_goes_on (replies.Swept count) story L = prefix_self L
-commit_goes_on (replies.Refused refusal) story L = prefix_self L
+commit_goes_on reply story L = prefix_self L
 
 act_goes_on : (act : Act) (reply : Reply) (story : Story) (L : History) → IsPrefix L (act_in act reply story L)
 act_goes_on Request reply story L = request_goes_on reply story L
 act_goes_on Commit reply story L = commit_goes_on reply story L
-act_goes_on (BeginRo bounds) reply story L = prefix_self L
-act_goes_on BeginRw reply story L = prefix_self L
-act_goes_on (Start key) reply story L = prefix_self L
-act_goes_on (Ask query) reply story L = prefix_self L
-act_goes_on (Write change) reply story L = prefix_self L
-act_goes_on Abort reply story L = prefix_self L
+act_goes_on act reply story L = prefix_self L
 
 keep_goes_on : (keep : Keep) (reply : Reply) (L : History) → IsPrefix L (keep_in keep reply L)
 keep_goes_on (keeps.Write change) (replies.At stamp) L = changes_go_on (change ∷ []) stamp L
-keep_goes_on (keeps.Write change) replies.Begun L = prefix_self L
-keep_goes_on (keeps.Write change) (replies.Based base) L = prefix_self L
-keep_goes_on (keeps.Write change) replies.Started L = prefix_self L
-keep_goes_on (keeps.Write change) (replies.Asked did end) L = prefix_self L
-keep_goes_on (keeps.Write change) (replies.Ended end) L = prefix_self L
-keep_goes_on (keeps.Write change) (replies.Answered rows) L = prefix_self L
-keep_goes_on (keeps.Write change) replies.Kept L = prefix_self L
-keep_goes_on (keeps.Write change) (replies.Receipt pin) L = prefix_self L
-keep_goes_on (keeps.Write change) (replies.Aborted left) L = prefix_self L
-keep_goes_on (keeps.Write change) replies.Added L = prefix_self L
-keep_goes_on (keeps.Write change) replies.GivenBack L = prefix_self L
-keep_goes_on (keeps.Write change) (replies.Retired stamps) L = prefix_self L
-keep_goes_on (keeps.Write change) replies.Unpinned L = prefix_self L
-keep_goes_on (keeps.Write change) (replies.Vacuumed horizon) L = prefix_self L
-keep_goes_on (keeps.Write change) (replies.Rows found) L = prefix_self L
-keep_goes_on (keeps.Write change) (replies.Advanced advanced) L = prefix_self L
-keep_goes_on (keeps.Write change) (replies.Swept count) L = prefix_self L
-keep_goes_on (keeps.Write change) (replies.Refused refusal) L = prefix_self L
 keep_goes_on (keeps.Pin now) (replies.At stamp) L = (pin_event now ∷ [], refl)
-keep_goes_on (keeps.Pin now) replies.Begun L = prefix_self L
-keep_goes_on (keeps.Pin now) (replies.Based base) L = prefix_self L
-keep_goes_on (keeps.Pin now) replies.Started L = prefix_self L
-keep_goes_on (keeps.Pin now) (replies.Asked did end) L = prefix_self L
-keep_goes_on (keeps.Pin now) (replies.Ended end) L = prefix_self L
-keep_goes_on (keeps.Pin now) (replies.Answered rows) L = prefix_self L
-keep_goes_on (keeps.Pin now) replies.Kept L = prefix_self L
-keep_goes_on (keeps.Pin now) (replies.Receipt pin) L = prefix_self L
-keep_goes_on (keeps.Pin now) (replies.Aborted left) L = prefix_self L
-keep_goes_on (keeps.Pin now) replies.Added L = prefix_self L
-keep_goes_on (keeps.Pin now) replies.GivenBack L = prefix_self L
-keep_goes_on (keeps.Pin now) (replies.Retired stamps) L = prefix_self L
-keep_goes_on (keeps.Pin now) replies.Unpinned L = prefix_self L
-keep_goes_on (keeps.Pin now) (replies.Vacuumed horizon) L = prefix_self L
-keep_goes_on (keeps.Pin now) (replies.Rows found) L = prefix_self L
-keep_goes_on (keeps.Pin now) (replies.Advanced advanced) L = prefix_self L
-keep_goes_on (keeps.Pin now) (replies.Swept count) L = prefix_self L
-keep_goes_on (keeps.Pin now) (replies.Refused refusal) L = prefix_self L
-keep_goes_on (keeps.Add stamp) reply L = prefix_self L
-keep_goes_on (keeps.GiveBack stamp) reply L = prefix_self L
-keep_goes_on (keeps.Retire now age) reply L = prefix_self L
-keep_goes_on (keeps.Unpin stamp) reply L = prefix_self L
-keep_goes_on keeps.Vacuum reply L = prefix_self L
-keep_goes_on (keeps.Query stamp query) reply L = prefix_self L
-keep_goes_on (keeps.Advance node) reply L = prefix_self L
-keep_goes_on (keeps.Sweep node horizon) reply L = prefix_self L
+keep_goes_on keep reply L = prefix_self L
 
 act_at_goes_on : (place : ℕ) (act : Act) (reply : Reply) (told : Told) (story : Option Story) → IsPrefix told.history (act_at place act reply told story).history
 act_at_goes_on place act reply told None = prefix_self told.history
@@ -201,10 +104,8 @@ told_goes_on told (s ∷ steps) (r ∷ replies) =
 
 module _ (next : Next) (L M : History) (on : IsPrefix L M) where
   receipt_later : (story : Story) (pin : Option Pin) → IsReceiptOf next L story pin → IsReceiptOf next M story pin
-  receipt_later idle pin h = h
   receipt_later (reading r) pin h = explained_later next L M r.bounds pin r.answers on h
-  receipt_later (writing w) pin h = h
-  receipt_later (leaving stamp) pin h = h
+  receipt_later story pin h = h
 
   module _ (count : ℕ) where
     made_within : (w : Writing) (stamp : ℕ) → CommitMakes next L count w stamp → (stamp ≤ length L) × (count ≤ length L)
@@ -235,31 +136,13 @@ module _ (next : Next) (L M : History) (on : IsPrefix L M) where
         }
 
     stamp_later : (story : Story) (stamp : ℕ) → IsCommitOf next L count story stamp → IsCommitOf next M count story stamp
-    stamp_later idle stamp h = h
-    stamp_later (reading r) stamp h = h
     stamp_later (writing w) stamp h = commit_later w stamp h
-    stamp_later (leaving held) stamp h = h
+    stamp_later story stamp h = h
 
     reply_later : (story : Story) (reply : Reply) → ReplyExplains next L count story reply → ReplyExplains next M count story reply
     reply_later story (replies.Receipt pin) h = receipt_later story pin h
     reply_later story (replies.At stamp) h = stamp_later story stamp h
-    reply_later story replies.Begun h = tt
-    reply_later story (replies.Based base) h = tt
-    reply_later story replies.Started h = tt
-    reply_later story (replies.Asked did end) h = tt
-    reply_later story (replies.Ended end) h = tt
-    reply_later story (replies.Answered rows) h = tt
-    reply_later story replies.Kept h = tt
-    reply_later story (replies.Aborted left) h = tt
-    reply_later story replies.Added h = tt
-    reply_later story replies.GivenBack h = tt
-    reply_later story (replies.Retired stamps) h = tt
-    reply_later story replies.Unpinned h = tt
-    reply_later story (replies.Vacuumed horizon) h = tt
-    reply_later story (replies.Rows found) h = tt
-    reply_later story (replies.Advanced advanced) h = tt
-    reply_later story (replies.Swept count) h = tt
-    reply_later story (replies.Refused refusal) h = tt
+    reply_later story reply h = tt
 
     place_later : (reply : Reply) (story : Option Story) → MatchOption story (IsNoCommit reply) (λ s. ReplyExplains next L count s reply)
         → MatchOption story (IsNoCommit reply) (λ s. ReplyExplains next M count s reply)

@@ -22,11 +22,7 @@ use Rattle.txc_world.proofs.Whole.{part_kept}
 -- a pin is asked for at the moment of the bounds
 pub asked_at : (c : CoreValue) (request : PortRequest) → IsAsking c request → IsAskedAt c.bounds.now request
 asked_at c (requests.Pin now at_least) asking = asking.2
-asked_at c (requests.AddPin pinned) asking = tt
-asked_at c (requests.Unpin stamp) asking = tt
-asked_at c (requests.Lookup node key lo hi) asking = tt
-asked_at c (requests.Query query stamp) asking = tt
-asked_at c (requests.Insert node entry) asking = tt
+asked_at c request asking = tt
 
 -- ---- what comes of a reply
 
@@ -46,13 +42,4 @@ counted_in members (dids.Hit reach) now L = go (holds_any reach members)
     go : (b : Bool) → did_in (if b then dids.Hit reach else dids.Miss) now L ≡ L
     go true = refl
     go false = refl
-counted_in members (dids.Pinned stamp) now L = refl
-counted_in members dids.Added now L = refl
-counted_in members (dids.NotAdded error) now L = refl
-counted_in members dids.Unpinned now L = refl
-counted_in members dids.Miss now L = refl
-counted_in members (dids.Rows found) now L = refl
-counted_in members (dids.Stored reach) now L = refl
-counted_in members dids.Kept now L = refl
-counted_in members dids.Dropped now L = refl
-counted_in members (dids.Refused error) now L = refl
+counted_in members did now L = refl

@@ -1,11 +1,10 @@
 -- What read-write transactions do to holds.
-use Rattle.std.proofs.Common.{◌≡◌, ◌∙◌, ℕ, zero, List, [], ◌∷◌, ◌++◌, Result, Ok, Err, refl, ap, sym, arith}
+use Rattle.std.proofs.Common.{◌≡◌, ◌∙◌, ℕ, zero, List, [], ◌∷◌, ◌++◌, Result, Ok, Err, refl, ap, sym, subst, arith}
 use Rattle.txc_tags.specs.declared.tag.Tag.{Tag}
 use Rattle.txc_rows.specs.declared.query.Change.{Change}
 use Rattle.txc_rows.specs.declared.query.Query.{Query}
 use Rattle.txc_validity.specs.declared.answer.Found.{Found}
 use Rattle.txc_db.specs.declared.error.DbError.{DbError}
-use Rattle.txc_db.specs.declared.error.DbError.TheVariants as errors
 use Rattle.txc_db.specs.History.{commit_event}
 use Rattle.txc_db.specs.DatabaseValue.{after_event_of, newest_net, newest_state}
 use Rattle.txc_cushion.specs.Entries.{times}
@@ -15,20 +14,23 @@ use Rattle.txc_ports.specs.declared.request.PortRequest.TheVariants as requests
 use Rattle.txc_ports.specs.declared.turn.Turn.{Turn}
 use Rattle.txc_ports.specs.declared.turn.Turn.TheVariants as turns
 use Rattle.txc_ports.specs.Refusals.{refused_request}
-use Rattle.txc_rw.specs.Core.{IsAsked, IsWriteRefused}
+use Rattle.txc_app.specs.Eval.{Next}
+use Rattle.txc_registry.specs.Objects.{Objects}
+use Rattle.txc_rw.specs.Core.{IsAsked, IsWriteRefused, RwValue}
 use Rattle.txc_rw.specs.Leading.{RowsLead}
 use Rattle.txc_world.specs.declared.did.Did.{Did}
 use Rattle.txc_world.specs.declared.did.Did.TheVariants as dids
 use Rattle.txc_world.specs.declared.reply.Reply.{Reply}
 use Rattle.txc_world.specs.declared.reply.Reply.TheVariants as replies
-use Rattle.txc_world.specs.declared.reply.Refusal.TheVariants as refusals
 use Rattle.txc_world.specs.Ports.{PortsValue}
-use Rattle.txc_world.specs.Actors.{IsToldQuery}
 use Rattle.txc_world.specs.Asks.{AnswerLeads, DoesTellFound, HoldLeads}
-use Rattle.txc_world.specs.Books.{nothing, Account, ActCounts, CountRight, HasLost, IsFair, IsGone, IsLossOf, ReplyIsLossOf, TurnIsLossOf}
+use Rattle.txc_world.specs.Books.{nothing, Account, ActCounts, CountRight, HasLost, IsFair, IsGone}
+use Rattle.txc_world.specs.Losing.{IfDidLose, IfGone, IfLost, IfReplyLost, IfTurnLost}
 use Rattle.txc_world.specs.Keeping.{CommitLeads}
+use Rattle.txc_world.specs.Writing.{HasAskedRw}
 use Rattle.txc_world.proofs.Balance.{committed_holds}
 use Rattle.txc_world.proofs.Fairness.{counts_itself, fair_hold, fair_same, gone_query, left_holds}
+use Rattle.txc_world.proofs.Losing.{gone_so, request_lost, rw_not_lost}
 use Rattle.txc_world.proofs.Times.{times_there}
 
 -- the account of a transaction with the hold of its base
@@ -45,41 +47,23 @@ base_lost p base gone = record {
 }
 
 module _ (p : PortsValue) (base : ℕ) where
-  gone_lost : (query : Query) (e : DbError) → IsGone (requests.Query query base) p (dids.Refused e) → IsLossOf p (based base) (dids.Refused e)
-  gone_lost query (errors.SnapshotGone horizon) gone = base_lost p base gone
-  gone_lost query (errors.Conflict first) gone = tt
-  gone_lost query errors.Full gone = tt
-  gone_lost query (errors.Store cause) gone = tt
-  gone_lost query errors.Broken gone = tt
-  gone_lost query (errors.NotPinned stamp) gone = tt
-  gone_lost query (errors.FutureStamp last) gone = tt
-  gone_lost query errors.HoldsFull gone = tt
-  gone_lost query errors.Memory gone = tt
-
-  turn_lost : (query : Query) (e : DbError) → IsGone (requests.Query query base) p (dids.Refused e) → TurnIsLossOf p (based base) (turns.Refused (refused_request e))
-  turn_lost query (errors.SnapshotGone horizon) gone = base_lost p base gone
-  turn_lost query (errors.Conflict first) gone = tt
-  turn_lost query errors.Full gone = tt
-  turn_lost query (errors.Store cause) gone = tt
-  turn_lost query errors.Broken gone = tt
-  turn_lost query (errors.NotPinned stamp) gone = tt
-  turn_lost query (errors.FutureStamp last) gone = tt
-  turn_lost query errors.HoldsFull gone = tt
-  turn_lost query errors.Memory gone = tt
+  gone_lost : (query : Query) (e : DbError) → IsGone (requests.Query query base) p (dids.Refused e) → IfGone e (HasLost p (based base))
+  gone_lost query e gone = gone_so (times base p.database.holds ≡ 0) (HasLost p (based base)) (base_lost p base) e gone
 
   -- of a query of the open call
-  pub loss_told : (query : Query) (found : Result Found DbError) (did : Did) → CountRight p → AnswerLeads query base p found → DoesTellFound found did → IsLossOf p (based base) did
+  pub loss_told : (query : Query) (found : Result Found DbError) (did : Did) → CountRight p → AnswerLeads query base p found → DoesTellFound found did
+      → IfDidLose did (HasLost p (based base))
   loss_told query (Ok found) did right leads told = rw told.1 tt
   loss_told query (Err e) did right leads told = rw told (gone_lost query e (gone_query p right query base e leads))
 
   -- of a query of its own
-  pub loss_asked : (a : Account) (query : Query) (stamp : ℕ) (turn : Turn) → IsAsked query stamp turn → TurnIsLossOf p a turn
+  pub loss_asked : (a : Account) (query : Query) (stamp : ℕ) (turn : Turn) → IsAsked query stamp turn → IfTurnLost turn (HasLost p a)
   loss_asked a query stamp (turns.Ask request) asked = tt
   loss_asked a query stamp (turns.Refused error) asked = rw asked tt
   loss_asked a query stamp (turns.Value value) asked = tt
   loss_asked a query stamp (turns.Rows rows) asked = tt
 
-  found_lost : (found : Found) (turn : Turn) → RowsLead found.rows.items turn → TurnIsLossOf p (based base) turn
+  found_lost : (found : Found) (turn : Turn) → RowsLead found.rows.items turn → IfTurnLost turn (HasLost p (based base))
   found_lost found (turns.Refused error) leads = rw leads tt
   found_lost found (turns.Ask request) leads = tt
   found_lost found (turns.Value value) leads = tt
@@ -87,40 +71,34 @@ module _ (p : PortsValue) (base : ℕ) where
 
   pub loss_found : (query : Query) (answer : Result Found DbError) (turn : Turn) → CountRight p → AnswerLeads query base p answer
       → ((found : Found) → answer ≡ Ok found → RowsLead found.rows.items turn) → ((e : DbError) → answer ≡ Err e → turn ≡ turns.Refused (refused_request e))
-      → TurnIsLossOf p (based base) turn
+      → IfTurnLost turn (HasLost p (based base))
   loss_found query (Ok found) turn right leads rows refused = found_lost found turn (rows found refl)
-  loss_found query (Err e) turn right leads rows refused = rw (refused e refl) (turn_lost query e (gone_query p right query base e leads))
-
-  pub loss_rows : (a : Account) (turn : Turn) (reply : Reply) → IsToldQuery turn reply → TurnIsLossOf p a turn → ReplyIsLossOf p a reply
-  loss_rows a (turns.Rows rows) reply told loss = rw told tt
-  loss_rows a (turns.Refused error) reply told loss = rw told (told_lost a error loss)
-    where
-      told_lost : (b : Account) (e : TxnError) → TurnIsLossOf p b (turns.Refused e) → ReplyIsLossOf p b (replies.Refused (refusals.Transaction e))
-      told_lost b (txns.Call cause) l = tt
-      told_lost b (txns.Database cause) l = tt
-      told_lost b (txns.SnapshotLost horizon) l = l
-      told_lost b txns.PinsFull l = tt
-      told_lost b txns.BufferFull l = tt
-      told_lost b txns.Memory l = tt
-  loss_rows a turn reply told loss = absurd told
+  loss_found query (Err e) turn right leads rows refused = rw (refused e refl) (request_lost (HasLost p (based base)) e (gone_lost query e (gone_query p right query base e leads)))
 
 -- a write is not refused so
-pub loss_write : (p : PortsValue) (a : Account) (count : ℕ) (e : TxnError) → IsWriteRefused count e → ReplyIsLossOf p a (replies.Refused (refusals.Transaction e))
-loss_write p a count (txns.SnapshotLost horizon) refused = absurd refused
-loss_write p a count (txns.Call cause) refused = tt
-loss_write p a count (txns.Database cause) refused = tt
-loss_write p a count txns.PinsFull refused = tt
-loss_write p a count txns.BufferFull refused = tt
-loss_write p a count txns.Memory refused = tt
+pub loss_write : (P : Type 0) (count : ℕ) (e : TxnError) → IsWriteRefused count e → IfLost e P
+loss_write P count (txns.SnapshotLost horizon) refused = absurd refused
+loss_write P count e refused = tt
+
+-- what a turn of a call has lost, the database had lost
+pub asked_lost : (P : Type 0) (next : Next) (query : Query) (p : PortsValue) (before after : RwValue) (was is : Objects) (did : Did) (turn : Turn)
+    → HasAskedRw next query p before after was is did turn → IfDidLose did P → IfTurnLost turn P
+asked_lost P next query p before after was is did turn asks lost = go asks.found refl
+  where
+    go : (found : Result Found DbError) → asks.found ≡ found → IfTurnLost turn P
+    go (Ok f) same = let on = asks.leads f same in rw_not_lost P on.0 after is turn on.2
+    go (Err e) same =
+        let told : did ≡ dids.Refused e = subst (λ (r : Result Found DbError). DoesTellFound r did) same asks.tells in
+        rw (asks.refused e same) (request_lost P e (subst (λ (d : Did). IfDidLose d P) told lost))
 
 -- ---- steps
 
 -- the base stays, and so do the ports
-pub counts_based : (old new : PortsValue) (base base' : ℕ) (reply : Reply) → new ≡ old → base' ≡ base → ReplyIsLossOf old (based base) reply
+pub counts_based : (old new : PortsValue) (base base' : ℕ) (reply : Reply) → new ≡ old → base' ≡ base → IfReplyLost reply (HasLost old (based base))
     → ActCounts old new (based base) (based base') reply
 counts_based old new base base' reply same is loss = rw (same, is) (counts_itself old (based base) reply loss)
 
-pub counts_unchanged : (old new : PortsValue) (a : Account) (reply : Reply) → new ≡ old → ReplyIsLossOf old a reply → ActCounts old new a a reply
+pub counts_unchanged : (old new : PortsValue) (a : Account) (reply : Reply) → new ≡ old → IfReplyLost reply (HasLost old a) → ActCounts old new a a reply
 counts_unchanged old new a reply same loss = rw same (counts_itself old a reply loss)
 
 -- the newest stamp is held

@@ -20,7 +20,8 @@ use Rattle.txc_ports.specs.declared.turn.Turn.{Turn}
 use Rattle.txc_ports.specs.declared.turn.Turn.TheVariants as turns
 use Rattle.txc_rw.specs.declared.given.Given.{Given}
 use Rattle.txc_rw.specs.declared.given.Given.TheVariants as given
-use Rattle.txc_rw.specs.Core.{answers_after, queried_after, IsAsk, IsAsked, IsIdle, IsOfCall, IsOfNeed, IsOfQuery, IsRightReply, IsRw, IsTurn, ReadingFits, RwHolds, RwValue}
+use Rattle.txc_rw.specs.Core.{answers_after, queried_after, IsAsked, IsIdle, IsOfCall, IsOfNeed, IsOfQuery, IsRightReply, IsRw, IsTurn, ReadingFits, RwHolds, RwValue}
+use Rattle.txc_ports.specs.Turns.{IsAsk}
 use Rattle.txc_rw.specs.Leading.{RowsLead}
 use Rattle.txc_ports.specs.Refusals.{refused_request}
 use Rattle.txc_world.specs.Writing.{FindLeadsRw, IsRead}

@@ -11,6 +11,7 @@ use Rattle.txc_registry.specs.Objects.{numbers_of, AllIdle, Objects}
 use Rattle.txc_ports.specs.declared.bounds.Bounds.{Bounds}
 use Rattle.txc_cushion.specs.declared.error.UnknownPin.{UnknownPin}
 use Rattle.txc_app.specs.Eval.{Next}
+use Rattle.txc_ports.specs.declared.error.TxnError.{TxnError}
 use Rattle.txc_ports.specs.declared.reply.PortReply.{PortReply}
 use Rattle.txc_ports.specs.declared.request.PortRequest.{PortRequest}
 use Rattle.txc_ports.specs.declared.request.PortRequest.TheVariants as requests
@@ -24,10 +25,12 @@ use Rattle.txc_world.specs.declared.did.Did.{Did}
 use Rattle.txc_world.specs.declared.did.Did.TheVariants.{Hit, Miss}
 use Rattle.txc_world.specs.declared.reply.End.{End}
 use Rattle.txc_world.specs.declared.reply.End.TheVariants as ends
-use Rattle.txc_txn.specs.Core.{CoreValue, begun_core, open_call, IsAsk, IsIdle, IsNoValue, IsTurn}
+use Rattle.txc_txn.specs.declared.pinning.PinStep.TheVariants.{Dropping}
+use Rattle.txc_txn.specs.Core.{CoreValue, begun_core, open_call, IsAt, IsIdle, IsNoValue, IsTurn}
 use Rattle.txc_rw.specs.declared.given.Given.{Given}
 use Rattle.txc_rw.specs.Core.{answers_after, IsOfCall, RwHolds, RwValue}
-use Rattle.txc_rw.specs.Core.{IsAsk as IsRwAsk, IsIdle as IsRwIdle, IsRw, IsTurn as IsRwTurn}
+use Rattle.txc_rw.specs.Core.{IsIdle as IsRwIdle, IsRw, IsTurn as IsRwTurn}
+use Rattle.txc_ports.specs.Turns.{IsAsk}
 use Rattle.txc_world.specs.declared.actor.OpenCall.{OpenCall}
 use Rattle.txc_world.specs.declared.actor.OpenTxn.{OpenTxn}
 use Rattle.txc_world.specs.declared.actor.OpenRw.{OpenRw}
@@ -43,19 +46,26 @@ use Rattle.txc_ports.specs.Asking.{AddsSuch, IsReplyTo}
 use Rattle.txc_world.specs.Asks.{AskLeads, DoesTell, FreshLeads}
 use Rattle.txc_world.specs.Cast.{called, ActorValue, CallValue, reads, resting, leaves}
 use Rattle.txc_world.specs.Keeping.{GiveBackLeads}
+use Rattle.txc_world.specs.Losing.{IfLost, IfTurnLost}
 use Rattle.txc_world.specs.Told.{Story, idle, reading, writing, leaving}
 
 -- a pin that is to be added is of the whole
 abbrev pub AddsPart : FrontValue → Turn → Type 0
 AddsPart whole turn = AddsSuch (IsPartOf whole) turn
 
+-- the reason that waits for the hold of a pin to be taken away is of no snapshot that is gone
+abbrev pub DropsNone : CoreValue → Type 0
+DropsNone c = (stamp : ℕ) (error : TxnError) → IsAt c (Dropping stamp error) → IfLost error ⊥
+
 -- the call's next turn is one of the core's, which has it open under its key while it asks; it is no value,
--- and asks to add only what the whole shows
+-- asks to add only what the whole shows, and has lost no snapshot
 pub record IsOpenCall (whole : FrontValue) (c : CoreValue) (call : OpenCall) : Type 0 where
   pub turn : IsTurn c call.turn
   pub no_value : IsNoValue call.turn
   pub key : IsAsk call.turn → open_call c ≡ Some call.key
   pub adds : AddsPart whole call.turn
+  pub not_lost : IfTurnLost call.turn ⊥
+  pub drops : DropsNone c
 
 abbrev pub HasCall : FrontValue → CoreValue → Option OpenCall → Type 0
 HasCall whole c None = IsIdle c
@@ -89,13 +99,14 @@ told_answers None answers = answers
 told_answers (Some call) answers = told_by_turn call.turn answers
 
 -- the call's next turn is one of the core's, which has it open under its key while it asks; its value comes
--- after all answers that were told
+-- after all answers that were told; and it has lost no snapshot
 pub record IsRwCall (c : RwValue) (call : OpenCall) : Type 0 where
   pub turn : IsRwTurn c call.turn
   pub kind : IsOfCall call.turn
-  pub key : IsRwAsk call.turn → c.call.top ≡ call.key
-  pub is_open : IsRwAsk call.turn → IsSome c.call.need
+  pub key : IsAsk call.turn → c.call.top ≡ call.key
+  pub is_open : IsAsk call.turn → IsSome c.call.need
   pub answers : c.answers ≡ answers_after (told_by_turn call.turn c.answers) call.key None call.turn
+  pub not_lost : IfTurnLost call.turn ⊥
 
 abbrev pub HasRwCall : RwValue → Option OpenCall → Type 0
 HasRwCall c None = IsRwIdle c

@@ -17,7 +17,7 @@ use Rattle.txc_world.specs.Cast.{ActorValue, ReadingValue, WritingValue, resting
 use Rattle.txc_world.specs.Actors.{BeginLeads, HasGivenBack, HasStarted, IsGivenUp, RequestLeads}
 use Rattle.txc_world.specs.Writing.{BeginRwLeads, CommitLeadsRw, HasFoundRw, HasStartedRw, RequestLeadsRw, WriteLeadsRw}
 use Rattle.txc_world.specs.Told.{after, begin_at, floor_at}
-use Rattle.txc_world.specs.Worlds.{WorldValue}
+use Rattle.txc_world.specs.Worlds.{IsTrueWorld, WorldValue}
 
 -- ---- a step of an actor
 
@@ -116,13 +116,14 @@ StepLeads next old (BeginIn place now staleness) reply new = MatchOption (slice_
 StepLeads next old (Keeper keep) reply new = KeepLeads keep old.ports new.ports reply
     × (new.actors ≡ old.actors)
 
--- what a step leaves of a world, and what is told of it
+-- what a step leaves of a world, and what is told of it; and it is a world that is true
 pub record HasStepped (next : Next) (old : WorldValue) (step : Step) (reply : Reply) (new : WorldValue)
     : Type 0 where
   pub told : new.told ≡ after old.told step reply
   pub leads : StepLeads next old step reply new
+  pub world : IsTrueWorld next new
 
--- the steps lead from the one world to the other: each to a world, from which the next one leads on
+-- the steps lead from the one world to the other: each to a world that is true, from which the next one leads on
 abbrev pub AreLed : Next → WorldValue → List Step → List Reply → WorldValue → Type 0
 AreLed next old [] replies new = new ≡ old
 AreLed next old (step ∷ steps) [] new = ⊥

@@ -1,6 +1,5 @@
 -- The books of a world: who has each hold of a stamp, and who uses each pin.
 use Rattle.std.specs.Prelude.{◌≡◌, ℕ, ◌+◌, ◌<◌, ◌≤◌, List, [], ◌∷◌, Option, Some, None, map, sum_by, false}
-use Rattle.txc_db.specs.declared.error.DbError.TheVariants.{SnapshotGone}
 use Rattle.txc_db.specs.DatabaseValue.{IsSound}
 use Rattle.txc_db.specs.Laws.{OneHoldLess}
 use Rattle.txc_cushion.specs.declared.entry.PinEntry.{PinEntry}
@@ -12,17 +11,12 @@ use Rattle.txc_cushion.specs.Laws.{AddCountsOnePin, FreshCountsUsers, GiveBackCo
 use Rattle.txc_ports.specs.declared.request.PortRequest.{PortRequest}
 use Rattle.txc_ports.specs.declared.request.PortRequest.TheVariants as requests
 use Rattle.txc_ports.specs.declared.reply.PortReply.{PortReply}
-use Rattle.txc_ports.specs.declared.error.TxnError.TheVariants.{SnapshotLost}
-use Rattle.txc_ports.specs.declared.turn.Turn.{Turn}
-use Rattle.txc_ports.specs.declared.turn.Turn.TheVariants as turns
 use Rattle.txc_txn.specs.Core.{left_after, left_pin, taken_after, CoreValue}
 use Rattle.txc_world.specs.declared.actor.Actor.{Actor}
 use Rattle.txc_world.specs.declared.actor.Actor.TheVariants.{Idle, Reading, Writing, Leaving}
 use Rattle.txc_world.specs.declared.did.Did.{Did}
-use Rattle.txc_world.specs.declared.did.Did.TheVariants as dids
 use Rattle.txc_world.specs.declared.reply.Reply.{Reply}
-use Rattle.txc_world.specs.declared.reply.Reply.TheVariants.{Asked, Refused}
-use Rattle.txc_world.specs.declared.reply.Refusal.TheVariants.{Transaction}
+use Rattle.txc_world.specs.Losing.{IfDidLose, IfReplyLost}
 use Rattle.txc_world.specs.Ports.{PortsValue}
 
 -- what an actor has: the stamps of the pins that it was handed or added, of each of which it is a user; and
@@ -114,10 +108,8 @@ gained reply = record { taken = taken_after [] reply; own = listed (left_after r
 
 -- what is asked at the stamp is gone only where it is held no more; and nothing else is refused so
 abbrev pub IsGone : PortRequest → PortsValue → Did → Type 0
-IsGone (requests.Query query stamp) p (dids.Refused (SnapshotGone horizon)) =
-    times stamp p.database.holds ≡ 0
-IsGone request p (dids.Refused (SnapshotGone horizon)) = ⊥
-IsGone request p did = Unit {0}
+IsGone (requests.Query query stamp) p did = IfDidLose did (times stamp p.database.holds ≡ 0)
+IsGone request p did = IfDidLose did ⊥
 
 -- a stamp of the account is held no more
 pub record HasLost (p : PortsValue) (account : Account) : Type 0 where
@@ -125,30 +117,16 @@ pub record HasLost (p : PortsValue) (account : Account) : Type 0 where
   pub had : 0 < times stamp account.taken + times stamp account.own
   pub lost : times stamp p.database.holds ≡ 0
 
--- a query is refused for a snapshot that is gone only where a stamp of the account is held no more
-abbrev pub IsLossOf : PortsValue → Account → Did → Type 0
-IsLossOf p account (dids.Refused (SnapshotGone horizon)) = HasLost p account
-IsLossOf p account did = Unit {0}
-
-abbrev pub ReplyIsLossOf : PortsValue → Account → Reply → Type 0
-ReplyIsLossOf p account (Asked did end) = IsLossOf p account did
-ReplyIsLossOf p account (Refused (Transaction (SnapshotLost horizon))) = HasLost p account
-ReplyIsLossOf p account reply = Unit {0}
-
-abbrev pub TurnIsLossOf : PortsValue → Account → Turn → Type 0
-TurnIsLossOf p account (turns.Refused (SnapshotLost horizon)) = HasLost p account
-TurnIsLossOf p account turn = Unit {0}
-
 -- one request of a transaction: it is fair, and is refused as gone only where that is so
 pub record AskCounts (request : PortRequest) (old new : PortsValue) (did : Did) (reply : PortReply)
     : Type 0 where
   pub fair : IsFair old new (spent request) (gained reply)
   pub gone : IsGone request old did
 
--- one step of an actor
+-- one step of an actor: it is fair, and is refused for a snapshot that is gone only where one of its own is
 pub record ActCounts (old new : PortsValue) (before after : Account) (reply : Reply) : Type 0 where
   pub fair : IsFair old new before after
-  pub loss : ReplyIsLossOf old before reply
+  pub loss : IfReplyLost reply (HasLost old before)
 
 -- ---- why
 

@@ -1,5 +1,5 @@
--- What a step of the keeper comes to: what is told of it, and what it leaves of the ports.
-use Rattle.std.specs.Prelude.{◌≡◌, Result, Ok, Err, Option, Some, None, [], ◌∷◌, length}
+-- What a step of the keeper leaves of the ports, and how it is told.
+use Rattle.std.specs.Prelude.{◌≡◌, ◌≤◌, Result, Ok, Err, Option, Some, None, [], ◌∷◌, length}
 use Rattle.txc_db.specs.Calls.{IsQueryRefused}
 use Rattle.txc_cushion.specs.declared.error.AddError.{AddError}
 use Rattle.txc_world.specs.declared.step.Keep.{Keep}
@@ -11,9 +11,7 @@ use Rattle.txc_world.specs.declared.reply.Refusal.TheVariants as refusals
 use Rattle.txc_world.specs.NodeSteps.{AdvanceLeads, SweepLeads}
 use Rattle.txc_world.specs.Ports.{PortsValue, whole_of, HasLedNode, KeepsRow}
 use Rattle.txc_world.specs.Asks.{UnpinLeads}
-use Rattle.txc_world.specs.Keeping.{stamps_of, AddSpareLeads, GiveBackLeads, IsToldAnswer, PinSpareLeads, RetireLeads, VacuumLeads, WriteLeads}
-use Rattle.txc_world.specs.Told.{keep_in, spare_after, IsKeepDue, IsNoReceipt}
-use Rattle.txc_world.specs.Tidy.{KeepsBalance}
+use Rattle.txc_world.specs.Keeping.{AddSpareLeads, GiveBackLeads, IsToldAnswer, PinSpareLeads, RetireLeads, VacuumLeads, WriteLeads}
 
 -- what each step leaves of the ports, by its reply
 abbrev pub KeepLeads : Keep → PortsValue → PortsValue → Reply → Type 0
@@ -46,12 +44,13 @@ KeepLeads (keeps.Advance node) old new (replies.Advanced advanced) =
     HasLedNode node (λ was is. AdvanceLeads old.actors (whole_of old) was is (Ok advanced)) old new
 KeepLeads (keeps.Advance node) old new (Refused (refusals.Node e)) =
     HasLedNode node (λ was is. AdvanceLeads old.actors (whole_of old) was is (Err e)) old new
-KeepLeads (keeps.Advance node) old new (Refused refusals.NoNode) = new ≡ old
+KeepLeads (keeps.Advance node) old new (Refused refusals.NoNode) = (new ≡ old) × (length old.nodes ≤ node)
 KeepLeads (keeps.Sweep node horizon) old new (replies.Swept count) =
     HasLedNode node (λ was is. SweepLeads old.actors horizon was is (Ok count)) old new
 KeepLeads (keeps.Sweep node horizon) old new (Refused (refusals.Node e)) =
     HasLedNode node (λ was is. SweepLeads old.actors horizon was is (Err e)) old new
-KeepLeads (keeps.Sweep node horizon) old new (Refused refusals.NoNode) = new ≡ old
+KeepLeads (keeps.Sweep node horizon) old new (Refused refusals.NoNode) =
+    (new ≡ old) × (length old.nodes ≤ node)
 KeepLeads keep old new reply = ⊥
 
 -- an addition, as it is told
@@ -60,12 +59,7 @@ told_addition (Some (Ok added)) = replies.Added
 told_addition (Some (Err e)) = Refused (refusals.Pincushion e)
 told_addition None = Refused refusals.NoRequest
 
--- the step left the ports so, and is told so
+-- the step left the ports so, and kept their row
 pub record IsKept (keep : Keep) (old new : PortsValue) (reply : Reply) : Type 0 where
   pub leads : KeepLeads keep old new reply
-  pub history : new.database.history ≡ keep_in keep reply old.database.history
-  pub spare : stamps_of new.spare ≡ spare_after keep reply (stamps_of old.spare)
-  pub due : IsKeepDue (length old.nodes) (stamps_of old.spare) keep reply
-  pub no_receipt : IsNoReceipt reply
   pub keeps : KeepsRow old new
-  pub balance : KeepsBalance keep old new reply

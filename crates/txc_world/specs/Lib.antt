@@ -8,6 +8,7 @@ pub mod Making
 pub mod Told
 pub mod Cast
 pub mod Actors
+pub mod Losing
 pub mod Books
 pub mod Tidy
 pub mod Writing

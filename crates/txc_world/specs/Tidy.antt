@@ -1,20 +1,18 @@
 -- Tidy lists of steps: the keeper takes nothing away that it doesn't have.
 use Rattle.std.specs.Prelude.{ℕ, ◌+◌, ◌≤◌, List, [], ◌∷◌, ◌++◌, Contains}
-use Rattle.txc_db.specs.declared.error.DbError.TheVariants.{SnapshotGone}
 use Rattle.txc_db.specs.DatabaseValue.{without}
-use Rattle.txc_ports.specs.declared.error.TxnError.TheVariants.{SnapshotLost}
 use Rattle.txc_cushion.specs.Entries.{stamps_of, times, users_of}
 use Rattle.txc_world.specs.declared.step.Keep.{Keep}
 use Rattle.txc_world.specs.declared.step.Keep.TheVariants as keeps
 use Rattle.txc_world.specs.declared.step.Step.{Step}
 use Rattle.txc_world.specs.declared.step.Step.TheVariants.{Actor, BeginIn, Keeper}
-use Rattle.txc_world.specs.declared.did.Did.TheVariants as dids
 use Rattle.txc_world.specs.declared.reply.Reply.{Reply}
 use Rattle.txc_world.specs.declared.reply.Reply.TheVariants as replies
-use Rattle.txc_world.specs.declared.reply.Reply.TheVariants.{Asked, Refused}
+use Rattle.txc_world.specs.declared.reply.Reply.TheVariants.{Refused}
 use Rattle.txc_world.specs.declared.reply.Refusal.TheVariants as refusals
 use Rattle.txc_world.specs.Books.{books_of, times_own, times_taken, Account, Books}
 use Rattle.txc_world.specs.Keeping.{stamps_of as stamps_of_pins}
+use Rattle.txc_world.specs.Losing.{IfReplyLost}
 use Rattle.txc_world.specs.Ports.{PortsValue}
 
 -- What the keeper has in hand, as its steps and their replies tell it: the stamps of the pins that it added
@@ -72,11 +70,9 @@ AreTidy purse (step ∷ steps) (reply ∷ replies) =
 
 -- ---- what comes of it
 
--- no query is refused for a snapshot that is gone
+-- nothing is refused for a snapshot that is gone: no request, no call, and no query of the transaction's own
 abbrev pub LosesNothing : Reply → Type 0
-LosesNothing (Asked (dids.Refused (SnapshotGone horizon)) end) = ⊥
-LosesNothing (Refused (refusals.Transaction (SnapshotLost horizon))) = ⊥
-LosesNothing reply = Unit {0}
+LosesNothing reply = IfReplyLost reply ⊥
 
 -- nor is it one of an actor; the keeper may ask for what is gone
 abbrev pub LosesNoSnapshot : Step → Reply → Type 0

@@ -1,8 +1,11 @@
 -- What a world keeps, and how it is told.
-use Rattle.std.specs.Prelude.{◌≡◌, ℕ, ◌≤◌, Bool, true, List, [], All, Option, None, Some, length, map}
+use Rattle.std.specs.Prelude.{◌≡◌, ℕ, ◌≤◌, Bool, true, false, List, [], All, Option, None, Some, length, map}
 use Rattle.txc_db.specs.History.{History, state_at}
+use Rattle.txc_db.specs.Seen.{FrontValue}
 use Rattle.txc_cushion.specs.declared.pin.Pin.{Pin}
 use Rattle.txc_app.specs.Eval.{Next}
+use Rattle.txc_shared.specs.Nodes.{start_of, NodeValue}
+use Rattle.txc_shared.specs.Runs.{IsNode}
 use Rattle.txc_ports.specs.Answers.{AreConsistent, IsFresh}
 use Rattle.txc_world.specs.declared.actor.Actor.{Actor}
 use Rattle.txc_world.specs.declared.settings.WorldSettings.{WorldSettings}
@@ -10,6 +13,7 @@ use Rattle.txc_world.specs.declared.reply.Refusal.{Refusal}
 use Rattle.txc_world.specs.declared.reply.Refusal.TheVariants.{NoActor, NotOpen}
 use Rattle.txc_world.specs.Told.{Reading, Story, idle, reading, writing, leaving, Told}
 use Rattle.txc_world.specs.Ports.{PortsValue, whole_of}
+use Rattle.txc_world.specs.Keeping.{stamps_of}
 use Rattle.txc_world.specs.Cast.{actor_at, ActorValue}
 use Rattle.txc_world.specs.Actors.{story_at, IsThere}
 use Rattle.txc_world.specs.Books.{account_at, books_of, Books}
@@ -54,6 +58,24 @@ pub record IsWorld {A C : Type 0} (next : Next) (settings : WorldSettings) (port
   pub passes : length actors ≡ ports.actors
   pub sessions : length floors ≡ length actors
   pub there : All (IsThere next (whole_of ports) settings.nodes) actors
+
+-- ---- between two steps
+
+-- What is true of a node between any two steps: what it has seen is of the history's row; each result that it
+-- holds is true in what it has seen, broken or not; and unless it is broken, it is so in the whole history, and
+-- the node is what a legal history of its records leaves.
+pub record IsTrueNode (next : Next) (whole : FrontValue) (n : NodeValue) : Type 0 where
+  pub row : n.seen.events ≡ whole.events
+  pub seen : IsNode next n.seen.history (start_of n.settings) n.records n.cache n.broken
+  pub right : n.broken ≡ false → IsNode next whole.history (start_of n.settings) n.records n.cache false
+
+-- what is true of a world between any two steps: the history that is told of it is its database's, and the pins
+-- are those that its keeper has; and it has the nodes of its settings, each of which is true
+pub record IsTrueWorld (next : Next) (w : WorldValue) : Type 0 where
+  pub history : w.told.history ≡ w.ports.database.history
+  pub spare : w.told.spare ≡ stamps_of w.ports.spare
+  pub count : length w.ports.nodes ≡ w.told.settings.nodes
+  pub nodes : All (IsTrueNode next (whole_of w.ports)) w.ports.nodes
 
 -- ---- pin sets
 

@@ -3,17 +3,19 @@ ghost use Rattle.std.specs.Prelude.{◌≡◌, ℕ, ◌≤◌, ◌<◌, ◌∷�
 ghost use Rattle.txc_registry.specs.Objects.{AllIdle, Objects};
 ghost use Rattle.txc_app.specs.Eval.{Next};
 ghost use Rattle.txc_rw.specs.Core.{IsOfCall};
-ghost use Rattle.txc_txn.specs.Core.{open_call, recorded_after, value_of, CoreHolds, IsAsk, IsAsking, IsCore, IsTurn};
-ghost use Rattle.txc_world.specs.Actors.{counted, holds_any, story_of, AddsPart, HasAsked, HasBegun, IsActor, IsBegun, IsNoted, IsOpenTxn};
+ghost use Rattle.txc_txn.specs.Core.{open_call, recorded_after, value_of, CoreHolds, IsAsking, IsCore, IsTurn};
+ghost use Rattle.txc_ports.specs.Turns.{IsAsk};
+ghost use Rattle.txc_world.specs.Actors.{counted, holds_any, story_of, AddsPart, DropsNone, HasAsked, HasBegun, IsActor, IsBegun, IsNoted, IsOpenTxn};
 ghost use Rattle.txc_world.specs.Acts.{ActLeads, LeavingLeads, ReadingLeads, RestingLeads};
 ghost use Rattle.txc_world.specs.Cast.{actor_value, opened, reading_value};
-ghost use Rattle.txc_world.specs.Books.{account_of, account_of_core, nothing, ActCounts, IsFair, IsLossOf};
+ghost use Rattle.txc_world.specs.Books.{account_of, account_of_core, nothing, ActCounts, HasLost, IsFair};
+ghost use Rattle.txc_world.specs.Losing.{IfDidLose, IfTurnLost};
 ghost use Rattle.txc_world.specs.Parts.{IsPartOf};
 ghost use Rattle.txc_world.specs.Ports.{whole_of, KeepsRow};
 ghost use Rattle.txc_world.specs.Told.{act_in, did_in, idle, leaving, story_after, IsActDue, IsActReply, IsNoCommit, ReplyExplains};
 
 use crate::actor::{Actor, OpenCall, OpenTxn};
-use crate::asked::Asked;
+use crate::asked::{Asked, Went};
 use crate::did::Did;
 use crate::ports::Ports;
 use crate::reply::{End, Refusal, Reply};
@@ -133,13 +135,6 @@ fn holds_any(reach: Reach, members: &[Pin]) -> bool
     members.iter().any(|pin| reach.holds(pin.stamp))
 }
 
-/// What a request did, and what the transaction does next.
-#[derive(Drop)]
-struct Went {
-    did: Did,
-    turn: Turn,
-}
-
 // Asks the port, and goes on with the reply.
 fn go_on<A: App, C: Cacheable>(
     alloc: Global,
@@ -153,6 +148,7 @@ fn go_on<A: App, C: Cacheable>(
     requires seen { IsPartOf (whole_of ports.old) txn.old.core.seen }
     requires nodes { txn.old.core.nodes ≡ length ports.old.nodes }
     requires adds { AddsPart (whole_of ports.old) (Turn.Ask request) }
+    requires drops { DropsNone txn.old.core }
     ensures asks { HasAsked A.next pass request ports.old ports.new txn.old txn.new result.did result.turn }
     ensures turn { IsTurn txn.new.core result.turn }
     ensures goes_on { IsAsk result.turn → open_call txn.new.core ≡ open_call txn.old.core }
@@ -167,7 +163,9 @@ fn go_on<A: App, C: Cacheable>(
     ensures keeps { KeepsRow ports.old ports.new }
     ensures spare { ports.new.spare ≡ ports.old.spare }
     ensures fair { IsFair ports.old ports.new (account_of_core txn.old.core) (account_of_core txn.new.core) }
-    ensures loss { IsLossOf ports.old (account_of_core txn.old.core) result.did }
+    ensures drops { DropsNone txn.new.core }
+    ensures loss { IfDidLose result.did (HasLost ports.old (account_of_core txn.old.core)) }
+    ensures lost { IfTurnLost result.turn (HasLost ports.old (account_of_core txn.old.core)) }
 {
     txn.is_kept();
     let Asked { did, reply } = ports.ask(alloc, pass, txn.core().seen(), request);

@@ -47,7 +47,6 @@ fn told_addition(added: Option<Result<(), AddError>>) -> Reply
 fn add<A: App>(ports: &mut Ports<A>, stamp: Stamp) -> Reply
     ensures { IsKept (Keep.Add stamp) ports.old ports.new result }
 {
-    ports.count_right();
     let added = ports.add_spare(stamp);
     told_addition(added)
 }
@@ -55,7 +54,6 @@ fn add<A: App>(ports: &mut Ports<A>, stamp: Stamp) -> Reply
 fn give_back<A: App>(ports: &mut Ports<A>, stamp: Stamp) -> Reply
     ensures { IsKept (Keep.GiveBack stamp) ports.old ports.new result }
 {
-    ports.count_right();
     match ports.give_back(&[stamp]) {
         Ok(()) => Reply::GivenBack,
         Err(unknown) => Reply::Refused(Refusal::GiveBack(unknown)),
@@ -65,7 +63,6 @@ fn give_back<A: App>(ports: &mut Ports<A>, stamp: Stamp) -> Reply
 fn retire<A: App>(alloc: Global, ports: &mut Ports<A>, now: u64, age: u64) -> Reply
     ensures { IsKept (Keep.Retire now age) ports.old ports.new result }
 {
-    ports.count_right();
     match ports.retire(alloc, now, age) {
         Ok(stamps) => Reply::Retired(stamps),
         Err(_) => Reply::Refused(Refusal::Memory),
@@ -75,7 +72,6 @@ fn retire<A: App>(alloc: Global, ports: &mut Ports<A>, now: u64, age: u64) -> Re
 fn unpin<A: App>(ports: &mut Ports<A>, stamp: Stamp) -> Reply
     ensures { IsKept (Keep.Unpin stamp) ports.old ports.new result }
 {
-    ports.count_right();
     match ports.unpin(stamp) {
         Ok(()) => Reply::Unpinned,
         Err(refusal) => Reply::Refused(Refusal::Database(refusal)),
@@ -124,15 +120,9 @@ fn sweep<A: App>(alloc: Global, ports: &mut Ports<A>, node: usize, horizon: Stam
     }
 }
 
-/// Makes a step of the keeper.
-pub(crate) fn keep<A: App>(alloc: Global, ports: &mut Ports<A>, keep: &Keep) -> Reply
-    ensures leads { KeepLeads keep.now ports.old ports.new result }
-    ensures history { ports.new.database.history ≡ keep_in keep.now result ports.old.database.history }
-    ensures spare { stamps_of ports.new.spare ≡ spare_after keep.now result (stamps_of ports.old.spare) }
-    ensures due { IsKeepDue (length ports.old.nodes) (stamps_of ports.old.spare) keep.now result }
-    ensures no_receipt { IsNoReceipt result }
-    ensures keeps { KeepsRow ports.old ports.new }
-    ensures balance { KeepsBalance keep.now ports.old ports.new result }
+// A step of the keeper at the ports.
+fn make<A: App>(alloc: Global, ports: &mut Ports<A>, keep: &Keep) -> Reply
+    ensures { IsKept keep.now ports.old ports.new result }
 {
     match keep {
         Keep::Write(change) => write(alloc, ports, change),
@@ -146,4 +136,18 @@ pub(crate) fn keep<A: App>(alloc: Global, ports: &mut Ports<A>, keep: &Keep) -> 
         Keep::Advance(node) => advance(alloc, ports, *node),
         Keep::Sweep(node, horizon) => sweep(alloc, ports, *node, *horizon),
     }
+}
+
+/// Makes a step of the keeper.
+pub(crate) fn keep<A: App>(alloc: Global, ports: &mut Ports<A>, keep: &Keep) -> Reply
+    ensures leads { KeepLeads keep.now ports.old ports.new result }
+    ensures history { ports.new.database.history ≡ keep_in keep.now result ports.old.database.history }
+    ensures spare { stamps_of ports.new.spare ≡ spare_after keep.now result (stamps_of ports.old.spare) }
+    ensures due { IsKeepDue (length ports.old.nodes) (stamps_of ports.old.spare) keep.now result }
+    ensures no_receipt { IsNoReceipt result }
+    ensures keeps { KeepsRow ports.old ports.new }
+    ensures balance { KeepsBalance keep.now ports.old ports.new result }
+{
+    ports.count_right();
+    make(alloc, ports, keep)
 }

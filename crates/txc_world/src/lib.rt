@@ -21,6 +21,7 @@ mod reply;
 mod sessions;
 mod settings;
 mod step;
+mod truth;
 mod world;
 mod writing;
 

@@ -93,6 +93,7 @@ impl<A: App> Ports<A> {
     pub(crate) fn node(&self, at: usize) -> &StoredNode<A>
         requires { at < length self.now.nodes }
         ensures there { slice_get self.now.nodes at ≡ Some result.now }
+        ensures row { result.now.seen.events ≡ self.now.database.events }
         ensures seen { result.now.broken ≡ false → IsPartOf (whole_of self.now) result.now.seen }
         ensures passes { result.now.passes ≡ self.now.actors + 1 }
     {

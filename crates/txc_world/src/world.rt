@@ -8,7 +8,7 @@ ghost use Rattle.txc_shared.specs.Nodes.{start_of};
 ghost use Rattle.txc_shared.specs.Runs.{IsNode};
 ghost use Rattle.txc_registry.specs.Objects.{AllIdle};
 ghost use Rattle.txc_world.specs.Acts.{AreLed, StepLeads};
-ghost use Rattle.txc_world.specs.Worlds.{due_of_pins, AreMembersOf, IsBalanced};
+ghost use Rattle.txc_world.specs.Worlds.{due_of_pins, AreMembersOf, IsBalanced, IsTrueWorld};
 ghost use Rattle.txc_world.specs.Cast.{reads, resting, ReadingValue};
 ghost use Rattle.txc_world.specs.Making.{AreNewPorts};
 ghost use Rattle.txc_world.specs.Sessions.{NobodyGoesBack};
@@ -171,6 +171,13 @@ impl<A: App, C: Cacheable> World<A, C> {
         node
     }
 
+    /// What is true of every world between two steps. It goes over the nodes, and changes nothing.
+    pub fn is_true(&self)
+        ensures { IsTrueWorld A.next self.now }
+    {
+        self.ports.are_true();
+    }
+
     /// The counts of a node's records, as it is between two steps. It takes no memory.
     pub fn counts(&self, at: usize) -> Result<Counts, Refusal>
         ensures due { MatchOption (slice_get self.now.ports.nodes at) (result ≡ Err Refusal.NoNode)
@@ -195,11 +202,13 @@ impl<A: App, C: Cacheable> World<A, C> {
         ensures told { self.new.told ≡ after self.old.told (Step.Actor place doing.now) result }
         ensures leads { StepLeads A.next self.old (Step.Actor place doing.now) result self.new }
         ensures due { IsDue self.old.told (Step.Actor place doing.now) result }
+        ensures world { IsTrueWorld A.next self.new }
         ensures explained { IsExplainedIn A.next self.new.told.history self.old.told (Step.Actor place doing.now) result }
         ensures balanced { (purse : Purse) → IsBalanced self.old purse
             → IsBalanced self.new purse × LosesNothing result }
     {
         if place >= self.actors.len() {
+            self.ports.are_true();
             return Reply::Refused(Refusal::NoActor);
         }
         transactions_stay_right();
@@ -211,6 +220,7 @@ impl<A: App, C: Cacheable> World<A, C> {
         let (actor, reply) = act(alloc, &mut self.ports, renew_after, place, actor, doing);
         put_back(&mut self.actors, place, actor);
         note(&mut self.sessions, place, &reply);
+        self.ports.are_true();
         reply
     }
 
@@ -218,6 +228,7 @@ impl<A: App, C: Cacheable> World<A, C> {
     fn begin_in(&mut self, alloc: Global, place: usize, now: u64, staleness: u64) -> Reply
         ensures told { self.new.told ≡ after self.old.told (Step.BeginIn place now staleness) result }
         ensures leads { StepLeads A.next self.old (Step.BeginIn place now staleness) result self.new }
+        ensures world { IsTrueWorld A.next self.new }
         ensures due { IsDue self.old.told (Step.BeginIn place now staleness) result }
         ensures explained { IsExplainedIn A.next self.new.told.history self.old.told
             (Step.BeginIn place now staleness) result }
@@ -237,6 +248,7 @@ impl<A: App, C: Cacheable> World<A, C> {
     pub fn step(&mut self, alloc: Global, step: &Step) -> Reply
         ensures told { self.new.told ≡ after self.old.told step.now result }
         ensures leads { StepLeads A.next self.old step.now result self.new }
+        ensures world { IsTrueWorld A.next self.new }
         ensures due { IsDue self.old.told step.now result }
         ensures explained { IsExplainedIn A.next self.new.told.history self.old.told step.now result }
         ensures balanced { (purse : Purse) → IsBalanced self.old purse → IsTidy step.now result purse
@@ -250,7 +262,11 @@ impl<A: App, C: Cacheable> World<A, C> {
                 now,
                 staleness,
             } => self.begin_in(alloc, *actor, *now, *staleness),
-            Step::Keeper(doing) => keep(alloc, &mut self.ports, doing),
+            Step::Keeper(doing) => {
+                let reply = keep(alloc, &mut self.ports, doing);
+                self.ports.are_true();
+                reply
+            }
         }
     }
 

@@ -3,9 +3,11 @@ ghost use Rattle.std.specs.Prelude.{◌≡◌, ℕ, ◌++◌, ◌∷◌, ◌<◌
 ghost use Rattle.txc_rows.specs.declared.query.Change.{Change};
 ghost use Rattle.txc_registry.specs.Objects.{AllIdle};
 ghost use Rattle.txc_rw.specs.declared.rw_core.TheConstants.{MAX_CHANGES};
-ghost use Rattle.txc_rw.specs.Core.{answers_after, IsAsk, IsCallEnd, IsIdle, IsOfCall, IsOfQuery, IsRw, IsTurn, IsWriteRefused, RwHolds};
+ghost use Rattle.txc_rw.specs.Core.{answers_after, IsIdle, IsOfCall, IsOfQuery, IsRw, IsTurn, IsWriteRefused, RwHolds};
+ghost use Rattle.txc_ports.specs.Turns.{IsAsk, IsCallEnd};
 ghost use Rattle.txc_world.specs.Actors.{asked_query, story_of, IsActor, IsEndOf, IsOpenRw, IsToldQuery};
-ghost use Rattle.txc_world.specs.Books.{account_of, nothing, ActCounts, IsLossOf, TurnIsLossOf};
+ghost use Rattle.txc_world.specs.Books.{account_of, nothing, ActCounts, HasLost};
+ghost use Rattle.txc_world.specs.Losing.{IfDidLose, IfTurnLost};
 ghost use Rattle.txc_world.specs.Ports.{whole_of, KeepsRow};
 ghost use Rattle.txc_world.specs.Acts.{RestingLeads, WritingLeads};
 ghost use Rattle.txc_world.specs.Cast.{actor_value, writing_value};
@@ -14,7 +16,7 @@ ghost use Rattle.txc_world.specs.Told.{act_in, idle, story_after, IsActDue, IsAc
 
 use crate::acting::note;
 use crate::actor::{Actor, OpenCall, OpenRw};
-use crate::did::Did;
+use crate::asked::Went;
 use crate::ports::Ports;
 use crate::reply::{End, Refusal, Reply};
 use crate::step::Act;
@@ -114,13 +116,6 @@ fn end_of(turn: Turn) -> End
     }
 }
 
-/// What a request did, and what the transaction does next.
-#[derive(Drop)]
-struct Went {
-    did: Did,
-    turn: Turn,
-}
-
 // Asks the query of the open call at the base, and goes on with what was found.
 fn go_on<A: App, C: Cacheable>(
     alloc: Global,
@@ -146,7 +141,7 @@ fn go_on<A: App, C: Cacheable>(
     ensures changes { core.new.changes ≡ core.old.changes }
     ensures asks { HasAskedRw A.next query.now ports.old core.old core.new registry.old registry.new
         result.did result.turn }
-    ensures loss { IsLossOf ports.old (record { taken = []; own = core.old.base ∷ [] }) result.did }
+    ensures loss { IfDidLose result.did (HasLost ports.old (record { taken = []; own = core.old.base ∷ [] })) }
 {
     ports.count_right();
     let base = core.base();
@@ -240,7 +235,7 @@ fn find<A: App, C: Cacheable>(
     ensures read { IsRead query.now core.old.queried core.new.queried result }
     ensures same { core.new ≡ record core.old { queried = core.new.queried; answers = core.new.answers } }
     ensures leads { FindLeadsRw query.now core.old.base ports.old result }
-    ensures loss { TurnIsLossOf ports.old (record { taken = []; own = core.old.base ∷ [] }) result }
+    ensures loss { IfTurnLost result (HasLost ports.old (record { taken = []; own = core.old.base ∷ [] })) }
 {
     ports.count_right();
     let turn = core.ask(alloc, registry, *query);

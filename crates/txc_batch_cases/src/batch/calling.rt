@@ -14,12 +14,25 @@ use txc_script::{RunFault, Status};
 use txc_settings::Settings;
 use txc_world::World;
 
+/// The permits of the functions of all workers; none where memory was refused twice.
+pub(super) fn pool_of(alloc: Global, settings: Settings) -> Option<PermitPool> {
+    for _ in 0..2u32 {
+        if let Ok(pool) = PermitPool::new(alloc, settings.permits as u64) {
+            return Some(pool);
+        }
+    }
+    None
+}
+
 /// The registries of the workers, which share the permits.
-fn workers(alloc: Global, settings: Settings) -> Result<Vec<Registry<Program, Object>>, AllocError>
+fn workers(
+    alloc: Global,
+    settings: Settings,
+    pool: &mut PermitPool,
+) -> Result<Vec<Registry<Program, Object>>, AllocError>
     ensures { IfOk result (λ crew. IsCrew crew.items) }
 {
-    let mut pool = PermitPool::new(alloc, settings.permits as u64)?;
-    registries(alloc, &mut pool, settings.workers)
+    registries(alloc, pool, settings.workers)
 }
 
 /// Runs a script over a new world.
@@ -27,10 +40,11 @@ pub(super) fn run<R: Read, W: Write, H: Threads + Wait + Sync>(
     rt: &H,
     alloc: Global,
     settings: Settings,
+    pool: &mut PermitPool,
     reader: &mut R,
     writer: &mut W,
 ) -> Result<Status, RunFault> {
-    let Ok(crew) = workers(alloc, settings) else {
+    let Ok(crew) = workers(alloc, settings, pool) else {
         return Err(RunFault::Memory);
     };
     match World::<Program, Object>::new(alloc, stage_settings(settings), Vec::new(alloc)) {

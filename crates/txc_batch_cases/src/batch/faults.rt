@@ -1,6 +1,6 @@
 //! What is wrong with a malformed line of a batch's script, as the program says it on standard error.
-use super::calling::run;
-use super::{room, settings_of};
+use super::calling::{pool_of, run};
+use super::{output, settings_of};
 use std::alloc::Global;
 use std::sync::Wait;
 use std::thread::Threads;
@@ -64,9 +64,10 @@ static FAULTS: [(&str, &str); 15] = [
 /// What the program says of a line that is malformed.
 fn try_said<H: Threads + Wait + Sync>(rt: &H, alloc: Global, script: &str) -> Option<String> {
     let settings = settings_of(alloc, "")?;
-    let mut written = room(alloc)?;
+    let mut written = output(alloc)?;
+    let mut pool = pool_of(alloc, settings)?;
     let mut reader = script.as_bytes();
-    match run(rt, alloc, settings, &mut reader, &mut written) {
+    match run(rt, alloc, settings, &mut pool, &mut reader, &mut written) {
         Ok(Status::Malformed(line)) => format!(in alloc; "{line}").ok(),
         _ => None,
     }

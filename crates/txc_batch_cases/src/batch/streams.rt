@@ -1,53 +1,65 @@
 //! Runs of a batch's script that ends early, and whose reader or writer fails.
-use super::calling::run;
-use super::{Case, OUT_OF_MEMORY, is_played, room, settings_of};
+use super::calling::{pool_of, run};
+use super::{Case, OUT_OF_MEMORY, output, play, settings_of};
 use std::alloc::Global;
 use std::io::{self, Read, Write};
 use std::sync::Wait;
 use std::thread::Threads;
-use txc_script::exit_of;
+use txc_script::{MAX_READS, exit_of};
 
 const SETTINGS: &str = "workers = 1";
 
-const SCRIPT: &[u8] = b"put 1 7 2 a\npin 1000\njob 1000 0 f1(2) f0(7)\njob 1000 0 f2(2,7)\n";
+const SCRIPT: &str = "put 1 7 2 a\npin 1000\njob 1000 0 f1(2) f0(7)\njob 1000 0 f2(2,7)\n";
 
 /// What a run of the whole script writes.
-const REPLIES: &[u8] = b"at 1\nat 2\njob 0 61 61\njob 1 613b61\n";
+const REPLIES: &str = "at 1\nat 2\njob 0 61 61\njob 1 613b61\n";
 
 /// What is written of a script that ends with so many whole lines of it.
-const ENDED: [&[u8]; 5] = [
-    b"",
-    b"at 1\n",
-    b"at 1\nat 2\n",
-    b"at 1\nat 2\njob 0 61 61\n",
+const ENDED: [&str; 5] = [
+    "",
+    "at 1\n",
+    "at 1\nat 2\n",
+    "at 1\nat 2\njob 0 61 61\n",
     REPLIES,
 ];
 
 /// What is written of the lines before one that is malformed, and of that.
-const MALFORMED: [&[u8]; 4] = [
-    b"line 1: malformed\n",
-    b"at 1\nline 2: malformed\n",
-    b"at 1\nat 2\nline 3: malformed\n",
-    b"at 1\nat 2\nline 4: malformed\n",
+const MALFORMED: [&str; 4] = [
+    "line 1: malformed\n",
+    "at 1\nline 2: malformed\n",
+    "at 1\nat 2\nline 3: malformed\n",
+    "at 1\nat 2\nline 4: malformed\n",
 ];
 
 /// The beginnings of lines of the script that are lines too, and what is written of a script that ends with one.
 /// The last line of a script may lack its line feed.
-const BEGINNINGS: [(&[u8], &[u8]); 8] = [
-    (b"put 1 7 2 a", b"at 1\n"),
-    (b"pin 1", b"at 1\nat 2\n"),
-    (b"pin 10", b"at 1\nat 2\n"),
-    (b"pin 100", b"at 1\nat 2\n"),
-    (b"pin 1000", b"at 1\nat 2\n"),
-    (b"job 1000 0 f1(2)", b"at 1\nat 2\njob 0 61\n"),
-    (b"job 1000 0 f1(2) f0(7)", b"at 1\nat 2\njob 0 61 61\n"),
-    (b"job 1000 0 f2(2,7)", REPLIES),
+const BEGINNINGS: [(&str, &str); 8] = [
+    ("put 1 7 2 a", "at 1\n"),
+    ("pin 1", "at 1\nat 2\n"),
+    ("pin 10", "at 1\nat 2\n"),
+    ("pin 100", "at 1\nat 2\n"),
+    ("pin 1000", "at 1\nat 2\n"),
+    ("job 1000 0 f1(2)", "at 1\nat 2\njob 0 61\n"),
+    ("job 1000 0 f1(2) f0(7)", "at 1\nat 2\njob 0 61 61\n"),
+    ("job 1000 0 f2(2,7)", REPLIES),
 ];
+
+/// Comments: how many bytes they have, what stands after them, what is written, and the status.
+const COMMENTS: [(usize, &str, &str, u8); 3] = [
+    (4096, "\n", "", 0),
+    (4097, "\n", "line 1: malformed\n", 1),
+    (9, "\r\n", "line 1: malformed\n", 1),
+];
+
+/// What is repeated without an end.
+const ENDLESS: &str = "pin 9\n";
 
 /// Gives the bytes one a read, and fails at one read.
 #[derive(Clone, Copy)]
 struct Feeder<'a> {
     left: &'a [u8],
+    /// What is given again and again after that.
+    after: &'a [u8],
     fails_at: usize,
     reads: usize,
 }
@@ -57,6 +69,9 @@ impl Read for Feeder<'_> {
         self.reads = self.reads.wrapping_add(1);
         if self.reads == self.fails_at {
             return Err(io::Error::from(io::ErrorKind::Other));
+        }
+        if self.left.is_empty() {
+            self.left = self.after;
         }
         let n = 1usize.min(buf.len()).min(self.left.len());
         let (given, left) = self.left.split_at(n);
@@ -95,36 +110,35 @@ impl Write for Taker {
 }
 
 /// How many lines have ended, and what comes after them.
-fn split_lines(text: &[u8]) -> (usize, &[u8]) {
-    let mut ended = 0usize;
-    let mut from = 0usize;
-    for (at, byte) in text.iter().enumerate() {
-        if *byte == b'\n' {
-            ended = ended.saturating_add(1);
-            from = at.saturating_add(1);
-        }
+fn split_lines(text: &str) -> (usize, &str) {
+    match text.rsplit_once('\n') {
+        Some((ended, last)) => (ended.split('\n').count(), last),
+        None => (0, text),
     }
-    (ended, text.get(from..).unwrap_or(b""))
 }
 
 /// What is written of so much of the script, and the status of the program after it.
-fn cut(script: &[u8]) -> (&'static [u8], u8) {
+fn cut(script: &str) -> (&'static str, u8) {
     let (ended, last) = split_lines(script);
     if last.is_empty() {
-        return (ENDED.get(ended).copied().unwrap_or(b""), 0);
+        return (ENDED.get(ended).copied().unwrap_or(""), 0);
     }
     for (line, replies) in &BEGINNINGS {
         if *line == last {
             return (*replies, 0);
         }
     }
-    (MALFORMED.get(ended).copied().unwrap_or(b""), 1)
+    (MALFORMED.get(ended).copied().unwrap_or(""), 1)
 }
 
 /// The first place where the script may be cut so that something else is written.
-pub fn other_cut<H: Threads + Wait + Sync>(rt: &H, alloc: Global) -> Option<usize> {
+pub(super) fn other_cut<H: Threads + Wait + Sync>(
+    rt: &H,
+    alloc: Global,
+    answer: &mut String,
+) -> Option<usize> {
     for end in 0..SCRIPT.len() {
-        let script = SCRIPT.get(..end).unwrap_or(b"");
+        let script = SCRIPT.get(..end).unwrap_or("");
         let (replies, status) = cut(script);
         let case = Case {
             settings: SETTINGS,
@@ -132,7 +146,7 @@ pub fn other_cut<H: Threads + Wait + Sync>(rt: &H, alloc: Global) -> Option<usiz
             replies,
             status,
         };
-        if !is_played(rt, alloc, case) {
+        if play(rt, alloc, case, answer).is_none() {
             return Some(end);
         }
     }
@@ -144,38 +158,39 @@ pub fn other_cut<H: Threads + Wait + Sync>(rt: &H, alloc: Global) -> Option<usiz
 fn ran<H: Threads + Wait + Sync>(
     rt: &H,
     alloc: Global,
-    read_fails: usize,
-    write_fails: usize,
+    script: &[u8],
+    (read_fails, write_fails): (usize, usize),
 ) -> Option<(Vec<u8>, u8)> {
     let settings = settings_of(alloc, SETTINGS)?;
+    let mut pool = pool_of(alloc, settings)?;
     let mut taker = Taker {
-        taken: room(alloc)?,
+        taken: output(alloc)?,
         fails_at: write_fails,
         writes: 0,
     };
     let mut feeder = Feeder {
-        left: SCRIPT,
+        left: script,
+        after: b"",
         fails_at: read_fails,
         reads: 0,
     };
-    let ended = run(rt, alloc, settings, &mut feeder, &mut taker);
+    let ended = run(rt, alloc, settings, &mut pool, &mut feeder, &mut taker);
     Some((taker.taken, exit_of(&ended)))
 }
 
 /// Whether a run that fails there writes that and ends so; once more where it was refused memory.
-fn fails_so<H: Threads + Wait + Sync>(
+fn gives<H: Threads + Wait + Sync>(
     rt: &H,
     alloc: Global,
-    read_fails: usize,
-    write_fails: usize,
-    replies: &[u8],
-    status: u8,
+    script: &[u8],
+    fails: (usize, usize),
+    (replies, status): (&str, u8),
 ) -> bool {
     for _ in 0..2u32 {
-        let Some((written, ended)) = ran(rt, alloc, read_fails, write_fails) else {
+        let Some((written, ended)) = ran(rt, alloc, script, fails) else {
             continue;
         };
-        if written.as_slice() == replies && ended == status {
+        if written.as_slice() == replies.as_bytes() && ended == status {
             return true;
         }
         if ended != OUT_OF_MEMORY {
@@ -187,9 +202,9 @@ fn fails_so<H: Threads + Wait + Sync>(
 
 /// What is written where this call of the writer fails: it takes the replies to the lines byte by byte, is
 /// flushed, takes what the jobs came to, and is flushed again.
-fn written_before(call: usize) -> &'static [u8] {
+fn written_before(call: usize) -> &'static str {
     let of_lines = ENDED[2].len();
-    let flushes = usize::from(call > of_lines + 1);
+    let flushes = usize::from(call > of_lines.saturating_add(1));
     REPLIES
         .get(..call.saturating_sub(1).saturating_sub(flushes))
         .unwrap_or(REPLIES)
@@ -197,17 +212,68 @@ fn written_before(call: usize) -> &'static [u8] {
 
 /// The first read or write at whose failure a run does something else. After a failed read that is what was
 /// written of the lines that had ended; no job is run then.
-pub fn other_stream<H: Threads + Wait + Sync>(rt: &H, alloc: Global) -> Option<usize> {
-    for read in 1..SCRIPT.len().saturating_add(2) {
+pub(super) fn other_stream<H: Threads + Wait + Sync>(rt: &H, alloc: Global) -> Option<usize> {
+    let script = SCRIPT.as_bytes();
+    for read in 1..script.len().saturating_add(2) {
         let (ended, _) = split_lines(SCRIPT.get(..read.saturating_sub(1)).unwrap_or(SCRIPT));
-        let replies = ENDED.get(ended.min(2)).copied().unwrap_or(b"");
-        if !fails_so(rt, alloc, read, usize::MAX, replies, 4) {
+        let replies = ENDED.get(ended.min(2)).copied().unwrap_or("");
+        if !gives(rt, alloc, script, (read, usize::MAX), (replies, 4)) {
             return Some(read);
         }
     }
     for write in 1..REPLIES.len().saturating_add(3) {
-        if !fails_so(rt, alloc, 0, write, written_before(write), 4) {
+        if !gives(rt, alloc, script, (0, write), (written_before(write), 4)) {
             return Some(write);
+        }
+    }
+    None
+}
+
+/// A reader that never ends is read so often, and no more. What is wrong, if it is not.
+pub(super) fn endless_reader_ends<H: Threads + Wait + Sync>(
+    rt: &H,
+    alloc: Global,
+) -> Option<&'static str> {
+    let Some(settings) = settings_of(alloc, "row_cap = 8") else {
+        return Some("no memory");
+    };
+    let Some(mut pool) = pool_of(alloc, settings) else {
+        return Some("no pool");
+    };
+    let mut feeder = Feeder {
+        left: b"",
+        after: ENDLESS.as_bytes(),
+        fails_at: 0,
+        reads: 0,
+    };
+    let ended = run(rt, alloc, settings, &mut pool, &mut feeder, &mut io::sink());
+    if exit_of(&ended) != 4 || feeder.reads as u64 != MAX_READS {
+        return Some("another count of reads");
+    }
+    None
+}
+
+/// A `#` and more of them, and what stands after them.
+fn comment(alloc: Global, count: usize, end: &str) -> Option<Vec<u8>> {
+    let mut script = output(alloc)?;
+    for _ in 0..count {
+        script.push(b'#').ok()?;
+    }
+    script.extend_from_slice(end.as_bytes()).ok()?;
+    Some(script)
+}
+
+/// What is written of a comment that is something else.
+pub(super) fn other_comment<H: Threads + Wait + Sync>(
+    rt: &H,
+    alloc: Global,
+) -> Option<&'static str> {
+    for (count, end, written, status) in &COMMENTS {
+        let Some(script) = comment(alloc, *count, end) else {
+            return Some("no room");
+        };
+        if !gives(rt, alloc, &script, (0, usize::MAX), (written, *status)) {
+            return Some(*written);
         }
     }
     None

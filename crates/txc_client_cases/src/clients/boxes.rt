@@ -1,5 +1,5 @@
 //! Clients of the program's functions, in boxes, and all that they stand on.
-ghost use Rattle.std.specs.Prelude.{◌≡◌, ◌≤◌, All};
+ghost use Rattle.std.specs.Prelude.{◌≡◌, ◌≤◌, All, IfOk};
 ghost use Rattle.txc_registry.specs.Activity.{idle};
 ghost use Rattle.txc_functions.specs.Program.{program};
 
@@ -16,10 +16,13 @@ use txc_app::App;
 use txc_client::Client;
 use txc_cushion::Pincushion;
 use txc_db::{Database, DbCore, Naming};
-use txc_functions::{Again, BodiesAndBody, BodiesIn, BodyAt, Function, Itself, Program};
+use txc_functions::{
+    Again, BodiesAndBody, BodiesIn, BodyAt, Definition, Function, Itself, Program,
+};
+use txc_judge::{Verdict, play_lines};
 use txc_node::Record;
 use txc_permits::PermitPool;
-use txc_players::{is_played, room};
+use txc_players::room;
 use txc_registry::{Cacheable, Registry, enlist};
 use txc_shared::{NodeSettings, SharedNode};
 use txc_stream::EventRow;
@@ -63,9 +66,9 @@ fn work_of<
     rows: (DbCore, EventRow<Record>),
     one: Vec<C>,
     other: Vec<C>,
-    plan: (Work, PermitPool),
+    plan: (Work, PermitPool, u64),
     answer: &mut String,
-) -> Option<bool>
+) -> Option<Verdict>
     requires database { rows.0.events ≡ J.database_row }
     requires node { rows.1 ≡ J.node_rows 0 }
     requires idle { All (λ c. C.activity c ≡ idle) one.items }
@@ -74,7 +77,7 @@ fn work_of<
     requires means_too { All (λ c. C.says c ≡ A.next (C.number c)) other.items }
 {
     let (core, row) = rows;
-    let (work, pool) = plan;
+    let (work, pool, permits) = plan;
     let database = Database::<J>::new(alloc, core).ok()?;
     let cushion = Pincushion::new(alloc, &database).ok()?;
     let mut nodes = Vec::new(alloc);
@@ -98,15 +101,16 @@ fn work_of<
                 (one, other),
                 pool,
             );
-            Some(is_played(&mut desk, alloc, "", lines, answer))
+            play_lines(&mut desk, alloc, lines, permits as usize, answer)
         }
-        Work::Threads => Some(are_explained(
-            rt,
-            alloc,
-            (&database, &cushion, &nodes[0]),
-            keeper,
-            (one, other),
-        )),
+        Work::Threads => {
+            let ports = (&database, &cushion, &nodes[0]);
+            if are_explained(rt, alloc, ports, keeper, (one, other)) {
+                Some(Verdict::Wanted(0))
+            } else {
+                None
+            }
+        }
     }
 }
 
@@ -119,16 +123,37 @@ fn work_over<R: Threads + Wait + Sync, C: Cacheable + Send>(
     script: Script,
     pool: PermitPool,
     answer: &mut String,
-) -> Option<bool>
+) -> Option<Verdict>
     requires idle { All (λ c. C.activity c ≡ idle) one.items }
     requires means { All (λ c. C.says c ≡ program (C.number c)) one.items }
     requires idle_too { All (λ c. C.activity c ≡ idle) other.items }
     requires means_too { All (λ c. C.says c ≡ program (C.number c)) other.items }
 {
-    let (_, events, records, work) = script;
+    let (permits, events, records, work) = script;
     let core = DbCore::new(alloc, events.clamp(1, 4096)).ok()?;
     let row = EventRow::new(alloc, records.clamp(1, 16384)).ok()?;
-    work_of::<Program, C, Brand, R>(rt, alloc, (core, row), one, other, (work, pool), answer)
+    work_of::<Program, C, Brand, R>(
+        rt,
+        alloc,
+        (core, row),
+        one,
+        other,
+        (work, pool, permits),
+        answer,
+    )
+}
+
+/// The object of a function, which takes its permits from the pool.
+fn function<D: Definition>(
+    alloc: Global,
+    pool: &mut PermitPool,
+    definition: D,
+) -> Result<Function<D>, AllocError>
+    ensures idle { IfOk result (λ f. ⟦<Function<D> as Cacheable>⟧.activity f ≡ idle) }
+    ensures number { IfOk result (λ f. ⟦<Function<D> as Cacheable>⟧.number f ≡ D.number definition) }
+    ensures says { IfOk result (λ f. ⟦<Function<D> as Cacheable>⟧.says f ≡ D.says definition) }
+{
+    Ok(Function::new(alloc, pool.share()?, definition))
 }
 
 /// Makes functions for two clients: the first has all but the count, the other three.
@@ -137,62 +162,67 @@ fn started<R: Threads + Wait + Sync>(
     alloc: Global,
     script: Script,
     answer: &mut String,
-) -> Result<Option<bool>, AllocError> {
+) -> Result<Option<Verdict>, AllocError> {
     let mut pool = PermitPool::new(alloc, script.0.clamp(1, 16))?;
     let mut one: Vec<Boxed> = Vec::new(alloc);
-    let body_at = Function::new(alloc, pool.share()?, BodyAt);
+    let body_at = function(alloc, &mut pool, BodyAt)?;
     enlist::<Program, Boxed>(&mut one, Box::new(alloc, body_at)?)?;
-    let bodies_in = Function::new(alloc, pool.share()?, BodiesIn);
+    let bodies_in = function(alloc, &mut pool, BodiesIn)?;
     enlist::<Program, Boxed>(&mut one, Box::new(alloc, bodies_in)?)?;
-    let bodies_and_body = Function::new(alloc, pool.share()?, BodiesAndBody);
+    let bodies_and_body = function(alloc, &mut pool, BodiesAndBody)?;
     enlist::<Program, Boxed>(&mut one, Box::new(alloc, bodies_and_body)?)?;
-    let itself = Function::new(alloc, pool.share()?, Itself);
+    let itself = function(alloc, &mut pool, Itself)?;
     enlist::<Program, Boxed>(&mut one, Box::new(alloc, itself)?)?;
-    let again = Function::new(alloc, pool.share()?, Again);
+    let again = function(alloc, &mut pool, Again)?;
     enlist::<Program, Boxed>(&mut one, Box::new(alloc, again)?)?;
     let mut other: Vec<Boxed> = Vec::new(alloc);
-    let body_at = Function::new(alloc, pool.share()?, BodyAt);
+    let body_at = function(alloc, &mut pool, BodyAt)?;
     enlist::<Program, Boxed>(&mut other, Box::new(alloc, body_at)?)?;
-    let bodies_in = Function::new(alloc, pool.share()?, BodiesIn);
+    let bodies_in = function(alloc, &mut pool, BodiesIn)?;
     enlist::<Program, Boxed>(&mut other, Box::new(alloc, bodies_in)?)?;
-    let bodies_and_body = Function::new(alloc, pool.share()?, BodiesAndBody);
+    let bodies_and_body = function(alloc, &mut pool, BodiesAndBody)?;
     enlist::<Program, Boxed>(&mut other, Box::new(alloc, bodies_and_body)?)?;
     Ok(work_over::<R, Boxed>(rt, alloc, one, other, script, pool, answer))
 }
 
-/// Whether all is answered as wanted: anew where memory was refused, since then a call may be made twice.
-fn is_answered<R: Threads + Wait + Sync>(
+/// How many receipts there are where all is answered as wanted: anew where memory was refused, since then a call
+/// may be made twice. None where something is wrong.
+fn answered<R: Threads + Wait + Sync>(
     rt: &R,
     alloc: Global,
     script: Script,
     answer: &mut String,
-) -> bool {
+) -> Option<u32> {
     for _ in 0..2u32 {
         answer.clear();
-        if let Ok(Some(true)) = started(rt, alloc, script, answer) {
-            return true;
+        match started(rt, alloc, script, answer) {
+            Ok(Some(Verdict::Wanted(receipts))) => return Some(receipts),
+            Ok(Some(Verdict::Wrong)) => return None,
+            _ => {}
         }
     }
-    false
+    None
 }
 
 fn play<R: Threads + Wait + Sync + Abort + AllocGlobal>(
     rt: &R,
     scripts: &[Script],
+    wanted: u32,
 ) -> Result<(), Fail> {
     let mut answer = room(rt.alloc())?;
+    let mut receipts = 0u32;
     for script in scripts {
-        assert!(rt;
-            is_answered(rt, rt.alloc(), *script, &mut answer),
-            "{answer}"
-        );
+        let count = answered(rt, rt.alloc(), *script, &mut answer);
+        assert!(rt; count.is_some(), "{answer}");
+        receipts = receipts.saturating_add(count.unwrap_or(0));
     }
+    assert!(rt; receipts == wanted, "{receipts} receipts");
     Ok(())
 }
 
 #[test]
 fn clients_are_answered_as_worked(rt: HostRuntime) -> Result<(), Fail> {
-    play(&rt, &SCRIPTS)
+    play(&rt, &SCRIPTS, 23)
 }
 
 /// With permits for both clients.
@@ -200,5 +230,5 @@ const ON_THREADS: Script = (4, 4096, 16384, Work::Threads);
 
 #[test]
 fn receipts_of_threads_are_explained(rt: HostRuntime) -> Result<(), Fail> {
-    play(&rt, &[ON_THREADS])
+    play(&rt, &[ON_THREADS], 0)
 }

@@ -1,9 +1,11 @@
 //! A caller with one session, who uses two clients over two nodes and commits changes, as commands.
 use super::calling::{Read, read_in};
 use super::desk::{
-    committed, long, pinned, say, say_call, say_pins, say_receipt, say_stamp, say_text,
+    committed, long, pinned, say, say_call, say_pins, say_receipt, say_stamp, say_text, tidied,
 };
+use super::refusals::append_event;
 use std::alloc::{AllocError, Global};
+use std::fmt::Display;
 use std::str::SplitWhitespace;
 use std::sync::Wait;
 use txc_client::{Client, RoTxn};
@@ -11,16 +13,19 @@ use txc_cushion::Pincushion;
 use txc_db::{Database, Naming};
 use txc_functions::{Object, Program, registry};
 use txc_permits::PermitPool;
-use txc_players::{Obeys, Player, changes, number, say_unknown};
+use txc_players::{
+    Calls, Obeys, Player, Shared, changes, number, room, say_number, say_unknown, stamp,
+};
 use txc_ports::Bounds;
 use txc_rows::Change;
 use txc_rw::RwTxn;
 use txc_stamp::Stamp;
+use txc_stand_ins::free;
 use txc_tags::{Key, LAST_FUNCTION};
 use txc_txn::Session;
 
 /// A client of the program's functions.
-type Reader<'a, J> = Client<'a, Program, Object, J>;
+pub(super) type Reader<'a, J> = Client<'a, Program, Object, J>;
 
 /// A read-only transaction of one.
 type Reading<'a, J> = RoTxn<'a, Program, Object, J>;
@@ -30,6 +35,8 @@ pub(super) struct Caller<'a, J: Naming, R: Wait> {
     rt: &'a R,
     database: &'a Database<J>,
     cushion: &'a Pincushion<J>,
+    /// Keeps what is held beside the clients.
+    shared: Shared<'a, J, R>,
     pool: PermitPool,
     one: Option<Reader<'a, J>>,
     other: Option<Reader<'a, J>>,
@@ -93,6 +100,7 @@ impl<'a, J: Naming, R: Wait> Caller<'a, J, R> {
     pub(super) fn new(
         rt: &'a R,
         (database, cushion): (&'a Database<J>, &'a Pincushion<J>),
+        shared: Shared<'a, J, R>,
         pool: PermitPool,
         (one, other): (Reader<'a, J>, Reader<'a, J>),
     ) -> Self {
@@ -100,6 +108,7 @@ impl<'a, J: Naming, R: Wait> Caller<'a, J, R> {
             rt,
             database,
             cushion,
+            shared,
             pool,
             one: Some(one),
             other: Some(other),
@@ -238,6 +247,46 @@ impl<'a, J: Naming, R: Wait> Caller<'a, J, R> {
     }
 }
 
+/// Pins the present so often, and answers the last stamp.
+fn pinned_often<J: Naming>(
+    rt: &impl Wait,
+    alloc: Global,
+    (database, cushion): (&Database<J>, &Pincushion<J>),
+    now: u64,
+    count: u32,
+) -> Option<Stamp> {
+    let mut last = None;
+    for _ in 0..count {
+        last = Some(pinned(rt, alloc, database, cushion, now)?);
+    }
+    last
+}
+
+/// Holds the newest stamp so often, and says nothing but a refusal.
+fn hold_often<J: Naming, R: Wait>(
+    alloc: Global,
+    shared: &mut Shared<'_, J, R>,
+    count: u32,
+    answer: &mut String,
+) {
+    let Ok(mut said) = room(alloc) else {
+        return say_text(answer, "out of memory");
+    };
+    for _ in 0..count {
+        said.clear();
+        shared.hold(alloc, &mut said);
+    }
+    if !said.bytes().all(|byte| byte.is_ascii_digit()) {
+        say_text(answer, said.as_str());
+    }
+}
+
+fn say_refused<E: Display + Drop>(answer: &mut String, done: Result<(), E>) {
+    if let Err(error) = done {
+        say(answer, &error);
+    }
+}
+
 impl<J: Naming, R: Wait> Obeys for Caller<'_, J, R> {
     fn obey(
         &mut self,
@@ -262,8 +311,27 @@ impl<J: Naming, R: Wait> Obeys for Caller<'_, J, R> {
                 let node = number(words) as usize;
                 say_counts(answer, client, node, number(words).min(255) as u8);
             }
+            "free" => {}
+            "permits" => say_number(answer, free(&mut self.pool)),
+            "tidy" => {
+                let times = (long(words), long(words));
+                if let Some((retired, horizon)) = tidied(rt, alloc, database, cushion, times) {
+                    let _ = write!(answer, "retired {retired} horizon {horizon}");
+                }
+            }
             "write" => say_stamp(answer, committed(rt, alloc, database, changes)),
             "pin" => say_stamp(answer, pinned(rt, alloc, database, cushion, long(words))),
+            "pins" => {
+                let (now, count) = (long(words), number(words));
+                say_stamp(
+                    answer,
+                    pinned_often(rt, alloc, (database, cushion), now, count),
+                );
+            }
+            "holds" => hold_often(alloc, &mut self.shared, number(words), answer),
+            "unpin" => say_refused(answer, database.unpin(rt, stamp(words))),
+            "vacuum" => say_stamp(answer, database.vacuum(rt).ok()),
+            "foreign" => say_refused(answer, append_event(alloc, database.events())),
             _ => say_unknown(answer),
         }
     }

@@ -12,12 +12,12 @@ use txc_client::{Client, RoTxn};
 use txc_cushion::Pincushion;
 use txc_db::{Database, Naming};
 use txc_permits::{Permit, PermitPool};
-use txc_players::{Obeys, Player, changes, number, say_unknown, stamp};
+use txc_players::{Obeys, changes, number, say_number, say_unknown, stamp};
 use txc_ports::Bounds;
 use txc_registry::Cacheable;
 use txc_shared::{Advanced, NodeError, NodePass, SharedNode};
 use txc_stamp::Stamp;
-use txc_stand_ins::say_record;
+use txc_stand_ins::{free, say_record};
 use txc_tags::{Key, TagSet};
 use txc_txn::Receipt;
 
@@ -96,10 +96,12 @@ pub(super) fn say_receipt(answer: &mut String, alloc: Global, receipt: &Receipt,
         }
         None => say_text(answer, "receipt none"),
     }
-    match is_explained(alloc, receipt, bounds) {
-        Ok(true) => {}
-        Ok(false) => say_text(answer, " not explained"),
-        Err(_) => say_text(answer, " out of memory"),
+    let mut is_right = is_explained(alloc, receipt, bounds);
+    if is_right.is_err() {
+        is_right = is_explained(alloc, receipt, bounds);
+    }
+    if is_right != Ok(true) {
+        say_text(answer, " not explained");
     }
 }
 
@@ -278,6 +280,7 @@ impl<'a, A: App, C: Cacheable, J: Naming, R: Wait> Desk<'a, A, C, J, R> {
             "advance" => say_advanced(answer, &self.keeper.advance(rt, alloc, self.node)),
             "take" => self.take(answer),
             "free" => self.taken = None,
+            "permits" => say_number(answer, free(&mut self.pool)),
             _ => say_unknown(answer),
         }
     }
@@ -391,13 +394,5 @@ impl<A: App, C: Cacheable, J: Naming, R: Wait> Obeys for Desk<'_, A, C, J, R> {
             }
             name => self.obey_keeper(alloc, name, words, changes, answer),
         }
-    }
-}
-
-impl<'a, A: App, C: Cacheable, J: Naming, R: Wait> Player for Desk<'a, A, C, J, R> {
-    type Other = Desk<'a, A, C, J, R>;
-
-    fn other(&self, _alloc: Global) -> Option<Desk<'a, A, C, J, R>> {
-        None
     }
 }

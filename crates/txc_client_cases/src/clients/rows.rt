@@ -98,12 +98,14 @@ ro 1 3000 0 0: f0(7), f1(2), commit => 63; 632c62; receipt 6 3000
 tidy 10000 0 => retired 3 horizon 6
 ";
 
-/// A full history takes no pin. The transaction is open after the refusal.
+/// A full history takes no pin. The transaction is open after the refusal, also where an old pin was to be
+/// renewed: its pins stay.
 const FULL: &str = "write: put 1 7 2 a => 1
 pin 1000 => 2
 write: put 1 8 2 b => 3
 pin 2000 => 4
 ro 0 9000 100 0: f0(9), pins, f0(7), commit => the history is full; pins *; the history is full; receipt none
+ro 0 8000 7000 0: f0(9), pins, commit => the history is full; pins * 4 2; receipt none
 ro 0 2500 1500 0: f0(9), commit => -; receipt 4 2000
 ";
 

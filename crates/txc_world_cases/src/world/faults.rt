@@ -167,7 +167,8 @@ static WORDS: [(&str, &str, &str, &str); 38] = [
 fn try_said(alloc: Global, script: &str) -> Option<String> {
     let settings = Settings::read(alloc, "").ok()?;
     let mut written = Vec::new(alloc);
-    match run(alloc, settings, script, &mut written) {
+    let mut reader = script.as_bytes();
+    match run(alloc, settings, &mut reader, &mut written) {
         Ok(Status::Malformed(line)) => format!(in alloc; "{line}").ok(),
         _ => None,
     }

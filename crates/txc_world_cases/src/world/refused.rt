@@ -10,7 +10,7 @@ pin 2000 => at 4
 ";
 
 /// What is refused, the settings, and the script.
-pub const REFUSED: [(&str, &str, &str); 31] = [
+pub const REFUSED: [(&str, &str, &str); 32] = [
     (
         "the history is full as the present is pinned before a call",
         "row_cap = 4",
@@ -508,6 +508,17 @@ counts 1 0 => f0 lookups 0 hits 0 stored 0 kept 0 evicted 0
 counts 0 0 => f0 lookups 1 hits 0 stored 1 kept 0 evicted 0
 counts 0 63 => f63 lookups 0 hits 0 stored 0 kept 0 evicted 0
 counts 2 1 => refused O6
+",
+    ),
+    (
+        "a value takes more than one block",
+        "",
+        "put 1 7 2 aaaaaaaaaaaaaaaaaaaa => at 5
+put 1 8 2 bbbbbbbbbbbbbbbbbbbb => at 6
+rw 0 => open 6
+call 0 f1(2) => started
+finish 0 => value 61616161616161616161616161616161616161612c6262626262626262626262626262626262626262
+commit 0 => at 6
 ",
     ),
 ];

@@ -15,6 +15,7 @@ use txc_functions::{Object, Program, registries};
 use txc_permits::PermitPool;
 use txc_players::{Obeys, Player, change_in, is_played, number, query, room, say_unknown, stamp};
 use txc_ports::Bounds;
+use txc_stand_ins::free;
 use txc_tags::{Key, LAST_FUNCTION};
 use txc_world::{Act, Keep, Step, World, WorldSettings};
 
@@ -29,10 +30,11 @@ const SETTINGS: WorldSettings = WorldSettings {
     row_cap: 64,
 };
 
-/// A world of one node and two actors.
+/// A world of one node and two actors, whose functions share three permits.
 #[derive(Drop)]
 struct Stage {
     world: World<Program, Object>,
+    pool: PermitPool,
 }
 
 impl Model for Stage {
@@ -129,10 +131,17 @@ fn steps(alloc: Global, first: &str, words: &mut SplitWhitespace<'_>) -> Option<
 
 impl Stage {
     fn new(alloc: Global) -> Option<Stage> {
-        let mut pool = PermitPool::new(alloc, 4).ok()?;
+        let mut pool = PermitPool::new(alloc, 3).ok()?;
         let registries = registries(alloc, &mut pool, 2).ok()?;
         let world = World::new(alloc, SETTINGS, registries).ok()?;
-        Some(Stage { world })
+        Some(Stage { world, pool })
+    }
+
+    /// Drops the world, in the midst of its calls too, and answers how many permits are free then.
+    fn drop_world(self) -> usize {
+        let Stage { world, mut pool } = self;
+        drop(world);
+        free(&mut pool)
     }
 
     #[tactic(auto, using(crate::proofs::Stages::settings_stay))]
@@ -196,13 +205,13 @@ impl Player for Stage {
     }
 }
 
-/// Plays a script after the history. None where memory was refused before it.
+/// Plays a script after the history; then the world is dropped, and all permits are free. None where memory was
+/// refused before it.
 fn play(alloc: Global, script: &str, answer: &mut String) -> Option<bool> {
     let mut stage = Stage::new(alloc)?;
-    Some(
-        is_played(&mut stage, alloc, "", HISTORY, answer)
-            && is_played(&mut stage, alloc, "", script, answer),
-    )
+    let played = is_played(&mut stage, alloc, "", HISTORY, answer)
+        && is_played(&mut stage, alloc, "", script, answer);
+    Some(played && stage.drop_world() == 3)
 }
 
 #[test]

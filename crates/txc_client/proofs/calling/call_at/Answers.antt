@@ -1,7 +1,8 @@
 use Rattle.std.proofs.Common.{◌≡◌, length, refl, sym, ap, subst, ◌∙◌}
 use Rattle.txc_db.specs.Seen.{FrontValue}
 use Rattle.txc_ports.specs.Asking.{AddsSuch, MayAsk}
-use Rattle.txc_txn.specs.Core.{CoreValue, IsAsk, IsTurn}
+use Rattle.txc_txn.specs.Core.{CoreValue, IsTurn}
+use Rattle.txc_ports.specs.Turns.{IsAsk}
 use Rattle.txc_txn.proofs.Offered.{adds_next, adds_none, is_answered, is_right, may_ask}
 use Rattle.txc_client.specs.Run.{HasBegun}
 use Rattle.txc_client.specs.Txn.{RoTxnValue}

@@ -4,7 +4,8 @@ use Rattle.txc_registry.specs.Objects.{activity_of, numbers_of}
 use Rattle.txc_call.specs.declared.error.CallError.TheVariants.{NoFunction}
 use Rattle.txc_ports.specs.declared.error.TxnError.TheVariants as errors
 use Rattle.txc_ports.specs.declared.turn.Turn.TheVariants.{Refused}
-use Rattle.txc_txn.specs.Core.{open_call, recorded_after, IsAsk, IsTurn, KeepsSettings}
+use Rattle.txc_txn.specs.Core.{open_call, recorded_after, IsTurn, KeepsSettings}
+use Rattle.txc_ports.specs.Turns.{IsAsk}
 use Rattle.txc_client.specs.Ports.{HaveGrown}
 use Rattle.txc_client.specs.Run.{HasRun}
 use Rattle.txc_ports.specs.Asking.{AddsSuch}

@@ -5,7 +5,8 @@ use Rattle.txc_call.specs.declared.error.CallError.TheVariants.{NoFunction}
 use Rattle.txc_call.specs.Calling.{started}
 use Rattle.txc_ports.specs.declared.error.TxnError.TheVariants as errors
 use Rattle.txc_ports.specs.declared.turn.Turn.TheVariants.{Refused}
-use Rattle.txc_rw.specs.Core.{answers_after, IsAsk, IsOfCall, IsRw, IsTurn, RwHolds}
+use Rattle.txc_rw.specs.Core.{answers_after, IsOfCall, IsRw, IsTurn, RwHolds}
+use Rattle.txc_ports.specs.Turns.{IsAsk}
 use Rattle.txc_rw.specs.Leading.{standing_of}
 use Rattle.txc_rw.proofs.Running.{IsRunSo}
 use Rattle.txc_rw.proofs.Turns.{turns_left}

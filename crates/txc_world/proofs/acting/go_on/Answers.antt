@@ -4,7 +4,9 @@ use Rattle.txc_txn.proofs.Offered.{adds_next, is_answered, is_right}
 use Rattle.txc_world.proofs.Turning.{asked_at, counted_in, seen_next}
 use Rattle.txc_world.specs.Parts.{IsPartOf}
 use Rattle.txc_world.specs.Ports.{whole_of}
-use Rattle.txc_world.proofs.Fairness.{fair_gone_on, loss_counted}
+use Rattle.txc_world.specs.Books.{account_of_core, HasLost}
+use Rattle.txc_world.proofs.Fairness.{fair_gone_on, loss_counted, loss_did}
+use Rattle.txc_world.proofs.Losing.{drops_next, reply_lost}
 use Rattle.txc_world.proofs.acting.go_on.Goals as goal
 
 pub next-turn-requires-clause-reply : goal.next-turn-requires-clause-reply
@@ -34,7 +36,21 @@ returns-clause-fair g c =
 pub returns-clause-loss : goal.returns-clause-loss
 returns-clause-loss g c =
     rw c.counted-did.ensures
-    (loss_counted g.A.App.next c.args.txn.now.objects c.args.ports.now c.args.txn.now.core c.is_kept.ensures.fits _ c.args.request c.ask-did.result.did c.requires.asks c.ask-did.ensures.counts.gone)
+    (loss_counted (HasLost c.args.ports.now (account_of_core c.args.txn.now.core)) _ c.ask-did.result.did
+    (loss_did g.A.App.next c.args.txn.now.objects c.args.ports.now c.args.txn.now.core c.args.request c.ask-did.result.did c.is_kept.ensures.fits c.requires.asks c.ask-did.ensures.counts.gone))
+
+pub returns-clause-lost : goal.returns-clause-lost
+returns-clause-lost g c =
+    reply_lost (HasLost c.args.ports.now (account_of_core c.args.txn.now.core)) c.next-turn.new.self.core c.next-turn.new.self.objects c.next-turn.result g.A.App.next
+    c.args.txn.now.core c.args.txn.now.objects c.ask-did.result.reply c.ask-did.result.did
+    (is_answered g.A.App.next c.args.txn.now.core c.args.request c.ask-did.result.reply c.requires.asks c.ask-did.ensures.reply) c.requires.drops c.ask-did.ensures.tells
+    (loss_did g.A.App.next c.args.txn.now.objects c.args.ports.now c.args.txn.now.core c.args.request c.ask-did.result.did c.is_kept.ensures.fits c.requires.asks c.ask-did.ensures.counts.gone)
+    c.next-turn.ensures.leads
+
+pub returns-clause-drops : goal.returns-clause-drops
+returns-clause-drops g c =
+    drops_next g.A.App.next c.args.txn.now c.next-turn.new.self c.ask-did.result.reply c.next-turn.result
+    c.next-turn.ensures.turn_fits c.next-turn.ensures.left c.next-turn.ensures.leads
 
 pub next-turn-requires-clause-right : goal.next-turn-requires-clause-right
 next-turn-requires-clause-right g c =

@@ -1,4 +1,6 @@
-use Rattle.txc_world.proofs.WritingCounts.{based, counts_based, loss_rows}
+use Rattle.txc_world.specs.Books.{HasLost}
+use Rattle.txc_world.proofs.Losing.{rows_lost}
+use Rattle.txc_world.proofs.WritingCounts.{based, counts_based}
 use Rattle.txc_world.proofs.Fairness.{counts_itself}
 use Rattle.std.proofs.Common.{None, refl, ap, sym, ◌∙◌}
 use Rattle.txc_registry.specs.Objects.{Objects}
@@ -12,7 +14,7 @@ returns-then-is_some-clause-counts g c = counts_itself c.args.ports.now (based c
 pub returns-clause-counts : goal.returns-clause-counts
 returns-clause-counts g c =
     counts_based c.args.ports.now c.find-turn.new.ports c.args.current.core.base c.find-turn.new.core.base c.told_rows.result c.find-turn.ensures.same_ports c.find-turn.ensures.base
-    (loss_rows c.args.ports.now c.args.current.core.base (based c.args.current.core.base) c.find-turn.result c.told_rows.result c.told_rows.ensures c.find-turn.ensures.loss)
+    (rows_lost (HasLost c.args.ports.now (based c.args.current.core.base)) c.find-turn.result c.told_rows.result c.told_rows.ensures c.find-turn.ensures.loss)
 
 pub returns-then-is_some-clause-leads : goal.returns-then-is_some-clause-leads
 returns-then-is_some-clause-leads g c = with_call call_value _ _ c.args.current.call (sym c.is_some.ensures ∙ c.if-is_some.true) (λ call. (refl, refl))

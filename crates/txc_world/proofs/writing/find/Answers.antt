@@ -4,7 +4,8 @@ use Rattle.txc_rw.specs.Core.{queried_after, RwValue}
 use Rattle.txc_world.specs.Writing.{FindLeadsRw, IsRead}
 use Rattle.txc_world.proofs.WritingLemmas.{answered_at, asks_it, asks_query, found_leads, found_read, found_same, idle_after, is_ask, of_query, queried_so, right_answer}
 use Rattle.std.proofs.Common.{ℕ}
-use Rattle.txc_world.specs.Books.{TurnIsLossOf}
+use Rattle.txc_world.specs.Books.{HasLost}
+use Rattle.txc_world.specs.Losing.{IfTurnLost}
 use Rattle.txc_world.proofs.WritingCounts.{based, loss_asked, loss_found}
 use Rattle.txc_world.proofs.writing.find.Goals as goal
 
@@ -37,7 +38,7 @@ returns-clause-loss g c =
     let asks = asks_query c.ask-turn.new.self c.ask-turn.result c.in-Some.query c.ask-turn.ensures.turn (sym c.asked.ensures ∙ c.in-Some.is) in
     let same = c.ask-turn.ensures.after (is_ask c.ask-turn.result asks.0 asks.1) in
     let none = ap (λ (v : RwValue). v.call.need) same ∙ c.requires.idle.0 in
-    subst (λ (b : ℕ). TurnIsLossOf c.args.ports.now (based b) c.reply.result) (c.base-base.ensures ∙ ap (λ (v : RwValue). v.base) same)
+    subst (λ (b : ℕ). IfTurnLost c.reply.result (HasLost c.args.ports.now (based b))) (c.base-base.ensures ∙ ap (λ (v : RwValue). v.base) same)
     (loss_found c.args.ports.now c.base-base.result c.in-Some.query c.answer-found.result c.reply.result c.count_right.ensures c.answer-found.ensures.leads
     (λ found is. c.reply.ensures.rows found none is) c.reply.ensures.refused)
 

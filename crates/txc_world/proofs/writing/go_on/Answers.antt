@@ -1,7 +1,8 @@
 use Rattle.txc_db.specs.History.{state_at}
 use Rattle.txc_world.proofs.WritingLemmas.{answered_at, answered_rows, needs_query, queried_so, right_answer}
 use Rattle.std.proofs.Common.{ℕ, subst}
-use Rattle.txc_world.specs.Books.{IsLossOf}
+use Rattle.txc_world.specs.Books.{HasLost}
+use Rattle.txc_world.specs.Losing.{IfDidLose}
 use Rattle.txc_world.proofs.WritingCounts.{based, loss_told}
 use Rattle.txc_world.proofs.writing.go_on.Goals as goal
 
@@ -13,7 +14,7 @@ returns-clause-holds g c =
 
 pub returns-clause-loss : goal.returns-clause-loss
 returns-clause-loss g c =
-    subst (λ (b : ℕ). IsLossOf c.args.ports.now (based b) c.answer_told-did.result.0) c.base-base.ensures
+    subst (λ (b : ℕ). IfDidLose c.answer_told-did.result.0 (HasLost c.args.ports.now (based b))) c.base-base.ensures
     (loss_told c.args.ports.now c.base-base.result c.args.query.now c.answer_told-did.result.1 c.answer_told-did.result.0 c.count_right.ensures
     c.answer_told-did.ensures.leads c.answer_told-did.ensures.tells)
 

@@ -13,6 +13,7 @@ use Rattle.txc_rw.specs.Core.{RwValue}
 use Rattle.txc_world.specs.Actors.{told_answers}
 use Rattle.txc_world.proofs.WritingLemmas.{answers_at_start, none_by_test, told_at_start, writing_same}
 use Rattle.txc_world.proofs.Fairness.{counts_itself}
+use Rattle.txc_world.proofs.Losing.{rw_start_not_lost}
 use Rattle.txc_world.proofs.WritingCounts.{based, counts_based}
 use Rattle.txc_world.proofs.writing.start.Goals as goal
 
@@ -27,6 +28,8 @@ returns-clause-fits g c = record {
     is_open = c.start-turn.ensures.open;
     answers = answers_at_start c.args.current.core.answers c.start-turn.new.self.answers c.copy.result c.copy-2.result c.start-turn.result c.start-turn.ensures.kind
         (c.copy.ensures ∙ sym c.copy-2.ensures) c.start-turn.ensures.answers;
+    not_lost = rw_start_not_lost ⊥ g.A.App.next [] c.copy.result c.args.current.registry c.start-turn.new.self c.start-turn.new.registry c.start-turn.result
+        (λ there. c.start-turn.ensures.leads there []) c.start-turn.ensures.missing;
   };
 }
 

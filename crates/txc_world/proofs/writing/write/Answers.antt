@@ -2,6 +2,7 @@ use Rattle.std.proofs.Common.{sym, ◌∙◌}
 use Rattle.txc_world.proofs.WritingLemmas.{fits_with, holds_with, none_by_test, still_open}
 use Rattle.std.proofs.Common.{refl, ap}
 use Rattle.txc_rw.specs.Core.{RwValue}
+use Rattle.txc_world.specs.Books.{HasLost}
 use Rattle.txc_world.proofs.WritingCounts.{based, counts_based, loss_write}
 use Rattle.txc_world.proofs.Fairness.{counts_itself}
 use Rattle.std.specs.Option.{option_map}
@@ -27,7 +28,7 @@ returns-in-Ok-clause-counts g c =
 pub returns-in-Err-clause-counts : goal.returns-in-Err-clause-counts
 returns-in-Err-clause-counts g c =
     counts_based c.args.whole.now c.args.whole.now c.args.current.core.base c.keep_change.new.core.base _ refl (ap (λ (v : RwValue). v.base) c.in-Err.ensures.unchanged)
-    (loss_write c.args.whole.now (based c.args.current.core.base) _ c.in-Err.error c.in-Err.ensures.refused)
+    (loss_write (HasLost c.args.whole.now (based c.args.current.core.base)) _ c.in-Err.error c.in-Err.ensures.refused)
 
 pub returns-then-is_some-clause-leads : goal.returns-then-is_some-clause-leads
 returns-then-is_some-clause-leads g c = with_call call_value _ _ c.args.current.call (sym c.is_some.ensures ∙ c.if-is_some.true) (λ call. (refl, refl))

@@ -7,7 +7,7 @@ keeper write put 1 8 2 b => at 3
 keeper pin 2000 ; keeper add 4 ; keeper give 4 => at 4; added; given back
 ";
 
-pub const SCRIPTS: [&str; 11] = [
+pub const SCRIPTS: [&str; 12] = [
     KEEPER,
     NOT_THERE,
     READERS,
@@ -19,6 +19,7 @@ pub const SCRIPTS: [&str; 11] = [
     LOST_IN_A_CALL,
     LOST_BASE,
     SESSIONS,
+    IN_A_CALL,
 ];
 
 /// Each step of the keeper.
@@ -190,4 +191,9 @@ pins 1 => * 6 4 2
 counts 0 0 => lookups 2 hits 0 stored 2
 counts 0 1 => lookups 0 hits 0 stored 0
 counts 1 0 => refused: there is no such node
+";
+
+/// It ends in a call inside another, in which two permits are out.
+const IN_A_CALL: &str = "0 read 2500 1500 0 ; 0 start f2(2,9) => begun; started
+0 request ; 0 request => miss; miss
 ";

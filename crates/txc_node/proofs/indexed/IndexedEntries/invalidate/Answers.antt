@@ -9,31 +9,26 @@ pub invariant_of-self : goal.invariant_of-self
 invariant_of-self c =
     let a = c.args in
     let i = c.self.inside in
-    let v = c.self.invariant in
-    let all = c.invalidate_all-count in
-    let new = all.new.cache.entries in
-    let spared = none_left a.stamp a.tags.now i.tags.tables.items i.cache.entries new all.result v.placed v.tags all.ensures.spared all.ensures.closes in
-    let both = all_closed a.stamp a.tags.now i.cache.entries new all.new.keys.versions.entries all.result all.ensures.tied all.ensures.closes spared in
-    indexed_after a.stamp a.tags.now i.cache.entries new i.keys.versions.entries all.new.keys.versions.entries i.tags.tables.items c.clean_all.new.index.tables.items v all.ensures.tied both.0 c.clean_all.ensures
+    let all = c.by_tags-count in
+    let apart = c.len-len.ensures.apart.apart in
+    let spared = none_left a.stamp a.tags.now i.tags.tables.items i.entries all.new.entries all.result c.self.invariant all.ensures.spared all.ensures.closes in
+    let both = all_closed a.stamp a.tags.now i.entries all.new.entries all.result apart all.ensures.closes spared in
+    indexed_after a.stamp a.tags.now i.entries.entries all.new.entries.entries i.tags.tables.items c.clean_all.new.index.tables.items apart both.0 c.self.invariant c.clean_all.ensures
 
 pub returns-clause-entries : goal.returns-clause-entries
 returns-clause-entries c =
     let a = c.args in
     let i = c.self.inside in
-    let v = c.self.invariant in
-    let all = c.invalidate_all-count in
-    let new = all.new.cache.entries in
-    let spared = none_left a.stamp a.tags.now i.tags.tables.items i.cache.entries new all.result v.placed v.tags all.ensures.spared all.ensures.closes in
-    let both = all_closed a.stamp a.tags.now i.cache.entries new all.new.keys.versions.entries all.result all.ensures.tied all.ensures.closes spared in
+    let all = c.by_tags-count in
+    let spared = none_left a.stamp a.tags.now i.tags.tables.items i.entries all.new.entries all.result c.self.invariant all.ensures.spared all.ensures.closes in
+    let both = all_closed a.stamp a.tags.now i.entries all.new.entries all.result c.len-len.ensures.apart.apart all.ensures.closes spared in
     both.0 ∙ ap (λ (m : Held). map (entry_after a.stamp a.tags.now) m.entries) c.self.view_is
 
 pub returns-clause-count : goal.returns-clause-count
 returns-clause-count c =
     let a = c.args in
     let i = c.self.inside in
-    let v = c.self.invariant in
-    let all = c.invalidate_all-count in
-    let new = all.new.cache.entries in
-    let spared = none_left a.stamp a.tags.now i.tags.tables.items i.cache.entries new all.result v.placed v.tags all.ensures.spared all.ensures.closes in
-    let both = all_closed a.stamp a.tags.now i.cache.entries new all.new.keys.versions.entries all.result all.ensures.tied all.ensures.closes spared in
+    let all = c.by_tags-count in
+    let spared = none_left a.stamp a.tags.now i.tags.tables.items i.entries all.new.entries all.result c.self.invariant all.ensures.spared all.ensures.closes in
+    let both = all_closed a.stamp a.tags.now i.entries all.new.entries all.result c.len-len.ensures.apart.apart all.ensures.closes spared in
     both.1 ∙ ap (λ (m : Held). count_by (is_invalidated a.stamp a.tags.now) m.entries) c.self.view_is

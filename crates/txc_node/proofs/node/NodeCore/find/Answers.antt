@@ -14,9 +14,9 @@ returns-clause-answer c =
     let a = c.args in
     let i = c.self.inside in
     let es = i.entries.entries in
-    let h = rw c.in-Some.is at c.best-found.ensures.found in
+    let h = rw (c.in-Some.is, c.keyed-entries.ensures) at c.best-found.ensures.found in
     c.hit_of.ensures ∙ ap (option_map (shown_as i.processed)) (
-    c.get.ensures
+    (rw c.keyed-entries.ensures at c.get.ensures)
     ∙ ap (λ (q : Place). option_map stored_of (find (λ (o : Entry). equal_places q (place_of o)) es)) (c.new-place.ensures ∙ ap (place_at a.key.now) c.lo.ensures)
     ∙ ap (option_map stored_of) (found_again a.key.now es c.in-Some.found.at h.0 c.in-Some.found.reach c.self.invariant.apart h.2 h.3)
     ) ∙ sym (ap (option_map (shown_of i.processed)) h.1) ∙ ap (λ (m : Cache). answer m a.key.now a.lo a.hi) c.self.view_is

@@ -10,6 +10,6 @@ pub invariant_of-self-in-Some : goal.invariant_of-self-in-Some
 invariant_of-self-in-Some c =
     let a = c.args in
     let v = the_view c.self.inside in
-    let h = rw c.in-Some.is at c.best-found.ensures.found in
+    let h = rw (c.in-Some.is, c.keyed.ensures) at c.best-found.ensures.found in
     let moved : c.bring_first.new.self.entries ≡ h.0 ∷ others h.0 v.entries = c.bring_first.ensures.entries h.0 h.2 in
     rw c.bring_first.ensures.capacity (subst IsCache (sym (after_found v a.key.now a.lo a.hi h.0 c.bring_first.new.self.entries h.1 moved)) (lookup_keeps v a.key.now a.lo a.hi c.self.invariant))

@@ -15,7 +15,7 @@ loop-step-preserved g c =
       told = loop_told g.A.App.next start steps i replies c.step-item.result c.step-reply.result c.loop-step-test.true c.step-item.is h.each
           c.loop-step.self.told c.step-reply.new.self.told h.told c.step-reply.ensures.told;
       led = loop_led g.A.App.next c.args.self.now steps i replies c.step-item.result c.step-reply.result c.loop-step-test.true c.step-item.is h.each
-          c.loop-step.self c.step-reply.new.self h.led (record { told = c.step-reply.ensures.told; leads = c.step-reply.ensures.leads });
+          c.loop-step.self c.step-reply.new.self h.led (record { told = c.step-reply.ensures.told; leads = c.step-reply.ensures.leads; world = c.step-reply.ensures.world });
       due = loop_due g.A.App.next start steps i replies c.step-item.result c.step-reply.result c.loop-step-test.true c.step-item.is h.each
           c.loop-step.self.told h.told h.due c.step-reply.ensures.due;
       explained = loop_explained g.A.App.next start steps i replies c.step-item.result c.step-reply.result c.loop-step-test.true c.step-item.is h.each

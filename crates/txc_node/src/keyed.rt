@@ -1,0 +1,296 @@
+//! The entries of a node at their places, and by their keys.
+ghost use Rattle.std.specs.Prelude.{List, ◌≡◌, ◌-◌, ◌∷◌, [], take, length, remove, None, Some, OnOk, OnErr, IfOk, IfErr, slice_get, option_copied};
+ghost use Rattle.std.specs.List.{find};
+ghost use Rattle.std.specs.Option.{option_map};
+ghost use Rattle.std.specs.Map.{lookup};
+ghost use Rattle.std.specs.NonZero.{non_zero_usize_get};
+ghost use Rattle.txc_tags.specs.Keys.{Call};
+ghost use Rattle.txc_node.specs.declared.entry.Entry.{Entry};
+ghost use Rattle.txc_node.specs.Places.{place_of, equal_places};
+ghost use Rattle.txc_node.specs.Entries.{is_best, others, same_place};
+ghost use Rattle.txc_node.specs.Indexed.{AreOf, Closes, HoldsApart, IsFound, IsSpared, Relists, StandsUnder, after_at, closed_reach, entries_under, entry_at, entry_of, last_to_front, listed, reaches_under, stored_of, with_first};
+
+use crate::closing::Closing;
+use crate::entry::Entry;
+use crate::key_index::KeyIndex;
+use crate::place::Place;
+use crate::stored::{Stored, join, join_some};
+use crate::versions::{Found, Versions};
+use lru::LruCache;
+use std::alloc::{AllocError, AllocFailed, Global};
+use std::fmt;
+use std::marker::Model;
+use std::num::NonZeroUsize;
+use txc_stamp::{Reach, Stamp};
+use txc_tags::Key;
+
+/// At most so many entries, the most recently used first, that are found by their place and by their key.
+#[derive(Drop)]
+pub(crate) struct KeyedEntries {
+    cache: LruCache<Place, Stored>,
+    keys: KeyIndex,
+}
+
+impl Model for KeyedEntries {
+    ghost use Rattle.txc_node.specs.Indexed.{AreTied, Held, entries_of};
+
+    ghost Value = { Held };
+
+    ghost view = { λ x. record { entries = entries_of x.cache.entries; capacity = x.cache.cap } };
+
+    ghost invariant = { λ x. AreTied x.cache.entries x.keys.versions.entries };
+}
+
+impl fmt::Debug for KeyedEntries {
+    // The entries alone, since the index is made of them.
+    fn fmt<W: fmt::Write>(&self, f: &mut fmt::Formatter<W>) -> fmt::Result {
+        f.debug_map().entries(self.cache.iter()).finish()
+    }
+}
+
+// Closes the entry at a place just below an event that invalidates it, and returns its new reach.
+fn close_in(
+    cache: &mut LruCache<Place, Stored>,
+    place: &Place,
+    closing: &Closing<'_>,
+) -> Option<Reach>
+    ensures entries { cache.new.entries
+        ≡ after_at closing.now.stamp closing.now.tags.now place.now cache.old.entries }
+    ensures cap { cache.new.cap ≡ cache.old.cap }
+    ensures reach { result ≡ closed_reach closing.now.stamp closing.now.tags.now
+        (lookup (equal_places place.now) cache.old.entries) }
+{
+    match cache.peek_mut(place) {
+        None => None,
+        Some(stored) => {
+            if !closing.close(stored) {
+                return None;
+            }
+            Some(stored.reach)
+        }
+    }
+}
+
+// Puts the reach of an entry that was found first among those of its key.
+fn bring_found(keys: &mut KeyIndex, key: &Key, found: Found)
+    requires { slice_get (listed keys.old.versions.entries key.now) found.at ≡ Some found.reach }
+    ensures { Relists key.now (found.reach ∷ remove (listed keys.old.versions.entries key.now) found.at)
+        keys.old.versions.entries keys.new.versions.entries }
+{
+    if found.at > 0 {
+        keys.bring_first(key, found.at, found.reach);
+    }
+}
+
+impl KeyedEntries {
+    /// No entries, and room for `capacity`.
+    pub(crate) fn new(alloc: Global, capacity: NonZeroUsize) -> Result<KeyedEntries, AllocError>
+        ensures { IfOk result (λ x. x
+            ≡ record { entries = []; capacity = non_zero_usize_get capacity }) }
+    {
+        let cache = LruCache::sparse(alloc, capacity)?;
+        Ok(KeyedEntries {
+            cache,
+            keys: KeyIndex::new(alloc),
+        })
+    }
+
+    /// How many there are.
+    pub(crate) fn len(&self) -> usize
+        ensures len { result ≡ length self.now.entries }
+        ensures apart { HoldsApart self.now }
+    {
+        self.cache.len()
+    }
+
+    /// The entry of the key whose span meets the stamps from `lo` to `hi`, and that lasts longest; and how
+    /// many entries were looked at.
+    pub(crate) fn best(
+        &self,
+        processed: Stamp,
+        key: &Key,
+        lo: Stamp,
+        hi: Stamp,
+    ) -> (Option<Found>, usize)
+        ensures found { IsFound (entries_under key.now self.now.entries)
+            (find (is_best processed key.now lo hi self.now.entries) self.now.entries) result.0 }
+        ensures looked { result.1 ≡ length (entries_under key.now self.now.entries) }
+    {
+        match self.keys.get(key) {
+            None => (None, 0),
+            Some(versions) => (best_of(versions, processed, lo, hi), versions.len()),
+        }
+    }
+
+    /// The entry that has the key and the first stamp of another.
+    pub(crate) fn standing(&self, e: &Entry) -> Option<Found>
+        ensures { IsFound (entries_under e.now.key self.now.entries)
+            (find (λ o. same_place o e.now) self.now.entries) result }
+    {
+        match self.keys.get(&e.key) {
+            None => None,
+            Some(versions) => begins_at(versions, e.reach.lo()),
+        }
+    }
+
+    /// The entry at a place.
+    pub(crate) fn get(&self, place: &Place) -> Option<&Stored>
+        ensures { option_copied result ≡ option_map stored_of (entry_at self.now.entries place.now) }
+    {
+        self.cache.peek(place)
+    }
+
+    /// The entry that was used last.
+    pub(crate) fn first(&self) -> Option<&Stored>
+        ensures { option_copied result ≡ option_map stored_of (slice_get self.now.entries 0) }
+    {
+        match self.cache.peek_mru() {
+            None => None,
+            Some((_, stored)) => Some(stored),
+        }
+    }
+
+    /// The entry that has gone unused for longest.
+    pub(crate) fn last(&self) -> Option<&Stored>
+        ensures { option_copied result
+            ≡ option_map stored_of (slice_get self.now.entries (length self.now.entries - 1)) }
+    {
+        match self.cache.peek_lru() {
+            None => None,
+            Some((_, stored)) => Some(stored),
+        }
+    }
+
+    /// Closes the entry at a place just below an event that invalidates it, and counts it.
+    pub(crate) fn close_at(&mut self, place: &Place, closing: &Closing<'_>) -> usize
+        ensures closes { Closes closing.now.stamp closing.now.tags.now self.old self.new result }
+        ensures spared { IsSpared closing.now.stamp closing.now.tags.now self.new.entries place.now }
+    {
+        match close_in(&mut self.cache, place, closing) {
+            None => 0,
+            Some(reach) => {
+                self.keys.set(&place.key, reach);
+                1
+            }
+        }
+    }
+
+    /// Moves an entry that was found to the front.
+    pub(crate) fn bring_first(&mut self, key: &Key, found: Found)
+        requires { slice_get (reaches_under key.now self.old.entries) found.at ≡ Some found.reach }
+        ensures entries { (e : Entry)
+            → slice_get (entries_under key.now self.old.entries) found.at ≡ Some e
+            → self.new.entries ≡ e ∷ others e self.old.entries }
+        ensures capacity { self.new.capacity ≡ self.old.capacity }
+    {
+        let place = Place::new(key, found.reach.lo());
+        self.cache.promote(&place);
+        bring_found(&mut self.keys, key, found);
+    }
+
+    /// Moves the last entry to the front.
+    pub(crate) fn last_first(&mut self)
+        ensures entries { self.new.entries ≡ last_to_front self.old.entries }
+        ensures capacity { self.new.capacity ≡ self.old.capacity }
+    {
+        if let Some((place, _)) = self.cache.peek_lru() {
+            let place = place.copy();
+            self.cache.promote(&place);
+            self.keys.bring_last_first(&place.key);
+        }
+    }
+
+    /// Takes the last entry out.
+    pub(crate) fn pop_last(&mut self) -> Option<Entry>
+        ensures last { result ≡ slice_get self.old.entries (length self.old.entries - 1) }
+        ensures entries { self.new.entries ≡ take (length self.old.entries - 1) self.old.entries }
+        ensures capacity { self.new.capacity ≡ self.old.capacity }
+    {
+        match self.cache.pop_lru() {
+            None => None,
+            Some((place, stored)) => {
+                self.keys.drop_last(&place.key);
+                Some(join(place, stored))
+            }
+        }
+    }
+
+    /// A new entry first, at a place where none stands. Returns the last one where there is no room for it.
+    pub(crate) fn add(
+        &mut self,
+        place: Place,
+        stored: Stored,
+    ) -> Result<Option<Entry>, AllocFailed<(Place, Stored)>>
+        requires placed { place ≡ place_of (entry_of (place, stored)) }
+        requires absent { find (λ o. same_place o (entry_of (place, stored))) self.old.entries ≡ None }
+        ensures entries { OnOk result (self.new.entries
+            ≡ take self.old.capacity (with_first (entry_of (place, stored)) self.old.entries)) }
+        ensures evicted { IfOk result (λ r. r
+            ≡ slice_get (with_first (entry_of (place, stored)) self.old.entries) self.old.capacity) }
+        ensures capacity { self.new.capacity ≡ self.old.capacity }
+        ensures unchanged { OnErr result (self.new ≡ self.old) }
+        ensures handed_back { IfErr result (λ e. e.value ≡ (place, stored)) }
+    {
+        let _len = self.cache.len();
+        let Ok(()) = self.keys.add(&place.key, stored.reach) else {
+            return Err(AllocFailed {
+                value: (place, stored),
+            });
+        };
+        match self.cache.push(place, stored) {
+            Err(failed) => {
+                let (place, stored) = failed.value;
+                self.keys.drop_first(&place.key);
+                Err(AllocFailed {
+                    value: (place, stored),
+                })
+            }
+            Ok(None) => Ok(None),
+            Ok(Some((place, stored))) => {
+                self.keys.drop_last(&place.key);
+                Ok(Some(join(place, stored)))
+            }
+        }
+    }
+
+    /// A new entry first, in the stead of the one at its place, that stands there among those of its key.
+    /// Returns that one.
+    pub(crate) fn replace(&mut self, at: usize, place: Place, stored: Stored) -> Option<Entry>
+        requires placed { place ≡ place_of (entry_of (place, stored)) }
+        requires there { StandsUnder (entry_of (place, stored)) self.old.entries at }
+        ensures before { result ≡ entry_at self.old.entries place }
+        ensures entries { self.new.entries ≡ with_first (entry_of (place, stored)) self.old.entries }
+        ensures capacity { self.new.capacity ≡ self.old.capacity }
+    {
+        self.keys.bring_first(&place.key, at, stored.reach);
+        join_some(self.cache.push(place, stored).unwrap())
+    }
+}
+
+// Which of these lasts longest of those whose span meets the stamps from `lo` to `hi`.
+fn best_of(versions: &Versions, processed: Stamp, lo: Stamp, hi: Stamp) -> Option<Found>
+    ensures { (key : Call) (es : List Entry) → AreOf key es versions.now
+        → IsFound es (find (is_best processed key lo hi es) es) result }
+{
+    match versions.best(processed, lo, hi) {
+        None => None,
+        Some(at) => {
+            let reach = versions.get(at);
+            Some(Found { at, reach })
+        }
+    }
+}
+
+// Which of these begins at a stamp.
+fn begins_at(versions: &Versions, lo: Stamp) -> Option<Found>
+    ensures { (e : Entry) (es : List Entry) → AreOf e.key es versions.now → lo ≡ e.reach.lo
+        → IsFound es (find (λ o. same_place o e) es) result }
+{
+    match versions.position(lo) {
+        None => None,
+        Some(at) => {
+            let reach = versions.get(at);
+            Some(Found { at, reach })
+        }
+    }
+}

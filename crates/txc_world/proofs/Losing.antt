@@ -1,0 +1,238 @@
+-- What is refused for a snapshot that is gone, from a port to the end of a call.
+use Rattle.std.proofs.Common.{◌≡◌, ◌∙◌, ◌⊎◌, ℕ, List, [], ◌∷◌, Ok, Err, Option, Some, None, inl, inr, refl, ap, sym, subst}
+use Rattle.std.specs.Prelude.{IsNone, IsSome}
+use Rattle.txc_tags.specs.Keys.{Call}
+use Rattle.txc_db.specs.declared.error.DbError.{DbError}
+use Rattle.txc_db.specs.declared.error.DbError.TheVariants as errors
+use Rattle.txc_cushion.specs.declared.error.AddError.{AddError}
+use Rattle.txc_cushion.specs.declared.error.AddError.TheVariants as adds
+use Rattle.txc_cushion.specs.declared.pin.Pin.{Pin}
+use Rattle.txc_cushion.specs.Pinning.{pin_of}
+use Rattle.txc_pinset.specs.Members.{kept}
+use Rattle.txc_app.specs.Eval.{Next}
+use Rattle.txc_node.specs.declared.hit.Shown.{Shown}
+use Rattle.txc_rows.specs.States.{State}
+use Rattle.txc_registry.specs.Objects.{activity_of, Objects}
+use Rattle.txc_call.specs.declared.error.CallError.{CallError}
+use Rattle.txc_call.specs.declared.error.CallError.TheVariants as calls
+use Rattle.txc_call.specs.declared.error.CallError.TheVariants.{NoFunction}
+use Rattle.txc_call.specs.declared.need.Need.{Need}
+use Rattle.txc_call.specs.declared.need.Need.TheVariants as needs
+use Rattle.txc_call.specs.declared.reply.Reply.{Reply as CallReply}
+use Rattle.txc_call.specs.declared.reply.Reply.TheVariants as calls_replies
+use Rattle.txc_call.specs.Calling.{started}
+use Rattle.txc_call.specs.Turns.{Turn as CallTurn}
+use Rattle.txc_ports.specs.declared.error.TxnError.{TxnError}
+use Rattle.txc_ports.specs.declared.error.TxnError.TheVariants as txns
+use Rattle.txc_ports.specs.declared.reply.PortReply.{PortReply}
+use Rattle.txc_ports.specs.declared.reply.PortReply.TheVariants as ports
+use Rattle.txc_ports.specs.declared.turn.Turn.{Turn}
+use Rattle.txc_ports.specs.declared.turn.Turn.TheVariants as turns
+use Rattle.txc_ports.specs.Refusals.{refused_call, refused_pin, refused_request}
+use Rattle.txc_txn.specs.declared.pinning.Pinning.{Pinning}
+use Rattle.txc_txn.specs.declared.pinning.PinStep.{PinStep}
+use Rattle.txc_txn.specs.declared.pinning.PinStep.TheVariants.{Adding, Dropping}
+use Rattle.txc_txn.specs.Core.{first_call, left_after, left_pin, CoreValue, IsAnswered, IsAt, IsTurn}
+use Rattle.txc_ports.specs.Turns.{IsAsk}
+use Rattle.txc_txn.specs.Kept.{TxnValue}
+use Rattle.txc_txn.specs.Leading.{AsksLookup, AsksPin, BeginLeads, CallLeads, HitLeads, IsWanting, PinLeads, ReplyLeads, StandingLeads, StartLeads}
+use Rattle.txc_rw.specs.Core.{RwValue}
+use Rattle.txc_rw.specs.Leading.{standing_of, CallLeads as RwCallLeads, StandingLeads as RwStandingLeads}
+use Rattle.txc_world.specs.declared.did.Did.{Did}
+use Rattle.txc_world.specs.declared.did.Did.TheVariants as dids
+use Rattle.txc_world.specs.declared.reply.End.{End}
+use Rattle.txc_world.specs.declared.reply.End.TheVariants as ends
+use Rattle.txc_world.specs.declared.reply.Reply.{Reply}
+use Rattle.txc_world.specs.declared.reply.Reply.TheVariants as replies
+use Rattle.txc_world.specs.declared.reply.Refusal.TheVariants as refusals
+use Rattle.txc_world.specs.Actors.{DropsNone, IsEndOf, IsNoted, IsToldQuery}
+use Rattle.txc_world.specs.Asks.{DoesTell}
+use Rattle.txc_world.specs.Losing.{IfDidLose, IfEndLost, IfGone, IfLost, IfReplyLost, IfTurnLost}
+
+-- there is something, or nothing
+there_or_not : {X : Type 0} (o : Option X) → IsNone o ⊎ IsSome o
+there_or_not None = inl search
+there_or_not (Some x) = inr search
+
+-- ---- what follows of it
+
+module _ (P Q : Type 0) (leads : P → Q) where
+  pub gone_so : (error : DbError) → IfGone error P → IfGone error Q
+  gone_so (errors.SnapshotGone horizon) h = leads h
+  gone_so error h = tt
+
+  pub lost_so : (error : TxnError) → IfLost error P → IfLost error Q
+  lost_so (txns.SnapshotLost horizon) h = leads h
+  lost_so error h = tt
+
+  pub did_so : (did : Did) → IfDidLose did P → IfDidLose did Q
+  did_so (dids.Refused error) h = gone_so error h
+  did_so did h = tt
+
+  pub end_so : (end : Option End) → IfEndLost end P → IfEndLost end Q
+  end_so None h = tt
+  end_so (Some (ends.Refused error)) h = lost_so error h
+  end_so (Some (ends.Value value)) h = tt
+
+  pub reply_so : (reply : Reply) → IfReplyLost reply P → IfReplyLost reply Q
+  reply_so (replies.Asked did end) h = (did_so did h.0, end_so end h.1)
+  reply_so (replies.Ended end) h = end_so (Some end) h
+  reply_so (replies.Refused (refusals.Transaction error)) h = lost_so error h
+  reply_so reply h = tt
+
+-- what never comes loses nothing
+pub never_lost : (P : Type 0) (turn : Turn) → IfTurnLost turn ⊥ → IfTurnLost turn P
+never_lost P (turns.Refused error) h = lost_so ⊥ P (λ no. absurd no) error h
+never_lost P turn h = tt
+
+module _ (P : Type 0) where
+  -- what the database refuses, the transaction is refused
+  pub request_lost : (error : DbError) → IfGone error P → IfLost (refused_request error) P
+  request_lost (errors.SnapshotGone horizon) h = h
+  request_lost error h = tt
+
+  -- no call of its own is refused so, and no pin that is to be added
+  call_not_lost : (error : CallError) → IfLost (refused_call error) P
+  call_not_lost calls.Memory = tt
+  call_not_lost error = tt
+
+  pin_not_lost : (error : AddError) → IfLost (refused_pin error) P
+  pin_not_lost adds.Full = tt
+  pin_not_lost error = tt
+
+  -- ---- turns
+
+  ask_not_lost : (turn : Turn) → IsAsk turn → IfTurnLost turn P
+  ask_not_lost (turns.Refused error) asks = absurd asks
+  ask_not_lost turn asks = tt
+
+  lookup_not_lost : (k : Call) (turn : Turn) → AsksLookup k turn → IfTurnLost turn P
+  lookup_not_lost k (turns.Refused error) asks = absurd asks
+  lookup_not_lost k turn asks = tt
+
+  present_not_lost : (turn : Turn) → AsksPin turn → IfTurnLost turn P
+  present_not_lost (turns.Refused error) asks = absurd asks
+  present_not_lost turn asks = tt
+
+  -- the end of a call, or its value, is that of the turn
+  pub noted_lost : {X : Type 0} (opened : Turn → X) (turn : Turn) (call : Option X) (end : Option End) → IsNoted opened turn call end → IfTurnLost turn P → IfEndLost end P
+  noted_lost opened (turns.Ask request) call end noted h = rw noted.1 tt
+  noted_lost opened (turns.Value value) call end noted h = rw noted.1 tt
+  noted_lost opened (turns.Refused error) call end noted h = rw noted.1 h
+  noted_lost opened (turns.Rows rows) call end noted h = absurd noted
+
+  pub end_lost : (turn : Turn) (end : End) → IsEndOf turn end → IfTurnLost turn P → IfEndLost (Some end) P
+  end_lost (turns.Value value) end is h = rw is tt
+  end_lost (turns.Refused error) end is h = rw is h
+  end_lost turn end is h = absurd is
+
+  pub rows_lost : (turn : Turn) (reply : Reply) → IsToldQuery turn reply → IfTurnLost turn P → IfReplyLost reply P
+  rows_lost (turns.Rows rows) reply told h = rw told tt
+  rows_lost (turns.Refused error) reply told h = rw told h
+  rows_lost turn reply told h = absurd told
+
+  -- ---- a call of a read-only transaction
+
+  module _ (new : CoreValue) (objects : Objects) (turn : Turn) where
+    wanting_not_lost : (need : Option Need) (error : TxnError) → IsWanting need new error → IfLost error P
+    wanting_not_lost need error (inl is) = rw is tt
+    wanting_not_lost need error (inr is) = rw is.3 tt
+
+    begin_not_lost : (old : CoreValue) (before : Objects) (k : Call) → BeginLeads old before k new objects turn → IfTurnLost turn P
+    begin_not_lost old before k leads = elim (there_or_not (activity_of before k.function)) [
+      | inl none ↦ rw (leads.absent none).1 tt
+      | inr some ↦ lookup_not_lost k turn (leads.there some).1
+    ]
+
+    pub start_not_lost : (old : CoreValue) (before : Objects) (k : Call) → StartLeads old before k new objects turn → IfTurnLost turn P
+    start_not_lost old before k leads = go old.pins.members refl
+      where
+        go : (ms : List Pin) → old.pins.members ≡ ms → IfTurnLost turn P
+        go [] none = present_not_lost turn (leads.pins none).asks
+        go (m ∷ ms) some = begin_not_lost old before k (leads.begins (λ none. let no : m ∷ ms ≡ [] = sym some ∙ none in absurd (cc no)))
+
+    standing_not_lost : (stands : CallTurn) → StandingLeads stands new objects turn → IfTurnLost turn P
+    standing_not_lost stands leads = standing_turn stands turn leads
+      where
+        standing_turn : (c : CallTurn) (t : Turn) → StandingLeads c new objects t → IfTurnLost t P
+        standing_turn (Ok standing) (turns.Refused error) l = wanting_not_lost standing.need error l
+        standing_turn (Ok standing) t l = tt
+        standing_turn (Err error) t l = rw l (call_not_lost error)
+
+    called_not_lost : (next : Next) (old : CoreValue) (before : Objects) (need : Need) (reply : CallReply) → CallLeads next old before need reply new objects turn
+        → IfTurnLost turn P
+    called_not_lost next old before need reply leads = standing_not_lost leads.0 leads.2
+
+    hit_not_lost : (next : Next) (old : CoreValue) (before : Objects) (k : Call) (hit : Shown) → HitLeads next old before k hit new objects turn → IfTurnLost turn P
+    hit_not_lost next old before k hit leads = go (kept hit.reach old.pins.members) refl
+      where
+        go : (ms : List Pin) → kept hit.reach old.pins.members ≡ ms → IfTurnLost turn P
+        go [] none = called_not_lost next old before (needs.Lookup k) calls_replies.Miss (leads.none none)
+        go (m ∷ ms) some =
+            called_not_lost next old before (needs.Lookup k) (calls_replies.Hit hit) (leads.held (λ none. let no : m ∷ ms ≡ [] = sym some ∙ none in absurd (cc no)))
+
+    pinned_not_lost : (first : Option Call) (old : CoreValue) (before : Objects) → PinLeads first old before new objects turn → IfTurnLost turn P
+    pinned_not_lost (Some k) old before leads = begin_not_lost old before k leads
+    pinned_not_lost None old before leads = ask_not_lost turn leads.1
+
+    -- a turn that comes of a reply loses what the port has lost
+    pub reply_lost : (next : Next) (old : CoreValue) (before : Objects) (reply : PortReply) (did : Did) → IsAnswered old reply → DropsNone old → DoesTell reply did
+        → IfDidLose did P → ReplyLeads next old before reply new objects turn → IfTurnLost turn P
+    reply_lost next old before (ports.Pin (Ok pinned)) did to drops told lost leads = rw leads tt
+    reply_lost next old before (ports.Pin (Err e)) did to drops told lost leads = rw leads (request_lost e (subst (λ (d : Did). IfDidLose d P) told lost))
+    reply_lost next old before (ports.AddPin pinned (Ok added)) did to drops told lost leads = pinned_not_lost (first_call old.pinning) old before leads
+    reply_lost next old before (ports.AddPin pinned (Err e)) did to drops told lost leads = rw leads.0 tt
+    reply_lost next old before ports.Unpin did to drops told lost leads =
+        rw (leads to.0 to.1 to.2) (lost_so ⊥ P (λ no. absurd no) to.1 (drops to.0 to.1 to.2))
+    reply_lost next old before (ports.Lookup None) did to drops told lost leads = called_not_lost next old before (needs.Lookup to.0) calls_replies.Miss (leads to.0 to.1.1)
+    reply_lost next old before (ports.Lookup (Some hit)) did to drops told lost leads = hit_not_lost next old before to.0 hit.answer (leads to.0 to.1.1)
+    reply_lost next old before (ports.Query (Ok found)) did to drops told lost leads =
+        called_not_lost next old before (needs.Query to.0) (calls_replies.Found found.answer) (leads to.0 to.1.1)
+    reply_lost next old before (ports.Query (Err e)) did to drops told lost leads = rw leads (request_lost e (subst (λ (d : Did). IfDidLose d P) told lost))
+    reply_lost next old before ports.Insert did to drops told lost leads = called_not_lost next old before (needs.Insert to.0) calls_replies.Inserted (leads to.0 to.1.1)
+
+  -- ---- a call of a read-write transaction
+
+  pub rw_not_lost : (stands : CallTurn) (new : RwValue) (objects : Objects) (turn : Turn) → RwStandingLeads stands new objects turn → IfTurnLost turn P
+  rw_not_lost (Ok standing) new objects (turns.Refused error) leads = rw leads tt
+  rw_not_lost (Ok standing) new objects turn leads = tt
+  rw_not_lost (Err error) new objects turn leads = rw leads (call_not_lost error)
+
+  pub rw_start_not_lost : (next : Next) (s : State) (k : Call) (before : Objects) (new : RwValue) (objects : Objects) (turn : Turn)
+      → (IsSome (activity_of before k.function) → RwCallLeads next s (standing_of (started k) before) [] new objects turn)
+      → (IsNone (activity_of before k.function) → turn ≡ turns.Refused (txns.Call (NoFunction k.function))) → IfTurnLost turn P
+  rw_start_not_lost next s k before new objects turn leads missing = elim (there_or_not (activity_of before k.function)) [
+    | inl none ↦ rw (missing none) tt
+    | inr some ↦ let on = leads some in rw_not_lost on.0 new objects turn on.2
+  ]
+
+-- ---- the pin of the present
+
+-- why the hold of a pin is to be taken away, where it is
+abbrev pub reason_in : PinStep → Option TxnError
+reason_in (Dropping stamp error) = Some error
+reason_in step = None
+
+abbrev pub reason_of : Option Pinning → Option TxnError
+reason_of None = None
+reason_of (Some p) = reason_in p.step
+
+-- no pin is left to be added or unpinned
+pub none_left : (c : CoreValue) → left_pin c.pinning ≡ None → DropsNone c
+none_left c none = λ stamp error at. let some : Some stamp ≡ None = sym (ap left_pin at.1) ∙ none in absurd (cc some)
+
+adding_drops_none : (c : CoreValue) (pin : Pin) → IsAt c (Adding pin) → DropsNone c
+adding_drops_none c pin adding = λ stamp error at. let no : None ≡ Some error = ap reason_of (sym adding.1 ∙ at.1) in absurd (cc no)
+
+dropping_drops_none : (c : CoreValue) (stamp : ℕ) (error : AddError) → IsAt c (Dropping stamp (refused_pin error)) → DropsNone c
+dropping_drops_none c stamp error dropping = λ at_stamp why at.
+    let both : Some (refused_pin error) ≡ Some why = ap reason_of (sym dropping.1 ∙ at.1) in
+    let same : refused_pin error ≡ why = cc both in
+    subst (λ (e : TxnError). IfLost e ⊥) same (pin_not_lost ⊥ error)
+
+pub drops_next : (next : Next) (old new : TxnValue) (reply : PortReply) (turn : Turn) → IsTurn new.core turn → left_pin new.core.pinning ≡ left_after reply
+    → ReplyLeads next old.core old.objects reply new.core new.objects turn → DropsNone new.core
+drops_next next old new (ports.Pin (Ok pinned)) turn is left leads =
+    adding_drops_none new.core (pin_of pinned) (subst (λ (t : Turn). IsTurn new.core t) leads is)
+drops_next next old new (ports.AddPin pinned (Err e)) turn is left leads = dropping_drops_none new.core pinned.stamp e leads.1
+drops_next next old new reply turn is left leads = none_left new.core left

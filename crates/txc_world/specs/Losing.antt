@@ -1,0 +1,48 @@
+-- What is refused for a snapshot that is gone.
+use Rattle.std.specs.Prelude.{Option, Some}
+use Rattle.txc_db.specs.declared.error.DbError.{DbError}
+use Rattle.txc_db.specs.declared.error.DbError.TheVariants.{SnapshotGone}
+use Rattle.txc_ports.specs.declared.error.TxnError.{TxnError}
+use Rattle.txc_ports.specs.declared.error.TxnError.TheVariants.{SnapshotLost}
+use Rattle.txc_ports.specs.declared.turn.Turn.{Turn}
+use Rattle.txc_ports.specs.declared.turn.Turn.TheVariants as turns
+use Rattle.txc_world.specs.declared.did.Did.{Did}
+use Rattle.txc_world.specs.declared.did.Did.TheVariants as dids
+use Rattle.txc_world.specs.declared.reply.End.{End}
+use Rattle.txc_world.specs.declared.reply.End.TheVariants as ends
+use Rattle.txc_world.specs.declared.reply.Reply.{Reply}
+use Rattle.txc_world.specs.declared.reply.Reply.TheVariants.{Asked, Ended, Refused}
+use Rattle.txc_world.specs.declared.reply.Refusal.TheVariants.{Transaction}
+
+-- this is so, where the database refused for a snapshot that is gone
+abbrev pub IfGone : DbError → Type 0 → Type 0
+IfGone (SnapshotGone horizon) P = P
+IfGone error P = Unit {0}
+
+-- this is so, where a transaction was refused for a snapshot that is gone
+abbrev pub IfLost : TxnError → Type 0 → Type 0
+IfLost (SnapshotLost horizon) P = P
+IfLost error P = Unit {0}
+
+-- this is so, where a port refused for a snapshot that is gone
+abbrev pub IfDidLose : Did → Type 0 → Type 0
+IfDidLose (dids.Refused error) P = IfGone error P
+IfDidLose did P = Unit {0}
+
+-- this is so, where the turn is a refusal for a snapshot that is gone
+abbrev pub IfTurnLost : Turn → Type 0 → Type 0
+IfTurnLost (turns.Refused error) P = IfLost error P
+IfTurnLost turn P = Unit {0}
+
+-- this is so, where a call has ended for a snapshot that is gone
+abbrev pub IfEndLost : Option End → Type 0 → Type 0
+IfEndLost (Some (ends.Refused error)) P = IfLost error P
+IfEndLost end P = Unit {0}
+
+-- This is so, where the reply tells of a snapshot that is gone: of a request that a port refused so, of a call
+-- that has ended so, or of a query of the transaction's own.
+abbrev pub IfReplyLost : Reply → Type 0 → Type 0
+IfReplyLost (Asked did end) P = IfDidLose did P × IfEndLost end P
+IfReplyLost (Ended end) P = IfEndLost (Some end) P
+IfReplyLost (Refused (Transaction error)) P = IfLost error P
+IfReplyLost reply P = Unit {0}
