@@ -1,26 +1,31 @@
 -- What is found in one table after another is what is found.
-use Rattle.std.proofs.Common.{◌≡◌, ℕ, ◌+◌, ◌-◌, ◌<◌, ◌≤◌, List, [], ◌∷◌, ◌++◌, map, filter, length, sym, ap, subst, ◌∙◌, refl, append_assoc, append-nil, length-append, arith}
+use Rattle.std.proofs.Common.{◌≡◌, ℕ, ◌+◌, ◌-◌, ◌<◌, ◌≤◌, List, [], ◌∷◌, ◌++◌, map, filter, length, Ok, Err, Result, Vec, Global, IfOk, sym, ap, subst, ◌∙◌, refl, append_assoc, append-nil, length-append, arith}
 use Rattle.std.proofs.lemmas.List.{map-append, length-map}
 use Rattle.std.proofs.lemmas.List.Elements.{filter-append}
-use Rattle.std.specs.List.Sorted.{IsPermutation}
+use Rattle.std.specs.List.Sorted.{IsPermutation, IsSorted}
 use Rattle.std.proofs.lemmas.List.Sorted.{IsPermutation-refl, IsPermutation-map, IsPermutation-sym, IsPermutation-trans, IsPermutation-append_left, IsPermutation-append_right, length_permutation}
 use Rattle.sqlite_trees.proofs.ListLemmas.{IsPermutation-filter}
 use Rattle.txc_rows.specs.declared.store_error.TheConstants.{MAX_MATCHING}
 use Rattle.txc_rows.specs.declared.version.Versioned.{Versioned}
 use Rattle.txc_rows.specs.declared.query.Query.{Query}
-use Rattle.txc_rows.specs.Versions.{suits}
+use Rattle.txc_rows.specs.Versions.{suits, version_cmp}
+use Rattle.txc_rows.specs.Found.{Finds}
+use Rattle.txc_rows.specs.Keeping.{AnswersStates}
+use Rattle.txc_rows.specs.declared.store_error.StoreError.{StoreError}
 use Rattle.txc_rows.specs.Placed.{Placed, version_of, by_place, versions_by_place, is_left, left_from}
 use Rattle.sqlite.specs.Held.{Held, state}
 use Rattle.sqlite.specs.Steps.{over_memory}
 use Rattle.sqlite.specs.Order.{Row}
+use Rattle.sqlite.specs.Tree.{Trees}
 use Rattle.sqlite_trees.specs.declared.memory.MemStore.{MemStore}
 use Rattle.txc_rows.specs.declared.texts.Segment.{Segment}
-use Rattle.txc_rows.specs.declared.texts.Source.TheVariants.{Dead}
+use Rattle.txc_rows.specs.declared.texts.Source.TheVariants.{Latest, Dead}
 use Rattle.txc_rows.specs.Texts.{tree_of}
 use Rattle.txc_rows.specs.States.{query_table}
 use Rattle.txc_rows.specs.Stored.{placed_all, version_shown}
-use Rattle.txc_rows.specs.Kept.{placed_read, IsKept, IsSame, IsListing, IsFinding}
+use Rattle.txc_rows.specs.Kept.{latest_in, dead_among, dead_in, placed_of, placed_read, versions_of, IsKept, IsSame, IsListing, IsFinding}
 use Rattle.txc_rows.proofs.PlaceLemmas.{by_place_permutes}
+use Rattle.txc_rows.proofs.KeepingLemmas.{found_answers}
 use Rattle.txc_rows.proofs.Listed.{finds}
 
 module _ (q : Query) (from : ℕ) where
@@ -71,3 +76,37 @@ read_finding q from placed old new rows listing room few are = record {
   are = are;
   few = omega (arith, few, room, ap length are, length-append old (map (version_shown (query_table q)) rows), length-map rows (version_shown (query_table q)));
 }
+
+-- ---- all tables, the last versions first
+
+module _ (q : Query) (from : ℕ) (h : Held MemStore) where
+  abbrev pub of_all : List Versioned
+  of_all = filter (suits q) (left_from from (versions_of h))
+
+  pub found_latest : (new : List Versioned) → IsFinding q from (placed_read Latest h) [] new → IsPermutation of_all (new ++ asked q from (dead_in h))
+  found_latest new finding = found_more q from of_all [] new (latest_in h) (dead_in h) (all_asked q from (placed_of h)) finding
+
+  pub latest_many : MAX_MATCHING < 0 + length (asked q from (placed_read Latest h)) → MAX_MATCHING < length of_all
+  latest_many many = found_many q from of_all [] [] (latest_in h) (dead_in h) (all_asked q from (placed_of h)) many
+
+  abbrev still_asked : List Segment → List Versioned
+  still_asked ss = asked q from (dead_among (state over_memory h).now.trees ss)
+
+  module _ (mid : Held MemStore) (same : IsSame h mid) (s : Segment) (rest : List Segment) (old : List Versioned) (so_far : IsPermutation of_all (old ++ still_asked (s ∷ rest))) where
+    pub found_dead : (new : List Versioned) → IsFinding q from (placed_read (Dead s) mid) old new → IsPermutation of_all (new ++ still_asked rest)
+    found_dead new finding =
+        let here : IsFinding q from (placed_read (Dead s) h) old new = subst (λ (t : Trees). IsFinding q from (placed_all (t (tree_of s))) old new) same.trees finding in
+        found_more q from of_all old new (placed_read (Dead s) h) (dead_among (state over_memory h).now.trees rest) so_far here
+
+    pub dead_many : MAX_MATCHING < length old + length (asked q from (placed_read (Dead s) mid)) → MAX_MATCHING < length of_all
+    dead_many many =
+        let here : MAX_MATCHING < length old + length (asked q from (placed_read (Dead s) h)) = subst (λ (t : Trees). MAX_MATCHING < length old + length (asked q from (placed_all (t (tree_of s))))) same.trees many in
+        found_many q from of_all old old (placed_read (Dead s) h) (dead_among (state over_memory h).now.trees rest) so_far here
+
+  pub found_all : (found sorted : List Versioned) → IsPermutation of_all (found ++ still_asked []) → IsPermutation found sorted → IsSorted version_cmp sorted → Finds q (left_from from (versions_of h)) sorted
+  found_all found sorted so_far same sorts = record { same = IsPermutation-trans _ _ _ (subst (IsPermutation of_all) (append-nil found) so_far) same; sorted = sorts }
+
+-- what is found answers the query in each kept state
+pub all_answer : (q : Query) (vs : List Versioned) (r : Result (Vec Versioned Global) StoreError) → IfOk r (λ found. Finds q vs found.items) → IfOk r (λ found. AnswersStates q vs found.items)
+all_answer q vs (Ok found) finds = found_answers q vs found.items finds
+all_answer q vs (Err e) finds = tt

@@ -18,9 +18,9 @@ use Rattle.txc_rows.specs.declared.texts.Segment.{Segment}
 use Rattle.txc_rows.specs.declared.texts.Segment.TheVariants.{First}
 use Rattle.txc_rows.specs.declared.tally.Tally.{Tally}
 use Rattle.txc_rows.specs.Texts.{place_of, tree_of}
-use Rattle.txc_rows.specs.Kept.{placed_of, versions_of, newest_of, AreEmptyBefore, OthersAreEmpty, OthersStay, IsKept, IsCall, IsRoom, IsStore}
-use Rattle.txc_rows.proofs.HeldLemmas.{placed_by}
-use Rattle.txc_rows.proofs.SweepLemmas.{swept_same, left_alone, none_hidden}
+use Rattle.txc_rows.specs.Kept.{placed_of, versions_of, newest_of, AreEmptyBefore, OthersAreEmpty, OthersStay, IsKept, IsCall, IsSame, IsRoom, IsStore}
+use Rattle.txc_rows.proofs.HeldLemmas.{placed_by, placed_same}
+use Rattle.txc_rows.proofs.SweepLemmas.{swept_same, left_is_swept, left_alone, none_hidden}
 use Rattle.txc_rows.proofs.ViewLemmas.{written_view, purged_view, view_each}
 
 -- ---- a new store
@@ -43,6 +43,10 @@ nothing_swept from xs = record { left = IsPermutation-refl (placed_left from xs)
 pub call_itself : (from : ℕ) (h : Held MemStore) → IsKept h → IsCall {X = Unit {0}} (AreSwept from (placed_of h)) h h (Ok tt)
 call_itself from h kept = record { kept = kept; leaves = nothing_swept from (placed_of h); unchanged = tt }
 
+-- where all tables are made anew, they are swept
+pub all_swept : {X Y : Type 0} (from : ℕ) (old new : Held MemStore) (x : X) (y : Y) → IsCall {X = X} (AreLeft from (placed_of old)) old new (Ok x) → IsCall {X = Y} (AreSwept from (placed_of old)) old new (Ok y)
+all_swept from old new x y call = record { kept = call.kept; leaves = left_is_swept from (placed_of old) (placed_of new) call.leaves; unchanged = tt }
+
 -- ---- the segments that are not in use
 
 pub still_empty : (n : ℕ) (old new : Held MemStore) → (state over_memory new).now.trees ≡ (state over_memory old).now.trees → AreEmptyBefore n old → AreEmptyBefore n new
@@ -54,6 +58,18 @@ fewer_empty n m h low empty s below = empty s (omega (arith, low, below))
 -- where the newest one is written
 pub written_empty : (j : Segment) (n : ℕ) (old new : Held MemStore) → place_of j + n ≡ 7 → OthersStay (tree_of j) old new → AreEmptyBefore n old → AreEmptyBefore n new
 written_empty j n old new newest stay empty s low = stay s (λ same. omega (arith, newest, low, same)) ∙ empty s low
+
+-- ---- nothing is written
+
+pub same_store : (next : ℕ) (t : Tally) (old new : Held MemStore) → IsStore next t old → IsSame old new → IsStore next t new
+same_store next t old new store same = record {
+  kept = same.kept;
+  below = subst (AreBelow next) (sym (placed_same old new same)) store.below;
+  empty = still_empty (newest_of t) old new same.trees store.empty;
+}
+
+pub same_view : (from : ℕ) (old new : Held MemStore) → IsSame old new → left_from from (versions_of new) ≡ left_from from (versions_of old)
+same_view from old new same = ap (λ xs. left_from from (versions_by_place xs)) (placed_same old new same)
 
 -- ---- room for a write
 

@@ -1,7 +1,8 @@
 -- What making tables anew leaves of a connection.
-use Rattle.std.proofs.Common.{◌≡◌, ℕ, List, [], ◌∷◌, ◌++◌, map, length, false, true, None, Some, Option, Ok, Err, Result, OnOk, IfErr, IsTrue, refl, sym, ap, subst, ◌∙◌, append_assoc, arith}
+use Rattle.std.proofs.Common.{◌≡◌, ℕ, ◌+◌, ◌<◌, List, [], ◌∷◌, ◌++◌, map, length, drop, get_or, false, true, None, Some, Option, Ok, Err, Result, OnOk, IfErr, IsTrue, refl, sym, ap, subst, ◌∙◌, append_assoc, arith}
 use Rattle.std.specs.List.{AllByRecursion}
 use Rattle.std.specs.List.Sorted.{IsPermutation}
+use Rattle.std.proofs.lemmas.List.{at_drop_more}
 use Rattle.std.proofs.lemmas.List.Elements.{filter-append}
 use Rattle.std.proofs.lemmas.List.Sorted.{IsPermutation-trans, IsPermutation-append_left, IsPermutation-append_right, length_permutation}
 use Rattle.sqlite.specs.declared.error.Error.{Error}
@@ -37,6 +38,19 @@ no_more : (ys : List Placed) → IsPermutation [] ys → ys ≡ []
 no_more [] h = refl
 no_more (y ∷ ys) h = absurd (omega (arith, length_permutation [] (y ∷ ys) h))
 
+-- what is left of a list from an element on
+pub next_first : {X : Type 0} (xs : List X) (i : ℕ) (x : X) → i < length xs → x ≡ get_or xs i x → drop i xs ≡ x ∷ drop (i + 1) xs
+next_first xs i x low is = at_drop_more (λ ys. ys) xs i x low ∙ ap (λ y. y ∷ drop (i + 1) xs) (sym is)
+
+-- ---- what a transaction begins with
+
+module _ (h tx : Held MemStore) (begun : tx ≡ record h { in_transaction = true }) where
+  pub begun_base : (state over_memory tx).committed ≡ (state over_memory h).committed
+  begun_base = ap (λ (x : Held MemStore). (state over_memory x).committed) begun
+
+  pub begun_latest : latest_in tx ≡ latest_in h
+  begun_latest = ap latest_in begun
+
 -- ---- a row that was read is given
 
 bound_death : (d : Option ℕ) → bound_value (death d) ≡ death d
@@ -65,18 +79,18 @@ filled_latest xs mid end made filled = record {
 }
 
 -- each segment was made
-pub all_made : {schema : Schema} {latest : List Placed} (h : Held MemStore) (r : Result ℕ Error) → OnOk r (HasMade schema latest (First ∷ made_before First) h) → OnOk r ((s : Segment) → (state over_memory h).now.trees (tree_of s) ≡ [])
-all_made h (Err e) made = tt
-all_made h (Ok n) made = at made.are_empty
+pub all_made : (schema : Schema) (latest : List Placed) (h : Held MemStore) (r : Result ℕ Error) → OnOk r (HasMade schema latest (First ∷ made_before First) h) → OnOk r ((s : Segment) → (state over_memory h).now.trees (tree_of s) ≡ [])
+all_made schema latest h (Err e) made = tt
+all_made schema latest h (Ok n) made = each made.are_empty
   where
-    at : AllByRecursion (λ s. (state over_memory h).now.trees (tree_of s) ≡ []) (First ∷ made_before First) → (s : Segment) → (state over_memory h).now.trees (tree_of s) ≡ []
-    at all First = all.0
-    at all Second = all.1.0
-    at all Third = all.1.1.0
-    at all Fourth = all.1.1.1.0
-    at all Fifth = all.1.1.1.1.0
-    at all Sixth = all.1.1.1.1.1.0
-    at all Seventh = all.1.1.1.1.1.1.0
+    each : AllByRecursion (λ s. (state over_memory h).now.trees (tree_of s) ≡ []) (First ∷ made_before First) → (s : Segment) → (state over_memory h).now.trees (tree_of s) ≡ []
+    each all First = all.0
+    each all Second = all.1.0
+    each all Third = all.1.1.0
+    each all Fourth = all.1.1.1.0
+    each all Fifth = all.1.1.1.1.0
+    each all Sixth = all.1.1.1.1.1.0
+    each all Seventh = all.1.1.1.1.1.1.0
 
 -- the first is filled
 pub rest_empty : (mid end : Held MemStore) (r : Result (Unit {0}) Error) → ((s : Segment) → (state over_memory mid).now.trees (tree_of s) ≡ []) → OnOk r (OthersStay (tree_of First) mid end) → OnOk r (OthersAreEmpty First end)
@@ -84,6 +98,9 @@ rest_empty mid end (Ok x) empty stay = λ s off. stay s off ∙ empty s
 rest_empty mid end (Err e) empty stay = tt
 
 -- ---- the tables of a new store
+
+pub made_of : (first mid : Held MemStore) → latest_in first ≡ [] → HasVersions (latest_in first) [] mid → HasVersions [] [] mid
+made_of first mid none has = subst (λ latest. HasVersions latest [] mid) none has
 
 none_apart : AreApart [] []
 none_apart = record { places = tt; keys = tt; current = tt; ended = tt; each = tt }

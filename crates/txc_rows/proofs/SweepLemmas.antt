@@ -96,16 +96,20 @@ left_alone from old new left own =
     ∙ sym (placed_as_left from old)
 
 -- from stamp 0 on none is hidden
+all_last : (died : Option ℕ) → lasts_to 0 died ≡ true
+all_last None = refl
+all_last (Some d) = low d
+  where
+    low : (n : ℕ) → nat_le 0 n ≡ true
+    low n = grind (arith, nat_tests)
+
 pub none_hidden : (vs : List Versioned) → left_from 0 vs ≡ vs
 none_hidden [] = refl
-none_hidden (v ∷ vs) = go v.died refl (none_hidden vs)
+none_hidden (v ∷ vs) = go (is_left 0 v) (all_last v.died) (none_hidden vs)
   where
-    go : (d : Option ℕ) → v.died ≡ d → left_from 0 vs ≡ vs → left_from 0 (v ∷ vs) ≡ v ∷ vs
-    go None e more = rw e (ap (λ rest. v ∷ rest) more)
-    go (Some d) e more = rw (e, low d) (ap (λ rest. v ∷ rest) more)
-      where
-        low : (n : ℕ) → nat_le 0 n ≡ true
-        low n = grind (arith, nat_tests)
+    go : (b : Bool) → b ≡ true → left_from 0 vs ≡ vs → cond b (v ∷ left_from 0 vs) (left_from 0 vs) ≡ v ∷ vs
+    go true e more = ap (λ rest. v ∷ rest) more
+    go false e more = absurd (let off = e in cc)
 
 -- ---- a purge
 

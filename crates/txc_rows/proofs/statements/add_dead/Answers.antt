@@ -12,7 +12,7 @@ use Rattle.txc_rows.proofs.HeldLemmas.{steps, has_left, others_stay}
 use Rattle.txc_rows.proofs.statements.add_dead.Goals as goal
 
 ran : (c : goal.After-execute) → ExecutesInside 0 (add_text c.args.segment) (cells_of (placed_from c.args.row.now)) (state over_memory c.args.tx.now.conn.now) (state over_memory c.execute.new.self.conn.now) c.execute.result
-ran c = rw (c.add_text.ensures, c.in_ok-get_ref.ensures.1, c.in_ok-get_ref-2.ensures.1, c.in_ok-get_ref-3.ensures.1, c.in_ok-get_ref-4.ensures.1, c.in_ok-get_ref-5.ensures.1, c.in_ok-get_ref-6.ensures.1, c.in_ok-get_ref-7.ensures.1, bound_cells c.args.row.now c.requires.cells ∙ c.requires.cells) at (c.execute.ensures.runs (memory_is_clean c.execute.new.self.conn.now) c.requires.inside)
+ran c = rw (c.add_text.ensures, c.in_ok-get_ref.ensures.ok.1, c.in_ok-get_ref-2.ensures.ok.1, c.in_ok-get_ref-3.ensures.ok.1, c.in_ok-get_ref-4.ensures.ok.1, c.in_ok-get_ref-5.ensures.ok.1, c.in_ok-get_ref-6.ensures.ok.1, c.in_ok-get_ref-7.ensures.ok.1, bound_cells c.args.row.now c.requires.cells ∙ c.requires.cells) at (c.execute.ensures.runs (memory_is_clean c.execute.new.self.conn.now) c.requires.inside)
 
 pub returns-clause-step : goal.returns-clause-step
 returns-clause-step c =

@@ -1,18 +1,16 @@
 use Rattle.std.proofs.Common.{◌≡◌, ◌+◌, ◌++◌, ◌∷◌, [], map, drop, sym, ap, subst, ◌∙◌, refl, append_assoc, append-nil}
 use Rattle.std.specs.List.{AllByRecursion}
 use Rattle.std.specs.List.Sorted.{IsPermutation}
-use Rattle.std.proofs.lemmas.List.{drop_all, at_drop_more}
+use Rattle.std.proofs.lemmas.List.{drop_all}
 use Rattle.std.proofs.lemmas.List.Sorted.{IsPermutation-refl, IsPermutation-trans}
 use Rattle.sqlite.specs.Order.{Row}
 use Rattle.txc_rows.specs.Stored.{AreCells, placed_from}
 use Rattle.txc_rows.specs.Kept.{latest_in, dead_in}
+use Rattle.txc_rows.proofs.SweepCalls.{next_first}
 use Rattle.txc_rows.proofs.statements.fill_latest.Goals as goal
 
-split : (c : goal.After-row-item) → drop c.loop-row.row-index c.args.rows.now ≡ c.row-item.result ∷ drop (c.loop-row.row-index + 1) c.args.rows.now
-split c = at_drop_more (λ (rs : _). rs) c.args.rows.now c.loop-row.row-index c.row-item.result c.loop-row-test.true ∙ ap (λ r. r ∷ drop (c.loop-row.row-index + 1) c.args.rows.now) (sym c.row-item.is)
-
 pub add_row-requires-clause-cells : goal.add_row-requires-clause-cells
-add_row-requires-clause-cells c = (subst (AllByRecursion AreCells) (split c) c.loop-row.invariant.rest).0
+add_row-requires-clause-cells c = (subst (AllByRecursion AreCells) (next_first c.args.rows.now c.loop-row.row-index c.row-item.result c.loop-row-test.true c.row-item.is) c.loop-row.invariant.rest).0
 
 pub loop-row-preserved : goal.loop-row-preserved
 loop-row-preserved c =
@@ -20,16 +18,17 @@ loop-row-preserved c =
     let step = c.in_ok-add_row.ensures.step in
     let old = c.loop-row.tx.conn.now in
     let x = placed_from c.row-item.result in
+    let split = next_first c.args.rows.now c.loop-row.row-index c.row-item.result c.loop-row-test.true c.row-item.is in
     let later = map placed_from (drop (c.loop-row.row-index + 1) c.args.rows.now) in
     let next : (latest_in old ++ x ∷ []) ++ later ≡ latest_in old ++ map placed_from (drop c.loop-row.row-index c.args.rows.now) =
-    append_assoc (latest_in old) (x ∷ []) later ∙ ap (λ rs. latest_in old ++ map placed_from rs) (sym (split c)) in
+    append_assoc (latest_in old) (x ∷ []) later ∙ ap (λ rs. latest_in old ++ map placed_from rs) (sym split) in
     record {
       tables = step.leaves.tables;
       latest = ap (λ xs. xs ++ later) step.leaves.latest_are ∙ next ∙ i.latest;
       dead = IsPermutation-trans _ _ _ i.dead step.leaves.dead_are;
       inside = step.inside;
       base = step.base ∙ i.base;
-      rest = (subst (AllByRecursion AreCells) (split c) i.rest).1;
+      rest = (subst (AllByRecursion AreCells) split i.rest).1;
       same = c.in_ok-add_row.ensures.same_reference ∙ i.same;
       others = λ s off. c.in_ok-add_row.ensures.others s off ∙ i.others s off;
     }
