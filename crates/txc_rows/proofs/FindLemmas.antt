@@ -1,5 +1,5 @@
 -- What is found in one table after another is what is found.
-use Rattle.std.proofs.Common.{◌≡◌, ℕ, ◌+◌, ◌-◌, ◌<◌, ◌≤◌, List, [], ◌∷◌, ◌++◌, map, filter, length, Ok, Err, Result, Vec, Global, IfOk, sym, ap, subst, ◌∙◌, refl, append_assoc, append-nil, length-append, arith}
+use Rattle.std.proofs.Common.{◌≡◌, ℕ, ◌+◌, ◌-◌, ◌<◌, ◌≤◌, List, [], ◌∷◌, ◌++◌, map, filter, length, Ok, Err, Result, Vec, Global, IfOk, IsErrAnd, sym, ap, subst, ◌∙◌, refl, append_assoc, append-nil, length-append, arith}
 use Rattle.std.proofs.lemmas.List.{map-append, length-map}
 use Rattle.std.proofs.lemmas.List.Elements.{filter-append}
 use Rattle.std.specs.List.Sorted.{IsPermutation, IsSorted}
@@ -83,11 +83,13 @@ module _ (q : Query) (from : ℕ) (h : Held MemStore) where
   abbrev pub of_all : List Versioned
   of_all = filter (suits q) (left_from from (versions_of h))
 
-  pub found_latest : (new : List Versioned) → IsFinding q from (placed_read Latest h) [] new → IsPermutation of_all (new ++ asked q from (dead_in h))
-  found_latest new finding = found_more q from of_all [] new (latest_in h) (dead_in h) (all_asked q from (placed_of h)) finding
+  pub found_latest : (old new : List Versioned) → old ≡ [] → IsFinding q from (placed_read Latest h) old new → IsPermutation of_all (new ++ asked q from (dead_in h))
+  found_latest old new none finding =
+      found_more q from of_all [] new (latest_in h) (dead_in h) (all_asked q from (placed_of h)) (subst (λ vs. IsFinding q from (placed_read Latest h) vs new) none finding)
 
-  pub latest_many : MAX_MATCHING < 0 + length (asked q from (placed_read Latest h)) → MAX_MATCHING < length of_all
-  latest_many many = found_many q from of_all [] [] (latest_in h) (dead_in h) (all_asked q from (placed_of h)) many
+  pub latest_many : (old : List Versioned) → old ≡ [] → MAX_MATCHING < length old + length (asked q from (placed_read Latest h)) → MAX_MATCHING < length of_all
+  latest_many old none many =
+      found_many q from of_all [] [] (latest_in h) (dead_in h) (all_asked q from (placed_of h)) (subst (λ vs. MAX_MATCHING < length vs + length (asked q from (placed_read Latest h))) none many)
 
   abbrev still_asked : List Segment → List Versioned
   still_asked ss = asked q from (dead_among (state over_memory h).now.trees ss)
@@ -110,3 +112,12 @@ module _ (q : Query) (from : ℕ) (h : Held MemStore) where
 pub all_answer : (q : Query) (vs : List Versioned) (r : Result (Vec Versioned Global) StoreError) → IfOk r (λ found. Finds q vs found.items) → IfOk r (λ found. AnswersStates q vs found.items)
 all_answer q vs (Ok found) finds = found_answers q vs found.items finds
 all_answer q vs (Err e) finds = tt
+
+-- an error that is passed up is the one that came
+error_or : {X : Type 0} → StoreError → Result X StoreError → StoreError
+error_or e (Ok x) = e
+error_or e (Err f) = f
+
+pub passed_error : {X : Type 0} (r : Result X StoreError) (e f : StoreError) → IsErrAnd r (λ y. y ≡ e) → r ≡ Err f → e ≡ f
+passed_error (Ok x) e f is same = absurd is
+passed_error (Err y) e f is same = sym is ∙ ap (error_or e) same

@@ -123,14 +123,18 @@ refused_store L from next t u old new e store empty call =
 
 -- ---- a write
 
-module _ (from first stamp next : ℕ) (net : List Change) (t u : Tally) (old mid : Held MemStore) (store : IsStore next t old) (room : IsRoom from stamp old mid (Ok first)) (empty : AreEmptyBefore (newest_of u) mid) where
+pub no_room_store : (from stamp next : ℕ) (t u : Tally) (old mid : Held MemStore) (e : Error) → IsStore next t old → AreEmptyBefore (newest_of u) mid → IsRoom from stamp old mid (Err e)
+    → IsStore next u mid × (left_from from (versions_of mid) ≡ left_from from (versions_of old))
+no_room_store from stamp next t u old mid e store empty room = (record { kept = room.kept; below = room.below next store.below; empty = empty }, room.unchanged)
+
+module _ (from first number stamp next : ℕ) (net : List Change) (t u : Tally) (old mid : Held MemStore) (same_stamp : number ≡ stamp) (store : IsStore next t old) (room : IsRoom from number old mid (Ok first)) (empty : AreEmptyBefore (newest_of u) mid) where
   pub room_store : IsStore next u mid
   room_store = record { kept = room.kept; below = room.below next store.below; empty = empty }
 
   pub written_store : {X : Type 0} (j : Segment) (v : Tally) (new : Held MemStore) (x : X) → place_of j + newest_of u ≡ 7 → newest_of v ≡ newest_of u → OthersStay (tree_of j) mid new → IsCall (AreWritten (after_net stamp net (versions_of mid)) (next + length net)) mid new (Ok x)
       → IsStore (next + length net) v new × (left_from first (versions_of new) ≡ after_net stamp net (left_from from (versions_of old))) × AllByRecursion IsHoldable (after_net stamp net (left_from from (versions_of old)))
   written_store j v new x newest same stay call =
-      let is = written_view first stamp room.low net (placed_of mid) (placed_of new) (next + length net) call.leaves ∙ ap (after_net stamp net) room.shown in (
+      let is = written_view first stamp (subst (λ n. first ≤ n) same_stamp room.low) net (placed_of mid) (placed_of new) (next + length net) call.leaves ∙ ap (after_net stamp net) room.shown in (
         record { kept = call.kept; below = call.leaves.below; empty = written_empty j (newest_of v) mid new (ap (λ n. place_of j + n) same ∙ newest) stay (subst (λ n. AreEmptyBefore n mid) (sym same) empty) },
         is,
         subst (AllByRecursion IsHoldable) is (view_each first (placed_of new) call.kept.apart.each),
