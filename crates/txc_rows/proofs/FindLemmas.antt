@@ -110,11 +110,11 @@ module _ (q : Query) (from : ℕ) (h : Held MemStore) where
 
 -- what is found answers the query in each kept state
 pub all_answer : (q : Query) (vs : List Versioned) (r : Result (Vec Versioned Global) StoreError) → IfOk r (λ found. Finds q vs found.items) → IfOk r (λ found. AnswersStates q vs found.items)
-all_answer q vs (Ok found) finds = found_answers q vs found.items finds
-all_answer q vs (Err e) finds = tt
+all_answer q vs (Ok found) h = found_answers q vs found.items h
+all_answer q vs (Err e) h = tt
 
 -- an error that is passed up is the one that came
-error_or : {X : Type 0} → StoreError → Result X StoreError → StoreError
+abbrev error_or : {X : Type 0} → StoreError → Result X StoreError → StoreError
 error_or e (Ok x) = e
 error_or e (Err f) = f
 

@@ -214,7 +214,7 @@ fn read_all_left(
     ensures left { IfOk result (λ rows. IsPermutation (placed_left from (dead_in conn.old)) (map placed_from rows.items)) }
 {
     let mut left = Vec::new(alloc);
-    for segment in &SEGMENTS {
+    for segment in SEGMENTS {
         let mut rows = read_left(conn, Source::Dead(*segment), from)?;
         let Ok(()) = left.append(&mut rows) else {
             return Err(Error::SqliteFailure(ErrorCode::OutOfMemory));

@@ -197,7 +197,7 @@ fn find_all(
 {
     let mut found = Vec::new(alloc);
     find(conn, alloc, Source::Latest, query, from, &mut found)?;
-    for segment in &SEGMENTS {
+    for segment in SEGMENTS {
         find_dead(conn, alloc, *segment, query, from, tally, &mut found)?;
     }
     sort(&mut found)?;
@@ -251,13 +251,14 @@ impl VersionRows {
         let place = self.next_place;
         let next_place = place_after(place, net.len())?;
         let number = stamp.number();
-        self.kept_from = make_room(
+        let kept_from = make_room(
             &mut self.conn,
             self.alloc,
             &mut self.tally,
             self.kept_from,
             number,
         )?;
+        self.kept_from = kept_from;
         let written = write_all(&mut self.conn, net, stamp, place, self.tally.segment())?;
         self.tally.note(written, number);
         self.next_place = next_place;

@@ -137,7 +137,7 @@ pub(crate) enum Segment {
 }
 
 /// The segments in the order in which they are made: the first one last.
-pub(crate) const SEGMENTS: [Segment; 7] = [
+pub(crate) const SEGMENTS: &[Segment] = &[
     Segment::Seventh,
     Segment::Sixth,
     Segment::Fifth,

@@ -67,7 +67,7 @@ returns-clause-call c =
     = dead_call c.args.from old first mid c.in_ok-left.ensures.same left c.in_ok-left.ensures.left c.requires has end c.commit.result base c.commit.ensures.ended (c.commit.ensures.ok (memory_is_clean end)) (c.commit.ensures.err (memory_is_clean end)) step.inside in
     let same : end ≡ c.conn-2-1.given.0 = search rules in
     let done : IsCall L old end (Ok c.in_ok-commit.field-0) = subst (IsCall L old end) c.in_ok-commit.was call in
-    subst (λ h. IsCall L old h _) same (recast_ok L old end c.in_ok-commit.field-0 _ done)
+    recast_ok L old c.conn-2-1.given.0 c.in_ok-commit.field-0 _ (subst (λ h. IsCall L old h (Ok c.in_ok-commit.field-0)) same done)
 
 pub returns-clause-rest : goal.returns-clause-rest
 returns-clause-rest c =

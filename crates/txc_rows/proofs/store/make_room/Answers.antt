@@ -24,7 +24,8 @@ returns-in_err-kept-clause-room c =
     rw p.1 (room_refused c.args.kept_from c.args.stamp old c.sweep_dead.new.conn c.requires (AreSwept c.args.kept_from (placed_of old)) _ p.0 c.in_err-kept.ensures.call)
 
 pub returns-in_err-kept-clause-empty : goal.returns-in_err-kept-clause-empty
-returns-in_err-kept-clause-empty c = ?
+returns-in_err-kept-clause-empty c = λ empty.
+    fewer_empty (newest_of c.args.tally.now) (newest_of c.has_room.new.self) c.sweep_dead.new.conn c.has_room.ensures (still_empty (newest_of c.args.tally.now) c.args.conn.now c.sweep_dead.new.conn c.in_err-kept.ensures.call.unchanged empty)
 
 pub returns-in_ok-kept-clause-room : goal.returns-in_ok-kept-clause-room
 returns-in_ok-kept-clause-room c =

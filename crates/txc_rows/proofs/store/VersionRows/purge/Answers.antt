@@ -1,4 +1,5 @@
-use Rattle.std.proofs.Common.{◌≡◌, ◌+◌, max, Ok, sym, ap, subst, ◌∙◌}
+use Rattle.std.proofs.Common.{◌≡◌, ◌+◌, max, Ok, sym, ap, subst, ◌∙◌, arith, rules}
+use Rattle.std.proofs.lemmas.Result.{err_from_is_err_and}
 use Rattle.txc_rows.specs.Versions.{purged}
 use Rattle.txc_rows.specs.Keeping.{KeepsPurged}
 use Rattle.txc_rows.specs.Placed.{left_from, AreSwept}
@@ -17,7 +18,8 @@ pub returns-in_err-sweep-clause-unchanged : goal.returns-in_err-sweep-clause-unc
 returns-in_err-sweep-clause-unchanged c =
     let was = c.self.inside in
     let store = c.self.invariant in
-    (refused_store (AreSwept c.max-from.result (placed_of was.conn)) was.kept_from was.next_place was.tally c.sweep.new.tally was.conn c.sweep.new.conn _ store (c.in_err-sweep.ensures.empty store.empty) c.in_err-sweep.ensures.call).1 ∙ c.self.view_is
+    let p = err_from_is_err_and c.from_residual.result c.from_residual.ensures.1 in
+    rw p.1 ((refused_store (AreSwept c.max-from.result (placed_of was.conn)) was.kept_from was.next_place was.tally c.sweep.new.tally was.conn c.sweep.new.conn _ store (c.in_err-sweep.ensures.empty store.empty) c.in_err-sweep.ensures.call).1 ∙ c.self.view_is)
 
 pub invariant_of-self-2 : goal.invariant_of-self-2
 invariant_of-self-2 c =
