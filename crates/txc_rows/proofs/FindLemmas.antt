@@ -1,6 +1,6 @@
 -- What is found in one table after another is what is found.
-use Rattle.std.proofs.Common.{◌≡◌, ℕ, ◌+◌, ◌-◌, ◌<◌, ◌≤◌, List, [], ◌∷◌, ◌++◌, map, filter, length, Ok, Err, Result, Vec, Global, IfOk, IsErrAnd, sym, ap, subst, ◌∙◌, refl, append_assoc, append-nil, length-append, arith}
-use Rattle.std.proofs.lemmas.List.{map-append, length-map}
+use Rattle.std.proofs.Common.{◌≡◌, ℕ, ◌+◌, ◌-◌, ◌<◌, ◌≤◌, List, [], ◌∷◌, ◌++◌, map, filter, length, drop, get_or, Ok, Err, Result, Vec, Global, IfOk, IsErrAnd, sym, ap, subst, ◌∙◌, refl, append_assoc, append-nil, length-append, arith}
+use Rattle.std.proofs.lemmas.List.{map-append, length-map, at_drop_more}
 use Rattle.std.proofs.lemmas.List.Elements.{filter-append}
 use Rattle.std.specs.List.Sorted.{IsPermutation, IsSorted}
 use Rattle.std.proofs.lemmas.List.Sorted.{IsPermutation-refl, IsPermutation-map, IsPermutation-sym, IsPermutation-trans, IsPermutation-append_left, IsPermutation-append_right, length_permutation}
@@ -20,7 +20,7 @@ use Rattle.sqlite.specs.Tree.{Trees}
 use Rattle.sqlite_trees.specs.declared.memory.MemStore.{MemStore}
 use Rattle.txc_rows.specs.declared.texts.Segment.{Segment}
 use Rattle.txc_rows.specs.declared.texts.Source.TheVariants.{Latest, Dead}
-use Rattle.txc_rows.specs.Texts.{tree_of}
+use Rattle.txc_rows.specs.Texts.{tree_of, segments}
 use Rattle.txc_rows.specs.States.{query_table}
 use Rattle.txc_rows.specs.Stored.{placed_all, version_shown}
 use Rattle.txc_rows.specs.Kept.{latest_in, dead_among, dead_in, placed_of, placed_read, versions_of, IsKept, IsSame, IsListing, IsFinding}
@@ -94,16 +94,21 @@ module _ (q : Query) (from : ℕ) (h : Held MemStore) where
   abbrev still_asked : List Segment → List Versioned
   still_asked ss = asked q from (dead_among (state over_memory h).now.trees ss)
 
-  module _ (mid : Held MemStore) (same : IsSame h mid) (s : Segment) (rest : List Segment) (old : List Versioned) (so_far : IsPermutation of_all (old ++ still_asked (s ∷ rest))) where
-    pub found_dead : (new : List Versioned) → IsFinding q from (placed_read (Dead s) mid) old new → IsPermutation of_all (new ++ still_asked rest)
-    found_dead new finding =
-        let here : IsFinding q from (placed_read (Dead s) h) old new = subst (λ (t : Trees). IsFinding q from (placed_all (t (tree_of s))) old new) same.trees finding in
-        found_more q from of_all old new (placed_read (Dead s) h) (dead_among (state over_memory h).now.trees rest) so_far here
+  -- of the segments from one on, that one is found
+  module _ (mid : Held MemStore) (same : IsSame h mid) (i : ℕ) (d : Segment) (low : i < length segments) (old : List Versioned) (so_far : IsPermutation of_all (old ++ still_asked (drop i segments))) where
+    apart : IsPermutation of_all (old ++ still_asked (get_or segments i d ∷ drop (i + 1) segments))
+    apart = subst (λ ss. IsPermutation of_all (old ++ still_asked ss)) (at_drop_more (λ ys. ys) segments i d low) so_far
 
-    pub dead_many : MAX_MATCHING < length old + length (asked q from (placed_read (Dead s) mid)) → MAX_MATCHING < length of_all
+    pub found_dead : (new : List Versioned) → IsFinding q from (placed_read (Dead (get_or segments i d)) mid) old new → IsPermutation of_all (new ++ still_asked (drop (i + 1) segments))
+    found_dead new finding =
+        let here : IsFinding q from (placed_read (Dead (get_or segments i d)) h) old new = subst (λ (t : Trees). IsFinding q from (placed_all (t (tree_of (get_or segments i d)))) old new) same.trees finding in
+        found_more q from of_all old new (placed_read (Dead (get_or segments i d)) h) (dead_among (state over_memory h).now.trees (drop (i + 1) segments)) apart here
+
+    pub dead_many : MAX_MATCHING < length old + length (asked q from (placed_read (Dead (get_or segments i d)) mid)) → MAX_MATCHING < length of_all
     dead_many many =
-        let here : MAX_MATCHING < length old + length (asked q from (placed_read (Dead s) h)) = subst (λ (t : Trees). MAX_MATCHING < length old + length (asked q from (placed_all (t (tree_of s))))) same.trees many in
-        found_many q from of_all old old (placed_read (Dead s) h) (dead_among (state over_memory h).now.trees rest) so_far here
+        let here : MAX_MATCHING < length old + length (asked q from (placed_read (Dead (get_or segments i d)) h))
+        = subst (λ (t : Trees). MAX_MATCHING < length old + length (asked q from (placed_all (t (tree_of (get_or segments i d)))))) same.trees many in
+        found_many q from of_all old old (placed_read (Dead (get_or segments i d)) h) (dead_among (state over_memory h).now.trees (drop (i + 1) segments)) apart here
 
   pub found_all : (found sorted : List Versioned) → IsPermutation of_all (found ++ still_asked []) → IsPermutation found sorted → IsSorted version_cmp sorted → Finds q (left_from from (versions_of h)) sorted
   found_all found sorted so_far same sorts = record { same = IsPermutation-trans _ _ _ (subst (IsPermutation of_all) (append-nil found) so_far) same; sorted = sorts }

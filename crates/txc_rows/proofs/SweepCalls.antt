@@ -129,12 +129,19 @@ made_rest mid end r has idle ok = rest_kept mid end r has.tables (rw (has.latest
 
 -- ---- what is read of one segment more
 
-pub left_more : (from : ℕ) (trees : Trees) (s : Segment) (rest : List Segment) (all xs more : List Placed) → IsPermutation (placed_left from (placed_all (trees (tree_of s)))) more
-    → IsPermutation all (xs ++ placed_left from (dead_among trees (s ∷ rest))) → IsPermutation all ((xs ++ more) ++ placed_left from (dead_among trees rest))
-left_more from trees s rest all xs more here so_far =
+pub left_read : (from : ℕ) (s : Segment) (old first : Held MemStore) (more : List Placed) → IsSame old first → IsPermutation (placed_left from (placed_all ((state over_memory first).now.trees (tree_of s)))) more
+    → IsPermutation (placed_left from (placed_all ((state over_memory old).now.trees (tree_of s)))) more
+left_read from s old first more same left = subst (λ (t : Trees). IsPermutation (placed_left from (placed_all (t (tree_of s)))) more) same.trees left
+
+pub left_more : (from : ℕ) (trees : Trees) (i : ℕ) (d : Segment) (all xs more : List Placed) → i < length segments → IsPermutation (placed_left from (placed_all (trees (tree_of (get_or segments i d))))) more
+    → IsPermutation all (xs ++ placed_left from (dead_among trees (drop i segments))) → IsPermutation all ((xs ++ more) ++ placed_left from (dead_among trees (drop (i + 1) segments)))
+left_more from trees i d all xs more low here so_far =
+    let s = get_or segments i d in
+    let rest = drop (i + 1) segments in
     let later = placed_left from (dead_among trees rest) in
+    let next : IsPermutation all (xs ++ placed_left from (dead_among trees (s ∷ rest))) = subst (λ ss. IsPermutation all (xs ++ placed_left from (dead_among trees ss))) (at_drop_more (λ ys. ys) segments i d low) so_far in
     let apart : placed_left from (dead_among trees (s ∷ rest)) ≡ placed_left from (placed_all (trees (tree_of s))) ++ later = filter-append (λ x. is_left from x.version) (placed_all (trees (tree_of s))) (dead_among trees rest) in
-    rw (append_assoc xs more later) (IsPermutation-trans _ _ _ (subst (λ ys. IsPermutation all (xs ++ ys)) apart so_far) (IsPermutation-append_right xs _ _ (IsPermutation-append_left later _ _ here)))
+    rw (append_assoc xs more later) (IsPermutation-trans _ _ _ (subst (λ ys. IsPermutation all (xs ++ ys)) apart next) (IsPermutation-append_right xs _ _ (IsPermutation-append_left later _ _ here)))
 
 -- ---- a sweep of the segments
 

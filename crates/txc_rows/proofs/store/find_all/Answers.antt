@@ -8,7 +8,7 @@ use Rattle.txc_rows.specs.declared.store_error.StoreError.TheVariants.{TooManyRo
 use Rattle.txc_rows.specs.Texts.{segments}
 use Rattle.txc_rows.specs.Kept.{dead_among, newest_of}
 use Rattle.txc_rows.proofs.FindLemmas.{asked, of_all, found_latest, latest_many, found_dead, dead_many, found_all, passed_error}
-use Rattle.txc_rows.proofs.SweepCalls.{same_then, next_first}
+use Rattle.txc_rows.proofs.SweepCalls.{same_then}
 use Rattle.txc_rows.proofs.StoreLemmas.{still_empty}
 use Rattle.txc_rows.proofs.store.find_all.Goals as goal
 
@@ -28,25 +28,17 @@ find_dead-requires-clause-empty c = still_empty (newest_of c.args.tally.now) c.a
 pub returns-in_err-find_dead-clause-refused : goal.returns-in_err-find_dead-clause-refused
 returns-in_err-find_dead-clause-refused c = λ many.
     let i = c.loop-segment.invariant in
-    let s = c.segment-item.result in
-    let rest = drop (c.loop-segment.segment-index + 1) segments in
     let passed = passed_error c.from_residual-in_err-find_dead.result c.in_err-find_dead.field-0.0 TooManyRows c.from_residual-in_err-find_dead.ensures.1 many in
-    let so_far = subst (λ ss. IsPermutation (of_all c.args.query.now c.args.from c.args.conn.now) (c.loop-segment.found.items ++ asked c.args.query.now c.args.from (dead_among (state over_memory c.args.conn.now).now.trees ss)))
-    (next_first segments c.loop-segment.segment-index s c.loop-segment-test.true c.segment-item.is) i.so_far in
-    dead_many c.args.query.now c.args.from c.args.conn.now c.loop-segment.conn i.same s rest c.loop-segment.found.items so_far (c.in_err-find_dead.ensures.refused (ap (λ e. Err e) passed))
+    dead_many c.args.query.now c.args.from c.args.conn.now c.loop-segment.conn i.same c.loop-segment.segment-index _ c.loop-segment-test.true c.loop-segment.found.items i.so_far (c.in_err-find_dead.ensures.refused (ap (λ e. Err e) passed))
 
 pub loop-segment-preserved : goal.loop-segment-preserved
 loop-segment-preserved c =
     let i = c.loop-segment.invariant in
-    let s = c.segment-item.result in
-    let rest = drop (c.loop-segment.segment-index + 1) segments in
     let finding = c.in_ok-find_dead.ensures.finds in
-    let so_far = subst (λ ss. IsPermutation (of_all c.args.query.now c.args.from c.args.conn.now) (c.loop-segment.found.items ++ asked c.args.query.now c.args.from (dead_among (state over_memory c.args.conn.now).now.trees ss)))
-    (next_first segments c.loop-segment.segment-index s c.loop-segment-test.true c.segment-item.is) i.so_far in
     record {
       same = same_then c.args.conn.now c.loop-segment.conn c.find_dead.new.conn i.same c.in_ok-find_dead.ensures.same;
       few = finding.few;
-      so_far = found_dead c.args.query.now c.args.from c.args.conn.now c.loop-segment.conn i.same s rest c.loop-segment.found.items so_far _ finding;
+      so_far = found_dead c.args.query.now c.args.from c.args.conn.now c.loop-segment.conn i.same c.loop-segment.segment-index _ c.loop-segment-test.true c.loop-segment.found.items i.so_far _ finding;
     }
 
 pub returns-clause-finds : goal.returns-clause-finds

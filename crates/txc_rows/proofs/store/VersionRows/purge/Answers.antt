@@ -26,7 +26,7 @@ invariant_of-self-2 c =
     let was = c.self.inside in
     let store = c.self.invariant in
     let first : c.max-from.result ≡ max was.kept_from (c.args.horizon + 1) = search (arith, rules) in
-    let call : IsCall (AreSwept (max was.kept_from (c.args.horizon + 1)) (placed_of was.conn)) was.conn c.sweep.new.conn _ = rw (← first) c.in_ok-sweep.ensures.call in
+    let call : IsCall (AreSwept (max was.kept_from (c.args.horizon + 1)) (placed_of was.conn)) was.conn c.sweep.new.conn (Ok c.in_ok-sweep.field-0) = rw (← first) c.in_ok-sweep.ensures.call in
     let empty : AreEmptyBefore (newest_of c.mark.new.self) c.sweep.new.conn = subst (λ n. AreEmptyBefore n c.sweep.new.conn) (sym c.mark.ensures) (c.in_ok-sweep.ensures.empty store.empty) in
     let done = purged_store was.kept_from c.args.horizon was.next_place was.tally c.mark.new.self was.conn c.sweep.new.conn _ store empty call in
     done.0
@@ -36,7 +36,7 @@ returns-clause-after c =
     let was = c.self.inside in
     let store = c.self.invariant in
     let first : c.max-from.result ≡ max was.kept_from (c.args.horizon + 1) = search (arith, rules) in
-    let call : IsCall (AreSwept (max was.kept_from (c.args.horizon + 1)) (placed_of was.conn)) was.conn c.sweep.new.conn _ = rw (← first) c.in_ok-sweep.ensures.call in
+    let call : IsCall (AreSwept (max was.kept_from (c.args.horizon + 1)) (placed_of was.conn)) was.conn c.sweep.new.conn (Ok c.in_ok-sweep.field-0) = rw (← first) c.in_ok-sweep.ensures.call in
     let empty : AreEmptyBefore (newest_of c.mark.new.self) c.sweep.new.conn = subst (λ n. AreEmptyBefore n c.sweep.new.conn) (sym c.mark.ensures) (c.in_ok-sweep.ensures.empty store.empty) in
     let done = purged_store was.kept_from c.args.horizon was.next_place was.tally c.mark.new.self was.conn c.sweep.new.conn _ store empty call in
     rw first (done.1 ∙ ap (purged c.args.horizon) c.self.view_is)
@@ -46,7 +46,7 @@ returns-clause-keeps c =
     let was = c.self.inside in
     let store = c.self.invariant in
     let first : c.max-from.result ≡ max was.kept_from (c.args.horizon + 1) = search (arith, rules) in
-    let call : IsCall (AreSwept (max was.kept_from (c.args.horizon + 1)) (placed_of was.conn)) was.conn c.sweep.new.conn _ = rw (← first) c.in_ok-sweep.ensures.call in
+    let call : IsCall (AreSwept (max was.kept_from (c.args.horizon + 1)) (placed_of was.conn)) was.conn c.sweep.new.conn (Ok c.in_ok-sweep.field-0) = rw (← first) c.in_ok-sweep.ensures.call in
     let empty : AreEmptyBefore (newest_of c.mark.new.self) c.sweep.new.conn = subst (λ n. AreEmptyBefore n c.sweep.new.conn) (sym c.mark.ensures) (c.in_ok-sweep.ensures.empty store.empty) in
     let done = purged_store was.kept_from c.args.horizon was.next_place was.tally c.mark.new.self was.conn c.sweep.new.conn _ store empty call in
     rw first (subst (KeepsPurged c.args.horizon c.args.self.now) (sym (done.1 ∙ ap (purged c.args.horizon) c.self.view_is)) (keeps_purged c.args.horizon c.args.self.now))

@@ -2,6 +2,8 @@ use Rattle.std.proofs.Common.{◌≡◌, ◌+◌, length, Ok, Err, sym, ap, subs
 use Rattle.std.proofs.lemmas.Result.{err_from_is_err_and}
 use Rattle.txc_rows.specs.Versions.{after_net}
 use Rattle.txc_rows.specs.Keeping.{KeepsWritten}
+use Rattle.txc_rows.specs.Placed.{left_from}
+use Rattle.txc_rows.specs.Kept.{versions_of}
 use Rattle.txc_rows.proofs.KeepingLemmas.{keeps_written}
 use Rattle.txc_rows.proofs.StoreLemmas.{no_room_store, written_store, unwritten_store}
 use Rattle.txc_rows.proofs.store.VersionRows.write.Goals as goal
@@ -40,18 +42,21 @@ invariant_of-self-2 c =
     (written_store was.kept_from c.in_ok-kept_from.kept_from c.number-number.result c.args.stamp was.next_place c.args.net.now was.tally c.make_room.new.tally was.conn c.make_room.new.conn c.number-number.ensures.answer store c.in_ok-kept_from.ensures.room (c.in_ok-kept_from.ensures.empty store.empty)
     c.segment.result c.note.new.self c.write_all.new.conn _ c.segment.ensures c.note.ensures c.in_ok-written.ensures.others c.in_ok-written.ensures.call).0
 
+pub write_all-requires-clause-below : goal.write_all-requires-clause-below
+write_all-requires-clause-below c = c.in_ok-kept_from.ensures.room.below c.self.inside.next_place c.self.invariant.below
+
 pub returns-clause-after : goal.returns-clause-after
 returns-clause-after c =
     let was = c.self.inside in
     let store = c.self.invariant in
-    let is = (written_store was.kept_from c.in_ok-kept_from.kept_from c.number-number.result c.args.stamp was.next_place c.args.net.now was.tally c.make_room.new.tally was.conn c.make_room.new.conn c.number-number.ensures.answer store c.in_ok-kept_from.ensures.room (c.in_ok-kept_from.ensures.empty store.empty)
-    c.segment.result c.note.new.self c.write_all.new.conn _ c.segment.ensures c.note.ensures c.in_ok-written.ensures.others c.in_ok-written.ensures.call).1.0 in
-    is ∙ ap (after_net c.args.stamp c.args.net.now) c.self.view_is
+    let done = written_store was.kept_from c.in_ok-kept_from.kept_from c.number-number.result c.args.stamp was.next_place c.args.net.now was.tally c.make_room.new.tally was.conn c.make_room.new.conn c.number-number.ensures.answer store c.in_ok-kept_from.ensures.room (c.in_ok-kept_from.ensures.empty store.empty)
+    c.segment.result c.note.new.self c.write_all.new.conn _ c.segment.ensures c.note.ensures c.in_ok-written.ensures.others c.in_ok-written.ensures.call in
+    done.1 ∙ ap (after_net c.args.stamp c.args.net.now) c.self.view_is
 
 pub returns-clause-keeps : goal.returns-clause-keeps
 returns-clause-keeps c =
     let was = c.self.inside in
     let store = c.self.invariant in
-    let done = (written_store was.kept_from c.in_ok-kept_from.kept_from c.number-number.result c.args.stamp was.next_place c.args.net.now was.tally c.make_room.new.tally was.conn c.make_room.new.conn c.number-number.ensures.answer store c.in_ok-kept_from.ensures.room (c.in_ok-kept_from.ensures.empty store.empty)
-    c.segment.result c.note.new.self c.write_all.new.conn _ c.segment.ensures c.note.ensures c.in_ok-written.ensures.others c.in_ok-written.ensures.call).1 in
-    rw (← c.self.view_is) (subst (KeepsWritten c.args.net.now c.args.stamp _) (sym done.0) (keeps_written c.args.net.now c.args.stamp _ done.1))
+    let done = written_store was.kept_from c.in_ok-kept_from.kept_from c.number-number.result c.args.stamp was.next_place c.args.net.now was.tally c.make_room.new.tally was.conn c.make_room.new.conn c.number-number.ensures.answer store c.in_ok-kept_from.ensures.room (c.in_ok-kept_from.ensures.empty store.empty)
+    c.segment.result c.note.new.self c.write_all.new.conn _ c.segment.ensures c.note.ensures c.in_ok-written.ensures.others c.in_ok-written.ensures.call in
+    rw (← c.self.view_is) (subst (KeepsWritten c.args.net.now c.args.stamp (left_from was.kept_from (versions_of was.conn))) (sym done.1) (keeps_written c.args.net.now c.args.stamp (left_from was.kept_from (versions_of was.conn)) done.2))
