@@ -1,5 +1,5 @@
 -- What making tables anew leaves of a connection.
-use Rattle.std.proofs.Common.{◌≡◌, ℕ, ◌+◌, ◌<◌, List, [], ◌∷◌, ◌++◌, map, length, drop, get_or, false, true, None, Some, Option, Ok, Err, Result, OnOk, IfErr, IsTrue, refl, sym, ap, subst, ◌∙◌, append_assoc, arith}
+use Rattle.std.proofs.Common.{Vec, Global, ◌≡◌, ℕ, ◌+◌, ◌<◌, List, [], ◌∷◌, ◌++◌, map, length, drop, get_or, false, true, None, Some, Option, Ok, Err, Result, OnOk, IfErr, IsTrue, refl, sym, ap, subst, ◌∙◌, append_assoc, arith}
 use Rattle.std.specs.List.{AllByRecursion}
 use Rattle.std.specs.List.Sorted.{IsPermutation}
 use Rattle.std.proofs.lemmas.List.{at_drop_more}
@@ -14,12 +14,13 @@ use Rattle.sqlite_trees.specs.declared.memory.MemStore.{MemStore}
 use Rattle.sqlite.specs.Order.{Row, column}
 use Rattle.sqlite.specs.Values.{bound_value}
 use Rattle.txc_rows.specs.declared.texts.Segment.{Segment}
+use Rattle.txc_rows.specs.declared.texts.Source.TheVariants.{Dead}
 use Rattle.txc_rows.specs.declared.texts.Segment.TheVariants.{First, Second, Third, Fourth, Fifth, Sixth, Seventh}
 use Rattle.sqlite.specs.Schema.{Schema}
 use Rattle.txc_rows.specs.Texts.{tree_of, segments, made_before}
 use Rattle.txc_rows.specs.Placed.{Placed, is_left, placed_left, AreApart, AreSwept, AreLeft}
 use Rattle.txc_rows.specs.Stored.{AreCells, death, placed_all, placed_from}
-use Rattle.txc_rows.specs.Kept.{HasTables, HasMade, latest_in, dead_among, dead_in, placed_of, HasVersions, IsKept, IsCall, IsSame, OthersStay, OthersAreEmpty}
+use Rattle.txc_rows.specs.Kept.{HasTables, HasMade, latest_in, dead_among, dead_in, placed_of, HasVersions, IsKept, IsCall, IsSame, IsLeaving, OthersStay, OthersAreEmpty}
 use Rattle.txc_rows.proofs.SweepLemmas.{swept_earlier, swept_apart, swept_both, both_apart}
 use Rattle.txc_rows.proofs.HeldLemmas.{placed_same, undone_call, refused_call, committed_kept, ended_call}
 
@@ -129,16 +130,16 @@ made_rest mid end r has idle ok = rest_kept mid end r has.tables (rw (has.latest
 
 -- ---- what is read of one segment more
 
-pub left_read : (from : ℕ) (s : Segment) (old first : Held MemStore) (more : List Placed) → IsSame old first → IsPermutation (placed_left from (placed_all ((state over_memory first).now.trees (tree_of s)))) more
-    → IsPermutation (placed_left from (placed_all ((state over_memory old).now.trees (tree_of s)))) more
-left_read from s old first more same left = subst (λ (t : Trees). IsPermutation (placed_left from (placed_all (t (tree_of s)))) more) same.trees left
-
-pub left_more : (from : ℕ) (trees : Trees) (i : ℕ) (d : Segment) (all xs more : List Placed) → i < length segments → IsPermutation (placed_left from (placed_all (trees (tree_of (get_or segments i d))))) more
-    → IsPermutation all (xs ++ placed_left from (dead_among trees (drop i segments))) → IsPermutation all ((xs ++ more) ++ placed_left from (dead_among trees (drop (i + 1) segments)))
-left_more from trees i d all xs more low here so_far =
+pub left_more : (from : ℕ) (old first new : Held MemStore) (i : ℕ) (d : Segment) (rows : Vec Row Global) (all xs : List Placed) → IsSame old first → i < length segments → IsLeaving from (Dead (get_or segments i d)) first new (Ok rows)
+    → IsPermutation all (xs ++ placed_left from (dead_among (state over_memory old).now.trees (drop i segments)))
+    → IsPermutation all ((xs ++ map placed_from rows.items) ++ placed_left from (dead_among (state over_memory old).now.trees (drop (i + 1) segments)))
+left_more from old first new i d rows all xs same low leaving so_far =
+    let trees = (state over_memory old).now.trees in
     let s = get_or segments i d in
+    let more = map placed_from rows.items in
     let rest = drop (i + 1) segments in
     let later = placed_left from (dead_among trees rest) in
+    let here : IsPermutation (placed_left from (placed_all (trees (tree_of s)))) more = subst (λ (t : Trees). IsPermutation (placed_left from (placed_all (t (tree_of s)))) more) same.trees leaving.left in
     let next : IsPermutation all (xs ++ placed_left from (dead_among trees (s ∷ rest))) = subst (λ ss. IsPermutation all (xs ++ placed_left from (dead_among trees ss))) (at_drop_more (λ ys. ys) segments i d low) so_far in
     let apart : placed_left from (dead_among trees (s ∷ rest)) ≡ placed_left from (placed_all (trees (tree_of s))) ++ later = filter-append (λ x. is_left from x.version) (placed_all (trees (tree_of s))) (dead_among trees rest) in
     rw (append_assoc xs more later) (IsPermutation-trans _ _ _ (subst (λ ys. IsPermutation all (xs ++ ys)) apart next) (IsPermutation-append_right xs _ _ (IsPermutation-append_left later _ _ here)))

@@ -1,13 +1,11 @@
-use Rattle.std.proofs.Common.{◌≡◌, ◌+◌, ◌++◌, map, drop, length, get_or, subst, ◌∙◌, rules}
+use Rattle.std.proofs.Common.{◌≡◌, ◌++◌, map, rules}
 use Rattle.std.specs.List.Sorted.{IsPermutation}
 use Rattle.std.proofs.lemmas.List.{map-append}
-use Rattle.sqlite.specs.Held.{Held, state}
-use Rattle.sqlite.specs.Steps.{over_memory}
 use Rattle.sqlite_trees.proofs.ListLemmas.{all-append}
 use Rattle.txc_rows.specs.Stored.{AreCells, placed_from}
 use Rattle.txc_rows.specs.Kept.{dead_in}
 use Rattle.txc_rows.specs.Placed.{placed_left}
-use Rattle.txc_rows.proofs.SweepCalls.{same_then, left_read, left_more}
+use Rattle.txc_rows.proofs.SweepCalls.{same_then, left_more}
 use Rattle.txc_rows.proofs.statements.read_all_left.Goals as goal
 
 pub loop-segment-preserved : goal.loop-segment-preserved
@@ -21,6 +19,6 @@ loop-segment-preserved c =
     record {
       same = same_then old c.loop-segment.conn c.read_left.new.conn i.same leaving.same;
       cells = rw items (all-append AreCells before rows i.cells leaving.cells);
-      left = rw (items, map-append placed_from before rows) (left_more c.args.from (state over_memory old).now.trees c.loop-segment.segment-index _ (placed_left c.args.from (dead_in old)) (map placed_from before) (map placed_from rows) c.loop-segment-test.true
-      (left_read c.args.from _ old c.loop-segment.conn (map placed_from rows) i.same leaving.left) i.left);
+      left = rw (items, map-append placed_from before rows)
+      (left_more c.args.from old c.loop-segment.conn c.read_left.new.conn c.loop-segment.segment-index _ c.in_ok-rows.rows (placed_left c.args.from (dead_in old)) (map placed_from before) i.same c.loop-segment-test.true leaving i.left);
     }
