@@ -20,5 +20,5 @@ loop-segment-preserved c =
       same = same_then old c.loop-segment.conn c.read_left.new.conn i.same leaving.same;
       cells = rw items (all-append AreCells before rows i.cells leaving.cells);
       left = rw (items, map-append placed_from before rows)
-      (left_more c.args.from old c.loop-segment.conn c.read_left.new.conn c.loop-segment.segment-index _ c.in_ok-rows.rows (placed_left c.args.from (dead_in old)) (map placed_from before) i.same c.loop-segment-test.true leaving i.left);
+          (left_more c.args.from old c.loop-segment.conn c.read_left.new.conn c.loop-segment.segment-index _ c.in_ok-rows.rows (placed_left c.args.from (dead_in old)) (map placed_from before) i.same c.loop-segment-test.true leaving i.left);
     }
