@@ -1,3 +1,4 @@
 pub mod Auction
 pub mod Objects
 pub mod Pages
+pub mod Tallies

@@ -1,5 +1,6 @@
 //! What is written: the first rows, and bids.
-ghost use Rattle.std.specs.Prelude.{◌≡◌};
+ghost use Rattle.std.specs.Prelude.{◌≡◌, IfOk};
+ghost use Rattle.txc_rows.specs.Values.{IsBody};
 
 use crate::functions::{Auction, AuctionFunction, bids, items, users};
 use crate::pages::key;
@@ -22,20 +23,47 @@ pub const USER_COUNT: u32 = 3;
 
 type Writing<'a, J> = RwTxn<'a, J, Auction, Function<AuctionFunction>>;
 
+/// The row with that body is to stand in the table.
 fn put<J: Naming>(
-    alloc: Global,
     txn: &mut Writing<'_, J>,
-    place: (Table, u32, u32),
-    body: &str,
+    table: Table,
+    id: u32,
+    group: u32,
+    body: String,
 ) -> Result<(), TxnError>
+    requires { IsBody body }
     ensures { txn.new.objects ≡ txn.old.objects }
 {
-    let (table, id, group) = place;
-    let body = Vec::from_slice(alloc, body.as_bytes())?;
-    match Row::new(table, id, group, body) {
-        Ok(row) => txn.put(row),
-        Err(_) => Err(TxnError::BufferFull),
-    }
+    let Ok(row) = Row::new(table, id, group, body.into_bytes()) else {
+        unreachable!()
+    };
+    txn.put(row)
+}
+
+fn user_name(alloc: Global, user: u32) -> Result<String, AllocError>
+    ensures { IfOk result IsBody }
+{
+    format!(in alloc; "user{user}")
+}
+
+fn title(alloc: Global, item: u32) -> Result<String, AllocError>
+    ensures { IfOk result IsBody }
+{
+    format!(in alloc; "item{item}")
+}
+
+/// The text of a bid, such as `120:user1`.
+fn bid_text(alloc: Global, amount: u32, user: u32) -> Result<String, AllocError>
+    ensures { IfOk result IsBody }
+{
+    format!(in alloc; "{amount}:user{user}")
+}
+
+/// The amount of a bid.
+fn amount_of(bid: &Value) -> u32 {
+    let text = str::from_utf8(bid.bytes()).unwrap_or("");
+    let (amount, _user) = text.split_once(':').unwrap_or(("", ""));
+    amount.parse().unwrap_or(0)
 }
 
 /// Puts the users, the items, and a first bid on each.
@@ -56,36 +84,22 @@ impl Change<Auction, AuctionFunction> for Opening {
         txn: &mut Writing<'_, J>,
     ) -> Result<(), TxnError> {
         for user in 0..USER_COUNT {
-            let name = format!(in alloc; "user{user}")?;
-            put(alloc, txn, (users(), user, 0), name.as_str())?;
+            put(txn, users(), user, 0, user_name(alloc, user)?)?;
         }
         for item in 0..ITEM_COUNT {
-            let title = format!(in alloc; "item{item}")?;
-            put(
-                alloc,
-                txn,
-                (items(), item, item % USER_COUNT),
-                title.as_str(),
-            )?;
-            put(alloc, txn, (bids(), item, 0), "10:user0")?;
+            put(txn, items(), item, item % USER_COUNT, title(alloc, item)?)?;
+            put(txn, bids(), item, 0, bid_text(alloc, 10, 0)?)?;
         }
         Ok(())
     }
 }
 
-/// Bids more than the highest bid on an item.
+/// Bids so much more than the highest bid on an item.
 #[derive(Drop)]
 pub struct Bid {
     pub item: u32,
     pub user: u32,
     pub more: u32,
-}
-
-/// The amount of a bid such as `120:user1`.
-fn amount(bid: &Value) -> u32 {
-    let text = str::from_utf8(bid.bytes()).unwrap_or("");
-    let (amount, _) = text.split_once(':').unwrap_or(("", ""));
-    amount.parse().unwrap_or(0)
 }
 
 impl Change<Auction, AuctionFunction> for Bid {
@@ -102,10 +116,8 @@ impl Change<Auction, AuctionFunction> for Bid {
         txn: &mut Writing<'_, J>,
     ) -> Result<u32, TxnError> {
         let highest = txn.call(rt, alloc, key(0, self.item))?;
-        let amount = amount(&highest).saturating_add(self.more);
-        let user = self.user;
-        let body = format!(in alloc; "{amount}:user{user}")?;
-        put(alloc, txn, (bids(), self.item, 0), body.as_str())?;
+        let amount = amount_of(&highest).saturating_add(self.more);
+        put(txn, bids(), self.item, 0, bid_text(alloc, amount, self.user)?)?;
         Ok(amount)
     }
 }

@@ -1,8 +1,13 @@
-//! The visitors, who render pages and bid, each on a thread.
+//! The visitors, who read pages and bid, each on a thread.
+ghost use Rattle.std.specs.Prelude.{◌≡◌, ◌+◌, ◌<◌, ◌^◌, false, IfSome};
+ghost use Rattle.auction.specs.Pages.{IsWhole};
+ghost use Rattle.auction.specs.Tallies.{pages_of};
+
 use crate::arguments::Arguments;
 use crate::changes::{Bid, ITEM_COUNT, USER_COUNT};
 use crate::functions::{Auction, AuctionFunction};
 use crate::pages::{BothBids, ItemPage, OneCall};
+use crate::tally::Tally;
 use std::alloc::Global;
 use std::sync::Wait;
 use txc_db::Naming;
@@ -13,168 +18,99 @@ use txc_stamp::Stamp;
 /// A visitor's client.
 type Guest<'a, J> = SiteClient<'a, Auction, AuctionFunction, J>;
 
-/// The keeper, whom the first visitor brings.
-type Housekeeper<'a, J> = Option<Keeper<'a, Auction, J>>;
-
 /// How often a bid is tried.
 const TRIES: u32 = 8;
 
 /// How many rounds a pin stays.
 const AGE: u64 = 16;
 
-/// What a visitor came to.
+/// A round of a visitor, who comes to an item. Time is his own: the number of the round, so that one visitor
+/// alone does the same in each run.
 #[derive(Clone, Copy)]
-pub struct Tally {
-    pub whole: u32,
-    pub torn: u32,
-    pub refused: u32,
-    pub bids: u32,
-    pub conflicts: u32,
-    pub kept: u32,
-    pub lookups: u64,
-    pub hits: u64,
+struct Round {
+    item: u32,
+    now: u32,
 }
 
-impl Tally {
-    pub const ZERO: Tally = Tally {
-        whole: 0,
-        torn: 0,
-        refused: 0,
-        bids: 0,
-        conflicts: 0,
-        kept: 0,
-        lookups: 0,
-        hits: 0,
-    };
-
-    fn count(&mut self, both: Option<BothBids>) {
-        let Some(both) = both else {
-            self.refused = self.refused.saturating_add(1);
-            return;
-        };
-        if both.is_whole() {
-            self.whole = self.whole.saturating_add(1);
-        } else {
-            self.torn = self.torn.saturating_add(1);
-        }
-    }
-
-    /// Adds what another one came to.
-    pub fn add(&mut self, other: &Tally) {
-        self.whole = self.whole.saturating_add(other.whole);
-        self.torn = self.torn.saturating_add(other.torn);
-        self.refused = self.refused.saturating_add(other.refused);
-        self.bids = self.bids.saturating_add(other.bids);
-        self.conflicts = self.conflicts.saturating_add(other.conflicts);
-        self.kept = self.kept.saturating_add(other.kept);
-        self.lookups = self.lookups.saturating_add(other.lookups);
-        self.hits = self.hits.saturating_add(other.hits);
-    }
-}
-
-/// The visitors. Time is their own: the number of the round, so that one of them alone does the same in each
-/// run.
+/// The visitors.
 #[derive(Clone, Copy)]
 pub struct Crowd {
     pub arguments: Arguments,
 }
 
 impl Crowd {
-    fn bounds(&self, round: u32) -> Bounds {
+    /// What a page of the round may show: nothing that is too old, or older than the stamp.
+    fn bounds(&self, round: Round, at_least: Stamp) -> Bounds {
         Bounds {
-            now: u64::from(round),
+            now: u64::from(round.now),
             staleness: u64::from(self.arguments.staleness),
-            at_least: Stamp::ZERO,
+            at_least,
         }
     }
 
+    /// Bids on the item. Returns the stamp of the bid, where it was made.
     fn bid<'a, J: Naming, R: Wait>(
         &self,
         rt: &R,
         alloc: Global,
         client: Guest<'a, J>,
-        item: u32,
-        round: u32,
+        round: Round,
         tally: &mut Tally,
-    ) -> Guest<'a, J> {
+    ) -> (Option<Stamp>, Guest<'a, J>)
+        ensures { tally.new ≡ record tally.old { bids = tally.new.bids; conflicts = tally.new.conflicts } }
+    {
         let bid = Bid {
-            item,
-            user: round % USER_COUNT,
-            more: round.wrapping_add(self.arguments.seed) % 7,
+            item: round.item,
+            user: round.now % USER_COUNT,
+            more: 1 + round.now.wrapping_add(self.arguments.seed) % 7,
         };
         let (written, client) = client.write(rt, alloc, TRIES, &bid);
-        if let Ok(written) = written {
-            tally.bids = tally.bids.saturating_add(1);
-            tally.conflicts = tally
-                .conflicts
-                .saturating_add(written.conflicts.len().min(8) as u32);
-        }
-        client
+        let Ok(written) = written else {
+            return (None, client);
+        };
+        tally.bids = tally.bids.saturating_add(1);
+        let conflicts = written.conflicts.len() as u64;
+        tally.conflicts = tally.conflicts.saturating_add(conflicts);
+        (Some(written.committed.stamp), client)
     }
 
-    /// Keeps the site, where this visitor does.
-    fn keep<'a, J: Naming, R: Wait>(
-        &self,
-        rt: &R,
-        alloc: Global,
-        keeper: Housekeeper<'a, J>,
-        round: u32,
-        tally: &mut Tally,
-    ) -> Housekeeper<'a, J> {
-        let keeper = keeper?;
-        let (kept, keeper) = keeper.keep(rt, alloc, u64::from(round), AGE);
-        if kept.is_ok() {
-            tally.kept = tally.kept.saturating_add(1);
-        }
-        Some(keeper)
-    }
-
-    /// Reads an item's highest bid and its page, in one transaction.
+    /// The item's highest bid and its page, read in one transaction: the page shows that bid, whatever others
+    /// bid meanwhile.
     fn page<'a, J: Naming, R: Wait>(
         &self,
         rt: &R,
         alloc: Global,
         client: Guest<'a, J>,
-        item: u32,
-        round: u32,
-    ) -> (Option<BothBids>, Guest<'a, J>) {
-        let (shown, client) = client.read(rt, alloc, self.bounds(round), &ItemPage { item });
+        round: Round,
+    ) -> (Option<BothBids>, Guest<'a, J>)
+        ensures { IfSome result.0 IsWhole }
+    {
+        let bounds = self.bounds(round, Stamp::ZERO);
+        let item = round.item;
+        let (shown, client) = client.read(rt, alloc, bounds, &ItemPage { item });
         match shown {
             Ok(shown) => (Some(shown.output), client),
             Err(_) => (None, client),
         }
     }
 
-    /// Reads both in a transaction each, with a bid in between.
+    /// Both read in a transaction each, the page not before a bid that this visitor makes in between.
     fn plain_page<'a, J: Naming, R: Wait>(
         &self,
         rt: &R,
         alloc: Global,
         client: Guest<'a, J>,
-        item: u32,
-        round: u32,
+        round: Round,
         tally: &mut Tally,
-    ) -> (Option<BothBids>, Guest<'a, J>) {
-        let bounds = self.bounds(round);
-        let (highest, client) = client.read(
-            rt,
-            alloc,
-            bounds,
-            &OneCall {
-                function: 0,
-                id: item,
-            },
-        );
-        let client = self.bid(rt, alloc, client, item, round, tally);
-        let (page, client) = client.read(
-            rt,
-            alloc,
-            bounds,
-            &OneCall {
-                function: 1,
-                id: item,
-            },
-        );
+    ) -> (Option<BothBids>, Guest<'a, J>)
+        ensures { tally.new ≡ record tally.old { bids = tally.new.bids; conflicts = tally.new.conflicts } }
+    {
+        let id = round.item;
+        let bounds = self.bounds(round, Stamp::ZERO);
+        let (highest, client) = client.read(rt, alloc, bounds, &OneCall { function: 0, id });
+        let (stamp, client) = self.bid(rt, alloc, client, round, tally);
+        let bounds = self.bounds(round, stamp.unwrap_or(Stamp::ZERO));
+        let (page, client) = client.read(rt, alloc, bounds, &OneCall { function: 1, id });
         let Ok(highest) = highest else {
             return (None, client);
         };
@@ -187,13 +123,71 @@ impl Crowd {
         };
         (Some(both), client)
     }
+
+    /// Reads the item's page, and bids.
+    fn come<'a, J: Naming, R: Wait>(
+        &self,
+        rt: &R,
+        alloc: Global,
+        client: Guest<'a, J>,
+        round: Round,
+        tally: &mut Tally,
+    ) -> Guest<'a, J>
+        requires { pages_of tally.old < 2 ^ 32 }
+        ensures pages { pages_of tally.new ≡ pages_of tally.old + 1 }
+        ensures torn { self.now.arguments.is_plain ≡ false → tally.new.torn ≡ tally.old.torn }
+    {
+        let (page, client) = if self.arguments.is_plain {
+            self.plain_page(rt, alloc, client, round, tally)
+        } else {
+            self.page(rt, alloc, client, round)
+        };
+        tally.count(page);
+        let (_stamp, client) = self.bid(rt, alloc, client, round, tally);
+        client
+    }
+}
+
+/// Keeps the site, where the visitor has a keeper.
+fn keep<'a, J: Naming, R: Wait>(
+    rt: &R,
+    alloc: Global,
+    keeper: Option<Keeper<'a, Auction, J>>,
+    now: u32,
+    tally: &mut Tally,
+) -> Option<Keeper<'a, Auction, J>>
+    ensures { tally.new ≡ record tally.old { kept = tally.new.kept } }
+{
+    let keeper = keeper?;
+    let (kept, keeper) = keeper.keep(rt, alloc, u64::from(now), AGE);
+    if kept.is_ok() {
+        tally.kept = tally.kept.saturating_add(1);
+    }
+    Some(keeper)
+}
+
+/// Counts how often the client asked the first node, and how often that had an answer.
+fn count_lookups<J: Naming>(client: &Guest<'_, J>, tally: &mut Tally)
+    ensures { tally.new ≡ record tally.old { lookups = tally.new.lookups; hits = tally.new.hits } }
+{
+    let Some(counts) = client.counts(0) else {
+        return;
+    };
+    for function in 0..3u8 {
+        let of = counts.of(function);
+        tally.lookups = tally.lookups.saturating_add(of.lookups);
+        tally.hits = tally.hits.saturating_add(of.hits);
+    }
 }
 
 impl<R: Wait> Visitor<Auction, AuctionFunction, R> for Crowd {
+    ghost use Rattle.auction.specs.Tallies.{HasSeen};
+
     type Output = Tally;
 
-    ghost gives = { λ crowd number tally. Unit {0} };
+    ghost gives = { λ crowd number tally. HasSeen crowd.arguments.pages crowd.arguments tally };
 
+    /// The first visitor keeps the site.
     fn visit<J: Naming + Send + Sync>(
         &self,
         rt: &R,
@@ -202,31 +196,18 @@ impl<R: Wait> Visitor<Auction, AuctionFunction, R> for Crowd {
         client: Guest<'_, J>,
     ) -> Tally {
         let mut tally = Tally::ZERO;
-        let mut keeper = if number == 0 {
-            client.keeper(rt, alloc).ok()
-        } else {
-            None
-        };
         let mut client = client;
-        let first = (number.min(64) as u32).wrapping_add(self.arguments.seed);
-        for round in 0..self.arguments.pages {
-            let item = round.wrapping_add(first) % ITEM_COUNT;
-            let (both, left) = if self.arguments.is_plain {
-                self.plain_page(rt, alloc, client, item, round, &mut tally)
-            } else {
-                self.page(rt, alloc, client, item, round)
-            };
-            tally.count(both);
-            client = self.bid(rt, alloc, left, item, round, &mut tally);
-            keeper = self.keep(rt, alloc, keeper, round, &mut tally);
+        let mut keeper = None;
+        if number == 0 {
+            keeper = client.keeper(rt, alloc).ok();
         }
-        if let Some(counts) = client.counts(0) {
-            for function in 0..3u8 {
-                let of = counts.of(function);
-                tally.lookups = tally.lookups.saturating_add(of.lookups);
-                tally.hits = tally.hits.saturating_add(of.hits);
-            }
+        let first = u32::try_from(number).unwrap_or(0);
+        for now in 0..self.arguments.pages {
+            let item = now.wrapping_add(first).wrapping_add(self.arguments.seed) % ITEM_COUNT;
+            client = self.come(rt, alloc, client, Round { item, now }, &mut tally);
+            keeper = keep(rt, alloc, keeper, now, &mut tally);
         }
+        count_lookups(&client, &mut tally);
         tally
     }
 }

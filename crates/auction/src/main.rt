@@ -1,4 +1,4 @@
-//! An auction on threads: visitors render pages in read-only transactions, and bid in read-write ones.
+//! An auction on threads: visitors read pages in read-only transactions, and bid in read-write ones.
 #![tactic(auto)]
 
 mod arguments;
@@ -6,17 +6,19 @@ mod changes;
 mod crowd;
 mod functions;
 mod pages;
+mod tally;
 
 use arguments::Arguments;
 use changes::Opening;
-use crowd::{Crowd, Tally};
+use crowd::Crowd;
 use functions::{Auction, AuctionFunction};
 use std::alloc::Global;
+use std::env;
 use std::sync::Wait;
 use std::thread::Threads;
-use std::{env, io};
+use tally::{Tally, total};
 use txc_db::Naming;
-use txc_site::{Body, Plan, Site, SiteError, with_site};
+use txc_site::{Body, Plan, Site, with_site};
 
 /// What is done with the site: the first rows are written, and then the visitors come.
 #[derive(Drop)]
@@ -25,33 +27,31 @@ struct Evening {
 }
 
 impl<R: Threads + Wait + Sync> Body<Auction, AuctionFunction, R> for Evening {
-    type Output = Result<Tally, SiteError>;
+    ghost use Rattle.std.specs.Prelude.{◌*◌, IfOk};
+    ghost use Rattle.auction.specs.Tallies.{HasSeen};
 
-    ghost gives = { λ evening plan tally. Unit {0} };
+    type Output = anyhow::Result<Tally>;
+
+    ghost gives = { λ evening plan ended. let a = evening.arguments in
+        IfOk ended (HasSeen (a.threads * a.pages) a) };
 
     fn run<J: Naming + Send + Sync>(
         self,
         rt: &R,
         alloc: Global,
         site: &mut Site<'_, Auction, AuctionFunction, J>,
-    ) -> Result<Tally, SiteError> {
+    ) -> anyhow::Result<Tally> {
         let Evening { arguments } = self;
         let client = site.client(rt, alloc)?;
         let (opened, _client) = client.write(rt, alloc, 1, &Opening);
-        if opened.is_err() {
-            return Err(SiteError::Memory);
-        }
+        opened?;
         let crowd = Crowd { arguments };
         let tallies = site.visit(rt, alloc, arguments.threads as usize, &crowd)?;
-        let mut all = Tally::ZERO;
-        for tally in &tallies {
-            all.add(tally);
-        }
-        Ok(all)
+        Ok(total(&tallies, arguments.pages))
     }
 }
 
-fn main(rt: HostRuntime) -> io::Result<()> {
+fn main(rt: HostRuntime) -> anyhow::Result<()> {
     let alloc = rt.alloc();
     let words = env::args(&rt)?.collect::<Vec<String>>(alloc)?;
     let evening = Evening {
@@ -62,17 +62,18 @@ fn main(rt: HostRuntime) -> io::Result<()> {
         records: 65_536,
         ..Plan::DEFAULT
     };
-    let Ok(ended) = with_site::<Auction, AuctionFunction, _, _>(&rt, alloc, plan, evening) else {
-        return println!(rt; "the site was not made");
+    let ended = match with_site::<Auction, AuctionFunction, _, _>(&rt, alloc, plan, evening) {
+        Ok(ended) => ended,
+        Err((error, _evening)) => return Err(error.into()),
     };
-    let Ok(all) = ended else {
-        return println!(rt; "the visitors did not come");
-    };
+    let all = ended?;
     let pages = all.whole.saturating_add(all.torn);
     println!(rt; "{pages} pages, {} torn, {} refused", all.torn, all.refused)?;
-    println!(rt;
+    // The rest is not the same in each run.
+    eprintln!(rt;
         "{} bids, {} conflicts, kept {} times",
         all.bids, all.conflicts, all.kept
     )?;
-    println!(rt; "{} hits of {} lookups", all.hits, all.lookups)
+    eprintln!(rt; "{} hits of {} lookups", all.hits, all.lookups)?;
+    Ok(())
 }

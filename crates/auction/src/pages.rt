@@ -1,6 +1,7 @@
 //! What visitors read: an item's highest bid and its page, in one transaction or in two.
-ghost use Rattle.std.specs.Prelude.{◌≡◌, ◌≤◌};
+ghost use Rattle.std.specs.Prelude.{◌≡◌, ◌≤◌, ◌↔◌, IsTrue};
 ghost use Rattle.auction.specs.Auction.{call_of};
+ghost use Rattle.auction.specs.Pages.{IsWhole};
 
 use crate::functions::{Auction, AuctionFunction};
 use std::alloc::Global;
@@ -31,13 +32,14 @@ pub struct BothBids {
 }
 
 impl BothBids {
-    /// Whether the page shows that highest bid.
-    pub fn is_whole(&self) -> bool {
-        let mut parts = self.page.bytes().split(|byte| *byte == b'|');
-        let _title = parts.next();
-        let _seller = parts.next();
-        let shown = parts.next().unwrap_or(&[]);
-        shown == self.highest.bytes()
+    /// Whether the page shows that highest bid, at its end.
+    pub fn is_whole(&self) -> bool
+        ensures { IsTrue result ↔ IsWhole self.now }
+    {
+        match self.page.bytes().strip_suffix(self.highest.bytes()) {
+            Some(before) => before.last() == Some(&b'|'),
+            None => false,
+        }
     }
 }
 
