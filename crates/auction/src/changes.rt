@@ -1,6 +1,8 @@
 //! What is written: the first rows, and bids.
-ghost use Rattle.std.specs.Prelude.{◌≡◌, IfOk};
+ghost use Rattle.std.specs.Prelude.{◌≡◌, ◌++◌, ◌∷◌, [], IfOk, OnOk, string_bytes};
+ghost use Rattle.txc_rows.specs.declared.query.Change.TheVariants.{Put};
 ghost use Rattle.txc_rows.specs.Values.{IsBody};
+ghost use Rattle.auction.specs.Bids.{text_of};
 
 use crate::functions::{Auction, AuctionFunction, bids, items, users};
 use crate::pages::key;
@@ -31,8 +33,10 @@ fn put<J: Naming>(
     group: u32,
     body: String,
 ) -> Result<(), TxnError>
-    requires { IsBody body }
-    ensures { txn.new.objects ≡ txn.old.objects }
+    requires { IsBody (string_bytes body) }
+    ensures after { OnOk result (txn.new.core.changes ≡ txn.old.core.changes
+        ++ Put (record { table = table; id = id; group = group; body = string_bytes body }) ∷ []) }
+    ensures functions { txn.new.objects ≡ txn.old.objects }
 {
     let Ok(row) = Row::new(table, id, group, body.into_bytes()) else {
         unreachable!()
@@ -41,20 +45,21 @@ fn put<J: Naming>(
 }
 
 fn user_name(alloc: Global, user: u32) -> Result<String, AllocError>
-    ensures { IfOk result IsBody }
+    ensures { IfOk result (λ name. IsBody (string_bytes name)) }
 {
     format!(in alloc; "user{user}")
 }
 
 fn title(alloc: Global, item: u32) -> Result<String, AllocError>
-    ensures { IfOk result IsBody }
+    ensures { IfOk result (λ title. IsBody (string_bytes title)) }
 {
     format!(in alloc; "item{item}")
 }
 
 /// The text of a bid, such as `120:user1`.
 fn bid_text(alloc: Global, amount: u32, user: u32) -> Result<String, AllocError>
-    ensures { IfOk result IsBody }
+    ensures answer { IfOk result (λ text. string_bytes text ≡ text_of amount user) }
+    ensures body { IfOk result (λ text. IsBody (string_bytes text)) }
 {
     format!(in alloc; "{amount}:user{user}")
 }
@@ -103,9 +108,11 @@ pub struct Bid {
 }
 
 impl Change<Auction, AuctionFunction> for Bid {
+    ghost use Rattle.auction.specs.Bids.{WritesBid};
+
     type Output = u32;
 
-    ghost makes = { λ change core output. Unit {0} };
+    ghost makes = { WritesBid };
 
     ghost refuses = { λ change error. Unit {0} };
 

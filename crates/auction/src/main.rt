@@ -47,7 +47,7 @@ impl<R: Threads + Wait + Sync> Body<Auction, AuctionFunction, R> for Evening {
         opened?;
         let crowd = Crowd { arguments };
         let tallies = site.visit(rt, alloc, arguments.threads as usize, &crowd)?;
-        Ok(total(&tallies, arguments.pages))
+        Ok(total(&tallies))
     }
 }
 

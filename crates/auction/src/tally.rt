@@ -1,5 +1,6 @@
 //! What visitors came to.
-ghost use Rattle.std.specs.Prelude.{◌≡◌, ◌+◌, ◌*◌, ◌<◌, ◌^◌, All, IfSome, length};
+ghost use Rattle.std.specs.Prelude.{◌≡◌, ◌+◌, ◌<◌, ◌^◌, IfSome};
+ghost use Rattle.std.specs.List.{sum_by};
 ghost use Rattle.auction.specs.Pages.{IsWhole};
 ghost use Rattle.auction.specs.Tallies.{pages_of};
 
@@ -66,14 +67,12 @@ impl Tally {
     }
 }
 
-/// What visitors came to in all, each of whom asked for so many pages.
-pub fn total(tallies: &[Tally], pages: u32) -> Tally
-    requires each { All (λ tally. pages_of tally ≡ pages) tallies.now }
-    requires few { length tallies.now < 2 ^ 32 }
-    ensures pages { pages_of result ≡ length tallies.now * pages }
-    ensures torn { All (λ tally. tally.torn ≡ 0) tallies.now → result.torn ≡ 0 }
+/// What visitors came to in all.
+pub fn total(tallies: &[Tally]) -> Tally
+    requires { sum_by pages_of tallies.now < 2 ^ 64 }
+    ensures pages { pages_of result ≡ sum_by pages_of tallies.now }
+    ensures torn { result.torn ≡ sum_by (λ tally. tally.torn) tallies.now }
 {
-    let _pages = pages;
     let mut all = Tally::ZERO;
     for tally in tallies {
         all.add(tally);
