@@ -34,7 +34,7 @@ numbered word text n small some few prints is =
 
 -- a number, a word and a number
 pub between_numbers : (word text : List ℕ) (m n : ℕ) → m < 2 ^ 32 → n < 2 ^ 32 → length word ≤ 100 → AllByRecursion Prints word
-    → text ≡ decimal m ++ word ++ decimal n → IsBody text
+    → text ≡ decimal m ++ (word ++ decimal n) → IsBody text
 between_numbers word text m n small_m small few prints is =
     let long = ap length is ∙ length-append (decimal m) (word ++ decimal n) in
     let rest = length-append word (decimal n) in

@@ -58,8 +58,8 @@ fn main(rt: HostRuntime) -> anyhow::Result<()> {
         arguments: Arguments::read(words.as_slice()),
     };
     let plan = Plan {
-        events: 4096,
-        records: 65_536,
+        events: 2048,
+        records: 16_384,
         ..Plan::DEFAULT
     };
     let ended = match with_site::<Auction, AuctionFunction, _, _>(&rt, alloc, plan, evening) {

@@ -37,7 +37,7 @@ impl BothBids {
         ensures { IsTrue result ↔ IsWhole self.now }
     {
         match self.page.bytes().strip_suffix(self.highest.bytes()) {
-            Some(before) => before.last() == Some(&b'|'),
+            Some(before) => before.ends_with(b"|"),
             None => false,
         }
     }

@@ -2,5 +2,5 @@ pub mod Crosses
 mod Guests
 pub mod Keeping
 mod Listing
-mod NodeRows
+pub mod NodeRows
 mod Tried
