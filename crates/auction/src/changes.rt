@@ -41,7 +41,8 @@ fn put<J: Naming>(
     let Ok(row) = Row::new(table, id, group, body.into_bytes()) else {
         unreachable!()
     };
-    txn.put(row)
+    txn.put(row)?;
+    Ok(())
 }
 
 fn user_name(alloc: Global, user: u32) -> Result<String, AllocError>

@@ -124,6 +124,25 @@ impl Crowd {
         (Some(both), client)
     }
 
+    /// Both, read as the arguments say.
+    fn both<'a, J: Naming, R: Wait>(
+        &self,
+        rt: &R,
+        alloc: Global,
+        client: Guest<'a, J>,
+        round: Round,
+        tally: &mut Tally,
+    ) -> (Option<BothBids>, Guest<'a, J>)
+        ensures counts { tally.new ≡ record tally.old { bids = tally.new.bids; conflicts = tally.new.conflicts } }
+        ensures whole { self.now.arguments.is_plain ≡ false → IfSome result.0 IsWhole }
+    {
+        if self.arguments.is_plain {
+            self.plain_page(rt, alloc, client, round, tally)
+        } else {
+            self.page(rt, alloc, client, round)
+        }
+    }
+
     /// Reads the item's page, and bids.
     fn come<'a, J: Naming, R: Wait>(
         &self,
@@ -137,11 +156,7 @@ impl Crowd {
         ensures pages { pages_of tally.new ≡ pages_of tally.old + 1 }
         ensures torn { self.now.arguments.is_plain ≡ false → tally.new.torn ≡ tally.old.torn }
     {
-        let (page, client) = if self.arguments.is_plain {
-            self.plain_page(rt, alloc, client, round, tally)
-        } else {
-            self.page(rt, alloc, client, round)
-        };
+        let (page, client) = self.both(rt, alloc, client, round, tally);
         tally.count(page);
         let (_stamp, client) = self.bid(rt, alloc, client, round, tally);
         client
@@ -160,9 +175,10 @@ fn keep<'a, J: Naming, R: Wait>(
 {
     let keeper = keeper?;
     let (kept, keeper) = keeper.keep(rt, alloc, u64::from(now), AGE);
-    if kept.is_ok() {
-        tally.kept = tally.kept.saturating_add(1);
-    }
+    let Ok(_kept) = kept else {
+        return Some(keeper);
+    };
+    tally.kept = tally.kept.saturating_add(1);
     Some(keeper)
 }
 
