@@ -63,9 +63,9 @@ both_are_whole L bounds (Some pin) item answers both explained shown =
 -- a page that ends with the bid, after this: it is whole where this ends with a bar
 module _ (page bid before : List ℕ) (stripped : page ≡ before ++ bid) (r : Bool) (tested : r ≡ ends_with eqb before (124 ∷ [])) where
   pub whole_if : r ≡ true → (front : List ℕ) × (page ≡ front ++ 124 ∷ bid)
-  whole_if yes =
+  whole_if true_is =
       let front = take (length before - 1) before in
-      let ended = (ends_is Decides-eqb before (124 ∷ []) r tested).0 yes in
+      let ended = (ends_is Decides-eqb before (124 ∷ []) r tested).0 true_is in
       (front, stripped ∙ ap (λ (xs : List ℕ). xs ++ bid) ended ∙ append_assoc front (124 ∷ []) bid)
 
   pub whole_only_if : (front : List ℕ) → page ≡ front ++ 124 ∷ bid → r ≡ true

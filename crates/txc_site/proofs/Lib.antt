@@ -2,5 +2,5 @@ pub mod Crosses
 mod Guests
 pub mod Keeping
 mod Listing
-pub mod NodeRows
+mod NodeRows
 mod Tried

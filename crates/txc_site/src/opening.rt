@@ -52,7 +52,6 @@ fn rows(alloc: Global, plan: Plan) -> Result<Unnamed, SiteError>
 /// Makes a site by the plan, and runs the body with it. An `Ok` is what the body came to with a site of that
 /// plan. An error hands the body back, which was not run: the plan is out of its limits, two functions have
 /// one number, or there was no memory.
-#[tactic(auto, using(crate::proofs::NodeRows::rows_by_place))]
 pub fn with_site<A, D, B, R>(
     rt: &R,
     alloc: Global,
