@@ -1,5 +1,5 @@
 -- What visitors came to.
-use Rattle.std.specs.Prelude.{◌≡◌, ℕ, ◌+◌, ◌*◌, false}
+use Rattle.std.specs.Prelude.{◌≡◌, ℕ, ◌+◌, false}
 use Rattle.auction.specs.declared.arguments.Arguments.{Arguments}
 use Rattle.auction.specs.declared.tally.Tally.{Tally}
 
