@@ -125,7 +125,8 @@ impl Change<Auction, AuctionFunction> for Bid {
     ) -> Result<u32, TxnError> {
         let highest = txn.call(rt, alloc, key(0, self.item))?;
         let amount = amount_of(&highest).saturating_add(self.more);
-        put(txn, bids(), self.item, 0, bid_text(alloc, amount, self.user)?)?;
+        let text = bid_text(alloc, amount, self.user)?;
+        put(txn, bids(), self.item, 0, text)?;
         Ok(amount)
     }
 }
