@@ -1,7 +1,7 @@
 -- What a page shows of an item, where both of its calls come to their values in one state.
 use denote.Ref.{Bor}
 use Rattle.std.proofs.Common.{◌≡◌, ◌≢◌, ◌∙◌, ℕ, ◌-◌, List, [], ◌∷◌, ◌++◌, length, take, eqb, Bool, true, false, Option, Some, None, MatchOption, sym, ap, subst}
-use Rattle.std.specs.Prelude.{if◌then◌else◌, nat_le}
+use Rattle.std.specs.Prelude.{if◌then◌else◌, nat_le, Result, Ok, IfOk}
 use Rattle.std.specs.List.{ends_with}
 use Rattle.std.proofs.lemmas.List.{append_assoc, append_cancel_right}
 use Rattle.std.proofs.lemmas.Bool.Decides.{Decides-eqb}
@@ -18,6 +18,7 @@ use Rattle.txc_cushion.specs.declared.pin.Pin.{Pin}
 use Rattle.txc_ports.specs.declared.bounds.Bounds.{Bounds}
 use Rattle.txc_ports.specs.declared.recorded.Recorded.{Recorded}
 use Rattle.txc_txn.specs.Core.{Explains}
+use Rattle.txc_site.specs.declared.reading.Shown.{Shown}
 use Rattle.auction.specs.Auction.{auction, call_of, body_of, group_of, BIDS, ITEMS, USERS}
 use Rattle.auction.specs.Pages.{IsWhole, ShowsBoth}
 use Rattle.auction.specs.declared.pages.BothBids.{BothBids}
@@ -58,6 +59,15 @@ both_are_whole L bounds (Some pin) item answers both explained shown =
     let each = All-same right (first ∷ second ∷ []) answers (sym shown) explained.2 in
     page_shows_bid item (state_at L pin.stamp) both.highest both.page (All-head right first (second ∷ []) each)
     (All-head right second [] (All-tail right first (second ∷ []) each))
+
+-- and so is what a page of both calls showed
+pub shown_is_whole : {E : Type 0} (item : ℕ) (bounds : Bounds) (r : Result (Shown BothBids) E) (it : Shown BothBids) → r ≡ Ok it
+    → IfOk r (λ s. ShowsBoth item s.receipt.answers.items s.output)
+    → IfOk r (λ s. Explains auction s.receipt.seen.history bounds s.receipt.pin s.receipt.answers.items) → IsWhole it.output
+shown_is_whole {E} item bounds r it is shows explained =
+    both_are_whole it.receipt.seen.history bounds it.receipt.pin item it.receipt.answers.items it.output
+    (subst (λ (q : Result (Shown BothBids) E). IfOk q (λ s. Explains auction s.receipt.seen.history bounds s.receipt.pin s.receipt.answers.items)) is explained)
+    (subst (λ (q : Result (Shown BothBids) E). IfOk q (λ s. ShowsBoth item s.receipt.answers.items s.output)) is shows)
 
 -- a page that ends with the bid, after this: it is whole where this ends with a bar
 module _ (page bid before : List ℕ) (stripped : page ≡ before ++ bid) (r : Bool) (tested : r ≡ ends_with eqb before (124 ∷ [])) where

@@ -1,13 +1,13 @@
-use crate::application::Application;
 use crate::site::Site;
 use std::alloc::Global;
 use std::sync::Wait;
+use txc_app::App;
 use txc_db::Naming;
 use txc_functions::Definition;
 
 /// What is done with a site. It is generic in what names the site's rows, so that nothing of one site is
 /// used with another.
-pub trait Body<A: Application<D>, D: Definition, R: Wait> {
+pub trait Body<A: App, D: Definition, R: Wait> {
     ghost use Rattle.txc_site.specs.declared.plan.Plan.{Plan};
 
     /// What it comes to.

@@ -1,12 +1,12 @@
-use crate::application::Application;
 use crate::client::SiteClient;
 use std::alloc::Global;
 use std::sync::Wait;
+use txc_app::App;
 use txc_db::Naming;
 use txc_functions::Definition;
 
 /// What is done on each of the threads that a site starts.
-pub trait Visitor<A: Application<D>, D: Definition, R: Wait> {
+pub trait Visitor<A: App, D: Definition, R: Wait> {
     ghost use Rattle.std.specs.Prelude.{ℕ};
 
     /// What a thread comes to.

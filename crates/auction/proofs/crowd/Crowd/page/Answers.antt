@@ -1,5 +1,6 @@
-use Rattle.auction.proofs.Shown.{both_are_whole}
+use Rattle.auction.proofs.Shown.{shown_is_whole}
 use Rattle.auction.proofs.crowd.Crowd.page.Goals as goal
 
 pub returns-in-Ok : goal.returns-in-Ok
-returns-in-Ok g c = both_are_whole _ _ _ _ _ _ c.in-Ok.ensures.explained c.in-Ok.ensures.shows
+returns-in-Ok g c =
+    shown_is_whole _ _ c.read-shown.result.0 c.in-Ok.shown c.in-Ok.is c.read-shown.ensures.shows c.read-shown.ensures.explained
