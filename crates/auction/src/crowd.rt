@@ -1,7 +1,7 @@
 //! The visitors, who read pages and bid, each on a thread.
 ghost use Rattle.std.specs.Prelude.{◌≡◌, ◌+◌, ◌<◌, ◌^◌, false, IfSome};
 ghost use Rattle.auction.specs.Pages.{IsWhole};
-ghost use Rattle.auction.specs.Tallies.{pages_of, HasSeen};
+ghost use Rattle.auction.specs.Tallies.{pages_of};
 
 use crate::arguments::Arguments;
 use crate::changes::{Bid, ITEM_COUNT, USER_COUNT};
@@ -206,12 +206,12 @@ impl<R: Wait> Visitor<Auction, AuctionFunction, R> for Crowd {
         rt: &R,
         alloc: Global,
         number: usize,
-        client: Guest<'_, J>,
-    ) -> Tally
-        ensures { HasSeen self.now.arguments.pages self.now.arguments result }
-    {
+        client: &mut Option<Guest<'_, J>>,
+    ) -> Tally {
+        let Some(mut client) = client.take() else {
+            unreachable!()
+        };
         let mut tally = Tally::ZERO;
-        let mut client = client;
         let mut keeper = None;
         if number == 0 {
             keeper = client.keeper(rt, alloc).ok();

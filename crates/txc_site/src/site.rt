@@ -140,7 +140,7 @@ where
                 ensures { V.gives visitors.entry.now guest.entry.number result }
             {
                 let Guest { number, client } = guest;
-                visitors.visit(rt, alloc, number, client)
+                visitors.visit(rt, alloc, number, &mut Some(client))
             },
         )?;
         Ok(visited)

@@ -1,3 +1,5 @@
+ghost use Rattle.std.specs.Prelude.{IsSome};
+
 use crate::client::SiteClient;
 use std::alloc::Global;
 use std::sync::Wait;
@@ -15,13 +17,14 @@ pub trait Visitor<A: App, D: Definition, R: Wait> {
     // What the thread of a number comes to.
     ghost gives: { Self → ℕ → Self.Output → Type 0 };
 
-    /// Does what the thread of that number does, by a client of its own.
+    /// Does what the thread of that number does, by a client of its own, which it takes.
     fn visit<J: Naming + Send + Sync>(
         &self,
         rt: &R,
         alloc: Global,
         number: usize,
-        client: SiteClient<'_, A, D, J>,
+        client: &mut Option<SiteClient<'_, A, D, J>>,
     ) -> Self::Output
+        requires { IsSome client.old }
         ensures { gives self.now number result };
 }
