@@ -193,7 +193,7 @@ fn count_lookups<J: Naming>(client: &Guest<'_, J>, tally: &mut Tally)
     }
 }
 
-impl<R: Wait> Visitor<Auction, AuctionFunction, R> for Crowd {
+impl Visitor<Auction, AuctionFunction> for Crowd {
     ghost use Rattle.auction.specs.Tallies.{HasSeen};
 
     type Output = Tally;
@@ -201,7 +201,7 @@ impl<R: Wait> Visitor<Auction, AuctionFunction, R> for Crowd {
     ghost gives = { λ crowd number tally. HasSeen crowd.arguments.pages crowd.arguments tally };
 
     /// The first visitor keeps the site.
-    fn visit<J: Naming + Send + Sync>(
+    fn visit<J: Naming + Send + Sync, R: Wait>(
         &self,
         rt: &R,
         alloc: Global,

@@ -125,7 +125,7 @@ where
         visitors: &V,
     ) -> Result<Vec<V::Output>, SiteError>
     where
-        V: Visitor<A, D, R> + Sync,
+        V: Visitor<A, D> + Sync,
         R: Threads + Wait + Sync,
         ensures same { self.new ≡ self.old }
         ensures each { IfOk result (λ outputs. vec_len outputs ≡ count) }

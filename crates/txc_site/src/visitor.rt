@@ -8,7 +8,7 @@ use txc_db::Naming;
 use txc_functions::Definition;
 
 /// What is done on each of the threads that a site starts.
-pub trait Visitor<A: App, D: Definition, R: Wait> {
+pub trait Visitor<A: App, D: Definition> {
     ghost use Rattle.std.specs.Prelude.{ℕ};
 
     /// What a thread comes to.
@@ -18,7 +18,7 @@ pub trait Visitor<A: App, D: Definition, R: Wait> {
     ghost gives: { Self → ℕ → Self.Output → Type 0 };
 
     /// Does what the thread of that number does, by a client of its own, which it takes.
-    fn visit<J: Naming + Send + Sync>(
+    fn visit<J: Naming + Send + Sync, R: Wait>(
         &self,
         rt: &R,
         alloc: Global,
