@@ -29,7 +29,7 @@ struct Evening {
     arguments: Arguments,
 }
 
-impl<R: Threads + Wait + Sync> Body<Auction, AuctionFunction, R> for Evening {
+impl Body<Auction, AuctionFunction> for Evening {
     ghost use Rattle.std.specs.Prelude.{◌*◌, IfOk};
     ghost use Rattle.auction.specs.Tallies.{HasSeen};
 
@@ -38,7 +38,7 @@ impl<R: Threads + Wait + Sync> Body<Auction, AuctionFunction, R> for Evening {
     ghost gives = { λ evening plan ended. let a = evening.arguments in
         IfOk ended (HasSeen (a.threads * a.pages) a) };
 
-    fn run<J: Naming + Send + Sync>(
+    fn run<J: Naming + Send + Sync, R: Threads + Wait + Sync>(
         self,
         rt: &R,
         alloc: Global,

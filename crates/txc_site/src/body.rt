@@ -1,13 +1,14 @@
 use crate::site::Site;
 use std::alloc::Global;
 use std::sync::Wait;
+use std::thread::Threads;
 use txc_app::App;
 use txc_db::Naming;
 use txc_functions::Definition;
 
 /// What is done with a site. It is generic in what names the site's rows, so that nothing of one site is
 /// used with another.
-pub trait Body<A: App, D: Definition, R: Wait> {
+pub trait Body<A: App, D: Definition> {
     ghost use Rattle.txc_site.specs.declared.plan.Plan.{Plan};
 
     /// What it comes to.
@@ -17,7 +18,7 @@ pub trait Body<A: App, D: Definition, R: Wait> {
     ghost gives: { Self → Plan → Self.Output → Type 0 };
 
     /// Does it. The site is new: its database is empty, and no client of it was made.
-    fn run<J: Naming + Send + Sync>(
+    fn run<J: Naming + Send + Sync, R: Threads + Wait + Sync>(
         self,
         rt: &R,
         alloc: Global,

@@ -14,6 +14,7 @@ use crate::site::Site;
 use std::alloc::{AllocError, Global};
 use std::marker::Brand;
 use std::sync::Wait;
+use std::thread::Threads;
 use txc_db::{DbCore, Naming};
 use txc_functions::Definition;
 use txc_node::Record;
@@ -61,8 +62,8 @@ pub fn with_site<A, D, B, R>(
 where
     A: Application<D>,
     D: Definition,
-    B: Body<A, D, R>,
-    R: Wait,
+    B: Body<A, D>,
+    R: Threads + Wait + Sync,
     ensures gives { IfOk result (B.gives body plan) }
     ensures unsound { ¬ (IsPlan plan) → result ≡ Err (SiteError.Plan, body) }
     ensures refused { IfErr result (λ e. IsSiteRefused plan A.numbers e.0) }
@@ -92,8 +93,8 @@ where
     J: Naming + Send + Sync,
     A: Application<D>,
     D: Definition,
-    B: Body<A, D, R>,
-    R: Wait,
+    B: Body<A, D>,
+    R: Threads + Wait + Sync,
     requires plan { IsPlan plan }
     requires database { core.events ≡ J.database_row }
     requires each { vec_len rows ≡ plan.nodes }
@@ -112,5 +113,5 @@ where
         return Err((error, body));
     }
     let mut site = Site::new(&foundation, pool);
-    Ok(body.run::<J>(rt, alloc, &mut site))
+    Ok(body.run::<J, R>(rt, alloc, &mut site))
 }
