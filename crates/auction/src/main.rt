@@ -46,14 +46,28 @@ impl Body<Auction, AuctionFunction> for Evening {
     ) -> anyhow::Result<Tally>
         ensures { IfOk result (HasSeen (self.arguments.threads * self.arguments.pages) self.arguments) }
     {
-        let Evening { arguments } = self;
-        let client = site.client(rt, alloc)?;
-        let (opened, _client) = client.write(rt, alloc, 1, &Opening);
-        opened?;
-        let crowd = Crowd { arguments };
-        let tallies = site.visit(rt, alloc, arguments.threads as usize, &crowd)?;
-        Ok(total(&tallies))
+        hold(rt, alloc, site, self.arguments)
     }
+}
+
+/// Writes the first rows, and lets the visitors come.
+fn hold<J, R>(
+    rt: &R,
+    alloc: Global,
+    site: &mut Site<'_, Auction, AuctionFunction, J>,
+    arguments: Arguments,
+) -> anyhow::Result<Tally>
+where
+    J: Naming + Send + Sync,
+    R: Threads + Wait + Sync,
+    ensures { IfOk result (HasSeen (arguments.threads * arguments.pages) arguments) }
+{
+    let client = site.client(rt, alloc)?;
+    let (opened, _client) = client.write(rt, alloc, 1, &Opening);
+    opened?;
+    let crowd = Crowd { arguments };
+    let tallies = site.visit(rt, alloc, arguments.threads as usize, &crowd)?;
+    Ok(total(&tallies))
 }
 
 fn main(rt: HostRuntime) -> anyhow::Result<()> {
