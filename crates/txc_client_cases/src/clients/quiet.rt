@@ -4,7 +4,7 @@ ghost use Rattle.std.specs.Prelude.{◌≡◌};
 use super::desk::{
     committed, long, pinned, say, say_call, say_pins, say_receipt, say_stamp, say_text,
 };
-use super::sessions::{RENEW_AFTER, node};
+use super::sessions::{RENEW_AFTER, core_of, node};
 use super::watch::{Watch, Watched};
 use std::alloc::{AllocError, Global};
 use std::marker::Brand;
@@ -317,7 +317,7 @@ fn play<J: Naming>(
 /// Makes the rows, and plays the script.
 fn start(rt: &impl Wait, alloc: Global, script: Script, answer: &mut String) -> Option<bool> {
     let (events, commands) = script;
-    let core = DbCore::new(alloc, events.clamp(1, 4096)).ok()?;
+    let core = core_of(alloc, events)?;
     let one = EventRow::new(alloc, 64).ok()?;
     let other = EventRow::new(alloc, 64).ok()?;
     play::<Brand>(rt, alloc, (core, one, other), commands, answer)

@@ -167,14 +167,16 @@ fn make<J: Naming>(
         let _pass = nodes[0].pass(rt, alloc).ok()?;
     }
     let mut pool = PermitPool::new(alloc, 1).ok()?;
-    let registry = registry(alloc, &mut pool).ok()?;
+    let Ok(functions) = registry(alloc, &mut pool) else {
+        return None;
+    };
     match Client::new(
         rt,
         alloc,
         &database,
         &cushion,
         &nodes,
-        registry,
+        functions,
         RENEW_AFTER,
     ) {
         Ok(_) => {
@@ -263,14 +265,16 @@ fn free_after<J: Naming>(
     let mut nodes = Vec::new(alloc);
     nodes.push(node(alloc, 0, row, &database)?).ok()?;
     let mut pool = PermitPool::new(alloc, 2).ok()?;
-    let registry = registry(alloc, &mut pool).ok()?;
+    let Ok(functions) = registry(alloc, &mut pool) else {
+        return None;
+    };
     let mut client = Client::new(
         rt,
         alloc,
         &database,
         &cushion,
         &nodes,
-        registry,
+        functions,
         RENEW_AFTER,
     )
     .ok()?;

@@ -131,6 +131,11 @@ fn play<J: Naming>(
     }
 }
 
+/// A database with room for so many events.
+pub(super) fn core_of(alloc: Global, events: usize) -> Option<DbCore> {
+    DbCore::new(alloc, events.clamp(1, 4096)).ok()
+}
+
 /// Makes the rows, with room for so many events, and plays the script.
 fn start(
     rt: &impl Wait,
@@ -140,7 +145,7 @@ fn start(
     script: &str,
     answer: &mut String,
 ) -> Option<Verdict> {
-    let core = DbCore::new(alloc, events.clamp(1, 4096)).ok()?;
+    let core = core_of(alloc, events)?;
     let one = EventRow::new(alloc, 64).ok()?;
     let other = EventRow::new(alloc, 64).ok()?;
     play::<Brand>(rt, alloc, (core, one, other), how, script, answer)
