@@ -1,5 +1,5 @@
 -- A read-only transaction with the registry of its functions.
-use Rattle.std.specs.Prelude.{◌≡◌}
+use Rattle.std.specs.Prelude.{◌≡◌, None}
 use Rattle.std.specs.Option.{ForSome}
 use mathlib.Core.List.{IsPrefix}
 use Rattle.txc_db.specs.History.{History}
@@ -10,7 +10,7 @@ use Rattle.txc_ports.specs.declared.turn.Turn.{Turn}
 use Rattle.txc_ports.specs.Fronts.{front_of}
 use Rattle.txc_txn.specs.Core.{CoreValue, CoreHolds, IsCore, IsRight, IsTurn, KeepsSettings, PinsAfter}
 use Rattle.txc_ports.specs.Turns.{IsAsk}
-use Rattle.txc_txn.specs.Core.{left_after, left_pin, open_call, recorded_after, taken_after, AddsOnly, IsOneOf}
+use Rattle.txc_txn.specs.Core.{left_after, left_pin, open_call, recorded_after, taken_after, AddsOnly, IsNoAdding, IsOneOf}
 use Rattle.txc_txn.specs.Leading.{ReplyLeads}
 
 -- what callers see of it: its core, and what its objects do
@@ -46,6 +46,15 @@ pub record HasGoneOn (next : Next) (old : TxnValue) (reply : PortReply) (new : T
   pub longer : IsPrefix old.core.seen.history new.core.seen.history
   pub shown : ForSome (front_of reply) (λ front. IsPrefix front.history new.core.seen.history)
   pub one : IsOneOf old.core.seen (front_of reply) new.core.seen
+
+-- What a step of a core between two requests comes to: it fits its functions, which stay, and the turn is one of its;
+-- no pin is to be added, and none is left to be.
+pub record HasTurned (next : Next) (was : Objects) (new : CoreValue) (is : Objects) (turn : Turn) : Type 0 where
+  pub fits : IsCore next is new
+  pub turn_fits : IsTurn new turn
+  pub no_add : IsNoAdding turn
+  pub left : left_pin new.pinning ≡ None
+  pub functions : numbers_of is ≡ numbers_of was
 
 -- What comes of a reply, once what it shows was seen: the core fits its functions still, and means what it says in
 -- each history in which the reply is right; and a turn comes of it, as after the whole reply.

@@ -3,6 +3,8 @@ use Rattle.txc_txn.specs.Core.{left_pin}
 use Rattle.txc_world.proofs.Fairness.{fair_ended}
 use Rattle.txc_world.specs.Keeping.{GiveBackLeads}
 use Rattle.txc_world.specs.Ports.{PortsValue}
+use Rattle.std.proofs.Common.{rules}
+use Rattle.std.proofs.lemmas.Grind.{common_steps}
 use Rattle.txc_world.proofs.acting.abort.Goals as goal
 
 pub returns-in-Some-clause-leads : goal.returns-in-Some-clause-leads
@@ -64,3 +66,12 @@ returns-clause-acted g c = record {
     loss = tt;
   };
 }
+
+trial_1 : goal.returns-in-Some-clause-acted
+trial_1 g c =
+    let is : left_pin c.args.current.txn.core.pinning ≡ Some c.in-Some.stamp = sym c.cancel-left.ensures.unpin ∙ c.in-Some.is in
+    first_of (search (rules, fair_ended c.args.ports.now c.give_back.new.self c.args.current.txn.core _ c.give_back.result c.give_back_counts_users.ensures c.give_back.ensures.leads (c.deref.ensures.value ∙ c.cancel-left.ensures.give_back) (c.in-Some.stamp ∷ []) (λ t. rw is (omega arith))), search (rules, arith, common_steps, fair_ended c.args.ports.now c.give_back.new.self c.args.current.txn.core _ c.give_back.result c.give_back_counts_users.ensures c.give_back.ensures.leads (c.deref.ensures.value ∙ c.cancel-left.ensures.give_back) (c.in-Some.stamp ∷ []) (λ t. rw is (omega arith))), grind (arith, common_steps, fair_ended c.args.ports.now c.give_back.new.self c.args.current.txn.core _ c.give_back.result c.give_back_counts_users.ensures c.give_back.ensures.leads (c.deref.ensures.value ∙ c.cancel-left.ensures.give_back) (c.in-Some.stamp ∷ []) (λ t. rw is (omega arith))))
+
+trial_2 : goal.returns-clause-acted
+trial_2 g c =
+    first_of (search (rules, fair_ended c.args.ports.now c.give_back.new.self c.args.current.txn.core _ c.give_back.result c.give_back_counts_users.ensures c.give_back.ensures.leads (c.deref.ensures.value ∙ c.cancel-left.ensures.give_back) [] (λ t. omega arith)), search (rules, arith, common_steps, fair_ended c.args.ports.now c.give_back.new.self c.args.current.txn.core _ c.give_back.result c.give_back_counts_users.ensures c.give_back.ensures.leads (c.deref.ensures.value ∙ c.cancel-left.ensures.give_back) [] (λ t. omega arith)), grind (arith, common_steps, fair_ended c.args.ports.now c.give_back.new.self c.args.current.txn.core _ c.give_back.result c.give_back_counts_users.ensures c.give_back.ensures.leads (c.deref.ensures.value ∙ c.cancel-left.ensures.give_back) [] (λ t. omega arith)))

@@ -33,3 +33,11 @@ returns-in-Err-clause-acted g c = record {
   spare = ap (λ (p : PortsValue). p.spare) c.begun.ensures.same;
   counts = first_of (search rules, grind (arith, common_steps));
 }
+
+trial_1 : goal.returns-in-Ok-clause-acted
+trial_1 g c =
+    first_of (search (rules, keeps_cushion), search (rules, arith, common_steps, keeps_cushion), grind (arith, common_steps, keeps_cushion))
+
+trial_2 : goal.returns-in-Err-clause-acted
+trial_2 g c =
+    first_of (search (rules, keeps_cushion), search (rules, arith, common_steps, keeps_cushion), grind (arith, common_steps, keeps_cushion))

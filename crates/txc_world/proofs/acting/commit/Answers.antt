@@ -12,6 +12,8 @@ use Rattle.txc_world.proofs.Acted.{due_mid_call, due_no_call, refused_so}
 use Rattle.txc_world.specs.declared.actor.Actor.TheVariants.{Reading}
 use Rattle.txc_world.specs.declared.reply.Refusal.TheVariants.{MidCall}
 use Rattle.txc_world.specs.declared.step.Act.TheVariants.{Commit}
+use Rattle.std.proofs.Common.{rules}
+use Rattle.std.proofs.lemmas.Grind.{common_steps}
 use Rattle.txc_world.proofs.acting.commit.Goals as goal
 
 pub returns-then-is_some-clause-leads : goal.returns-then-is_some-clause-leads
@@ -52,3 +54,9 @@ returns-clause-acted g c = record {
     loss = tt;
   };
 }
+
+trial_1 : goal.returns-clause-acted
+trial_1 g c =
+    let explained = rw (c.finish-receipt.ensures.seen, c.finish-receipt.ensures.answers) at c.finish-receipt.ensures.explained in
+    let lent = subst (λ (p : PortsValue). Explains g.A.App.next p.database.history c.args.current.txn.core.bounds c.finish-receipt.result.0.pin c.args.current.txn.core.recorded) (sym c.give_back.ensures.same) (explained_later g.A.App.next c.args.current.txn.core.seen.history c.args.ports.now.database.history c.args.current.txn.core.bounds c.finish-receipt.result.0.pin c.args.current.txn.core.recorded c.requires.seen.begins explained) in
+    first_of (search (rules, lent, fair_ended c.args.ports.now c.give_back.new.self c.args.current.txn.core _ c.give_back.result c.give_back_counts_users.ensures c.give_back.ensures.leads (c.deref.ensures.value ∙ c.finish-receipt.ensures.give_back) [] (λ t. omega arith)), search (rules, arith, common_steps, lent, fair_ended c.args.ports.now c.give_back.new.self c.args.current.txn.core _ c.give_back.result c.give_back_counts_users.ensures c.give_back.ensures.leads (c.deref.ensures.value ∙ c.finish-receipt.ensures.give_back) [] (λ t. omega arith)), grind (arith, common_steps, lent, fair_ended c.args.ports.now c.give_back.new.self c.args.current.txn.core _ c.give_back.result c.give_back_counts_users.ensures c.give_back.ensures.leads (c.deref.ensures.value ∙ c.finish-receipt.ensures.give_back) [] (λ t. omega arith)))

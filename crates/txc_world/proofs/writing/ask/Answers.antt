@@ -11,7 +11,7 @@ use Rattle.txc_world.specs.declared.reply.Refusal.TheVariants.{MidCall}
 use Rattle.txc_world.specs.declared.step.Act.TheVariants.{Ask}
 use Rattle.txc_world.specs.Ports.{PortsValue}
 use Rattle.txc_world.proofs.PortsLemmas.{keeps_same}
-use Rattle.txc_world.proofs.Acted.{due_mid_call, due_no_call, refused_so}
+use Rattle.txc_world.proofs.Acted.{due_mid_call, refused_so}
 use Rattle.std.proofs.lemmas.Grind.{common_steps}
 use Rattle.txc_world.proofs.writing.ask.Goals as goal
 
@@ -50,3 +50,7 @@ returns-clause-acted g c = record {
       counts_based c.args.ports.now c.find-turn.new.ports c.args.current.core.base c.find-turn.new.core.base c.told_rows.result c.find-turn.ensures.same_ports c.find-turn.ensures.base
       (rows_lost (HasLost c.args.ports.now (based c.args.current.core.base)) c.find-turn.result c.told_rows.result c.told_rows.ensures c.find-turn.ensures.loss);
 }
+
+trial_1 : goal.returns-clause-acted
+trial_1 g c =
+    first_of (search (rules, keeps_same, counts_based c.args.ports.now c.find-turn.new.ports c.args.current.core.base c.find-turn.new.core.base c.told_rows.result c.find-turn.ensures.same_ports c.find-turn.ensures.base (rows_lost (HasLost c.args.ports.now (based c.args.current.core.base)) c.find-turn.result c.told_rows.result c.told_rows.ensures c.find-turn.ensures.loss)), search (rules, arith, common_steps, keeps_same, counts_based c.args.ports.now c.find-turn.new.ports c.args.current.core.base c.find-turn.new.core.base c.told_rows.result c.find-turn.ensures.same_ports c.find-turn.ensures.base (rows_lost (HasLost c.args.ports.now (based c.args.current.core.base)) c.find-turn.result c.told_rows.result c.told_rows.ensures c.find-turn.ensures.loss)), grind (arith, common_steps, keeps_same, counts_based c.args.ports.now c.find-turn.new.ports c.args.current.core.base c.find-turn.new.core.base c.told_rows.result c.find-turn.ensures.same_ports c.find-turn.ensures.base (rows_lost (HasLost c.args.ports.now (based c.args.current.core.base)) c.find-turn.result c.told_rows.result c.told_rows.ensures c.find-turn.ensures.loss)))

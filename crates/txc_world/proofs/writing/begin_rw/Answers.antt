@@ -33,3 +33,11 @@ returns-in-Err-clause-acted g c = record {
   counts =
       counts_unchanged c.args.ports.now c.hold.new.self nothing _ c.in-Err.ensures.leads.0 tt;
 }
+
+trial_1 : goal.returns-in-Ok-clause-acted
+trial_1 g c =
+    first_of (search (rules, subst (λ (b : ℕ). ActCounts c.args.ports.now c.hold.new.self nothing (based b) (Based c.in-Ok.base)) (sym c.begin-core.ensures.at_base) (counts_begun c.args.ports.now c.hold.new.self c.in-Ok.base c.in-Ok.ensures.leads)), search (rules, arith, common_steps, subst (λ (b : ℕ). ActCounts c.args.ports.now c.hold.new.self nothing (based b) (Based c.in-Ok.base)) (sym c.begin-core.ensures.at_base) (counts_begun c.args.ports.now c.hold.new.self c.in-Ok.base c.in-Ok.ensures.leads)), grind (arith, common_steps, subst (λ (b : ℕ). ActCounts c.args.ports.now c.hold.new.self nothing (based b) (Based c.in-Ok.base)) (sym c.begin-core.ensures.at_base) (counts_begun c.args.ports.now c.hold.new.self c.in-Ok.base c.in-Ok.ensures.leads)))
+
+trial_2 : goal.returns-in-Err-clause-acted
+trial_2 g c =
+    first_of (search (rules, counts_unchanged), search (rules, arith, common_steps, counts_unchanged), grind (arith, common_steps, counts_unchanged))

@@ -70,3 +70,11 @@ returns-in-Err-clause-acted g c = record {
     loss = tt;
   };
 }
+
+trial_1 : goal.returns-in-Ok-clause-acted
+trial_1 g c =
+    first_of (search (rules, explained_open g.A.App.next c.commit.new.self.database.history _ c.args.current.core c.in-Ok.stamp c.args.current.call (none_by_test c.args.current.call (sym c.is_some.ensures ∙ c.if-is_some.false)) (explained_lent g.A.App.next c.args.current.registry c.args.current.core c.args.ports.now.database c.requires.holds c.answers_are_right.ensures.base c.answers_are_right.ensures.quiet c.answers_are_right.ensures.event c.transactions_stay_right.ensures.longer c.states_stay.ensures.states c.states_stay.ensures.tags c.args.ports.now c.commit.new.self c.base-base.result c.tags-read.result.now c.changes-changes.result.now c.in-Ok.stamp refl c.in-Ok.ensures.leads c.base-base.ensures c.tags-read.ensures c.changes-changes.ensures.answer), fair_commit c.args.ports.now c.commit.new.self c.base-base.result c.args.current.core.base c.base-base.result c.in-Ok.stamp _ _ c.in-Ok.ensures.leads c.base-base.ensures), search (rules, arith, common_steps, explained_open g.A.App.next c.commit.new.self.database.history _ c.args.current.core c.in-Ok.stamp c.args.current.call (none_by_test c.args.current.call (sym c.is_some.ensures ∙ c.if-is_some.false)) (explained_lent g.A.App.next c.args.current.registry c.args.current.core c.args.ports.now.database c.requires.holds c.answers_are_right.ensures.base c.answers_are_right.ensures.quiet c.answers_are_right.ensures.event c.transactions_stay_right.ensures.longer c.states_stay.ensures.states c.states_stay.ensures.tags c.args.ports.now c.commit.new.self c.base-base.result c.tags-read.result.now c.changes-changes.result.now c.in-Ok.stamp refl c.in-Ok.ensures.leads c.base-base.ensures c.tags-read.ensures c.changes-changes.ensures.answer), fair_commit c.args.ports.now c.commit.new.self c.base-base.result c.args.current.core.base c.base-base.result c.in-Ok.stamp _ _ c.in-Ok.ensures.leads c.base-base.ensures), grind (arith, common_steps, explained_open g.A.App.next c.commit.new.self.database.history _ c.args.current.core c.in-Ok.stamp c.args.current.call (none_by_test c.args.current.call (sym c.is_some.ensures ∙ c.if-is_some.false)) (explained_lent g.A.App.next c.args.current.registry c.args.current.core c.args.ports.now.database c.requires.holds c.answers_are_right.ensures.base c.answers_are_right.ensures.quiet c.answers_are_right.ensures.event c.transactions_stay_right.ensures.longer c.states_stay.ensures.states c.states_stay.ensures.tags c.args.ports.now c.commit.new.self c.base-base.result c.tags-read.result.now c.changes-changes.result.now c.in-Ok.stamp refl c.in-Ok.ensures.leads c.base-base.ensures c.tags-read.ensures c.changes-changes.ensures.answer), fair_commit c.args.ports.now c.commit.new.self c.base-base.result c.args.current.core.base c.base-base.result c.in-Ok.stamp _ _ c.in-Ok.ensures.leads c.base-base.ensures))
+
+trial_2 : goal.returns-in-Err-clause-acted
+trial_2 g c =
+    first_of (search (rules, fair_not_committed c.args.ports.now c.commit.new.self c.base-base.result c.args.current.core.base _ _ c.in-Err.refusal c.in-Err.ensures.leads), search (rules, arith, common_steps, fair_not_committed c.args.ports.now c.commit.new.self c.base-base.result c.args.current.core.base _ _ c.in-Err.refusal c.in-Err.ensures.leads), grind (arith, common_steps, fair_not_committed c.args.ports.now c.commit.new.self c.base-base.result c.args.current.core.base _ _ c.in-Err.refusal c.in-Err.ensures.leads))

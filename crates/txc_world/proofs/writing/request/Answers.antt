@@ -6,6 +6,7 @@ use Rattle.txc_world.proofs.Leading.{noted_seen, some_there}
 use Rattle.txc_world.specs.Books.{HasLost}
 use Rattle.txc_world.proofs.Losing.{noted_lost}
 use Rattle.txc_world.proofs.WritingCounts.{asked_lost, based, counts_based}
+use Rattle.txc_world.specs.declared.reply.Reply.TheVariants.{Asked}
 use Rattle.std.proofs.Common.{rules, arith}
 use Rattle.txc_world.specs.Ports.{PortsValue}
 use Rattle.txc_world.proofs.PortsLemmas.{keeps_same}
@@ -49,3 +50,8 @@ returns-clause-acted g c =
             c.args.current.registry c.go_on-did.new.registry c.go_on-did.result.did c.go_on-did.result.turn c.go_on-did.ensures.asks loss),
       );
     }
+
+trial_1 : goal.returns-clause-acted
+trial_1 g c =
+    let loss = c.go_on-did.ensures.loss in
+    first_of (search (rules, keeps_same, counts_based c.args.ports.now c.go_on-did.new.ports c.args.current.core.base c.go_on-did.new.core.base (Asked c.go_on-did.result.did c.note-call.result.1) c.go_on-did.ensures.same_ports c.go_on-did.ensures.base (loss, noted_lost (HasLost c.args.ports.now (based c.args.current.core.base)) (opened c.in-Some.field-0.key) c.go_on-did.result.turn c.note-call.result.0 c.note-call.result.1 c.note-call.ensures (asked_lost (HasLost c.args.ports.now (based c.args.current.core.base)) g.A.App.next c.in-Some-asked.query c.args.ports.now c.args.current.core c.go_on-did.new.core c.args.current.registry c.go_on-did.new.registry c.go_on-did.result.did c.go_on-did.result.turn c.go_on-did.ensures.asks loss))), search (rules, arith, common_steps, keeps_same, counts_based c.args.ports.now c.go_on-did.new.ports c.args.current.core.base c.go_on-did.new.core.base (Asked c.go_on-did.result.did c.note-call.result.1) c.go_on-did.ensures.same_ports c.go_on-did.ensures.base (loss, noted_lost (HasLost c.args.ports.now (based c.args.current.core.base)) (opened c.in-Some.field-0.key) c.go_on-did.result.turn c.note-call.result.0 c.note-call.result.1 c.note-call.ensures (asked_lost (HasLost c.args.ports.now (based c.args.current.core.base)) g.A.App.next c.in-Some-asked.query c.args.ports.now c.args.current.core c.go_on-did.new.core c.args.current.registry c.go_on-did.new.registry c.go_on-did.result.did c.go_on-did.result.turn c.go_on-did.ensures.asks loss))), grind (arith, common_steps, keeps_same, counts_based c.args.ports.now c.go_on-did.new.ports c.args.current.core.base c.go_on-did.new.core.base (Asked c.go_on-did.result.did c.note-call.result.1) c.go_on-did.ensures.same_ports c.go_on-did.ensures.base (loss, noted_lost (HasLost c.args.ports.now (based c.args.current.core.base)) (opened c.in-Some.field-0.key) c.go_on-did.result.turn c.note-call.result.0 c.note-call.result.1 c.note-call.ensures (asked_lost (HasLost c.args.ports.now (based c.args.current.core.base)) g.A.App.next c.in-Some-asked.query c.args.ports.now c.args.current.core c.go_on-did.new.core c.args.current.registry c.go_on-did.new.registry c.go_on-did.result.did c.go_on-did.result.turn c.go_on-did.ensures.asks loss))))

@@ -3,7 +3,7 @@ use Rattle.txc_world.proofs.WritingLemmas.{fits_with, holds_with, none_by_test, 
 use Rattle.std.proofs.Common.{refl, ap}
 use Rattle.txc_rw.specs.Core.{RwValue}
 use Rattle.txc_world.specs.Books.{HasLost}
-use Rattle.txc_world.proofs.WritingCounts.{counts_based, loss_write}
+use Rattle.txc_world.proofs.WritingCounts.{based, counts_based, loss_write}
 use Rattle.std.specs.Option.{option_map}
 use Rattle.txc_world.specs.Cast.{call_value, writes}
 use Rattle.txc_world.proofs.Leading.{with_call, without_call}
@@ -14,6 +14,8 @@ use Rattle.txc_world.specs.declared.step.Act.TheVariants.{Write}
 use Rattle.txc_world.proofs.PortsLemmas.{keeps_itself}
 use Rattle.txc_world.proofs.Acted.{due_mid_call, due_no_call, refused_so}
 use Rattle.std.proofs.lemmas.Grind.{common_steps}
+use Rattle.txc_world.specs.declared.reply.Reply.TheVariants.{Kept, Refused}
+use Rattle.txc_world.specs.declared.reply.Refusal.TheVariants.{Transaction}
 use Rattle.txc_world.proofs.writing.write.Goals as goal
 
 pub returns-then-is_some-clause-leads : goal.returns-then-is_some-clause-leads
@@ -63,3 +65,11 @@ returns-in-Err-clause-acted g c = record {
       counts_based c.args.whole.now c.args.whole.now c.args.current.core.base c.keep_change.new.core.base _ refl (ap (λ (v : RwValue). v.base) c.in-Err.ensures.unchanged)
       (loss_write (HasLost c.args.whole.now (based c.args.current.core.base)) _ c.in-Err.error c.in-Err.ensures.refused);
 }
+
+trial_1 : goal.returns-in-Ok-clause-acted
+trial_1 g c =
+    first_of (search (rules, keeps_itself, fits_with g.A.App.next c.args.current.registry c.args.current.core c.keep_change.new.core _ c.in-Ok.ensures.after c.requires.fits, holds_with g.A.App.next c.args.whole.now.database.history c.args.current.registry c.args.current.core c.keep_change.new.core _ c.in-Ok.ensures.after c.requires.holds, still_open c.args.current.core c.keep_change.new.core _ c.args.current.call (none_by_test c.args.current.call (sym c.is_some.ensures ∙ c.if-is_some.false)) c.in-Ok.ensures.after c.requires.call, counts_based c.args.whole.now c.args.whole.now c.args.current.core.base c.keep_change.new.core.base Kept refl (ap (λ (v : RwValue). v.base) c.in-Ok.ensures.after) tt), search (rules, arith, common_steps, keeps_itself, fits_with g.A.App.next c.args.current.registry c.args.current.core c.keep_change.new.core _ c.in-Ok.ensures.after c.requires.fits, holds_with g.A.App.next c.args.whole.now.database.history c.args.current.registry c.args.current.core c.keep_change.new.core _ c.in-Ok.ensures.after c.requires.holds, still_open c.args.current.core c.keep_change.new.core _ c.args.current.call (none_by_test c.args.current.call (sym c.is_some.ensures ∙ c.if-is_some.false)) c.in-Ok.ensures.after c.requires.call, counts_based c.args.whole.now c.args.whole.now c.args.current.core.base c.keep_change.new.core.base Kept refl (ap (λ (v : RwValue). v.base) c.in-Ok.ensures.after) tt), grind (arith, common_steps, keeps_itself, fits_with g.A.App.next c.args.current.registry c.args.current.core c.keep_change.new.core _ c.in-Ok.ensures.after c.requires.fits, holds_with g.A.App.next c.args.whole.now.database.history c.args.current.registry c.args.current.core c.keep_change.new.core _ c.in-Ok.ensures.after c.requires.holds, still_open c.args.current.core c.keep_change.new.core _ c.args.current.call (none_by_test c.args.current.call (sym c.is_some.ensures ∙ c.if-is_some.false)) c.in-Ok.ensures.after c.requires.call, counts_based c.args.whole.now c.args.whole.now c.args.current.core.base c.keep_change.new.core.base Kept refl (ap (λ (v : RwValue). v.base) c.in-Ok.ensures.after) tt))
+
+trial_2 : goal.returns-in-Err-clause-acted
+trial_2 g c =
+    first_of (search (rules, keeps_itself, counts_based c.args.whole.now c.args.whole.now c.args.current.core.base c.keep_change.new.core.base (Refused (Transaction c.in-Err.error)) refl (ap (λ (v : RwValue). v.base) c.in-Err.ensures.unchanged) (loss_write (HasLost c.args.whole.now (based c.args.current.core.base)) _ c.in-Err.error c.in-Err.ensures.refused)), search (rules, arith, common_steps, keeps_itself, counts_based c.args.whole.now c.args.whole.now c.args.current.core.base c.keep_change.new.core.base (Refused (Transaction c.in-Err.error)) refl (ap (λ (v : RwValue). v.base) c.in-Err.ensures.unchanged) (loss_write (HasLost c.args.whole.now (based c.args.current.core.base)) _ c.in-Err.error c.in-Err.ensures.refused)), grind (arith, common_steps, keeps_itself, counts_based c.args.whole.now c.args.whole.now c.args.current.core.base c.keep_change.new.core.base (Refused (Transaction c.in-Err.error)) refl (ap (λ (v : RwValue). v.base) c.in-Err.ensures.unchanged) (loss_write (HasLost c.args.whole.now (based c.args.current.core.base)) _ c.in-Err.error c.in-Err.ensures.refused)))
