@@ -94,15 +94,13 @@ fn start<A: App, C: Cacheable>(
     current: OpenTxn<A, C>,
     key: &Key,
 ) -> (Actor<A, C>, Reply)
-    requires { IsOpenTxn (whole_of whole.now) (length whole.now.nodes) current }
+    requires fits { IsOpenTxn (whole_of whole.now) (length whole.now.nodes) current }
+    requires no_call { current.call ≡ None }
     ensures acted { IsActed A.next (Act.Start key.now) whole.now whole.now (Actor.Reading current) result.0 result.1 }
     ensures leads { (next : Next) (pass : ℕ) → ReadingLeads next pass (Act.Start key.now) whole.now whole.now
         (reading_value current) (actor_value result.0) result.1 }
 {
     let mut current = current;
-    if current.call.is_some() {
-        return (Actor::Reading(current), Reply::Refused(Refusal::MidCall));
-    }
     let turn = current.txn.start(alloc, key.copy());
     current.call = Some(OpenCall {
         key: key.copy(),
@@ -249,19 +247,14 @@ fn commit<A: App, C: Cacheable>(
     ports: &mut Ports<A>,
     current: OpenTxn<A, C>,
 ) -> (Actor<A, C>, Reply)
-    requires { IsOpenTxn (whole_of ports.old) (length ports.old.nodes) current }
+    requires fits { IsOpenTxn (whole_of ports.old) (length ports.old.nodes) current }
+    requires no_call { current.call ≡ None }
     ensures acted { IsActed A.next Act.Commit ports.old ports.new (Actor.Reading current) result.0 result.1 }
     ensures leads { (next : Next) (pass : ℕ) → ReadingLeads next pass Act.Commit ports.old ports.new
         (reading_value current) (actor_value result.0) result.1 }
 {
     give_back_counts_users();
-    let OpenTxn { txn, call } = current;
-    if call.is_some() {
-        return (
-            Actor::Reading(OpenTxn { txn, call }),
-            Reply::Refused(Refusal::MidCall),
-        );
-    }
+    let OpenTxn { txn, call: _ } = current;
     let (receipt, pins, registry) = txn.finish();
     let _ = ports.give_back(&pins);
     (Actor::Idle(registry), Reply::Receipt(receipt.pin))
@@ -322,10 +315,13 @@ fn act_open<A: App, C: Cacheable>(
             Reply::Refused(Refusal::AlreadyOpen),
         ),
         Act::Ask(_) | Act::Write(_) => (Actor::Reading(current), Reply::Refused(Refusal::NotOpen)),
-        Act::Start(key) => start(alloc, ports, current, key),
         Act::Request => request_call(alloc, ports, pass, current),
-        Act::Commit => commit(ports, current),
         Act::Abort => abort(ports, current),
+        _ if current.call.is_some() => {
+            (Actor::Reading(current), Reply::Refused(Refusal::MidCall))
+        }
+        Act::Start(key) => start(alloc, ports, current, key),
+        Act::Commit => commit(ports, current),
     }
 }
 

@@ -65,15 +65,13 @@ fn start<A: App, C: Cacheable>(
     current: OpenRw<A, C>,
     key: &Key,
 ) -> (Actor<A, C>, Reply)
-    requires { IsOpenRw A.next whole.now.database.history current }
+    requires fits { IsOpenRw A.next whole.now.database.history current }
+    requires no_call { current.call ≡ None }
     ensures acted { IsActed A.next (Act.Start key.now) whole.now whole.now (Actor.Writing current) result.0 result.1 }
     ensures leads { WritingLeads A.next (Act.Start key.now) whole.now whole.now (writing_value current)
         (actor_value result.0) result.1 }
 {
     let mut current = current;
-    if current.call.is_some() {
-        return (Actor::Writing(current), Reply::Refused(Refusal::MidCall));
-    }
     let turn = current.core.start(alloc, &mut current.registry, key.copy());
     current.call = Some(OpenCall {
         key: key.copy(),
@@ -249,14 +247,12 @@ fn ask<A: App, C: Cacheable>(
     current: OpenRw<A, C>,
     query: &Query,
 ) -> (Actor<A, C>, Reply)
-    requires { IsOpenRw A.next ports.old.database.history current }
+    requires fits { IsOpenRw A.next ports.old.database.history current }
+    requires no_call { current.call ≡ None }
     ensures acted { IsActed A.next (Act.Ask query.now) ports.old ports.new (Actor.Writing current) result.0 result.1 }
     ensures leads { WritingLeads A.next (Act.Ask query.now) ports.old ports.new (writing_value current)
         (actor_value result.0) result.1 }
 {
-    if current.call.is_some() {
-        return (Actor::Writing(current), Reply::Refused(Refusal::MidCall));
-    }
     let OpenRw {
         mut core,
         mut registry,
@@ -293,15 +289,13 @@ fn write<A: App, C: Cacheable>(
     current: OpenRw<A, C>,
     change: &Change,
 ) -> (Actor<A, C>, Reply)
-    requires { IsOpenRw A.next whole.now.database.history current }
+    requires fits { IsOpenRw A.next whole.now.database.history current }
+    requires no_call { current.call ≡ None }
     ensures acted { IsActed A.next (Act.Write change.now) whole.now whole.now (Actor.Writing current) result.0 result.1 }
     ensures leads { WritingLeads A.next (Act.Write change.now) whole.now whole.now (writing_value current)
         (actor_value result.0) result.1 }
 {
     let mut current = current;
-    if current.call.is_some() {
-        return (Actor::Writing(current), Reply::Refused(Refusal::MidCall));
-    }
     match keep_change(alloc, &mut current.core, change) {
         Ok(()) => (Actor::Writing(current), Reply::Kept),
         Err(error) => (
@@ -318,7 +312,8 @@ fn commit<A: App, C: Cacheable>(
     ports: &mut Ports<A>,
     current: OpenRw<A, C>,
 ) -> (Actor<A, C>, Reply)
-    requires { IsOpenRw A.next ports.old.database.history current }
+    requires fits { IsOpenRw A.next ports.old.database.history current }
+    requires no_call { current.call ≡ None }
     ensures acted { IsActed A.next Act.Commit ports.old ports.new (Actor.Writing current) result.0 result.1 }
     ensures leads { WritingLeads A.next Act.Commit ports.old ports.new (writing_value current)
         (actor_value result.0) result.1 }
@@ -327,9 +322,6 @@ fn commit<A: App, C: Cacheable>(
     transactions_stay_right();
     states_stay();
     let mut current = current;
-    if current.call.is_some() {
-        return (Actor::Writing(current), Reply::Refused(Refusal::MidCall));
-    }
     let base = current.core.base();
     let read = current.core.tags();
     let changes = current.core.changes();
@@ -378,11 +370,14 @@ pub(crate) fn act_writing<A: App, C: Cacheable>(
             Actor::Writing(current),
             Reply::Refused(Refusal::AlreadyOpen),
         ),
-        Act::Start(key) => start(alloc, ports, current, key),
         Act::Request => request(alloc, ports, current),
+        Act::Abort => abort(ports, current),
+        _ if current.call.is_some() => {
+            (Actor::Writing(current), Reply::Refused(Refusal::MidCall))
+        }
+        Act::Start(key) => start(alloc, ports, current, key),
         Act::Ask(query) => ask(alloc, ports, current, query),
         Act::Write(change) => write(alloc, ports, current, change),
         Act::Commit => commit(alloc, ports, current),
-        Act::Abort => abort(ports, current),
     }
 }

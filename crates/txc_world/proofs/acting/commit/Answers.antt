@@ -5,22 +5,12 @@ use Rattle.txc_world.proofs.Explaining.{explained_later}
 use Rattle.std.proofs.Common.{◌∙◌, [], arith}
 use Rattle.txc_world.proofs.Fairness.{fair_ended}
 use Rattle.txc_world.specs.declared.reply.Reply.TheVariants.{Receipt}
-use Rattle.txc_world.specs.Cast.{call_value, resting}
+use Rattle.txc_world.specs.Cast.{resting}
 use Rattle.txc_world.specs.Keeping.{GiveBackLeads}
-use Rattle.txc_world.proofs.Leading.{with_call, without_call}
-use Rattle.txc_world.proofs.Acted.{due_mid_call, due_no_call, refused_so}
-use Rattle.txc_world.specs.declared.actor.Actor.TheVariants.{Reading}
-use Rattle.txc_world.specs.declared.reply.Refusal.TheVariants.{MidCall}
-use Rattle.txc_world.specs.declared.step.Act.TheVariants.{Commit}
-use Rattle.std.proofs.Common.{rules}
-use Rattle.std.proofs.lemmas.Grind.{common_steps}
 use Rattle.txc_world.proofs.acting.commit.Goals as goal
 
-pub returns-then-is_some-clause-leads : goal.returns-then-is_some-clause-leads
-returns-then-is_some-clause-leads g c = λ next pass. with_call call_value _ _ c.args.current.call (sym c.is_some.ensures ∙ c.if-is_some.true) (λ call. (refl, refl))
-
 pub returns-clause-leads : goal.returns-clause-leads
-returns-clause-leads g c = λ next pass. without_call call_value _ _ c.args.current.call (sym c.is_some.ensures ∙ c.if-is_some.false) (
+returns-clause-leads g c = λ next pass. rw c.requires.no_call (
   (
     c.give_back.result,
     subst (λ (l : List ℕ). GiveBackLeads l c.args.ports.now c.give_back.new.self c.give_back.result)
@@ -30,22 +20,18 @@ returns-clause-leads g c = λ next pass. without_call call_value _ _ c.args.curr
   ap Receipt c.finish-receipt.ensures.pin,
 )
 
-pub returns-then-is_some-clause-acted : goal.returns-then-is_some-clause-acted
-returns-then-is_some-clause-acted g c =
-    refused_so g.A.App.next Commit c.args.ports.now (Reading c.args.current) MidCall c.requires (due_mid_call c.args.current.call _ (sym c.is_some.ensures ∙ c.if-is_some.true)) tt
-
 pub returns-clause-acted : goal.returns-clause-acted
 returns-clause-acted g c = record {
   fits = c.finish-receipt.ensures.idle;
   told = refl;
   history = ap (λ (p : PortsValue). p.database.history) c.give_back.ensures.same;
-  due = due_no_call c.args.current.call _ _ (sym c.is_some.ensures ∙ c.if-is_some.false) tt;
+  due = rw c.requires.no_call tt;
   explained =
       let explained = rw (c.finish-receipt.ensures.seen, c.finish-receipt.ensures.answers) at c.finish-receipt.ensures.explained in
       subst (λ (p : PortsValue). Explains g.A.App.next p.database.history c.args.current.txn.core.bounds c.finish-receipt.result.0.pin c.args.current.txn.core.recorded)
       (sym c.give_back.ensures.same)
       (explained_later g.A.App.next c.args.current.txn.core.seen.history c.args.ports.now.database.history
-      c.args.current.txn.core.bounds c.finish-receipt.result.0.pin c.args.current.txn.core.recorded c.requires.seen.begins explained);
+      c.args.current.txn.core.bounds c.finish-receipt.result.0.pin c.args.current.txn.core.recorded c.requires.fits.seen.begins explained);
   keeps = c.give_back.ensures.keeps;
   spare = ap (λ (p : PortsValue). p.spare) c.give_back.ensures.same;
   counts = record {
@@ -54,9 +40,3 @@ returns-clause-acted g c = record {
     loss = tt;
   };
 }
-
-trial_1 : goal.returns-clause-acted
-trial_1 g c =
-    let explained = rw (c.finish-receipt.ensures.seen, c.finish-receipt.ensures.answers) at c.finish-receipt.ensures.explained in
-    let lent = subst (λ (p : PortsValue). Explains g.A.App.next p.database.history c.args.current.txn.core.bounds c.finish-receipt.result.0.pin c.args.current.txn.core.recorded) (sym c.give_back.ensures.same) (explained_later g.A.App.next c.args.current.txn.core.seen.history c.args.ports.now.database.history c.args.current.txn.core.bounds c.finish-receipt.result.0.pin c.args.current.txn.core.recorded c.requires.seen.begins explained) in
-    first_of (search (rules, lent, fair_ended c.args.ports.now c.give_back.new.self c.args.current.txn.core _ c.give_back.result c.give_back_counts_users.ensures c.give_back.ensures.leads (c.deref.ensures.value ∙ c.finish-receipt.ensures.give_back) [] (λ t. omega arith)), search (rules, arith, common_steps, lent, fair_ended c.args.ports.now c.give_back.new.self c.args.current.txn.core _ c.give_back.result c.give_back_counts_users.ensures c.give_back.ensures.leads (c.deref.ensures.value ∙ c.finish-receipt.ensures.give_back) [] (λ t. omega arith)), grind (arith, common_steps, lent, fair_ended c.args.ports.now c.give_back.new.self c.args.current.txn.core _ c.give_back.result c.give_back_counts_users.ensures c.give_back.ensures.leads (c.deref.ensures.value ∙ c.finish-receipt.ensures.give_back) [] (λ t. omega arith)))

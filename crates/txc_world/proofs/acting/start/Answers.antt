@@ -1,8 +1,7 @@
 use Rattle.std.proofs.Common.{Some, refl, ap, sym, subst, ◌∙◌}
 use Rattle.txc_tags.specs.Keys.{Call}
 use Rattle.txc_txn.specs.Leading.{StartLeads}
-use Rattle.txc_world.specs.Cast.{call_value, called, reads}
-use Rattle.txc_world.proofs.Leading.{with_call, without_call}
+use Rattle.txc_world.specs.Cast.{called, reads}
 use Rattle.txc_db.specs.Seen.{FrontValue}
 use Rattle.txc_txn.specs.Core.{CoreValue}
 use Rattle.txc_txn.proofs.Offered.{adds_none}
@@ -10,19 +9,12 @@ use Rattle.txc_world.specs.Parts.{IsPartOf}
 use Rattle.txc_world.specs.Ports.{whole_of}
 use Rattle.txc_world.proofs.Losing.{none_left, start_not_lost}
 use Rattle.std.proofs.Common.{rules, arith}
-use Rattle.txc_world.specs.declared.actor.Actor.TheVariants.{Reading}
-use Rattle.txc_world.specs.declared.reply.Refusal.TheVariants.{MidCall}
-use Rattle.txc_world.specs.declared.step.Act.TheVariants.{Start}
 use Rattle.txc_world.proofs.PortsLemmas.{keeps_itself}
-use Rattle.txc_world.proofs.Acted.{due_mid_call, due_no_call, refused_so}
 use Rattle.std.proofs.lemmas.Grind.{common_steps}
 use Rattle.txc_world.proofs.acting.start.Goals as goal
 
-pub returns-then-is_some-clause-leads : goal.returns-then-is_some-clause-leads
-returns-then-is_some-clause-leads g c = λ next pass. with_call call_value _ _ c.args.current.call (sym c.is_some.ensures ∙ c.if-is_some.true) (λ call. (refl, refl))
-
 pub returns-clause-leads : goal.returns-clause-leads
-returns-clause-leads g c = λ next pass. without_call call_value _ _ c.args.current.call (sym c.is_some.ensures ∙ c.if-is_some.false) (
+returns-clause-leads g c = λ next pass. rw c.requires.no_call (
   refl,
   record {
     txn = c.start-turn.new.self;
@@ -33,18 +25,13 @@ returns-clause-leads g c = λ next pass. without_call call_value _ _ c.args.curr
   },
 )
 
-pub returns-then-is_some-clause-acted : goal.returns-then-is_some-clause-acted
-returns-then-is_some-clause-acted g c =
-    refused_so g.A.App.next (Start c.args.key.now) c.args.whole.now (Reading c.args.current) MidCall c.requires
-    (due_mid_call c.args.current.call _ (sym c.is_some.ensures ∙ c.if-is_some.true)) tt
-
 pub returns-clause-acted : goal.returns-clause-acted
 returns-clause-acted g c =
     let same = c.start-turn.ensures.same in
     record {
       fits = record {
-        seen = subst (λ (f : FrontValue). IsPartOf (whole_of c.args.whole.now) f) (sym (ap (λ (v : CoreValue). v.seen) same)) c.requires.seen;
-        nodes = ap (λ (v : CoreValue). v.nodes) same ∙ c.requires.nodes;
+        seen = subst (λ (f : FrontValue). IsPartOf (whole_of c.args.whole.now) f) (sym (ap (λ (v : CoreValue). v.seen) same)) c.requires.fits.seen;
+        nodes = ap (λ (v : CoreValue). v.nodes) same ∙ c.requires.fits.nodes;
         call = record {
           turn = c.start-turn.ensures.turn;
           no_value = c.start-turn.ensures.no_value;
@@ -57,7 +44,7 @@ returns-clause-acted g c =
       };
       told = first_of (search rules, grind (arith, common_steps));
       history = refl;
-      due = due_no_call c.args.current.call _ _ (sym c.is_some.ensures ∙ c.if-is_some.false) refl;
+      due = rw c.requires.no_call refl;
       explained = tt;
       keeps = keeps_itself c.args.whole.now;
       spare = refl;

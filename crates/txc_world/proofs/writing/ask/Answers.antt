@@ -1,25 +1,17 @@
 use Rattle.txc_world.specs.Books.{HasLost}
 use Rattle.txc_world.proofs.Losing.{rows_lost}
 use Rattle.txc_world.proofs.WritingCounts.{based, counts_based}
-use Rattle.std.proofs.Common.{None, refl, ap, sym, ◌∙◌}
+use Rattle.std.proofs.Common.{None, ap}
 use Rattle.txc_registry.specs.Objects.{Objects}
-use Rattle.txc_world.specs.Cast.{call_value, writes}
-use Rattle.txc_world.proofs.Leading.{with_call, without_call}
+use Rattle.txc_world.specs.Cast.{writes}
 use Rattle.std.proofs.Common.{rules, arith}
-use Rattle.txc_world.specs.declared.actor.Actor.TheVariants.{Writing}
-use Rattle.txc_world.specs.declared.reply.Refusal.TheVariants.{MidCall}
-use Rattle.txc_world.specs.declared.step.Act.TheVariants.{Ask}
 use Rattle.txc_world.specs.Ports.{PortsValue}
 use Rattle.txc_world.proofs.PortsLemmas.{keeps_same}
-use Rattle.txc_world.proofs.Acted.{due_mid_call, refused_so}
 use Rattle.std.proofs.lemmas.Grind.{common_steps}
 use Rattle.txc_world.proofs.writing.ask.Goals as goal
 
-pub returns-then-is_some-clause-leads : goal.returns-then-is_some-clause-leads
-returns-then-is_some-clause-leads g c = with_call call_value _ _ c.args.current.call (sym c.is_some.ensures ∙ c.if-is_some.true) (λ call. (refl, refl))
-
 pub returns-clause-leads : goal.returns-clause-leads
-returns-clause-leads g c = without_call call_value _ _ c.args.current.call (sym c.is_some.ensures ∙ c.if-is_some.false) (
+returns-clause-leads g c = rw c.requires.no_call (
   c.find-turn.ensures.same_ports,
   record {
     core = c.find-turn.new.core;
@@ -31,11 +23,6 @@ returns-clause-leads g c = without_call call_value _ _ c.args.current.call (sym 
     same = c.find-turn.ensures.same;
   },
 )
-
-pub returns-then-is_some-clause-acted : goal.returns-then-is_some-clause-acted
-returns-then-is_some-clause-acted g c =
-    refused_so g.A.App.next (Ask c.args.query.now) c.args.ports.now (Writing c.args.current) MidCall c.requires
-    (due_mid_call c.args.current.call _ (sym c.is_some.ensures ∙ c.if-is_some.true)) tt
 
 pub returns-clause-acted : goal.returns-clause-acted
 returns-clause-acted g c = record {
@@ -50,7 +37,3 @@ returns-clause-acted g c = record {
       counts_based c.args.ports.now c.find-turn.new.ports c.args.current.core.base c.find-turn.new.core.base c.told_rows.result c.find-turn.ensures.same_ports c.find-turn.ensures.base
       (rows_lost (HasLost c.args.ports.now (based c.args.current.core.base)) c.find-turn.result c.told_rows.result c.told_rows.ensures c.find-turn.ensures.loss);
 }
-
-trial_1 : goal.returns-clause-acted
-trial_1 g c =
-    first_of (search (rules, keeps_same, counts_based c.args.ports.now c.find-turn.new.ports c.args.current.core.base c.find-turn.new.core.base c.told_rows.result c.find-turn.ensures.same_ports c.find-turn.ensures.base (rows_lost (HasLost c.args.ports.now (based c.args.current.core.base)) c.find-turn.result c.told_rows.result c.told_rows.ensures c.find-turn.ensures.loss)), search (rules, arith, common_steps, keeps_same, counts_based c.args.ports.now c.find-turn.new.ports c.args.current.core.base c.find-turn.new.core.base c.told_rows.result c.find-turn.ensures.same_ports c.find-turn.ensures.base (rows_lost (HasLost c.args.ports.now (based c.args.current.core.base)) c.find-turn.result c.told_rows.result c.told_rows.ensures c.find-turn.ensures.loss)), grind (arith, common_steps, keeps_same, counts_based c.args.ports.now c.find-turn.new.ports c.args.current.core.base c.find-turn.new.core.base c.told_rows.result c.find-turn.ensures.same_ports c.find-turn.ensures.base (rows_lost (HasLost c.args.ports.now (based c.args.current.core.base)) c.find-turn.result c.told_rows.result c.told_rows.ensures c.find-turn.ensures.loss)))

@@ -7,25 +7,17 @@ use Rattle.txc_call.specs.declared.error.CallError.TheVariants.{NoFunction}
 use Rattle.txc_ports.specs.declared.error.TxnError.TheVariants.{Call as CallRefused}
 use Rattle.txc_ports.specs.declared.turn.Turn.TheVariants as turns
 use Rattle.txc_rw.specs.Leading.{standing_of, CallLeads}
-use Rattle.txc_world.specs.Cast.{call_value, called, writes}
-use Rattle.txc_world.proofs.Leading.{with_call, without_call}
+use Rattle.txc_world.specs.Cast.{called, writes}
 use Rattle.txc_rw.specs.Core.{RwValue}
 use Rattle.txc_world.specs.Actors.{told_answers}
-use Rattle.txc_world.proofs.WritingLemmas.{answers_at_start, none_by_test, told_at_start, writing_same}
+use Rattle.txc_world.proofs.WritingLemmas.{answers_at_start, told_at_start, writing_same}
 use Rattle.txc_world.proofs.Losing.{rw_start_not_lost}
 use Rattle.txc_world.proofs.WritingCounts.{counts_based}
-use Rattle.txc_world.specs.declared.actor.Actor.TheVariants.{Writing}
-use Rattle.txc_world.specs.declared.reply.Refusal.TheVariants.{MidCall}
-use Rattle.txc_world.specs.declared.step.Act.TheVariants.{Start}
 use Rattle.txc_world.proofs.PortsLemmas.{keeps_itself}
-use Rattle.txc_world.proofs.Acted.{due_mid_call, due_no_call, refused_so}
 use Rattle.txc_world.proofs.writing.start.Goals as goal
 
-pub returns-then-is_some-clause-leads : goal.returns-then-is_some-clause-leads
-returns-then-is_some-clause-leads g c = with_call call_value _ _ c.args.current.call (sym c.is_some.ensures ∙ c.if-is_some.true) (λ call. (refl, refl))
-
 pub returns-clause-leads : goal.returns-clause-leads
-returns-clause-leads g c = without_call call_value _ _ c.args.current.call (sym c.is_some.ensures ∙ c.if-is_some.false) (
+returns-clause-leads g c = rw c.requires.no_call (
   refl,
   record {
     core = c.start-turn.new.self;
@@ -43,16 +35,11 @@ returns-clause-leads g c = without_call call_value _ _ c.args.current.call (sym 
   },
 )
 
-pub returns-then-is_some-clause-acted : goal.returns-then-is_some-clause-acted
-returns-then-is_some-clause-acted g c =
-    refused_so g.A.App.next (Start c.args.key.now) c.args.whole.now (Writing c.args.current) MidCall c.requires
-    (due_mid_call c.args.current.call _ (sym c.is_some.ensures ∙ c.if-is_some.true)) tt
-
 pub returns-clause-acted : goal.returns-clause-acted
 returns-clause-acted g c = record {
   fits = record {
     fits = c.start-turn.ensures.fits;
-    holds = c.start-turn.ensures.holds c.args.whole.now.database.history c.requires.holds;
+    holds = c.start-turn.ensures.holds c.args.whole.now.database.history c.requires.fits.holds;
     call = record {
       turn = c.start-turn.ensures.turn;
       kind = c.start-turn.ensures.kind;
@@ -65,13 +52,13 @@ returns-clause-acted g c = record {
     };
   };
   told =
-      let none = none_by_test c.args.current.call (sym c.is_some.ensures ∙ c.if-is_some.false) in
+      let none = c.requires.no_call in
       writing_same _ _ _ _ _ _ _ _ (ap (λ (v : RwValue). v.base) c.start-turn.ensures.same) (ap Some c.copy-2.ensures)
       (told_at_start c.args.current.core.answers c.start-turn.new.self.answers c.copy.result c.start-turn.result c.start-turn.ensures.kind c.start-turn.ensures.answers
       ∙ ap (λ call. told_answers call c.args.current.core.answers) (sym none))
       (ap (λ (v : RwValue). v.changes) c.start-turn.ensures.same);
   history = refl;
-  due = due_no_call c.args.current.call _ _ (sym c.is_some.ensures ∙ c.if-is_some.false) refl;
+  due = rw c.requires.no_call refl;
   explained = tt;
   keeps = keeps_itself c.args.whole.now;
   spare = refl;
