@@ -17,10 +17,10 @@ returns g c =
     let new = value_of c.go_on-in-Err.new.self in
     let gone : kept c.in-Some.hit.answer.reach c.args.self.now.pins.members ≡ [] = c.in-Err.ensures.refused.0 refl in
     let leads : ReplyLeads g.A.App.next old c.args.registry.now (ports.Lookup c.args.hit) new c.go_on-in-Err.new.registry c.go_on-in-Err.result =
-        rw c.in-Some.is (λ k is. record {
-          held = λ some. absurd (some gone);
-          none = λ none.
-              subst (λ (v : CoreValue). CallLeads g.A.App.next v c.args.registry.now (needs.Lookup k) replies.Miss new c.go_on-in-Err.new.registry c.go_on-in-Err.result)
-              c.narrow.ensures.same (c.go_on-in-Err.ensures.leads (needs.Lookup k) (ap (λ (v : CoreValue). v.call.need) c.narrow.ensures.same ∙ is));
-        }) in
+    rw c.in-Some.is (λ k is. record {
+      held = λ some. absurd (some gone);
+      none = λ none.
+          subst (λ (v : CoreValue). CallLeads g.A.App.next v c.args.registry.now (needs.Lookup k) replies.Miss new c.go_on-in-Err.new.registry c.go_on-in-Err.result)
+          c.narrow.ensures.same (c.go_on-in-Err.ensures.leads (needs.Lookup k) (ap (λ (v : CoreValue). v.call.need) c.narrow.ensures.same ∙ is));
+    }) in
     search (rules, leads)

@@ -20,7 +20,7 @@ returns-clause-gone_on g c =
     let next = g.A.App.next in
     let new = value_of c.answer.new.self in
     let leads = leads_seen next (value_of c.args.self.now) c.see.new.self.seen c.args.registry.now c.args.reply new c.answer.new.registry c.answer.result
-        (subst (λ (v : CoreValue). ReplyLeads next v c.args.registry.now c.args.reply new c.answer.new.registry c.answer.result) c.see.ensures.same c.answer.ensures.leads) in
+    (subst (λ (v : CoreValue). ReplyLeads next v c.args.registry.now c.args.reply new c.answer.new.registry c.answer.result) c.see.ensures.same c.answer.ensures.leads) in
     let pins = subst (λ (p : PinSetValue). PinsAfter (record (value_of c.args.self.now) { pins = p }) c.args.reply new.pins)
-        (ap (λ (v : CoreValue). v.pins) c.see.ensures.same) c.answer.ensures.pins in
+    (ap (λ (v : CoreValue). v.pins) c.see.ensures.same) c.answer.ensures.pins in
     search (rules, leads, pins)
