@@ -1,10 +1,8 @@
-use Rattle.std.proofs.Common.{◌≡◌, ◌∙◌, ℕ, List, Some, None, [], ◌∷◌, arith, ap, refl, sym, subst}
+use Rattle.std.proofs.Common.{◌≡◌, ◌∙◌, ℕ, List, Some, None, [], ◌∷◌, arith, refl, sym, subst}
 use Rattle.txc_txn.specs.Core.{left_pin}
 use Rattle.txc_world.proofs.Fairness.{fair_ended}
 use Rattle.txc_world.specs.Keeping.{GiveBackLeads}
-use Rattle.txc_world.specs.Ports.{PortsValue}
 use Rattle.std.proofs.Common.{rules}
-use Rattle.std.proofs.lemmas.Grind.{common_steps}
 use Rattle.txc_world.proofs.acting.abort.Goals as goal
 
 pub returns-in-Some-clause-leads : goal.returns-in-Some-clause-leads
@@ -36,42 +34,12 @@ returns-clause-leads g c = λ next pass.
 pub returns-in-Some-clause-acted : goal.returns-in-Some-clause-acted
 returns-in-Some-clause-acted g c =
     let is : left_pin c.args.current.txn.core.pinning ≡ Some c.in-Some.stamp = sym c.cancel-left.ensures.unpin ∙ c.in-Some.is in
-    record {
-      fits = c.cancel-left.ensures.idle;
-      told = refl;
-      history = ap (λ (p : PortsValue). p.database.history) c.give_back.ensures.same;
-      due = tt;
-      explained = tt;
-      keeps = c.give_back.ensures.keeps;
-      spare = ap (λ (p : PortsValue). p.spare) c.give_back.ensures.same;
-      counts = record {
-        fair = fair_ended c.args.ports.now c.give_back.new.self c.args.current.txn.core _ c.give_back.result c.give_back_counts_users.ensures c.give_back.ensures.leads
-            (c.deref.ensures.value ∙ c.cancel-left.ensures.give_back) (c.in-Some.stamp ∷ []) (λ t. rw is (omega arith));
-        loss = tt;
-      };
-    }
+    let fair = fair_ended c.args.ports.now c.give_back.new.self c.args.current.txn.core _ c.give_back.result c.give_back_counts_users.ensures c.give_back.ensures.leads
+    (c.deref.ensures.value ∙ c.cancel-left.ensures.give_back) (c.in-Some.stamp ∷ []) (λ t. rw is (omega arith)) in
+    search (rules, fair)
 
 pub returns-clause-acted : goal.returns-clause-acted
-returns-clause-acted g c = record {
-  fits = c.cancel-left.ensures.idle;
-  told = refl;
-  history = ap (λ (p : PortsValue). p.database.history) c.give_back.ensures.same;
-  due = tt;
-  explained = tt;
-  keeps = c.give_back.ensures.keeps;
-  spare = ap (λ (p : PortsValue). p.spare) c.give_back.ensures.same;
-  counts = record {
-    fair = fair_ended c.args.ports.now c.give_back.new.self c.args.current.txn.core _ c.give_back.result c.give_back_counts_users.ensures c.give_back.ensures.leads
-        (c.deref.ensures.value ∙ c.cancel-left.ensures.give_back) [] (λ t. omega arith);
-    loss = tt;
-  };
-}
-
-trial_1 : goal.returns-in-Some-clause-acted
-trial_1 g c =
-    let is : left_pin c.args.current.txn.core.pinning ≡ Some c.in-Some.stamp = sym c.cancel-left.ensures.unpin ∙ c.in-Some.is in
-    first_of (search (rules, fair_ended c.args.ports.now c.give_back.new.self c.args.current.txn.core _ c.give_back.result c.give_back_counts_users.ensures c.give_back.ensures.leads (c.deref.ensures.value ∙ c.cancel-left.ensures.give_back) (c.in-Some.stamp ∷ []) (λ t. rw is (omega arith))), search (rules, arith, common_steps, fair_ended c.args.ports.now c.give_back.new.self c.args.current.txn.core _ c.give_back.result c.give_back_counts_users.ensures c.give_back.ensures.leads (c.deref.ensures.value ∙ c.cancel-left.ensures.give_back) (c.in-Some.stamp ∷ []) (λ t. rw is (omega arith))), grind (arith, common_steps, fair_ended c.args.ports.now c.give_back.new.self c.args.current.txn.core _ c.give_back.result c.give_back_counts_users.ensures c.give_back.ensures.leads (c.deref.ensures.value ∙ c.cancel-left.ensures.give_back) (c.in-Some.stamp ∷ []) (λ t. rw is (omega arith))))
-
-trial_2 : goal.returns-clause-acted
-trial_2 g c =
-    first_of (search (rules, fair_ended c.args.ports.now c.give_back.new.self c.args.current.txn.core _ c.give_back.result c.give_back_counts_users.ensures c.give_back.ensures.leads (c.deref.ensures.value ∙ c.cancel-left.ensures.give_back) [] (λ t. omega arith)), search (rules, arith, common_steps, fair_ended c.args.ports.now c.give_back.new.self c.args.current.txn.core _ c.give_back.result c.give_back_counts_users.ensures c.give_back.ensures.leads (c.deref.ensures.value ∙ c.cancel-left.ensures.give_back) [] (λ t. omega arith)), grind (arith, common_steps, fair_ended c.args.ports.now c.give_back.new.self c.args.current.txn.core _ c.give_back.result c.give_back_counts_users.ensures c.give_back.ensures.leads (c.deref.ensures.value ∙ c.cancel-left.ensures.give_back) [] (λ t. omega arith)))
+returns-clause-acted g c =
+    let fair = fair_ended c.args.ports.now c.give_back.new.self c.args.current.txn.core _ c.give_back.result c.give_back_counts_users.ensures c.give_back.ensures.leads
+    (c.deref.ensures.value ∙ c.cancel-left.ensures.give_back) [] (λ t. omega arith) in
+    search (rules, fair)

@@ -1,4 +1,4 @@
-use Rattle.std.proofs.Common.{ℕ, List, ap, refl, subst, sym}
+use Rattle.std.proofs.Common.{ℕ, List, ap, subst, sym}
 use Rattle.txc_txn.specs.Core.{Explains}
 use Rattle.txc_world.specs.Ports.{PortsValue}
 use Rattle.txc_world.proofs.Explaining.{explained_later}
@@ -7,6 +7,7 @@ use Rattle.txc_world.proofs.Fairness.{fair_ended}
 use Rattle.txc_world.specs.declared.reply.Reply.TheVariants.{Receipt}
 use Rattle.txc_world.specs.Cast.{resting}
 use Rattle.txc_world.specs.Keeping.{GiveBackLeads}
+use Rattle.std.proofs.Common.{rules}
 use Rattle.txc_world.proofs.acting.commit.Goals as goal
 
 pub returns-clause-leads : goal.returns-clause-leads
@@ -21,22 +22,13 @@ returns-clause-leads g c = λ next pass. rw c.requires.no_call (
 )
 
 pub returns-clause-acted : goal.returns-clause-acted
-returns-clause-acted g c = record {
-  fits = c.finish-receipt.ensures.idle;
-  told = refl;
-  history = ap (λ (p : PortsValue). p.database.history) c.give_back.ensures.same;
-  due = rw c.requires.no_call tt;
-  explained =
-      let explained = rw (c.finish-receipt.ensures.seen, c.finish-receipt.ensures.answers) at c.finish-receipt.ensures.explained in
-      subst (λ (p : PortsValue). Explains g.A.App.next p.database.history c.args.current.txn.core.bounds c.finish-receipt.result.0.pin c.args.current.txn.core.recorded)
-      (sym c.give_back.ensures.same)
-      (explained_later g.A.App.next c.args.current.txn.core.seen.history c.args.ports.now.database.history
-      c.args.current.txn.core.bounds c.finish-receipt.result.0.pin c.args.current.txn.core.recorded c.requires.fits.seen.begins explained);
-  keeps = c.give_back.ensures.keeps;
-  spare = ap (λ (p : PortsValue). p.spare) c.give_back.ensures.same;
-  counts = record {
-    fair = fair_ended c.args.ports.now c.give_back.new.self c.args.current.txn.core _ c.give_back.result c.give_back_counts_users.ensures c.give_back.ensures.leads
-        (c.deref.ensures.value ∙ c.finish-receipt.ensures.give_back) [] (λ t. omega arith);
-    loss = tt;
-  };
-}
+returns-clause-acted g c =
+    let explained = rw (c.finish-receipt.ensures.seen, c.finish-receipt.ensures.answers) at c.finish-receipt.ensures.explained in
+    let later =
+    subst (λ (p : PortsValue). Explains g.A.App.next p.database.history c.args.current.txn.core.bounds c.finish-receipt.result.0.pin c.args.current.txn.core.recorded)
+    (sym c.give_back.ensures.same)
+    (explained_later g.A.App.next c.args.current.txn.core.seen.history c.args.ports.now.database.history
+    c.args.current.txn.core.bounds c.finish-receipt.result.0.pin c.args.current.txn.core.recorded c.requires.fits.seen.begins explained) in
+    let fair = fair_ended c.args.ports.now c.give_back.new.self c.args.current.txn.core _ c.give_back.result c.give_back_counts_users.ensures c.give_back.ensures.leads
+    (c.deref.ensures.value ∙ c.finish-receipt.ensures.give_back) [] (λ t. omega arith) in
+    search (rules, c.requires.no_call, later, fair)

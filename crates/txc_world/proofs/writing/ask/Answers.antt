@@ -4,10 +4,8 @@ use Rattle.txc_world.proofs.WritingCounts.{based, counts_based}
 use Rattle.std.proofs.Common.{None, ap}
 use Rattle.txc_registry.specs.Objects.{Objects}
 use Rattle.txc_world.specs.Cast.{writes}
-use Rattle.std.proofs.Common.{rules, arith}
-use Rattle.txc_world.specs.Ports.{PortsValue}
+use Rattle.std.proofs.Common.{rules}
 use Rattle.txc_world.proofs.PortsLemmas.{keeps_same}
-use Rattle.std.proofs.lemmas.Grind.{common_steps}
 use Rattle.txc_world.proofs.writing.ask.Goals as goal
 
 pub returns-clause-leads : goal.returns-clause-leads
@@ -25,15 +23,7 @@ returns-clause-leads g c = rw c.requires.no_call (
 )
 
 pub returns-clause-acted : goal.returns-clause-acted
-returns-clause-acted g c = record {
-  fits = first_of (search rules, grind (arith, common_steps));
-  told = first_of (search rules, grind (arith, common_steps));
-  history = first_of (search rules, grind (arith, common_steps));
-  due = first_of (search rules, grind (arith, common_steps));
-  explained = first_of (search rules, grind (arith, common_steps));
-  keeps = keeps_same c.args.ports.now c.find-turn.new.ports c.find-turn.ensures.same_ports;
-  spare = ap (λ (p : PortsValue). p.spare) c.find-turn.ensures.same_ports;
-  counts =
-      counts_based c.args.ports.now c.find-turn.new.ports c.args.current.core.base c.find-turn.new.core.base c.told_rows.result c.find-turn.ensures.same_ports c.find-turn.ensures.base
-      (rows_lost (HasLost c.args.ports.now (based c.args.current.core.base)) c.find-turn.result c.told_rows.result c.told_rows.ensures c.find-turn.ensures.loss);
-}
+returns-clause-acted g c =
+    let counts = counts_based c.args.ports.now c.find-turn.new.ports c.args.current.core.base c.find-turn.new.core.base c.told_rows.result c.find-turn.ensures.same_ports c.find-turn.ensures.base
+    (rows_lost (HasLost c.args.ports.now (based c.args.current.core.base)) c.find-turn.result c.told_rows.result c.told_rows.ensures c.find-turn.ensures.loss) in
+    search (rules, c.requires.no_call, keeps_same, counts)

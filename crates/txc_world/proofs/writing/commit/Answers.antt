@@ -1,10 +1,7 @@
 use Rattle.std.proofs.Common.{refl, sym}
 use Rattle.txc_world.proofs.CommitLemmas.{explained_lent, explained_open}
 use Rattle.txc_world.proofs.WritingCounts.{fair_commit, fair_not_committed}
-use Rattle.std.proofs.Common.{ap, rules, arith}
-use Rattle.txc_world.specs.Told.{leaving}
-use Rattle.txc_world.specs.Ports.{PortsValue}
-use Rattle.std.proofs.lemmas.Grind.{common_steps}
+use Rattle.std.proofs.Common.{rules}
 use Rattle.txc_world.proofs.writing.commit.Goals as goal
 
 pub returns-in-Ok-clause-leads : goal.returns-in-Ok-clause-leads
@@ -20,38 +17,18 @@ returns-in-Err-clause-leads g c = rw c.requires.no_call (
 )
 
 pub returns-in-Ok-clause-acted : goal.returns-in-Ok-clause-acted
-returns-in-Ok-clause-acted g c = record {
-  fits = c.cancel-unpin.ensures.idle;
-  told = ap leaving c.base-base.ensures;
-  history = first_of (search rules, grind (arith, common_steps));
-  due = rw c.requires.no_call tt;
-  explained =
-      explained_open g.A.App.next c.commit.new.self.database.history _ c.args.current.core c.in-Ok.stamp c.args.current.call
-      c.requires.no_call
-      (explained_lent g.A.App.next c.args.current.registry c.args.current.core c.args.ports.now.database c.requires.fits.holds
-      c.answers_are_right.ensures.base c.answers_are_right.ensures.quiet c.answers_are_right.ensures.event c.transactions_stay_right.ensures.longer
-      c.states_stay.ensures.states c.states_stay.ensures.tags
-      c.args.ports.now c.commit.new.self c.base-base.result c.tags-read.result.now c.changes-changes.result.now c.in-Ok.stamp refl c.in-Ok.ensures.leads
-      c.base-base.ensures c.tags-read.ensures c.changes-changes.ensures.answer);
-  keeps = c.commit.ensures.keeps;
-  spare = ap (λ (p : PortsValue). p.spare) c.in-Ok.ensures.leads.0;
-  counts = record {
-    fair = fair_commit c.args.ports.now c.commit.new.self c.base-base.result c.args.current.core.base c.base-base.result c.in-Ok.stamp _ _ c.in-Ok.ensures.leads c.base-base.ensures;
-    loss = tt;
-  };
-}
+returns-in-Ok-clause-acted g c =
+    let explained =
+    explained_open g.A.App.next c.commit.new.self.database.history _ c.args.current.core c.in-Ok.stamp c.args.current.call c.requires.no_call
+    (explained_lent g.A.App.next c.args.current.registry c.args.current.core c.args.ports.now.database c.requires.fits.holds
+    c.answers_are_right.ensures.base c.answers_are_right.ensures.quiet c.answers_are_right.ensures.event c.transactions_stay_right.ensures.longer
+    c.states_stay.ensures.states c.states_stay.ensures.tags
+    c.args.ports.now c.commit.new.self c.base-base.result c.tags-read.result.now c.changes-changes.result.now c.in-Ok.stamp refl c.in-Ok.ensures.leads
+    c.base-base.ensures c.tags-read.ensures c.changes-changes.ensures.answer) in
+    let fair = fair_commit c.args.ports.now c.commit.new.self c.base-base.result c.args.current.core.base c.base-base.result c.in-Ok.stamp _ _ c.in-Ok.ensures.leads c.base-base.ensures in
+    search (rules, c.requires.no_call, explained, fair)
 
 pub returns-in-Err-clause-acted : goal.returns-in-Err-clause-acted
-returns-in-Err-clause-acted g c = record {
-  fits = first_of (search rules, grind (arith, common_steps));
-  told = refl;
-  history = first_of (search rules, grind (arith, common_steps));
-  due = rw c.requires.no_call tt;
-  explained = tt;
-  keeps = c.commit.ensures.keeps;
-  spare = ap (λ (p : PortsValue). p.spare) c.in-Err.ensures.leads.0.is;
-  counts = record {
-    fair = fair_not_committed c.args.ports.now c.commit.new.self c.base-base.result c.args.current.core.base _ _ c.in-Err.refusal c.in-Err.ensures.leads;
-    loss = tt;
-  };
-}
+returns-in-Err-clause-acted g c =
+    let fair = fair_not_committed c.args.ports.now c.commit.new.self c.base-base.result c.args.current.core.base _ _ c.in-Err.refusal c.in-Err.ensures.leads in
+    search (rules, c.requires.no_call, fair)

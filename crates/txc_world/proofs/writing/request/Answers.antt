@@ -7,11 +7,8 @@ use Rattle.txc_world.specs.Books.{HasLost}
 use Rattle.txc_world.proofs.Losing.{noted_lost}
 use Rattle.txc_world.proofs.WritingCounts.{asked_lost, based, counts_based}
 use Rattle.txc_world.specs.declared.reply.Reply.TheVariants.{Asked}
-use Rattle.std.proofs.Common.{rules, arith}
-use Rattle.txc_world.specs.Ports.{PortsValue}
+use Rattle.std.proofs.Common.{rules}
 use Rattle.txc_world.proofs.PortsLemmas.{keeps_same}
-use Rattle.txc_world.proofs.Acted.{due_in_call}
-use Rattle.std.proofs.lemmas.Grind.{common_steps}
 use Rattle.txc_world.proofs.writing.request.Goals as goal
 
 pub returns-clause-leads : goal.returns-clause-leads
@@ -34,24 +31,13 @@ returns-clause-leads g c =
 
 pub returns-clause-acted : goal.returns-clause-acted
 returns-clause-acted g c =
+    let lost = HasLost c.args.ports.now (based c.args.current.core.base) in
     let loss = c.go_on-did.ensures.loss in
-    record {
-      fits = first_of (search rules, grind (arith, common_steps));
-      told = first_of (search rules, grind (arith, common_steps));
-      history = ap (λ (p : PortsValue). p.database.history) c.go_on-did.ensures.same_ports;
-      due = due_in_call c.args.current.call _ _ _ c.in-Some.is tt;
-      explained = tt;
-      keeps = keeps_same c.args.ports.now c.go_on-did.new.ports c.go_on-did.ensures.same_ports;
-      spare = ap (λ (p : PortsValue). p.spare) c.go_on-did.ensures.same_ports;
-      counts = counts_based c.args.ports.now c.go_on-did.new.ports c.args.current.core.base c.go_on-did.new.core.base _ c.go_on-did.ensures.same_ports c.go_on-did.ensures.base (
-        loss,
-        noted_lost (HasLost c.args.ports.now (based c.args.current.core.base)) (opened c.in-Some.field-0.key) c.go_on-did.result.turn c.note-call.result.0 c.note-call.result.1 c.note-call.ensures
-            (asked_lost (HasLost c.args.ports.now (based c.args.current.core.base)) g.A.App.next c.in-Some-asked.query c.args.ports.now c.args.current.core c.go_on-did.new.core
-            c.args.current.registry c.go_on-did.new.registry c.go_on-did.result.did c.go_on-did.result.turn c.go_on-did.ensures.asks loss),
-      );
-    }
-
-trial_1 : goal.returns-clause-acted
-trial_1 g c =
-    let loss = c.go_on-did.ensures.loss in
-    first_of (search (rules, keeps_same, counts_based c.args.ports.now c.go_on-did.new.ports c.args.current.core.base c.go_on-did.new.core.base (Asked c.go_on-did.result.did c.note-call.result.1) c.go_on-did.ensures.same_ports c.go_on-did.ensures.base (loss, noted_lost (HasLost c.args.ports.now (based c.args.current.core.base)) (opened c.in-Some.field-0.key) c.go_on-did.result.turn c.note-call.result.0 c.note-call.result.1 c.note-call.ensures (asked_lost (HasLost c.args.ports.now (based c.args.current.core.base)) g.A.App.next c.in-Some-asked.query c.args.ports.now c.args.current.core c.go_on-did.new.core c.args.current.registry c.go_on-did.new.registry c.go_on-did.result.did c.go_on-did.result.turn c.go_on-did.ensures.asks loss))), search (rules, arith, common_steps, keeps_same, counts_based c.args.ports.now c.go_on-did.new.ports c.args.current.core.base c.go_on-did.new.core.base (Asked c.go_on-did.result.did c.note-call.result.1) c.go_on-did.ensures.same_ports c.go_on-did.ensures.base (loss, noted_lost (HasLost c.args.ports.now (based c.args.current.core.base)) (opened c.in-Some.field-0.key) c.go_on-did.result.turn c.note-call.result.0 c.note-call.result.1 c.note-call.ensures (asked_lost (HasLost c.args.ports.now (based c.args.current.core.base)) g.A.App.next c.in-Some-asked.query c.args.ports.now c.args.current.core c.go_on-did.new.core c.args.current.registry c.go_on-did.new.registry c.go_on-did.result.did c.go_on-did.result.turn c.go_on-did.ensures.asks loss))), grind (arith, common_steps, keeps_same, counts_based c.args.ports.now c.go_on-did.new.ports c.args.current.core.base c.go_on-did.new.core.base (Asked c.go_on-did.result.did c.note-call.result.1) c.go_on-did.ensures.same_ports c.go_on-did.ensures.base (loss, noted_lost (HasLost c.args.ports.now (based c.args.current.core.base)) (opened c.in-Some.field-0.key) c.go_on-did.result.turn c.note-call.result.0 c.note-call.result.1 c.note-call.ensures (asked_lost (HasLost c.args.ports.now (based c.args.current.core.base)) g.A.App.next c.in-Some-asked.query c.args.ports.now c.args.current.core c.go_on-did.new.core c.args.current.registry c.go_on-did.new.registry c.go_on-did.result.did c.go_on-did.result.turn c.go_on-did.ensures.asks loss))))
+    let counts = counts_based c.args.ports.now c.go_on-did.new.ports c.args.current.core.base c.go_on-did.new.core.base (Asked c.go_on-did.result.did c.note-call.result.1)
+    c.go_on-did.ensures.same_ports c.go_on-did.ensures.base (
+      loss,
+      noted_lost lost (opened c.in-Some.field-0.key) c.go_on-did.result.turn c.note-call.result.0 c.note-call.result.1 c.note-call.ensures
+          (asked_lost lost g.A.App.next c.in-Some-asked.query c.args.ports.now c.args.current.core c.go_on-did.new.core
+          c.args.current.registry c.go_on-did.new.registry c.go_on-did.result.did c.go_on-did.result.turn c.go_on-did.ensures.asks loss),
+    ) in
+    search (rules, keeps_same, counts)
