@@ -1,7 +1,8 @@
 use Rattle.std.proofs.Common.{Some, refl, ap, sym, subst, ◌∙◌}
 use Rattle.txc_tags.specs.Keys.{Call}
 use Rattle.txc_txn.specs.Leading.{StartLeads}
-use Rattle.txc_world.specs.Cast.{called, reads}
+use Rattle.txc_world.specs.Cast.{called, opened, reads}
+use Rattle.txc_world.specs.Actors.{IsOpenCall}
 use Rattle.txc_db.specs.Seen.{FrontValue}
 use Rattle.txc_txn.specs.Core.{CoreValue}
 use Rattle.txc_txn.proofs.Offered.{adds_none}
@@ -50,3 +51,19 @@ returns-clause-acted g c =
       spare = refl;
       counts = first_of (search rules, grind (arith, common_steps));
     }
+
+trial_1 : goal.returns-clause-acted
+trial_1 g c =
+    let same = c.start-turn.ensures.same in
+    let seen = subst (λ (f : FrontValue). IsPartOf (whole_of c.args.whole.now) f) (sym (ap (λ (v : CoreValue). v.seen) same)) c.requires.fits.seen in
+    let nodes = ap (λ (v : CoreValue). v.nodes) same ∙ c.requires.fits.nodes in
+    let call : IsOpenCall (whole_of c.args.whole.now) c.start-turn.new.self.core (opened c.copy-2.result c.start-turn.result) = record {
+      turn = c.start-turn.ensures.turn_fits;
+      no_value = c.start-turn.ensures.no_value;
+      key = λ asks. c.start-turn.ensures.begins asks ∙ ap Some (c.copy.ensures ∙ sym c.copy-2.ensures);
+      adds = adds_none (IsPartOf (whole_of c.args.whole.now)) c.start-turn.result c.start-turn.ensures.no_add;
+      not_lost = start_not_lost ⊥ c.start-turn.new.self.core c.start-turn.new.self.objects c.start-turn.result c.args.current.txn.core c.args.current.txn.objects
+          c.copy.result c.start-turn.ensures.leads;
+      drops = none_left c.start-turn.new.self.core c.start-turn.ensures.left;
+    } in
+    search (rules, c.requires.no_call, keeps_itself, seen, nodes, call)
