@@ -1,9 +1,7 @@
 //! What a core makes of each reply.
-ghost use Rattle.std.specs.Prelude.{◌≡◌, None, Ok, Some};
+ghost use Rattle.std.specs.Prelude.{◌≡◌};
 ghost use Rattle.std.specs.Option.{ForSome};
 ghost use mathlib.Core.List.{IsPrefix};
-ghost use Rattle.txc_db.specs.History.{History};
-ghost use Rattle.txc_registry.specs.Objects.{numbers_of};
 ghost use Rattle.txc_ports.specs.Fronts.{front_of};
 
 use crate::pinning::{PinStep, Pinning};
@@ -20,12 +18,8 @@ use txc_registry::{Cacheable, Registry};
 use txc_validity::Found;
 
 impl TxnCore {
-    ghost use Rattle.txc_txn.specs.Core.{left_after, left_pin, open_call, recorded_after, taken_after};
-    ghost use Rattle.txc_txn.specs.Core.{value_of, CoreHolds};
-    ghost use Rattle.txc_txn.specs.Core.{AddsOnly, IsAnswered, IsCore, IsNoAdding, IsOneOf, IsRight};
-    ghost use Rattle.txc_ports.specs.Turns.{IsAsk};
-    ghost use Rattle.txc_txn.specs.Core.{IsTurn, PinsAfter};
-    ghost use Rattle.txc_txn.specs.Leading.{ReplyLeads};
+    ghost use Rattle.txc_txn.specs.Core.{value_of, IsAnswered, IsCore, IsOneOf};
+    ghost use Rattle.txc_txn.specs.Kept.{HasAnswered};
 
     // Sees what the reply shows of the history.
     pub(crate) fn see(&mut self, reply: &PortReply)
@@ -49,20 +43,8 @@ impl TxnCore {
     ) -> Turn
         requires fits { IsCore A.next registry.old (value_of self.old) }
         requires reply { IsAnswered (value_of self.old) (PortReply.Pin pinned) }
-        ensures fits { IsCore A.next registry.new (value_of self.new) }
-        ensures holds { (L : History) → IsRight A.next L self.old.machine.need (PortReply.Pin pinned)
-            → CoreHolds A.next L registry.old (value_of self.old)
-            → CoreHolds A.next L registry.new (value_of self.new) }
-        ensures turn { IsTurn (value_of self.new) result }
-        ensures recorded { self.old.recorded.items
-            ≡ recorded_after self.old.recorded.items result (open_call (value_of self.old)) }
-        ensures goes_on { IsAsk result → open_call (value_of self.new) ≡ open_call (value_of self.old) }
-        ensures leads { ReplyLeads A.next (value_of self.old) registry.old (PortReply.Pin pinned)
+        ensures { HasAnswered A.next (value_of self.old) registry.old (PortReply.Pin pinned)
             (value_of self.new) registry.new result }
-        ensures left { left_pin self.new.pinning ≡ left_after (PortReply.Pin pinned) }
-        ensures functions { numbers_of registry.new ≡ numbers_of registry.old }
-        ensures same { value_of self.new
-            ≡ record (value_of self.old) { call = self.new.machine; pinning = self.new.pinning } }
     {
         let pinned = match pinned {
             Ok(pinned) => pinned,
@@ -88,28 +70,8 @@ impl TxnCore {
     ) -> Turn
         requires fits { IsCore A.next registry.old (value_of self.old) }
         requires reply { IsAnswered (value_of self.old) (PortReply.AddPin pinned.now added) }
-        ensures fits { IsCore A.next registry.new (value_of self.new) }
-        ensures holds { (L : History) → CoreHolds A.next L registry.old (value_of self.old)
-            → CoreHolds A.next L registry.new (value_of self.new) }
-        ensures turn { IsTurn (value_of self.new) result }
-        ensures pins { PinsAfter (value_of self.old) (PortReply.AddPin pinned.now added) self.new.pins }
-        ensures taken { self.new.taken.items
-            ≡ taken_after self.old.taken.items (PortReply.AddPin pinned.now added) }
-        ensures recorded { self.new.recorded.items
-            ≡ recorded_after self.old.recorded.items result (open_call (value_of self.old)) }
-        ensures goes_on { IsAsk result → open_call (value_of self.new) ≡ open_call (value_of self.old) }
-        ensures leads { ReplyLeads A.next (value_of self.old) registry.old (PortReply.AddPin pinned.now added)
+        ensures { HasAnswered A.next (value_of self.old) registry.old (PortReply.AddPin pinned.now added)
             (value_of self.new) registry.new result }
-        ensures no_add { IsNoAdding result }
-        ensures left { left_pin self.new.pinning ≡ left_after (PortReply.AddPin pinned.now added) }
-        ensures functions { numbers_of registry.new ≡ numbers_of registry.old }
-        ensures same { value_of self.new ≡ record (value_of self.old) {
-          pins = self.new.pins;
-          taken = self.new.taken.items;
-          recorded = self.new.recorded.items;
-          call = self.new.machine;
-          pinning = self.new.pinning;
-        } }
     {
         let Some(Pinning { step: _, first }) = mem::replace(&mut self.pinning, None) else {
             unreachable!()
@@ -135,19 +97,8 @@ impl TxnCore {
     ) -> Turn
         requires fits { IsCore A.next registry.old (value_of self.old) }
         requires reply { IsAnswered (value_of self.old) PortReply.Unpin }
-        ensures fits { IsCore A.next registry.new (value_of self.new) }
-        ensures holds { (L : History) → CoreHolds A.next L registry.old (value_of self.old)
-            → CoreHolds A.next L registry.new (value_of self.new) }
-        ensures turn { IsTurn (value_of self.new) result }
-        ensures recorded { self.old.recorded.items
-            ≡ recorded_after self.old.recorded.items result (open_call (value_of self.old)) }
-        ensures ended { ¬ (IsAsk result) }
-        ensures leads { ReplyLeads A.next (value_of self.old) registry.old PortReply.Unpin
+        ensures { HasAnswered A.next (value_of self.old) registry.old PortReply.Unpin
             (value_of self.new) registry.new result }
-        ensures no_add { IsNoAdding result }
-        ensures functions { numbers_of registry.new ≡ numbers_of registry.old }
-        ensures same { value_of self.new
-            ≡ record (value_of self.old) { call = self.new.machine; pinning = None } }
     {
         let Some(
             Pinning {
@@ -171,26 +122,8 @@ impl TxnCore {
     ) -> Turn
         requires fits { IsCore A.next registry.old (value_of self.old) }
         requires reply { IsAnswered (value_of self.old) (PortReply.Lookup hit) }
-        ensures fits { IsCore A.next registry.new (value_of self.new) }
-        ensures holds { (L : History) → IsRight A.next L self.old.machine.need (PortReply.Lookup hit)
-            → CoreHolds A.next L registry.old (value_of self.old)
-            → CoreHolds A.next L registry.new (value_of self.new) }
-        ensures turn { IsTurn (value_of self.new) result }
-        ensures pins { PinsAfter (value_of self.old) (PortReply.Lookup hit) self.new.pins }
-        ensures recorded { self.new.recorded.items
-            ≡ recorded_after self.old.recorded.items result (open_call (value_of self.old)) }
-        ensures goes_on { IsAsk result → open_call (value_of self.new) ≡ open_call (value_of self.old) }
-        ensures leads { ReplyLeads A.next (value_of self.old) registry.old (PortReply.Lookup hit)
+        ensures { HasAnswered A.next (value_of self.old) registry.old (PortReply.Lookup hit)
             (value_of self.new) registry.new result }
-        ensures no_add { IsNoAdding result }
-        ensures left { left_pin self.new.pinning ≡ None }
-        ensures functions { numbers_of registry.new ≡ numbers_of registry.old }
-        ensures same { value_of self.new ≡ record (value_of self.old) {
-          pins = self.new.pins;
-          recorded = self.new.recorded.items;
-          call = self.new.machine;
-          pinning = self.new.pinning;
-        } }
     {
         let Some(hit) = hit else {
             return self.go_on(alloc, registry, Reply::Miss);
@@ -211,26 +144,8 @@ impl TxnCore {
     ) -> Turn
         requires fits { IsCore A.next registry.old (value_of self.old) }
         requires reply { IsAnswered (value_of self.old) (PortReply.Query found) }
-        ensures fits { IsCore A.next registry.new (value_of self.new) }
-        ensures holds { (L : History) → IsRight A.next L self.old.machine.need (PortReply.Query found)
-            → CoreHolds A.next L registry.old (value_of self.old)
-            → CoreHolds A.next L registry.new (value_of self.new) }
-        ensures turn { IsTurn (value_of self.new) result }
-        ensures pins { PinsAfter (value_of self.old) (PortReply.Query found) self.new.pins }
-        ensures recorded { self.new.recorded.items
-            ≡ recorded_after self.old.recorded.items result (open_call (value_of self.old)) }
-        ensures goes_on { IsAsk result → open_call (value_of self.new) ≡ open_call (value_of self.old) }
-        ensures leads { ReplyLeads A.next (value_of self.old) registry.old (PortReply.Query found)
+        ensures { HasAnswered A.next (value_of self.old) registry.old (PortReply.Query found)
             (value_of self.new) registry.new result }
-        ensures no_add { IsNoAdding result }
-        ensures left { left_pin self.new.pinning ≡ None }
-        ensures functions { numbers_of registry.new ≡ numbers_of registry.old }
-        ensures same { value_of self.new ≡ record (value_of self.old) {
-          pins = self.new.pins;
-          recorded = self.new.recorded.items;
-          call = self.new.machine;
-          pinning = self.new.pinning;
-        } }
     {
         let found = match found {
             Ok(found) => found,
@@ -252,28 +167,8 @@ impl TxnCore {
     ) -> Turn
         requires fits { IsCore A.next registry.old (value_of self.old) }
         requires reply { IsAnswered (value_of self.old) reply }
-        ensures fits { IsCore A.next registry.new (value_of self.new) }
-        ensures holds { (L : History) → IsRight A.next L self.old.machine.need reply
-            → CoreHolds A.next L registry.old (value_of self.old)
-            → CoreHolds A.next L registry.new (value_of self.new) }
-        ensures turn { IsTurn (value_of self.new) result }
-        ensures pins { PinsAfter (value_of self.old) reply self.new.pins }
-        ensures taken { self.new.taken.items ≡ taken_after self.old.taken.items reply }
-        ensures recorded { self.new.recorded.items
-            ≡ recorded_after self.old.recorded.items result (open_call (value_of self.old)) }
-        ensures goes_on { IsAsk result → open_call (value_of self.new) ≡ open_call (value_of self.old) }
-        ensures leads { ReplyLeads A.next (value_of self.old) registry.old reply
+        ensures { HasAnswered A.next (value_of self.old) registry.old reply
             (value_of self.new) registry.new result }
-        ensures adds { AddsOnly reply result }
-        ensures left { left_pin self.new.pinning ≡ left_after reply }
-        ensures functions { numbers_of registry.new ≡ numbers_of registry.old }
-        ensures same { value_of self.new ≡ record (value_of self.old) {
-          pins = self.new.pins;
-          taken = self.new.taken.items;
-          recorded = self.new.recorded.items;
-          call = self.new.machine;
-          pinning = self.new.pinning;
-        } }
     {
         match reply {
             PortReply::Pin(pinned) => self.answer_pin(registry, pinned),

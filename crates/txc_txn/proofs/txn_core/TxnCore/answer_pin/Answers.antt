@@ -1,4 +1,4 @@
-use Rattle.std.proofs.Common.{◌≡◌, ◌≤◌, Some, Result, subst}
+use Rattle.std.proofs.Common.{rules, ◌≡◌, ◌≤◌, Some, Result, subst}
 use Rattle.txc_db.specs.declared.error.DbError.{DbError}
 use Rattle.txc_db.specs.declared.pinned.Pinned.{Pinned}
 use Rattle.txc_ports.specs.declared.reply.PortReply.TheVariants as ports
@@ -6,9 +6,9 @@ use Rattle.txc_txn.specs.Core.{IsAnswered, least_present, value_of}
 use Rattle.txc_txn.proofs.Cores.{core_adding}
 use Rattle.txc_txn.proofs.txn_core.TxnCore.answer_pin.Goals as goal
 
-pub returns-clause-fits : goal.returns-clause-fits
-returns-clause-fits g c =
+pub returns : goal.returns
+returns g c =
     let is : c.args.self.now.pinning ≡ Some c.in-Some.field-0 = cc in
     let reply = subst (λ (r : Result Pinned DbError). IsAnswered (value_of c.args.self.now) (ports.Pin r)) c.in-Ok.is c.requires.reply in
     let late : least_present c.args.self.now.bounds c.args.self.now.pins.members ≤ c.pin_of.result.stamp = rw c.pin_of.ensures reply.2 in
-    core_adding g.A.App.next c.args.registry.now (value_of c.args.self.now) c.in-Some.field-0 c.pin_of.result is late c.requires.fits
+    search (rules, core_adding g.A.App.next c.args.registry.now (value_of c.args.self.now) c.in-Some.field-0 c.pin_of.result is late c.requires.fits)
