@@ -1,8 +1,7 @@
-use Rattle.std.proofs.Common.{◌≡◌, ◌∙◌, ℕ, List, Some, None, [], ◌∷◌, arith, refl, sym, subst}
+use Rattle.std.proofs.Common.{◌≡◌, ◌∙◌, ℕ, List, Some, None, [], ◌∷◌, arith, refl, sym, subst, rules}
 use Rattle.txc_txn.specs.Core.{left_pin}
 use Rattle.txc_world.proofs.Fairness.{fair_ended}
 use Rattle.txc_world.specs.Keeping.{GiveBackLeads}
-use Rattle.std.proofs.Common.{rules}
 use Rattle.txc_world.proofs.acting.abort.Goals as goal
 
 pub returns-in-Some-clause-leads : goal.returns-in-Some-clause-leads

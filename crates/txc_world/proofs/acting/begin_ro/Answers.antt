@@ -1,6 +1,5 @@
 use Rattle.std.proofs.Common.{rules}
 use Rattle.txc_world.proofs.Whole.{keeps_cushion}
-use Rattle.std.proofs.Common.{rules}
 use Rattle.txc_world.proofs.acting.begin_ro.Goals as goal
 
 pub new-txn-requires : goal.new-txn-requires

@@ -1,13 +1,11 @@
-use Rattle.std.proofs.Common.{ℕ, List, ap, subst, sym}
+use Rattle.std.proofs.Common.{ℕ, List, ap, subst, sym, ◌∙◌, [], arith, rules}
 use Rattle.txc_txn.specs.Core.{Explains}
 use Rattle.txc_world.specs.Ports.{PortsValue}
 use Rattle.txc_world.proofs.Explaining.{explained_later}
-use Rattle.std.proofs.Common.{◌∙◌, [], arith}
 use Rattle.txc_world.proofs.Fairness.{fair_ended}
 use Rattle.txc_world.specs.declared.reply.Reply.TheVariants.{Receipt}
 use Rattle.txc_world.specs.Cast.{resting}
 use Rattle.txc_world.specs.Keeping.{GiveBackLeads}
-use Rattle.std.proofs.Common.{rules}
 use Rattle.txc_world.proofs.acting.commit.Goals as goal
 
 pub returns-clause-leads : goal.returns-clause-leads

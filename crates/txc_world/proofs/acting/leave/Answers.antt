@@ -1,7 +1,5 @@
-use Rattle.std.proofs.Common.{[], Ok, Err, ◌∷◌}
+use Rattle.std.proofs.Common.{[], Ok, Err, ◌∷◌, rules}
 use Rattle.txc_world.proofs.Fairness.{fair_unpin, loss_unpin}
-use Rattle.std.proofs.Common.{rules}
-use Rattle.std.proofs.Common.{rules}
 use Rattle.txc_world.proofs.acting.leave.Goals as goal
 
 pub returns-in-Ok-clause-acted : goal.returns-in-Ok-clause-acted

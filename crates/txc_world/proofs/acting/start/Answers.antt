@@ -1,4 +1,4 @@
-use Rattle.std.proofs.Common.{Some, refl, ap, sym, subst, ◌∙◌}
+use Rattle.std.proofs.Common.{Some, refl, ap, sym, subst, ◌∙◌, rules, arith}
 use Rattle.txc_tags.specs.Keys.{Call}
 use Rattle.txc_txn.specs.Leading.{StartLeads}
 use Rattle.txc_world.specs.Cast.{called, opened, reads}
@@ -9,7 +9,6 @@ use Rattle.txc_txn.proofs.Offered.{adds_none}
 use Rattle.txc_world.specs.Parts.{IsPartOf}
 use Rattle.txc_world.specs.Ports.{whole_of}
 use Rattle.txc_world.proofs.Losing.{none_left, start_not_lost}
-use Rattle.std.proofs.Common.{rules, arith}
 use Rattle.txc_world.proofs.PortsLemmas.{keeps_itself}
 use Rattle.std.proofs.lemmas.Grind.{common_steps}
 use Rattle.txc_world.proofs.acting.start.Goals as goal

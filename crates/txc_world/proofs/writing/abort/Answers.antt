@@ -1,9 +1,7 @@
-use Rattle.std.proofs.Common.{refl}
+use Rattle.std.proofs.Common.{refl, rules, Some}
 use Rattle.txc_world.proofs.WritingCounts.{counts_based}
 use Rattle.txc_world.proofs.PortsLemmas.{keeps_itself}
-use Rattle.std.proofs.Common.{rules}
 use Rattle.txc_world.specs.declared.reply.Reply.TheVariants.{Aborted}
-use Rattle.std.proofs.Common.{Some}
 use Rattle.txc_world.proofs.writing.abort.Goals as goal
 
 pub returns-clause-acted : goal.returns-clause-acted

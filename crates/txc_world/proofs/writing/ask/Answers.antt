@@ -1,10 +1,9 @@
 use Rattle.txc_world.specs.Books.{HasLost}
 use Rattle.txc_world.proofs.Losing.{rows_lost}
 use Rattle.txc_world.proofs.WritingCounts.{based, counts_based}
-use Rattle.std.proofs.Common.{None, ap}
+use Rattle.std.proofs.Common.{None, ap, rules}
 use Rattle.txc_registry.specs.Objects.{Objects}
 use Rattle.txc_world.specs.Cast.{writes}
-use Rattle.std.proofs.Common.{rules}
 use Rattle.txc_world.proofs.PortsLemmas.{keeps_same}
 use Rattle.txc_world.proofs.writing.ask.Goals as goal
 

@@ -1,8 +1,7 @@
-use Rattle.std.proofs.Common.{ℕ, sym, subst}
+use Rattle.std.proofs.Common.{ℕ, sym, subst, rules}
 use Rattle.txc_world.specs.declared.reply.Reply.TheVariants.{Based, Refused}
 use Rattle.txc_world.specs.Books.{nothing, ActCounts}
 use Rattle.txc_world.proofs.WritingCounts.{based, counts_begun, counts_unchanged}
-use Rattle.std.proofs.Common.{rules}
 use Rattle.txc_world.specs.declared.reply.Refusal.TheVariants.{Database}
 use Rattle.txc_world.proofs.writing.begin_rw.Goals as goal
 

@@ -1,7 +1,6 @@
-use Rattle.std.proofs.Common.{refl, sym}
+use Rattle.std.proofs.Common.{refl, sym, rules}
 use Rattle.txc_world.proofs.CommitLemmas.{explained_lent, explained_open}
 use Rattle.txc_world.proofs.WritingCounts.{fair_commit, fair_not_committed}
-use Rattle.std.proofs.Common.{rules}
 use Rattle.txc_world.proofs.writing.commit.Goals as goal
 
 pub returns-in-Ok-clause-leads : goal.returns-in-Ok-clause-leads

@@ -1,4 +1,4 @@
-use Rattle.std.proofs.Common.{Option, refl, ap, sym, ◌∙◌}
+use Rattle.std.proofs.Common.{Option, refl, ap, sym, ◌∙◌, rules}
 use Rattle.std.specs.Option.{option_map}
 use Rattle.txc_world.specs.declared.actor.OpenCall.{OpenCall}
 use Rattle.txc_world.specs.Cast.{call_value, called, opened}
@@ -7,7 +7,6 @@ use Rattle.txc_world.specs.Books.{HasLost}
 use Rattle.txc_world.proofs.Losing.{noted_lost}
 use Rattle.txc_world.proofs.WritingCounts.{asked_lost, based, counts_based}
 use Rattle.txc_world.specs.declared.reply.Reply.TheVariants.{Asked}
-use Rattle.std.proofs.Common.{rules}
 use Rattle.txc_world.proofs.PortsLemmas.{keeps_same}
 use Rattle.txc_world.proofs.writing.request.Goals as goal
 
