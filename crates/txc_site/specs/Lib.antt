@@ -1,0 +1,6 @@
+pub mod Attempts
+pub mod Keeping
+pub mod Plans
+pub mod Rows
+pub mod Sites
+pub mod Writes
