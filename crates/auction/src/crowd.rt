@@ -1,7 +1,7 @@
 //! The visitors, who read pages and bid, each on a thread.
 ghost use Rattle.std.specs.Prelude.{◌≡◌, ◌+◌, ◌<◌, ◌^◌, false, IfSome};
 ghost use Rattle.auction.specs.Pages.{IsWhole};
-ghost use Rattle.auction.specs.Tallies.{pages_of};
+ghost use Rattle.auction.specs.Tallies.{pages_of, HasSeen};
 
 use crate::arguments::Arguments;
 use crate::changes::{Bid, ITEM_COUNT, USER_COUNT};
@@ -65,13 +65,10 @@ impl Crowd {
             more: 1 + round.now.wrapping_add(self.arguments.seed) % 7,
         };
         let (written, client) = client.write(rt, alloc, TRIES, &bid);
-        let Ok(written) = written else {
-            return (None, client);
-        };
-        tally.bids = tally.bids.saturating_add(1);
-        let conflicts = written.conflicts.len() as u64;
-        tally.conflicts = tally.conflicts.saturating_add(conflicts);
-        (Some(written.committed.stamp), client)
+        match written {
+            Ok(written) => (Some(tally.count_bid(&written)), client),
+            Err(_) => (None, client),
+        }
     }
 
     /// The item's highest bid and its page, read in one transaction: the page shows that bid, whatever others
@@ -210,7 +207,9 @@ impl<R: Wait> Visitor<Auction, AuctionFunction, R> for Crowd {
         alloc: Global,
         number: usize,
         client: Guest<'_, J>,
-    ) -> Tally {
+    ) -> Tally
+        ensures { HasSeen self.now.arguments.pages self.now.arguments result }
+    {
         let mut tally = Tally::ZERO;
         let mut client = client;
         let mut keeper = None;

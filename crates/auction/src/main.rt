@@ -1,6 +1,9 @@
 //! An auction on threads: visitors read pages in read-only transactions, and bid in read-write ones.
 #![tactic(auto)]
 
+ghost use Rattle.std.specs.Prelude.{◌*◌, IfOk};
+ghost use Rattle.auction.specs.Tallies.{HasSeen};
+
 mod arguments;
 mod changes;
 mod crowd;
@@ -40,7 +43,9 @@ impl<R: Threads + Wait + Sync> Body<Auction, AuctionFunction, R> for Evening {
         rt: &R,
         alloc: Global,
         site: &mut Site<'_, Auction, AuctionFunction, J>,
-    ) -> anyhow::Result<Tally> {
+    ) -> anyhow::Result<Tally>
+        ensures { IfOk result (HasSeen (self.arguments.threads * self.arguments.pages) self.arguments) }
+    {
         let Evening { arguments } = self;
         let client = site.client(rt, alloc)?;
         let (opened, _client) = client.write(rt, alloc, 1, &Opening);

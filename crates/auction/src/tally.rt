@@ -5,6 +5,8 @@ ghost use Rattle.auction.specs.Pages.{IsWhole};
 ghost use Rattle.auction.specs.Tallies.{pages_of};
 
 use crate::pages::BothBids;
+use txc_site::Written;
+use txc_stamp::Stamp;
 
 /// What visitors came to.
 #[derive(Clone, Copy)]
@@ -48,6 +50,17 @@ impl Tally {
         } else {
             self.torn += 1;
         }
+    }
+
+    /// Counts a bid that was made, with the conflicts before it. Returns its stamp.
+    pub fn count_bid(&mut self, written: &Written<u32>) -> Stamp
+        ensures { self.new ≡ record self.old { bids = self.new.bids; conflicts = self.new.conflicts } }
+    {
+        self.bids = self.bids.saturating_add(1);
+        self.conflicts = self
+            .conflicts
+            .saturating_add(written.conflicts.len() as u64);
+        written.committed.stamp
     }
 
     /// Adds what others came to.

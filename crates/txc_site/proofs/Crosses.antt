@@ -1,7 +1,7 @@
 -- What the threads of a site share, and what they are given. The terms are written out, one proof for each field.
 use denote.RattleType.{RattleType}
 use denote.Ref.{NamedLft}
-use denote.Param.Send.{IsSend, IsSync, plain_send, shr_send, view_send}
+use denote.Param.Send.{IsSend, IsSync, shr_send, view_send}
 use denote.Param.SendFields.{declared_send, declared_sync, as_row_send}
 use denote.Struct.Field.{shr_ref_field}
 use Rattle.std.proofs.Crossing.{Vec-sync}

@@ -2,7 +2,6 @@
 use Rattle.std.specs.Prelude.{◌≡◌, ℕ, ◌+◌, List, [], ◌∷◌, length, Option, Some, None, Ok, Err, IfErr, IfOk, Result}
 use Rattle.txc_node.specs.declared.op.Op.TheVariants.{Sweep}
 use Rattle.txc_node.specs.declared.reply.Reply.TheVariants.{Swept}
-use Rattle.txc_shared.specs.declared.advanced.Advanced.{Advanced}
 use Rattle.txc_shared.specs.declared.advanced.Advanced.TheVariants as advances
 use Rattle.txc_shared.specs.declared.error.NodeError.{NodeError}
 use Rattle.txc_shared.specs.Passes.{PassValue, HasMade, HasTaken, IsPassLeft}

@@ -1,5 +1,5 @@
 -- Sites and their clients.
-use Rattle.std.specs.Prelude.{◌≡◌, ℕ, ◌<◌, List, length, map}
+use Rattle.std.specs.Prelude.{ℕ, ◌<◌, List, length, map}
 use Rattle.std.specs.List.{range_with_len, slice_index_or}
 use Rattle.txc_registry.specs.Objects.{Objects, HasTwice}
 use Rattle.txc_client.specs.Txn.{ClientValue}

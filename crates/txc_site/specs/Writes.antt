@@ -1,5 +1,5 @@
 -- What a change that was tried came to.
-use Rattle.std.specs.Prelude.{◌≡◌, ◌⊎◌, ℕ, List, All, length, vec_len}
+use Rattle.std.specs.Prelude.{◌≡◌, ◌⊎◌, ℕ, List, All, vec_len}
 use Rattle.txc_app.specs.Eval.{Next}
 use Rattle.txc_db.specs.declared.answered.Answered.{Answered}
 use Rattle.txc_db.specs.declared.answered.CommitError.{CommitError}

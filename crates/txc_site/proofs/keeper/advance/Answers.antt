@@ -1,5 +1,4 @@
-use Rattle.std.proofs.Common.{◌∷◌, ◌∙◌, ap, subst, arith}
-use Rattle.txc_shared.specs.declared.advanced.Advanced.{Advanced}
+use Rattle.std.proofs.Common.{◌∷◌, ◌∙◌, subst, arith}
 use Rattle.txc_shared.specs.Passes.{HasTaken}
 use Rattle.txc_site.proofs.Keeping.{one_taken_more, same_pass, same_settings}
 use Rattle.txc_site.proofs.keeper.advance.Goals as goal
