@@ -102,22 +102,37 @@ def words():
 
 def sentences(path):
     """The sentences of a document, each word of code as one word."""
-    text = re.sub(r"^(?:    .*|\|.*|#.*|<!--.*|@.*)$", "", prose(path), flags=re.M)
+    text = re.sub(r"^(?:    .*| *\|.*|#.*|<!--.*|@.*)$", "", prose(path), flags=re.M)
     for block in re.split(r"\n\s*\n|\n\s*(?=- |\d+\. )", re.sub(r"`[^`\n]*`", "x", text)):
         yield from re.split(r"(?<=[.?!:])\s+(?=[A-Z`x(\[])", " ".join(block.split()))
 
 
 def long_sentences():
-    for document in [README, *(ROOT / "docs" / it for it in ("SCRIPTS.md", "CALLING.md", "ARCHITECTURE.md", "promise.in.md"))]:
+    """No sentence of a document that is written by hand, or of a comment, is too long."""
+    for document in documents():
+        if document.parent.name == "crates" or document.name in ("PROMISE.md", "DEFINITIONS.md"):
+            continue
         for sentence in sentences(document):
             if len(sentence.split()) > MOST_WORDS_OF_A_SENTENCE:
                 yield document, f"has a sentence of {len(sentence.split())} words: {sentence}"
+    for path in sorted([*ROOT.glob("crates/*/src/**/*.rt"), *ROOT.glob("crates/*/specs/**/*.antt")]):
+        for sentence in comments(path):
+            if len(sentence.split()) > MOST_WORDS_OF_A_SENTENCE:
+                yield path, f"has a comment with a sentence of {len(sentence.split())} words: {sentence}"
+
+
+def comments(path):
+    """The sentences of a source's comments."""
+    lines = [re.match(r"\s*(?:///|//!|//|--) ?([^|]*)$", line) for line in path.read_text().split("\n")]
+    text = "\n".join(line[1] if line else "" for line in lines)
+    for block in re.split(r"\n\s*\n|\n\s*(?=- |\d+\. )", text):
+        yield from re.split(r"(?<=[.?!:])\s+(?=[A-Z`(\[])", " ".join(block.split()))
 
 
 def crate_tables():
     """Each crate has a row in ARCHITECTURE, which names some of the libraries that it uses and no other."""
     document = ROOT / "docs/ARCHITECTURE.md"
-    rows = dict(re.findall(r"^\| `(tx\w+)` \|[^|]*\|([^|]*)\|$", document.read_text(), re.M))
+    rows = dict(re.findall(r"^\| `(tx\w+|auction)` \|[^|]*\|([^|]*)\|$", document.read_text(), re.M))
     lines = [line.split("#")[0] for line in (ROOT / "crates.txt").read_text().split("\n")]
     uses = {line.split(":")[0].strip(): line.split(":")[1].split() for line in lines if ":" in line}
     for crate in uses.keys() - rows.keys():

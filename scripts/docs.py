@@ -6,6 +6,7 @@
   ARCHITECTURE.md      the table of proofs that other crates use
   SCRIPTS.md           the examples, from examples/; the session of a world has to be that of its script
   CALLING.md           its code, from the tests
+  EMBEDDING.md         its code, from the auction
 
 usage: docs.py [--check]      --check writes nothing, and ends with 1 where a file is not what would be written, or where what
                               the documents claim is not so (scripts/claims.py)
@@ -125,11 +126,11 @@ def calling(text):
     """Fills each block that is headed by a file with what the file has before its tests, its imports too."""
 
     def block(head):
-        lines = (ROOT / head[1]).read_text().partition("\n#[test]")[0].rstrip().split("\n")
+        lines = (ROOT / head[2]).read_text().partition("\n#[test]")[0].rstrip().split("\n")
         code = [line for line in lines if not line.startswith("//!")]
-        return f"```rust {head[1]}\n" + "\n".join(code).strip() + "\n```"
+        return f"```{head[1]} {head[2]}\n" + "\n".join(code).strip() + "\n```"
 
-    return re.sub(r"```rust (\S+)\n.*?```", block, text, flags=re.S)
+    return re.sub(r"```(rust|antt) (\S+)\n.*?```", block, text, flags=re.S)
 
 
 def used_proofs():
@@ -165,7 +166,7 @@ def architecture(text):
 
 def written():
     """Each file that is made by script, or has parts that are, beside its text."""
-    made = {"WRONG_BODIES.md": wrong_bodies, "SCRIPTS.md": scripts, "CALLING.md": calling, "ARCHITECTURE.md": architecture}
+    made = {"WRONG_BODIES.md": wrong_bodies, "SCRIPTS.md": scripts, "CALLING.md": calling, "EMBEDDING.md": calling, "ARCHITECTURE.md": architecture}
     texts = {ROOT / "docs" / name: make((ROOT / "docs" / name).read_text()) for name, make in made.items()}
     return {**texts, **pages.written(), promise.PAGE: promise.written()}
 

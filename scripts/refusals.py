@@ -17,19 +17,24 @@ from typing import Callable, NamedTuple
 
 from script_files import MODES, settings_of
 
-# Tests that count to a large limit, and so have as many allocations as that.
+# Tests that count to a large limit: they do not begin anew where memory is refused on the way.
 LEFT_OUT = {
-    "txc_cases stream::the_largest_row_is_filled_and_walked",
+    "txc_batch_cases batch::a_reader_that_never_ends",
     "txc_client_cases clients::refusals::a_client_needs_a_pass_of_each_node",
     "txc_client_cases clients::refusals::clients_are_refused_at_limits",
     "txc_db_cases pins::shared::users_and_pins_have_a_limit",
     "txc_run_cases run::a_reader_that_never_ends",
     "txc_txn_cases shared::locked::passes_have_a_limit",
+    "txc_world_cases world::a_reader_that_never_ends",
 }
 
-# A run with at most so many allocations has each refused, a longer one an evenly spaced sample.
+# Each allocation of a test is refused where there are at most so many, and all those runs take at most so many seconds of
+# one core. Of another test an evenly spaced sample is refused, of at most so many, which takes no longer.
 ALL = 79_999
+COST = 1_800
 SAMPLE = 2_000
+
+# How long a run may take.
 SECONDS = 60
 
 REFUSED = b"refused memory"
@@ -146,21 +151,31 @@ def examples() -> list[Case]:
     return found
 
 
-def count(case: Case) -> tuple[int, Ended]:
-    """How many allocations a run makes where none is refused, and how it ends."""
+def seconds_of_children() -> float:
+    """The processor time of all runs so far."""
+    used = resource.getrusage(resource.RUSAGE_CHILDREN)
+    return used.ru_utime + used.ru_stime
+
+
+def count(case: Case) -> tuple[int, float, Ended]:
+    """How many allocations a run makes where none is refused, how many seconds it takes, and how it ends."""
     file = f"{sys.argv[1]}.count"
     # what the last run left would hide that this one counted nothing
     open(file, "wb").close()
+    before = seconds_of_children()
     whole = run(case, REFUSE_COUNT=file)
+    seconds = seconds_of_children() - before
     with open(file, "rb") as it:
         counted = it.read()
-    return int.from_bytes(counted, "little") if counted else -1, whole
+    return int.from_bytes(counted, "little") if counted else -1, seconds, whole
 
 
-def chosen(allocations: int) -> list[int]:
-    if allocations <= ALL:
+def chosen(allocations: int, seconds: float) -> list[int]:
+    """The allocations that are refused, of so many, where a run takes so many seconds."""
+    if allocations <= ALL and allocations * seconds <= COST:
         return list(range(1, allocations + 1))
-    return [1 + at * (allocations - 1) // (SAMPLE - 1) for at in range(SAMPLE)]
+    sample = min(SAMPLE, int(COST / max(seconds, 0.001)), allocations)
+    return [1 + at * (allocations - 1) // max(sample - 1, 1) for at in range(sample)]
 
 
 def tried(case: Case, whole: Ended, at: int) -> str | None:
@@ -169,14 +184,14 @@ def tried(case: Case, whole: Ended, at: int) -> str | None:
 
 def refuse(pool: ThreadPoolExecutor, case: Case) -> tuple[int, int]:
     """Refuses the case's allocations, and returns how many, and how many runs ended badly."""
-    allocations, whole = count(case)
+    allocations, seconds, whole = count(case)
     why = stopped(whole) or case.wrong(case, whole, whole)
     if not why and allocations < 0:
         why = "its allocations were not counted"
     if why:
         print(f"{case.name}: fails where nothing is refused: {why}", flush=True)
         return 0, 1
-    numbers = chosen(allocations)
+    numbers = chosen(allocations, seconds)
     ends = zip(numbers, pool.map(partial(tried, case, whole), numbers))
     bad = [(at, why) for at, why in ends if why]
     sample = " (a sample)" if len(numbers) < allocations else ""

@@ -5,12 +5,15 @@ usage: times.py PROGRAM ROWS.. / EVENTS..
   ROWS     the sizes of the first table, the least first
   EVENTS   the lengths of the history, at the first size
 
-Each line: the operation, and the processor time of one run of it. Queries by id, by group and of a range name few different
-ids again and again, or all of the table in turn; a range has the ids of a group. A commit stands beside the store's own write of the same changes,
+Each line: the operation, and the processor time of one run of it. Queries by id, by group and of a range, beside 500 old
+bodies, name few different ids again and again, or all of the table in turn; a range has the ids of a group. A commit stands beside the store's own write of the same changes,
 and the same commit once more, which changes nothing, shows what it reads; all three without what it takes to make
-the changes. Last comes what the greatest size and the longest history take, as multiples of what the least take.
+the changes. Then come removals, changes of group and new ids above the others, by the store's own writes, its purges of
+500 old bodies, and purges of as many as there are rows, or of the most rows. With PURGES=N there are N purges of 500 alone. Last comes
+what the greatest size and the longest history take, as multiples of what the least take.
 """
 
+import os
 import subprocess
 import sys
 import time
@@ -33,6 +36,11 @@ ROUNDS = 5
 CHANGES = {1: 40, 256: 1}
 # so many changes at a time of commits that change nothing
 AGAIN = 2560
+# the store's own writes of one row each, and how many at a time
+ONES = {"a removal": "remove", "a change of group": "move", "a new id": "add"}
+ONE = 40
+# so many versions die before a purge
+DYING = 500
 
 
 class Bench:
@@ -77,7 +85,7 @@ def line(name, nanoseconds, more=""):
 
 def queries(bench, rows):
     """The time of each kind of query, by its name."""
-    found = {"id": 1, "group": 10, "range": 10, "table": 1000, "refused": int(rows > 1024)}
+    found = {"id": 1, "group": 10, "range": 10, "table": 1000, "refused": int(rows + DYING > 1024)}
     spent = {}
     for name, (operation, times, few) in QUERIES.items():
         bench.run(f"ids {FEW if few else rows}", FEW if few else rows)
@@ -118,12 +126,40 @@ def vacuums(bench):
     return spent
 
 
+def writes(bench):
+    """The times of the store's own writes of one row, and of purges of what died by changes."""
+    spent = {name: bench.least(operation, ONE, 1) for name, operation in ONES.items()}
+    bench.run("purge 1", 1)
+    written, purged = [], []
+    for _ in range(int(os.environ.get("PURGES", ROUNDS))):
+        written.append(bench.run(f"write_1 {DYING}", DYING))
+        purged.append(bench.run("purge 1", 1))
+    spent[f"purge of {DYING}"] = min(purged)
+    for name, nanoseconds in spent.items():
+        line(name, nanoseconds, f"   writing them {shown(min(written))}" if name.startswith("purge") else "")
+    return spent
+
+
+def halves(bench, rows):
+    """What purges take beside the writing of what they drop: of half of all versions as old bodies, and of the most rows."""
+    for name, operation, count in (("old bodies", "write_1", rows), ("removed rows", "remove", rows * 3 // 5)):
+        bench.run("purge 1", 1)
+        spent = bench.run(f"{operation} {count}", count)
+        # rows that were removed go with the second purge, where something was written between
+        purged = [bench.run("purge 1", 1)]
+        bench.run("add 1", 1)
+        purged.append(bench.run("purge 1", 1))
+        print(f"  {count} {name}: written in {shown(spent)}, purged in {shown(sum(purged))}", flush=True)
+
+
 def measured(bench, rows):
-    """All times at this size and this length of the history."""
+    """All times at this size and this length of the history, of queries beside some versions that have died."""
+    bench.run(f"commit_1 {DYING}", DYING)
     spent = queries(bench, rows)
     spent |= vacuums(bench)
     for count in CHANGES:
         spent |= commits(bench, count)
+    spent |= writes(bench)
     return spent
 
 
@@ -137,6 +173,8 @@ def main():
         setting_up = bench.run(f"rows {rows}", rows)
         print(f"rows {rows}, set up in {setting_up / 1e9:.1f} s", flush=True)
         by_rows[rows] = measured(bench, rows)
+        if "PURGES" not in os.environ:
+            halves(bench, rows)
         bench.close()
     for events in histories:
         bench = Bench(program)

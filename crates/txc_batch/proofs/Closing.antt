@@ -1,5 +1,5 @@
 -- Lines of a batch's script are answered, and the jobs run after them.
-use Rattle.std.proofs.Common.{◌≡◌, ◌≢◌, List, Vec, Result, Ok, Err, IfErr, IfOk, ℕ, refl, subst, inl, inr}
+use Rattle.std.proofs.Common.{◌≢◌, List, Vec, Result, Ok, Err, IfErr, IfOk, ℕ, refl, subst, inl, inr}
 use Rattle.std.specs.declared.alloc.Global.{Global}
 use Rattle.txc_app.specs.Eval.{Next}
 use Rattle.txc_script.specs.Answers.{IsUnanswered}
@@ -16,7 +16,6 @@ use Rattle.txc_batch.specs.Orders.{AsksFor}
 use Rattle.txc_batch.specs.Preparing.{IsBrokenOff}
 use Rattle.txc_batch.specs.RunJobs.{EndsSo, HaveRun}
 use Rattle.txc_batch.specs.declared.order.Order.{Order}
-use Rattle.txc_batch.specs.declared.order.Order.TheVariants.{Prepare}
 
 -- a line that was not read left the state as it was
 pub unread : (next : Next) (s : BatchState) (line : List ℕ) (reason : Unread) → IsNone (AsksFor s.jobs line) reason → IsUnanswered (batch_script next) s line s reason

@@ -1,5 +1,5 @@
 -- What is wrong with the words of a malformed line of a batch's script.
-use Rattle.std.proofs.Common.{◌≡◌, ◌≢◌, ℕ, ◌+◌, ◌≤◌, List, [], ◌∷◌, ◌++◌, Option, None, Some, IfNone, IfSome, map, length, take, refl, sym, ap, subst, ◌∙◌, inl, inr, append_assoc, arith}
+use Rattle.std.proofs.Common.{◌≡◌, ℕ, ◌+◌, ◌≤◌, List, [], ◌∷◌, ◌++◌, Option, None, Some, IfNone, IfSome, map, length, take, refl, sym, ap, subst, ◌∙◌, inl, inr, append_assoc, arith}
 use Rattle.std.specs.Prelude.{codes}
 use Rattle.std.specs.List.{All}
 use Rattle.std.specs.Fmt.{decimal}
@@ -9,8 +9,6 @@ use Rattle.txc_tags.specs.Keys.{Call}
 use Rattle.txc_tags.specs.TextKey.{key_text, IsKeyInRange}
 use Rattle.txc_script.specs.Excerpts.{ExcerptValue}
 use Rattle.txc_script.specs.LineFaults.{AreOfKinds, IsBadWord, IsOfKind, StopsAt}
-use Rattle.txc_script.specs.Lines.{IsKeyWord}
-use Rattle.txc_script.specs.Words.{words_of}
 use Rattle.txc_script.specs.declared.line_fault.CommandFault.{CommandFault}
 use Rattle.txc_script.specs.declared.line_fault.CommandFault.TheVariants as faults
 use Rattle.txc_script.specs.declared.line_fault.WordFault.{WordFault}

@@ -1,5 +1,5 @@
 -- The rows of nodes, by their numbers.
-use Rattle.std.proofs.Common.{◌≡◌, ℕ, ◌+◌, zero, suc, List, [], ◌∷◌, get_or, refl, sym, ap, subst, ◌∙◌, arith}
+use Rattle.std.proofs.Common.{◌≡◌, ℕ, ◌+◌, suc, List, [], ◌∷◌, get_or, refl, ap, ◌∙◌, arith}
 use Rattle.txc_batch.specs.Rows.{AreRowsOf}
 
 -- so many places later

@@ -1,5 +1,5 @@
 -- Nothing is wrong with the words of a line of a batch's script that asks for something.
-use Rattle.std.proofs.Common.{◌≡◌, ◌≢◌, ◌⊎◌, ◌≤◌, ℕ, List, [], ◌∷◌, map, length, refl, sym, ap, subst, ◌∙◌, inl, inr, arith}
+use Rattle.std.proofs.Common.{◌≡◌, ◌≢◌, ◌⊎◌, ◌≤◌, ℕ, List, [], ◌∷◌, map, length, refl, sym, ap, subst, inl, inr, arith}
 use Rattle.std.specs.Prelude.{codes}
 use Rattle.std.specs.List.{All}
 use Rattle.std.proofs.lemmas.List.Elements.{All-head, All-tail}
@@ -14,11 +14,9 @@ use Rattle.txc_script.specs.declared.line_name.LineName.{LineName}
 use Rattle.txc_play.specs.Tasks.{name_text, Says}
 use Rattle.txc_play.specs.declared.task.Task.{Task}
 use Rattle.txc_play.proofs.NothingWrong.{has_kinds, none_after, none_bad}
-use Rattle.txc_play.proofs.TaskNames.{same_name}
-use Rattle.txc_play.proofs.TaskParts.{first_is, others_are}
 use Rattle.txc_work.specs.declared.job.Job.{Job}
 use Rattle.txc_batch.specs.BatchFaults.{job_kinds, IsBatchFault, IsJobFault, IsPreparingFault}
-use Rattle.txc_batch.specs.Orders.{AreJobWords, AsksFor, IsPreparing, SpellsPreparing}
+use Rattle.txc_batch.specs.Orders.{AreJobWords, AsksFor, IsPreparing}
 use Rattle.txc_batch.specs.Queueing.{QueuedValue}
 use Rattle.txc_batch.specs.declared.order.Order.{Order}
 use Rattle.txc_batch.specs.declared.order.Order.TheVariants.{Prepare, Run}

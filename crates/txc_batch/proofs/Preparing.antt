@@ -1,5 +1,5 @@
 -- Changes and pins of a batch's script, and jobs that are put behind the others.
-use Rattle.std.proofs.Common.{◌≡◌, ℕ, Bool, List, [], ◌∷◌, ◌++◌, Option, Some, Result, Ok, Err, IfOk, OnErr, None, false, refl, sym, ap, ◌∙◌, inl, inr, append-nil}
+use Rattle.std.proofs.Common.{◌≡◌, ℕ, Bool, List, Some, Result, Ok, Err, IfOk, OnErr, None, false, refl, sym, ap, ◌∙◌, inl, inr, append-nil}
 use Rattle.std.specs.declared.alloc.AllocError.{AllocError}
 use Rattle.txc_app.specs.Eval.{Next}
 use Rattle.txc_play.specs.Playing.{IsCutShort, IsTaskDone}

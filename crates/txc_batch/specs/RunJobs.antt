@@ -1,5 +1,5 @@
 -- What jobs come to that are run over the database and the pincushion of a world.
-use Rattle.std.specs.Prelude.{◌≡◌, ◌⊎◌, ℕ, List, All, Contains, IsPermutation, Result, Ok, Err}
+use Rattle.std.specs.Prelude.{◌⊎◌, ℕ, List, All, Contains, IsPermutation, Result, Ok, Err}
 use Rattle.std.specs.List.Sorted.{IsStrictlyIncreasing}
 use Rattle.std.specs.declared.alloc.Global.{Global}
 use Rattle.std.specs.declared.vec.Vec.{Vec}
@@ -21,8 +21,8 @@ abbrev pub AgreesWith : History → Outcome → Type 0
 AgreesWith L (outcomes.Receipt receipt) = IsPrefix L receipt.seen.history ⊎ IsPrefix receipt.seen.history L
 AgreesWith L (outcomes.Refused error) = Unit {0}
 
--- Each job ran once over the database as it stood, and has its result, in the order of the jobs' numbers: a
--- receipt, which answers its keys and is explained by its bounds; or a refusal that comes of one of its calls.
+-- Each job ran once over the database as it stood, and has its result, in the order of the jobs' numbers. It is
+-- a receipt, which answers its keys and is explained by its bounds; or a refusal that comes of one of its calls.
 -- What a receipt shows of the history goes on from the database's, or is a part of it.
 pub record HaveRun (next : Next) (database : DatabaseValue) (functions : List ℕ) (jobs : List Job)
     (results : List Receipted) : Type 0 where

@@ -70,9 +70,9 @@ where
 }
 
 /// Reads a script, and writes the replies to its changes and pins, which the keeper of the world makes. After all
-/// lines, none of which was malformed, its jobs run over the world's database and pincushion and over new nodes,
-/// each once, by workers on threads of their own, one for each registry; then a line is written for each job, in
-/// the order of the jobs. The status says what is wrong with a malformed line. A reader is read at most
+/// lines, none of which was malformed, its jobs run over the world's database and pincushion and over new nodes.
+/// Each runs once, by workers on threads of their own, one for each registry. Then a line is written for each job,
+/// in the order of the jobs. The status says what is wrong with a malformed line. A reader is read at most
 /// [`txc_script::MAX_READS`] times, where a read that was interrupted counts and is made again: one that has not
 /// come to its end by then is a read fault. The writer is flushed before the jobs run and at the end.
 pub fn run_batch_script<A, C, R, W, H>(

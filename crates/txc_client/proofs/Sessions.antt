@@ -1,5 +1,5 @@
 -- What a caller reads in a session.
-use Rattle.std.proofs.Common.{◌≡◌, ◌⊎◌, inl, inr, ℕ, zero, suc, ◌≤◌, List, [], ◌∷◌, ◌++◌, length, take, Option, Some, None, refl, sym, ap, subst, ◌∙◌, arith}
+use Rattle.std.proofs.Common.{◌≡◌, inl, inr, ℕ, zero, suc, ◌≤◌, List, [], ◌∷◌, ◌++◌, length, take, Option, Some, None, refl, sym, ap, subst, ◌∙◌, arith}
 use Rattle.std.specs.Prelude.{slice_get, option_map, IfSome}
 use Rattle.std.specs.List.{AllByRecursion}
 use Rattle.std.proofs.lemmas.Option.{slice_get_within}
@@ -11,11 +11,10 @@ use Rattle.txc_cushion.specs.declared.pin.Pin.{Pin}
 use Rattle.txc_app.specs.Eval.{Next}
 use Rattle.txc_ports.specs.declared.bounds.Bounds.{Bounds}
 use Rattle.txc_ports.specs.declared.recorded.Recorded.{Recorded}
-use Rattle.txc_txn.specs.declared.receipt.Receipt.{Receipt}
 use Rattle.txc_txn.specs.Core.{Explains}
-use Rattle.txc_txn.specs.Sessions.{began, noted_commit, noted_receipt, stamp_of, Deed, HasNoted, IsFloorOf}
+use Rattle.txc_txn.specs.Sessions.{began, noted_commit, noted_receipt, stamp_of, Deed, HasNoted}
 use Rattle.txc_txn.proofs.Sessions.{floor_stays}
-use Rattle.txc_client.specs.Sessions.{past_of, read_by, AreInSession, BeginningNotesNothing, IsNoNewer, IsOfDatabase, IsReceiptOf, NobodyGoesBack}
+use Rattle.txc_client.specs.Sessions.{read_by, BeginningNotesNothing, IsNoNewer, IsOfDatabase, NobodyGoesBack}
 
 -- ---- beginnings of one history
 

@@ -56,8 +56,8 @@ pub record HasAdded (xs : List Exchange) (before after : PassValue) : Type 0 whe
   pub own : own_records after ≡ own_records before ++ made
 
 -- The client's own records in the history of a node are, after a call of a transaction, those before it, and then
--- those of the call's exchanges with the node, in their order: one of each hit, at most one of each miss and of each
--- insertion, and no others.
+-- those of the call's exchanges with the node, in their order. They are one of each hit, at most one of each miss and
+-- of each insertion, and no others.
 abbrev pub CallsStandOnce : Type 0
 CallsStandOnce = (next : Next) (row : List ℕ) (node_rows : ℕ → List ℕ) (old new : RoTxnValue) (k : Call)
     (turn : Turn) (run : HasRun next row node_rows old k new turn) (node : ℕ) (before after : PassValue)

@@ -42,8 +42,8 @@ abbrev pub AreInSession : List Deed → Type 0
 AreInSession deeds = (before after : List Deed) (bounds : Bounds) → deeds ≡ before ++ began bounds ∷ after
     → IsFloorOf before bounds.at_least
 
--- A caller never reads a state older than one that it has read or made: of all that it did with one database in
--- one session, whatever transaction began, at whatever place, its receipt is of a state that is at least as
+-- A caller never reads a state older than one that it has read or made. Of all that it did with one database in
+-- one session, whatever transaction began, at whatever place: its receipt is of a state that is at least as
 -- new as each that was noted before it began. It may be the transaction of any client, and end at any time.
 abbrev pub NobodyGoesBack : Type 0
 NobodyGoesBack = (next : Next) (L : History) (deeds : List Deed)

@@ -4,8 +4,8 @@ ghost use Rattle.txc_client.specs.Laws.{CallsStandOnce};
 ghost use Rattle.txc_client.specs.Sessions.{BeginningNotesNothing, NobodyGoesBack};
 
 /// Of what a call of a transaction asked of a node, each hit stands in that node's history once, and each miss
-/// and each insertion at most once, as a node may refuse: under the client's pass, in the order in which it was
-/// asked, as far as the pass has seen. The pass has made no other record there.
+/// and each insertion at most once, as a node may refuse. They stand there under the client's pass, in the order
+/// in which they were asked, as far as the pass has seen. The pass has made no other record there.
 pub fn calls_stand_once()
     ensures { CallsStandOnce }
 {}

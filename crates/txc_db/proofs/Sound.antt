@@ -1,7 +1,7 @@
 -- What a database keeps through its calls.
-use Rattle.std.proofs.Common.{◌≡◌, ℕ, suc, ◌+◌, ◌≤◌, List, [], ◌∷◌, ◌++◌, length, ap, sym, subst, ◌∙◌, arith, add-one}
+use Rattle.std.proofs.Common.{◌≡◌, ℕ, zero, suc, false, refl, ◌+◌, ◌≤◌, List, [], ◌∷◌, ◌++◌, length, ap, sym, subst, ◌∙◌, arith, add-one}
 use Rattle.std.proofs.lemmas.List.{length_push}
-use Rattle.txc_rows.specs.States.{after_changes}
+use Rattle.txc_rows.specs.States.{State, after_changes}
 use Rattle.txc_rows.specs.declared.query.Change.{Change}
 use Rattle.txc_rows.specs.declared.version.Versioned.{Versioned}
 use Rattle.txc_rows.specs.Net.{IsNet}
@@ -10,7 +10,7 @@ use Rattle.txc_rows.specs.Keeping.{KeepsStates, KeepsWritten, KeepsPurged, Leads
 use Rattle.txc_rows.specs.Laws.{NoTagsBetween}
 use Rattle.txc_rows.specs.Uses.{KeepsAgreed, KeepsQuiet}
 use Rattle.txc_db.specs.Facts.{Fact, EventValue, commit}
-use Rattle.txc_db.specs.History.{state_at, pin_event, after_fact}
+use Rattle.txc_db.specs.History.{state_at, AreTagged, pin_event, after_fact}
 use Rattle.txc_db.specs.DatabaseValue.{DatabaseValue, newest, newest_state, IsSound, IsReadable, least}
 use Rattle.txc_db.proofs.Histories.{states_stay, state_before, state_pushed, tagged_pushed}
 use Rattle.txc_db.proofs.HeldStamps.{all_push, rises_push, least_low, least_high, readable_later, readable_from}
@@ -18,6 +18,21 @@ use Rattle.txc_db.proofs.HeldStamps.{all_push, rises_push, least_low, least_high
 -- the versions keep the old states of a longer history
 kept_on : KeepsAgreed → (d : DatabaseValue) (e : EventValue) → IsSound d → KeepsStates (state_at (d.history ++ e ∷ [])) d.horizon (newest d) d.versions
 kept_on agreed d e s = agreed (state_at d.history) (state_at (d.history ++ e ∷ [])) d.horizon (newest d) d.versions (λ t low high. sym (states_stay d.history (e ∷ []) t high)) s.kept
+
+-- ---- a new database
+
+tagged_empty : AreTagged []
+tagged_empty zero v is = absurd (cc is)
+tagged_empty (suc t) v is = absurd (cc is)
+
+pub new_sound : (events : List ℕ) (vs : List Versioned) → ((states : ℕ → State) → states 0 ≡ [] → KeepsStates states 0 0 vs)
+    → IsSound (record { events = events; history = []; versions = vs; horizon = 0; holds = []; broken = false })
+new_sound events vs keeps = record {
+  tagged = tagged_empty;
+  kept = keeps (state_at []) refl;
+  held = tt;
+  rising = tt;
+}
 
 -- ---- a pin
 

@@ -164,7 +164,7 @@ IsStoreRefusedIn d changes store.StoreMemory = changes ≢ []
 IsStoreRefusedIn d changes store.Memory = ⊥
 
 -- of a commit: broken, or beyond the newest stamp, or a conflict with what was read; then the store, or the
--- row is full; out of memory as soon as there is no conflict; and last another record stands in the row
+-- row is full. It may be out of memory as soon as there is no conflict. And last another record stands in the row.
 abbrev pub IsCommitRefused : DatabaseValue → ℕ → List Tag → List Change → DbError → Type 0
 IsCommitRefused d base read changes Broken = (d.broken ≡ true) ⊎ IsEventDue d base read changes
 IsCommitRefused d base read changes (FutureStamp last) =

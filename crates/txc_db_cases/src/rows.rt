@@ -155,13 +155,13 @@ list all 1 => 7:d [6,) 8:c [4,)
 /// Two births of one id at one stamp are refused, after a put and a removal that could be written.
 const REFUSED: &str = "write 1: put 1 7 2 a =>
 write 2: put 1 6 2 x, remove 1 7, put 1 8 2 y, put 1 8 2 z => \
-the store refused: UNIQUE constraint failed
+the store refused: CHECK constraint failed
 list all 1 => 7:a [1,)
 write 2: put 1 8 2 z =>
 list all 1 => 7:a [1,) 8:z [2,)
 ";
 
-/// The put of 7 looks at as many versions as there are of it, so that it stops the store, after the put of 5.
+/// The put of 7 finds a version and that of 5 finds none, so that it stops the store, after the put of 5.
 const STOPPED: &str = "write 1: put 1 7 2 a =>
 write 2: put 1 7 2 b =>
 write 3: put 1 7 2 c =>
@@ -170,17 +170,13 @@ write 5: put 1 7 2 e =>
 write 6: put 1 7 2 f =>
 write 7: put 1 7 2 g =>
 write 8: put 1 7 2 h =>
-limit 4 =>
+limit 2 =>
 write 9: put 1 6 2 x =>
 limit 0 =>
 write 10: put 1 5 2 y, put 1 7 2 i, put 1 8 2 z => the store refused: interrupted: the limit on steps was met
 limit 1 =>
 write 10: put 1 5 2 y, put 1 7 2 i, put 1 8 2 z => the store refused: interrupted: the limit on steps was met
 limit 2 =>
-write 10: put 1 5 2 y, put 1 7 2 i, put 1 8 2 z => the store refused: interrupted: the limit on steps was met
-limit 3 =>
-write 10: put 1 5 2 y, put 1 7 2 i, put 1 8 2 z => the store refused: interrupted: the limit on steps was met
-limit 4 =>
 write 10: put 1 5 2 y, put 1 7 2 i, put 1 8 2 z => the store refused: interrupted: the limit on steps was met
 limit none =>
 list all 1 => 6:x [9,) 7:a [1,2) 7:b [2,3) 7:c [3,4) 7:d [4,5) 7:e [5,6) 7:f [6,7) 7:g [7,8) 7:h [8,)
@@ -202,6 +198,44 @@ count range 1 1 1024 => 1024
 count range 1 1015 1024 => 10
 count range 1 1025 4294967295 => 0
 list id 1 1024 => 1024:a [2,)
+";
+
+/// A row that comes to another group, comes back, goes, and is put again; and a death before the last purge.
+const RETURNING: &str = "write 1: put 1 7 2 a =>
+write 2: put 1 7 3 b =>
+list group 1 2 => 7:a [1,2)
+list group 1 3 => 7:b [2,)
+write 3: put 1 7 2 c =>
+list group 1 2 => 7:a [1,2) 7:c [3,)
+list group 1 3 => 7:b [2,3)
+write 4: remove 1 7 =>
+write 5: put 1 7 2 d =>
+list id 1 7 => 7:a [1,2) 7:b [2,3) 7:c [3,4) 7:d [5,)
+purge 9 =>
+list id 1 7 => 7:d [5,)
+write 6: put 1 7 3 e =>
+list id 1 7 => 7:d [5,6) 7:e [6,)
+purge 6 =>
+list id 1 7 => 7:e [6,)
+";
+
+/// Versions that died fill all segments, are put together, and are found through all of it.
+const SEGMENTS: &str = "write 1: put 1 0-1023 2 a =>
+write 2: put 1 0-1023 2 b =>
+write 3: put 1 0-1023 2 c =>
+write 4: put 1 0-1023 2 d =>
+write 5: put 1 0-1023 2 e =>
+write 6: put 1 0-1023 2 f =>
+write 7: put 1 0-1023 2 g =>
+write 8: put 1 0-1023 2 h =>
+list id 1 7 => 7:a [1,2) 7:b [2,3) 7:c [3,4) 7:d [4,5) 7:e [5,6) 7:f [6,7) 7:g [7,8) 7:h [8,)
+write 9: put 1 0-1023 2 i =>
+write 10: put 1 0-1023 2 j =>
+list id 1 7 => 7:a [1,2) 7:b [2,3) 7:c [3,4) 7:d [4,5) 7:e [5,6) 7:f [6,7) 7:g [7,8) 7:h [8,9) 7:i [9,10) 7:j [10,)
+count range 1 900 999 => 1000
+count range 1 900 1002 => over 1,024 versions match
+purge 8 =>
+list id 1 7 => 7:h [8,9) 7:i [9,10) 7:j [10,)
 ";
 
 /// A body is 1 to 256 printable bytes.
@@ -249,10 +283,15 @@ fn play_all(rt: &(impl Abort + AllocGlobal), scripts: &[&str]) -> Result<(), Fai
 fn stores_follow_writes_and_purges_and_refused_ones_leave_them(
     rt: HostRuntime,
 ) -> Result<(), Fail> {
-    play_all(&rt, &[FOLLOWING, REFUSED, STOPPED, BODIES])
+    play_all(&rt, &[FOLLOWING, RETURNING, REFUSED, STOPPED, BODIES])
 }
 
 #[test]
 fn at_most_1024_versions_match(rt: HostRuntime) -> Result<(), Fail> {
     play_all(&rt, &[MANY])
+}
+
+#[test]
+fn what_died_is_found_in_all_segments(rt: HostRuntime) -> Result<(), Fail> {
+    play_all(&rt, &[SEGMENTS])
 }

@@ -9,6 +9,9 @@ use txc_players::{Obeys, obey, room};
 /// How a refusal ends that is for want of memory.
 const NO_MEMORY: &str = "out of memory";
 
+/// How a refusal begins that is for want of events, before the newest stamp.
+const TOO_NEW: &str = "the newest stamp is ";
+
 /// What is done after a script and its last transaction: all permits are counted, all pins are retired, a
 /// transaction that may be of any pin is handed none, and the newest stamp is told.
 const END: &str = "free
@@ -82,6 +85,18 @@ impl<'a> Judge<'a> {
             return true;
         }
         self.lines.contains(told)
+    }
+
+    /// Whether a call may end so in place of a value: refused, or since the next pin would be below what it asks for.
+    fn may_end(&mut self, alloc: Global, asked: Asked, told: &str) -> Result<bool, AllocError> {
+        match told.strip_prefix(TOO_NEW) {
+            Some(newest) => {
+                let newest = read(newest);
+                let is_below = newest.saturating_add(1) < asked.at_least;
+                Ok(is_below && self.history.ends_at(alloc, newest)?)
+            }
+            None => Ok(self.may_refuse(told)),
+        }
     }
 
     /// Notes what the keeper did, and judges it.
@@ -159,7 +174,7 @@ impl<'a> Judge<'a> {
         }
         self.history.may_pin(asked.now)?;
         if told.is_empty() || told.contains(" ") {
-            return Ok(self.may_refuse(told));
+            return self.may_end(alloc, asked, told);
         }
         let answer = Answer {
             asked: command,
@@ -211,7 +226,7 @@ impl<'a> Judge<'a> {
         let asked = Asked::of(after(line, 1));
         self.history.may_pin(asked.now)?;
         if !told.contains(" receipt ") {
-            return Ok(self.may_refuse(told));
+            return self.may_end(alloc, asked, told);
         }
         let mut answers = Vec::with_capacity(alloc, 2)?;
         for at in 0..2u32 {
@@ -234,7 +249,7 @@ impl<'a> Judge<'a> {
         asked.at_least = self.floor;
         self.history.may_pin(asked.now)?;
         if !told.contains(" receipt ") {
-            return Ok(self.may_refuse(told));
+            return self.may_end(alloc, asked, told);
         }
         let answer = Answer {
             asked: word(line, 4),

@@ -27,9 +27,9 @@ abbrev pub empty_cache : ℕ → ℕ → Cache
 empty_cache capacity depth =
     record { entries = []; processed = 0; recent = []; capacity = capacity; depth = depth }
 
--- what is true of a cache after every list of steps: no two entries have the same key and first stamp, it
--- holds no more than its capacity, and it keeps the tags of its last `depth` events, or of all while there
--- are fewer
+-- What is true of a cache after every list of steps. No two entries have the same key and first stamp. It
+-- holds no more than its capacity. And it keeps the tags of its last `depth` events, or of all while there
+-- are fewer.
 pub record IsCache (c : Cache) : Type 0 where
   pub apart : AreApart c.entries
   pub within : length c.entries ≤ c.capacity

@@ -105,8 +105,8 @@ abbrev pub IsFirstBad : LineName → List (List ℕ) → Option (List WordKind) 
 IsFirstBad name words (Some kinds) fault = (length words ≡ length kinds) × IsBadWord kinds words fault
 IsFirstBad name words None fault = (2 ≤ length words) × IsBadWord (first_kinds name) (take 2 words) fault
 
--- What is wrong with the words after a line's name: they end before the one that names a query or a change; else
--- that word names none, or the one before it is not of its kind; else the number of words is another; else a word
+-- What is wrong with the words after a line's name. They end before the one that names a query or a change; else
+-- that word names none, or the one before it is not of its kind. Else the number of words is another; else a word
 -- is not of its kind.
 abbrev pub IsFaultAfter : LineName → List (List ℕ) → CommandFault → Type 0
 IsFaultAfter name words (faults.Unknown text) = ⊥

@@ -1,5 +1,5 @@
 -- What a transaction was answered, and what explains it.
-use Rattle.std.specs.Prelude.{◌≡◌, ℕ, List, All, Some}
+use Rattle.std.specs.Prelude.{◌≡◌, List, All, Some}
 use Rattle.txc_rows.specs.States.{State}
 use Rattle.txc_db.specs.History.{History, moment_at, IsAllowed}
 use Rattle.txc_cushion.specs.declared.pin.Pin.{Pin}

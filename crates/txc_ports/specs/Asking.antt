@@ -32,8 +32,8 @@ pub record IsFoundOver (L : History) (query : Query) (stamp : ℕ) (found : Foun
   pub around : Holds found.reach stamp
   pub rows : RowsHold L query found.rows.items (Some found.reach) found.tags
 
--- The reply is right in the history that it shows: a pin of that moment, late enough; the pin that was to be added;
--- what a node has is true of the call; and what was found is the answer of the query.
+-- The reply is right in the history that it shows. It is a pin of that moment, late enough; or the pin that was to
+-- be added. What a node has is true of the call, and what was found is the answer of the query.
 abbrev pub IsAnsweredRight : Next → Exchange → Type 0
 IsAnsweredRight next (exchanges.Pin now at_least (Ok pinned)) = (pinned.moment ≡ now) × (at_least ≤ pinned.stamp)
     × (moment_at pinned.front.history pinned.stamp ≡ Some pinned.moment)

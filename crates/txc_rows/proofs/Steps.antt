@@ -1,34 +1,39 @@
--- What the statements do to the rows of the table.
-use Rattle.std.proofs.Common.{◌≡◌, ◌⊎◌, inl, inr, ℕ, ℤ, pos, [], ◌∷◌, Bool, true, false, cond, None, Ok, Err, Result, OnOk, refl, sym, ap, subst, ◌∙◌}
+-- What the statements on the tables do: the table that is written gets its rows, and the other keeps its own.
+use Rattle.std.proofs.Common.{◌≡◌, ◌⊎◌, inl, inr, ℕ, ℤ, pos, List, [], ◌∷◌, length, Bool, true, false, cond, None, Some, Option, Ok, Err, Result, refl, sym, ap, subst, ◌∙◌}
 use Rattle.sqlite.specs.declared.types.Value.{Value}
-use Rattle.sqlite.specs.declared.types.Value.TheVariants.{Null, Int, Blob}
+use Rattle.sqlite.specs.declared.types.Value.TheVariants.{Null, Int}
 use Rattle.sqlite.specs.Order.{Row}
 use Rattle.sqlite.specs.Ops.{unary}
 use Rattle.sqlite.specs.Kind.TheVariants.{Integer}
-use Rattle.sqlite.specs.Source.TheVariants.{Values}
-use Rattle.sqlite.specs.Command.TheVariants.{Insert, CreateTable}
-use Rattle.sqlite.specs.Edit.{edit_of, edited, next_rowid}
+use Rattle.sqlite.specs.Source.{Source}
+use Rattle.sqlite.specs.Command.TheVariants.{Insert, Update, CreateTable}
+use Rattle.sqlite_schema.specs.declared.program.Program.{Program}
+use Rattle.sqlite_schema.specs.declared.schema.Table.{Table}
+use Rattle.sqlite_schema.specs.declared.schema.Schema.{Schema}
+use Rattle.sqlite.specs.Compile.{table_defined_by}
 use Rattle.sqlite.specs.Cast.{cast}
-use Rattle.sqlite.specs.Rowids.TheVariants.{Chosen}
-use Rattle.sqlite.specs.Change.{created, next_tree}
-use Rattle.sqlite.specs.Does.{Tally, Does, lacks_sequence}
-use Rattle.sqlite.specs.Rows.{Written}
+use Rattle.sqlite.specs.Edit.{edit_of, edited, next_rowid}
+use Rattle.sqlite_rules.specs.Calls.{ids_of}
+use Rattle.sqlite_rules.specs.Edit.{Applies}
+use Rattle.sqlite.specs.Rowids.TheVariants.{Chosen, Given}
+use Rattle.sqlite.specs.Change.{created, next_tree, KeepsRows}
+use Rattle.sqlite.specs.Does.{Tally, OnRows, lacks_sequence}
+use Rattle.sqlite.specs.Rows.{Written, Task, stamped}
 use Rattle.sqlite.specs.Tree.{Trees, put_row}
-use Rattle.sqlite.specs.declared.error.Error.{Error}
+use Rattle.sqlite.specs.declared.run.Mode.{Mode}
 use Rattle.sqlite.specs.Listing.{understood}
-use Rattle.sqlite.specs.Effect.{Database}
-use Rattle.sqlite.specs.State.{State, mode_of, Writes, Executes}
-use Rattle.sqlite.proofs.Callers.{statement_of, runs_as, one_step}
-use Rattle.txc_rows.specs.declared.version.Versioned.{Versioned}
-use Rattle.txc_rows.specs.Texts.{version_table, version_schema, no_schema}
-use Rattle.txc_rows.specs.Stored.{stored, number}
-use Rattle.txc_rows.proofs.Commands.{create_text, create_is, create_plain, insert_text, terms, insert_is, insert_plain}
+use Rattle.sqlite.specs.Effect.{Database, Answers, IsSource}
+use Rattle.sqlite.specs.State.{State, Writes, Executes}
+use Rattle.sqlite.proofs.Callers.{command_of, statement_of, runs_as, one_step, IsPlain}
+use Rattle.txc_rows.specs.Placed.{Placed}
+use Rattle.txc_rows.specs.Texts.{table_of_versions, version_schema}
+use Rattle.txc_rows.specs.Stored.{stored, cells_of}
 
 either : (b : Bool) (x : Value) → cond b x x ≡ x
 either true x = refl
 either false x = refl
 
-cast_null : cast Integer Null ≡ Null
+pub cast_null : cast Integer Null ≡ Null
 unfolding unary
 cast_null = either _ Null
 
@@ -44,39 +49,75 @@ went (inr on) = on
 pub same_value : {B E : Type 0} {a b : B} → ◌≡◌ {A = Result B E} (Ok a) (Ok b) → a ≡ b
 same_value e = cc
 
-pub creates : (old new : State) (r : Result ℕ Error) → old.now.schema ≡ no_schema → Executes create_text [] old new r → OnOk r (new.now.schema ≡ version_schema) × OnOk r (new.now.trees 0 ≡ [])
-creates old new (Err e) has h = (tt, tt)
-creates old new (Ok count) has h =
-    let w = subst (λ t. Writes old new None CreateTable t [] count) create_is.1 (runs_as create_text [] old new no_schema has CreateTable create_is.0 create_plain count h) in
-    let all = went w.changed in
-    let first = went all.1 in
-    let made = first.1 in
-    let both : Ok made.table ≡ Ok version_table = sym made.defined ∙ create_is.2 in
-    let same : made.table ≡ version_table = cc in
-    let schema : first.0.schema ≡ version_schema = made.is ∙ ap (λ s. created s made.table) has ∙ ap (created no_schema) same in
-    let plain : lacks_sequence first.0.schema ≡ false = ap lacks_sequence schema in
-    let now : new.now ≡ first.0 = ap (λ (p : Tally × Database). p.1) (same_value all.2) ∙ same_value (rw plain at first.2) in
-    (ap (λ (d : Database). d.schema) now ∙ schema, ap (λ (d : Database). d.trees 0) now ∙ subst (λ s. first.0.trees (next_tree s) ≡ []) has made.empty)
+-- ---- tables come and go
 
-abbrev pub insert_params : Versioned → Row
-insert_params v = number v.row.table ∷ number v.row.id ∷ number v.born ∷ number v.row.group ∷ Blob v.row.body ∷ []
+module _ (schema : Schema) (text : List ℕ) (table : Table) (is : command_of (understood schema text) ≡ CreateTable) (whole : statement_of text (understood schema text) ≡ text) (plain : IsPlain (understood schema text))
+    (defines : table_defined_by text ≡ Ok table) (lacks : lacks_sequence (created schema table) ≡ false) where
+  pub creates : (old new : State) (count : ℕ) → old.now.schema ≡ schema → Executes text [] old new (Ok count)
+      → (new.now.schema ≡ created schema table) × (new.now.trees (next_tree schema) ≡ []) × KeepsRows schema.tables old.now.trees new.now.trees
+  creates old new count has h =
+      let w = subst (λ t. Writes old new None CreateTable t [] count) whole (runs_as text [] old new schema has CreateTable is plain count h) in
+      let all = went w.changed in
+      let first = went all.1 in
+      let made = first.1 in
+      let both : Ok made.table ≡ Ok table = sym made.defined ∙ defines in
+      let same : made.table ≡ table = cc in
+      let after : first.0.schema ≡ created schema table = made.is ∙ ap (λ s. created s made.table) has ∙ ap (created schema) same in
+      let none : lacks_sequence first.0.schema ≡ false = ap lacks_sequence after ∙ lacks in
+      let now : new.now ≡ first.0 = ap (λ (p : Tally × Database). p.1) (same_value all.2) ∙ same_value (rw none at first.2) in (
+        ap (λ (d : Database). d.schema) now ∙ after,
+        ap (λ (d : Database). d.trees (next_tree schema)) now ∙ subst (λ s. first.0.trees (next_tree s) ≡ []) has made.empty,
+        subst (λ (d : Database). KeepsRows schema.tables old.now.trees d.trees) (sym now) (subst (λ s. KeepsRows s.tables old.now.trees first.0.trees) has made.others),
+      )
 
-pub inserts : (old new : State) (v : Versioned) (r : Result ℕ Error) → old.now.schema ≡ version_schema → v.died ≡ None → Executes insert_text (insert_params v) old new r
-    → OnOk r (new.now.schema ≡ version_schema) × OnOk r (new.now.trees 0 ≡ put_row (stored (next_rowid (old.now.trees 0)) v) (old.now.trees 0))
-inserts old new v (Err e) has fresh h = (tt, tt)
-inserts old new v (Ok count) has fresh h =
-    let params = insert_params v in
-    let db = old.now.trees in
-    let command = Insert 0 (Values terms 7) in
-    let w = runs_as insert_text params old new version_schema has command insert_is insert_plain count h in
-    let text = statement_of insert_text (understood version_schema insert_text) in
-    let done = went (subst (λ s. Does old.step_limit (mode_of old) params (record old.now { schema = s }) text None command (Ok (w.tally, new.now))) has w.changed) in
-    let now = ap (λ (p : Tally × Database). p.1) (same_value (went (went done.2).2).2) in
-    let given = went done.1 in
-    let written = went (went given.2).2 in
-    let counted = went written.2 in
-    let trees : done.0.trees ≡ written.0 = ap (λ (it : Written). it.trees) (same_value counted.2) ∙ same_value counted.1 in
-    let rows = (one_step version_schema _ db written.0 (edit_of db version_table [] Chosen 0 given.0) refl written.1).rows in
-    let edit : edited db (edit_of db version_table [] Chosen 0 given.0) ≡ put_row (stored (next_rowid (db 0)) v) (db 0)
-    = ap (λ all. edited db (edit_of db version_table [] Chosen 0 all)) given.1.1 ∙ rw (fresh, cast_null, cast_int (pos v.row.table), cast_int (pos v.row.id), cast_int (pos v.born), cast_int (pos v.row.group)) refl in
-    (ap (λ (d : Database). d.schema) now, ap (λ (d : Database). d.trees 0) now ∙ ap (λ (t : Trees). t 0) trees ∙ rows ∙ edit)
+-- ---- rows come and change
+
+module _ (name : List ℕ) (tree : ℕ) (keys : List (List ℕ)) (limit : Option ℕ) (mode : Mode) (params : Row) (db : Trees) where
+  abbrev table : Table
+  table = table_of_versions name tree keys
+
+  abbrev task : Task
+  task = record { limit = limit; keys = mode.keys; schema = version_schema; table = table; params = params }
+
+  pub inserts_rows : (at : ℕ) (from : Source) (tally : Tally) (after : Database) → OnRows task mode None (Insert at from) db (Ok (tally, after))
+      → (given : List Row) × IsSource (record { schema = version_schema; trees = db }) (stamped table params) from given
+      × (after.schema ≡ version_schema) × (tally.rows ≡ Some (length (edit_of db table [] Chosen 0 given).news)) × Applies version_schema mode.keys db (edit_of db table [] Chosen 0 given) after.trees
+  inserts_rows at from tally after h =
+      let done = went h in
+      let said = same_value (went (went done.2).2).2 in
+      let given = went done.1 in
+      let written = went (went given.2).2 in
+      let counted = went written.2 in
+      let is = same_value counted.2 in
+      let trees : done.0.trees ≡ written.0 = ap (λ (it : Written). it.trees) is ∙ same_value counted.1 in
+      let step = one_step version_schema mode.keys db written.0 (edit_of db table [] Chosen 0 given.0) refl written.1 in (
+        given.0,
+        given.1,
+        ap (λ (p : Tally × Database). p.1.schema) said,
+        ap (λ (p : Tally × Database). p.0.rows) said ∙ ap (λ (it : Written). Some (length it.rows)) is,
+        subst (Applies version_schema mode.keys db (edit_of db table [] Chosen 0 given.0)) (sym (ap (λ (p : Tally × Database). p.1.trees) said ∙ trees)) step,
+      )
+
+  pub updates_rows : (at : ℕ) (q : Program) (tally : Tally) (after : Database) → OnRows task mode None (Update at q) db (Ok (tally, after))
+      → (given : List Row) × Answers (record { schema = version_schema; trees = db }) q params given
+      × (after.schema ≡ version_schema) × Applies version_schema mode.keys db (edit_of db table (ids_of given) Given 1 given) after.trees
+  updates_rows at q tally after h =
+      let done = went h in
+      let said = same_value (went (went done.2).2).2 in
+      let given = went done.1 in
+      let written = went given.2 in
+      let trees : done.0.trees ≡ written.0 = ap (λ (it : Written). it.trees) (same_value written.2) in
+      let step = one_step version_schema mode.keys db written.0 (edit_of db table (ids_of given.0) Given 1 given.0) refl written.1 in (
+        given.0,
+        given.1,
+        ap (λ (p : Tally × Database). p.1.schema) said,
+        subst (Applies version_schema mode.keys db (edit_of db table (ids_of given.0) Given 1 given.0)) (sym (ap (λ (p : Tally × Database). p.1.trees) said ∙ trees)) step,
+      )
+
+  -- one row is added at the end
+  pub one_more : (x : Placed) → edited db (edit_of db table [] Chosen 0 ((Null ∷ cells_of x) ∷ [])) ≡ put_row (stored (next_rowid (db tree)) x) (db tree)
+  one_more x = go x.version.died refl
+    where
+      go : (d : Option ℕ) → x.version.died ≡ d → edited db (edit_of db table [] Chosen 0 ((Null ∷ cells_of x) ∷ [])) ≡ put_row (stored (next_rowid (db tree)) x) (db tree)
+      go None e = rw (e, cast_null, cast_int (pos x.place), cast_int (pos x.version.row.table), cast_int (pos x.version.row.id), cast_int (pos x.version.born), cast_int (pos x.version.row.group)) refl
+      go (Some d) e = rw (e, cast_null, cast_int (pos d), cast_int (pos x.place), cast_int (pos x.version.row.table), cast_int (pos x.version.row.id), cast_int (pos x.version.born), cast_int (pos x.version.row.group)) refl

@@ -4,27 +4,30 @@ use Rattle.std.proofs.lemmas.Bool.Decides.{nat_tests}
 use Rattle.std.specs.Ordering.{int_cmp, nat_cmp, is_eq, is_ge, is_le, is_lt}
 use Rattle.std.specs.List.{flat_map, list_all, AllByRecursion}
 use Rattle.std.specs.List.Sorted.{IsPermutation, IsSorted}
-use Rattle.sqlite.specs.declared.types.Value.TheVariants.{Null}
+use Rattle.sqlite.specs.declared.types.Value.TheVariants.{Null, Blob}
 use Rattle.sqlite.specs.Order.{Row, value_cmp}
+use Rattle.sqlite.specs.Collation.{Collation}
 use Rattle.sqlite.specs.Collation.TheVariants.{Binary}
-use Rattle.sqlite_sql.specs.declared.ops.BinaryOp.TheVariants.{Compare, Is}
+use Rattle.sqlite_sql.specs.declared.ops.BinaryOp.TheVariants.{Compare, Is, Or}
 use Rattle.sqlite_sql.specs.declared.ops.CompareOp.TheVariants.{Eq, Ge, Le}
 use Rattle.sqlite_value.specs.declared.keys.Key.{Key}
 use Rattle.sqlite.specs.Tree.{rowid}
 use Rattle.sqlite.specs.Edit.{id_in}
-use Rattle.sqlite.specs.Query.{Query, IsAnswer, Output, output, output_cmp, limited, as_count}
-use Rattle.sqlite.specs.Program.{overlay}
-use Rattle.sqlite.specs.Effect.{Database, Answers}
+use Rattle.sqlite.specs.Query as query
+use Rattle.sqlite.specs.Query.{IsAnswer, IsSureAnswer, Output, output, output_cmp, limited, as_count}
+use Rattle.sqlite.specs.Tree.{Trees}
 use Rattle.sqlite_trees.proofs.ListLemmas.{map-map}
-use Rattle.sqlite.specs.Ops.{from_truth, is_true, binary}
+use Rattle.sqlite.specs.Ops.{from_truth, is_true, binary, or3, truth}
 use Rattle.sqlite.specs.Term.{Term, holds, eval}
 use Rattle.sqlite_value.proofs.OrderLemmas.{value_cmp-Int, value_cmp-apart, value_cmp-Null}
 use Rattle.txc_rows.specs.declared.version.Versioned.{Versioned}
 use Rattle.txc_rows.specs.States.{is_at}
-use Rattle.txc_rows.specs.Versions.{suits, is_current, has_died_by, died_by}
+use Rattle.txc_rows.specs.Versions.{suits, is_current}
+use Rattle.txc_rows.specs.Placed.{Placed, lasts_to, is_left, has_key}
+use Rattle.txc_rows.specs.declared.query.Query.{Query}
 use Rattle.txc_rows.specs.declared.query.Query.TheVariants.{ById, ByGroup, All, Range}
-use Rattle.txc_rows.specs.Stored.{stored, number, death, IsStored, death_in, version_in, shown, version_shown}
-use Rattle.txc_rows.proofs.Commands.{close_filter, purge_filter, table_filter, row_filter, group_filter, range_filter, whole, alone}
+use Rattle.txc_rows.specs.Stored.{stored, cells_of, number, death, IsStored, death_in, placed_in, placed_from, shown, version_shown}
+use Rattle.txc_rows.proofs.Commands.{close_filter, key_filter, left_filter, table_filter, row_filter, group_filter, range_filter, whole}
 
 pub int_cmp-pos : (a b : ℕ) → int_cmp (pos a) (pos b) ≡ nat_cmp a b
 int_cmp-pos a b = grind (arith, nat_tests)
@@ -34,6 +37,9 @@ is_eq-nat_cmp a b = grind (arith, nat_tests)
 
 pub is_le-nat_cmp : (a b : ℕ) → is_le (nat_cmp a b) ≡ nat_le a b
 is_le-nat_cmp a b = grind (arith, nat_tests)
+
+pub is_ge-nat_cmp : (a b : ℕ) → is_ge (nat_cmp a b) ≡ nat_le b a
+is_ge-nat_cmp a b = grind (arith, nat_tests)
 
 pub is_lt-nat_cmp : (a b : ℕ) → is_lt (nat_cmp a b) ≡ nat_lt a b
 is_lt-nat_cmp a b = grind (arith, nat_tests)
@@ -49,10 +55,15 @@ eq_test : (a b : ℕ) → is_true (binary (Compare Eq Binary) (number a) (number
 unfolding binary
 eq_test a b = true_of _ ∙ ap is_eq (number_cmp a b) ∙ is_eq-nat_cmp a b
 
-le_test : (a : Option ℕ) (b : ℕ) → is_true (binary (Compare Le Binary) (death a) (number b)) ≡ died_by b a
+-- a version that has not died, or not before the stamp
+left_is : (a : Option ℕ) (b : ℕ) → is_true (binary Or (binary (Is Binary) (death a) Null) (binary (Compare Ge Binary) (death a) (number b))) ≡ lasts_to b a
 unfolding binary
-le_test None b = refl
-le_test (Some a) b = true_of _ ∙ ap is_le (number_cmp a b) ∙ is_le-nat_cmp a b
+left_is None b = rw (value_cmp-Null Null) refl
+left_is (Some a) b = rw (value_cmp-apart (number a) Null (λ e. omega (arith, e)), number_cmp a b) (or_of (is_ge (nat_cmp a b)) ∙ is_ge-nat_cmp a b)
+  where
+    or_of : (c : Bool) → is_true (from_truth (or3 (truth (from_truth (Some false))) (truth (from_truth (Some c))))) ≡ c
+    or_of true = refl
+    or_of false = refl
 
 null_test : (a : Option ℕ) → is_true (binary (Is Binary) (death a) Null) ≡ is_none a
 unfolding binary
@@ -70,28 +81,34 @@ one A true p = rw p refl
 one A false p = rw p refl
 
 -- the tests of WHERE, at a stored row
-pub close_test : (t i s : ℕ) (id : ℤ) (v : Versioned) → list_all (holds ((number t ∷ number i ∷ number s ∷ []) ∷ stored id v ∷ [])) close_filter ≡ (is_at t i v.row && is_current v)
-close_test t i s id v = all_three _ _ _ _ _ _ (eq_test v.row.table t) (eq_test v.row.id i) (null_test v.died)
+pub close_test : (t i s : ℕ) (id : ℤ) (x : Placed) → list_all (holds ((number t ∷ number i ∷ number s ∷ []) ∷ stored id x ∷ [])) close_filter ≡ (is_at t i x.version.row && is_current x.version)
+close_test t i s id x = all_three _ _ _ _ _ _ (eq_test x.version.row.table t) (eq_test x.version.row.id i) (null_test x.version.died)
 
-pub purge_test : (h : ℕ) (id : ℤ) (v : Versioned) → list_all (holds ((number h ∷ []) ∷ stored id v ∷ [])) purge_filter ≡ has_died_by h v
-purge_test h id v = one _ _ (le_test v.died h)
+pub copy_test : (t i g : ℕ) (id : ℤ) (x : Placed) → list_all (holds ((number t ∷ number i ∷ number g ∷ []) ∷ stored id x ∷ [])) key_filter ≡ has_key t i g x
+copy_test t i g id x = all_three _ _ _ _ _ _ (eq_test x.version.row.table t) (eq_test x.version.row.id i) (eq_test x.version.row.group g)
 
-pub table_test : (t n : ℕ) (id : ℤ) (v : Versioned) → list_all (holds ((number t ∷ number n ∷ []) ∷ stored id v ∷ [])) table_filter ≡ suits (All t) v
-table_test t n id v = one _ _ (eq_test v.row.table t)
+pub renew_test : (t i g place s : ℕ) (body : List ℕ) (id : ℤ) (x : Placed)
+    → list_all (holds ((number t ∷ number i ∷ number g ∷ number place ∷ number s ∷ Blob body ∷ []) ∷ stored id x ∷ [])) key_filter ≡ has_key t i g x
+renew_test t i g place s body id x = all_three _ _ _ _ _ _ (eq_test x.version.row.table t) (eq_test x.version.row.id i) (eq_test x.version.row.group g)
+
+pub left_test_is : (from : ℕ) (id : ℤ) (x : Placed) → list_all (holds ((number from ∷ []) ∷ stored id x ∷ [])) (left_filter 0) ≡ is_left from x.version
+left_test_is from id x = one _ _ (left_is x.version.died from)
+
+-- a version that a query asks for, of those that did not die before a stamp
+abbrev pub is_asked : Query → ℕ → Versioned → Bool
+is_asked q from v = suits q v && is_left from v
 
 both : (A B a b : Bool) → A ≡ a → B ≡ b → (A && (B && true)) ≡ (a && b)
 both A B true true p q = rw (p, q) refl
 both A B true false p q = rw (p, q) refl
 both A B false b p q = rw p refl
 
-pub row_test : (t n i : ℕ) (id : ℤ) (v : Versioned) → list_all (holds ((number t ∷ number n ∷ number i ∷ []) ∷ stored id v ∷ [])) row_filter ≡ suits (ById t i) v
-row_test t n i id v = both _ _ _ _ (eq_test v.row.table t) (eq_test v.row.id i)
-
-pub group_test : (t n g : ℕ) (id : ℤ) (v : Versioned) → list_all (holds ((number t ∷ number n ∷ number g ∷ []) ∷ stored id v ∷ [])) group_filter ≡ suits (ByGroup t g) v
-group_test t n g id v = both _ _ _ _ (eq_test v.row.table t) (eq_test v.row.group g)
-
-is_ge-nat_cmp : (a b : ℕ) → is_ge (nat_cmp a b) ≡ nat_le b a
-is_ge-nat_cmp a b = grind (arith, nat_tests)
+within : (A B C D a b c d : Bool) → A ≡ a → B ≡ b → C ≡ c → D ≡ d → (A && (B && (C && (D && true)))) ≡ ((a && (b && c)) && d)
+within A B C D true true true true p q r e = rw (p, q, r, e) refl
+within A B C D true true true false p q r e = rw (p, q, r, e) refl
+within A B C D true true false d p q r e = rw (p, q, r) refl
+within A B C D true false c d p q r e = rw (p, q) refl
+within A B C D false b c d p q r e = rw p refl
 
 from_test : (a b : ℕ) → is_true (binary (Compare Ge Binary) (number a) (number b)) ≡ nat_le b a
 unfolding binary
@@ -101,31 +118,38 @@ to_test : (a b : ℕ) → is_true (binary (Compare Le Binary) (number a) (number
 unfolding binary
 to_test a b = true_of _ ∙ ap is_le (number_cmp a b) ∙ is_le-nat_cmp a b
 
-within : (A B C a b c : Bool) → A ≡ a → B ≡ b → C ≡ c → (A && (B && (C && true))) ≡ (a && (b && c))
-within A B C true true true p q r = rw (p, q, r) refl
-within A B C true true false p q r = rw (p, q, r) refl
-within A B C true false c p q r = rw (p, q) refl
-within A B C false b c p q r = rw p refl
+pub table_test : (t n from : ℕ) (id : ℤ) (x : Placed) → list_all (holds ((number t ∷ number n ∷ number from ∷ []) ∷ stored id x ∷ [])) table_filter ≡ is_asked (All t) from x.version
+table_test t n from id x = both _ _ _ _ (eq_test x.version.row.table t) (left_is x.version.died from)
 
-pub range_test : (t n a b : ℕ) (id : ℤ) (v : Versioned) → list_all (holds ((number t ∷ number n ∷ number a ∷ number b ∷ []) ∷ stored id v ∷ [])) range_filter ≡ suits (Range t a b) v
-range_test t n a b id v = within _ _ _ _ _ _ (eq_test v.row.table t) (from_test v.row.id a) (to_test v.row.id b)
+pub row_test : (t n from i : ℕ) (id : ℤ) (x : Placed) → list_all (holds ((number t ∷ number n ∷ number from ∷ number i ∷ []) ∷ stored id x ∷ [])) row_filter ≡ is_asked (ById t i) from x.version
+row_test t n from i id x = all_three _ _ _ _ _ _ (eq_test x.version.row.table t) (eq_test x.version.row.id i) (left_is x.version.died from)
+
+pub group_test : (t n from g : ℕ) (id : ℤ) (x : Placed) → list_all (holds ((number t ∷ number n ∷ number from ∷ number g ∷ []) ∷ stored id x ∷ [])) group_filter ≡ is_asked (ByGroup t g) from x.version
+group_test t n from g id x = all_three _ _ _ _ _ _ (eq_test x.version.row.table t) (eq_test x.version.row.group g) (left_is x.version.died from)
+
+pub range_test : (t n from a b : ℕ) (id : ℤ) (x : Placed)
+    → list_all (holds ((number t ∷ number n ∷ number from ∷ number a ∷ number b ∷ []) ∷ stored id x ∷ [])) range_filter ≡ is_asked (Range t a b) from x.version
+range_test t n from a b id x = within _ _ _ _ _ _ _ _ (eq_test x.version.row.table t) (from_test x.version.row.id a) (to_test x.version.row.id b) (left_is x.version.died from)
 
 -- ---- rows that are stored versions
 
-pub select_stored : (p : Row → Bool) (P : Versioned → Bool) → ((id : ℤ) (v : Versioned) → p (stored id v) ≡ P v) → (rows : List Row) → AllByRecursion IsStored rows
-    → filter p rows ≡ filter (λ r. P (version_in r)) rows
+pub select_stored : (p : Row → Bool) (P : Placed → Bool) → ((id : ℤ) (x : Placed) → p (stored id x) ≡ P x) → (rows : List Row) → AllByRecursion IsStored rows
+    → filter p rows ≡ filter (λ r. P (placed_in r)) rows
 select_stored p P same [] all = refl
 select_stored p P same (r ∷ rows) all =
-    let here : p r ≡ P (version_in r) = ap p all.0 ∙ same (id_in (rowid r)) (version_in r) in
-    rw here (ap (λ rest. cond (P (version_in r)) (r ∷ rest) rest) (select_stored p P same rows all.1))
+    let here : p r ≡ P (placed_in r) = ap p all.0 ∙ same (id_in (rowid r)) (placed_in r) in
+    rw here (ap (λ rest. cond (P (placed_in r)) (r ∷ rest) rest) (select_stored p P same rows all.1))
 
 pub death_again : (d : Option ℕ) → death_in (death d) ≡ d
 death_again None = refl
 death_again (Some t) = refl
 
 -- a version that is stored is read back
-pub version_again : (id : ℤ) (v : Versioned) → version_in (stored id v) ≡ v
-version_again id v = ap (λ d. record v { died = d }) (death_again v.died)
+pub placed_again : (id : ℤ) (x : Placed) → placed_in (stored id x) ≡ x
+placed_again id x = ap (λ d. record x { version = record x.version { died = d } }) (death_again x.version.died)
+
+pub cells_again : (x : Placed) → placed_from (cells_of x) ≡ x
+cells_again x = ap (λ d. record x { version = record x.version { died = d } }) (death_again x.version.died)
 
 -- and so is what the query shows of it
 pub shown_again : (v : Versioned) → version_shown v.row.table (shown v) ≡ v
@@ -138,24 +162,24 @@ one_by_one p e [] = refl
 one_by_one p e (x ∷ xs) = elim (p x) as (λ b. cond b (e x ∷ []) [] ++ flat_map (λ y. cond (p y) (e y ∷ []) []) xs ≡ map e (cond b (x ∷ filter p xs) (filter p xs)))
     [ true ↦ ap (λ ys. e x ∷ ys) (one_by_one p e xs) | false ↦ one_by_one p e xs ]
 
--- all rows of table 0 that pass, in an order, up to a limit
-abbrev pub asked : List Term → List Term → List (Term × Key) → Term → Query
-asked filter project order limit = record (whole filter project) { order = order; limit = limit }
+-- all rows of the table in a tree that pass, in an order, up to a limit
+abbrev pub asked : ℕ → List Collation → List Term → List Term → List (Term × Key) → Term → query.Query
+asked tree by filter project order limit = record (whole tree filter project) { collations = by; order = order; limit = limit }
 
 abbrev pub passing : List Term → Row → List Row → List Row
 passing fs params = filter (λ r. list_all (holds (params ∷ r ∷ [])) fs)
 
-pub record IsPage (fs project : List Term) (order : List (Term × Key)) (limit : Term) (params : Row) (table found : List Row) : Type 0 where
+pub record IsPage (tree : ℕ) (by : List Collation) (fs project : List Term) (order : List (Term × Key)) (limit : Term) (params : Row) (table found : List Row) : Type 0 where
   pub ordered : List Output
-  pub same : IsPermutation (map (λ r. output (asked fs project order limit) (params ∷ r ∷ [])) (passing fs params table)) ordered
-  pub sorted : IsSorted (output_cmp (asked fs project order limit)) ordered
+  pub same : IsPermutation (map (λ r. output (asked tree by fs project order limit) (params ∷ r ∷ [])) (passing fs params table)) ordered
+  pub sorted : IsSorted (output_cmp (asked tree by fs project order limit)) ordered
   pub rows : found ≡ limited (as_count (eval limit (params ∷ []))) (map (λ (o : Output). o.1) ordered)
 
-pub answered : (fs project : List Term) (order : List (Term × Key)) (limit : Term) (db : Database) (params : Row) (found : List Row) → Answers db (alone (asked fs project order limit)) params found
-    → IsPage fs project order limit params (db.trees 0) found
-answered fs project order limit db params found h =
-    let q = asked fs project order limit in
-    let a : IsAnswer q (overlay db.trees []) params found = h.answer Null in
-    let kept : a.kept ≡ map (λ r. output q (params ∷ r ∷ [])) (passing fs params (db.trees 0))
-    = a.distinct ∙ ap (map (output q)) (a.grouped ∙ one_by_one (λ r. list_all (holds (params ∷ r ∷ [])) fs) (λ r. params ∷ r ∷ []) (db.trees 0)) ∙ map-map (output q) (λ r. params ∷ r ∷ []) _ in
+pub answered : (tree : ℕ) (by : List Collation) (fs project : List Term) (order : List (Term × Key)) (limit : Term) (db : Trees) (params : Row) (found : List Row)
+    → IsSureAnswer (asked tree by fs project order limit) db params found → IsPage tree by fs project order limit params (db tree) found
+answered tree by fs project order limit db params found h =
+    let q = asked tree by fs project order limit in
+    let a : IsAnswer q db params found = h Null in
+    let kept : a.kept ≡ map (λ r. output q (params ∷ r ∷ [])) (passing fs params (db tree))
+    = a.distinct ∙ ap (map (output q)) (a.grouped ∙ one_by_one (λ r. list_all (holds (params ∷ r ∷ [])) fs) (λ r. params ∷ r ∷ []) (db tree)) ∙ map-map (output q) (λ r. params ∷ r ∷ []) _ in
     record { ordered = a.ordered; same = subst (λ k. IsPermutation k a.ordered) kept a.same; sorted = a.sorted; rows = a.shown }

@@ -27,7 +27,7 @@ hit_is t i v e =
 pub hit_from : (t i : ℕ) (v : Versioned) → v.row.table ≡ t → v.row.id ≡ i → v.died ≡ None → is_at t i v.row && is_current v ≡ true
 hit_from t i v a b c = rw (eq-eqb _ _ a, eq-eqb _ _ b, c) refl
 
-holdable_closed : (t i s : ℕ) → s ≤ LAST_STAMP → (v : Versioned) → IsHoldable v → IsHoldable (closed t i s v)
+pub holdable_closed : (t i s : ℕ) → s ≤ LAST_STAMP → (v : Versioned) → IsHoldable v → IsHoldable (closed t i s v)
 holdable_closed t i s low v is = record { row = is.row; born = is.born; died = λ d e. go (is_at t i v.row && is_current v) d e }
   where
     go : (b : Bool) → (d : ℕ) → cond b (Some s) v.died ≡ Some d → d ≤ LAST_STAMP
@@ -35,7 +35,7 @@ holdable_closed t i s low v is = record { row = is.row; born = is.born; died = �
     go false d e = is.died d e
 
 -- what had died has still
-closed_dead : (t i s : ℕ) (v : Versioned) → v.died ≢ None → (closed t i s v).died ≢ None
+pub closed_dead : (t i s : ℕ) (v : Versioned) → v.died ≢ None → (closed t i s v).died ≢ None
 closed_dead t i s v dead = go (is_at t i v.row && is_current v)
   where
     go : (b : Bool) → cond b (Some s) v.died ≡ None → ⊥

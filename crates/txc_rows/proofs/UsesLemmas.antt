@@ -55,7 +55,7 @@ keeps_uses : (uses : List Use) (states : ℕ → State) (horizon newest : ℕ) (
     → AreRising (states newest) horizon newest uses → KeptAfter (λ t. fold (use_at t) (states t) uses) (fold next_horizon horizon uses) (fold after_use vs uses)
 keeps_uses [] states horizon newest vs keeps stays held rising = record { last = newest; keeps = keeps; stays = stays }
 keeps_uses (write net stamp ∷ uses) states horizon newest vs keeps stays held rising =
-    keeps_uses uses next horizon stamp (after_net stamp net vs) (keeps_written net stamp vs written next horizon newest before leads)
+    keeps_uses uses next horizon stamp (after_net stamp net vs) (keeps_written net stamp vs written.each next horizon newest before leads)
     (λ t low. rw (from_it stamp t low, from_it stamp stamp (omega arith)) (ap (after_changes net) (stays t (omega arith) ∙ sym (stays stamp (omega arith))))) written (subst (λ s. AreRising s horizon stamp uses) (sym changed) rising.3)
   where
     next : ℕ → State

@@ -9,6 +9,8 @@ pub mod Found
 pub mod StoreErrors
 pub mod Holdable
 pub mod Texts
+pub mod Readings
+pub mod Placed
 pub mod Stored
 pub mod Kept
 pub mod Keeping

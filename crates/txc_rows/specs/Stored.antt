@@ -9,6 +9,7 @@ use Rattle.sqlite.specs.declared.types.Value.TheVariants.{Null, Int, Real, Text,
 use Rattle.sqlite.specs.Order.{Row, column, bytes}
 use Rattle.sqlite.specs.Values.{or_null}
 use Rattle.txc_rows.specs.declared.version.Versioned.{Versioned}
+use Rattle.txc_rows.specs.Placed.{Placed}
 
 -- a number as the store keeps it
 abbrev pub number : ℕ → Value
@@ -18,10 +19,14 @@ number n = Int (pos n)
 abbrev pub death : Option ℕ → Value
 death = or_null number
 
+-- a version as the columns of a table
+abbrev pub cells_of : Placed → Row
+cells_of x = number x.place ∷ number x.version.row.table ∷ number x.version.row.id ∷ number x.version.born
+    ∷ number x.version.row.group ∷ Blob x.version.row.body ∷ death x.version.died ∷ []
+
 -- the number of the row in its table, and then its columns
-abbrev pub stored : ℤ → Versioned → Row
-stored id v = Int id ∷ number v.row.table ∷ number v.row.id ∷ number v.born
-    ∷ number v.row.group ∷ Blob v.row.body ∷ death v.died ∷ []
+abbrev pub stored : ℤ → Placed → Row
+stored id x = Int id ∷ cells_of x
 
 -- the number that a stored value says
 abbrev pub number_in : Value → ℕ
@@ -41,18 +46,41 @@ death_in (Real x) = None
 death_in (Text t) = None
 death_in (Blob b) = None
 
--- what a row of the table says
-abbrev pub version_in : Row → Versioned
-version_in r = record {
-  row = record {
-    table = number_in (column r 1);
-    id = number_in (column r 2);
-    group = number_in (column r 4);
-    body = bytes (column r 5);
+-- what the columns of a table say
+abbrev pub placed_from : Row → Placed
+placed_from r = record {
+  place = number_in (column r 0);
+  version = record {
+    row = record {
+      table = number_in (column r 1);
+      id = number_in (column r 2);
+      group = number_in (column r 4);
+      body = bytes (column r 5);
+    };
+    born = number_in (column r 3);
+    died = death_in (column r 6);
   };
-  born = number_in (column r 3);
-  died = death_in (column r 6);
 }
+
+-- what a row of a table says
+abbrev pub placed_in : Row → Placed
+placed_in r = record {
+  place = number_in (column r 1);
+  version = record {
+    row = record {
+      table = number_in (column r 2);
+      id = number_in (column r 3);
+      group = number_in (column r 5);
+      body = bytes (column r 6);
+    };
+    born = number_in (column r 4);
+    died = death_in (column r 7);
+  };
+}
+
+-- they are the columns of a version
+abbrev pub AreCells : Row → Type 0
+AreCells r = r ≡ cells_of (placed_from r)
 
 -- what the query on one table shows of a version: id, group, body, birth and death
 abbrev pub shown : Versioned → Row
@@ -71,13 +99,13 @@ version_shown table r = record {
   died = death_in (column r 4);
 }
 
--- the versions that the rows of the table say
-abbrev pub versions_in : List Row → List Versioned
-versions_in = map version_in
+-- the versions that the rows of a table say
+abbrev pub placed_all : List Row → List Placed
+placed_all = map placed_in
 
 -- the row is a version with its number
 abbrev pub IsStored : Row → Type 0
-IsStored r = r ≡ stored (id_in (rowid r)) (version_in r)
+IsStored r = r ≡ stored (id_in (rowid r)) (placed_in r)
 
 -- the rows are versions, and stand by their numbers
 pub record AreStored (rows : List Row) : Type 0 where

@@ -4,12 +4,17 @@
 mod decode;
 mod laws;
 mod query;
+mod reads;
 mod row;
+mod segments;
 mod statements;
 mod store;
 mod store_error;
 mod store_laws;
+mod tally;
+mod texts;
 mod version;
+mod writes;
 
 pub use laws::{net_changes_are_differences, states_are_maps, tags_are_sound, versions_say_states};
 pub use query::{Change, Query};

@@ -1,227 +1,308 @@
-//! The statements on the table of versions.
+//! The statements that make and drop tables, and leave out what died.
 
-ghost use Rattle.std.specs.Prelude.{◌≡◌, ◌++◌, ◌∷◌, [], ◌≤◌, true, OnOk, None};
+ghost use Rattle.std.specs.Prelude.{◌≡◌, ◌++◌, ◌∷◌, [], true, map, OnOk, IfOk};
+ghost use Rattle.std.specs.List.Sorted.{IsPermutation};
+ghost use Rattle.std.specs.List.{AllByRecursion};
 ghost use Rattle.sqlite.specs.Held.{state};
 ghost use Rattle.sqlite.specs.Steps.{over_memory, IsEmpty};
-ghost use Rattle.txc_stamp.specs.declared.stamp.TheConstants.{LAST_STAMP};
-ghost use Rattle.txc_rows.specs.Values.{IsRow};
-ghost use Rattle.txc_rows.specs.Versions.{removed, purged, after_write, after_net};
-ghost use Rattle.txc_rows.specs.Holdable.{AreHeld, IsWritable};
-ghost use Rattle.txc_rows.specs.declared.query.Query.TheVariants.{ById, ByGroup, All, Range};
-ghost use Rattle.txc_rows.specs.Kept.{versions_of, HasTable, IsKept, IsStep, IsCall, IsReading};
+ghost use Rattle.txc_rows.specs.Placed.{AreSwept, AreLeft, placed_left};
+ghost use Rattle.txc_rows.specs.Stored.{AreCells, placed_from};
+ghost use Rattle.txc_rows.specs.declared.texts.Segment.{Segment};
+ghost use Rattle.txc_rows.specs.Texts.{latest_schema, version_schema, schema_to, schema_before, made_before, segments, tree_of};
+ghost use Rattle.txc_rows.specs.declared.texts.Segment.TheVariants.{First};
+ghost use Rattle.txc_rows.specs.Kept.{latest_in, dead_in, placed_of, HasNoTable, HasMade, HasLatest, HasTables, HasVersions, IsKept, IsSame, IsStep, IsCall, IsLeaving, OthersStay, OthersAreEmpty};
 
-use crate::query::{Change, Query};
-use crate::row::Row;
-use crate::store_error::MAX_MATCHING;
-use sqlite::{Connection, Error, MemStore, Transaction, params};
+use crate::texts::{
+    ADD_LATEST, DROP_LATEST, MAKE_LATEST, SEGMENTS, Segment, Source, add_text, drop_text,
+    left_text, make_text,
+};
+use sqlite::{Connection, Error, ErrorCode, MemStore, Transaction, params};
 use std::alloc::Global;
-use txc_stamp::Stamp;
-use txc_tags::Table;
 
-/// A row for each version, with a key for each way to read it. The second finds the versions of a group; it
-/// could not be broken where the first is not.
-const CREATE_TABLE: &str =
-    "CREATE TABLE version (table_number INTEGER NOT NULL, id INTEGER NOT NULL, born INTEGER NOT NULL, \
-     group_number INTEGER NOT NULL, body BLOB NOT NULL, died INTEGER, \
-     PRIMARY KEY (table_number, id, born), \
-     UNIQUE (table_number, group_number, id, born)) STRICT";
+// ---- the tables
 
-/// A version that has not died.
-const ADD_VERSION: &str =
-    "INSERT INTO version (table_number, id, born, group_number, body) VALUES (?1, ?2, ?3, ?4, ?5)";
-
-/// The current version of a table and id dies.
-const END_VERSION: &str =
-    "UPDATE version SET died = ?3 WHERE table_number = ?1 AND id = ?2 AND died IS NULL";
-
-/// The versions that died by a stamp.
-const DELETE_DEAD: &str = "DELETE FROM version WHERE died <= ?1";
-
-/// What the statements that read share: versions of a table, by id and birth, at most so many of them. Each
-/// has a test of its own, which the store answers by a key of the table.
-macro_rules! read_where {
-    ($test:literal) => {
-        concat!(
-            "SELECT id, group_number, body, born, died FROM version WHERE table_number = ?1",
-            $test,
-            " ORDER BY id, born LIMIT ?2"
-        )
-    };
+fn make_latest(tx: &mut Transaction<'_, MemStore>) -> Result<usize, Error>
+    requires table { HasNoTable tx.old.conn.now }
+    requires inside { tx.old.conn.now.in_transaction ≡ true }
+    ensures same_reference { tx.new.conn.ghost_name ≡ tx.old.conn.ghost_name }
+    ensures step { IsStep (HasLatest latest_schema []) tx.old.conn.now tx.new.conn.now result }
+{
+    tx.execute(MAKE_LATEST, &[])
 }
 
-const READ_TABLE: &str = read_where!("");
+/// Makes a segment, where those before it have been made and no other.
+fn make_segment(tx: &mut Transaction<'_, MemStore>, segment: Segment) -> Result<usize, Error>
+    requires table { HasMade (schema_before segment) (latest_in tx.old.conn.now) (made_before segment) tx.old.conn.now }
+    requires inside { tx.old.conn.now.in_transaction ≡ true }
+    ensures same_reference { tx.new.conn.ghost_name ≡ tx.old.conn.ghost_name }
+    ensures step { IsStep
+        (HasMade (schema_to segment) (latest_in tx.old.conn.now) (segment ∷ made_before segment))
+        tx.old.conn.now tx.new.conn.now result }
+{
+    tx.execute(make_text(segment), &[])
+}
 
-const READ_ROW: &str = read_where!(" AND id = ?3");
+/// Makes all segments, each empty.
+fn make_segments(tx: &mut Transaction<'_, MemStore>) -> Result<usize, Error>
+    requires table { HasLatest latest_schema (latest_in tx.old.conn.now) tx.old.conn.now }
+    requires inside { tx.old.conn.now.in_transaction ≡ true }
+    ensures same_reference { tx.new.conn.ghost_name ≡ tx.old.conn.ghost_name }
+    ensures step { IsStep (HasVersions (latest_in tx.old.conn.now) []) tx.old.conn.now tx.new.conn.now result }
+    ensures empty { OnOk result ((s : Segment) → (state over_memory tx.new.conn.now).now.trees (tree_of s) ≡ []) }
+{
+    make_segment(tx, Segment::Seventh)?;
+    make_segment(tx, Segment::Sixth)?;
+    make_segment(tx, Segment::Fifth)?;
+    make_segment(tx, Segment::Fourth)?;
+    make_segment(tx, Segment::Third)?;
+    make_segment(tx, Segment::Second)?;
+    make_segment(tx, Segment::First)
+}
 
-const READ_GROUP: &str = read_where!(" AND group_number = ?3");
+/// Drops a segment, where those before it are there and no other.
+fn drop_segment(tx: &mut Transaction<'_, MemStore>, segment: Segment) -> Result<usize, Error>
+    requires table { HasLatest (schema_to segment) (latest_in tx.old.conn.now) tx.old.conn.now }
+    requires inside { tx.old.conn.now.in_transaction ≡ true }
+    ensures same_reference { tx.new.conn.ghost_name ≡ tx.old.conn.ghost_name }
+    ensures step { IsStep
+        (HasLatest (schema_before segment) (latest_in tx.old.conn.now))
+        tx.old.conn.now tx.new.conn.now result }
+{
+    tx.execute(drop_text(segment), &[])
+}
 
-const READ_RANGE: &str = read_where!(" AND id >= ?3 AND id <= ?4");
+/// Drops all segments.
+fn drop_segments(tx: &mut Transaction<'_, MemStore>) -> Result<usize, Error>
+    requires table { HasTables tx.old.conn.now }
+    requires inside { tx.old.conn.now.in_transaction ≡ true }
+    ensures same_reference { tx.new.conn.ghost_name ≡ tx.old.conn.ghost_name }
+    ensures step { IsStep
+        (HasLatest latest_schema (latest_in tx.old.conn.now))
+        tx.old.conn.now tx.new.conn.now result }
+{
+    drop_segment(tx, Segment::First)?;
+    drop_segment(tx, Segment::Second)?;
+    drop_segment(tx, Segment::Third)?;
+    drop_segment(tx, Segment::Fourth)?;
+    drop_segment(tx, Segment::Fifth)?;
+    drop_segment(tx, Segment::Sixth)?;
+    drop_segment(tx, Segment::Seventh)
+}
 
-/// So many versions are read at most: one more than may match shows that too many do.
-const MOST_READ: u32 = MAX_MATCHING as u32 + 1;
-
-/// Makes the table in a store that has none.
-pub(crate) fn create(conn: &mut Connection<MemStore>) -> Result<usize, Error>
+/// Makes the tables in a store that has none.
+pub(crate) fn create(conn: &mut Connection<MemStore>) -> Result<(), Error>
     requires { IsEmpty (state over_memory conn.old) }
     ensures kept { OnOk result (IsKept conn.new) }
-    ensures empty { OnOk result (versions_of conn.new ≡ []) }
+    ensures empty { OnOk result (placed_of conn.new ≡ []) }
+    ensures unused { OnOk result (OthersAreEmpty First conn.new) }
 {
-    conn.execute(CREATE_TABLE, &[])
+    let mut tx = conn.transaction();
+    make_latest(&mut tx)?;
+    make_segments(&mut tx)?;
+    tx.commit()
 }
 
-/// Adds a version that has not died.
-fn add_version(tx: &mut Transaction<'_, MemStore>, row: &Row, stamp: Stamp) -> Result<usize, Error>
-    requires table { HasTable tx.old.conn.now }
+// ---- leaving out what died
+
+/// Adds a version that was read to the last ones.
+fn add_row(tx: &mut Transaction<'_, MemStore>, row: &sqlite::Row) -> Result<usize, Error>
+    requires table { HasTables tx.old.conn.now }
     requires inside { tx.old.conn.now.in_transaction ≡ true }
+    requires cells { AreCells row.now }
     ensures same_reference { tx.new.conn.ghost_name ≡ tx.old.conn.ghost_name }
-    ensures row { IsRow row.now }
     ensures step { IsStep
-        (versions_of tx.old.conn.now ++ record { row = row.now; born = stamp; died = None } ∷ [])
+        (HasVersions (latest_in tx.old.conn.now ++ placed_from row.now ∷ []) (dead_in tx.old.conn.now))
         tx.old.conn.now tx.new.conn.now result }
+    ensures others { OnOk result (OthersStay 0 tx.old.conn.now tx.new.conn.now) }
 {
-    tx.execute(
-        ADD_VERSION,
-        params![
-            u32::from(row.table().number()),
-            row.id(),
-            stamp.number(),
-            row.group(),
-            row.body()
-        ],
-    )
+    let columns = [
+        row.get_ref(0)?,
+        row.get_ref(1)?,
+        row.get_ref(2)?,
+        row.get_ref(3)?,
+        row.get_ref(4)?,
+        row.get_ref(5)?,
+        row.get_ref(6)?,
+    ];
+    tx.execute(ADD_LATEST, &columns)
 }
 
-/// Ends the current version of a table and id, if there is one.
-fn end_version(
+/// Adds a version that was read to a segment.
+fn add_dead(
     tx: &mut Transaction<'_, MemStore>,
-    table: Table,
-    id: u32,
-    stamp: Stamp,
+    segment: Segment,
+    row: &sqlite::Row,
 ) -> Result<usize, Error>
-    requires table { HasTable tx.old.conn.now }
+    requires table { HasTables tx.old.conn.now }
     requires inside { tx.old.conn.now.in_transaction ≡ true }
-    requires held { AreHeld (versions_of tx.old.conn.now) }
+    requires cells { AreCells row.now }
     ensures same_reference { tx.new.conn.ghost_name ≡ tx.old.conn.ghost_name }
-    ensures stamp { stamp ≤ LAST_STAMP }
     ensures step { IsStep
-        (removed table id stamp (versions_of tx.old.conn.now))
+        (HasVersions (latest_in tx.old.conn.now) (dead_in tx.old.conn.now ++ placed_from row.now ∷ []))
         tx.old.conn.now tx.new.conn.now result }
+    ensures others { OnOk result (OthersStay (tree_of segment) tx.old.conn.now tx.new.conn.now) }
 {
-    tx.execute(
-        END_VERSION,
-        params![u32::from(table.number()), id, stamp.number()],
-    )
+    let columns = [
+        row.get_ref(0)?,
+        row.get_ref(1)?,
+        row.get_ref(2)?,
+        row.get_ref(3)?,
+        row.get_ref(4)?,
+        row.get_ref(5)?,
+        row.get_ref(6)?,
+    ];
+    tx.execute(add_text(segment), &columns)
 }
 
-fn write_change(
-    tx: &mut Transaction<'_, MemStore>,
-    change: &Change,
-    stamp: Stamp,
-) -> Result<(), Error>
-    requires table { HasTable tx.old.conn.now }
+fn fill_latest(tx: &mut Transaction<'_, MemStore>, rows: &[sqlite::Row]) -> Result<(), Error>
+    requires table { HasTables tx.old.conn.now }
     requires inside { tx.old.conn.now.in_transaction ≡ true }
-    requires held { AreHeld (versions_of tx.old.conn.now) }
+    requires cells { AllByRecursion AreCells rows.now }
     ensures same_reference { tx.new.conn.ghost_name ≡ tx.old.conn.ghost_name }
-    ensures writable { OnOk result (IsWritable stamp change.now) }
     ensures step { IsStep
-        (after_write stamp change.now (versions_of tx.old.conn.now))
+        (HasVersions (latest_in tx.old.conn.now ++ map placed_from rows.now) (dead_in tx.old.conn.now))
         tx.old.conn.now tx.new.conn.now result }
+    ensures others { OnOk result (OthersStay 0 tx.old.conn.now tx.new.conn.now) }
 {
-    match change {
-        Change::Put(row) => {
-            end_version(tx, row.table(), row.id(), stamp)?;
-            add_version(tx, row, stamp)?;
-        }
-        Change::Remove(table, id) => {
-            end_version(tx, *table, *id, stamp)?;
-        }
+    for row in rows {
+        add_row(tx, row)?;
     }
     Ok(())
 }
 
-/// Writes the changes of one commit, all or none.
-pub(crate) fn write_all(
-    conn: &mut Connection<MemStore>,
-    net: &[Change],
-    stamp: Stamp,
+fn fill_dead(
+    tx: &mut Transaction<'_, MemStore>,
+    segment: Segment,
+    rows: &[sqlite::Row],
 ) -> Result<(), Error>
-    requires { IsKept conn.old }
-    ensures { IsCall (after_net stamp net.now (versions_of conn.old)) conn.old conn.new result }
+    requires table { HasTables tx.old.conn.now }
+    requires inside { tx.old.conn.now.in_transaction ≡ true }
+    requires cells { AllByRecursion AreCells rows.now }
+    ensures same_reference { tx.new.conn.ghost_name ≡ tx.old.conn.ghost_name }
+    ensures step { IsStep
+        (HasVersions (latest_in tx.old.conn.now) (dead_in tx.old.conn.now ++ map placed_from rows.now))
+        tx.old.conn.now tx.new.conn.now result }
+    ensures others { OnOk result (OthersStay (tree_of segment) tx.old.conn.now tx.new.conn.now) }
 {
+    for row in rows {
+        add_dead(tx, segment, row)?;
+    }
+    Ok(())
+}
+
+/// The versions of a table that did not die before the stamp.
+fn read_left(
+    conn: &mut Connection<MemStore>,
+    source: Source,
+    from: u32,
+) -> Result<Vec<sqlite::Row>, Error>
+    requires { IsKept conn.old }
+    ensures { IsLeaving from source conn.old conn.new result }
+{
+    conn.query_all(left_text(source), params![from])
+}
+
+/// The versions of all segments that did not die before the stamp.
+fn read_all_left(
+    conn: &mut Connection<MemStore>,
+    alloc: Global,
+    from: u32,
+) -> Result<Vec<sqlite::Row>, Error>
+    requires { IsKept conn.old }
+    ensures same { IsSame conn.old conn.new }
+    ensures cells { IfOk result (λ rows. AllByRecursion AreCells rows.items) }
+    ensures left { IfOk result (λ rows. IsPermutation (placed_left from (dead_in conn.old)) (map placed_from rows.items)) }
+{
+    let mut left = Vec::new(alloc);
+    for segment in SEGMENTS {
+        let mut rows = read_left(conn, Source::Dead(*segment), from)?;
+        let Ok(()) = left.append(&mut rows) else {
+            return Err(Error::SqliteFailure(ErrorCode::OutOfMemory));
+        };
+    }
+    Ok(left)
+}
+
+/// The segments are made anew, with these versions in the first one.
+fn refill_dead(tx: &mut Transaction<'_, MemStore>, left: &[sqlite::Row]) -> Result<(), Error>
+    requires table { HasTables tx.old.conn.now }
+    requires inside { tx.old.conn.now.in_transaction ≡ true }
+    requires cells { AllByRecursion AreCells left.now }
+    ensures same_reference { tx.new.conn.ghost_name ≡ tx.old.conn.ghost_name }
+    ensures step { IsStep
+        (HasVersions (latest_in tx.old.conn.now) (map placed_from left.now))
+        tx.old.conn.now tx.new.conn.now result }
+    ensures rest { OnOk result (OthersAreEmpty First tx.new.conn.now) }
+{
+    drop_segments(tx)?;
+    make_segments(tx)?;
+    fill_dead(tx, Segment::First, left)
+}
+
+fn drop_latest(tx: &mut Transaction<'_, MemStore>) -> Result<usize, Error>
+    requires table { HasLatest latest_schema (latest_in tx.old.conn.now) tx.old.conn.now }
+    requires inside { tx.old.conn.now.in_transaction ≡ true }
+    ensures same_reference { tx.new.conn.ghost_name ≡ tx.old.conn.ghost_name }
+    ensures step { IsStep HasNoTable tx.old.conn.now tx.new.conn.now result }
+{
+    tx.execute(DROP_LATEST, &[])
+}
+
+/// All tables are made anew, with these last versions and these others.
+fn refill_all(
+    tx: &mut Transaction<'_, MemStore>,
+    latest: &[sqlite::Row],
+    left: &[sqlite::Row],
+) -> Result<(), Error>
+    requires table { HasTables tx.old.conn.now }
+    requires inside { tx.old.conn.now.in_transaction ≡ true }
+    requires latest { AllByRecursion AreCells latest.now }
+    requires cells { AllByRecursion AreCells left.now }
+    ensures same_reference { tx.new.conn.ghost_name ≡ tx.old.conn.ghost_name }
+    ensures step { IsStep
+        (HasVersions (map placed_from latest.now) (map placed_from left.now))
+        tx.old.conn.now tx.new.conn.now result }
+    ensures rest { OnOk result (OthersAreEmpty First tx.new.conn.now) }
+{
+    drop_segments(tx)?;
+    drop_latest(tx)?;
+    make_latest(tx)?;
+    make_segments(tx)?;
+    fill_latest(tx, latest)?;
+    fill_dead(tx, Segment::First, left)
+}
+
+/// Makes the segments anew, with what did not die before the stamp in the first one. It answers how many that are.
+pub(crate) fn sweep_dead(
+    conn: &mut Connection<MemStore>,
+    alloc: Global,
+    from: u32,
+) -> Result<usize, Error>
+    requires { IsKept conn.old }
+    ensures call { IsCall (AreSwept from (placed_of conn.old)) conn.old conn.new result }
+    ensures rest { OnOk result (OthersAreEmpty First conn.new) }
+{
+    let left = read_all_left(conn, alloc, from)?;
     let mut tx = conn.transaction();
-    for change in net {
-        write_change(&mut tx, change, stamp)?;
-    }
-    tx.commit()
+    refill_dead(&mut tx, &left)?;
+    tx.commit()?;
+    Ok(left.len())
 }
 
-/// Deletes the versions that died by the horizon.
-pub(crate) fn delete_dead(conn: &mut Connection<MemStore>, horizon: Stamp) -> Result<usize, Error>
-    requires { IsKept conn.old }
-    ensures { IsCall (purged horizon (versions_of conn.old)) conn.old conn.new result }
-{
-    conn.execute(DELETE_DEAD, params![horizon.number()])
-}
-
-fn read_table(conn: &mut Connection<MemStore>, table: Table) -> Result<Vec<sqlite::Row>, Error>
-    requires { IsKept conn.old }
-    ensures { IsReading (All table) conn.old conn.new result }
-{
-    conn.query_all(READ_TABLE, params![u32::from(table.number()), MOST_READ])
-}
-
-fn read_row(
+/// The same for all tables. It answers how many last versions are left, and how many others.
+pub(crate) fn sweep_all(
     conn: &mut Connection<MemStore>,
-    table: Table,
-    id: u32,
-) -> Result<Vec<sqlite::Row>, Error>
+    alloc: Global,
+    from: u32,
+) -> Result<(usize, usize), Error>
     requires { IsKept conn.old }
-    ensures { IsReading (ById table id) conn.old conn.new result }
+    ensures call { IsCall (AreLeft from (placed_of conn.old)) conn.old conn.new result }
+    ensures rest { OnOk result (OthersAreEmpty First conn.new) }
 {
-    conn.query_all(READ_ROW, params![u32::from(table.number()), MOST_READ, id])
-}
-
-fn read_group(
-    conn: &mut Connection<MemStore>,
-    table: Table,
-    group: u32,
-) -> Result<Vec<sqlite::Row>, Error>
-    requires { IsKept conn.old }
-    ensures { IsReading (ByGroup table group) conn.old conn.new result }
-{
-    conn.query_all(
-        READ_GROUP,
-        params![u32::from(table.number()), MOST_READ, group],
-    )
-}
-
-fn read_range(
-    conn: &mut Connection<MemStore>,
-    table: Table,
-    first: u32,
-    last: u32,
-) -> Result<Vec<sqlite::Row>, Error>
-    requires { IsKept conn.old }
-    ensures { IsReading (Range table first last) conn.old conn.new result }
-{
-    conn.query_all(
-        READ_RANGE,
-        params![u32::from(table.number()), MOST_READ, first, last],
-    )
-}
-
-/// The versions that match, by id and birth: at most one more of them than may match.
-pub(crate) fn read(
-    conn: &mut Connection<MemStore>,
-    query: &Query,
-) -> Result<Vec<sqlite::Row>, Error>
-    requires { IsKept conn.old }
-    ensures { IsReading query.now conn.old conn.new result }
-{
-    match *query {
-        Query::ById(table, id) => read_row(conn, table, id),
-        Query::ByGroup(table, group) => read_group(conn, table, group),
-        Query::All(table) => read_table(conn, table),
-        Query::Range(table, first, last) => read_range(conn, table, first, last),
-    }
+    let latest = read_left(conn, Source::Latest, from)?;
+    let left = read_all_left(conn, alloc, from)?;
+    let mut tx = conn.transaction();
+    refill_all(&mut tx, &latest, &left)?;
+    tx.commit()?;
+    Ok((latest.len(), left.len()))
 }

@@ -1,19 +1,27 @@
 //! The store of row versions.
 
-ghost use Rattle.std.specs.Prelude.{◌≡◌, ℕ, ◌<◌, ◌≤◌, [], Ok, IfOk, IfErr, OnOk, OnErr, length, filter};
-ghost use Rattle.txc_rows.specs.Versions.{suits, purged, after_net};
+ghost use Rattle.std.specs.Prelude.{◌≡◌, ℕ, ◌+◌, ◌^◌, ◌<◌, ◌≤◌, [], Ok, IfOk, IfErr, OnOk, OnErr, length, filter, map};
+ghost use Rattle.std.specs.List.Sorted.{IsPermutation, IsSorted};
+ghost use Rattle.txc_rows.specs.Versions.{suits, purged, after_net, version_cmp};
+ghost use Rattle.txc_rows.specs.declared.texts.Segment.TheVariants.{First};
+ghost use Rattle.txc_rows.specs.declared.texts.Source.TheVariants.{Dead};
+ghost use Rattle.txc_rows.specs.Placed.{version_of, left_from, AreSwept};
+ghost use Rattle.txc_rows.specs.Kept.{placed_of, placed_read, versions_of, newest_of, AreEmptyBefore, OthersAreEmpty, IsKept, IsCall, IsSame, IsRoom, IsFinding};
 ghost use Rattle.txc_rows.specs.States.{State};
 ghost use Rattle.txc_rows.specs.Found.{Finds};
 ghost use Rattle.txc_rows.specs.Keeping.{KeepsStates, KeepsWritten, KeepsPurged, AnswersStates};
-ghost use Rattle.txc_rows.specs.Kept.{IsKept, versions_of};
 ghost use Rattle.txc_rows.specs.StoreErrors.{IsStoreRefusal};
 ghost use Rattle.txc_rows.specs.declared.store_error.TheConstants.{MAX_MATCHING};
 
 use crate::decode::versions_from;
 use crate::query::{Change, Query};
-use crate::statements::{create, delete_dead, read, write_all};
+use crate::reads::read;
+use crate::statements::{create, sweep_all, sweep_dead};
 use crate::store_error::{MAX_MATCHING, StoreError};
+use crate::tally::Tally;
+use crate::texts::{SEGMENTS, Segment, Source};
 use crate::version::Versioned;
+use crate::writes::write_all;
 use sqlite::{Connection, MemStore};
 use std::alloc::Global;
 use std::marker::Model;
@@ -23,29 +31,177 @@ use txc_stamp::Stamp;
 #[derive(Drop)]
 pub struct VersionRows {
     conn: Connection<MemStore>,
+    /// The place of the next version: each that is stored has a lower one.
+    next_place: u32,
+    /// Versions that died before it are gone, though the tables may still have them.
+    kept_from: u32,
+    tally: Tally,
     alloc: Global,
 }
 
 impl Model for VersionRows {
     ghost use Rattle.std.specs.Prelude.{List};
     ghost use Rattle.txc_rows.specs.declared.version.Versioned.{Versioned};
-    ghost use Rattle.txc_rows.specs.Kept.{versions_of, IsKept};
+    ghost use Rattle.txc_rows.specs.Placed.{left_from};
+    ghost use Rattle.txc_rows.specs.Kept.{versions_of, IsStore};
 
     ghost Value = { List Versioned };
 
-    ghost view = { λ a. versions_of a.conn };
+    ghost view = { λ a. left_from a.kept_from (versions_of a.conn) };
 
-    ghost invariant = { λ a. IsKept a.conn };
+    ghost invariant = { λ a. IsStore a.next_place a.tally a.conn };
 }
 
-/// A connection with the table and no version.
-fn open_table(alloc: Global) -> Result<Connection<MemStore>, sqlite::Error>
+/// A connection with the tables and no version.
+fn open_tables(alloc: Global) -> Result<Connection<MemStore>, sqlite::Error>
     ensures kept { IfOk result IsKept }
-    ensures empty { IfOk result (λ conn. versions_of conn ≡ []) }
+    ensures empty { IfOk result (λ conn. placed_of conn ≡ []) }
+    ensures unused { IfOk result (OthersAreEmpty First) }
 {
     let mut conn = Connection::open_in_memory(alloc)?;
     create(&mut conn)?;
     Ok(conn)
+}
+
+/// The next place after so many more versions, if there are so many.
+fn place_after(place: u32, more: usize) -> Result<u32, sqlite::Error>
+    ensures next { IfOk result (λ next. next ≡ place + more) }
+    ensures room { OnOk result (place + more < 2 ^ 32) }
+{
+    if more > (u32::MAX - place) as usize {
+        return Err(sqlite::Error::SqliteFailure(sqlite::ErrorCode::NoRowid));
+    }
+    Ok(place + more as u32)
+}
+
+/// Makes tables anew without what died before the stamp, where that is as much as what is left.
+fn sweep(
+    conn: &mut Connection<MemStore>,
+    alloc: Global,
+    tally: &mut Tally,
+    from: u32,
+) -> Result<(), sqlite::Error>
+    requires { IsKept conn.old }
+    ensures call { IsCall (AreSwept from (placed_of conn.old)) conn.old conn.new result }
+    ensures empty { AreEmptyBefore (newest_of tally.old) conn.old → AreEmptyBefore (newest_of tally.new) conn.new }
+{
+    if tally.is_mostly_ended(from) {
+        let (rows, kept) = sweep_all(conn, alloc, from)?;
+        tally.sweep_all(rows, kept);
+    } else if tally.is_mostly_dead(from) {
+        let kept = sweep_dead(conn, alloc, from)?;
+        tally.sweep_dead(kept);
+    }
+    Ok(())
+}
+
+/// Before a write at the stamp: a segment has room, and no death at the stamp is hidden. It answers from which
+/// stamp on deaths are shown.
+fn make_room(
+    conn: &mut Connection<MemStore>,
+    alloc: Global,
+    tally: &mut Tally,
+    kept_from: u32,
+    stamp: u32,
+) -> Result<u32, sqlite::Error>
+    requires { IsKept conn.old }
+    ensures room { IsRoom kept_from stamp conn.old conn.new result }
+    ensures empty { AreEmptyBefore (newest_of tally.old) conn.old → AreEmptyBefore (newest_of tally.new) conn.new }
+{
+    if stamp < kept_from {
+        let (rows, kept) = sweep_all(conn, alloc, kept_from)?;
+        tally.sweep_all(rows, kept);
+        return Ok(0);
+    }
+    if !tally.has_room() {
+        let kept = sweep_dead(conn, alloc, kept_from)?;
+        tally.sweep_dead(kept);
+    }
+    Ok(kept_from)
+}
+
+/// The versions of one table that match, of those that did not die before the stamp, come to the found ones.
+fn find(
+    conn: &mut Connection<MemStore>,
+    alloc: Global,
+    source: Source,
+    query: &Query,
+    from: u32,
+    found: &mut Vec<Versioned>,
+) -> Result<(), StoreError>
+    requires kept { IsKept conn.old }
+    requires few { length found.old.items ≤ MAX_MATCHING }
+    ensures same { IsSame conn.old conn.new }
+    ensures finds { OnOk result (IsFinding query.now from (placed_read source conn.old) found.old.items found.new.items) }
+    ensures refused { result ≡ Err StoreError.TooManyRows
+        → MAX_MATCHING < length found.old.items + length (filter (suits query.now) (left_from from (map version_of (placed_read source conn.old)))) }
+{
+    let rows = read(conn, source, query, from)?;
+    if rows.len() > MAX_MATCHING - found.len() {
+        return Err(StoreError::TooManyRows);
+    }
+    let mut more = versions_from(alloc, query.table(), &rows)?;
+    found.append(&mut more)?;
+    Ok(())
+}
+
+/// The same of a segment, which is read where it is in use.
+fn find_dead(
+    conn: &mut Connection<MemStore>,
+    alloc: Global,
+    segment: Segment,
+    query: &Query,
+    from: u32,
+    tally: &Tally,
+    found: &mut Vec<Versioned>,
+) -> Result<(), StoreError>
+    requires kept { IsKept conn.old }
+    requires few { length found.old.items ≤ MAX_MATCHING }
+    requires empty { AreEmptyBefore (newest_of tally.now) conn.old }
+    ensures same { IsSame conn.old conn.new }
+    ensures finds { OnOk result (IsFinding query.now from (placed_read (Dead segment) conn.old) found.old.items found.new.items) }
+    ensures refused { result ≡ Err StoreError.TooManyRows
+        → MAX_MATCHING < length found.old.items + length (filter (suits query.now) (left_from from (map version_of (placed_read (Dead segment) conn.old)))) }
+{
+    if !tally.uses(segment) {
+        return Ok(());
+    }
+    find(conn, alloc, Source::Dead(segment), query, from, found)
+}
+
+/// By id, and then by birth.
+fn sort(versions: &mut Vec<Versioned>) -> Result<(), StoreError>
+    ensures same { IsPermutation versions.old.items versions.new.items }
+    ensures sorted { OnOk result (IsSorted version_cmp versions.new.items) }
+    ensures refused { IfErr result (λ e. e ≡ StoreError.Memory) }
+{
+    versions.sort_by_key(|version| (version.row.id(), version.born.number()))?;
+    Ok(())
+}
+
+/// The versions that match, of those that did not die before the stamp, by id and then by birth.
+fn find_all(
+    conn: &mut Connection<MemStore>,
+    alloc: Global,
+    query: &Query,
+    from: u32,
+    tally: &Tally,
+) -> Result<Vec<Versioned>, StoreError>
+    requires kept { IsKept conn.old }
+    requires empty { AreEmptyBefore (newest_of tally.now) conn.old }
+    ensures same { IsSame conn.old conn.new }
+    ensures finds { IfOk result (λ found. Finds query.now (left_from from (versions_of conn.old)) found.items) }
+    ensures bound { IfOk result (λ found. length found.items ≤ MAX_MATCHING) }
+    ensures refused { result ≡ Err StoreError.TooManyRows
+        → MAX_MATCHING < length (filter (suits query.now) (left_from from (versions_of conn.old))) }
+{
+    let mut found = Vec::new(alloc);
+    find(conn, alloc, Source::Latest, query, from, &mut found)?;
+    for segment in SEGMENTS {
+        find_dead(conn, alloc, *segment, query, from, tally, &mut found)?;
+    }
+    sort(&mut found)?;
+    Ok(found)
 }
 
 impl VersionRows {
@@ -56,8 +212,14 @@ impl VersionRows {
             (states : ℕ → State) → states 0 ≡ [] → KeepsStates states 0 0 rows) }
         ensures refused { IfErr result IsStoreRefusal }
     {
-        let conn = open_table(alloc)?;
-        Ok(VersionRows { conn, alloc })
+        let conn = open_tables(alloc)?;
+        Ok(VersionRows {
+            conn,
+            next_place: 0,
+            kept_from: 0,
+            tally: Tally::empty(),
+            alloc,
+        })
     }
 
     /// The versions that match, by id and then by birth. No other version is looked at.
@@ -69,11 +231,13 @@ impl VersionRows {
         ensures refused { result ≡ Err StoreError.TooManyRows
             → MAX_MATCHING < length (filter (suits query.now) self.old) }
     {
-        let rows = read(&mut self.conn, query)?;
-        if rows.len() > MAX_MATCHING {
-            return Err(StoreError::TooManyRows);
-        }
-        versions_from(self.alloc, query.table(), &rows)
+        find_all(
+            &mut self.conn,
+            self.alloc,
+            query,
+            self.kept_from,
+            &self.tally,
+        )
     }
 
     /// Writes the net changes of the commit with this stamp, all or none. A change ends the current version
@@ -84,7 +248,20 @@ impl VersionRows {
         ensures unchanged { OnErr result (self.new ≡ self.old) }
         ensures refused { IfErr result IsStoreRefusal }
     {
-        write_all(&mut self.conn, net, stamp)?;
+        let place = self.next_place;
+        let next_place = place_after(place, net.len())?;
+        let number = stamp.number();
+        let kept_from = make_room(
+            &mut self.conn,
+            self.alloc,
+            &mut self.tally,
+            self.kept_from,
+            number,
+        )?;
+        self.kept_from = kept_from;
+        let written = write_all(&mut self.conn, net, stamp, place, self.tally.segment())?;
+        self.tally.note(written, number);
+        self.next_place = next_place;
         Ok(())
     }
 
@@ -95,7 +272,10 @@ impl VersionRows {
         ensures unchanged { OnErr result (self.new ≡ self.old) }
         ensures refused { IfErr result IsStoreRefusal }
     {
-        delete_dead(&mut self.conn, horizon)?;
+        let from = self.kept_from.max(horizon.number() + 1);
+        sweep(&mut self.conn, self.alloc, &mut self.tally, from)?;
+        self.tally.mark(from);
+        self.kept_from = from;
         Ok(())
     }
 

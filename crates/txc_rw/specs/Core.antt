@@ -98,8 +98,8 @@ pub record IsRw (next : Next) (objects : Objects) (c : RwValue) : Type 0 where
   pub at_one : InCall 1 c.call
   pub reading : ReadingFits c.reading c.call.need
 
--- In a history, which has the base: in the state of the base, and in every other in which the queries that
--- were answered give what they give there, each answer is right, and so is what the open call was given.
+-- In a history, which has the base. Each answer is right in the state of the base, and in every other in which
+-- the queries that were answered give what they give there. So is what the open call was given.
 pub record RwHolds (next : Next) (L : History) (objects : Objects) (c : RwValue) : Type 0 where
   pub within : c.base ≤ length L
   pub answers : (changes : List Change) → AgreeOn c.queried (state_at L c.base) (state_of changes)

@@ -77,8 +77,8 @@ standing_of call objects =
 
 -- ---- the core
 
--- what the core does once its call stands so: it asks what the call needs, and the call stands so still; or
--- the call's value is that of the turn; or it is refused, as the call is, or as out of memory
+-- What the core does once its call stands so. It asks what the call needs, and the call stands so still; or
+-- the call's value is that of the turn; or it is refused, as the call is, or as out of memory.
 abbrev pub StandingLeads : CallTurn → RwValue → Objects → Turn → Type 0
 StandingLeads (Ok standing) new objects (Ask request) = standing_of new.call objects ≡ Ok standing
 StandingLeads (Ok standing) new objects (Value value) = (o : Outcome) × (standing.need ≡ Some (needs.Value o))

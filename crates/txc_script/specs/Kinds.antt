@@ -32,11 +32,11 @@ pub record Closing : Type 0 where
 abbrev pub no_closing : Closing
 no_closing = record { text = []; is_refused = false }
 
--- A kind of script, by the states that its lines find and leave, by what they ask for and by the replies: what
--- a line asks for that finds a state; what it is replied, and the state that it leaves; the states in which it
--- breaks off where memory is refused; what is written of a reply, and whether it holds a refusal; what is wrong
--- with the words of a line that asks for nothing; what comes after all lines, by what they gave, in the state
--- that they left; and the states in which that breaks off.
+-- A kind of script, by the states that its lines find and leave, by what they ask for and by the replies. It says
+-- what a line asks for that finds a state; what it is replied, and the state that it leaves; and the states in
+-- which it breaks off where memory is refused. It says what is written of a reply, and whether it holds a refusal;
+-- and what is wrong with the words of a line that asks for nothing. And it says what comes after all lines, by what
+-- they gave, in the state that they left; and the states in which that breaks off.
 pub record ScriptKind (S A R : Type 0) : Type 1 where
   pub asks : S → List ℕ → A → Type 0
   pub does : S → A → R → S → Type 0

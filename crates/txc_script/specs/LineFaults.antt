@@ -88,7 +88,7 @@ pub record IsCommand (kinds_after : List ℕ → Option (List WordKind)) (all wo
   pub known : kinds_after name ≡ Some kinds
 
 -- What is wrong with a line's words, where these rules say which kinds of words each command wants after its
--- name: the name is no command's; else the number of words is another; else a word is not of its kind.
+-- name. The name is no command's; else the number of words is another; else a word is not of its kind.
 abbrev pub IsCommandFault : (List ℕ → Option (List WordKind)) → List (List ℕ) → CommandFault → Type 0
 IsCommandFault kinds_after all (Unknown text) =
     (name : List ℕ) × (words : List (List ℕ)) × (all ≡ name ∷ words) × (kinds_after name ≡ None)

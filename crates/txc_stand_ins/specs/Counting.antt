@@ -9,8 +9,8 @@ use Rattle.txc_app.specs.declared.ask.Answer.{Answer}
 abbrev pub called : ℕ → List ℕ → Called
 called f args = record { function = f; args = args }
 
--- what function f asks after so many answers: 1 makes 63 queries, 2 calls 1 63 times, 3 calls 2 once, 4 calls
--- 0 twice, 5 queries a group, 6 an id and then calls 5; and each is then done with no byte, 0 at once
+-- What function f asks after so many answers: 1 makes 63 queries, 2 calls 1 63 times, 3 calls 2 once, 4 calls
+-- 0 twice, 5 queries a group, 6 an id and then calls 5. Each is then done with no byte, 0 at once.
 abbrev pub ask_at : ℕ → ℕ → Ask
 ask_at f given =
     if f == 1 && nat_lt given 63 then Query (ById 1 0)

@@ -45,9 +45,9 @@ pub fn sets_match_where_covered_tags_do()
         → sets_match xs ys ≡ true }
 {}
 
-/// The rule of sixteen, where tags are added to a set: of each table the set then holds the wildcard alone
-/// where all the tags, the old ones too, have it or are more than sixteen different ones of the table, and
-/// else exactly these.
+/// The rule of sixteen, where tags are added to a set. Of each table the set then holds the wildcard alone
+/// where all the tags, the old ones too, have it or are more than sixteen different ones of the table. Else it
+/// holds exactly these.
 pub fn sets_keep_the_rule_of_sixteen()
     ensures { (set tags : List Tag) (table : ℕ) → IsCanonical set
         → KeepsSixteen table (set ++ tags) (with_tags tags set) }

@@ -37,9 +37,9 @@ use Rattle.txc_txn.specs.declared.pinning.PinStep.TheVariants.{Asked, Adding, Dr
 use Rattle.txc_txn.specs.declared.txn_core.TxnCore.{TxnCore}
 use Rattle.txc_txn.specs.Meaning.{IsMeant, LieWithin}
 
--- What callers see of a core: its bounds, after how long it renews its newest pin, and the number of nodes;
--- its pin set, and the stamps that it was handed or added; the answers that it recorded; its call; the pin of
--- the present that is under way, if one is; and what it has seen of the history.
+-- What callers see of a core: its bounds, after how long it renews its newest pin, and the number of nodes.
+-- Then its pin set, and the stamps that it was handed or added; the answers that it recorded; its call; the pin
+-- of the present that is under way, if one is; and what it has seen of the history.
 pub record CoreValue : Type 0 where
   pub bounds : Bounds
   pub renew_after : ℕ
@@ -118,9 +118,9 @@ IsFreshPinning L bounds (Some p) = IsFreshStep L bounds p.step
 
 -- ---- what is true of a core
 
--- in any history: its pin set is one, its call waits for what it needs, all its members lie in each reach of
--- the call, which has none while the present is there, and were handed or added to it, and it has a member
--- while its call goes on, and once a call was answered
+-- In any history: its pin set is one, and its call waits for what it needs. All its members lie in each reach of
+-- the call, which has none while the present is there, and were handed or added to it. It has a member while its
+-- call goes on, and once a call was answered.
 pub record IsCore (next : Next) (objects : Objects) (c : CoreValue) : Type 0 where
   pub set : IsPinSet c.pins
   pub call : IsCalling next objects c.call
@@ -147,9 +147,9 @@ IsAt c step = (first : Option Call) × (c.pinning ≡ Some (record { step = step
 abbrev pub IsNeeding : CoreValue → Need → Type 0
 IsNeeding c need = (c.pinning ≡ None) × (c.call.need ≡ Some need)
 
--- The core asks this: a pin where it is due, and later than every member; to add it, or to take its hold
--- away; what the call's node has of it at the stamps from the least to the greatest member; a query at the
--- newest member; or to keep an entry at its call's node.
+-- The core asks this: a pin where it is due, and later than every member; or to add it, or to take its hold
+-- away. Or it asks what the call's node has of it at the stamps from the least to the greatest member; a query at
+-- the newest member; or to keep an entry at its call's node.
 abbrev pub IsAsking : CoreValue → PortRequest → Type 0
 IsAsking c (requests.Pin now at_least) = IsAt c Asked
     × (choice_of c.bounds.now c.renew_after c.pins ≡ Present)

@@ -1,7 +1,8 @@
 -- A read-only transaction with the registry of its functions.
-use Rattle.std.specs.Prelude.{◌≡◌}
+use Rattle.std.specs.Prelude.{◌≡◌, None, Some}
 use Rattle.std.specs.Option.{ForSome}
 use mathlib.Core.List.{IsPrefix}
+use Rattle.txc_tags.specs.Keys.{Call}
 use Rattle.txc_db.specs.History.{History}
 use Rattle.txc_app.specs.Eval.{Next}
 use Rattle.txc_registry.specs.Objects.{Objects, numbers_of}
@@ -10,13 +11,17 @@ use Rattle.txc_ports.specs.declared.turn.Turn.{Turn}
 use Rattle.txc_ports.specs.Fronts.{front_of}
 use Rattle.txc_txn.specs.Core.{CoreValue, CoreHolds, IsCore, IsRight, IsTurn, KeepsSettings, PinsAfter}
 use Rattle.txc_ports.specs.Turns.{IsAsk}
-use Rattle.txc_txn.specs.Core.{left_after, left_pin, open_call, recorded_after, taken_after, AddsOnly, IsOneOf}
-use Rattle.txc_txn.specs.Leading.{ReplyLeads}
+use Rattle.txc_txn.specs.Core.{left_after, left_pin, open_call, recorded_after, taken_after, AddsOnly, IsNoAdding, IsNoValue, IsOneOf}
+use Rattle.txc_txn.specs.Leading.{ReplyLeads, StartLeads}
 
 -- what callers see of it: its core, and what its objects do
 pub record TxnValue : Type 0 where
   pub core : CoreValue
   pub objects : Objects
+
+-- a core beside what its objects do
+abbrev pub txn_value : CoreValue → Objects → TxnValue
+txn_value core objects = record { core = core; objects = objects }
 
 -- it is what it is in any history, and its pin set means what it says in the history that it has seen
 pub record IsTxn (next : Next) (t : TxnValue) : Type 0 where
@@ -27,6 +32,18 @@ pub record IsTxn (next : Next) (t : TxnValue) : Type 0 where
 abbrev pub IsShownRight : Next → TxnValue → PortReply → Type 0
 IsShownRight next t reply =
     ForSome (front_of reply) (λ front. IsRight next front.history t.core.call.need reply)
+
+-- What comes of a call that begins: a turn that asks for it under its key, or refuses it. No pin is to be added, and none
+-- is left to be; the functions stay, and so does all but the call and its pin of the present.
+pub record HasBegunCall (old : TxnValue) (key : Call) (new : TxnValue) (turn : Turn) : Type 0 where
+  pub turn_fits : IsTurn new.core turn
+  pub begins : IsAsk turn → open_call new.core ≡ Some key
+  pub no_value : IsNoValue turn
+  pub no_add : IsNoAdding turn
+  pub left : left_pin new.core.pinning ≡ None
+  pub leads : StartLeads old.core old.objects key new.core new.objects turn
+  pub functions : numbers_of new.objects ≡ numbers_of old.objects
+  pub same : new.core ≡ record old.core { call = new.core.call; pinning = new.core.pinning }
 
 -- what comes of a reply: a turn, and what it leaves; the functions stay; more was seen of the history, and what
 -- the reply shows of it too
@@ -47,8 +64,17 @@ pub record HasGoneOn (next : Next) (old : TxnValue) (reply : PortReply) (new : T
   pub shown : ForSome (front_of reply) (λ front. IsPrefix front.history new.core.seen.history)
   pub one : IsOneOf old.core.seen (front_of reply) new.core.seen
 
--- What comes of a reply, once what it shows was seen: the core fits its functions still, and means what it says in
--- each history in which the reply is right; and a turn comes of it, as after the whole reply.
+-- What a step of a core between two requests comes to: it fits its functions, which stay, and the turn is one of its;
+-- no pin is to be added, and none is left to be.
+pub record HasTurned (next : Next) (was : Objects) (new : CoreValue) (is : Objects) (turn : Turn) : Type 0 where
+  pub fits : IsCore next is new
+  pub turn_fits : IsTurn new turn
+  pub no_add : IsNoAdding turn
+  pub left : left_pin new.pinning ≡ None
+  pub functions : numbers_of is ≡ numbers_of was
+
+-- What comes of a reply, once what it shows was seen. The core fits its functions still, and means what it says in
+-- each history in which the reply is right. And a turn comes of it, as after the whole reply.
 pub record HasAnswered (next : Next) (old : CoreValue) (was : Objects) (reply : PortReply) (new : CoreValue)
     (is : Objects) (turn : Turn) : Type 0 where
   pub fits : IsCore next is new

@@ -117,7 +117,7 @@ pub record HitLeads (next : Next) (old : CoreValue) (objects : Objects) (k : Cal
       → CallLeads next old objects (needs.Lookup k) replies.Miss new objects' turn
 
 -- What comes of a reply. A pin is to be added, and one that is not added has its hold taken away, after which
--- the call is refused for the reason; what a node or the database has goes to the call; and what the database
+-- the call is refused for the reason. What a node or the database has goes to the call. What the database
 -- refuses, the call is refused for.
 abbrev pub ReplyLeads : Next → CoreValue → Objects → PortReply → CoreValue → Objects → Turn → Type 0
 ReplyLeads next old objects (ports.Pin (Ok pinned)) new objects' turn = turn ≡ Ask (requests.AddPin pinned)

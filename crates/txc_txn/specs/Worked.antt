@@ -70,9 +70,8 @@ open_over reach =
       need = Some (needs.Query (ById 1 9));
     }
 
--- which pin sets mean what they say: beside the pins that are fresh enough; beside a recorded answer, those
--- at which it is right; and beside an open frame, those in its reach, where its answers are right on all of
--- it
+-- Which pin sets mean what they say: beside the pins that are fresh enough; and beside a recorded answer, those
+-- at which it is right. Beside an open frame, those in its reach, where its answers are right on all of it.
 pub record WorkedMeanings : Type 0 where
   pub fresh : IsMeant program worked (within_ms 1500) both_pins [] [] at_rest
   pub too_old : ¬ (IsMeant program worked (within_ms 1499) both_pins [] [] at_rest)

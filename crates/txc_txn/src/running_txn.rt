@@ -1,5 +1,5 @@
 //! A core with the registry of its functions, which keeps what its pin set means.
-ghost use Rattle.std.specs.Prelude.{◌≡◌, ◌≢◌, [], None};
+ghost use Rattle.std.specs.Prelude.{◌≡◌};
 ghost use Rattle.std.specs.Option.{ForSome};
 ghost use Rattle.txc_registry.specs.Objects.{numbers_of, AllIdle};
 ghost use Rattle.txc_ports.specs.Fronts.{front_of};
@@ -35,11 +35,8 @@ impl<A: App, C: Cacheable> Model for RunningTxn<A, C> {
 }
 
 impl<A: App, C: Cacheable> RunningTxn<A, C> {
-    ghost use Rattle.txc_txn.specs.Core.{left_pin, open_call, receipt_pin, value_of, Explains, IsAnswered};
-    ghost use Rattle.txc_txn.specs.Core.{IsIdle, IsNoAdding, IsNoValue, IsTurn};
-    ghost use Rattle.txc_ports.specs.Turns.{IsAsk};
-    ghost use Rattle.txc_txn.specs.Kept.{HasGoneOn, IsTxn, IsShownRight};
-    ghost use Rattle.txc_txn.specs.Leading.{StartLeads};
+    ghost use Rattle.txc_txn.specs.Core.{left_pin, receipt_pin, value_of, Explains, IsAnswered, IsIdle};
+    ghost use Rattle.txc_txn.specs.Kept.{HasBegunCall, HasGoneOn, IsShownRight, IsTxn};
 
     /// The core with its registry, where its pin set means what it says in the history that it has seen.
     pub fn new(core: TxnCore, registry: Registry<A, C>) -> RunningTxn<A, C>
@@ -66,16 +63,7 @@ impl<A: App, C: Cacheable> RunningTxn<A, C> {
     /// Begins a call.
     pub fn start(&mut self, alloc: Global, key: Key) -> Turn
         requires { IsIdle self.old.core }
-        ensures turn { IsTurn self.new.core result }
-        ensures begins { IsAsk result → open_call self.new.core ≡ Some key }
-        ensures no_value { IsNoValue result }
-        ensures no_add { IsNoAdding result }
-        ensures left { left_pin self.new.core.pinning ≡ None }
-        ensures leads { StartLeads self.old.core self.old.objects key
-            self.new.core self.new.objects result }
-        ensures functions { numbers_of self.new.objects ≡ numbers_of self.old.objects }
-        ensures same { self.new.core
-            ≡ record self.old.core { call = self.new.core.call; pinning = self.new.core.pinning } }
+        ensures { HasBegunCall self.old key self.new result }
     {
         self.core.start(alloc, &mut self.registry, key)
     }

@@ -30,8 +30,9 @@ use txc_stamp::{Reach, Stamp};
 use txc_tags::Key;
 
 impl TxnCore {
-    ghost use Rattle.txc_txn.specs.Core.{least_present, left_pin, open_call, recorded_after, value_of, CoreHolds};
-    ghost use Rattle.txc_txn.specs.Core.{IsCore, IsIdle, IsNarrowed, IsNoAdding, IsNoValue, IsTurn};
+    ghost use Rattle.txc_txn.specs.Core.{least_present, open_call, recorded_after, value_of, CoreHolds};
+    ghost use Rattle.txc_txn.specs.Core.{IsCore, IsIdle, IsNarrowed, IsNoValue};
+    ghost use Rattle.txc_txn.specs.Kept.{HasTurned};
     ghost use Rattle.txc_ports.specs.Turns.{IsAsk, IsCallEnd};
     ghost use Rattle.txc_txn.specs.Core.{WaitsForPin};
     ghost use Rattle.txc_txn.specs.Leading.{AsksLookup, AsksPin, BeginLeads, CallLeads, IsBeyond, NeedLeads, StandsStill};
@@ -82,10 +83,9 @@ impl TxnCore {
         requires none { self.old.pinning ≡ None }
         requires due { choice_of self.old.bounds.now self.old.renew_after self.old.pins ≡ Choice.Present }
         requires waits { WaitsForPin first self.old.machine.need self.old.pins.members }
-        ensures fits { IsCore A.next registry.new (value_of self.new) }
+        ensures turned { HasTurned A.next registry.old (value_of self.new) registry.new result }
         ensures holds { (L : History) → CoreHolds A.next L registry.old (value_of self.old)
             → CoreHolds A.next L registry.new (value_of self.new) }
-        ensures turn { IsTurn (value_of self.new) result }
         ensures no_value { IsNoValue result }
         ensures begins { (k : Call) → first ≡ Some k → IsAsk result → open_call (value_of self.new) ≡ Some k }
         ensures goes_on { first ≡ None → IsAsk result
@@ -98,9 +98,6 @@ impl TxnCore {
             → self.new.pinning ≡ Some (record { step = PinStep.Asked; first = first }) }
         ensures refused { ¬ (IsAsk result) → IsBeyond (value_of self.new)
             × (result ≡ Turn.Refused (TxnError.Database DbError.Full)) }
-        ensures no_add { IsNoAdding result }
-        ensures left { left_pin self.new.pinning ≡ None }
-        ensures functions { numbers_of registry.new ≡ numbers_of registry.old }
         ensures same { value_of self.new
             ≡ record (value_of self.old) { call = self.new.machine; pinning = self.new.pinning } }
     {
@@ -165,10 +162,9 @@ impl TxnCore {
         requires fits { IsCore A.next registry.old (value_of self.old) }
         requires none { self.old.pinning ≡ None }
         requires calling { IsSome self.old.machine.need }
-        ensures fits { IsCore A.next registry.new (value_of self.new) }
+        ensures turned { HasTurned A.next registry.old (value_of self.new) registry.new result }
         ensures holds { (L : History) → CoreHolds A.next L registry.old (value_of self.old)
             → CoreHolds A.next L registry.new (value_of self.new) }
-        ensures turn { IsTurn (value_of self.new) result }
         ensures recorded { self.new.recorded.items
             ≡ recorded_after self.old.recorded.items result (Some self.old.machine.top) }
         ensures goes_on { IsAsk result → open_call (value_of self.new) ≡ Some self.old.machine.top }
@@ -180,9 +176,6 @@ impl TxnCore {
         ensures query { (query : Query) → self.old.machine.need ≡ Some (Need.Query query)
             → self.old.pins.has_present ≡ false
             → StandsStill (value_of self.old) registry.old (value_of self.new) registry.new × IsAsk result }
-        ensures no_add { IsNoAdding result }
-        ensures left { left_pin self.new.pinning ≡ None }
-        ensures functions { numbers_of registry.new ≡ numbers_of registry.old }
         ensures same { value_of self.new ≡ record (value_of self.old) {
           recorded = self.new.recorded.items;
           call = self.new.machine;
@@ -231,17 +224,13 @@ impl TxnCore {
         requires none { self.old.pinning ≡ None }
         requires idle { self.old.machine.need ≡ None }
         requires member { self.old.pins.members ≢ [] }
-        ensures fits { IsCore A.next registry.new (value_of self.new) }
+        ensures turned { HasTurned A.next registry.old (value_of self.new) registry.new result }
         ensures holds { (L : History) → CoreHolds A.next L registry.old (value_of self.old)
             → CoreHolds A.next L registry.new (value_of self.new) }
-        ensures turn { IsTurn (value_of self.new) result }
         ensures no_value { IsNoValue result }
         ensures begins { IsAsk result → open_call (value_of self.new) ≡ Some key }
         ensures leads { BeginLeads (value_of self.old) registry.old key
             (value_of self.new) registry.new result }
-        ensures no_add { IsNoAdding result }
-        ensures left { left_pin self.new.pinning ≡ None }
-        ensures functions { numbers_of registry.new ≡ numbers_of registry.old }
         ensures same { value_of self.new
             ≡ record (value_of self.old) { call = self.new.machine; pinning = self.new.pinning } }
     {
@@ -263,21 +252,17 @@ impl TxnCore {
         requires reply { (need : Need) × (self.old.machine.need ≡ Some need) × ReplyFits need reply }
         requires within { All (λ m. InReach m.stamp (reply_reach reply)) self.old.pins.members }
         requires present { self.old.pins.has_present ≡ true → reply_reach reply ≡ None }
-        ensures fits { IsCore A.next registry.new (value_of self.new) }
+        ensures turned { HasTurned A.next registry.old (value_of self.new) registry.new result }
         ensures holds { (L : History) → ((need : Need) → self.old.machine.need ≡ Some need
             → ReplyHolds A.next L need reply)
             → CoreHolds A.next L registry.old (value_of self.old)
             → CoreHolds A.next L registry.new (value_of self.new) }
-        ensures turn { IsTurn (value_of self.new) result }
         ensures recorded { self.new.recorded.items
             ≡ recorded_after self.old.recorded.items result (Some self.old.machine.top) }
         ensures goes_on { IsAsk result → open_call (value_of self.new) ≡ Some self.old.machine.top }
         ensures leads { (need : Need) → self.old.machine.need ≡ Some need
             → CallLeads A.next (value_of self.old) registry.old need reply
             (value_of self.new) registry.new result }
-        ensures no_add { IsNoAdding result }
-        ensures left { left_pin self.new.pinning ≡ None }
-        ensures functions { numbers_of registry.new ≡ numbers_of registry.old }
         ensures same { value_of self.new ≡ record (value_of self.old) {
           recorded = self.new.recorded.items;
           call = self.new.machine;

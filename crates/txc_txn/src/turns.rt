@@ -1,5 +1,5 @@
 //! What a core does: it begins, answers calls, and ends.
-ghost use Rattle.std.specs.Prelude.{◌≡◌, ◌≢◌, ◌≤◌, [], All, IfErr, IfOk, None, Some, map, vec_len, vec_capacity, ◌<◌};
+ghost use Rattle.std.specs.Prelude.{◌≡◌, ◌≢◌, ◌≤◌, [], All, IfErr, IfOk, map, vec_len, vec_capacity, ◌<◌};
 ghost use Rattle.std.specs.Option.{ForSome};
 ghost use mathlib.Core.List.{IsPrefix};
 ghost use Rattle.txc_db.specs.History.{History};
@@ -43,12 +43,9 @@ fn receipt_pin(recorded: &[Recorded], members: &[Pin]) -> Option<Pin>
 }
 
 impl TxnCore {
-    ghost use Rattle.txc_txn.specs.Core.{begun_core, left_after, left_pin, open_call, recorded_after, taken_after};
-    ghost use Rattle.txc_txn.specs.Core.{value_of, CoreHolds, Explains, IsAnswered, IsCore, IsIdle};
-    ghost use Rattle.txc_ports.specs.Turns.{IsAsk};
-    ghost use Rattle.txc_txn.specs.Core.{AddsOnly, IsNoAdding, IsNoValue, IsOneOf, IsRight, IsTurn, KeepsSettings};
-    ghost use Rattle.txc_txn.specs.Core.{PinsAfter};
-    ghost use Rattle.txc_txn.specs.Leading.{ReplyLeads, StartLeads};
+    ghost use Rattle.txc_txn.specs.Core.{begun_core, left_pin, value_of};
+    ghost use Rattle.txc_txn.specs.Core.{CoreHolds, Explains, IsAnswered, IsCore, IsIdle, IsRight};
+    ghost use Rattle.txc_txn.specs.Kept.{txn_value, HasBegunCall, HasGoneOn};
 
     /// Begins with the pins that it was handed for its bounds. Its calls are kept by one of so many nodes,
     /// and its newest pin is renewed where its moment is more than `renew_after` milliseconds before the
@@ -103,18 +100,8 @@ impl TxnCore {
         ensures fits { IsCore A.next registry.new (value_of self.new) }
         ensures holds { (L : History) → CoreHolds A.next L registry.old (value_of self.old)
             → CoreHolds A.next L registry.new (value_of self.new) }
-        ensures turn { IsTurn (value_of self.new) result }
-        ensures begins { IsAsk result → open_call (value_of self.new) ≡ Some key }
-        ensures no_value { IsNoValue result }
-        ensures no_add { IsNoAdding result }
-        ensures left { left_pin (value_of self.new).pinning ≡ None }
-        ensures leads { StartLeads (value_of self.old) registry.old key
-            (value_of self.new) registry.new result }
-        ensures functions { numbers_of registry.new ≡ numbers_of registry.old }
-        ensures same { value_of self.new ≡ record (value_of self.old) {
-          call = (value_of self.new).call;
-          pinning = (value_of self.new).pinning;
-        } }
+        ensures begun { HasBegunCall (txn_value (value_of self.old) registry.old) key
+            (txn_value (value_of self.new) registry.new) result }
     {
         if self.pins.members().is_empty() {
             return self.ask_pin(registry, Some(key));
@@ -136,23 +123,8 @@ impl TxnCore {
         ensures holds { (L M : History) → IsPrefix L M → CoreHolds A.next L registry.old (value_of self.old)
             → IsRight A.next M (value_of self.old).call.need reply
             → CoreHolds A.next M registry.new (value_of self.new) }
-        ensures turn { IsTurn (value_of self.new) result }
-        ensures pins { PinsAfter (value_of self.old) reply (value_of self.new).pins }
-        ensures taken { (value_of self.new).taken ≡ taken_after (value_of self.old).taken reply }
-        ensures recorded { (value_of self.new).recorded
-            ≡ recorded_after (value_of self.old).recorded result (open_call (value_of self.old)) }
-        ensures goes_on { IsAsk result → open_call (value_of self.new) ≡ open_call (value_of self.old) }
-        ensures leads { ReplyLeads A.next (value_of self.old) registry.old reply
-            (value_of self.new) registry.new result }
-        ensures adds { AddsOnly reply result }
-        ensures left { left_pin (value_of self.new).pinning ≡ left_after reply }
-        ensures functions { numbers_of registry.new ≡ numbers_of registry.old }
-        ensures settings { KeepsSettings (value_of self.old) (value_of self.new) }
-        ensures events { (value_of self.new).seen.events ≡ (value_of self.old).seen.events }
-        ensures longer { IsPrefix (value_of self.old).seen.history (value_of self.new).seen.history }
-        ensures shown { ForSome (front_of reply)
-            (λ front. IsPrefix front.history (value_of self.new).seen.history) }
-        ensures one { IsOneOf (value_of self.old).seen (front_of reply) (value_of self.new).seen }
+        ensures gone_on { HasGoneOn A.next (txn_value (value_of self.old) registry.old) reply
+            (txn_value (value_of self.new) registry.new) result }
     {
         states_stay();
         self.see(&reply);

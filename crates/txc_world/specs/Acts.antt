@@ -52,7 +52,7 @@ ReadingLeads next pass Abort old new r actor reply = HasGivenBack r.txn.core.tak
 ReadingLeads next pass act old new r actor reply = NothingDone old new (reads r) actor
 
 -- With a read-write transaction open it starts a call, asks, keeps a change or commits, where no call is
--- open; it makes the request of the open call; it gives up, in the middle of a call too; or it does nothing.
+-- open. Or it makes the request of the open call; it gives up, in the middle of a call too; or it does nothing.
 abbrev pub WritingLeads : Next → Act → PortsValue → PortsValue → WritingValue → ActorValue → Reply → Type 0
 WritingLeads next (Start key) old new w actor reply = MatchOption w.call
     ((new ≡ old) × HasStartedRw next key w actor)

@@ -1,10 +1,10 @@
 -- What actors are told of transactions that begin in their sessions.
-use Rattle.std.specs.Prelude.{◌≡◌, ℕ, ◌≤◌, List, [], ◌∷◌, ◌++◌, Option, Some, None}
+use Rattle.std.specs.Prelude.{◌≡◌, ℕ, ◌≤◌, List, [], ◌∷◌, ◌++◌, Some, None}
 use Rattle.std.specs.List.{AllByRecursion}
 use Rattle.txc_cushion.specs.declared.pin.Pin.{Pin}
 use Rattle.txc_world.specs.declared.step.Act.TheVariants.{Commit}
 use Rattle.txc_world.specs.declared.step.Step.{Step}
-use Rattle.txc_world.specs.declared.step.Step.TheVariants.{Actor, BeginIn, Keeper}
+use Rattle.txc_world.specs.declared.step.Step.TheVariants.{Actor, BeginIn}
 use Rattle.txc_world.specs.declared.reply.Reply.{Reply}
 use Rattle.txc_world.specs.declared.reply.Reply.TheVariants.{Begun, Receipt, At}
 
@@ -33,8 +33,8 @@ ToldAtMost place most step reply = Unit {0}
 abbrev pub HaveToldAtMost : ℕ → ℕ → List (Step × Reply) → Type 0
 HaveToldAtMost place most happened = AllByRecursion (λ x. ToldAtMost place most x.0 x.1) happened
 
--- Nobody goes back: where an actor began a transaction in its session, and committed it, with no other begun in
--- between, the stamp of its receipt is not below any that the actor was told before, of a receipt or of
+-- Nobody goes back, where an actor began a transaction in its session, and committed it, with no other begun in
+-- between. The stamp of its receipt is not below any that the actor was told before, of a receipt or of
 -- the commit of a read-write transaction, begun in the session or not.
 abbrev pub NobodyGoesBack : List Step → List Reply → Type 0
 NobodyGoesBack steps replies =

@@ -15,7 +15,7 @@ use Rattle.txc_world.specs.Keeping.{stamps_of as stamps_of_pins}
 use Rattle.txc_world.specs.Losing.{IfReplyLost}
 use Rattle.txc_world.specs.Ports.{PortsValue}
 
--- What the keeper has in hand, as its steps and their replies tell it: the stamps of the pins that it added
+-- What the keeper has in hand, as its steps and their replies tell it. It has the stamps of the pins that it added
 -- and has a user of; and those that it is to unpin, which a retire handed out or an addition that was refused
 -- left.
 pub record Purse : Type 0 where
@@ -87,8 +87,8 @@ LoseNoSnapshot (step ∷ steps) (reply ∷ replies) =
     LosesNoSnapshot step reply × LoseNoSnapshot steps replies
 
 -- Each has what is its own. Of each stamp there are at least as many holds as the keeper has pins that it did
--- not add, the pincushion has pins, the keeper is to unpin, and the actors have holds; and at least as many
--- users as the keeper lent and the actors took.
+-- not add, the pincushion has pins, the keeper is to unpin, and the actors have holds. And there are at least as
+-- many users as the keeper lent and the actors took.
 pub record AreBalanced (spare : List ℕ) (books : Books) (purse : Purse) : Type 0 where
   pub held : (stamp : ℕ) → times stamp spare + times stamp (stamps_of books.entries) + times stamp purse.owed
       + times_own stamp books.accounts ≤ times stamp books.holds

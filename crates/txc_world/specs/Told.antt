@@ -204,7 +204,7 @@ abbrev pub IsReceiptOf : Next → History → Story → Option Pin → Type 0
 IsReceiptOf next L (reading r) pin = Explains next L r.bounds pin r.answers
 IsReceiptOf next L story pin = ⊥
 
--- What a commit that was replied this stamp made of a history of so many events, up to the stamp: no event
+-- What a commit that was replied this stamp made of a history of so many events, up to the stamp. No event
 -- was added, nothing changes in the newest state, and each answer is right there; or the event of the net
 -- changes was added, and each answer is right before it.
 abbrev pub CommitMakes : Next → History → ℕ → Writing → ℕ → Type 0

@@ -61,16 +61,16 @@ pub record IsWorld {A C : Type 0} (next : Next) (settings : WorldSettings) (port
 
 -- ---- between two steps
 
--- What is true of a node between any two steps: what it has seen is of the history's row; each result that it
--- holds is true in what it has seen, broken or not; and unless it is broken, it is so in the whole history, and
+-- What is true of a node between any two steps. What it has seen is of the history's row. Each result that it
+-- holds is true in what it has seen, broken or not. Unless it is broken, it is so in the whole history, and
 -- the node is what a legal history of its records leaves.
 pub record IsTrueNode (next : Next) (whole : FrontValue) (n : NodeValue) : Type 0 where
   pub row : n.seen.events ≡ whole.events
   pub seen : IsNode next n.seen.history (start_of n.settings) n.records n.cache n.broken
   pub right : n.broken ≡ false → IsNode next whole.history (start_of n.settings) n.records n.cache false
 
--- what is true of a world between any two steps: the history that is told of it is its database's, and the pins
--- are those that its keeper has; and it has the nodes of its settings, each of which is true
+-- What is true of a world between any two steps. The history that is told of it is its database's, and the pins
+-- are those that its keeper has. It has the nodes of its settings, each of which is true.
 pub record IsTrueWorld (next : Next) (w : WorldValue) : Type 0 where
   pub history : w.told.history ≡ w.ports.database.history
   pub spare : w.told.spare ≡ stamps_of w.ports.spare

@@ -275,7 +275,7 @@ impl<A: App, C: Cacheable> World<A, C> {
     ///
     /// What it leaves is what the steps and their replies tell. A receipt is given to nobody but an actor
     /// with a read-only transaction open, and explains the answers told of it. Nobody but an actor with a
-    /// read-write transaction open has that committed; each answer told of it is right at its base, and at
+    /// read-write transaction open has that committed. Each answer told of it is right at its base, and at
     /// the stamp before the event of the commit, or, where there is none, at the newest stamp. Both hold in
     /// the history as it was told by then, and in that of the whole run.
     ///

@@ -222,7 +222,7 @@ fn play<R: Threads + Wait + Sync + Abort + AllocGlobal>(
 
 #[test]
 fn clients_are_answered_as_worked(rt: HostRuntime) -> Result<(), Fail> {
-    play(&rt, &SCRIPTS, 23)
+    play(&rt, &SCRIPTS, 24)
 }
 
 /// With permits for both clients.

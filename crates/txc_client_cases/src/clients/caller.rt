@@ -51,7 +51,7 @@ fn keep<J: Naming>(txn: &mut RwTxn<'_, J, Program, Object>, change: Change) -> b
     }
 }
 
-/// Commits the changes in a read-write transaction, and answers the stamp.
+/// Commits the changes in a read-write transaction, and answers the stamp. None where one was refused.
 fn update<J: Naming>(
     rt: &impl Wait,
     alloc: Global,
@@ -64,8 +64,15 @@ fn update<J: Naming>(
     let Ok(mut txn) = RwTxn::begin(rt, alloc, database, registry) else {
         return None;
     };
+    let mut are_kept = true;
     for change in changes {
-        let _ = keep(&mut txn, change);
+        if !keep(&mut txn, change) {
+            are_kept = false;
+        }
+    }
+    if !are_kept {
+        let _registry = txn.abort(rt);
+        return None;
     }
     match txn.commit(rt, alloc) {
         Ok((committed, _)) => Some(committed.stamp),

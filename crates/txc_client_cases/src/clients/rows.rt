@@ -40,12 +40,13 @@ take => true
 ro 1 2500 1500 0: f2(2,9), f1(2), f0(9), commit => 613b; 61; no permit is left; receipt 2 1000
 ";
 
-/// No pin is fresh: the present is pinned, once something is called.
+/// No pin is fresh: the present is pinned, once something is called, unless its pin would be below what is asked for.
 const NOT_FRESH: &str = "write: put 1 7 2 a => 1
 pin 1000 => 2
 write: put 1 8 2 b => 3
 pin 2000 => 4
 ro 1 9000 100 0: pins, commit => pins *; receipt none
+ro 0 9000 100 6: pins, f0(9), commit => pins *; the newest stamp is 4; receipt none
 ro 1 9000 100 0: pins, f0(9), pins, commit => pins *; -; pins 5; receipt 5 9000
 seen 1 0 => miss f0(9); insert f0(9) [0,5] still
 ro 0 9000 100 0: pins, f0(9), commit => pins * 5; -; receipt 5 9000

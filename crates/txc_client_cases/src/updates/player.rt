@@ -8,7 +8,8 @@ use std::str::SplitWhitespace;
 use std::sync::Wait;
 use txc_app::App;
 use txc_db::{Database, DbCore, Naming};
-use txc_players::{Obeys, Player, Shared, changes, obey_calls, query, say_unknown};
+use txc_players::{Obeys, Player, Shared, obey_calls, query, say_unknown};
+use txc_ports::TxnError;
 use txc_registry::{Cacheable, Registry};
 use txc_tags::Key;
 
@@ -89,18 +90,22 @@ impl<'a, J: Naming, R: Wait, A: App, C: Cacheable> Updates<'a, J, R, A, C> {
     }
 }
 
+/// Keeps the changes that the text says. Where memory is refused, those that are not kept yet are given once more.
 fn write<J: Naming, A: App, C: Cacheable>(
     slot: &mut Slot<'_, J, A, C>,
     alloc: Global,
     text: &str,
     answer: &mut String,
 ) {
-    match changes(alloc, text) {
-        Ok(changes) => slot.write(changes, answer),
-        Err(_) => {
-            let _ = write!(answer, "out of memory");
-        }
+    let mut kept = 0usize;
+    let mut done = slot.write(alloc, text, &mut kept);
+    if let Err(TxnError::Memory) = done {
+        done = slot.write(alloc, text, &mut kept);
     }
+    if let Err(error) = done {
+        let _ = write!(answer, "{error}, ");
+    }
+    let _ = write!(answer, "{kept} kept");
 }
 
 fn end<J: Naming, A: App, C: Cacheable>(rt: &impl Wait, slot: Option<Slot<'_, J, A, C>>) {

@@ -5,7 +5,8 @@ use std::alloc::Global;
 use std::sync::Wait;
 use txc_app::App;
 use txc_db::{Database, Naming};
-use txc_players::say_row;
+use txc_players::{changes, say_row};
+use txc_ports::TxnError;
 use txc_registry::{Cacheable, Registry};
 use txc_rows::{Change, Query, Row};
 use txc_rw::{Committed, Given, RwTxn};
@@ -152,26 +153,25 @@ impl<'a, J: Naming, A: App, C: Cacheable> Slot<'a, J, A, C> {
         }
     }
 
-    /// Keeps the changes, up to the first that is refused.
-    pub(super) fn write(&mut self, changes: Vec<Change>, answer: &mut String) {
+    /// Keeps the changes that the text says, but for the first `kept`, up to one that is refused. Each that is kept
+    /// is counted.
+    pub(super) fn write(
+        &mut self,
+        alloc: Global,
+        text: &str,
+        kept: &mut usize,
+    ) -> Result<(), TxnError> {
         let Slot::Open(txn) = self else {
-            return;
+            return Ok(());
         };
-        let mut kept = 0usize;
-        for change in changes {
-            let written = match change {
-                Change::Put(row) => txn.put(row),
-                Change::Remove(table, id) => txn.remove(table, id),
-            };
-            match written {
-                Ok(()) => kept = kept.saturating_add(1),
-                Err(error) => {
-                    let _ = write!(answer, "{error}, ");
-                    break;
-                }
+        for change in changes(alloc, text)?.into_iter().skip(*kept) {
+            match change {
+                Change::Put(row) => txn.put(row)?,
+                Change::Remove(table, id) => txn.remove(table, id)?,
             }
+            *kept = kept.saturating_add(1);
         }
-        let _ = write!(answer, "{kept} kept");
+        Ok(())
     }
 
     pub(super) fn say_answers(&self, answer: &mut String) {

@@ -1,4 +1,4 @@
-use Rattle.std.proofs.Common.{◌≡◌, ◌∷◌, ℕ, List, arith, subst, ap, take, ◌∙◌}
+use Rattle.std.proofs.Common.{◌∷◌, ℕ, List, arith, subst, ap, take, ◌∙◌}
 use Rattle.txc_script.specs.LineFaults.{AreOfKinds, IsBadWord}
 use Rattle.txc_script.specs.Words.{words_left}
 use Rattle.txc_script.specs.declared.line_fault.WordKind.{WordKind}

@@ -1,4 +1,4 @@
-use Rattle.std.proofs.Common.{◌≡◌, ◌++◌, ◌∷◌, ◌+◌, ℕ, List, length, refl, ap, ◌∙◌, arith}
+use Rattle.std.proofs.Common.{◌++◌, ◌+◌, ℕ, List, length, refl, ap, ◌∙◌, arith}
 use Rattle.txc_script.specs.Words.{words_left}
 use Rattle.txc_batch.proofs.JobFaults.{all_tested, more_tested, none_tested}
 use Rattle.txc_batch.proofs.finding.bad_key.Goals as goal

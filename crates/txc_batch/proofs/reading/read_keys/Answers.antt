@@ -1,4 +1,4 @@
-use Rattle.std.proofs.Common.{◌≡◌, ◌+◌, ℕ, List, [], length, ap, arith, rules}
+use Rattle.std.proofs.Common.{length, ap, arith, rules}
 use Rattle.txc_script.specs.Words.{words_left, words_of}
 use Rattle.txc_batch.proofs.JobWords.{all_read, no_key_there, none_read, one_more_read}
 use Rattle.txc_batch.proofs.reading.read_keys.Goals as goal

@@ -1,4 +1,4 @@
-use Rattle.std.proofs.Common.{◌≡◌, ◌∷◌, ℕ, List, ap, ◌∙◌, arith}
+use Rattle.std.proofs.Common.{◌∷◌, ℕ, List, ap, ◌∙◌, arith}
 use Rattle.std.proofs.lemmas.List.Splits.{length-slice_split}
 use Rattle.txc_script.specs.Words.{is_blank, words_of}
 use Rattle.txc_script.proofs.Offered.{words_alone, words_cut}

@@ -1,4 +1,4 @@
-use Rattle.std.proofs.Common.{◌≡◌, ◌+◌, ◌≤◌, length, vec_capacity, vec_len}
+use Rattle.std.proofs.Common.{◌≡◌, ◌+◌, length, vec_len}
 use Rattle.txc_batch.specs.Rows.{AreRowsOf}
 use Rattle.txc_batch.proofs.running.nodes.Given as goal
 

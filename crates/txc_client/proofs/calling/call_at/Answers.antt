@@ -20,7 +20,7 @@ loop-turn-init g c =
     let before : RoTxnValue = record { txn = c.args.txn.now; passes = c.args.ports.now } in
     let after : RoTxnValue = record { txn = c.start-turn.new.self; passes = c.args.ports.now } in
     let begun : HasBegun before c.args.key after c.start-turn.result = record {
-      turn_fits = c.start-turn.ensures.turn;
+      turn_fits = c.start-turn.ensures.turn_fits;
       leads = c.start-turn.ensures.leads;
       begins = c.start-turn.ensures.begins;
       functions = c.start-turn.ensures.functions;
@@ -29,7 +29,7 @@ loop-turn-init g c =
     } in
     record {
       passes = have_grown_self c.args.ports.now;
-      turn = c.start-turn.ensures.turn;
+      turn = c.start-turn.ensures.turn_fits;
       adds = adds_none (λ front. front.events ≡ g.J.Naming.database_row) c.start-turn.result c.start-turn.ensures.no_add;
       events = row_stays old new same ∙ c.requires.events;
       begins = c.start-turn.ensures.begins;

@@ -1,4 +1,4 @@
-use Rattle.std.proofs.Common.{◌≡◌, List, length, refl, ap, subst, arith}
+use Rattle.std.proofs.Common.{List, refl, ap, subst, arith}
 use Rattle.txc_work.specs.declared.job.Job.{Job}
 use Rattle.txc_batch.specs.BatchScripts.{Queues}
 use Rattle.txc_batch.specs.Queueing.{QueuedValue}

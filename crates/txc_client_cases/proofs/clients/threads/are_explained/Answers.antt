@@ -1,5 +1,5 @@
 use denote.Param.{param}
-use denote.Param.Send.{shr_send, IsSend}
+use denote.Param.Send.{shr_send}
 use Rattle.std.proofs.Crossing.{sync as heap_sync}
 use Rattle.txc_db.proofs.Captured.{closure4_send}
 use Rattle.txc_client.proofs.Crosses.{client_send}

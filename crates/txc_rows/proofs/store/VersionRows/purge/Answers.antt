@@ -1,12 +1,52 @@
-use Rattle.std.proofs.Common.{◌≡◌, sym, subst}
+use Rattle.std.proofs.Common.{◌≡◌, ◌+◌, max, Ok, sym, ap, subst, ◌∙◌, arith, rules}
+use Rattle.std.proofs.lemmas.Result.{err_from_is_err_and}
 use Rattle.txc_rows.specs.Versions.{purged}
 use Rattle.txc_rows.specs.Keeping.{KeepsPurged}
-use Rattle.txc_rows.specs.Kept.{versions_of}
+use Rattle.txc_rows.specs.Placed.{AreSwept}
+use Rattle.txc_rows.specs.Kept.{placed_of, newest_of, AreEmptyBefore, IsCall}
 use Rattle.txc_rows.proofs.KeepingLemmas.{keeps_purged}
+use Rattle.txc_rows.proofs.StoreLemmas.{purged_store, refused_store}
 use Rattle.txc_rows.proofs.store.VersionRows.purge.Goals as goal
+
+pub invariant_of-self : goal.invariant_of-self
+invariant_of-self c =
+    let was = c.self.inside in
+    let store = c.self.invariant in
+    (refused_store (AreSwept c.max-from.result (placed_of was.conn)) was.kept_from was.next_place was.tally c.sweep.new.tally was.conn c.sweep.new.conn _ store (c.in_err-sweep.ensures.empty store.empty) c.in_err-sweep.ensures.call).0
+
+pub returns-in_err-sweep-clause-unchanged : goal.returns-in_err-sweep-clause-unchanged
+returns-in_err-sweep-clause-unchanged c =
+    let was = c.self.inside in
+    let store = c.self.invariant in
+    let p = err_from_is_err_and c.from_residual.result c.from_residual.ensures.1 in
+    rw p.1 ((refused_store (AreSwept c.max-from.result (placed_of was.conn)) was.kept_from was.next_place was.tally c.sweep.new.tally was.conn c.sweep.new.conn _ store (c.in_err-sweep.ensures.empty store.empty) c.in_err-sweep.ensures.call).1 ∙ c.self.view_is)
+
+pub invariant_of-self-2 : goal.invariant_of-self-2
+invariant_of-self-2 c =
+    let was = c.self.inside in
+    let store = c.self.invariant in
+    let first : c.max-from.result ≡ max was.kept_from (c.args.horizon + 1) = search (arith, rules) in
+    let call : IsCall (AreSwept (max was.kept_from (c.args.horizon + 1)) (placed_of was.conn)) was.conn c.sweep.new.conn (Ok c.in_ok-sweep.field-0) = rw (← first) c.in_ok-sweep.ensures.call in
+    let empty : AreEmptyBefore (newest_of c.mark.new.self) c.sweep.new.conn = subst (λ n. AreEmptyBefore n c.sweep.new.conn) (sym c.mark.ensures) (c.in_ok-sweep.ensures.empty store.empty) in
+    let done = purged_store was.kept_from c.args.horizon was.next_place was.tally c.mark.new.self was.conn c.sweep.new.conn _ store empty call in
+    done.0
+
+pub returns-clause-after : goal.returns-clause-after
+returns-clause-after c =
+    let was = c.self.inside in
+    let store = c.self.invariant in
+    let first : c.max-from.result ≡ max was.kept_from (c.args.horizon + 1) = search (arith, rules) in
+    let call : IsCall (AreSwept (max was.kept_from (c.args.horizon + 1)) (placed_of was.conn)) was.conn c.sweep.new.conn (Ok c.in_ok-sweep.field-0) = rw (← first) c.in_ok-sweep.ensures.call in
+    let empty : AreEmptyBefore (newest_of c.mark.new.self) c.sweep.new.conn = subst (λ n. AreEmptyBefore n c.sweep.new.conn) (sym c.mark.ensures) (c.in_ok-sweep.ensures.empty store.empty) in
+    let done = purged_store was.kept_from c.args.horizon was.next_place was.tally c.mark.new.self was.conn c.sweep.new.conn _ store empty call in
+    rw first (done.1 ∙ ap (purged c.args.horizon) c.self.view_is)
 
 pub returns-clause-keeps : goal.returns-clause-keeps
 returns-clause-keeps c =
-    let old = c.args.self.now in
-    let is : versions_of c.delete_dead.new.conn ≡ purged c.args.horizon old = rw c.self.view_is at c.in_ok-delete_dead.ensures.after in
-    subst (KeepsPurged c.args.horizon old) (sym is) (keeps_purged c.args.horizon old)
+    let was = c.self.inside in
+    let store = c.self.invariant in
+    let first : c.max-from.result ≡ max was.kept_from (c.args.horizon + 1) = search (arith, rules) in
+    let call : IsCall (AreSwept (max was.kept_from (c.args.horizon + 1)) (placed_of was.conn)) was.conn c.sweep.new.conn (Ok c.in_ok-sweep.field-0) = rw (← first) c.in_ok-sweep.ensures.call in
+    let empty : AreEmptyBefore (newest_of c.mark.new.self) c.sweep.new.conn = subst (λ n. AreEmptyBefore n c.sweep.new.conn) (sym c.mark.ensures) (c.in_ok-sweep.ensures.empty store.empty) in
+    let done = purged_store was.kept_from c.args.horizon was.next_place was.tally c.mark.new.self was.conn c.sweep.new.conn _ store empty call in
+    rw first (subst (KeepsPurged c.args.horizon c.args.self.now) (sym (done.1 ∙ ap (purged c.args.horizon) c.self.view_is)) (keeps_purged c.args.horizon c.args.self.now))

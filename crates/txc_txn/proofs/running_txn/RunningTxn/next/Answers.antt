@@ -1,6 +1,6 @@
 use Rattle.std.proofs.Common.{sym, subst}
 use Rattle.txc_txn.specs.Core.{value_of}
-use Rattle.txc_txn.specs.Kept.{TxnValue, HasGoneOn, IsShownRight}
+use Rattle.txc_txn.specs.Kept.{txn_value, TxnValue, HasGoneOn, IsShownRight}
 use Rattle.txc_txn.proofs.Cores.{right_seen}
 use Rattle.txc_txn.proofs.running_txn.RunningTxn.next.Goals as goal
 
@@ -11,25 +11,10 @@ invariant_of-self g c =
     let right = subst (λ (v : TxnValue). IsShownRight next v c.args.reply) (sym c.self.view_is) c.requires.right in
     record {
       fits = c.next.ensures.fits;
-      holds = c.next.ensures.holds core.seen.history c.next.new.self.seen.history c.next.ensures.longer c.self.invariant.holds
-          (right_seen c.states_stay.ensures.states next core.machine.need c.args.reply c.next.new.self.seen.history c.next.ensures.shown right);
+      holds = c.next.ensures.holds core.seen.history c.next.new.self.seen.history c.next.ensures.gone_on.longer c.self.invariant.holds
+          (right_seen c.states_stay.ensures.states next core.machine.need c.args.reply c.next.new.self.seen.history c.next.ensures.gone_on.shown right);
     }
 
 pub returns : goal.returns
 returns g c =
-    subst (λ (v : TxnValue). HasGoneOn g.A.App.next v c.args.reply (record { core = value_of c.next.new.self; objects = c.next.new.registry }) c.next.result) c.self.view_is record {
-      turn_fits = c.next.ensures.turn;
-      leads = c.next.ensures.leads;
-      adds = c.next.ensures.adds;
-      pins = c.next.ensures.pins;
-      taken = c.next.ensures.taken;
-      left = c.next.ensures.left;
-      recorded = c.next.ensures.recorded;
-      goes_on = c.next.ensures.goes_on;
-      settings = c.next.ensures.settings;
-      functions = c.next.ensures.functions;
-      events = c.next.ensures.events;
-      longer = c.next.ensures.longer;
-      shown = c.next.ensures.shown;
-      one = c.next.ensures.one;
-    }
+    subst (λ (v : TxnValue). HasGoneOn g.A.App.next v c.args.reply (txn_value (value_of c.next.new.self) c.next.new.registry) c.next.result) c.self.view_is c.next.ensures.gone_on

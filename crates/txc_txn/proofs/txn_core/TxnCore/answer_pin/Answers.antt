@@ -11,17 +11,4 @@ returns g c =
     let is : c.args.self.now.pinning ≡ Some c.in-Some.field-0 = cc in
     let reply = subst (λ (r : Result Pinned DbError). IsAnswered (value_of c.args.self.now) (ports.Pin r)) c.in-Ok.is c.requires.reply in
     let late : least_present c.args.self.now.bounds c.args.self.now.pins.members ≤ c.pin_of.result.stamp = rw c.pin_of.ensures reply.2 in
-    record {
-      fits = core_adding g.A.App.next c.args.registry.now (value_of c.args.self.now) c.in-Some.field-0 c.pin_of.result is late c.requires.fits;
-      holds = search rules;
-      turn_fits = search rules;
-      leads = search rules;
-      adds = search rules;
-      pins = search rules;
-      taken = search rules;
-      left = search rules;
-      recorded = search rules;
-      goes_on = search rules;
-      functions = search rules;
-      same = search rules;
-    }
+    search (rules, core_adding g.A.App.next c.args.registry.now (value_of c.args.self.now) c.in-Some.field-0 c.pin_of.result is late c.requires.fits)

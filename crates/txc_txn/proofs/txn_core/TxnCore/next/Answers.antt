@@ -1,4 +1,4 @@
-use Rattle.std.proofs.Common.{ap, sym, subst}
+use Rattle.std.proofs.Common.{ap, rules, sym, subst}
 use Rattle.txc_pinset.specs.Members.{PinSetValue}
 use Rattle.txc_txn.specs.Core.{CoreValue, CoreHolds, IsRight, PinsAfter, value_of}
 use Rattle.txc_txn.specs.Leading.{ReplyLeads}
@@ -15,13 +15,12 @@ returns-clause-holds g c = λ L M begins h right.
     (subst (λ (v : CoreValue). IsRight next M v.call.need c.args.reply) (sym c.see.ensures.same) right)
     (subst (CoreHolds next M c.args.registry.now) (sym c.see.ensures.same) (holds_seen c.states_stay.ensures.states next L M begins c.args.registry.now (value_of c.args.self.now) c.see.new.self.seen h))
 
-pub returns-clause-leads : goal.returns-clause-leads
-returns-clause-leads g c =
+pub returns-clause-gone_on : goal.returns-clause-gone_on
+returns-clause-gone_on g c =
     let next = g.A.App.next in
-    leads_seen next (value_of c.args.self.now) c.see.new.self.seen c.args.registry.now c.args.reply (value_of c.answer.new.self) c.answer.new.registry c.answer.result
-    (subst (λ (v : CoreValue). ReplyLeads next v c.args.registry.now c.args.reply (value_of c.answer.new.self) c.answer.new.registry c.answer.result) c.see.ensures.same c.answer.ensures.leads)
-
-pub returns-clause-pins : goal.returns-clause-pins
-returns-clause-pins g c =
-    subst (λ (p : PinSetValue). PinsAfter (record (value_of c.args.self.now) { pins = p }) c.args.reply c.answer.new.self.pins)
-    (ap (λ (v : CoreValue). v.pins) c.see.ensures.same) c.answer.ensures.pins
+    let new = value_of c.answer.new.self in
+    let leads = leads_seen next (value_of c.args.self.now) c.see.new.self.seen c.args.registry.now c.args.reply new c.answer.new.registry c.answer.result
+    (subst (λ (v : CoreValue). ReplyLeads next v c.args.registry.now c.args.reply new c.answer.new.registry c.answer.result) c.see.ensures.same c.answer.ensures.leads) in
+    let pins = subst (λ (p : PinSetValue). PinsAfter (record (value_of c.args.self.now) { pins = p }) c.args.reply new.pins)
+    (ap (λ (v : CoreValue). v.pins) c.see.ensures.same) c.answer.ensures.pins in
+    search (rules, leads, pins)

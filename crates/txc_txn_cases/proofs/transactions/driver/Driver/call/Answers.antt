@@ -5,7 +5,7 @@ use Rattle.txc_txn_cases.proofs.transactions.driver.Driver.call.Goals as goal
 pub invariant_of-self-then-is_none-4 : goal.invariant_of-self-then-is_none-4
 invariant_of-self-then-is_none-4 g c = record {
   fits = c.start-turn.ensures.fits;
-  asked = c.say_turn.ensures (value_of c.start-turn.new.self) c.start-turn.ensures.turn;
-  row = ap (λ (v : CoreValue). v.seen.events) c.start-turn.ensures.same ∙ c.self.invariant.row;
+  asked = c.say_turn.ensures (value_of c.start-turn.new.self) c.start-turn.ensures.begun.turn_fits;
+  row = ap (λ (v : CoreValue). v.seen.events) c.start-turn.ensures.begun.same ∙ c.self.invariant.row;
   same_row = c.self.invariant.same_row;
 }

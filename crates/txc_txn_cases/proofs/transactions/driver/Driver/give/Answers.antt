@@ -5,7 +5,7 @@ use Rattle.txc_txn_cases.proofs.transactions.driver.Driver.give.Goals as goal
 pub invariant_of-self : goal.invariant_of-self
 invariant_of-self g c = record {
   fits = c.next-turn.ensures.fits;
-  asked = c.say_turn.ensures (value_of c.next-turn.new.self) c.next-turn.ensures.turn;
-  row = c.next-turn.ensures.events ∙ c.self.invariant.row;
+  asked = c.say_turn.ensures (value_of c.next-turn.new.self) c.next-turn.ensures.gone_on.turn_fits;
+  row = c.next-turn.ensures.gone_on.events ∙ c.self.invariant.row;
   same_row = c.self.invariant.same_row;
 }

@@ -1,0 +1,3 @@
+mod Bodies
+mod Shown
+mod Tallies

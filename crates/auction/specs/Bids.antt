@@ -1,0 +1,16 @@
+-- What a bid writes.
+use Rattle.std.specs.Prelude.{◌≡◌, ℕ, List, [], ◌∷◌, ◌++◌}
+use Rattle.std.specs.Fmt.{decimal}
+use Rattle.txc_rows.specs.declared.query.Change.TheVariants.{Put}
+use Rattle.txc_rw.specs.Core.{RwValue}
+use Rattle.auction.specs.Auction.{BIDS}
+use Rattle.auction.specs.declared.changes.Bid.{Bid}
+
+-- the amount, a colon, and the user's name, such as 120:user1
+abbrev pub text_of : ℕ → ℕ → List ℕ
+text_of amount user = decimal amount ++ 58 ∷ 117 ∷ 115 ∷ 101 ∷ 114 ∷ decimal user
+
+-- the item's row of the highest bid is to be this one, and nothing else is written
+abbrev pub WritesBid : Bid → RwValue → ℕ → Type 0
+WritesBid bid core amount = core.changes
+    ≡ Put (record { table = BIDS; id = bid.item; group = 0; body = text_of amount bid.user }) ∷ []

@@ -1,0 +1,5 @@
+pub mod Auction
+pub mod Bids
+pub mod Objects
+pub mod Pages
+pub mod Tallies

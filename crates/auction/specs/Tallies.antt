@@ -1,0 +1,13 @@
+-- What visitors came to.
+use Rattle.std.specs.Prelude.{◌≡◌, ℕ, ◌+◌, false}
+use Rattle.auction.specs.declared.arguments.Arguments.{Arguments}
+use Rattle.auction.specs.declared.tally.Tally.{Tally}
+
+-- how many pages were asked for
+abbrev pub pages_of : Tally → ℕ
+pages_of t = t.whole + t.torn + t.refused
+
+-- so many pages were asked for; and none that was shown was torn, where both calls of a page were made in one transaction
+pub record HasSeen (pages : ℕ) (arguments : Arguments) (t : Tally) : Type 0 where
+  pub asked : pages_of t ≡ pages
+  pub whole : arguments.is_plain ≡ false → t.torn ≡ 0

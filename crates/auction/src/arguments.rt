@@ -1,0 +1,32 @@
+//! What the program is asked to do.
+
+/// What is asked: by the words `THREADS PAGES SEED STALENESS [--plain]`, each of which may be left out.
+#[derive(Clone, Copy)]
+pub struct Arguments {
+    pub threads: u32,
+    pub pages: u32,
+    pub seed: u32,
+    pub staleness: u32,
+    /// Whether each call has a transaction of its own.
+    pub is_plain: bool,
+}
+
+/// The number that stands at a place, or another.
+fn number(words: &[String], at: usize, other: u32) -> u32 {
+    match words.get(at) {
+        Some(word) => word.parse().unwrap_or(other),
+        None => other,
+    }
+}
+
+impl Arguments {
+    pub fn read(words: &[String]) -> Arguments {
+        Arguments {
+            threads: number(words, 1, 4).clamp(1, 64),
+            pages: number(words, 2, 40),
+            seed: number(words, 3, 0),
+            staleness: number(words, 4, 2),
+            is_plain: words.iter().any(|word| word.as_str() == "--plain"),
+        }
+    }
+}

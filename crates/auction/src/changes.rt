@@ -1,0 +1,132 @@
+//! What is written: the first rows, and bids.
+ghost use Rattle.std.specs.Prelude.{◌≡◌, ◌++◌, ◌∷◌, [], IfOk, OnOk, string_bytes};
+ghost use Rattle.txc_rows.specs.declared.query.Change.TheVariants.{Put};
+ghost use Rattle.txc_rows.specs.Values.{IsBody};
+ghost use Rattle.auction.specs.Bids.{text_of};
+
+use crate::functions::{Auction, AuctionFunction, bids, items, users};
+use crate::pages::key;
+use std::alloc::{AllocError, Global};
+use std::str;
+use std::sync::Wait;
+use txc_db::Naming;
+use txc_node::Value;
+use txc_ports::TxnError;
+use txc_rows::Row;
+use txc_rw::RwTxn;
+use txc_site::{Change, Function};
+use txc_tags::Table;
+
+/// How many items there are.
+pub const ITEM_COUNT: u32 = 8;
+
+/// How many users there are.
+pub const USER_COUNT: u32 = 3;
+
+type Writing<'a, J> = RwTxn<'a, J, Auction, Function<AuctionFunction>>;
+
+/// The row with that body is to stand in the table.
+fn put<J: Naming>(
+    txn: &mut Writing<'_, J>,
+    table: Table,
+    id: u32,
+    group: u32,
+    body: String,
+) -> Result<(), TxnError>
+    requires { IsBody (string_bytes body) }
+    ensures after { OnOk result (txn.new.core.changes ≡ txn.old.core.changes
+        ++ Put (record { table = table; id = id; group = group; body = string_bytes body }) ∷ []) }
+    ensures functions { txn.new.objects ≡ txn.old.objects }
+{
+    let Ok(row) = Row::new(table, id, group, body.into_bytes()) else {
+        unreachable!()
+    };
+    txn.put(row)?;
+    Ok(())
+}
+
+fn user_name(alloc: Global, user: u32) -> Result<String, AllocError>
+    ensures { IfOk result (λ name. IsBody (string_bytes name)) }
+{
+    format!(in alloc; "user{user}")
+}
+
+fn title(alloc: Global, item: u32) -> Result<String, AllocError>
+    ensures { IfOk result (λ title. IsBody (string_bytes title)) }
+{
+    format!(in alloc; "item{item}")
+}
+
+/// The text of a bid, such as `120:user1`.
+fn bid_text(alloc: Global, amount: u32, user: u32) -> Result<String, AllocError>
+    ensures answer { IfOk result (λ text. string_bytes text ≡ text_of amount user) }
+    ensures body { IfOk result (λ text. IsBody (string_bytes text)) }
+{
+    format!(in alloc; "{amount}:user{user}")
+}
+
+/// The amount of a bid.
+fn amount_of(bid: &Value) -> u32 {
+    let text = str::from_utf8(bid.bytes()).unwrap_or("");
+    let (amount, _user) = text.split_once(':').unwrap_or(("", ""));
+    amount.parse().unwrap_or(0)
+}
+
+/// Puts the users, the items, and a first bid on each.
+#[derive(Drop)]
+pub struct Opening;
+
+impl Change<Auction, AuctionFunction> for Opening {
+    type Output = ();
+
+    ghost makes = { λ change core output. Unit {0} };
+
+    ghost refuses = { λ change error. Unit {0} };
+
+    fn make<J: Naming, R: Wait>(
+        &self,
+        _rt: &R,
+        alloc: Global,
+        txn: &mut Writing<'_, J>,
+    ) -> Result<(), TxnError> {
+        for user in 0..USER_COUNT {
+            put(txn, users(), user, 0, user_name(alloc, user)?)?;
+        }
+        for item in 0..ITEM_COUNT {
+            put(txn, items(), item, item % USER_COUNT, title(alloc, item)?)?;
+            put(txn, bids(), item, 0, bid_text(alloc, 10, 0)?)?;
+        }
+        Ok(())
+    }
+}
+
+/// Bids so much more than the highest bid on an item.
+#[derive(Drop)]
+pub struct Bid {
+    pub item: u32,
+    pub user: u32,
+    pub more: u32,
+}
+
+impl Change<Auction, AuctionFunction> for Bid {
+    ghost use Rattle.auction.specs.Bids.{WritesBid};
+
+    type Output = u32;
+
+    ghost makes = { WritesBid };
+
+    ghost refuses = { λ change error. Unit {0} };
+
+    fn make<J: Naming, R: Wait>(
+        &self,
+        rt: &R,
+        alloc: Global,
+        txn: &mut Writing<'_, J>,
+    ) -> Result<u32, TxnError> {
+        let highest = txn.call(rt, alloc, key(0, self.item))?;
+        let amount = amount_of(&highest).saturating_add(self.more);
+        let text = bid_text(alloc, amount, self.user)?;
+        put(txn, bids(), self.item, 0, text)?;
+        Ok(amount)
+    }
+}

@@ -1,0 +1,228 @@
+//! The visitors, who read pages and bid, each on a thread.
+ghost use Rattle.std.specs.Prelude.{◌≡◌, ◌+◌, ◌<◌, ◌^◌, false, IfSome};
+ghost use Rattle.auction.specs.Pages.{IsWhole};
+ghost use Rattle.auction.specs.Tallies.{pages_of};
+
+use crate::arguments::Arguments;
+use crate::changes::{Bid, ITEM_COUNT, USER_COUNT};
+use crate::functions::{Auction, AuctionFunction};
+use crate::pages::{BothBids, ItemPage, OneCall};
+use crate::tally::Tally;
+use std::alloc::Global;
+use std::sync::Wait;
+use txc_db::Naming;
+use txc_ports::Bounds;
+use txc_site::{Keeper, SiteClient, Visitor};
+use txc_stamp::Stamp;
+
+/// A visitor's client.
+type Guest<'a, J> = SiteClient<'a, Auction, AuctionFunction, J>;
+
+/// How often a bid is tried.
+const TRIES: u32 = 8;
+
+/// How many rounds a pin stays.
+const AGE: u64 = 16;
+
+/// A round of a visitor, who comes to an item. Time is his own: the number of the round, so that one visitor
+/// alone does the same in each run.
+#[derive(Clone, Copy)]
+struct Round {
+    item: u32,
+    now: u32,
+}
+
+/// The visitors.
+#[derive(Clone, Copy)]
+pub struct Crowd {
+    pub arguments: Arguments,
+}
+
+impl Crowd {
+    /// What a page of the round may show: nothing that is too old, or older than the stamp.
+    fn bounds(&self, round: Round, at_least: Stamp) -> Bounds {
+        Bounds {
+            now: u64::from(round.now),
+            staleness: u64::from(self.arguments.staleness),
+            at_least,
+        }
+    }
+
+    /// Bids on the item. Returns the stamp of the bid, where it was made.
+    fn bid<'a, J: Naming, R: Wait>(
+        &self,
+        rt: &R,
+        alloc: Global,
+        client: Guest<'a, J>,
+        round: Round,
+        tally: &mut Tally,
+    ) -> (Option<Stamp>, Guest<'a, J>)
+        ensures { tally.new ≡ record tally.old { bids = tally.new.bids; conflicts = tally.new.conflicts } }
+    {
+        let bid = Bid {
+            item: round.item,
+            user: round.now % USER_COUNT,
+            more: 1 + round.now.wrapping_add(self.arguments.seed) % 7,
+        };
+        let (written, client) = client.write(rt, alloc, TRIES, &bid);
+        match written {
+            Ok(written) => (Some(tally.count_bid(&written)), client),
+            Err(_) => (None, client),
+        }
+    }
+
+    /// The item's highest bid and its page, read in one transaction: the page shows that bid, whatever others
+    /// bid meanwhile.
+    fn page<'a, J: Naming, R: Wait>(
+        &self,
+        rt: &R,
+        alloc: Global,
+        client: Guest<'a, J>,
+        round: Round,
+    ) -> (Option<BothBids>, Guest<'a, J>)
+        ensures { IfSome result.0 IsWhole }
+    {
+        let bounds = self.bounds(round, Stamp::ZERO);
+        let item = round.item;
+        let (shown, client) = client.read(rt, alloc, bounds, &ItemPage { item });
+        match shown {
+            Ok(shown) => (Some(shown.output), client),
+            Err(_) => (None, client),
+        }
+    }
+
+    /// Both read in a transaction each, the page not before a bid that this visitor makes in between.
+    fn plain_page<'a, J: Naming, R: Wait>(
+        &self,
+        rt: &R,
+        alloc: Global,
+        client: Guest<'a, J>,
+        round: Round,
+        tally: &mut Tally,
+    ) -> (Option<BothBids>, Guest<'a, J>)
+        ensures { tally.new ≡ record tally.old { bids = tally.new.bids; conflicts = tally.new.conflicts } }
+    {
+        let id = round.item;
+        let bounds = self.bounds(round, Stamp::ZERO);
+        let (highest, client) = client.read(rt, alloc, bounds, &OneCall { function: 0, id });
+        let (stamp, client) = self.bid(rt, alloc, client, round, tally);
+        let bounds = self.bounds(round, stamp.unwrap_or(Stamp::ZERO));
+        let (page, client) = client.read(rt, alloc, bounds, &OneCall { function: 1, id });
+        let Ok(highest) = highest else {
+            return (None, client);
+        };
+        let Ok(page) = page else {
+            return (None, client);
+        };
+        let both = BothBids {
+            highest: highest.output,
+            page: page.output,
+        };
+        (Some(both), client)
+    }
+
+    /// Both, read as the arguments say.
+    fn both<'a, J: Naming, R: Wait>(
+        &self,
+        rt: &R,
+        alloc: Global,
+        client: Guest<'a, J>,
+        round: Round,
+        tally: &mut Tally,
+    ) -> (Option<BothBids>, Guest<'a, J>)
+        ensures counts { tally.new ≡ record tally.old { bids = tally.new.bids; conflicts = tally.new.conflicts } }
+        ensures whole { self.now.arguments.is_plain ≡ false → IfSome result.0 IsWhole }
+    {
+        if self.arguments.is_plain {
+            self.plain_page(rt, alloc, client, round, tally)
+        } else {
+            self.page(rt, alloc, client, round)
+        }
+    }
+
+    /// Reads the item's page, and bids.
+    fn come<'a, J: Naming, R: Wait>(
+        &self,
+        rt: &R,
+        alloc: Global,
+        client: Guest<'a, J>,
+        round: Round,
+        tally: &mut Tally,
+    ) -> Guest<'a, J>
+        requires { pages_of tally.old < 2 ^ 32 }
+        ensures pages { pages_of tally.new ≡ pages_of tally.old + 1 }
+        ensures torn { self.now.arguments.is_plain ≡ false → tally.new.torn ≡ tally.old.torn }
+    {
+        let (page, client) = self.both(rt, alloc, client, round, tally);
+        tally.count(page);
+        let (_stamp, client) = self.bid(rt, alloc, client, round, tally);
+        client
+    }
+}
+
+/// Keeps the site, where the visitor has a keeper.
+fn keep<'a, J: Naming, R: Wait>(
+    rt: &R,
+    alloc: Global,
+    keeper: Option<Keeper<'a, Auction, J>>,
+    now: u32,
+    tally: &mut Tally,
+) -> Option<Keeper<'a, Auction, J>>
+    ensures { tally.new ≡ record tally.old { kept = tally.new.kept } }
+{
+    let keeper = keeper?;
+    let (kept, keeper) = keeper.keep(rt, alloc, u64::from(now), AGE);
+    let Ok(_kept) = kept else {
+        return Some(keeper);
+    };
+    tally.kept = tally.kept.saturating_add(1);
+    Some(keeper)
+}
+
+/// Counts how often the client asked the first node, and how often that had an answer.
+fn count_lookups<J: Naming>(client: &Guest<'_, J>, tally: &mut Tally)
+    ensures { tally.new ≡ record tally.old { lookups = tally.new.lookups; hits = tally.new.hits } }
+{
+    let Some(counts) = client.counts(0) else {
+        return;
+    };
+    for function in 0..3u8 {
+        let of = counts.of(function);
+        tally.lookups = tally.lookups.saturating_add(of.lookups);
+        tally.hits = tally.hits.saturating_add(of.hits);
+    }
+}
+
+impl Visitor<Auction, AuctionFunction> for Crowd {
+    ghost use Rattle.auction.specs.Tallies.{HasSeen};
+
+    type Output = Tally;
+
+    ghost gives = { λ crowd plan row number tally. HasSeen crowd.arguments.pages crowd.arguments tally };
+
+    /// The first visitor keeps the site.
+    fn visit<J: Naming + Send + Sync, R: Wait>(
+        &self,
+        rt: &R,
+        alloc: Global,
+        number: usize,
+        client: &mut Option<Guest<'_, J>>,
+    ) -> Tally {
+        let Some(mut client) = client.take() else {
+            unreachable!()
+        };
+        let mut tally = Tally::ZERO;
+        let mut keeper = None;
+        if number == 0 {
+            keeper = client.keeper(rt, alloc).ok();
+        }
+        let first = u32::try_from(number).unwrap_or(0);
+        for now in 0..self.arguments.pages {
+            let item = now.wrapping_add(first).wrapping_add(self.arguments.seed) % ITEM_COUNT;
+            client = self.come(rt, alloc, client, Round { item, now }, &mut tally);
+            keeper = keep(rt, alloc, keeper, now, &mut tally);
+        }
+        count_lookups(&client, &mut tally);
+        tally
+    }
+}

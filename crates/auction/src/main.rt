@@ -1,0 +1,63 @@
+//! An auction on threads: visitors read pages in read-only transactions, and bid in read-write ones.
+#![tactic(auto)]
+
+ghost use Rattle.std.specs.Prelude.{◌*◌, IfOk};
+ghost use Rattle.auction.specs.Tallies.{HasSeen};
+
+mod arguments;
+mod changes;
+mod crowd;
+mod functions;
+mod pages;
+mod tally;
+
+use arguments::Arguments;
+use changes::Opening;
+use crowd::Crowd;
+use functions::{Auction, AuctionFunction};
+use std::alloc::Global;
+use std::env;
+use std::sync::Wait;
+use std::thread::Threads;
+use tally::{Tally, total};
+use txc_site::{Plan, with_site};
+
+/// Opens the site with the first rows, and lets the visitors come.
+fn hold<R: Threads + Wait + Sync>(
+    rt: &R,
+    alloc: Global,
+    arguments: Arguments,
+) -> anyhow::Result<Tally>
+    ensures { IfOk result (HasSeen (arguments.threads * arguments.pages) arguments) }
+{
+    let plan = Plan {
+        events: 2048,
+        records: 16_384,
+        ..Plan::DEFAULT
+    };
+    let crowd = Crowd { arguments };
+    let visited = with_site::<Auction, AuctionFunction, _, _, _>(
+        rt,
+        alloc,
+        plan,
+        &Opening,
+        arguments.threads as usize,
+        &crowd,
+    )?;
+    Ok(total(&visited.outputs))
+}
+
+fn main(rt: HostRuntime) -> anyhow::Result<()> {
+    let alloc = rt.alloc();
+    let words = env::args(&rt)?.collect::<Vec<String>>(alloc)?;
+    let all = hold(&rt, alloc, Arguments::read(words.as_slice()))?;
+    let pages = all.whole.saturating_add(all.torn);
+    println!(rt; "{pages} pages, {} torn, {} refused", all.torn, all.refused)?;
+    // The rest is not the same in each run.
+    eprintln!(rt;
+        "{} bids, {} conflicts, kept {} times",
+        all.bids, all.conflicts, all.kept
+    )?;
+    eprintln!(rt; "{} hits of {} lookups", all.hits, all.lookups)?;
+    Ok(())
+}

@@ -1,0 +1,146 @@
+-- What the calls of a store leave of its versions.
+use Rattle.std.proofs.Common.{◌≡◌, ℕ, ◌+◌, ◌≤◌, max, List, [], length, Ok, Err, sym, ap, subst, ◌∙◌, arith}
+use Rattle.std.specs.List.{AllByRecursion}
+use Rattle.std.specs.List.Sorted.{IsPermutation}
+use Rattle.std.proofs.lemmas.List.Sorted.{IsPermutation-refl}
+use Rattle.sqlite.specs.declared.error.Error.{Error}
+use Rattle.sqlite.specs.Held.{Held}
+use Rattle.sqlite_trees.specs.declared.memory.MemStore.{MemStore}
+use Rattle.txc_rows.specs.declared.query.Change.{Change}
+use Rattle.txc_rows.specs.Versions.{after_net, purged}
+use Rattle.txc_rows.specs.Holdable.{IsHoldable}
+use Rattle.txc_rows.specs.Placed.{Placed, versions_by_place, left_from, placed_left, AreBelow, AreWritten, AreSwept, AreLeft}
+use Rattle.sqlite.specs.Held.{state}
+use Rattle.sqlite.specs.Steps.{over_memory}
+use Rattle.sqlite.specs.Tree.{Trees}
+use Rattle.txc_rows.specs.declared.texts.Segment.{Segment}
+use Rattle.txc_rows.specs.declared.texts.Segment.TheVariants.{First}
+use Rattle.txc_rows.specs.declared.tally.Tally.{Tally}
+use Rattle.txc_rows.specs.Texts.{place_of, tree_of}
+use Rattle.txc_rows.specs.Kept.{placed_of, versions_of, newest_of, AreEmptyBefore, OthersAreEmpty, OthersStay, IsKept, IsCall, IsSame, IsRoom, IsStore}
+use Rattle.txc_rows.proofs.HeldLemmas.{placed_by, placed_same}
+use Rattle.txc_rows.proofs.SweepLemmas.{swept_same, left_is_swept, left_alone, none_hidden}
+use Rattle.txc_rows.proofs.ViewLemmas.{written_view, purged_view, view_each}
+
+-- ---- a new store
+
+-- none is in use beside the first
+pub first_alone : (n : ℕ) (h : Held MemStore) → n ≡ 0 → OthersAreEmpty First h → AreEmptyBefore n h
+first_alone n h none empty s low = empty s (λ same. omega (arith, none, low, same))
+
+pub new_store : (t : Tally) (h : Held MemStore) → newest_of t ≡ 0 → IsKept h → placed_of h ≡ [] → OthersAreEmpty First h → IsStore 0 t h
+new_store t h none kept empty unused = record { kept = kept; below = subst (AreBelow 0) (sym empty) tt; empty = first_alone (newest_of t) h none unused }
+
+pub new_view : (h : Held MemStore) → placed_of h ≡ [] → left_from 0 (versions_of h) ≡ []
+new_view h empty = ap (λ xs. left_from 0 (versions_by_place xs)) empty
+
+-- ---- nothing is swept
+
+pub nothing_swept : (from : ℕ) (xs : List Placed) → AreSwept from xs xs
+nothing_swept from xs = record { left = IsPermutation-refl (placed_left from xs); below = λ next low. low }
+
+pub call_itself : (from : ℕ) (h : Held MemStore) → IsKept h → IsCall {X = Unit {0}} (AreSwept from (placed_of h)) h h (Ok tt)
+call_itself from h kept = record { kept = kept; leaves = nothing_swept from (placed_of h); unchanged = tt }
+
+-- where all tables are made anew, they are swept
+pub all_swept : {X Y : Type 0} (from : ℕ) (old new : Held MemStore) (x : X) (y : Y) → IsCall {X = X} (AreLeft from (placed_of old)) old new (Ok x) → IsCall {X = Y} (AreSwept from (placed_of old)) old new (Ok y)
+all_swept from old new x y call = record { kept = call.kept; leaves = left_is_swept from (placed_of old) (placed_of new) call.leaves; unchanged = tt }
+
+-- ---- the segments that are not in use
+
+pub still_empty : (n : ℕ) (old new : Held MemStore) → (state over_memory new).now.trees ≡ (state over_memory old).now.trees → AreEmptyBefore n old → AreEmptyBefore n new
+still_empty n old new same empty s low = ap (λ (t : Trees). t (tree_of s)) same ∙ empty s low
+
+pub fewer_empty : (n m : ℕ) (h : Held MemStore) → n ≤ m → AreEmptyBefore n h → AreEmptyBefore m h
+fewer_empty n m h low empty s below = empty s (omega (arith, low, below))
+
+-- where the newest one is written
+pub written_empty : (j : Segment) (n : ℕ) (old new : Held MemStore) → place_of j + n ≡ 7 → OthersStay (tree_of j) old new → AreEmptyBefore n old → AreEmptyBefore n new
+written_empty j n old new newest stay empty s low = stay s (λ same. omega (arith, newest, low, same)) ∙ empty s low
+
+-- ---- nothing is written
+
+pub same_store : (next : ℕ) (t : Tally) (old new : Held MemStore) → IsStore next t old → IsSame old new → IsStore next t new
+same_store next t old new store same = record {
+  kept = same.kept;
+  below = subst (AreBelow next) (sym (placed_same old new same)) store.below;
+  empty = still_empty (newest_of t) old new same.trees store.empty;
+}
+
+pub same_view : (from : ℕ) (old new : Held MemStore) → IsSame old new → left_from from (versions_of new) ≡ left_from from (versions_of old)
+same_view from old new same = ap (λ xs. left_from from (versions_by_place xs)) (placed_same old new same)
+
+-- ---- room for a write
+
+module _ (from stamp : ℕ) (old new : Held MemStore) (was : IsKept old) where
+  pub room_refused : {X : Type 0} (L : List Placed → Type 0) (e f : Error) → IsCall {X = X} L old new (Err e) → IsRoom from stamp old new (Err f)
+  room_refused L e f call = record {
+    kept = call.kept;
+    below = λ next low. subst (AreBelow next) (sym (placed_by old new call.unchanged)) low;
+    low = tt;
+    shown = tt;
+    unchanged = ap (λ xs. left_from from (versions_by_place xs)) (placed_by old new call.unchanged);
+  }
+
+  pub room_all : {X : Type 0} (x : X) → IsCall {X = X} (AreLeft from (placed_of old)) old new (Ok x) → IsRoom from stamp old new (Ok 0)
+  room_all x call = record {
+    kept = call.kept;
+    below = call.leaves.below;
+    low = omega arith;
+    shown = none_hidden (versions_of new) ∙ left_alone from (placed_of old) (placed_of new) call.leaves was.apart.places;
+    unchanged = tt;
+  }
+
+  pub room_dead : {X : Type 0} (x : X) → from ≤ stamp → IsCall {X = X} (AreSwept from (placed_of old)) old new (Ok x) → IsRoom from stamp old new (Ok from)
+  room_dead x low call = record {
+    kept = call.kept;
+    below = call.leaves.below;
+    low = low;
+    shown = swept_same from (placed_of old) (placed_of new) call.leaves was.apart.places;
+    unchanged = tt;
+  }
+
+pub room_itself : (from stamp : ℕ) (h : Held MemStore) → IsKept h → from ≤ stamp → IsRoom from stamp h h (Ok from)
+room_itself from stamp h kept low = room_dead from stamp h h kept tt low (call_itself from h kept)
+
+-- ---- a purge
+
+pub purged_store : {X : Type 0} (from h next : ℕ) (t u : Tally) (old new : Held MemStore) (x : X) → IsStore next t old → AreEmptyBefore (newest_of u) new → IsCall (AreSwept (max from (h + 1)) (placed_of old)) old new (Ok x)
+    → IsStore next u new × (left_from (max from (h + 1)) (versions_of new) ≡ purged h (left_from from (versions_of old)))
+purged_store from h next t u old new x store empty call = (
+  record { kept = call.kept; below = call.leaves.below next store.below; empty = empty },
+  purged_view from h (placed_of old) (placed_of new) store.kept.apart.places call.leaves,
+)
+
+pub refused_store : {X : Type 0} (L : List Placed → Type 0) (from next : ℕ) (t u : Tally) (old new : Held MemStore) (e : Error) → IsStore next t old → AreEmptyBefore (newest_of u) new → IsCall {X = X} L old new (Err e)
+    → IsStore next u new × (left_from from (versions_of new) ≡ left_from from (versions_of old))
+refused_store L from next t u old new e store empty call =
+    let same = placed_by old new call.unchanged in (
+      record { kept = call.kept; below = subst (AreBelow next) (sym same) store.below; empty = empty },
+      ap (λ xs. left_from from (versions_by_place xs)) same,
+    )
+
+-- ---- a write
+
+pub no_room_store : (from stamp next : ℕ) (t u : Tally) (old mid : Held MemStore) (e : Error) → IsStore next t old → AreEmptyBefore (newest_of u) mid → IsRoom from stamp old mid (Err e)
+    → IsStore next u mid × (left_from from (versions_of mid) ≡ left_from from (versions_of old))
+no_room_store from stamp next t u old mid e store empty room = (record { kept = room.kept; below = room.below next store.below; empty = empty }, room.unchanged)
+
+module _ (from first number stamp next : ℕ) (net : List Change) (t u : Tally) (old mid : Held MemStore) (same_stamp : number ≡ stamp) (store : IsStore next t old) (room : IsRoom from number old mid (Ok first)) (empty : AreEmptyBefore (newest_of u) mid) where
+  pub room_store : IsStore next u mid
+  room_store = record { kept = room.kept; below = room.below next store.below; empty = empty }
+
+  pub written_store : {X : Type 0} (j : Segment) (v : Tally) (new : Held MemStore) (x : X) → place_of j + newest_of u ≡ 7 → newest_of v ≡ newest_of u → OthersStay (tree_of j) mid new → IsCall (AreWritten (after_net stamp net (versions_of mid)) (next + length net)) mid new (Ok x)
+      → IsStore (next + length net) v new × (left_from first (versions_of new) ≡ after_net stamp net (left_from from (versions_of old))) × AllByRecursion IsHoldable (after_net stamp net (left_from from (versions_of old)))
+  written_store j v new x newest same stay call =
+      let is = written_view first stamp (subst (λ n. first ≤ n) same_stamp room.low) net (placed_of mid) (placed_of new) (next + length net) call.leaves ∙ ap (after_net stamp net) room.shown in (
+        record { kept = call.kept; below = call.leaves.below; empty = written_empty j (newest_of v) mid new (ap (λ n. place_of j + n) same ∙ newest) stay (subst (λ n. AreEmptyBefore n mid) (sym same) empty) },
+        is,
+        subst (AllByRecursion IsHoldable) is (view_each first (placed_of new) call.kept.apart.each),
+      )
+
+  pub unwritten_store : {X : Type 0} (L : List Placed → Type 0) (new : Held MemStore) (e : Error) → IsCall {X = X} L mid new (Err e)
+      → IsStore next u new × (left_from first (versions_of new) ≡ left_from from (versions_of old))
+  unwritten_store L new e call =
+      let same = refused_store L first next u u mid new e room_store (still_empty (newest_of u) mid new call.unchanged empty) call in
+      (same.0, same.1 ∙ room.shown)

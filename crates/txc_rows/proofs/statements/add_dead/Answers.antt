@@ -1,0 +1,34 @@
+use Rattle.std.proofs.Common.{[], ◌∷◌, ◌++◌, ◌∙◌}
+use Rattle.sqlite.specs.Held.{state}
+use Rattle.sqlite.specs.Steps.{over_memory}
+use Rattle.sqlite.specs.State.{ExecutesInside}
+use Rattle.sqlite.proofs.Callers.{memory_is_clean}
+use Rattle.txc_rows.specs.Texts.{add_text, tree_of}
+use Rattle.txc_rows.specs.Stored.{cells_of, placed_from}
+use Rattle.txc_rows.specs.Kept.{latest_in, dead_in, HasVersions}
+use Rattle.txc_rows.proofs.WriteLemmas.{adds_dead}
+use Rattle.txc_rows.proofs.SweepCalls.{bound_cells}
+use Rattle.txc_rows.proofs.HeldLemmas.{steps, has_left, others_stay}
+use Rattle.txc_rows.proofs.statements.add_dead.Goals as goal
+
+ran : (c : goal.After-execute) → ExecutesInside 0 (add_text c.args.segment) (cells_of (placed_from c.args.row.now)) (state over_memory c.args.tx.now.conn.now) (state over_memory c.execute.new.self.conn.now) c.execute.result
+ran c = rw (c.add_text.ensures, c.in_ok-get_ref.ensures.ok.1, c.in_ok-get_ref-2.ensures.ok.1, c.in_ok-get_ref-3.ensures.ok.1, c.in_ok-get_ref-4.ensures.ok.1, c.in_ok-get_ref-5.ensures.ok.1, c.in_ok-get_ref-6.ensures.ok.1, c.in_ok-get_ref-7.ensures.ok.1, bound_cells c.args.row.now c.requires.cells ∙ c.requires.cells) at (c.execute.ensures.runs (memory_is_clean c.execute.new.self.conn.now) c.requires.inside)
+
+pub returns-clause-step : goal.returns-clause-step
+returns-clause-step c =
+    let old = c.args.tx.now.conn.now in
+    let new = c.execute.new.self.conn.now in
+    let j = c.args.segment in
+    let x = placed_from c.args.row.now in
+    let has = c.requires.table in
+    steps (add_text j) (cells_of x) (HasVersions (latest_in old) (dead_in old ++ x ∷ [])) old new c.execute.result (ran c)
+    (λ count run. has_left _ _ new (adds_dead j (state over_memory old) (state over_memory new) x count has.schema has.latest has.dead run))
+
+pub returns-clause-others : goal.returns-clause-others
+returns-clause-others c =
+    let old = c.args.tx.now.conn.now in
+    let new = c.execute.new.self.conn.now in
+    let j = c.args.segment in
+    let x = placed_from c.args.row.now in
+    let has = c.requires.table in
+    others_stay (add_text j) (cells_of x) (tree_of j) old new c.execute.result (ran c) (λ count run. (adds_dead j (state over_memory old) (state over_memory new) x count has.schema has.latest has.dead run).others)

@@ -1,0 +1,59 @@
+use Rattle.std.proofs.Common.{◌≡◌, ◌+◌, ◌++◌, ◌∷◌, [], map, drop, sym, ap, subst, ◌∙◌, refl, append_assoc, append-nil}
+use Rattle.std.specs.List.{AllByRecursion}
+use Rattle.std.specs.List.Sorted.{IsPermutation}
+use Rattle.std.proofs.lemmas.List.{drop_all}
+use Rattle.std.proofs.lemmas.List.Sorted.{IsPermutation-refl, IsPermutation-trans}
+use Rattle.txc_rows.specs.Stored.{AreCells, placed_from}
+use Rattle.txc_rows.specs.Kept.{latest_in}
+use Rattle.txc_rows.proofs.SweepCalls.{next_first}
+use Rattle.txc_rows.proofs.statements.fill_latest.Goals as goal
+
+pub add_row-requires-clause-cells : goal.add_row-requires-clause-cells
+add_row-requires-clause-cells c = (subst (AllByRecursion AreCells) (next_first c.args.rows.now c.loop-row.row-index c.row-item.result c.loop-row-test.true c.row-item.is) c.loop-row.invariant.rest).0
+
+pub loop-row-preserved : goal.loop-row-preserved
+loop-row-preserved c =
+    let i = c.loop-row.invariant in
+    let step = c.in_ok-add_row.ensures.step in
+    let old = c.loop-row.tx.conn.now in
+    let x = placed_from c.row-item.result in
+    let split = next_first c.args.rows.now c.loop-row.row-index c.row-item.result c.loop-row-test.true c.row-item.is in
+    let later = map placed_from (drop (c.loop-row.row-index + 1) c.args.rows.now) in
+    let next : (latest_in old ++ x ∷ []) ++ later ≡ latest_in old ++ map placed_from (drop c.loop-row.row-index c.args.rows.now) =
+    append_assoc (latest_in old) (x ∷ []) later ∙ ap (λ rs. latest_in old ++ map placed_from rs) (sym split) in
+    record {
+      tables = step.leaves.tables;
+      latest = ap (λ xs. xs ++ later) step.leaves.latest_are ∙ next ∙ i.latest;
+      dead = IsPermutation-trans _ _ _ i.dead step.leaves.dead_are;
+      inside = step.inside;
+      base = step.base ∙ i.base;
+      rest = (subst (AllByRecursion AreCells) split i.rest).1;
+      same = c.in_ok-add_row.ensures.same_reference ∙ i.same;
+      others = λ s off. c.in_ok-add_row.ensures.others s off ∙ i.others s off;
+    }
+
+pub returns-clause-step : goal.returns-clause-step
+returns-clause-step c =
+    let i = c.loop-row.invariant in
+    let past = drop_all c.loop-row.row-index c.args.rows.now c.loop-row-test.false in
+    record {
+      leaves = record {
+        tables = i.tables;
+        latest_are = sym (append-nil (latest_in c.loop-row.tx.conn.now)) ∙ ap (λ rs. latest_in c.loop-row.tx.conn.now ++ map placed_from rs) (sym past) ∙ i.latest;
+        dead_are = i.dead;
+      };
+      inside = i.inside;
+      base = i.base;
+    }
+
+pub loop-row-init : goal.loop-row-init
+loop-row-init c = record {
+  tables = c.requires.table;
+  latest = refl;
+  dead = IsPermutation-refl _;
+  inside = c.requires.inside;
+  base = refl;
+  rest = c.requires.cells;
+  same = refl;
+  others = λ s off. refl;
+}

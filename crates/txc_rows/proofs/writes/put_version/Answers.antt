@@ -1,0 +1,45 @@
+use Rattle.std.proofs.Common.{◌≡◌, ◌==◌, false, length, filter, sym, ap, ◌∙◌}
+use borrow.Author.Tests.{ne_eqb}
+use Rattle.txc_rows.specs.Placed.{has_key, put_dead}
+use Rattle.txc_rows.specs.Kept.{latest_in, dead_in, HasVersions}
+use Rattle.txc_rows.proofs.SegmentLemmas.{not_latest}
+use Rattle.txc_rows.proofs.ChangeSteps.{put_first, put_again}
+use Rattle.txc_rows.proofs.writes.put_version.Goals as goal
+
+pub returns-in_ok-add_latest-clause-step : goal.returns-in_ok-add_latest-clause-step
+returns-in_ok-add_latest-clause-step c =
+    let old = c.args.tx.now.conn.now in
+    let mid = c.copy_latest.new.tx.conn.now in
+    let row = c.args.row.now in
+    let first = c.in_ok-copied.ensures.step in
+    let last = c.in_ok-add_latest.ensures.step in
+    let went : HasVersions (latest_in old) (put_dead row (latest_in old) (dead_in old)) mid = rw (c.table.ensures, c.id.ensures, c.group.ensures) at (first.leaves) in
+    let count : c.in_ok-copied.copied ≡ length (filter (has_key row.table row.id row.group) (latest_in old)) = rw (c.table.ensures, c.id.ensures, c.group.ensures) at (c.in_ok-copied.ensures.count) in
+    let zero : c.in_ok-copied.copied ≡ 0 = c.if-copied-eq0.true in
+    record {
+      leaves = put_first old mid c.add_latest.new.tx.conn.now row c.args.stamp c.args.place went (sym count ∙ zero) last.leaves;
+      inside = last.inside;
+      base = last.base ∙ first.base;
+    }
+
+pub returns-in_ok-renew_latest-clause-step : goal.returns-in_ok-renew_latest-clause-step
+returns-in_ok-renew_latest-clause-step c =
+    let old = c.args.tx.now.conn.now in
+    let mid = c.copy_latest.new.tx.conn.now in
+    let row = c.args.row.now in
+    let first = c.in_ok-copied.ensures.step in
+    let last = c.in_ok-renew_latest.ensures.step in
+    let went : HasVersions (latest_in old) (put_dead row (latest_in old) (dead_in old)) mid = rw (c.table.ensures, c.id.ensures, c.group.ensures) at (first.leaves) in
+    let count : c.in_ok-copied.copied ≡ length (filter (has_key row.table row.id row.group) (latest_in old)) = rw (c.table.ensures, c.id.ensures, c.group.ensures) at (c.in_ok-copied.ensures.count) in
+    let some : length (filter (has_key row.table row.id row.group) (latest_in old)) == 0 ≡ false = ap (λ n. n == 0) (sym count) ∙ ne_eqb _ _ c.if-copied-eq0.false in
+    record {
+      leaves = put_again old mid c.renew_latest.new.tx.conn.now row c.args.stamp c.args.place went some last.leaves;
+      inside = last.inside;
+      base = last.base ∙ first.base;
+    }
+
+pub returns-in_ok-add_latest-clause-others : goal.returns-in_ok-add_latest-clause-others
+returns-in_ok-add_latest-clause-others c = λ s off. c.in_ok-add_latest.ensures.others s (not_latest s) ∙ c.in_ok-copied.ensures.others s off
+
+pub returns-in_ok-renew_latest-clause-others : goal.returns-in_ok-renew_latest-clause-others
+returns-in_ok-renew_latest-clause-others c = λ s off. c.in_ok-renew_latest.ensures.others s (not_latest s) ∙ c.in_ok-copied.ensures.others s off

@@ -1,0 +1,21 @@
+use Rattle.std.proofs.Common.{◌+◌, sym, subst}
+use Rattle.txc_rows.specs.Versions.{after_write}
+use Rattle.txc_rows.specs.Kept.{versions_of, HasWritten}
+use Rattle.txc_rows.proofs.SegmentLemmas.{not_latest}
+use Rattle.txc_rows.proofs.ChangeSteps.{removed_step}
+use Rattle.txc_rows.proofs.writes.write_change.Goals as goal
+
+pub returns-in_ok-ended-in-Remove-clause-step : goal.returns-in_ok-ended-in-Remove-clause-step
+returns-in_ok-ended-in-Remove-clause-step c =
+    let old = c.args.tx.now.conn.now in
+    let end = c.end_version.new.tx.conn.now in
+    let step = c.in_ok-ended-in-Remove.ensures.step in
+    record {
+      leaves = subst (λ it. HasWritten (after_write c.args.stamp it (versions_of old)) (c.args.place + 1) end) (sym c.in-Remove.is)
+          (removed_step old end c.in-Remove.table c.in-Remove.id c.args.stamp c.args.place c.in_ok-ended-in-Remove.ensures.stamp c.requires.apart c.requires.below step.leaves);
+      inside = step.inside;
+      base = step.base;
+    }
+
+pub returns-in_ok-ended-in-Remove-clause-others : goal.returns-in_ok-ended-in-Remove-clause-others
+returns-in_ok-ended-in-Remove-clause-others c = λ s off. c.in_ok-ended-in-Remove.ensures.others s (not_latest s)

@@ -1,0 +1,31 @@
+use Rattle.std.proofs.Common.{map, ◌∙◌}
+use Rattle.txc_rows.specs.Placed.{closed_placed}
+use Rattle.txc_rows.specs.Kept.{latest_in, dead_in, HasVersions}
+use Rattle.txc_rows.proofs.SegmentLemmas.{not_latest}
+use Rattle.txc_rows.proofs.ChangeSteps.{ended_is_apart, put_step}
+use Rattle.txc_rows.proofs.writes.write_put.Goals as goal
+
+pub put_version-requires-clause-keys : goal.put_version-requires-clause-keys
+put_version-requires-clause-keys c =
+    let old = c.args.tx.now.conn.now in
+    let mid = c.end_version.new.tx.conn.now in
+    let row = c.args.row.now in
+    let ended : HasVersions (map (closed_placed row.table row.id c.args.stamp) (latest_in old)) (dead_in old) mid = rw (c.table.ensures, c.id.ensures) at (c.in_ok-ended.ensures.step.leaves) in
+    (ended_is_apart old mid row.table row.id c.args.stamp c.args.place c.in_ok-ended.ensures.stamp c.requires.apart c.requires.below ended).keys
+
+pub returns-clause-step : goal.returns-clause-step
+returns-clause-step c =
+    let old = c.args.tx.now.conn.now in
+    let mid = c.end_version.new.tx.conn.now in
+    let row = c.args.row.now in
+    let first = c.in_ok-ended.ensures.step in
+    let last = c.in_ok-copied.ensures.step in
+    let ended : HasVersions (map (closed_placed row.table row.id c.args.stamp) (latest_in old)) (dead_in old) mid = rw (c.table.ensures, c.id.ensures) at (first.leaves) in
+    record {
+      leaves = put_step old mid c.put_version.new.tx.conn.now row c.args.stamp c.args.place c.in_ok-ended.ensures.stamp c.in_ok-copied.ensures.row c.requires.apart c.requires.below ended last.leaves;
+      inside = last.inside;
+      base = last.base ∙ first.base;
+    }
+
+pub returns-clause-others : goal.returns-clause-others
+returns-clause-others c = λ s off. c.in_ok-copied.ensures.others s off ∙ c.in_ok-ended.ensures.others s (not_latest s)

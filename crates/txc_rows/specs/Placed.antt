@@ -1,0 +1,115 @@
+-- Versions with their places in the one list of versions, apart by which are the last of a table, id and group.
+use Rattle.std.specs.Prelude.{◌≡◌, ◌≢◌, ◌<◌, ℕ, Bool, true, false, ◌&&◌, ◌==◌, nat_lt, nat_le, List, [], ◌∷◌, ◌++◌, length, filter, if◌then◌else◌, map, Option, Some, None}
+use Rattle.std.specs.List.Sorted.{IsPermutation}
+use Rattle.std.specs.List.{AllByRecursion}
+use Rattle.sqlite.specs.Tree.{IsAscending}
+use Rattle.txc_rows.specs.declared.version.Versioned.{Versioned}
+use Rattle.txc_rows.specs.Versions.{closed}
+use Rattle.txc_rows.specs.States.{RowValue, is_at}
+use Rattle.txc_rows.specs.Holdable.{IsHoldable}
+
+-- a version, and where it stands among all
+pub record Placed : Type 0 where
+  pub place : ℕ
+  pub version : Versioned
+
+-- the version alone
+abbrev pub version_of : Placed → Versioned
+version_of x = x.version
+
+-- before the first that has a later place
+abbrev pub put_in : Placed → List Placed → List Placed
+put_in x [] = x ∷ []
+put_in x (y ∷ ys) = if nat_lt x.place y.place then x ∷ (y ∷ ys) else y ∷ put_in x ys
+
+-- by place
+abbrev pub by_place : List Placed → List Placed
+by_place [] = []
+by_place (x ∷ xs) = put_in x (by_place xs)
+
+-- the versions in the order of their places
+abbrev pub versions_by_place : List Placed → List Versioned
+versions_by_place xs = map version_of (by_place xs)
+
+-- no death, or one at the stamp or later
+abbrev pub lasts_to : ℕ → Option ℕ → Bool
+lasts_to from None = true
+lasts_to from (Some died) = nat_le from died
+
+-- it did not die before the stamp
+abbrev pub is_left : ℕ → Versioned → Bool
+is_left from v = lasts_to from v.died
+
+-- the versions that did not die before the stamp
+abbrev pub left_from : ℕ → List Versioned → List Versioned
+left_from from = filter (is_left from)
+
+-- the same with their places
+abbrev pub placed_left : ℕ → List Placed → List Placed
+placed_left from = filter (λ x. is_left from x.version)
+
+-- the version is of that table, id and group
+abbrev pub has_key : ℕ → ℕ → ℕ → Placed → Bool
+has_key table id group x = is_at table id x.version.row && (x.version.row.group == group)
+
+-- the version after a change of the table and id at the stamp, at the same place
+abbrev pub closed_placed : ℕ → ℕ → ℕ → Placed → Placed
+closed_placed table id stamp x = record x { version = closed table id stamp x.version }
+
+-- a new version at its place
+abbrev pub new_placed : ℕ → RowValue → ℕ → Placed
+new_placed place row stamp = record { place = place; version = record { row = row; born = stamp; died = None } }
+
+-- the new version in place of the last one of its table, id and group
+abbrev pub renewed : ℕ → RowValue → ℕ → Placed → Placed
+renewed place row stamp x = if has_key row.table row.id row.group x then new_placed place row stamp else x
+
+-- no two have one place
+abbrev pub HaveOwnPlaces : List Placed → Type 0
+HaveOwnPlaces = IsAscending (λ x y. x.place ≢ y.place)
+
+-- no two are of one table, id and group
+abbrev pub HaveOwnKeys : List Placed → Type 0
+HaveOwnKeys = IsAscending (λ x y. has_key x.version.row.table x.version.row.id x.version.row.group y ≡ false)
+
+-- each place is below the next one
+abbrev pub AreBelow : ℕ → List Placed → Type 0
+AreBelow next = AllByRecursion (λ x. x.place < next)
+
+-- where two are of one table and id, one at most is current
+abbrev pub IsOneCurrent : Placed → Placed → Type 0
+IsOneCurrent x y = is_at x.version.row.table x.version.row.id y.version.row ≡ true → x.version.died ≡ None
+    → y.version.died ≢ None
+
+-- all versions, the last of each table, id and group apart from those before it, which have died
+pub record AreApart (latest dead : List Placed) : Type 0 where
+  pub places : HaveOwnPlaces (latest ++ dead)
+  pub keys : HaveOwnKeys latest
+  pub current : IsAscending IsOneCurrent latest
+  pub ended : AllByRecursion (λ x. x.version.died ≢ None) dead
+  pub each : AllByRecursion (λ x. IsHoldable x.version) (latest ++ dead)
+
+-- the last versions after a put: the new one stands in place of the last of its table, id and group, or else at
+-- the end
+abbrev pub put_latest : ℕ → RowValue → ℕ → List Placed → List Placed
+put_latest place row stamp latest = if length (filter (has_key row.table row.id row.group) latest) == 0
+    then latest ++ new_placed place row stamp ∷ [] else map (renewed place row stamp) latest
+
+-- the dead versions after it: that last one is one of them
+abbrev pub put_dead : RowValue → List Placed → List Placed → List Placed
+put_dead row latest dead = dead ++ filter (has_key row.table row.id row.group) latest
+
+-- these are the versions by place, and each place is below the next one
+pub record AreWritten (versions : List Versioned) (next : ℕ) (placed : List Placed) : Type 0 where
+  pub versions_are : versions_by_place placed ≡ versions
+  pub below : AreBelow next placed
+
+-- of those that did not die before the stamp none is missing or new, and no place is new
+pub record AreSwept (from : ℕ) (old placed : List Placed) : Type 0 where
+  pub left : IsPermutation (placed_left from old) (placed_left from placed)
+  pub below : (next : ℕ) → AreBelow next old → AreBelow next placed
+
+-- these are all that did not die before the stamp, and no place is new
+pub record AreLeft (from : ℕ) (old placed : List Placed) : Type 0 where
+  pub left : IsPermutation (placed_left from old) placed
+  pub below : (next : ℕ) → AreBelow next old → AreBelow next placed

@@ -1,0 +1,116 @@
+//! What is known of the tables without looking into them.
+
+ghost use Rattle.std.specs.Prelude.{◌≡◌, ◌≤◌, ◌+◌, ◌↔◌, IsTrue};
+ghost use Rattle.txc_rows.specs.Texts.{place_of};
+ghost use Rattle.txc_rows.specs.Kept.{newest_of};
+
+use crate::segments::Segments;
+use crate::texts::Segment;
+use crate::writes::Written;
+
+/// The segments are made anew where so many of their versions are gone at least.
+const LEAST_DEAD: usize = 256;
+
+/// All tables are made anew where so many of the last versions are gone at least.
+const LEAST_ENDED: usize = 1024;
+
+/// How many versions the tables have, and when they were written.
+#[derive(Clone, Copy)]
+pub(crate) struct Tally {
+    segments: Segments,
+    /// How many rows the table of last versions has, and how many of them have died.
+    rows: usize,
+    ended: usize,
+    /// So many had died at that stamp.
+    marked_ended: usize,
+    marked_at: u32,
+    /// The last stamp of a write.
+    newest: u32,
+}
+
+impl Tally {
+    pub(crate) fn empty() -> Tally
+        ensures { newest_of result ≡ 0 }
+    {
+        Tally {
+            segments: Segments::empty(),
+            rows: 0,
+            ended: 0,
+            marked_ended: 0,
+            marked_at: 0,
+            newest: 0,
+        }
+    }
+
+    /// The segment to which the next versions go.
+    pub(crate) fn segment(&self) -> Segment
+        ensures { place_of result + newest_of self.now ≡ 7 }
+    {
+        self.segments.newest()
+    }
+
+    /// Whether a segment is in use.
+    pub(crate) fn uses(&self, segment: Segment) -> bool
+        ensures { IsTrue result ↔ (7 ≤ place_of segment + newest_of self.now) }
+    {
+        segment.place() + self.segments.newest_at() >= 7
+    }
+
+    /// Whether a write finds room in a segment, perhaps in the next one.
+    pub(crate) fn has_room(&mut self) -> bool
+        ensures { newest_of self.old ≤ newest_of self.new }
+    {
+        !self.segments.is_full() || self.segments.advance()
+    }
+
+    /// Whether as many of the last versions are gone before the stamp as are left.
+    pub(crate) fn is_mostly_ended(&self, from: u32) -> bool {
+        let gone = self.ended.min(self.marked_ended);
+        self.marked_at < from && gone >= LEAST_ENDED.max(self.rows / 2)
+    }
+
+    /// Whether as many versions of the segments are gone before the stamp as are left.
+    pub(crate) fn is_mostly_dead(&self, from: u32) -> bool {
+        let gone = self.segments.count_before(from);
+        gone >= LEAST_DEAD && gone >= self.segments.count() / 2
+    }
+
+    /// A commit was written.
+    pub(crate) fn note(&mut self, written: Written, stamp: u32)
+        ensures { newest_of self.new ≡ newest_of self.old }
+    {
+        self.newest = self.newest.max(stamp);
+        self.segments.note(written.copied, self.newest);
+        self.rows = self.rows.wrapping_add(written.added);
+        let ended = self.ended.wrapping_add(written.ended);
+        self.ended = ended.saturating_sub(written.copied);
+    }
+
+    /// What died before the stamp is hidden.
+    pub(crate) fn mark(&mut self, from: u32)
+        ensures { newest_of self.new ≡ newest_of self.old }
+    {
+        if self.marked_at < from {
+            self.marked_ended = self.ended;
+            self.marked_at = self.newest;
+        }
+    }
+
+    /// The segments were made anew, with so many versions.
+    pub(crate) fn sweep_dead(&mut self, kept: usize)
+        ensures { newest_of self.new ≡ 0 }
+    {
+        self.segments = self.segments.joined(kept);
+    }
+
+    /// All tables were made anew, with so many last versions and so many others.
+    pub(crate) fn sweep_all(&mut self, rows: usize, kept: usize)
+        ensures { newest_of self.new ≡ 0 }
+    {
+        self.segments = self.segments.joined(kept);
+        self.rows = rows;
+        self.ended = 0;
+        self.marked_ended = 0;
+        self.marked_at = self.newest;
+    }
+}

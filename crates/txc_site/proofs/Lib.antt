@@ -1,0 +1,7 @@
+pub mod Crosses
+mod Guests
+pub mod Keeping
+mod Listing
+mod NodeRows
+pub mod Opened
+mod Tried

@@ -1,0 +1,9 @@
+use Rattle.std.proofs.Common.{[], get_or}
+use Rattle.txc_site.proofs.opening.with_site.Given as goal
+
+-- the rows that were just made
+abbrev pub ghosts-over_rows : goal.ghosts-over_rows
+ghosts-over_rows g a = record {
+  database_row = a.core.events;
+  node_rows = λ n. get_or a.rows.items n [];
+}

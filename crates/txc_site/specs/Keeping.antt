@@ -1,0 +1,62 @@
+-- What a keeper did with the nodes of a site.
+use Rattle.std.specs.Prelude.{◌≡◌, ℕ, ◌+◌, List, [], ◌∷◌, length, Option, Some, None, Ok, Err, IfErr, IfOk, Result}
+use Rattle.txc_node.specs.declared.op.Op.TheVariants.{Sweep}
+use Rattle.txc_node.specs.declared.reply.Reply.TheVariants.{Swept}
+use Rattle.txc_shared.specs.declared.advanced.Advanced.TheVariants as advances
+use Rattle.txc_shared.specs.declared.error.NodeError.{NodeError}
+use Rattle.txc_shared.specs.Passes.{PassValue, HasMade, HasTaken, IsPassLeft}
+use Rattle.txc_site.specs.declared.keeper.Ended.{Ended}
+use Rattle.txc_site.specs.declared.keeper.Ended.TheVariants.{Idle, Paused, Refused}
+use Rattle.txc_site.specs.declared.keeper.KeptNode.{KeptNode}
+use Rattle.txc_site.specs.declared.keeper.TheConstants.{MAX_TAKEN}
+
+-- through the pass, the node took one event after the other, of these stamps, the latest first
+abbrev pub HasTakenAll : PassValue → List ℕ → PassValue → Type 0
+HasTakenAll old [] new = new ≡ old
+HasTakenAll old (stamp ∷ earlier) new = (before : PassValue) × (closed : ℕ) × HasTakenAll old earlier before
+    × HasTaken before new (advances.Taken stamp closed)
+
+-- after so many events there was none that the node had not taken, or it had taken as many as it may at once, or it
+-- refused the next one
+abbrev pub HasEnded : (ℕ → List ℕ) → PassValue → ℕ → Ended → PassValue → Type 0
+HasEnded rows old taken Idle new = HasTaken old new advances.Idle
+HasEnded rows old taken Paused new = (new ≡ old) × (taken ≡ MAX_TAKEN)
+HasEnded rows old taken (Refused error) new = IsPassLeft (rows old.settings.number) old new error
+
+-- so many events were taken, and it ended so
+pub record HasAdvanced (rows : ℕ → List ℕ) (old : PassValue) (taken : ℕ) (ended : Ended) (new : PassValue) : Type 0 where
+  pub stamps : List ℕ
+  pub last : PassValue
+  pub took : HasTakenAll old stamps last
+  pub counted : taken ≡ length stamps
+  pub end : HasEnded rows last taken ended new
+
+-- the node was swept, and dropped so many entries; or refused the sweep; without a horizon it was not swept
+abbrev pub HasSwept : (ℕ → List ℕ) → PassValue → Option ℕ → Option (Result ℕ NodeError) → PassValue → Type 0
+HasSwept rows old (Some horizon) (Some result) new =
+    IfOk result (λ count. HasMade old new (Sweep horizon) (Swept count))
+    × IfErr result (IsPassLeft (rows old.settings.number) old new)
+HasSwept rows old None None new = new ≡ old
+HasSwept rows old horizon swept new = ⊥
+
+-- what was done with a node through its pass, which is the same one, and the room that is left after what the pass
+-- has seen
+pub record HasKeptNode (rows : ℕ → List ℕ) (horizon : Option ℕ) (old : PassValue) (kept : KeptNode) (new : PassValue) : Type 0 where
+  pub between : PassValue
+  pub advanced : HasAdvanced rows old kept.taken kept.ended between
+  pub swept : HasSwept rows between horizon kept.swept new
+  pub settings : new.settings ≡ old.settings
+  pub pass : new.pass ≡ old.pass
+  pub left : kept.records_left + length new.records ≡ length (rows new.settings.number)
+
+-- the same of each node, in order
+abbrev pub HaveKept : (ℕ → List ℕ) → Option ℕ → List PassValue → List KeptNode → List PassValue → Type 0
+HaveKept rows horizon [] [] [] = Unit {0}
+HaveKept rows horizon (old ∷ olds) (kept ∷ all) (new ∷ news) =
+    HasKeptNode rows horizon old kept new × HaveKept rows horizon olds all news
+HaveKept rows horizon olds all news = ⊥
+
+-- the horizon, if there is one
+abbrev pub ok_of : {T E : Type 0} → Result T E → Option T
+ok_of (Ok x) = Some x
+ok_of (Err e) = None

@@ -1,0 +1,7 @@
+pub mod Attempts
+pub mod Keeping
+pub mod Opened
+pub mod Plans
+pub mod Rows
+pub mod Sites
+pub mod Writes

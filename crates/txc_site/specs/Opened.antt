@@ -1,0 +1,51 @@
+-- What a site that is opened comes to.
+use Rattle.std.specs.Prelude.{◌≡◌, ℕ, List, length, vec_len}
+use Rattle.txc_app.specs.Eval.{Next}
+use Rattle.txc_ports.specs.declared.error.TxnError.{TxnError}
+use Rattle.txc_rw.specs.Core.{RwValue}
+use Rattle.txc_site.specs.declared.error.OpenError.{OpenError}
+use Rattle.txc_site.specs.declared.error.OpenError.TheVariants as opens
+use Rattle.txc_site.specs.declared.error.WriteError.{WriteError}
+use Rattle.txc_site.specs.declared.opening.Visited.{Visited}
+use Rattle.txc_site.specs.declared.plan.Plan.{Plan}
+use Rattle.txc_site.specs.Plans.{IsPlan}
+use Rattle.txc_site.specs.Sites.{HaveCome, IsClientRefused, IsRegistryRefused, IsSiteRefused}
+use Rattle.txc_site.specs.Writes.{IsWritten, IsWriteRefused}
+
+-- Over a database whose row has room for as many events as the plan says, the opening was written in its first run.
+-- There are so many outputs, each of which is what the thread of its number comes to there.
+pub record IsVisited {O T : Type 0} (next : Next) (plan : Plan) (count : ℕ) (makes : RwValue → O → Type 0)
+    (gives : Plan → List ℕ → ℕ → T → Type 0) (visited : Visited O T) : Type 0 where
+  pub row : List ℕ
+  pub room : length row ≡ plan.events
+  pub opened : IsWritten next row makes visited.opening.output visited.opening.committed
+  pub once : vec_len visited.opening.conflicts ≡ 0
+  pub each : vec_len visited.outputs ≡ count
+  pub came : HaveCome (gives plan row) visited.outputs.items
+
+-- a database with room for so many events refused the opening, in one try
+pub record IsUnopened {T : Type 0} (events : ℕ) (makes : RwValue → T → Type 0) (refuses : TxnError → Type 0) (error : WriteError)
+    : Type 0 where
+  pub row : List ℕ
+  pub room : length row ≡ events
+  pub refused : IsWriteRefused row makes refuses 1 error
+
+-- of a site: it was not made; or its opening was refused; or there was no memory for the threads
+abbrev pub IsOpenRefused : {T : Type 0} → Plan → List ℕ → (RwValue → T → Type 0) → (TxnError → Type 0) → OpenError → Type 0
+IsOpenRefused plan numbers makes refuses (opens.Site error) = IsSiteRefused plan numbers error
+IsOpenRefused plan numbers makes refuses (opens.Opening error) = IsPlan plan × IsUnopened plan.events makes refuses error
+IsOpenRefused plan numbers makes refuses opens.Threads = IsPlan plan
+
+-- ---- by its parts
+
+-- of the opening: as a registry is; or as a change is, in one try
+abbrev pub IsOpeningRefused : {T : Type 0} → List ℕ → List ℕ → (RwValue → T → Type 0) → (TxnError → Type 0) → OpenError → Type 0
+IsOpeningRefused numbers row makes refuses (opens.Site error) = IsRegistryRefused numbers error
+IsOpeningRefused numbers row makes refuses (opens.Opening error) = IsWriteRefused row makes refuses 1 error
+IsOpeningRefused numbers row makes refuses opens.Threads = ⊥
+
+-- of the visit: as a client is; or there was no memory for the threads
+abbrev pub IsVisitRefused : List ℕ → OpenError → Type 0
+IsVisitRefused numbers (opens.Site error) = IsClientRefused numbers error
+IsVisitRefused numbers (opens.Opening error) = ⊥
+IsVisitRefused numbers opens.Threads = Unit {0}

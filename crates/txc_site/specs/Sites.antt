@@ -1,0 +1,79 @@
+-- Sites and their clients.
+use Rattle.std.specs.Prelude.{◌≡◌, ℕ, ◌<◌, List, [], All, length, map}
+use Rattle.std.specs.List.{range_with_len, slice_index_or}
+use Rattle.txc_registry.specs.Objects.{Objects, HasTwice}
+use Rattle.txc_client.specs.Txn.{ClientValue}
+use Rattle.txc_db.specs.Refusals.{IsWant}
+use Rattle.txc_ports.specs.declared.error.TxnError.{TxnError}
+use Rattle.txc_shared.specs.declared.error.NodeError.{NodeError}
+use Rattle.txc_shared.specs.declared.error.NodeError.TheVariants as refusals
+use Rattle.txc_site.specs.declared.plan.Plan.{Plan}
+use Rattle.txc_site.specs.declared.error.SiteError.{SiteError}
+use Rattle.txc_site.specs.declared.error.SiteError.TheVariants as sites
+use Rattle.txc_site.specs.declared.error.ReadError.{ReadError}
+use Rattle.txc_site.specs.declared.error.ReadError.TheVariants as reads
+use Rattle.txc_site.specs.Plans.{nodes_of, IsPlan}
+
+-- a client of a site: the site's plan, the client that reads, and what the objects do that a change calls
+pub record SiteClientValue : Type 0 where
+  pub plan : Plan
+  pub reader : ClientValue
+  pub writer : Objects
+
+-- the client is new: it has a pass through each node of its site's plan, and has seen none of their records
+pub record IsNewClient (client : SiteClientValue) : Type 0 where
+  pub planned : IsPlan client.plan
+  pub nodes : map (λ pass. pass.settings) client.reader.passes ≡ nodes_of client.plan
+  pub unseen : All (λ pass. pass.records ≡ []) client.reader.passes
+  pub renew_after : client.reader.renew_after ≡ client.plan.renew_after
+
+-- the numbers of so many threads
+abbrev pub numbers_below : ℕ → List ℕ
+numbers_below count = map (λ number. number) (range_with_len 0 count)
+
+-- each is what the thread of its place comes to
+abbrev pub HaveCome : {T : Type 0} → (ℕ → T → Type 0) → List T → Type 0
+HaveCome {T} gives outputs =
+    (number : ℕ) (d : T) → number < length outputs → gives number (slice_index_or outputs number d)
+
+-- ---- refusals
+
+-- of a registry: two functions have the number; or out of memory
+abbrev pub IsRegistryRefused : List ℕ → SiteError → Type 0
+IsRegistryRefused numbers (sites.Twice f) = HasTwice f numbers
+IsRegistryRefused numbers sites.Memory = Unit {0}
+IsRegistryRefused numbers error = ⊥
+
+-- of the database and the rows of the nodes: the database can't be made; or out of memory
+abbrev pub IsDatabaseRefused : SiteError → Type 0
+IsDatabaseRefused (sites.Database cause) = IsWant cause
+IsDatabaseRefused sites.Memory = Unit {0}
+IsDatabaseRefused error = ⊥
+
+-- a node gives no pass: it is broken, it has given as many as it may, or it is out of memory
+abbrev pub IsNoPass : NodeError → Type 0
+IsNoPass refusals.EmptyRange = ⊥
+IsNoPass refusals.HistoryFull = ⊥
+IsNoPass error = Unit {0}
+
+-- of a client: as a registry is; or a node gives no pass
+abbrev pub IsClientRefused : List ℕ → SiteError → Type 0
+IsClientRefused numbers (sites.Node cause) = IsNoPass cause
+IsClientRefused numbers error = IsRegistryRefused numbers error
+
+-- of a keeper: a node gives no pass; or out of memory
+abbrev pub IsKeeperRefused : SiteError → Type 0
+IsKeeperRefused (sites.Node cause) = IsNoPass cause
+IsKeeperRefused sites.Memory = Unit {0}
+IsKeeperRefused error = ⊥
+
+-- of a site: its plan is none; else the database can't be made; or as a client is
+abbrev pub IsSiteRefused : Plan → List ℕ → SiteError → Type 0
+IsSiteRefused plan numbers sites.Plan = ¬ (IsPlan plan)
+IsSiteRefused plan numbers (sites.Database cause) = IsPlan plan × IsWant cause
+IsSiteRefused plan numbers error = IsPlan plan × IsClientRefused numbers error
+
+-- of a page: out of memory before it began; or as the page itself is
+abbrev pub IsReadRefused : (TxnError → Type 0) → ReadError → Type 0
+IsReadRefused refuses reads.Memory = Unit {0}
+IsReadRefused refuses (reads.Page cause) = refuses cause

@@ -1,0 +1,37 @@
+ghost use Rattle.std.specs.Prelude.{◌≡◌, IfErr, IfOk};
+ghost use Rattle.txc_rw.specs.Core.{IsBegun};
+
+use std::alloc::Global;
+use std::sync::Wait;
+use txc_app::App;
+use txc_db::Naming;
+use txc_functions::{Definition, Function};
+use txc_ports::TxnError;
+use txc_rw::RwTxn;
+
+/// A change: what is read and written in one read-write transaction. It is made anew after each conflict.
+pub trait Change<A: App, D: Definition> {
+    ghost use Rattle.txc_rw.specs.Core.{RwValue};
+    ghost use Rattle.txc_ports.specs.declared.error.TxnError.{TxnError};
+
+    /// What the change comes to.
+    type Output: Drop;
+
+    // What it says of the transaction that is to be committed: of its base, its answers and its changes.
+    ghost makes: { Self → RwValue → Self.Output → Type 0 };
+
+    // How it is refused.
+    ghost refuses: { Self → TxnError → Type 0 };
+
+    /// Makes the calls, the queries and the changes in the transaction, which is new.
+    fn make<J: Naming, R: Wait>(
+        &self,
+        rt: &R,
+        alloc: Global,
+        txn: &mut RwTxn<'_, J, A, Function<D>>,
+    ) -> Result<Self::Output, TxnError>
+        requires { IsBegun txn.old.core.base txn.old.core }
+        ensures functions { txn.new.objects ≡ txn.old.objects }
+        ensures makes { IfOk result (makes self.now txn.new.core) }
+        ensures refused { IfErr result (refuses self.now) };
+}

@@ -1,0 +1,159 @@
+//! Clients of a site.
+ghost use Rattle.std.specs.Prelude.{◌≡◌, ◌+◌, ◌<◌, ◌≤◌, ◌↔◌, [], All, IfErr, IfOk, IfSome, IsSome, MatchOption, None, length, map, slice_get, vec_len};
+ghost use Rattle.txc_node.specs.Counts.{AreCountsOf};
+ghost use Rattle.txc_registry.specs.Objects.{AllIdle};
+ghost use Rattle.txc_site.specs.Plans.{nodes_of};
+ghost use Rattle.txc_site.specs.Sites.{IsKeeperRefused, IsReadRefused};
+ghost use Rattle.txc_site.specs.Writes.{AreConflicts, IsWritten, IsWriteRefused};
+ghost use Rattle.txc_txn.specs.Core.{Explains};
+ghost use Rattle.txc_txn.specs.Sessions.{IsAtLeast};
+
+use crate::change::Change;
+use crate::error::{ReadError, SiteError, WriteError};
+use crate::foundation::Foundation;
+use crate::keeper::Keeper;
+use crate::page::Page;
+use crate::reading::{Shown, read_page};
+use crate::writing::{Written, write_change};
+use std::alloc::Global;
+use std::marker::Model;
+use std::sync::Wait;
+use txc_app::App;
+use txc_client::Client;
+use txc_db::Naming;
+use txc_functions::{Definition, Function};
+use txc_node::Counts;
+use txc_ports::Bounds;
+use txc_registry::Registry;
+
+/// A client of a site, for one thread. It reads pages and writes changes, one after the other.
+#[derive(Drop)]
+pub struct SiteClient<'a, A: App, D: Definition, J: Naming> {
+    foundation: &'a Foundation<A, J>,
+    reader: Client<'a, A, Function<D>, J>,
+    writer: Registry<A, Function<D>>,
+}
+
+impl<'a, A: App, D: Definition, J: Naming> Model for SiteClient<'a, A, D, J> {
+    ghost use Rattle.txc_registry.specs.Objects.{AllIdle};
+    ghost use Rattle.txc_site.specs.Sites.{SiteClientValue};
+
+    ghost Value = { SiteClientValue };
+
+    ghost view = { λ c. record { plan = c.foundation.now.plan; reader = c.reader; writer = c.writer } };
+
+    ghost invariant = { λ c. AllIdle c.writer };
+}
+
+impl<'a, A: App, D: Definition, J: Naming> SiteClient<'a, A, D, J> {
+    pub(crate) fn new(
+        foundation: &'a Foundation<A, J>,
+        reader: Client<'a, A, Function<D>, J>,
+        writer: Registry<A, Function<D>>,
+    ) -> Self
+        requires { AllIdle writer }
+        ensures { result
+            ≡ record { plan = foundation.now.plan; reader = reader.entry; writer = writer } }
+    {
+        SiteClient {
+            foundation,
+            reader,
+            writer,
+        }
+    }
+
+    /// Runs the page in one read-only transaction with these bounds, and commits that. The receipt is of the
+    /// calls that this page made: at the receipt's pin each has the value that it comes to without a cache.
+    /// Where the page is refused, its transaction is given up. Either way the client is returned.
+    pub fn read<P: Page<A, D>, R: Wait>(
+        self,
+        rt: &R,
+        alloc: Global,
+        bounds: Bounds,
+        page: &P,
+    ) -> (Result<Shown<P::Output>, ReadError>, Self)
+        ensures shows { IfOk result.0 (λ shown.
+            P.shows page.now shown.receipt.answers.items shown.output) }
+        ensures explained { IfOk result.0 (λ shown. Explains A.next shown.receipt.seen.history bounds
+            shown.receipt.pin shown.receipt.answers.items) }
+        ensures not_before { IfOk result.0 (λ shown. IsAtLeast bounds.at_least shown.receipt.pin) }
+        ensures row { IfOk result.0 (λ shown. shown.receipt.seen.events ≡ J.database_row) }
+        ensures refused { IfErr result.0 (IsReadRefused (P.refuses page.now)) }
+        ensures functions { result.1.reader.objects ≡ self.entry.reader.objects }
+        ensures renew_after { result.1.reader.renew_after ≡ self.entry.reader.renew_after }
+        ensures plan { result.1.plan ≡ self.entry.plan }
+        ensures writer { result.1.writer ≡ self.entry.writer }
+    {
+        let SiteClient {
+            foundation,
+            reader,
+            writer,
+        } = self;
+        let (shown, reader) = read_page(rt, alloc, reader, bounds, page);
+        let client = SiteClient {
+            foundation,
+            reader,
+            writer,
+        };
+        (shown, client)
+    }
+
+    /// Runs the change in a read-write transaction, and commits that. After a conflict it runs the change
+    /// anew, in a new transaction, as often as there are tries. What is returned is of the last run. Where
+    /// it is refused, nothing was committed. Either way the client is returned.
+    pub fn write<C: Change<A, D>, R: Wait>(
+        self,
+        rt: &R,
+        alloc: Global,
+        tries: u32,
+        change: &C,
+    ) -> (Result<Written<C::Output>, WriteError>, Self)
+        ensures written { IfOk result.0 (λ written.
+            IsWritten A.next J.database_row (C.makes change.now) written.output written.committed) }
+        ensures before { IfOk result.0 (λ written.
+            AreConflicts J.database_row (C.makes change.now) written.conflicts.items) }
+        ensures few { IfOk result.0 (λ written. vec_len written.conflicts + 1 ≤ tries) }
+        ensures refused { IfErr result.0
+            (IsWriteRefused J.database_row (C.makes change.now) (C.refuses change.now) tries) }
+        ensures client { result.1 ≡ self.entry }
+    {
+        let SiteClient {
+            foundation,
+            reader,
+            writer,
+        } = self;
+        let (written, writer) = write_change(
+            rt,
+            alloc,
+            &foundation.database,
+            writer,
+            tries,
+            change,
+        );
+        let client = SiteClient {
+            foundation,
+            reader,
+            writer,
+        };
+        (written, client)
+    }
+
+    /// A keeper of the site, with a pass of its own through each node.
+    pub fn keeper(&self, rt: &impl Wait, alloc: Global) -> Result<Keeper<'a, A, J>, SiteError>
+        ensures nodes { IfOk result (λ keeper.
+            map (λ pass. pass.settings) keeper ≡ nodes_of self.now.plan) }
+        ensures records { IfOk result (λ keeper. All (λ pass. pass.records ≡ []) keeper) }
+        ensures refused { IfErr result IsKeeperRefused }
+    {
+        Keeper::new(rt, alloc, self.foundation)
+    }
+
+    /// The counts of what the client has seen of a node; none where there is no such node.
+    pub fn counts(&self, node: usize) -> Option<Counts>
+        ensures answer { MatchOption (slice_get self.now.reader.passes node) (result ≡ None)
+            (λ pass. IfSome result (AreCountsOf pass.records)) }
+        ensures only_if { IsSome result ↔ (node < length self.now.reader.passes) }
+    {
+        self.reader.counts(node)
+    }
+}

@@ -1,0 +1,69 @@
+//! How a site is made.
+ghost use Rattle.std.specs.Prelude.{◌≡◌, ◌↔◌, IsTrue};
+ghost use Rattle.txc_site.specs.Plans.{IsPlan};
+
+use txc_node::{MAX_CAPACITY, MAX_RECENT};
+use txc_permits::MAX_PERMITS;
+use txc_stream::MAX_CAPACITY as MAX_ROOM;
+
+/// The most nodes of a site.
+pub const MAX_NODES: usize = 64;
+
+/// How a site is made, and how long it lasts.
+///
+/// Its histories have room for `events` and for `records`, which is fixed once it is made and never given
+/// back. Each commit that changes something is an event, and so is each pin: one for each
+/// [`Keeper::keep`](crate::Keeper::keep), and one for each transaction whose newest pin is too old. Once
+/// there are as many, no commit and no pin is made any more, and a transaction without a pin that its bounds
+/// allow is refused. Each lookup, insertion, event taken and sweep is a record of its node; once there are
+/// as many, the node has nothing and keeps nothing, and all calls are computed. So a site of `e` events ends
+/// after `e` commits and pins: at ten a second [`Plan::DEFAULT`] lasts 109 minutes.
+/// [`Keeper::keep`](crate::Keeper::keep) tells what is left.
+#[derive(Clone, Copy, Debug, PartialEq, Eq)]
+pub struct Plan {
+    /// How many nodes there are, from 1 to [`MAX_NODES`].
+    pub nodes: usize,
+    /// The most entries of a node, from 1 to [`txc_node::MAX_CAPACITY`].
+    pub capacity: usize,
+    /// How many of the last events a node keeps the tags of, from 1 to [`txc_node::MAX_RECENT`].
+    pub recent: usize,
+    /// After how many milliseconds a transaction renews its newest pin, where it may.
+    pub renew_after: u64,
+    /// How many calls of functions may run at once, from 1 to [`txc_permits::MAX_PERMITS`].
+    pub permits: u64,
+    /// How many commits and pins there is room for, from 1 to [`txc_stream::MAX_CAPACITY`].
+    pub events: usize,
+    /// How many records of each node there is room for, from 1 to [`txc_stream::MAX_CAPACITY`].
+    pub records: usize,
+}
+
+impl Plan {
+    /// One node of 4,096 entries, and room for 65,536 events and 1,048,576 records.
+    pub const DEFAULT: Plan = Plan {
+        nodes: 1,
+        capacity: 4096,
+        recent: 64,
+        renew_after: 5000,
+        permits: 64,
+        events: 65_536,
+        records: 1_048_576,
+    };
+
+    /// Whether each number is within its limits.
+    pub fn is_sound(&self) -> bool
+        ensures { IsTrue result ↔ IsPlan self.now }
+    {
+        1 <= self.nodes
+            && self.nodes <= MAX_NODES
+            && 1 <= self.capacity
+            && self.capacity <= MAX_CAPACITY
+            && 1 <= self.recent
+            && self.recent <= MAX_RECENT
+            && 1 <= self.permits
+            && self.permits <= MAX_PERMITS
+            && 1 <= self.events
+            && self.events <= MAX_ROOM
+            && 1 <= self.records
+            && self.records <= MAX_ROOM
+    }
+}

@@ -1,0 +1,57 @@
+//! The reading of pages.
+ghost use Rattle.std.specs.Prelude.{◌≡◌, IfErr, IfOk};
+ghost use Rattle.txc_site.specs.Sites.{IsReadRefused};
+ghost use Rattle.txc_txn.specs.Core.{Explains};
+ghost use Rattle.txc_txn.specs.Sessions.{IsAtLeast};
+
+use crate::error::ReadError;
+use crate::page::Page;
+use std::alloc::Global;
+use std::sync::Wait;
+use txc_app::App;
+use txc_client::Client;
+use txc_db::Naming;
+use txc_functions::{Definition, Function};
+use txc_ports::Bounds;
+use txc_txn::Receipt;
+
+/// What a page came to, with the receipt of its transaction.
+#[derive(Drop)]
+pub struct Shown<T> {
+    pub output: T,
+    pub receipt: Receipt,
+}
+
+/// Runs the page in a transaction of its own.
+pub(crate) fn read_page<'a, A: App, D: Definition, J: Naming, P: Page<A, D>, R: Wait>(
+    rt: &R,
+    alloc: Global,
+    client: Client<'a, A, Function<D>, J>,
+    bounds: Bounds,
+    page: &P,
+) -> (
+    Result<Shown<P::Output>, ReadError>,
+    Client<'a, A, Function<D>, J>,
+)
+    ensures shows { IfOk result.0 (λ shown.
+        P.shows page.now shown.receipt.answers.items shown.output) }
+    ensures explained { IfOk result.0 (λ shown. Explains A.next shown.receipt.seen.history bounds
+        shown.receipt.pin shown.receipt.answers.items) }
+    ensures not_before { IfOk result.0 (λ shown. IsAtLeast bounds.at_least shown.receipt.pin) }
+    ensures row { IfOk result.0 (λ shown. shown.receipt.seen.events ≡ J.database_row) }
+    ensures refused { IfErr result.0 (IsReadRefused (P.refuses page.now)) }
+    ensures functions { result.1.objects ≡ client.entry.objects }
+    ensures renew_after { result.1.renew_after ≡ client.entry.renew_after }
+{
+    let mut txn = match client.begin_ro(rt, alloc, bounds) {
+        Ok(txn) => txn,
+        Err((_, client)) => return (Err(ReadError::Memory), client),
+    };
+    match page.show(rt, alloc, &mut txn) {
+        Ok(output) => {
+            let (receipt, client) = txn.commit(rt);
+            (Ok(Shown { output, receipt }), client)
+        }
+        Err(cause) => (Err(ReadError::Page(cause)), txn.abort(rt)),
+    }
+}

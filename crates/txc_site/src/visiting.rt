@@ -1,0 +1,117 @@
+//! The threads of a site, and their clients.
+ghost use Rattle.std.specs.Prelude.{◌≡◌, All, IfErr, IfOk, map, vec_len};
+ghost use Rattle.txc_registry.specs.Objects.{numbers_of};
+ghost use Rattle.txc_site.specs.Opened.{IsVisitRefused};
+ghost use Rattle.txc_site.specs.Sites.{numbers_below, HaveCome, IsClientRefused, IsNewClient};
+
+use crate::application::{Application, registry};
+use crate::client::SiteClient;
+use crate::error::{OpenError, SiteError};
+use crate::foundation::Foundation;
+use crate::visitor::Visitor;
+use std::alloc::Global;
+use std::sync::Wait;
+use std::thread::{self, Threads};
+use txc_client::Client;
+use txc_db::Naming;
+use txc_functions::Definition;
+use txc_permits::PermitPool;
+
+/// A client with a pass of its own through each node.
+#[tactic(auto, using(crate::proofs::Opened::no_pass))]
+fn client<'a, A: Application<D>, D: Definition, J: Naming>(
+    rt: &impl Wait,
+    alloc: Global,
+    foundation: &'a Foundation<A, J>,
+    pool: &mut PermitPool,
+) -> Result<SiteClient<'a, A, D, J>, SiteError>
+    ensures plan { IfOk result (λ client. client.plan ≡ foundation.now.plan) }
+    ensures new { IfOk result IsNewClient }
+    ensures reader { IfOk result (λ client. numbers_of client.reader.objects ≡ A.numbers) }
+    ensures writer { IfOk result (λ client. numbers_of client.writer ≡ A.numbers) }
+    ensures refused { IfErr result (IsClientRefused A.numbers) }
+{
+    let functions = registry::<A, D>(alloc, pool)?;
+    let reader = Client::new(
+        rt,
+        alloc,
+        &foundation.database,
+        &foundation.cushion,
+        &foundation.nodes,
+        functions,
+        foundation.plan.renew_after,
+    )?;
+    let writer = registry::<A, D>(alloc, pool)?;
+    Ok(SiteClient::new(foundation, reader, writer))
+}
+
+/// The client of the thread of this number.
+#[derive(Drop)]
+struct Guest<C> {
+    number: usize,
+    client: C,
+}
+
+/// A guest for each of so many threads.
+fn guests<'a, A: Application<D>, D: Definition, J: Naming>(
+    rt: &impl Wait,
+    alloc: Global,
+    foundation: &'a Foundation<A, J>,
+    pool: &mut PermitPool,
+    count: usize,
+) -> Result<Vec<Guest<SiteClient<'a, A, D, J>>>, SiteError>
+    ensures each { IfOk result (λ guests. vec_len guests ≡ count) }
+    ensures numbers { IfOk result (λ guests.
+        map (λ guest. guest.number) guests.items ≡ numbers_below count) }
+    ensures plan { IfOk result (λ guests.
+        All (λ guest. guest.client.plan ≡ foundation.now.plan) guests.items) }
+    ensures new { IfOk result (λ guests. All (λ guest. IsNewClient guest.client) guests.items) }
+    ensures refused { IfErr result (IsClientRefused A.numbers) }
+{
+    let mut guests = Vec::with_capacity(alloc, count)?;
+    for number in 0..count {
+        let client = client(rt, alloc, foundation, pool)?;
+        guests.push(Guest { number, client })?;
+    }
+    Ok(guests)
+}
+
+/// Starts so many threads, each with a client of its own, and returns what they came to, in the order of their
+/// numbers, once all have ended.
+pub(crate) fn visit<A, D, V, J, R>(
+    rt: &R,
+    alloc: Global,
+    foundation: &Foundation<A, J>,
+    pool: &mut PermitPool,
+    count: usize,
+    visitors: &V,
+) -> Result<Vec<V::Output>, OpenError>
+where
+    A: Application<D> + Send + Sync,
+    D: Definition + Send,
+    V: Visitor<A, D> + Sync,
+    J: Naming + Send + Sync,
+    R: Threads + Wait + Sync,
+    ensures each { IfOk result (λ outputs. vec_len outputs ≡ count) }
+    ensures gives { IfOk result (λ outputs.
+        HaveCome (V.gives visitors.now foundation.now.plan J.database_row) outputs.items) }
+    ensures refused { IfErr result (IsVisitRefused A.numbers) }
+{
+    let guests = guests::<A, D, J>(rt, alloc, foundation, pool, count)?;
+    let visited = thread::map_vec(
+        rt,
+        guests,
+        &|guest: Guest<SiteClient<'_, A, D, J>>| -> V::Output
+            requires { IsNewClient guest.client }
+            ensures { V.gives visitors.entry.now guest.entry.client.plan J.database_row
+                guest.entry.number result }
+        {
+            let Guest { number, client } = guest;
+            visitors.visit(rt, alloc, number, &mut Some(client))
+        },
+    );
+    match visited {
+        Ok(outputs) => Ok(outputs),
+        Err(_) => Err(OpenError::Threads),
+    }
+}

@@ -1,0 +1,108 @@
+//! The writing of changes.
+ghost use Rattle.std.specs.Prelude.{◌≡◌, ◌+◌, ◌≤◌, ◌<◌, IfErr, IfOk, vec_len};
+ghost use Rattle.txc_registry.specs.Objects.{AllIdle};
+ghost use Rattle.txc_site.specs.Attempts.{IsAttempted};
+ghost use Rattle.txc_site.specs.Writes.{AreConflicts, IsWritten, IsWriteRefused};
+
+use crate::change::Change;
+use crate::error::WriteError;
+use std::alloc::Global;
+use std::sync::Wait;
+use txc_app::App;
+use txc_db::{Answered, CommitError, Database, Naming};
+use txc_functions::{Definition, Function};
+use txc_registry::Registry;
+use txc_rw::{Committed, RwTxn};
+use txc_stamp::Stamp;
+
+/// What a change came to, with the commit of its transaction, and the conflicts of the runs before.
+#[derive(Drop)]
+pub struct Written<T> {
+    pub output: T,
+    pub committed: Committed,
+    pub conflicts: Vec<Answered<Stamp>>,
+}
+
+/// What one run of a change came to.
+pub(crate) enum Attempt<T> {
+    Done(T, Committed),
+    Conflict(Answered<Stamp>),
+    Refused(WriteError),
+}
+
+/// Runs the change once, in a transaction of its own.
+fn run_once<A: App, D: Definition, J: Naming, C: Change<A, D>, R: Wait>(
+    rt: &R,
+    alloc: Global,
+    database: &Database<J>,
+    registry: Registry<A, Function<D>>,
+    change: &C,
+) -> (Attempt<C::Output>, Registry<A, Function<D>>)
+    requires { AllIdle registry }
+    ensures attempted { IsAttempted A.next J.database_row (C.makes change.now) (C.refuses change.now) result.0 }
+    ensures registry { result.1 ≡ registry }
+{
+    let mut txn = match RwTxn::begin(rt, alloc, database, registry) {
+        Ok(txn) => txn,
+        Err((cause, registry)) => return (Attempt::Refused(WriteError::Begin(cause)), registry),
+    };
+    let output = match change.make(rt, alloc, &mut txn) {
+        Ok(output) => output,
+        Err(cause) => return (Attempt::Refused(WriteError::Change(cause)), txn.abort(rt)),
+    };
+    match txn.commit(rt, alloc) {
+        Ok((committed, registry)) => (Attempt::Done(output, committed), registry),
+        Err((txn, cause)) => {
+            let attempt = match cause {
+                CommitError::Conflict(conflict) => Attempt::Conflict(conflict),
+                CommitError::Database(cause) => Attempt::Refused(WriteError::Commit(cause)),
+            };
+            (attempt, txn.abort(rt))
+        }
+    }
+}
+
+/// Runs the change, and again after a conflict, as often as there are tries.
+pub(crate) fn write_change<A: App, D: Definition, J: Naming, C: Change<A, D>, R: Wait>(
+    rt: &R,
+    alloc: Global,
+    database: &Database<J>,
+    registry: Registry<A, Function<D>>,
+    tries: u32,
+    change: &C,
+) -> (
+    Result<Written<C::Output>, WriteError>,
+    Registry<A, Function<D>>,
+)
+    requires { AllIdle registry }
+    ensures written { IfOk result.0 (λ written.
+        IsWritten A.next J.database_row (C.makes change.now) written.output written.committed) }
+    ensures before { IfOk result.0 (λ written.
+        AreConflicts J.database_row (C.makes change.now) written.conflicts.items) }
+    ensures few { IfOk result.0 (λ written. vec_len written.conflicts < tries) }
+    ensures refused { IfErr result.0
+        (IsWriteRefused J.database_row (C.makes change.now) (C.refuses change.now) tries) }
+    ensures registry { result.1 ≡ registry }
+{
+    let Ok(mut conflicts) = Vec::with_capacity(alloc, tries as usize) else {
+        return (Err(WriteError::Memory), registry);
+    };
+    let mut registry = registry;
+    for _ in 0..tries {
+        let (outcome, left) = run_once(rt, alloc, database, registry, change);
+        registry = left;
+        match outcome {
+            Attempt::Done(output, committed) => {
+                let written = Written {
+                    output,
+                    committed,
+                    conflicts,
+                };
+                return (Ok(written), registry);
+            }
+            Attempt::Conflict(conflict) => conflicts.push_reserved(conflict),
+            Attempt::Refused(error) => return (Err(error), registry),
+        }
+    }
+    (Err(WriteError::Conflicts(conflicts)), registry)
+}
