@@ -1,43 +1,39 @@
 -- What the queries show of one table.
-use Rattle.std.proofs.Common.{◌≡◌, ℕ, zero, suc, ℤ, ◌+◌, ◌<◌, Some, take, List, [], ◌∷◌, map, filter, length, get_or, cond, Bool, true, false, refl, sym, ap, subst, ◌∙◌, arith}
-use Rattle.std.proofs.lemmas.List.{length-map, take-map}
-use Rattle.std.proofs.Math.ListN.{get_or-map}
-use Rattle.std.specs.Ordering.{is_lt, ordering_then, nat_cmp}
+use Rattle.std.proofs.Common.{◌≡◌, ℕ, zero, suc, ℤ, Some, take, List, [], ◌∷◌, map, filter, cond, Bool, true, false, refl, sym, ap, subst, ◌∙◌}
+use Rattle.std.proofs.lemmas.List.{take-map}
 use Rattle.std.specs.List.{AllByRecursion, list_all}
-use Rattle.std.specs.List.Sorted.{IsPermutation, IsSorted}
+use Rattle.std.specs.List.Sorted.{IsPermutation}
 use Rattle.sqlite.specs.Order.{Row}
 use Rattle.sqlite.specs.Command.TheVariants.{Select}
 use Rattle.sqlite.specs.Term.{Term, holds, eval}
-use Rattle.sqlite.specs.Query.{Output, output, output_cmp, limited, as_count}
+use Rattle.sqlite.specs.Query.{Output, output, limited, as_count}
 use Rattle.sqlite.specs.Program.{overlay}
 use Rattle.sqlite.specs.State.{State, Shown}
 use Rattle.sqlite.proofs.Callers.{reads_as}
-use Rattle.sqlite_value.proofs.OrderLemmas.{then-Equal}
 use Rattle.sqlite_trees.proofs.ListLemmas.{map-map, filter-map, pull_back, all-map, all-permutation}
 use Rattle.txc_rows.specs.declared.version.Versioned.{Versioned}
 use Rattle.txc_rows.specs.declared.query.Query.{Query}
 use Rattle.txc_rows.specs.declared.texts.TheConstants.{MOST_READ}
 use Rattle.txc_rows.specs.States.{query_table}
-use Rattle.txc_rows.specs.Versions.{suits, version_cmp}
+use Rattle.txc_rows.specs.Versions.{suits}
 use Rattle.txc_rows.specs.Holdable.{IsHoldable}
 use Rattle.txc_rows.specs.Placed.{Placed, version_of, is_left, left_from}
 use Rattle.txc_rows.specs.Kept.{IsShown, IsListing}
 use Rattle.txc_rows.specs.Texts.{version_schema}
-use Rattle.txc_rows.specs.Stored.{stored, number, placed_in, placed_all, shown, version_shown, IsStored, AreStored}
+use Rattle.txc_rows.specs.Stored.{stored, placed_in, placed_all, shown, version_shown, IsStored, AreStored}
 use Rattle.txc_rows.proofs.Members.{both_true}
-use Rattle.txc_rows.proofs.Commands.{alone, shown_columns, shown_order, most_shown, listed, shown_names, IsListingOf}
-use Rattle.txc_rows.proofs.StoredRows.{number_cmp, select_stored, is_asked, shown_again, answered, IsPage}
+use Rattle.txc_rows.proofs.Commands.{alone, shown_columns, most_shown, listed, shown_names, IsListingOf}
+use Rattle.txc_rows.proofs.StoredRows.{select_stored, is_asked, shown_again, answered, IsPage}
 use Rattle.txc_rows.proofs.Finding.{of_its_table}
 
--- what the query sorts by, and what it shows
+-- what the query shows, by no order
 abbrev out : Versioned → Output
-out v = (number v.row.id ∷ number v.born ∷ [], shown v)
+out v = ([], shown v)
 
--- the first of the versions that pass, by id and birth
+-- some of the versions that pass, at most so many
 pub record Lists (passes : Versioned → Bool) (most : ℕ) (versions : List Versioned) (rows : List Row) : Type 0 where
   pub found : List Versioned
   pub same : IsPermutation (filter passes versions) found
-  pub sorted : IsSorted version_cmp found
   pub rows_are : rows ≡ take most (map shown found)
 
 module _ (tree : ℕ) (fs : List Term) (params : Row) where
@@ -49,37 +45,27 @@ module _ (tree : ℕ) (fs : List Term) (params : Row) where
       elim (p r) as (λ b. map (λ x. output (listed tree fs) (params ∷ x ∷ [])) (cond b (r ∷ filter p rows) (filter p rows)) ≡ map out (map version_of (map placed_in (cond b (r ∷ filter p rows) (filter p rows)))))
       [ true ↦ rw (here, outputs rows all.1 p) refl | false ↦ outputs rows all.1 p ]
 
-  sorted_as : (v w : Versioned) → output_cmp (listed tree fs) (out v) (out w) ≡ version_cmp v w
-  sorted_as v w = rw (number_cmp v.row.id w.row.id, number_cmp v.born w.born) (ap (ordering_then (nat_cmp v.row.id w.row.id)) (then-Equal (nat_cmp v.born w.born)))
-
-  sorted_back : (vs : List Versioned) → IsSorted (output_cmp (listed tree fs)) (map out vs) → IsSorted version_cmp vs
-  sorted_back vs up k d low high =
-      let fits : k + 1 < length (map out vs) = omega (arith, length-map vs out) in
-      let at = up k (out d) low fits in
-      ap is_lt (sym (sorted_as (get_or vs (k + 1) d) (get_or vs k d))) ∙ rw (get_or-map out vs (k + 1) d, get_or-map out vs k d) at at
-
   passed : (P : Versioned → Bool) (table : List Row) → map version_of (map placed_in (filter (λ r. P (version_of (placed_in r))) table)) ≡ filter P (map version_of (placed_all table))
   passed P table = ap (map version_of) (sym (filter-map (λ x. P (version_of x)) placed_in table)) ∙ sym (filter-map P version_of (placed_all table))
 
   lists_page : (P : Versioned → Bool) (most : ℕ) → ((id : ℤ) (x : Placed) → list_all (holds (params ∷ stored id x ∷ [])) fs ≡ P (version_of x)) → as_count (eval most_shown (params ∷ [])) ≡ Some most
-      → (table rows : List Row) → AreStored table → IsPage tree [] fs shown_columns shown_order most_shown params table rows → Lists P most (map version_of (placed_all table)) rows
+      → (table rows : List Row) → AreStored table → IsPage tree [] fs shown_columns [] most_shown params table rows → Lists P most (map version_of (placed_all table)) rows
   lists_page P most test limit table rows keeps page =
       let chosen = select_stored _ (λ x. P (version_of x)) test table keeps.each in
       let moved : IsPermutation (map out (filter P (map version_of (placed_all table)))) page.ordered =
       subst (λ xs. IsPermutation xs page.ordered) (outputs table keeps.each _ ∙ ap (map out) (passed P table))
       (subst (λ xs. IsPermutation (map (λ r. output (listed tree fs) (params ∷ r ∷ [])) xs) page.ordered) chosen page.same) in
       let back = pull_back out _ page.ordered moved (filter P (map version_of (placed_all table))) refl in
-      let sorted : IsSorted version_cmp back.0 = sorted_back back.0 (subst (IsSorted (output_cmp (listed tree fs))) back.2 page.sorted) in
       let all : map (λ (o : Output). o.1) page.ordered ≡ map shown back.0 = ap (map (λ (o : Output). o.1)) back.2 ∙ map-map (λ (o : Output). o.1) out back.0 in
-      record { found = back.0; same = back.1; sorted = sorted; rows_are = page.rows ∙ ap (λ n. limited n (map (λ (o : Output). o.1) page.ordered)) limit ∙ ap (take most) all }
+      record { found = back.0; same = back.1; rows_are = page.rows ∙ ap (λ n. limited n (map (λ (o : Output). o.1) page.ordered)) limit ∙ ap (take most) all }
 
   pub selects : (text : List ℕ) (P : Versioned → Bool) (most : ℕ) → ((id : ℤ) (x : Placed) → list_all (holds (params ∷ stored id x ∷ [])) fs ≡ P (version_of x)) → as_count (eval most_shown (params ∷ [])) ≡ Some most
       → IsListingOf tree fs text → (old new : State) (rows : List Row) → overlay old.now.trees [] tree ≡ old.now.trees tree → old.now.schema ≡ version_schema → AreStored (old.now.trees tree) → Shown text params old new rows
       → Lists P most (map version_of (placed_all (old.now.trees tree))) rows
   selects text P most test limit is old new rows own has keeps h =
       let read = reads_as text params old new version_schema has (Select (alone (listed tree fs)) shown_names) is.command is.plain is.rows rows h in
-      let page = answered tree [] fs shown_columns shown_order most_shown (overlay old.now.trees []) params rows read.answer in
-      lists_page P most test limit (old.now.trees tree) rows keeps (subst (λ table. IsPage tree [] fs shown_columns shown_order most_shown params table rows) own page)
+      let page = answered tree [] fs shown_columns [] most_shown (overlay old.now.trees []) params rows read.answer in
+      lists_page P most test limit (old.now.trees tree) rows keeps (subst (λ table. IsPage tree [] fs shown_columns [] most_shown params table rows) own page)
 
 -- what is shown is read back
 read_back : (t : ℕ) (vs : List Versioned) → AllByRecursion (λ v. (v.row.table ≡ t) × IsHoldable v) vs → (map (version_shown t) (map shown vs) ≡ vs) × AllByRecursion (IsShown t) (map shown vs)
@@ -126,6 +112,6 @@ listing q from placed rows each h =
     record {
       each = subst (AllByRecursion (IsShown t)) (sym first) back.1;
       found = h.found;
-      finds = record { same = kept; sorted = h.sorted };
+      same = kept;
       first = ap (map (version_shown t)) first ∙ back.0;
     }

@@ -11,8 +11,6 @@ use Rattle.sqlite.specs.Command.TheVariants.{Insert, Select, Update, CreateTable
 use Rattle.sqlite_sql.specs.declared.ops.BinaryOp.TheVariants.{Compare, Is, Or}
 use Rattle.sqlite_sql.specs.declared.ops.CompareOp.TheVariants.{Eq, Ge, Le}
 use Rattle.sqlite.specs.Collation.TheVariants.{Binary}
-use Rattle.sqlite_value.specs.Keys.{ascending}
-use Rattle.sqlite_value.specs.declared.keys.Key.{Key}
 use Rattle.sqlite_tied.specs.Compute.{everything}
 use Rattle.sqlite.specs.Listing.{understood, reads_listing}
 use Rattle.sqlite.proofs.Callers.{command_of, statement_of, IsPlain}
@@ -145,15 +143,12 @@ left_filter at = op2 Or (op2 (Is Binary) (col 1 7) (lit Null)) (op2 (Compare Ge 
 abbrev pub shown_columns : List Term
 shown_columns = col 1 3 ∷ col 1 5 ∷ col 1 6 ∷ col 1 4 ∷ col 1 7 ∷ []
 
-abbrev pub shown_order : List (Term × Key)
-shown_order = (col 1 3, ascending Binary) ∷ (col 1 4, ascending Binary) ∷ []
-
 abbrev pub most_shown : Term
 most_shown = col 0 1
 
--- the versions of the table in a tree that pass, by id and birth, at most so many
+-- the versions of the table in a tree that pass, at most so many
 abbrev pub listed : ℕ → List Term → Query
-listed tree filter = record (whole tree filter shown_columns) { order = shown_order; limit = most_shown }
+listed tree filter = record (whole tree filter shown_columns) { limit = most_shown }
 
 abbrev pub shown_names : List (List ℕ)
 shown_names = codes "id" ∷ codes "group_number" ∷ codes "body" ∷ codes "born" ∷ codes "died" ∷ []

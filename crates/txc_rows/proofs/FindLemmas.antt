@@ -26,7 +26,7 @@ use Rattle.txc_rows.specs.Stored.{placed_all, version_shown}
 use Rattle.txc_rows.specs.Kept.{latest_in, dead_among, dead_in, placed_of, placed_read, versions_of, IsKept, IsSame, IsListing, IsFinding}
 use Rattle.txc_rows.proofs.PlaceLemmas.{by_place_permutes}
 use Rattle.txc_rows.proofs.KeepingLemmas.{found_answers}
-use Rattle.txc_rows.proofs.Listed.{finds}
+use Rattle.txc_rows.proofs.Listed.{all_shown}
 
 module _ (q : Query) (from : ℕ) where
   -- what the query asks for of these
@@ -72,7 +72,7 @@ pub read_finding : (q : Query) (from : ℕ) (placed : List Placed) (old new : Li
     → new ≡ old ++ map (version_shown (query_table q)) rows → IsFinding q from placed old new
 read_finding q from placed old new rows listing room few are = record {
   more = map (version_shown (query_table q)) rows;
-  same = (finds q (left_from from (map version_of placed)) rows listing (omega (arith, few))).same;
+  same = all_shown q (left_from from (map version_of placed)) rows listing (omega (arith, few));
   are = are;
   few = omega (arith, few, room, ap length are, length-append old (map (version_shown (query_table q)) rows), length-map rows (version_shown (query_table q)));
 }

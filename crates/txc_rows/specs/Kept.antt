@@ -14,7 +14,6 @@ use Rattle.txc_rows.specs.declared.texts.TheConstants.{MOST_READ}
 use Rattle.txc_rows.specs.States.{query_table}
 use Rattle.txc_rows.specs.declared.store_error.TheConstants.{MAX_MATCHING}
 use Rattle.txc_rows.specs.Versions.{suits}
-use Rattle.txc_rows.specs.Found.{Finds}
 use Rattle.txc_rows.specs.Holdable.{IsHoldable}
 use Rattle.sqlite.specs.Tree.{Trees}
 use Rattle.txc_rows.specs.declared.texts.Segment.{Segment}
@@ -95,11 +94,11 @@ pub record IsShown (table : ℕ) (r : Row) : Type 0 where
   pub is : r ≡ shown (version_shown table r)
   pub version : IsHoldable (version_shown table r)
 
--- the rows show the versions that are found for the query, up to one more than may match
+-- the rows show the versions that the query asks for, in any order, up to one more than may match
 pub record IsListing (q : Query) (versions : List Versioned) (rows : List Row) : Type 0 where
   pub each : AllByRecursion (IsShown (query_table q)) rows
   pub found : List Versioned
-  pub finds : Finds q versions found
+  pub same : IsPermutation (filter (suits q) versions) found
   pub first : map (version_shown (query_table q)) rows ≡ take MOST_READ found
 
 -- the versions in the table that is read

@@ -14,10 +14,10 @@ abbrev pub tree_read : Source → ℕ
 tree_read Latest = 0
 tree_read (Dead s) = tree_of s
 
--- the versions of a table that pass a test and did not die before a stamp, by id and birth, at most so many
+-- the versions of a table that pass a test and did not die before a stamp, at most so many
 abbrev pub read_text : List ℕ → Source → List ℕ
 read_text test s = codes "SELECT id, group_number, body, born, died FROM " ++ name_read s ++ codes " WHERE table_number = ?1" ++ test
-    ++ codes " AND (died IS NULL OR died >= ?3) ORDER BY id, born LIMIT ?2"
+    ++ codes " AND (died IS NULL OR died >= ?3) LIMIT ?2"
 
 -- those of a whole table
 abbrev pub table_text : Source → List ℕ

@@ -73,8 +73,8 @@ fn read_range(
     )
 }
 
-/// The versions in a table that match, of those that did not die before the stamp, by id and birth: at most one
-/// more of them than may match.
+/// The versions in a table that match, of those that did not die before the stamp, in any order: at most one more
+/// of them than may match.
 pub(crate) fn read(
     conn: &mut Connection<MemStore>,
     source: Source,

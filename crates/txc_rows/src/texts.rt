@@ -71,8 +71,8 @@ macro_rules! left_in {
     };
 }
 
-/// Versions of a table that did not die before a stamp, by id and birth, at most so many of them. Each has a
-/// test of its own, which the store answers by a key of the table.
+/// Versions of a table that did not die before a stamp, at most so many of them. Each has a test of its own, which
+/// the store answers by a key of the table. They come in no order, since to put them in one each would be read.
 macro_rules! read_from {
     ($name:literal, $test:literal) => {
         concat!(
@@ -80,7 +80,7 @@ macro_rules! read_from {
             $name,
             " WHERE table_number = ?1",
             $test,
-            " AND (died IS NULL OR died >= ?3) ORDER BY id, born LIMIT ?2"
+            " AND (died IS NULL OR died >= ?3) LIMIT ?2"
         )
     };
 }
