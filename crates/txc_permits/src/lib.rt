@@ -2,8 +2,8 @@
 //!
 //! One word counts the permits that are out. A [`Grant`] is a permit that is out from the [`PermitPool::grant`]
 //! that gave it until it is given back, on whichever threads; no code can forget it. A [`Permit`] gives its own
-//! back as it is dropped. No call waits, and only `new` takes memory. A permit may be refused beside others that
-//! are taken; that it is had where one is left is not claimed.
+//! back as it is dropped. No call waits, and only `new` takes memory. That a permit is had where one is left is not
+//! claimed.
 #![tactic(auto)]
 
 mod place;

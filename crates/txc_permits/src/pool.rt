@@ -10,6 +10,9 @@ use std::sync::Arc;
 /// The most permits that a pool may have.
 pub const MAX_PERMITS: u64 = 1024;
 
+/// So often is a permit tried for. Where a try fails, another call took a permit or gave one back.
+const TRIES: u32 = 1024;
+
 /// A handle of a pool; a contract sees which pool it is, and how many permits that has.
 pub struct PermitPool {
     most: u64,
@@ -94,25 +97,32 @@ impl PermitPool {
         })
     }
 
-    /// A permit that its owner must give back. None where all are out, and it may be none beside other calls
-    /// that take permits or give them back.
+    /// A permit that its owner must give back. None where all are out; else only where more than a thousand others
+    /// are taken or given back meanwhile, or the pool has as many handles and permits as can be counted.
     pub fn grant(&mut self) -> Option<Grant>
         ensures answer { IfSome result (λ grant. grant ≡ self.old.name) }
         ensures unchanged { self.new ≡ self.old }
     {
-        let out = self.word.shared.peek(0);
-        if out >= self.most {
+        let most = self.most;
+        let mut out = self.word.shared.peek(0);
+        if out >= most {
             return None;
         }
         let word = Arc::try_clone(&self.word).ok()?;
         let mut place = self.place.split(&self.word);
-        let found = word
-            .shared
-            .compare_exchange::<Take>(&mut place.seat, 0, out, out + 1);
-        if found != out {
-            return None;
+        for _ in 0..TRIES {
+            let found = word
+                .shared
+                .compare_exchange::<Take>(&mut place.seat, 0, out, out + 1);
+            if found == out {
+                return Some(Grant { word, place });
+            }
+            if found >= most {
+                return None;
+            }
+            out = found;
         }
-        Some(Grant { word, place })
+        None
     }
 
     /// A permit that its drop gives back. None as with [`PermitPool::grant`].
