@@ -83,6 +83,14 @@ fn count_free(alloc: Global, pool: &mut PermitPool) -> Result<usize, AllocError>
     Ok(permits.len())
 }
 
+/// How many permits can be taken; counted once more where memory was refused to that.
+fn free_permits(alloc: Global, pool: &mut PermitPool) -> Option<usize> {
+    match count_free(alloc, pool) {
+        Ok(free) => Some(free),
+        Err(_) => count_free(alloc, pool).ok(),
+    }
+}
+
 /// Runs a script, and answers with what status the program ends then. None where memory was refused beside it.
 fn run_case<H: Threads + Wait + Sync>(
     rt: &H,
@@ -95,10 +103,7 @@ fn run_case<H: Threads + Wait + Sync>(
     let mut reader = script.as_bytes();
     let ended = run(rt, alloc, settings, &mut pool, &mut reader, &mut written);
     let status = exit_of(&ended);
-    let free = match count_free(alloc, &mut pool) {
-        Ok(free) => free,
-        Err(_) => count_free(alloc, &mut pool).ok()?,
-    };
+    let free = free_permits(alloc, &mut pool)?;
     let is_cut = status == OUT_OF_MEMORY;
     Some((
         Ran {
@@ -261,9 +266,11 @@ fn a_script_that_ends_early_runs_what_it_has(rt: HostRuntime) -> Result<(), Fail
 }
 
 #[test]
-fn a_reader_and_a_writer_may_fail(rt: HostRuntime) {
-    let other = other_stream(&rt, rt.alloc());
-    assert!(&rt; other.is_none(), "{other:?}");
+fn a_reader_and_a_writer_may_fail(rt: HostRuntime) -> Result<(), Fail> {
+    let mut answer = room(rt.alloc())?;
+    let other = other_stream(&rt, rt.alloc(), &mut answer);
+    assert!(&rt; other.is_none(), "{other:?} {answer}");
+    Ok(())
 }
 
 #[test]
@@ -272,6 +279,9 @@ fn a_reader_that_never_ends(rt: HostRuntime) {
 }
 
 #[test]
-fn comments_may_be_long(rt: HostRuntime) {
-    say(&rt, other_comment(&rt, rt.alloc()));
+fn comments_may_be_long(rt: HostRuntime) -> Result<(), Fail> {
+    let mut answer = room(rt.alloc())?;
+    let other = other_comment(&rt, rt.alloc(), &mut answer);
+    assert!(&rt; other.is_none(), "{other:?} {answer}");
+    Ok(())
 }

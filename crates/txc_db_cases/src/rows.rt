@@ -238,6 +238,20 @@ purge 8 =>
 list id 1 7 => 7:h [8,9) 7:i [9,10) 7:j [10,)
 ";
 
+/// A purge takes the rows away that have died, so that a query which has few steps does not meet them.
+const SWEPT: &str = "write 1: put 1 0-1023 2 a =>
+limit 500 =>
+count all 1 => the store refused: interrupted: the limit on steps was met
+limit none =>
+write 2: remove 1 0-1023 =>
+purge 2 =>
+write 3: put 2 7 2 a =>
+purge 3 =>
+limit 500 =>
+count all 1 => 0
+count all 2 => 1
+";
+
 /// A body is 1 to 256 printable bytes.
 const BODIES: &str = "copy: ! => 7:!
 copy: ~ => 7:~
@@ -294,4 +308,9 @@ fn at_most_1024_versions_match(rt: HostRuntime) -> Result<(), Fail> {
 #[test]
 fn what_died_is_found_in_all_segments(rt: HostRuntime) -> Result<(), Fail> {
     play_all(&rt, &[SEGMENTS])
+}
+
+#[test]
+fn a_purge_takes_away_what_has_died(rt: HostRuntime) -> Result<(), Fail> {
+    play_all(&rt, &[SWEPT])
 }

@@ -1,11 +1,16 @@
 //! Runs of a batch's script that ends early, and whose reader or writer fails.
 use super::calling::{pool_of, run};
-use super::{Case, OUT_OF_MEMORY, output, play, settings_of};
+use super::{Case, free_permits, judged, output, play, settings_of};
 use std::alloc::Global;
 use std::io::{self, Read, Write};
 use std::sync::Wait;
 use std::thread::Threads;
+use txc_judge::Ran;
+use txc_players::room;
 use txc_script::{MAX_READS, exit_of};
+
+/// The status of the program whose input or output fails.
+const IO_FAILED: u8 = 4;
 
 const SETTINGS: &str = "workers = 1";
 
@@ -153,14 +158,13 @@ pub(super) fn other_cut<H: Threads + Wait + Sync>(
     None
 }
 
-/// What a run writes whose reader fails at that read and whose writer at that write, and the status of the
-/// program after it.
+/// A run whose reader fails at that read and whose writer at that write, and the status of the program after it.
 fn ran<H: Threads + Wait + Sync>(
     rt: &H,
     alloc: Global,
-    script: &[u8],
+    script: &str,
     (read_fails, write_fails): (usize, usize),
-) -> Option<(Vec<u8>, u8)> {
+) -> Option<(Ran, u8)> {
     let settings = settings_of(alloc, SETTINGS)?;
     let mut pool = pool_of(alloc, settings)?;
     let mut taker = Taker {
@@ -169,31 +173,50 @@ fn ran<H: Threads + Wait + Sync>(
         writes: 0,
     };
     let mut feeder = Feeder {
-        left: script,
+        left: script.as_bytes(),
         after: b"",
         fails_at: read_fails,
         reads: 0,
     };
     let ended = run(rt, alloc, settings, &mut pool, &mut feeder, &mut taker);
-    Some((taker.taken, exit_of(&ended)))
+    let run = Ran {
+        written: taker.taken,
+        is_cut: true,
+        free: free_permits(alloc, &mut pool)?,
+    };
+    Some((run, exit_of(&ended)))
 }
 
-/// Whether a run that fails there writes that and ends so; once more where it was refused memory.
+/// Whether the whole lines that such a run wrote are right, whatever was refused memory.
+fn is_right(alloc: Global, case: Case<'_>, mut run: Ran, answer: &mut String) -> bool {
+    let ended = match run.written.iter().rposition(|byte| *byte == b'\n') {
+        Some(last) => last.saturating_add(1),
+        None => 0,
+    };
+    run.written.truncate(ended);
+    match settings_of(alloc, case.settings) {
+        Some(settings) => judged(alloc, case, settings, &run, answer).is_some(),
+        None => false,
+    }
+}
+
+/// Whether a run that fails there writes what the case says and ends so. Where it was refused memory, which one
+/// allocation at most is, it is judged otherwise, and made once more.
 fn gives<H: Threads + Wait + Sync>(
     rt: &H,
     alloc: Global,
-    script: &[u8],
+    case: Case<'_>,
     fails: (usize, usize),
-    (replies, status): (&str, u8),
+    answer: &mut String,
 ) -> bool {
     for _ in 0..2u32 {
-        let Some((written, ended)) = ran(rt, alloc, script, fails) else {
+        let Some((run, status)) = ran(rt, alloc, case.script, fails) else {
             continue;
         };
-        if written.as_slice() == replies.as_bytes() && ended == status {
+        if run.written.as_slice() == case.replies.as_bytes() && status == case.status {
             return true;
         }
-        if ended != OUT_OF_MEMORY {
+        if !is_right(alloc, case, run, answer) {
             return false;
         }
     }
@@ -210,19 +233,32 @@ fn written_before(call: usize) -> &'static str {
         .unwrap_or(REPLIES)
 }
 
+/// A run of the script that fails, and what is written before.
+fn failed(replies: &str) -> Case<'_> {
+    Case {
+        settings: SETTINGS,
+        script: SCRIPT,
+        replies,
+        status: IO_FAILED,
+    }
+}
+
 /// The first read or write at whose failure a run does something else. After a failed read that is what was
 /// written of the lines that had ended; no job is run then.
-pub(super) fn other_stream<H: Threads + Wait + Sync>(rt: &H, alloc: Global) -> Option<usize> {
-    let script = SCRIPT.as_bytes();
-    for read in 1..script.len().saturating_add(2) {
+pub(super) fn other_stream<H: Threads + Wait + Sync>(
+    rt: &H,
+    alloc: Global,
+    answer: &mut String,
+) -> Option<usize> {
+    for read in 1..SCRIPT.len().saturating_add(2) {
         let (ended, _) = split_lines(SCRIPT.get(..read.saturating_sub(1)).unwrap_or(SCRIPT));
         let replies = ENDED.get(ended.min(2)).copied().unwrap_or("");
-        if !gives(rt, alloc, script, (read, usize::MAX), (replies, 4)) {
+        if !gives(rt, alloc, failed(replies), (read, usize::MAX), answer) {
             return Some(read);
         }
     }
     for write in 1..REPLIES.len().saturating_add(3) {
-        if !gives(rt, alloc, script, (0, write), (written_before(write), 4)) {
+        if !gives(rt, alloc, failed(written_before(write)), (0, write), answer) {
             return Some(write);
         }
     }
@@ -247,19 +283,19 @@ pub(super) fn endless_reader_ends<H: Threads + Wait + Sync>(
         reads: 0,
     };
     let ended = run(rt, alloc, settings, &mut pool, &mut feeder, &mut io::sink());
-    if exit_of(&ended) != 4 || feeder.reads as u64 != MAX_READS {
+    if exit_of(&ended) != IO_FAILED || feeder.reads as u64 != MAX_READS {
         return Some("another count of reads");
     }
     None
 }
 
 /// A `#` and more of them, and what stands after them.
-fn comment(alloc: Global, count: usize, end: &str) -> Option<Vec<u8>> {
-    let mut script = output(alloc)?;
+fn comment(alloc: Global, count: usize, end: &str) -> Option<String> {
+    let mut script = room(alloc).ok()?;
     for _ in 0..count {
-        script.push(b'#').ok()?;
+        script.push('#').ok()?;
     }
-    script.extend_from_slice(end.as_bytes()).ok()?;
+    script.push_str(end).ok()?;
     Some(script)
 }
 
@@ -267,12 +303,19 @@ fn comment(alloc: Global, count: usize, end: &str) -> Option<Vec<u8>> {
 pub(super) fn other_comment<H: Threads + Wait + Sync>(
     rt: &H,
     alloc: Global,
+    answer: &mut String,
 ) -> Option<&'static str> {
     for (count, end, written, status) in &COMMENTS {
         let Some(script) = comment(alloc, *count, end) else {
             return Some("no room");
         };
-        if !gives(rt, alloc, &script, (0, usize::MAX), (written, *status)) {
+        let case = Case {
+            settings: SETTINGS,
+            script: &script,
+            replies: written,
+            status: *status,
+        };
+        if !gives(rt, alloc, case, (0, usize::MAX), answer) {
             return Some(*written);
         }
     }
