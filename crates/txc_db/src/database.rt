@@ -4,7 +4,7 @@ ghost use Rattle.std.specs.Arc.{arc_value};
 ghost use Rattle.txc_rows.specs.RowTags.{query_tag};
 ghost use Rattle.txc_db.specs.History.{event_at, pin_event};
 ghost use Rattle.txc_db.specs.Calls.{IsHoldRefused, IsUnpinRefused, IsVacuumRefused, IsQueryRefused, IsPinRefused};
-ghost use Rattle.txc_db.specs.Shared.{MayAnswer, IsQueryAnswer, IsQuietIn, IsEventIn, MayRefuse, IsSharedCommitRefused};
+ghost use Rattle.txc_db.specs.Shared.{IsDatabaseOf, MayAnswer, IsQueryAnswer, IsQuietIn, IsEventIn, MayRefuse, IsSharedCommitRefused};
 
 use crate::answered::{Answered, CommitError};
 use crate::db_core::DbCore;
@@ -145,6 +145,18 @@ impl<J: Naming> Database<J> {
         ensures refused { IfErr result (MayRefuse J.database_row IsVacuumRefused) }
     {
         self.lock.lock(rt).vacuum()
+    }
+
+    /// The database without its lock, once no thread has it any more.
+    pub fn into_core(self) -> DbCore
+        ensures { IsDatabaseOf J.database_row result }
+    {
+        let Database {
+            events: _,
+            marks: _,
+            lock,
+        } = self;
+        lock.into_inner().into_core()
     }
 
     /// The row of the events, which anybody reads without the lock.

@@ -83,6 +83,19 @@ impl<J: Naming> Locked<J> {
         let _events = self.core.history().len();
     }
 
+    /// The database alone.
+    pub(crate) fn into_core(self) -> DbCore
+        ensures { IsDatabaseOf J.database_row result }
+    {
+        self.is_named();
+        let Locked {
+            core,
+            marks: _,
+            marked: _,
+        } = self;
+        core
+    }
+
     pub(crate) fn query(
         &mut self,
         alloc: Global,
