@@ -107,32 +107,79 @@ all = 1023
 one take = none
 ";
 
-/// Takes a permit and drops it, a thousand times.
-fn take_and_drop(mut pool: PermitPool) {
-    for _ in 0..1000u32 {
-        let permit = pool.take();
-        drop(permit);
-    }
+/// What threads came to that take permits and drop them.
+#[derive(Clone, Copy, PartialEq, Eq)]
+struct Came {
+    /// How often there was none.
+    refused: u32,
+    /// How many can be taken then.
+    left: u32,
 }
 
-/// Lets eight threads take and drop permits of a pool of three, and returns how many can be taken then.
-fn left_after_threads(rt: &(impl Threads + Sync), alloc: Global) -> Result<u32, AllocError> {
-    let mut pool = PermitPool::new(alloc, 3)?;
+/// Takes a permit and drops it, a thousand times. Returns how often there was none.
+fn take_and_drop(mut pool: PermitPool) -> u32 {
+    let mut refused = 0u32;
+    for _ in 0..1000u32 {
+        let permit = pool.take();
+        if permit.is_none() {
+            refused = refused.wrapping_add(1);
+        }
+        drop(permit);
+    }
+    refused
+}
+
+/// Lets eight threads take and drop permits of a pool of so many.
+fn run_threads(
+    rt: &(impl Threads + Sync),
+    alloc: Global,
+    permits: u64,
+) -> Result<Came, AllocError> {
+    let mut pool = PermitPool::new(alloc, permits.clamp(1, MAX_PERMITS))?;
     let mut handles = Vec::new(alloc);
     for _ in 0..8u32 {
         handles.push(pool.share()?)?;
     }
-    map_vec(rt, handles, &|pool: PermitPool| take_and_drop(pool))?;
+    let counts = map_vec(
+        rt,
+        handles,
+        &|pool: PermitPool| -> u32 { take_and_drop(pool) },
+    )?;
+    let mut refused = 0u32;
+    for count in counts {
+        refused = refused.wrapping_add(count);
+    }
     let mut out = Vec::new(alloc);
-    take_all(&mut pool, &mut out)
+    let left = take_all(&mut pool, &mut out)?;
+    Ok(Came { refused, left })
+}
+
+fn run_threads_again(
+    rt: &(impl Threads + Sync),
+    alloc: Global,
+    permits: u64,
+) -> Result<Came, AllocError> {
+    match run_threads(rt, alloc, permits) {
+        Err(_) => run_threads(rt, alloc, permits),
+        other => other,
+    }
 }
 
 #[test]
 fn threads_leave_all_permits(rt: HostRuntime) -> Result<(), AllocError> {
-    let left = match left_after_threads(&rt, rt.alloc()) {
-        Ok(left) => left,
-        Err(_) => left_after_threads(&rt, rt.alloc())?,
-    };
-    assert!(&rt; left == 3);
+    let came = run_threads_again(&rt, rt.alloc(), 3)?;
+    assert!(&rt; came.left == 3);
+    Ok(())
+}
+
+#[test]
+fn each_thread_has_a_permit_where_there_are_as_many(rt: HostRuntime) -> Result<(), AllocError> {
+    let came = run_threads_again(&rt, rt.alloc(), 8)?;
+    assert!(&rt;
+        came == Came {
+            refused: 0,
+            left: 8
+        }
+    );
     Ok(())
 }
