@@ -165,11 +165,6 @@ pub dropped_last : (index new : List (Call × List Interval)) (front : List Entr
 dropped_last index new front e indexed relists =
     indexes_by e.key index new (front ++ e ∷ []) front indexed relists (λ k other. sym (last_other k front e other))
 
-pub last_first : (index new : List (Call × List Interval)) (front : List Entry) (e : Entry) → IndexesKeys index (front ++ e ∷ []) → Relists e.key (e.reach ∷ reaches_under e.key front) index new → IndexesKeys new (e ∷ front)
-last_first index new front e indexed relists =
-    let reaches : reaches_under e.key (e ∷ front) ≡ e.reach ∷ reaches_under e.key front = ap (λ xs. map (λ o. o.reach) xs) (under_yes e.key e front (same_call_itself e.key)) in
-    indexes_by e.key index new (front ++ e ∷ []) (e ∷ front) indexed (subst (λ (rs : List Interval). Relists e.key rs index new) (sym reaches) relists) (λ k other. under_no k e front other ∙ sym (last_other k front e other))
-
 -- ---- what the index gives of a key
 
 no_reach : (es : List Entry) → map (λ e. e.reach) es ≡ [] → es ≡ []

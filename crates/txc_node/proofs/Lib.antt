@@ -17,8 +17,9 @@ pub mod Closings
 pub mod Invalidated
 pub mod Lasts
 pub mod Listed
-pub mod Turns
 pub mod Buckets
 pub mod Puts
 pub mod Pairs
+pub mod Sweepings
+pub mod Lasting
 pub mod History

@@ -1,8 +1,8 @@
 -- What the index of the tags lists, as the entries change.
-use Rattle.std.proofs.Common.{◌≡◌, ◌-◌, ◌≤◌, Bool, true, false, not, ◌||◌, cond, eqb, List, [], ◌∷◌, length, take, ℕ, suc, Some, None, refl, sym, ap, subst, ◌∙◌, arith}
-use Rattle.std.specs.Prelude.{slice_get}
+use Rattle.std.proofs.Common.{◌≡◌, ◌≤◌, Bool, true, false, not, ◌||◌, cond, eqb, List, [], ◌∷◌, length, take, ℕ, suc, zero, Some, None, refl, sym, ap, subst, ◌∙◌, arith}
+use Rattle.std.specs.Prelude.{Option, IfSome, slice_get}
 use Rattle.std.specs.List.{AllByRecursion, find}
-use Rattle.std.specs.Option.{option_map, option_map_or}
+use Rattle.std.specs.Option.{option_map}
 use Rattle.std.proofs.lemmas.Bool.{false≢true}
 use Rattle.std.specs.HashMap.{HashMap}
 use borrow.Author.Tests.{eq-eqb}
@@ -17,8 +17,8 @@ use Rattle.txc_node.specs.declared.place.Place.{Place}
 use Rattle.txc_node.specs.declared.stored.Stored.{Stored}
 use Rattle.txc_node.specs.Places.{place_of, equal_places, equal_places_is}
 use Rattle.txc_node.specs.Entries.{same_place, others, AreApart}
-use Rattle.txc_node.specs.Indexed.{entry_at, stored_of, entries_under, lists, last_to_front, IsListed, IndexesTags, KeepsListed, with_first}
-use Rattle.txc_node.proofs.Apart.{filter_keeps, take_keeps}
+use Rattle.txc_node.specs.Indexed.{entry_at, stored_of, entries_under, lists, IsListed, IndexesTags, KeepsListed, with_first}
+use Rattle.txc_node.proofs.Apart.{filter_keeps}
 use Rattle.txc_node.proofs.Fronts.{all_at, found_self, holds_under}
 
 same_tag_itself : (t : Tag) → same_tag t t ≡ true
@@ -78,14 +78,18 @@ module _ {S : Type 0} (tables : List (HashMap Rows (List Place) S)) where
       let P : Entry → Type 0 = λ o. IsListed tables (place_of o) (stored_of o) in
       (holds_under P key es at e h is, filter_keeps P (λ o. not (same_place o e)) es h)
 
-  pub front_listed : (n : ℕ) (es : List Entry) → IndexesTags tables es → IndexesTags tables (take n es)
-  front_listed n es h = take_keeps (λ o. IsListed tables (place_of o) (stored_of o)) n es h
-
-  pub turned_listed : (es : List Entry) → IndexesTags tables es → IndexesTags tables (last_to_front es)
-  turned_listed es h = (elim (slice_get es (length es - 1)) as (λ f. slice_get es (length es - 1) ≡ f → IndexesTags tables (option_map_or (λ e. e ∷ take (length es - 1) es) f es)) [
-    | None ↦ λ t. h
-    | Some e ↦ λ t. (all_at (λ o. IsListed tables (place_of o) (stored_of o)) es (length es - 1) e h t, front_listed (length es - 1) es h)
-  ]) refl
+-- what is taken off at the place of one for which there is no room is none of those that stay
+module _ {S : Type 0} (tables new : List (HashMap Rows (List Place) S)) where
+  pub evicted_listed : (n : ℕ) (es : List Entry) (evicted : Option Entry) → evicted ≡ slice_get es n → AreApart es → KeepsListed (λ t q. IfSome evicted (λ e. equal_places (place_of e) q ≡ false)) tables new
+      → IndexesTags tables es → IndexesTags new (take n es)
+  evicted_listed zero es evicted is apart keeps h = tt
+  evicted_listed (suc n) [] evicted is apart keeps h = tt
+  evicted_listed (suc n) (x ∷ es) evicted is apart keeps h =
+      let away : IfSome evicted (λ e. equal_places (place_of e) (place_of x) ≡ false) = (elim evicted as (λ f. f ≡ slice_get es n → IfSome f (λ e. equal_places (place_of e) (place_of x) ≡ false)) [
+        | None ↦ λ t. tt
+        | Some e ↦ λ t. all_at (λ o. same_place o x ≡ false) es n e apart.0 (sym t)
+      ]) is in
+      ((λ still. kept_tags tables new (place_of x) x.tags (λ t. keeps t (place_of x) away) (h.0 still)), evicted_listed n es evicted is apart.1 keeps h.1)
 
 -- ---- what is stored at a place
 

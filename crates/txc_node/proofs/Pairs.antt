@@ -1,5 +1,6 @@
 -- The entries of a cache at their places.
 use Rattle.std.proofs.Common.{◌≡◌, ℕ, Bool, true, false, not, cond, List, [], ◌∷◌, take, Option, Some, None, refl, sym, ap, subst, ◌∙◌, suc, zero}
+use Rattle.std.specs.Prelude.{slice_get}
 use Rattle.std.specs.List.{AllByRecursion, find}
 use Rattle.std.specs.Option.{option_map, option_map_or}
 use Rattle.std.specs.Map.{lookup, lookup_entry, remove_entry}
@@ -105,3 +106,9 @@ pub entries_take : (n : ℕ) (ps : List (Place × Stored)) → entries_of (take 
 entries_take zero ps = refl
 entries_take (suc n) [] = refl
 entries_take (suc n) (x ∷ ps) = ap (λ ys. entry_of x ∷ ys) (entries_take n ps)
+
+-- the entry of the pair at an index
+pub get_entry : (ps : List (Place × Stored)) (n : ℕ) → slice_get (entries_of ps) n ≡ option_map entry_of (slice_get ps n)
+get_entry [] n = refl
+get_entry (x ∷ ps) zero = refl
+get_entry (x ∷ ps) (suc n) = get_entry ps n

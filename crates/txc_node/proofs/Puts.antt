@@ -20,11 +20,10 @@ use Rattle.txc_node.specs.Indexed.{entry_at, entry_of, entries_of, ArePlaced, Ar
 use Rattle.txc_node.proofs.Apart.{same_place_sym, first_apart}
 use Rattle.txc_node.proofs.Inserts.{others_like, others_none, filter_same, place_moved}
 use Rattle.txc_node.proofs.Swept.{find_same}
-use Rattle.txc_node.proofs.Pairs.{entries_take, found_pair, pair_at, without_is_others, removed_keeps}
+use Rattle.txc_node.proofs.Pairs.{entries_take, found_pair, pair_at, without_is_others, removed_keeps, get_entry}
 use Rattle.txc_node.proofs.KeyLists.{indexes_by, put_first, brought_first, relisted_there}
 use Rattle.txc_node.proofs.Fronts.{key_at}
 use Rattle.txc_node.proofs.Lasts.{split_at, dropped_tied}
-use Rattle.txc_node.proofs.Turns.{get_entry}
 
 -- ---- what is found at a place
 

@@ -1,6 +1,6 @@
 -- The entries of a node as they are held, and the indexes that find them. Proofs alone need it, but for
 -- `entries_under`, of which a public contract speaks.
-use Rattle.std.specs.Prelude.{◌≡◌, ℕ, ◌+◌, ◌-◌, ◌<◌, ◌≤◌, Bool, true, false, ◌&&◌, ◌||◌, ◌==◌, not, nat_lt, nat_le, if◌then◌else◌, Option, Some, None, unwrap_or, List, [], ◌∷◌, ◌++◌, map, length, take, drop, slice_get}
+use Rattle.std.specs.Prelude.{◌≡◌, ℕ, ◌+◌, ◌-◌, ◌<◌, ◌≤◌, Bool, true, false, ◌&&◌, ◌||◌, ◌==◌, nat_lt, nat_le, if◌then◌else◌, Option, Some, None, unwrap_or, List, [], ◌∷◌, map, length, slice_get}
 use Rattle.std.specs.List.{AllByRecursion, filter, find, list_any, count_by}
 use Rattle.std.specs.Map.{lookup, set_value}
 use Rattle.std.specs.HashMap.{HashMap}
@@ -49,10 +49,6 @@ entry_at es q = find (λ e. equal_places q (place_of e)) es
 -- a still valid entry stands at the place
 unfoldable pub is_live : List Entry → Place → Bool
 is_live es q = unwrap_or (option_map (λ e. e.reach.still) (entry_at es q)) false
-
--- the last goes first
-abbrev pub last_to_front : List Entry → List Entry
-last_to_front es = option_map_or (λ e. e ∷ take (length es - 1) es) (slice_get es (length es - 1)) es
 
 -- entries, the most recently used first, and the most that there may be
 pub record Held : Type 0 where
@@ -206,11 +202,3 @@ pub record AreTied (ps : List (Place × Stored)) (index : List (Call × List Int
   pub placed : ArePlaced ps
   pub apart : AreApart (entries_of ps)
   pub keys : IndexesKeys index (entries_of ps)
-
--- what a turn of a sweep leaves of entries whose last is e
-abbrev pub turned : (Entry → Bool) → List Entry → Entry → List Entry
-turned ended es e = if ended e then take (length es - 1) es else e ∷ take (length es - 1) es
-
--- what it leaves when all but the first m were looked at
-abbrev pub swept_to : (Entry → Bool) → List Entry → ℕ → List Entry
-swept_to ended es m = filter (λ e. not (ended e)) (drop m es) ++ take m es

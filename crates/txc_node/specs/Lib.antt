@@ -2,6 +2,7 @@ pub mod Entries
 pub mod Places
 pub mod Indexed
 pub mod Cache
+pub mod Sweeping
 pub mod Best
 pub mod Hit
 pub mod Laws

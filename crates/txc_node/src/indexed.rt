@@ -1,20 +1,19 @@
 //! The entries of a node, with what finds them.
-ghost use Rattle.std.specs.Prelude.{◌≡◌, ◌-◌, ◌∷◌, [], length, map, take, not, true, false, nat_lt, unwrap_or, OnOk, OnErr, IfOk, IfErr, Some, slice_get};
+ghost use Rattle.std.specs.Prelude.{◌≡◌, ◌∷◌, [], length, map, take, not, true, false, OnOk, OnErr, IfOk, IfErr, IfSome, Some, slice_get};
 ghost use Rattle.std.specs.List.{find, filter, count_by};
-ghost use Rattle.std.specs.Option.{option_map};
 ghost use Rattle.std.specs.NonZero.{non_zero_usize_get};
-ghost use Rattle.txc_stamp.specs.Interval.{end_at};
 ghost use Rattle.txc_node.specs.declared.entry.Entry.{Entry};
-ghost use Rattle.txc_node.specs.Places.{place_of};
+ghost use Rattle.txc_node.specs.Places.{place_of, equal_places};
 ghost use Rattle.txc_node.specs.Entries.{others, same_place};
 ghost use Rattle.txc_node.specs.Cache.{is_invalidated, entry_after, has_ended};
-ghost use Rattle.txc_node.specs.Indexed.{IndexesTags, IsFound, IsListed, KeepsListed, entries_under, entry_of, is_live, reaches_under, turned, with_first};
+ghost use Rattle.txc_node.specs.Indexed.{IndexesTags, IsFound, IsListed, KeepsListed, entries_under, entry_of, is_live, reaches_under, with_first};
 
 use crate::closing::Closing;
 use crate::entry::Entry;
 use crate::keyed::KeyedEntries;
 use crate::place::Place;
 use crate::stored::{Stored, in_reach, split};
+use crate::sweeping::Sweep;
 use crate::tag_index::TagIndex;
 use crate::versions::Found;
 use std::alloc::{AllocError, AllocFailed, Global};
@@ -81,14 +80,25 @@ fn unlist_left(entries: &KeyedEntries, index: &mut TagIndex, place: &Place, tags
     }
 }
 
-// The same for an entry that went out.
-fn unlist_gone(entries: &KeyedEntries, index: &mut TagIndex, gone: &Option<Entry>)
+// The same for an entry in whose stead another went in.
+fn unlist_replaced(entries: &KeyedEntries, index: &mut TagIndex, gone: &Option<Entry>)
     ensures { IndexesTags index.old.tables.items entries.now.entries
         → IndexesTags index.new.tables.items entries.now.entries }
 {
     if let Some(gone) = gone {
         let place = Place::new(&gone.key, gone.reach.lo());
         unlist_left(entries, index, &place, &gone.tags);
+    }
+}
+
+// Takes an entry for which there was no room off those under its tags: none stands at its place.
+fn unlist_evicted(index: &mut TagIndex, evicted: &Option<Entry>)
+    ensures { KeepsListed (λ t q. IfSome evicted.now (λ e. equal_places (place_of e) q ≡ false))
+        index.old.tables.items index.new.tables.items }
+{
+    if let Some(entry) = evicted {
+        let place = Place::new(&entry.key, entry.reach.lo());
+        index.unlist(&entry.tags, &place);
     }
 }
 
@@ -123,7 +133,7 @@ fn put(
     match found {
         None => match entries.add(place, stored) {
             Ok(evicted) => {
-                unlist_gone(entries, index, &evicted);
+                unlist_evicted(index, &evicted);
                 Ok(evicted)
             }
             Err(failed) => {
@@ -133,20 +143,9 @@ fn put(
         },
         Some(found) => {
             let before = entries.replace(found.at, place, stored);
-            unlist_gone(entries, index, &before);
+            unlist_replaced(entries, index, &before);
             Ok(None)
         }
-    }
-}
-
-// Whether the last entry's span ends after the horizon; none's does not.
-fn last_stays(entries: &KeyedEntries, processed: Stamp, horizon: Stamp) -> bool
-    ensures { result ≡ unwrap_or (option_map (λ e. nat_lt horizon (end_at processed e.reach))
-        (slice_get entries.now.entries (length entries.now.entries - 1))) false }
-{
-    match entries.last() {
-        None => false,
-        Some(stored) => horizon.number() < stored.reach.end(processed),
     }
 }
 
@@ -230,28 +229,6 @@ impl IndexedEntries {
         count
     }
 
-    // Drops the last entry.
-    fn drop_last(&mut self)
-        ensures entries { self.new.entries ≡ take (length self.old.entries - 1) self.old.entries }
-        ensures capacity { self.new.capacity ≡ self.old.capacity }
-    {
-        let last = self.entries.pop_last();
-        unlist_gone(&self.entries, &mut self.tags, &last);
-    }
-
-    // Drops the last entry if its span ends at the horizon or before it, and else moves it to the front.
-    fn sweep_last(&mut self, processed: Stamp, horizon: Stamp)
-        ensures entries { (e : Entry) → slice_get self.old.entries (length self.old.entries - 1) ≡ Some e
-            → self.new.entries ≡ turned (has_ended processed horizon) self.old.entries e }
-        ensures capacity { self.new.capacity ≡ self.old.capacity }
-    {
-        if last_stays(self.keyed(), processed, horizon) {
-            self.entries.last_first();
-        } else {
-            self.drop_last();
-        }
-    }
-
     /// Drops the entries whose span ends at the horizon or before it, and counts them.
     pub(crate) fn drop_ended(&mut self, processed: Stamp, horizon: Stamp) -> usize
         ensures entries { self.new.entries
@@ -260,9 +237,8 @@ impl IndexedEntries {
         ensures count { result ≡ count_by (has_ended processed horizon) self.old.entries }
     {
         let before = self.len();
-        for i in 0..before {
-            self.sweep_last(processed, horizon);
-        }
+        let sweep = Sweep { processed, horizon };
+        self.entries.drop_ended(&mut self.tags, &sweep);
         before - self.len()
     }
 }

@@ -1,19 +1,38 @@
 //! The index of the entries by their keys.
-ghost use Rattle.std.specs.Prelude.{List, Some, take, slice_get, ◌-◌, ◌≡◌, ◌<◌, ◌∷◌, [], length, map, remove, if◌then◌else◌, is_ok, MatchOption};
+ghost use Rattle.std.specs.Prelude.{List, take, drop, ◌+◌, ◌-◌, ◌≡◌, ◌<◌, ◌∷◌, [], length, map, remove, if◌then◌else◌, is_ok, MatchOption};
 ghost use Rattle.txc_stamp.specs.Interval.{Interval};
+ghost use Rattle.txc_tags.specs.Keys.{Call};
 ghost use Rattle.txc_node.specs.Indexed.{listed, Relists, in_stead};
+ghost use Rattle.txc_node.specs.Sweeping.{lasting, AreAllLasting};
 
+use crate::sweeping::Sweep;
 use crate::versions::Versions;
+use indexmap::IndexMap;
 use std::alloc::{AllocError, Global};
-use std::collections::HashMap;
 use txc_stamp::Reach;
 use txc_tags::Key;
+
+// Keeps of the reaches at an index those that a sweep leaves, and drops the key where there are none.
+fn keep_at(versions: &mut IndexMap<Key, Versions>, i: usize, sweep: &Sweep)
+    ensures lasting { (k : Call) → lasting sweep.now.processed sweep.now.horizon (listed versions.new.entries k)
+        ≡ lasting sweep.now.processed sweep.now.horizon (listed versions.old.entries k) }
+    ensures from { AreAllLasting sweep.now.processed sweep.now.horizon (drop (i + 1) versions.old.entries)
+        → AreAllLasting sweep.now.processed sweep.now.horizon (drop i versions.new.entries) }
+{
+    let stays = match versions.get_index_mut(i) {
+        None => true,
+        Some(reaches) => reaches.keep_lasting(sweep),
+    };
+    if !stays {
+        versions.swap_remove_index(i);
+    }
+}
 
 /// Of each key the reaches of its entries, the most recently used first.
 #[derive(Debug, Drop)]
 pub(crate) struct KeyIndex {
     alloc: Global,
-    pub(crate) versions: HashMap<Key, Versions>,
+    pub(crate) versions: IndexMap<Key, Versions>,
 }
 
 impl KeyIndex {
@@ -23,7 +42,7 @@ impl KeyIndex {
     {
         KeyIndex {
             alloc,
-            versions: HashMap::new(alloc),
+            versions: IndexMap::new(alloc),
         }
     }
 
@@ -62,18 +81,6 @@ impl KeyIndex {
         }
     }
 
-    /// Puts the last reach of a key first.
-    pub(crate) fn bring_last_first(&mut self, key: &Key)
-        ensures { let rs = listed self.old.versions.entries key.now in
-            (r : Interval) → slice_get rs (length rs - 1) ≡ Some r
-            → Relists key.now (r ∷ remove rs (length rs - 1))
-            self.old.versions.entries self.new.versions.entries }
-    {
-        if let Some(versions) = self.versions.get_mut(key) {
-            versions.bring_last_first();
-        }
-    }
-
     /// Changes the reach of a key that begins where this one does.
     pub(crate) fn set(&mut self, key: &Key, reach: Reach)
         ensures { Relists key.now (map (in_stead reach) (listed self.old.versions.entries key.now))
@@ -95,7 +102,7 @@ impl KeyIndex {
             Some(versions) => versions.drop_first(),
         };
         if !stays {
-            self.versions.remove(key);
+            self.versions.swap_remove(key);
         }
     }
 
@@ -110,7 +117,19 @@ impl KeyIndex {
             Some(versions) => versions.drop_last(),
         };
         if !stays {
-            self.versions.remove(key);
+            self.versions.swap_remove(key);
+        }
+    }
+
+    /// Keeps of each key the reaches that a sweep leaves.
+    pub(crate) fn keep_lasting(&mut self, sweep: &Sweep)
+        ensures { (k : Call) → listed self.new.versions.entries k
+            ≡ lasting sweep.now.processed sweep.now.horizon (listed self.old.versions.entries k) }
+    {
+        // From the last on, since the last takes the place of one that is dropped.
+        let len = self.versions.len();
+        for n in 0..len {
+            keep_at(&mut self.versions, len - 1 - n, sweep);
         }
     }
 }

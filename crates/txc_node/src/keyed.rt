@@ -1,6 +1,6 @@
 //! The entries of a node at their places, and by their keys.
-ghost use Rattle.std.specs.Prelude.{List, ◌≡◌, ◌-◌, ◌∷◌, [], take, length, remove, None, Some, OnOk, OnErr, IfOk, IfErr, slice_get, option_copied};
-ghost use Rattle.std.specs.List.{find};
+ghost use Rattle.std.specs.Prelude.{List, ◌≡◌, ◌∷◌, [], take, length, not, remove, None, Some, OnOk, OnErr, IfOk, IfErr, slice_get, option_copied};
+ghost use Rattle.std.specs.List.{find, filter};
 ghost use Rattle.std.specs.Option.{option_map};
 ghost use Rattle.std.specs.Map.{lookup};
 ghost use Rattle.std.specs.NonZero.{non_zero_usize_get};
@@ -8,13 +8,16 @@ ghost use Rattle.txc_tags.specs.Keys.{Call};
 ghost use Rattle.txc_node.specs.declared.entry.Entry.{Entry};
 ghost use Rattle.txc_node.specs.Places.{place_of, equal_places};
 ghost use Rattle.txc_node.specs.Entries.{is_best, others, same_place};
-ghost use Rattle.txc_node.specs.Indexed.{AreOf, Closes, HoldsApart, IsFound, IsSpared, Relists, StandsUnder, after_at, closed_reach, entries_under, entry_at, entry_of, last_to_front, listed, reaches_under, stored_of, with_first};
+ghost use Rattle.txc_node.specs.Cache.{has_ended};
+ghost use Rattle.txc_node.specs.Indexed.{AreOf, Closes, HoldsApart, IndexesTags, IsFound, IsSpared, Relists, StandsUnder, after_at, closed_reach, entries_under, entry_at, entry_of, listed, reaches_under, stored_of, with_first};
 
 use crate::closing::Closing;
 use crate::entry::Entry;
 use crate::key_index::KeyIndex;
 use crate::place::Place;
 use crate::stored::{Stored, join, join_some};
+use crate::sweeping::Sweep;
+use crate::tag_index::TagIndex;
 use crate::versions::{Found, Versions};
 use lru::LruCache;
 use std::alloc::{AllocError, AllocFailed, Global};
@@ -150,17 +153,6 @@ impl KeyedEntries {
         }
     }
 
-    /// The entry that has gone unused for longest.
-    pub(crate) fn last(&self) -> Option<&Stored>
-        ensures { option_copied result
-            ≡ option_map stored_of (slice_get self.now.entries (length self.now.entries - 1)) }
-    {
-        match self.cache.peek_lru() {
-            None => None,
-            Some((_, stored)) => Some(stored),
-        }
-    }
-
     /// Closes the entry at a place just below an event that invalidates it, and counts it.
     pub(crate) fn close_at(&mut self, place: &Place, closing: &Closing<'_>) -> usize
         ensures closes { Closes closing.now.stamp closing.now.tags.now self.old self.new result }
@@ -188,31 +180,16 @@ impl KeyedEntries {
         bring_found(&mut self.keys, key, found);
     }
 
-    /// Moves the last entry to the front.
-    pub(crate) fn last_first(&mut self)
-        ensures entries { self.new.entries ≡ last_to_front self.old.entries }
+    /// Drops what a sweep drops, and takes that off the index of the tags.
+    pub(crate) fn drop_ended(&mut self, index: &mut TagIndex, sweep: &Sweep)
+        requires { IndexesTags index.old.tables.items self.old.entries }
+        ensures entries { self.new.entries
+            ≡ filter (λ e. not (has_ended sweep.now.processed sweep.now.horizon e)) self.old.entries }
         ensures capacity { self.new.capacity ≡ self.old.capacity }
+        ensures listed { IndexesTags index.new.tables.items self.new.entries }
     {
-        if let Some((place, _)) = self.cache.peek_lru() {
-            let place = place.copy();
-            self.cache.promote(&place);
-            self.keys.bring_last_first(&place.key);
-        }
-    }
-
-    /// Takes the last entry out.
-    pub(crate) fn pop_last(&mut self) -> Option<Entry>
-        ensures last { result ≡ slice_get self.old.entries (length self.old.entries - 1) }
-        ensures entries { self.new.entries ≡ take (length self.old.entries - 1) self.old.entries }
-        ensures capacity { self.new.capacity ≡ self.old.capacity }
-    {
-        match self.cache.pop_lru() {
-            None => None,
-            Some((place, stored)) => {
-                self.keys.drop_last(&place.key);
-                Some(join(place, stored))
-            }
-        }
+        sweep.at_all(&mut self.cache, index, &self.keys.versions);
+        self.keys.keep_lasting(sweep);
     }
 
     /// A new entry first, at a place where none stands. Returns the last one where there is no room for it.

@@ -27,6 +27,7 @@ mod refusal;
 mod replay;
 mod reply;
 mod stored;
+mod sweeping;
 mod tag_index;
 mod value;
 mod versions;

@@ -1,12 +1,14 @@
 //! The reaches of the entries of one key.
-ghost use Rattle.std.specs.Prelude.{List, take, ◌≡◌, ◌+◌, ◌-◌, ◌<◌, ◌==◌, ◌∷◌, [], length, map, IsTrue, IsFalse, IfSome, Some, OnOk, OnErr, slice_get, remove};
+ghost use Rattle.std.specs.Prelude.{List, take, not, ◌≡◌, ◌+◌, ◌-◌, ◌<◌, ◌==◌, ◌∷◌, [], length, map, IsTrue, IsFalse, IfSome, Some, OnOk, OnErr, slice_get, remove};
 ghost use Rattle.std.specs.List.{position};
 ghost use Rattle.txc_stamp.specs.Interval.{Interval};
 ghost use Rattle.txc_tags.specs.Keys.{Call};
 ghost use Rattle.txc_node.specs.declared.entry.Entry.{Entry};
 ghost use Rattle.txc_node.specs.Best.{BestSoFar};
 ghost use Rattle.txc_node.specs.Indexed.{AreOf, meets, lasts_longer, in_stead};
+ghost use Rattle.txc_node.specs.Sweeping.{ends_by, lasting};
 
+use crate::sweeping::Sweep;
 use std::alloc::{AllocError, Global};
 use std::marker::Model;
 use txc_stamp::{Reach, Stamp};
@@ -78,6 +80,17 @@ fn change_all(reaches: &mut Vec<Reach>, reach: Reach)
     ensures { reaches.new.items ≡ map (in_stead reach) reaches.old.items }
 {
     change_each(reaches, reach);
+}
+
+// Keeps of these the ones that a sweep leaves.
+fn keep_lasting(reaches: &mut Vec<Reach>, sweep: &Sweep)
+    ensures { reaches.new.items ≡ lasting sweep.now.processed sweep.now.horizon reaches.old.items }
+{
+    reaches.retain(
+        |reach: &Reach| -> bool
+            ensures { result ≡ not (ends_by sweep.entry.now.processed sweep.entry.now.horizon reach.now) }
+        { !sweep.ends(*reach) },
+    );
 }
 
 impl Versions {
@@ -189,16 +202,6 @@ impl Versions {
         self.first = reach;
     }
 
-    /// Puts the last reach first.
-    pub(crate) fn bring_last_first(&mut self)
-        ensures { (r : Interval) → slice_get self.old (length self.old - 1) ≡ Some r
-            → self.new ≡ r ∷ remove self.old (length self.old - 1) }
-    {
-        let last = self.others.len();
-        let reach = self.get(last);
-        self.bring_first(last, reach);
-    }
-
     /// Changes the reach that begins alike.
     pub(crate) fn set(&mut self, reach: Reach)
         ensures { self.new ≡ map (in_stead reach) self.old }
@@ -227,5 +230,17 @@ impl Versions {
         ensures alone { IsFalse result → take (length self.old - 1) self.old ≡ [] }
     {
         self.others.pop().is_some()
+    }
+
+    /// Keeps the reaches that a sweep leaves, and says whether there are any.
+    pub(crate) fn keep_lasting(&mut self, sweep: &Sweep) -> bool
+        ensures more { IsTrue result → self.new ≡ lasting sweep.now.processed sweep.now.horizon self.old }
+        ensures none { IsFalse result → lasting sweep.now.processed sweep.now.horizon self.old ≡ [] }
+    {
+        keep_lasting(&mut self.others, sweep);
+        if !sweep.ends(self.first) {
+            return true;
+        }
+        self.drop_first()
     }
 }

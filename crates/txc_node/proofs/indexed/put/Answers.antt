@@ -3,7 +3,8 @@ use Rattle.std.proofs.lemmas.List.{take_all}
 use Rattle.std.proofs.lemmas.Option.{slice_get_past}
 use Rattle.txc_node.specs.declared.entry.Entry.{Entry}
 use Rattle.txc_node.specs.Indexed.{Held, IndexesTags, entry_of, with_first}
-use Rattle.txc_node.proofs.Listed.{first_listed, front_listed, listed_more, no_more}
+use Rattle.txc_node.proofs.Apart.{first_apart}
+use Rattle.txc_node.proofs.Listed.{evicted_listed, first_listed, listed_more, no_more}
 use Rattle.txc_node.proofs.indexed.put.Goals as goal
 
 pub returns-in_default-clause-indexed : goal.returns-in_default-clause-indexed
@@ -19,7 +20,9 @@ returns-in-Ok-add-clause-indexed c =
     let e = entry_of (a.place, a.stored) in
     let es = a.entries.now.entries in
     let all = first_listed tables mid e a.place es c.requires.placed c.list_still.ensures.kept c.in-Ok.ensures.listed c.requires.indexed in
-    c.unlist_gone.ensures (subst (λ (xs : List Entry). IndexesTags mid xs) (sym c.in-Ok-add.ensures.entries) (front_listed mid a.entries.now.capacity (with_first e es) all))
+    let new = c.unlist_evicted.new.index.tables.items in
+    let stay = evicted_listed mid new a.entries.now.capacity (with_first e es) c.in-Ok-add.evicted c.in-Ok-add.ensures.evicted (first_apart e es c.len-len.ensures.apart.apart) c.unlist_evicted.ensures all in
+    subst (λ (xs : List Entry). IndexesTags new xs) (sym c.in-Ok-add.ensures.entries) stay
 
 pub returns-in-Err-clause-indexed : goal.returns-in-Err-clause-indexed
 returns-in-Err-clause-indexed c =
@@ -32,7 +35,7 @@ returns-in-Some-clause-indexed c =
     let a = c.args in
     let mid = c.list_still.new.index.tables.items in
     let all = first_listed a.index.now.tables.items mid (entry_of (a.place, a.stored)) a.place a.entries.now.entries c.requires.placed c.list_still.ensures.kept c.in-Ok.ensures.listed c.requires.indexed in
-    c.unlist_gone-in-Some.ensures (subst (λ (xs : List Entry). IndexesTags mid xs) (sym c.replace-before.ensures.entries) all)
+    c.unlist_replaced.ensures (subst (λ (xs : List Entry). IndexesTags mid xs) (sym c.replace-before.ensures.entries) all)
 
 pub returns-in-Some-clause-entries : goal.returns-in-Some-clause-entries
 returns-in-Some-clause-entries c =
