@@ -1,5 +1,5 @@
 -- What a sweep leaves of the index of the keys.
-use Rattle.std.proofs.Common.{◌≡◌, ℕ, ◌<◌, Bool, true, false, not, cond, List, [], ◌∷◌, map, length, get_or, take, drop, Some, None, refl, sym, ap, subst, ◌∙◌, arith, suc, zero}
+use Rattle.std.proofs.Common.{◌≡◌, ℕ, ◌-◌, ◌<◌, Bool, true, false, not, cond, List, [], ◌∷◌, map, length, get_or, set, take, drop, Some, None, refl, sym, ap, subst, ◌∙◌, arith, suc, zero}
 use Rattle.std.specs.Prelude.{slice_get, swap_remove, unwrap_or}
 use Rattle.std.specs.List.{AllByRecursion, IsDistinct}
 use Rattle.std.specs.Map.{lookup}
@@ -30,8 +30,12 @@ module _ {X : Type 0} (P : X → Type 0) where
   all_from_swapped [] (suc i) d h = tt
   all_from_swapped (x ∷ []) zero d h = tt
   all_from_swapped (x ∷ []) (suc i) d h = tt
-  all_from_swapped (x ∷ y ∷ ys) zero d h = (all_of_index (y ∷ ys) (length ys) d (omega arith) h, all_of_take (length ys) (y ∷ ys) h)
-  all_from_swapped (x ∷ y ∷ ys) (suc i) d h = all_from_swapped (y ∷ ys) i d h
+  all_from_swapped (x ∷ y ∷ ys) zero d h =
+      let n : suc (suc (length ys)) - 1 ≡ suc (length ys) = omega arith in
+      subst (λ k. AllByRecursion P (take k (get_or (x ∷ y ∷ ys) k d ∷ y ∷ ys))) (sym n) (all_of_index (y ∷ ys) (length ys) d (omega arith) h, all_of_take (length ys) (y ∷ ys) h)
+  all_from_swapped (x ∷ y ∷ ys) (suc i) d h =
+      let n : suc (suc (length ys)) - 1 ≡ suc (suc (length ys) - 1) = omega arith in
+      subst (λ k. AllByRecursion P (drop (suc i) (take k (x ∷ set (y ∷ ys) i (get_or (x ∷ y ∷ ys) k d))))) (sym n) (all_from_swapped (y ∷ ys) i d h)
 
   pub all_past : (xs : List X) (i : ℕ) → slice_get xs i ≡ None → AllByRecursion P (drop i xs)
   all_past [] zero h = tt
