@@ -8,6 +8,8 @@
 #[cfg(test)]
 mod calling;
 #[cfg(test)]
+mod carries;
+#[cfg(test)]
 mod db;
 #[cfg(test)]
 mod pins;

@@ -1,0 +1,5 @@
+pub mod Places
+pub mod Puts
+pub mod Refusing
+pub mod Steps
+pub mod Versions

@@ -1,0 +1,62 @@
+-- What of a state has been carried over to a new database, and why a carry is refused.
+use Rattle.std.specs.Prelude.{◌≡◌, ⊤, ℕ, ◌<◌, ◌≤◌, Bool, true, false, ◌&&◌, ◌||◌, ◌==◌, nat_lt, [], length, filter}
+use Rattle.std.specs.List.{AllByRecursion}
+use Rattle.txc_rows.specs.declared.query.Query.TheVariants.{ById}
+use Rattle.txc_rows.specs.declared.store_error.TheConstants.{MAX_MATCHING}
+use Rattle.txc_rows.specs.States.{RowValue}
+use Rattle.txc_db.specs.declared.error.DbError.{DbError}
+use Rattle.txc_db.specs.declared.error.DbError.TheVariants as refusals
+use Rattle.txc_db.specs.DatabaseValue.{DatabaseValue, newest, newest_state}
+use Rattle.txc_db.specs.Refusals.{IsOwn}
+use Rattle.txc_db.specs.Calls.{matching_of}
+use Rattle.txc_carry.specs.declared.error.CarryError.{CarryError}
+use Rattle.txc_carry.specs.declared.error.CarryError.TheVariants.{Old, TooManyVersions, New}
+
+-- the row is of an earlier table, or of that table and has a lower id
+abbrev pub stands_before : ℕ → ℕ → RowValue → Bool
+stands_before table id r = nat_lt r.table table || ((r.table == table) && nat_lt r.id id)
+
+-- the new database is whole, has that capacity and holds nothing; its newest state is the rows of the old one's
+-- that stand before the table and id, and so are the rows of its versions; and it has at most one event for
+-- each row
+pub record HasCarried (old : DatabaseValue) (capacity table id : ℕ) (new : DatabaseValue) : Type 0 where
+  pub whole : new.broken ≡ false
+  pub room : length new.events ≡ capacity
+  pub holds : new.holds ≡ []
+  pub rows : newest_state new ≡ filter (stands_before table id) (newest_state old)
+  pub versions : AllByRecursion (λ v. stands_before table id v.row ≡ true) new.versions
+  pub few : newest new ≤ length (newest_state new)
+
+-- ---- refusals
+
+-- of the old database: the store refused by itself, or out of memory
+abbrev pub IsReadRefusal : DbError → Type 0
+IsReadRefusal (refusals.Store cause) = IsOwn cause
+IsReadRefusal refusals.Memory = ⊤
+IsReadRefusal e = ⊥
+
+-- of the new database: its room is less than the rows of the state; or the store refused by itself, or out of
+-- memory, or another record stood in its row
+abbrev pub IsPutRefusal : DatabaseValue → ℕ → DbError → Type 0
+IsPutRefusal old room refusals.Full = room < length (newest_state old)
+IsPutRefusal old room (refusals.Store cause) = IsOwn cause
+IsPutRefusal old room refusals.Memory = ⊤
+IsPutRefusal old room refusals.Broken = ⊤
+IsPutRefusal old room e = ⊥
+
+-- of the carry of some rows: the old database refused to read, or keeps too many versions of one row, or the
+-- new one refused
+abbrev pub IsStepRefused : DatabaseValue → ℕ → CarryError → Type 0
+IsStepRefused old room (Old e) = IsReadRefusal e
+IsStepRefused old room (TooManyVersions table id) = MAX_MATCHING < matching_of old (ById table id)
+IsStepRefused old room (New e) = IsPutRefusal old room e
+
+-- of a carry: the old database is broken; or else what a step of it is refused for
+abbrev pub IsCarryRefused : DatabaseValue → ℕ → CarryError → Type 0
+IsCarryRefused old room (Old refusals.Broken) = old.broken ≡ true
+IsCarryRefused old room e = (old.broken ≡ false) × IsStepRefused old room e
+
+-- it is not that a row has too many versions
+abbrev pub IsNotTooMany : CarryError → Type 0
+IsNotTooMany (TooManyVersions table id) = ⊥
+IsNotTooMany e = ⊤

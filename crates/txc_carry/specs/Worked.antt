@@ -1,0 +1,24 @@
+-- Which rows stand before a place, of rows worked by hand: the ids 3 and 9 of table 1, and the ids 0 and 3 of table 2.
+use Rattle.std.specs.Prelude.{◌≡◌, ℕ, [], ◌∷◌, filter}
+use Rattle.txc_rows.specs.States.{RowValue, State}
+use Rattle.txc_carry.specs.Carried.{stands_before}
+
+-- a row of group 5
+abbrev pub row_of : ℕ → ℕ → RowValue
+row_of table id = record { table = table; id = id; group = 5; body = 97 ∷ [] }
+
+-- the four rows
+abbrev pub worked : State
+worked = row_of 1 3 ∷ row_of 1 9 ∷ row_of 2 0 ∷ row_of 2 3 ∷ []
+
+-- those before a place
+abbrev pub before : ℕ → ℕ → State
+before table id = filter (stands_before table id) worked
+
+-- at the beginning, at a row, behind it, at the next table, and behind all
+pub record WorkedOrder : Type 0 where
+  pub none : before 0 0 ≡ []
+  pub at_row : before 1 9 ≡ row_of 1 3 ∷ []
+  pub behind_row : before 1 10 ≡ row_of 1 3 ∷ row_of 1 9 ∷ []
+  pub next_table : before 2 0 ≡ row_of 1 3 ∷ row_of 1 9 ∷ []
+  pub all : before 3 0 ≡ worked
