@@ -1,6 +1,6 @@
 -- What steps leave of a world, one after another.
-use Rattle.std.proofs.Common.{◌≡◌, ℕ, ◌+◌, ◌<◌, ◌≤◌, true, false, List, [], ◌∷◌, ◌++◌, length, map, Option, Some, None, refl, ap, sym, subst, ◌∙◌, arith, take, get_or, add-one, length-take-le, slice_get, slice_set}
-use Rattle.std.specs.Prelude.{is_some, MatchOption}
+use Rattle.std.proofs.Common.{◌≡◌, ℕ, ◌+◌, ◌<◌, ◌≤◌, List, [], ◌∷◌, ◌++◌, length, map, Option, Some, None, refl, ap, sym, subst, ◌∙◌, arith, take, get_or, add-one, length-take-le, slice_get, slice_set}
+use Rattle.std.specs.Prelude.{MatchOption}
 use Rattle.std.specs.Option.{option_map}
 use Rattle.std.proofs.Math.Seq.{take-length, take-suc}
 use Rattle.std.proofs.lemmas.Option.{slice_get-map}
@@ -25,15 +25,6 @@ use Rattle.txc_world.specs.Worlds.{value_of, WorldValue}
 use Rattle.txc_world.proofs.Stepping.{set_twice}
 
 -- ---- a call, as it is kept and as it is seen
-
-module _ {X Y : Type 0} (see : X → Y) (Closed : Type 0) (Opened : Y → Type 0) where
-  pub with_call : (call : Option X) → is_some call ≡ true → ((x : X) → Opened (see x)) → MatchOption (option_map see call) Closed Opened
-  with_call None is h = absurd (cc is)
-  with_call (Some x) is h = h x
-
-  pub without_call : (call : Option X) → is_some call ≡ false → Closed → MatchOption (option_map see call) Closed Opened
-  without_call None is h = h
-  without_call (Some x) is h = absurd (cc is)
 
 -- what is there is led so
 pub some_there : {X : Type 0} (Absent : Type 0) (There : X → Type 0) (o : Option X) (x : X) → o ≡ Some x → There x → MatchOption o Absent There

@@ -21,5 +21,6 @@ pub mod Balancing
 pub mod WritingCounts
 pub mod SameEntries
 pub mod Giving
+pub mod Acted
 pub mod Leading
 pub mod Forward

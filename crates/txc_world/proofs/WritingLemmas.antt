@@ -1,6 +1,6 @@
 -- An open read-write transaction, step by step.
-use Rattle.std.proofs.Common.{◌≡◌, ◌∙◌, inl, inr, ℕ, ◌+◌, ◌-◌, arith, false, List, [], ◌∷◌, ◌++◌, length, take, Option, Some, None, Ok, Err, refl, ap, sym, subst}
-use Rattle.std.specs.Prelude.{is_some, IsSome, Result}
+use Rattle.std.proofs.Common.{◌≡◌, ◌∙◌, inl, inr, ℕ, ◌+◌, ◌-◌, arith, List, [], ◌∷◌, ◌++◌, length, take, Option, Some, None, Ok, Err, refl, ap, sym, subst}
+use Rattle.std.specs.Prelude.{IsSome, Result}
 use Rattle.std.proofs.lemmas.List.{length_push, take_at}
 use Rattle.txc_tags.specs.Keys.{Call}
 use Rattle.txc_rows.specs.declared.query.Query.{Query}
@@ -30,10 +30,6 @@ use Rattle.txc_world.specs.Told.{writing}
 use Rattle.txc_world.specs.Ports.{PortsValue}
 use Rattle.txc_world.specs.Asks.{AnswerLeads}
 use Rattle.txc_world.specs.Actors.{asked_query, told_by_turn, HasRwCall}
-
-pub none_by_test : {X : Type 0} (o : Option X) → is_some o ≡ false → o ≡ None
-none_by_test None is = refl
-none_by_test (Some x) is = absurd (cc is)
 
 pub writing_same : (b b' : ℕ) (k k' : Option Call) (a a' : List Given) (c c' : List Change) → b ≡ b' → k ≡ k' → a ≡ a' → c ≡ c'
     → writing (record { base = b; call = k; answers = a; changes = c }) ≡ writing (record { base = b'; call = k'; answers = a'; changes = c' })

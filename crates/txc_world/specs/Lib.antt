@@ -13,5 +13,6 @@ pub mod Books
 pub mod Tidy
 pub mod Writing
 pub mod Worlds
+pub mod Acted
 pub mod Acts
 pub mod Sessions

@@ -1,18 +1,19 @@
 //! What an actor does, each kind of step by itself.
-ghost use Rattle.std.specs.Prelude.{◌≡◌, ℕ, ◌≤◌, ◌<◌, ◌∷◌, [], All, IfOk, None, OnErr, Some, length, map};
+ghost use Rattle.std.specs.Prelude.{◌≡◌, ℕ, ◌≤◌, ◌<◌, All, IfOk, None, OnErr, Some, length, map};
 ghost use Rattle.txc_registry.specs.Objects.{AllIdle, Objects};
 ghost use Rattle.txc_app.specs.Eval.{Next};
 ghost use Rattle.txc_rw.specs.Core.{IsOfCall};
 ghost use Rattle.txc_txn.specs.Core.{open_call, recorded_after, value_of, CoreHolds, IsAsking, IsCore, IsTurn};
 ghost use Rattle.txc_ports.specs.Turns.{IsAsk};
-ghost use Rattle.txc_world.specs.Actors.{counted, holds_any, story_of, AddsPart, DropsNone, HasAsked, HasBegun, IsActor, IsBegun, IsNoted, IsOpenTxn};
+ghost use Rattle.txc_world.specs.Acted.{IsActed};
+ghost use Rattle.txc_world.specs.Actors.{counted, holds_any, AddsPart, DropsNone, HasAsked, HasBegun, IsActor, IsBegun, IsNoted, IsOpenTxn};
 ghost use Rattle.txc_world.specs.Acts.{ActLeads, LeavingLeads, ReadingLeads, RestingLeads};
 ghost use Rattle.txc_world.specs.Cast.{actor_value, opened, reading_value};
-ghost use Rattle.txc_world.specs.Books.{account_of, account_of_core, nothing, ActCounts, HasLost, IsFair};
+ghost use Rattle.txc_world.specs.Books.{account_of_core, nothing, HasLost, IsFair};
 ghost use Rattle.txc_world.specs.Losing.{IfDidLose, IfTurnLost};
 ghost use Rattle.txc_world.specs.Parts.{IsPartOf};
 ghost use Rattle.txc_world.specs.Ports.{whole_of, KeepsRow};
-ghost use Rattle.txc_world.specs.Told.{act_in, did_in, idle, leaving, story_after, IsActDue, IsActReply, IsNoCommit, ReplyExplains};
+ghost use Rattle.txc_world.specs.Told.{did_in};
 
 use crate::actor::{Actor, OpenCall, OpenTxn};
 use crate::asked::{Asked, Went};
@@ -73,13 +74,9 @@ fn begin_ro<A: App, C: Cacheable>(
 ) -> (Actor<A, C>, Reply)
     requires idle { AllIdle registry }
     requires nodes { 1 ≤ length ports.old.nodes }
-    ensures fits { IsActor A.next (whole_of ports.new) (length ports.new.nodes) result.0 }
-    ensures told { story_of result.0 ≡ story_after (Act.BeginRo bounds) result.1 idle }
-    ensures due { IsActReply (Act.BeginRo bounds) idle result.1 }
+    ensures acted { IsActed A.next (Act.BeginRo bounds) ports.old ports.new (Actor.Idle registry) result.0 result.1 }
     ensures leads { RestingLeads renew_after (Act.BeginRo bounds) ports.old ports.new registry
         (actor_value result.0) result.1 }
-    ensures same { ports.new ≡ record ports.old { cushion = ports.new.cushion } }
-    ensures counts { ActCounts ports.old ports.new nothing (account_of result.0) result.1 }
 {
     match begun(alloc, ports, renew_after, bounds) {
         Ok(core) => {
@@ -97,19 +94,13 @@ fn start<A: App, C: Cacheable>(
     current: OpenTxn<A, C>,
     key: &Key,
 ) -> (Actor<A, C>, Reply)
-    requires { IsOpenTxn (whole_of whole.now) (length whole.now.nodes) current }
-    ensures fits { IsActor A.next (whole_of whole.now) (length whole.now.nodes) result.0 }
-    ensures told { story_of result.0
-        ≡ story_after (Act.Start key.now) result.1 (story_of (Actor.Reading current)) }
-    ensures due { IsActDue (story_of (Actor.Reading current)) (Act.Start key.now) result.1 }
+    requires fits { IsOpenTxn (whole_of whole.now) (length whole.now.nodes) current }
+    requires no_call { current.call ≡ None }
+    ensures acted { IsActed A.next (Act.Start key.now) whole.now whole.now (Actor.Reading current) result.0 result.1 }
     ensures leads { (next : Next) (pass : ℕ) → ReadingLeads next pass (Act.Start key.now) whole.now whole.now
         (reading_value current) (actor_value result.0) result.1 }
-    ensures counts { ActCounts whole.now whole.now (account_of (Actor.Reading current)) (account_of result.0) result.1 }
 {
     let mut current = current;
-    if current.call.is_some() {
-        return (Actor::Reading(current), Reply::Refused(Refusal::MidCall));
-    }
     let turn = current.txn.start(alloc, key.copy());
     current.call = Some(OpenCall {
         key: key.copy(),
@@ -199,15 +190,7 @@ fn request_call<A: App, C: Cacheable>(
 ) -> (Actor<A, C>, Reply)
     requires own { pass < ports.old.actors }
     requires fits { IsOpenTxn (whole_of ports.old) (length ports.old.nodes) current }
-    ensures fits { IsActor A.next (whole_of ports.new) (length ports.new.nodes) result.0 }
-    ensures told { story_of result.0 ≡ story_after Act.Request result.1 (story_of (Actor.Reading current)) }
-    ensures due { IsActDue (story_of (Actor.Reading current)) Act.Request result.1 }
-    ensures history { ports.new.database.history
-        ≡ act_in Act.Request result.1 (story_of (Actor.Reading current)) ports.old.database.history }
-    ensures keeps { KeepsRow ports.old ports.new }
-    ensures spare { ports.new.spare ≡ ports.old.spare }
-    ensures no_commit { IsNoCommit result.1 }
-    ensures counts { ActCounts ports.old ports.new (account_of (Actor.Reading current)) (account_of result.0) result.1 }
+    ensures acted { IsActed A.next Act.Request ports.old ports.new (Actor.Reading current) result.0 result.1 }
     ensures leads { ReadingLeads A.next pass Act.Request ports.old ports.new (reading_value current)
         (actor_value result.0) result.1 }
 {
@@ -246,14 +229,7 @@ fn leave<A: App, C: Cacheable>(
     stamp: Stamp,
 ) -> (Actor<A, C>, Reply)
     requires { AllIdle registry }
-    ensures fits { IsActor A.next (whole_of ports.new) (length ports.new.nodes) result.0 }
-    ensures told { story_of result.0 ≡ story_after Act.Request result.1 (leaving stamp) }
-    ensures due { IsActDue (leaving stamp) Act.Request result.1 }
-    ensures history { ports.new.database.history ≡ ports.old.database.history }
-    ensures keeps { KeepsRow ports.old ports.new }
-    ensures spare { ports.new.spare ≡ ports.old.spare }
-    ensures no_commit { IsNoCommit result.1 }
-    ensures counts { ActCounts ports.old ports.new (record { taken = []; own = stamp ∷ [] }) (account_of result.0) result.1 }
+    ensures acted { IsActed A.next Act.Request ports.old ports.new (Actor.Leaving registry stamp) result.0 result.1 }
     ensures leads { LeavingLeads Act.Request ports.old ports.new registry stamp (actor_value result.0) result.1 }
 {
     ports.count_right();
@@ -271,25 +247,14 @@ fn commit<A: App, C: Cacheable>(
     ports: &mut Ports<A>,
     current: OpenTxn<A, C>,
 ) -> (Actor<A, C>, Reply)
-    requires { IsOpenTxn (whole_of ports.old) (length ports.old.nodes) current }
-    ensures fits { IsActor A.next (whole_of ports.new) (length ports.new.nodes) result.0 }
-    ensures told { story_of result.0 ≡ story_after Act.Commit result.1 (story_of (Actor.Reading current)) }
-    ensures due { IsActDue (story_of (Actor.Reading current)) Act.Commit result.1 }
-    ensures explained { ReplyExplains A.next ports.new.database.history
-        (length ports.old.database.history) (story_of (Actor.Reading current)) result.1 }
-    ensures same { ports.new ≡ record ports.old { cushion = ports.new.cushion } }
+    requires fits { IsOpenTxn (whole_of ports.old) (length ports.old.nodes) current }
+    requires no_call { current.call ≡ None }
+    ensures acted { IsActed A.next Act.Commit ports.old ports.new (Actor.Reading current) result.0 result.1 }
     ensures leads { (next : Next) (pass : ℕ) → ReadingLeads next pass Act.Commit ports.old ports.new
         (reading_value current) (actor_value result.0) result.1 }
-    ensures counts { ActCounts ports.old ports.new (account_of (Actor.Reading current)) (account_of result.0) result.1 }
 {
     give_back_counts_users();
-    let OpenTxn { txn, call } = current;
-    if call.is_some() {
-        return (
-            Actor::Reading(OpenTxn { txn, call }),
-            Reply::Refused(Refusal::MidCall),
-        );
-    }
+    let OpenTxn { txn, call: _ } = current;
     let (receipt, pins, registry) = txn.finish();
     let _ = ports.give_back(&pins);
     (Actor::Idle(registry), Reply::Receipt(receipt.pin))
@@ -297,14 +262,9 @@ fn commit<A: App, C: Cacheable>(
 
 // Gives the transaction up, in the middle of a call too, and its pins back.
 fn abort<A: App, C: Cacheable>(ports: &mut Ports<A>, current: OpenTxn<A, C>) -> (Actor<A, C>, Reply)
-    ensures fits { IsActor A.next (whole_of ports.new) (length ports.new.nodes) result.0 }
-    ensures told { story_of result.0 ≡ story_after Act.Abort result.1 (story_of (Actor.Reading current)) }
-    ensures due { IsActDue (story_of (Actor.Reading current)) Act.Abort result.1 }
-    ensures same { ports.new ≡ record ports.old { cushion = ports.new.cushion } }
+    ensures acted { IsActed A.next Act.Abort ports.old ports.new (Actor.Reading current) result.0 result.1 }
     ensures leads { (next : Next) (pass : ℕ) → ReadingLeads next pass Act.Abort ports.old ports.new
         (reading_value current) (actor_value result.0) result.1 }
-    ensures no_commit { IsNoCommit result.1 }
-    ensures counts { ActCounts ports.old ports.new (account_of (Actor.Reading current)) (account_of result.0) result.1 }
 {
     give_back_counts_users();
     let (left, registry) = current.txn.cancel();
@@ -325,14 +285,7 @@ fn act_idle<A: App, C: Cacheable>(
 ) -> (Actor<A, C>, Reply)
     requires idle { AllIdle registry }
     requires nodes { 1 ≤ length ports.old.nodes }
-    ensures fits { IsActor A.next (whole_of ports.new) (length ports.new.nodes) result.0 }
-    ensures told { story_of result.0 ≡ story_after act.now result.1 idle }
-    ensures due { IsActDue idle act.now result.1 }
-    ensures history { ports.new.database.history ≡ ports.old.database.history }
-    ensures keeps { KeepsRow ports.old ports.new }
-    ensures spare { ports.new.spare ≡ ports.old.spare }
-    ensures no_commit { IsNoCommit result.1 }
-    ensures counts { ActCounts ports.old ports.new nothing (account_of result.0) result.1 }
+    ensures acted { IsActed A.next act.now ports.old ports.new (Actor.Idle registry) result.0 result.1 }
     ensures leads { RestingLeads renew_after act.now ports.old ports.new registry (actor_value result.0) result.1 }
 {
     match act {
@@ -352,16 +305,7 @@ fn act_open<A: App, C: Cacheable>(
 ) -> (Actor<A, C>, Reply)
     requires own { pass < ports.old.actors }
     requires fits { IsOpenTxn (whole_of ports.old) (length ports.old.nodes) current }
-    ensures fits { IsActor A.next (whole_of ports.new) (length ports.new.nodes) result.0 }
-    ensures told { story_of result.0 ≡ story_after act.now result.1 (story_of (Actor.Reading current)) }
-    ensures due { IsActDue (story_of (Actor.Reading current)) act.now result.1 }
-    ensures history { ports.new.database.history
-        ≡ act_in act.now result.1 (story_of (Actor.Reading current)) ports.old.database.history }
-    ensures explained { ReplyExplains A.next ports.new.database.history
-        (length ports.old.database.history) (story_of (Actor.Reading current)) result.1 }
-    ensures keeps { KeepsRow ports.old ports.new }
-    ensures spare { ports.new.spare ≡ ports.old.spare }
-    ensures counts { ActCounts ports.old ports.new (account_of (Actor.Reading current)) (account_of result.0) result.1 }
+    ensures acted { IsActed A.next act.now ports.old ports.new (Actor.Reading current) result.0 result.1 }
     ensures leads { ReadingLeads A.next pass act.now ports.old ports.new (reading_value current)
         (actor_value result.0) result.1 }
 {
@@ -371,10 +315,13 @@ fn act_open<A: App, C: Cacheable>(
             Reply::Refused(Refusal::AlreadyOpen),
         ),
         Act::Ask(_) | Act::Write(_) => (Actor::Reading(current), Reply::Refused(Refusal::NotOpen)),
-        Act::Start(key) => start(alloc, ports, current, key),
         Act::Request => request_call(alloc, ports, pass, current),
-        Act::Commit => commit(ports, current),
         Act::Abort => abort(ports, current),
+        Act::Start(_) | Act::Commit if current.call.is_some() => {
+            (Actor::Reading(current), Reply::Refused(Refusal::MidCall))
+        }
+        Act::Start(key) => start(alloc, ports, current, key),
+        Act::Commit => commit(ports, current),
     }
 }
 
@@ -386,14 +333,7 @@ fn act_leaving<A: App, C: Cacheable>(
     act: &Act,
 ) -> (Actor<A, C>, Reply)
     requires { AllIdle registry }
-    ensures fits { IsActor A.next (whole_of ports.new) (length ports.new.nodes) result.0 }
-    ensures told { story_of result.0 ≡ story_after act.now result.1 (leaving stamp) }
-    ensures due { IsActDue (leaving stamp) act.now result.1 }
-    ensures history { ports.new.database.history ≡ ports.old.database.history }
-    ensures keeps { KeepsRow ports.old ports.new }
-    ensures spare { ports.new.spare ≡ ports.old.spare }
-    ensures no_commit { IsNoCommit result.1 }
-    ensures counts { ActCounts ports.old ports.new (record { taken = []; own = stamp ∷ [] }) (account_of result.0) result.1 }
+    ensures acted { IsActed A.next act.now ports.old ports.new (Actor.Leaving registry stamp) result.0 result.1 }
     ensures leads { LeavingLeads act.now ports.old ports.new registry stamp (actor_value result.0) result.1 }
 {
     match act {
@@ -421,16 +361,7 @@ pub(crate) fn act<A: App, C: Cacheable>(
     requires own { pass < ports.old.actors }
     requires nodes { 1 ≤ length ports.old.nodes }
     requires fits { IsActor A.next (whole_of ports.old) (length ports.old.nodes) actor }
-    ensures fits { IsActor A.next (whole_of ports.new) (length ports.new.nodes) result.0 }
-    ensures told { story_of result.0 ≡ story_after act.now result.1 (story_of actor) }
-    ensures due { IsActDue (story_of actor) act.now result.1 }
-    ensures history { ports.new.database.history
-        ≡ act_in act.now result.1 (story_of actor) ports.old.database.history }
-    ensures explained { ReplyExplains A.next ports.new.database.history
-        (length ports.old.database.history) (story_of actor) result.1 }
-    ensures keeps { KeepsRow ports.old ports.new }
-    ensures spare { ports.new.spare ≡ ports.old.spare }
-    ensures counts { ActCounts ports.old ports.new (account_of actor) (account_of result.0) result.1 }
+    ensures acted { IsActed A.next act.now ports.old ports.new actor result.0 result.1 }
     ensures leads { ActLeads A.next renew_after pass act.now ports.old ports.new (actor_value actor)
         (actor_value result.0) result.1 }
 {

@@ -5,14 +5,13 @@ ghost use Rattle.txc_registry.specs.Objects.{AllIdle};
 ghost use Rattle.txc_rw.specs.declared.rw_core.TheConstants.{MAX_CHANGES};
 ghost use Rattle.txc_rw.specs.Core.{answers_after, IsIdle, IsOfCall, IsOfQuery, IsRw, IsTurn, IsWriteRefused, RwHolds};
 ghost use Rattle.txc_ports.specs.Turns.{IsAsk, IsCallEnd};
-ghost use Rattle.txc_world.specs.Actors.{asked_query, story_of, IsActor, IsEndOf, IsOpenRw, IsToldQuery};
-ghost use Rattle.txc_world.specs.Books.{account_of, nothing, ActCounts, HasLost};
+ghost use Rattle.txc_world.specs.Acted.{IsActed};
+ghost use Rattle.txc_world.specs.Actors.{asked_query, IsEndOf, IsOpenRw, IsToldQuery};
+ghost use Rattle.txc_world.specs.Books.{HasLost};
 ghost use Rattle.txc_world.specs.Losing.{IfDidLose, IfTurnLost};
-ghost use Rattle.txc_world.specs.Ports.{whole_of, KeepsRow};
 ghost use Rattle.txc_world.specs.Acts.{RestingLeads, WritingLeads};
 ghost use Rattle.txc_world.specs.Cast.{actor_value, writing_value};
 ghost use Rattle.txc_world.specs.Writing.{FindLeadsRw, HasAskedRw, IsRead};
-ghost use Rattle.txc_world.specs.Told.{act_in, idle, story_after, IsActDue, IsActReply, IsNoCommit, ReplyExplains};
 
 use crate::acting::note;
 use crate::actor::{Actor, OpenCall, OpenRw};
@@ -37,16 +36,9 @@ pub(crate) fn begin_rw<A: App, C: Cacheable>(
     registry: Registry<A, C>,
 ) -> (Actor<A, C>, Reply)
     requires { AllIdle registry }
-    ensures fits { IsActor A.next (whole_of ports.new) (length ports.new.nodes) result.0 }
-    ensures told { story_of result.0 ≡ story_after Act.BeginRw result.1 idle }
-    ensures due { IsActReply Act.BeginRw idle result.1 }
-    ensures history { ports.new.database.history ≡ ports.old.database.history }
-    ensures keeps { KeepsRow ports.old ports.new }
-    ensures spare { ports.new.spare ≡ ports.old.spare }
-    ensures no_commit { IsNoCommit result.1 }
+    ensures acted { IsActed A.next Act.BeginRw ports.old ports.new (Actor.Idle registry) result.0 result.1 }
     ensures leads { (renew_after : ℕ) → RestingLeads renew_after Act.BeginRw ports.old ports.new registry
         (actor_value result.0) result.1 }
-    ensures counts { ActCounts ports.old ports.new nothing (account_of result.0) result.1 }
 {
     transactions_stay_right();
     match ports.hold(alloc) {
@@ -73,19 +65,13 @@ fn start<A: App, C: Cacheable>(
     current: OpenRw<A, C>,
     key: &Key,
 ) -> (Actor<A, C>, Reply)
-    requires { IsOpenRw A.next whole.now.database.history current }
-    ensures fits { IsActor A.next (whole_of whole.now) (length whole.now.nodes) result.0 }
-    ensures told { story_of result.0
-        ≡ story_after (Act.Start key.now) result.1 (story_of (Actor.Writing current)) }
-    ensures due { IsActDue (story_of (Actor.Writing current)) (Act.Start key.now) result.1 }
+    requires fits { IsOpenRw A.next whole.now.database.history current }
+    requires no_call { current.call ≡ None }
+    ensures acted { IsActed A.next (Act.Start key.now) whole.now whole.now (Actor.Writing current) result.0 result.1 }
     ensures leads { WritingLeads A.next (Act.Start key.now) whole.now whole.now (writing_value current)
         (actor_value result.0) result.1 }
-    ensures counts { ActCounts whole.now whole.now (account_of (Actor.Writing current)) (account_of result.0) result.1 }
 {
     let mut current = current;
-    if current.call.is_some() {
-        return (Actor::Writing(current), Reply::Refused(Refusal::MidCall));
-    }
     let turn = current.core.start(alloc, &mut current.registry, key.copy());
     current.call = Some(OpenCall {
         key: key.copy(),
@@ -175,14 +161,9 @@ fn request<A: App, C: Cacheable>(
     current: OpenRw<A, C>,
 ) -> (Actor<A, C>, Reply)
     requires { IsOpenRw A.next ports.old.database.history current }
-    ensures fits { IsActor A.next (whole_of ports.new) (length ports.new.nodes) result.0 }
-    ensures told { story_of result.0 ≡ story_after Act.Request result.1 (story_of (Actor.Writing current)) }
-    ensures due { IsActDue (story_of (Actor.Writing current)) Act.Request result.1 }
-    ensures same { ports.new ≡ ports.old }
-    ensures no_commit { IsNoCommit result.1 }
+    ensures acted { IsActed A.next Act.Request ports.old ports.new (Actor.Writing current) result.0 result.1 }
     ensures leads { WritingLeads A.next Act.Request ports.old ports.new (writing_value current)
         (actor_value result.0) result.1 }
-    ensures counts { ActCounts ports.old ports.new (account_of (Actor.Writing current)) (account_of result.0) result.1 }
 {
     let OpenRw {
         mut core,
@@ -266,20 +247,12 @@ fn ask<A: App, C: Cacheable>(
     current: OpenRw<A, C>,
     query: &Query,
 ) -> (Actor<A, C>, Reply)
-    requires { IsOpenRw A.next ports.old.database.history current }
-    ensures fits { IsActor A.next (whole_of ports.new) (length ports.new.nodes) result.0 }
-    ensures told { story_of result.0
-        ≡ story_after (Act.Ask query.now) result.1 (story_of (Actor.Writing current)) }
-    ensures due { IsActDue (story_of (Actor.Writing current)) (Act.Ask query.now) result.1 }
-    ensures same { ports.new ≡ ports.old }
-    ensures no_commit { IsNoCommit result.1 }
+    requires fits { IsOpenRw A.next ports.old.database.history current }
+    requires no_call { current.call ≡ None }
+    ensures acted { IsActed A.next (Act.Ask query.now) ports.old ports.new (Actor.Writing current) result.0 result.1 }
     ensures leads { WritingLeads A.next (Act.Ask query.now) ports.old ports.new (writing_value current)
         (actor_value result.0) result.1 }
-    ensures counts { ActCounts ports.old ports.new (account_of (Actor.Writing current)) (account_of result.0) result.1 }
 {
-    if current.call.is_some() {
-        return (Actor::Writing(current), Reply::Refused(Refusal::MidCall));
-    }
     let OpenRw {
         mut core,
         mut registry,
@@ -316,19 +289,13 @@ fn write<A: App, C: Cacheable>(
     current: OpenRw<A, C>,
     change: &Change,
 ) -> (Actor<A, C>, Reply)
-    requires { IsOpenRw A.next whole.now.database.history current }
-    ensures fits { IsActor A.next (whole_of whole.now) (length whole.now.nodes) result.0 }
-    ensures told { story_of result.0
-        ≡ story_after (Act.Write change.now) result.1 (story_of (Actor.Writing current)) }
-    ensures due { IsActDue (story_of (Actor.Writing current)) (Act.Write change.now) result.1 }
+    requires fits { IsOpenRw A.next whole.now.database.history current }
+    requires no_call { current.call ≡ None }
+    ensures acted { IsActed A.next (Act.Write change.now) whole.now whole.now (Actor.Writing current) result.0 result.1 }
     ensures leads { WritingLeads A.next (Act.Write change.now) whole.now whole.now (writing_value current)
         (actor_value result.0) result.1 }
-    ensures counts { ActCounts whole.now whole.now (account_of (Actor.Writing current)) (account_of result.0) result.1 }
 {
     let mut current = current;
-    if current.call.is_some() {
-        return (Actor::Writing(current), Reply::Refused(Refusal::MidCall));
-    }
     match keep_change(alloc, &mut current.core, change) {
         Ok(()) => (Actor::Writing(current), Reply::Kept),
         Err(error) => (
@@ -345,27 +312,16 @@ fn commit<A: App, C: Cacheable>(
     ports: &mut Ports<A>,
     current: OpenRw<A, C>,
 ) -> (Actor<A, C>, Reply)
-    requires { IsOpenRw A.next ports.old.database.history current }
-    ensures fits { IsActor A.next (whole_of ports.new) (length ports.new.nodes) result.0 }
-    ensures told { story_of result.0 ≡ story_after Act.Commit result.1 (story_of (Actor.Writing current)) }
-    ensures due { IsActDue (story_of (Actor.Writing current)) Act.Commit result.1 }
-    ensures history { ports.new.database.history
-        ≡ act_in Act.Commit result.1 (story_of (Actor.Writing current)) ports.old.database.history }
-    ensures explained { ReplyExplains A.next ports.new.database.history
-        (length ports.old.database.history) (story_of (Actor.Writing current)) result.1 }
-    ensures keeps { KeepsRow ports.old ports.new }
-    ensures spare { ports.new.spare ≡ ports.old.spare }
+    requires fits { IsOpenRw A.next ports.old.database.history current }
+    requires no_call { current.call ≡ None }
+    ensures acted { IsActed A.next Act.Commit ports.old ports.new (Actor.Writing current) result.0 result.1 }
     ensures leads { WritingLeads A.next Act.Commit ports.old ports.new (writing_value current)
         (actor_value result.0) result.1 }
-    ensures counts { ActCounts ports.old ports.new (account_of (Actor.Writing current)) (account_of result.0) result.1 }
 {
     answers_are_right();
     transactions_stay_right();
     states_stay();
     let mut current = current;
-    if current.call.is_some() {
-        return (Actor::Writing(current), Reply::Refused(Refusal::MidCall));
-    }
     let base = current.core.base();
     let read = current.core.tags();
     let changes = current.core.changes();
@@ -384,12 +340,9 @@ fn commit<A: App, C: Cacheable>(
 // Gives the transaction up, in the middle of a call too.
 fn abort<A: App, C: Cacheable>(whole: &Ports<A>, current: OpenRw<A, C>) -> (Actor<A, C>, Reply)
     requires { IsOpenRw A.next whole.now.database.history current }
-    ensures fits { IsActor A.next (whole_of whole.now) (length whole.now.nodes) result.0 }
-    ensures told { story_of result.0 ≡ story_after Act.Abort result.1 (story_of (Actor.Writing current)) }
-    ensures due { IsActDue (story_of (Actor.Writing current)) Act.Abort result.1 }
+    ensures acted { IsActed A.next Act.Abort whole.now whole.now (Actor.Writing current) result.0 result.1 }
     ensures leads { WritingLeads A.next Act.Abort whole.now whole.now (writing_value current)
         (actor_value result.0) result.1 }
-    ensures counts { ActCounts whole.now whole.now (account_of (Actor.Writing current)) (account_of result.0) result.1 }
 {
     let mut current = current;
     let base = current.core.base();
@@ -408,16 +361,7 @@ pub(crate) fn act_writing<A: App, C: Cacheable>(
     act: &Act,
 ) -> (Actor<A, C>, Reply)
     requires { IsOpenRw A.next ports.old.database.history current }
-    ensures fits { IsActor A.next (whole_of ports.new) (length ports.new.nodes) result.0 }
-    ensures told { story_of result.0 ≡ story_after act.now result.1 (story_of (Actor.Writing current)) }
-    ensures due { IsActDue (story_of (Actor.Writing current)) act.now result.1 }
-    ensures history { ports.new.database.history
-        ≡ act_in act.now result.1 (story_of (Actor.Writing current)) ports.old.database.history }
-    ensures explained { ReplyExplains A.next ports.new.database.history
-        (length ports.old.database.history) (story_of (Actor.Writing current)) result.1 }
-    ensures keeps { KeepsRow ports.old ports.new }
-    ensures spare { ports.new.spare ≡ ports.old.spare }
-    ensures counts { ActCounts ports.old ports.new (account_of (Actor.Writing current)) (account_of result.0) result.1 }
+    ensures acted { IsActed A.next act.now ports.old ports.new (Actor.Writing current) result.0 result.1 }
     ensures leads { WritingLeads A.next act.now ports.old ports.new (writing_value current)
         (actor_value result.0) result.1 }
 {
@@ -426,11 +370,14 @@ pub(crate) fn act_writing<A: App, C: Cacheable>(
             Actor::Writing(current),
             Reply::Refused(Refusal::AlreadyOpen),
         ),
-        Act::Start(key) => start(alloc, ports, current, key),
         Act::Request => request(alloc, ports, current),
+        Act::Abort => abort(ports, current),
+        Act::Start(_) | Act::Ask(_) | Act::Write(_) | Act::Commit if current.call.is_some() => {
+            (Actor::Writing(current), Reply::Refused(Refusal::MidCall))
+        }
+        Act::Start(key) => start(alloc, ports, current, key),
         Act::Ask(query) => ask(alloc, ports, current, query),
         Act::Write(change) => write(alloc, ports, current, change),
         Act::Commit => commit(alloc, ports, current),
-        Act::Abort => abort(ports, current),
     }
 }

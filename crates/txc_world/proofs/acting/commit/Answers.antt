@@ -1,39 +1,15 @@
-use Rattle.std.proofs.Common.{ℕ, List, ap, refl, subst, sym}
+use Rattle.std.proofs.Common.{ℕ, List, ap, subst, sym, ◌∙◌, [], arith, rules}
 use Rattle.txc_txn.specs.Core.{Explains}
 use Rattle.txc_world.specs.Ports.{PortsValue}
 use Rattle.txc_world.proofs.Explaining.{explained_later}
-use Rattle.std.proofs.Common.{◌∙◌, [], arith}
-use Rattle.txc_world.specs.Books.{account_of_core}
-use Rattle.txc_world.proofs.Fairness.{counts_itself, fair_ended}
+use Rattle.txc_world.proofs.Fairness.{fair_ended}
 use Rattle.txc_world.specs.declared.reply.Reply.TheVariants.{Receipt}
-use Rattle.txc_world.specs.Cast.{call_value, resting}
+use Rattle.txc_world.specs.Cast.{resting}
 use Rattle.txc_world.specs.Keeping.{GiveBackLeads}
-use Rattle.txc_world.proofs.Leading.{with_call, without_call}
 use Rattle.txc_world.proofs.acting.commit.Goals as goal
 
-pub returns-clause-explained : goal.returns-clause-explained
-returns-clause-explained g c =
-    let explained = rw (c.finish-receipt.ensures.seen, c.finish-receipt.ensures.answers) at c.finish-receipt.ensures.explained in
-    subst (λ (p : PortsValue). Explains g.A.App.next p.database.history c.args.current.txn.core.bounds c.finish-receipt.result.0.pin c.args.current.txn.core.recorded)
-    (sym c.give_back.ensures.same)
-    (explained_later g.A.App.next c.args.current.txn.core.seen.history c.args.ports.now.database.history
-    c.args.current.txn.core.bounds c.finish-receipt.result.0.pin c.args.current.txn.core.recorded c.requires.seen.begins explained)
-
-pub returns-then-is_some-clause-counts : goal.returns-then-is_some-clause-counts
-returns-then-is_some-clause-counts g c = counts_itself c.args.ports.now (account_of_core c.args.current.txn.core) _ tt
-
-pub returns-clause-counts : goal.returns-clause-counts
-returns-clause-counts g c = record {
-  fair = fair_ended c.args.ports.now c.give_back.new.self c.args.current.txn.core _ c.give_back.result c.give_back_counts_users.ensures c.give_back.ensures.leads
-      (c.deref.ensures.value ∙ c.finish-receipt.ensures.give_back) [] (λ t. omega arith);
-  loss = tt;
-}
-
-pub returns-then-is_some-clause-leads : goal.returns-then-is_some-clause-leads
-returns-then-is_some-clause-leads g c = λ next pass. with_call call_value _ _ c.args.current.call (sym c.is_some.ensures ∙ c.if-is_some.true) (λ call. (refl, refl))
-
 pub returns-clause-leads : goal.returns-clause-leads
-returns-clause-leads g c = λ next pass. without_call call_value _ _ c.args.current.call (sym c.is_some.ensures ∙ c.if-is_some.false) (
+returns-clause-leads g c = λ next pass. rw c.requires.no_call (
   (
     c.give_back.result,
     subst (λ (l : List ℕ). GiveBackLeads l c.args.ports.now c.give_back.new.self c.give_back.result)
@@ -42,3 +18,15 @@ returns-clause-leads g c = λ next pass. without_call call_value _ _ c.args.curr
   ap resting c.finish-receipt.ensures.registry,
   ap Receipt c.finish-receipt.ensures.pin,
 )
+
+pub returns-clause-acted : goal.returns-clause-acted
+returns-clause-acted g c =
+    let explained = rw (c.finish-receipt.ensures.seen, c.finish-receipt.ensures.answers) at c.finish-receipt.ensures.explained in
+    let later =
+    subst (λ (p : PortsValue). Explains g.A.App.next p.database.history c.args.current.txn.core.bounds c.finish-receipt.result.0.pin c.args.current.txn.core.recorded)
+    (sym c.give_back.ensures.same)
+    (explained_later g.A.App.next c.args.current.txn.core.seen.history c.args.ports.now.database.history
+    c.args.current.txn.core.bounds c.finish-receipt.result.0.pin c.args.current.txn.core.recorded c.requires.fits.seen.begins explained) in
+    let fair = fair_ended c.args.ports.now c.give_back.new.self c.args.current.txn.core _ c.give_back.result c.give_back_counts_users.ensures c.give_back.ensures.leads
+    (c.deref.ensures.value ∙ c.finish-receipt.ensures.give_back) [] (λ t. omega arith) in
+    search (rules, c.requires.no_call, later, fair)

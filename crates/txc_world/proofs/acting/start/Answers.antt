@@ -1,38 +1,19 @@
-use Rattle.std.proofs.Common.{Some, refl, ap, sym, subst, ◌∙◌}
+use Rattle.std.proofs.Common.{Some, refl, ap, sym, subst, ◌∙◌, rules}
 use Rattle.txc_tags.specs.Keys.{Call}
 use Rattle.txc_txn.specs.Leading.{StartLeads}
-use Rattle.txc_world.specs.Cast.{call_value, called, reads}
-use Rattle.txc_world.proofs.Leading.{with_call, without_call}
+use Rattle.txc_world.specs.Cast.{called, opened, reads}
+use Rattle.txc_world.specs.Actors.{IsOpenCall}
 use Rattle.txc_db.specs.Seen.{FrontValue}
 use Rattle.txc_txn.specs.Core.{CoreValue}
 use Rattle.txc_txn.proofs.Offered.{adds_none}
 use Rattle.txc_world.specs.Parts.{IsPartOf}
 use Rattle.txc_world.specs.Ports.{whole_of}
 use Rattle.txc_world.proofs.Losing.{none_left, start_not_lost}
+use Rattle.txc_world.proofs.PortsLemmas.{keeps_itself}
 use Rattle.txc_world.proofs.acting.start.Goals as goal
 
-pub returns-clause-fits : goal.returns-clause-fits
-returns-clause-fits g c =
-    let same = c.start-turn.ensures.same in
-    record {
-      seen = subst (λ (f : FrontValue). IsPartOf (whole_of c.args.whole.now) f) (sym (ap (λ (v : CoreValue). v.seen) same)) c.requires.seen;
-      nodes = ap (λ (v : CoreValue). v.nodes) same ∙ c.requires.nodes;
-      call = record {
-        turn = c.start-turn.ensures.turn_fits;
-        no_value = c.start-turn.ensures.no_value;
-        key = λ asks. c.start-turn.ensures.begins asks ∙ ap Some (c.copy.ensures ∙ sym c.copy-2.ensures);
-        adds = adds_none (IsPartOf (whole_of c.args.whole.now)) c.start-turn.result c.start-turn.ensures.no_add;
-        not_lost = start_not_lost ⊥ c.start-turn.new.self.core c.start-turn.new.self.objects c.start-turn.result c.args.current.txn.core c.args.current.txn.objects
-            c.copy.result c.start-turn.ensures.leads;
-        drops = none_left c.start-turn.new.self.core c.start-turn.ensures.left;
-      };
-    }
-
-pub returns-then-is_some-clause-leads : goal.returns-then-is_some-clause-leads
-returns-then-is_some-clause-leads g c = λ next pass. with_call call_value _ _ c.args.current.call (sym c.is_some.ensures ∙ c.if-is_some.true) (λ call. (refl, refl))
-
 pub returns-clause-leads : goal.returns-clause-leads
-returns-clause-leads g c = λ next pass. without_call call_value _ _ c.args.current.call (sym c.is_some.ensures ∙ c.if-is_some.false) (
+returns-clause-leads g c = λ next pass. rw c.requires.no_call (
   refl,
   record {
     txn = c.start-turn.new.self;
@@ -42,3 +23,19 @@ returns-clause-leads g c = λ next pass. without_call call_value _ _ c.args.curr
     same = c.start-turn.ensures.same;
   },
 )
+
+pub returns-clause-acted : goal.returns-clause-acted
+returns-clause-acted g c =
+    let same = c.start-turn.ensures.same in
+    let seen = subst (λ (f : FrontValue). IsPartOf (whole_of c.args.whole.now) f) (sym (ap (λ (v : CoreValue). v.seen) same)) c.requires.fits.seen in
+    let nodes = ap (λ (v : CoreValue). v.nodes) same ∙ c.requires.fits.nodes in
+    let call : IsOpenCall (whole_of c.args.whole.now) c.start-turn.new.self.core (opened c.copy-2.result c.start-turn.result) = record {
+      turn = c.start-turn.ensures.turn_fits;
+      no_value = c.start-turn.ensures.no_value;
+      key = λ asks. c.start-turn.ensures.begins asks ∙ ap Some (c.copy.ensures ∙ sym c.copy-2.ensures);
+      adds = adds_none (IsPartOf (whole_of c.args.whole.now)) c.start-turn.result c.start-turn.ensures.no_add;
+      not_lost = start_not_lost ⊥ c.start-turn.new.self.core c.start-turn.new.self.objects c.start-turn.result c.args.current.txn.core c.args.current.txn.objects
+          c.copy.result c.start-turn.ensures.leads;
+      drops = none_left c.start-turn.new.self.core c.start-turn.ensures.left;
+    } in
+    search (rules, c.requires.no_call, keeps_itself, seen, nodes, call)

@@ -1,13 +1,16 @@
-use Rattle.std.proofs.Common.{ℕ, sym, subst}
-use Rattle.txc_world.specs.declared.reply.Reply.TheVariants.{Based}
+use Rattle.std.proofs.Common.{ℕ, sym, subst, rules}
+use Rattle.txc_world.specs.declared.reply.Reply.TheVariants.{Based, Refused}
 use Rattle.txc_world.specs.Books.{nothing, ActCounts}
 use Rattle.txc_world.proofs.WritingCounts.{based, counts_begun, counts_unchanged}
+use Rattle.txc_world.specs.declared.reply.Refusal.TheVariants.{Database}
 use Rattle.txc_world.proofs.writing.begin_rw.Goals as goal
 
-pub returns-in-Ok-clause-counts : goal.returns-in-Ok-clause-counts
-returns-in-Ok-clause-counts g c =
-    subst (λ (b : ℕ). ActCounts c.args.ports.now c.hold.new.self nothing (based b) (Based c.in-Ok.base)) (sym c.begin-core.ensures.at_base)
-    (counts_begun c.args.ports.now c.hold.new.self c.in-Ok.base c.in-Ok.ensures.leads)
+pub returns-in-Ok-clause-acted : goal.returns-in-Ok-clause-acted
+returns-in-Ok-clause-acted g c =
+    let counts = subst (λ (b : ℕ). ActCounts c.args.ports.now c.hold.new.self nothing (based b) (Based c.in-Ok.base)) (sym c.begin-core.ensures.at_base)
+    (counts_begun c.args.ports.now c.hold.new.self c.in-Ok.base c.in-Ok.ensures.leads) in
+    search (rules, counts)
 
-pub returns-in-Err-clause-counts : goal.returns-in-Err-clause-counts
-returns-in-Err-clause-counts g c = counts_unchanged c.args.ports.now c.hold.new.self nothing _ c.in-Err.ensures.leads.0 tt
+pub returns-in-Err-clause-acted : goal.returns-in-Err-clause-acted
+returns-in-Err-clause-acted g c =
+    search (rules, counts_unchanged c.args.ports.now c.hold.new.self nothing (Refused (Database c.in-Err.refusal)) c.in-Err.ensures.leads.0 tt)

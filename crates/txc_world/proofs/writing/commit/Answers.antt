@@ -1,48 +1,45 @@
-use Rattle.std.proofs.Common.{refl, sym, ◌∙◌}
+use Rattle.std.proofs.Common.{ap, refl, sym, rules, arith}
+use Rattle.std.proofs.lemmas.Grind.{common_steps}
+use Rattle.txc_world.specs.Told.{leaving}
+use Rattle.txc_world.specs.Ports.{PortsValue}
 use Rattle.txc_world.proofs.CommitLemmas.{explained_lent, explained_open}
-use Rattle.txc_world.proofs.WritingLemmas.{none_by_test}
-use Rattle.txc_world.proofs.WritingCounts.{based, fair_commit, fair_not_committed}
-use Rattle.txc_world.proofs.Fairness.{counts_itself}
-use Rattle.txc_world.specs.Cast.{call_value}
-use Rattle.txc_world.proofs.Leading.{with_call, without_call}
+use Rattle.txc_world.proofs.WritingCounts.{fair_commit, fair_not_committed}
 use Rattle.txc_world.proofs.writing.commit.Goals as goal
 
-pub returns-in-Ok-clause-explained : goal.returns-in-Ok-clause-explained
-returns-in-Ok-clause-explained g c =
-    explained_open g.A.App.next c.commit.new.self.database.history _ c.args.current.core c.in-Ok.stamp c.args.current.call
-    (none_by_test c.args.current.call (sym c.is_some.ensures ∙ c.if-is_some.false))
-    (explained_lent g.A.App.next c.args.current.registry c.args.current.core c.args.ports.now.database c.requires.holds
-    c.answers_are_right.ensures.base c.answers_are_right.ensures.quiet c.answers_are_right.ensures.event c.transactions_stay_right.ensures.longer
-    c.states_stay.ensures.states c.states_stay.ensures.tags
-    c.args.ports.now c.commit.new.self c.base-base.result c.tags-read.result.now c.changes-changes.result.now c.in-Ok.stamp refl c.in-Ok.ensures.leads
-    c.base-base.ensures c.tags-read.ensures c.changes-changes.ensures.answer)
-
-pub returns-then-is_some-clause-counts : goal.returns-then-is_some-clause-counts
-returns-then-is_some-clause-counts g c = counts_itself c.args.ports.now (based c.args.current.core.base) _ tt
-
-pub returns-in-Ok-clause-counts : goal.returns-in-Ok-clause-counts
-returns-in-Ok-clause-counts g c = record {
-  fair = fair_commit c.args.ports.now c.commit.new.self c.base-base.result c.args.current.core.base c.base-base.result c.in-Ok.stamp _ _ c.in-Ok.ensures.leads c.base-base.ensures;
-  loss = tt;
-}
-
-pub returns-in-Err-clause-counts : goal.returns-in-Err-clause-counts
-returns-in-Err-clause-counts g c = record {
-  fair = fair_not_committed c.args.ports.now c.commit.new.self c.base-base.result c.args.current.core.base _ _ c.in-Err.refusal c.in-Err.ensures.leads;
-  loss = tt;
-}
-
-pub returns-then-is_some-clause-leads : goal.returns-then-is_some-clause-leads
-returns-then-is_some-clause-leads g c = with_call call_value _ _ c.args.current.call (sym c.is_some.ensures ∙ c.if-is_some.true) (λ call. (refl, refl))
-
 pub returns-in-Ok-clause-leads : goal.returns-in-Ok-clause-leads
-returns-in-Ok-clause-leads g c = without_call call_value _ _ c.args.current.call (sym c.is_some.ensures ∙ c.if-is_some.false) (
+returns-in-Ok-clause-leads g c = rw c.requires.no_call (
   rw (sym c.base-base.ensures, sym c.tags-read.ensures, sym c.changes-changes.ensures.answer) c.in-Ok.ensures.leads,
   (c.cancel-unpin.ensures.idle, c.cancel-unpin.ensures.functions, c.base-base.ensures),
 )
 
 pub returns-in-Err-clause-leads : goal.returns-in-Err-clause-leads
-returns-in-Err-clause-leads g c = without_call call_value _ _ c.args.current.call (sym c.is_some.ensures ∙ c.if-is_some.false) (
+returns-in-Err-clause-leads g c = rw c.requires.no_call (
   rw (sym c.base-base.ensures, sym c.tags-read.ensures, sym c.changes-changes.ensures.answer) c.in-Err.ensures.leads,
   refl,
 )
+
+pub returns-in-Ok-clause-acted : goal.returns-in-Ok-clause-acted
+returns-in-Ok-clause-acted g c =
+    let explained =
+    explained_open g.A.App.next c.commit.new.self.database.history _ c.args.current.core c.in-Ok.stamp c.args.current.call c.requires.no_call
+    (explained_lent g.A.App.next c.args.current.registry c.args.current.core c.args.ports.now.database c.requires.fits.holds
+    c.answers_are_right.ensures.base c.answers_are_right.ensures.quiet c.answers_are_right.ensures.event c.transactions_stay_right.ensures.longer
+    c.states_stay.ensures.states c.states_stay.ensures.tags
+    c.args.ports.now c.commit.new.self c.base-base.result c.tags-read.result.now c.changes-changes.result.now c.in-Ok.stamp refl c.in-Ok.ensures.leads
+    c.base-base.ensures c.tags-read.ensures c.changes-changes.ensures.answer) in
+    let fair = fair_commit c.args.ports.now c.commit.new.self c.base-base.result c.args.current.core.base c.base-base.result c.in-Ok.stamp _ _ c.in-Ok.ensures.leads c.base-base.ensures in
+    record {
+      fits = c.cancel-unpin.ensures.idle;
+      told = ap leaving c.base-base.ensures;
+      history = grind (arith, common_steps);
+      due = rw c.requires.no_call tt;
+      explained = explained;
+      keeps = c.in-Ok.ensures.keeps;
+      spare = ap (λ (p : PortsValue). p.spare) c.in-Ok.ensures.leads.0;
+      counts = record { fair = fair; loss = tt };
+    }
+
+pub returns-in-Err-clause-acted : goal.returns-in-Err-clause-acted
+returns-in-Err-clause-acted g c =
+    let fair = fair_not_committed c.args.ports.now c.commit.new.self c.base-base.result c.args.current.core.base _ _ c.in-Err.refusal c.in-Err.ensures.leads in
+    search (rules, c.requires.no_call, fair)

@@ -1,9 +1,8 @@
-use Rattle.std.proofs.Common.{◌≡◌, List, Some, ap, subst, sym, ◌∙◌}
+use Rattle.std.proofs.Common.{◌≡◌, List, Some, ap, subst, sym, ◌∙◌, ℕ}
 use Rattle.txc_rows.specs.declared.query.Query.{Query}
 use Rattle.txc_rw.specs.Core.{queried_after, RwValue}
 use Rattle.txc_world.specs.Writing.{FindLeadsRw, IsRead}
 use Rattle.txc_world.proofs.WritingLemmas.{answered_at, asks_it, asks_query, found_leads, found_read, found_same, idle_after, is_ask, of_query, queried_so, right_answer}
-use Rattle.std.proofs.Common.{ℕ}
 use Rattle.txc_world.specs.Books.{HasLost}
 use Rattle.txc_world.specs.Losing.{IfTurnLost}
 use Rattle.txc_world.proofs.WritingCounts.{based, loss_asked, loss_found}

@@ -1,4 +1,4 @@
-use Rattle.std.proofs.Common.{Option, refl, ap, sym, ◌∙◌}
+use Rattle.std.proofs.Common.{Option, refl, ap, sym, ◌∙◌, rules}
 use Rattle.std.specs.Option.{option_map}
 use Rattle.txc_world.specs.declared.actor.OpenCall.{OpenCall}
 use Rattle.txc_world.specs.Cast.{call_value, called, opened}
@@ -6,17 +6,9 @@ use Rattle.txc_world.proofs.Leading.{noted_seen, some_there}
 use Rattle.txc_world.specs.Books.{HasLost}
 use Rattle.txc_world.proofs.Losing.{noted_lost}
 use Rattle.txc_world.proofs.WritingCounts.{asked_lost, based, counts_based}
+use Rattle.txc_world.specs.declared.reply.Reply.TheVariants.{Asked}
+use Rattle.txc_world.proofs.PortsLemmas.{keeps_same}
 use Rattle.txc_world.proofs.writing.request.Goals as goal
-
-pub returns-clause-counts : goal.returns-clause-counts
-returns-clause-counts g c =
-    let loss = c.go_on-did.ensures.loss in
-    counts_based c.args.ports.now c.go_on-did.new.ports c.args.current.core.base c.go_on-did.new.core.base _ c.go_on-did.ensures.same_ports c.go_on-did.ensures.base (
-      loss,
-      noted_lost (HasLost c.args.ports.now (based c.args.current.core.base)) (opened c.in-Some.field-0.key) c.go_on-did.result.turn c.note-call.result.0 c.note-call.result.1 c.note-call.ensures
-          (asked_lost (HasLost c.args.ports.now (based c.args.current.core.base)) g.A.App.next c.in-Some-asked.query c.args.ports.now c.args.current.core c.go_on-did.new.core
-          c.args.current.registry c.go_on-did.new.registry c.go_on-did.result.did c.go_on-did.result.turn c.go_on-did.ensures.asks loss),
-    )
 
 pub returns-clause-leads : goal.returns-clause-leads
 returns-clause-leads g c =
@@ -35,3 +27,16 @@ returns-clause-leads g c =
         noted = noted_seen call_value (opened c.in-Some.field-0.key) c.go_on-did.result.turn c.note-call.result.0 c.note-call.result.1 c.note-call.ensures;
       }),
     )
+
+pub returns-clause-acted : goal.returns-clause-acted
+returns-clause-acted g c =
+    let lost = HasLost c.args.ports.now (based c.args.current.core.base) in
+    let loss = c.go_on-did.ensures.loss in
+    let counts = counts_based c.args.ports.now c.go_on-did.new.ports c.args.current.core.base c.go_on-did.new.core.base (Asked c.go_on-did.result.did c.note-call.result.1)
+    c.go_on-did.ensures.same_ports c.go_on-did.ensures.base (
+      loss,
+      noted_lost lost (opened c.in-Some.field-0.key) c.go_on-did.result.turn c.note-call.result.0 c.note-call.result.1 c.note-call.ensures
+          (asked_lost lost g.A.App.next c.in-Some-asked.query c.args.ports.now c.args.current.core c.go_on-did.new.core
+          c.args.current.registry c.go_on-did.new.registry c.go_on-did.result.did c.go_on-did.result.turn c.go_on-did.ensures.asks loss),
+    ) in
+    search (rules, keeps_same, counts)

@@ -10,7 +10,7 @@ pub invariant_of-self : goal.invariant_of-self
 invariant_of-self g c =
     rw (c.note.ensures, c.put_back.ensures, c.take_out.ensures.after)
     (world_acts c.transactions_stay_right.ensures.longer g.A.App.next c.self.inside.settings c.self.inside.ports c.act-actor.new.ports
-    c.self.inside.sessions.items c.self.inside.actors.items c.args.place _ c.act-actor.result.0 c.self.invariant c.act-actor.ensures.keeps c.act-actor.ensures.fits)
+    c.self.inside.sessions.items c.self.inside.actors.items c.args.place _ c.act-actor.result.0 c.self.invariant c.act-actor.ensures.acted.keeps c.act-actor.ensures.acted.fits)
 
 pub returns-clause-told : goal.returns-clause-told
 returns-clause-told g c =
@@ -19,26 +19,26 @@ returns-clause-told g c =
     c.act-actor.new.ports c.note.new.sessions.items c.put_back.new.actors.items c.act-actor.result.0 c.args.doing.now c.act-actor.result.1 c.args.self.now.told
     c.note.ensures
     (c.put_back.ensures ∙ ap (λ (l : List (Option (Actor g.row.A.Denot g.row.C.Denot))). slice_set l c.args.place (Some c.act-actor.result.0)) c.take_out.ensures.after)
-    c.act-actor.ensures.told c.act-actor.ensures.history c.act-actor.ensures.spare (ap (λ (w : WorldValue). w.told) c.self.view_is)
+    c.act-actor.ensures.acted.told c.act-actor.ensures.acted.history c.act-actor.ensures.acted.spare (ap (λ (w : WorldValue). w.told) c.self.view_is)
 
 pub returns-clause-due : goal.returns-clause-due
 returns-clause-due g c =
     due_act c.self.inside.settings c.self.inside.ports c.self.inside.sessions.items c.self.inside.actors.items c.args.place c.in-Some.actor
-    (c.take_out.ensures.actor ∙ ap Some c.in-Some.is) c.args.doing.now c.act-actor.result.1 c.args.self.now.told c.act-actor.ensures.due
+    (c.take_out.ensures.actor ∙ ap Some c.in-Some.is) c.args.doing.now c.act-actor.result.1 c.args.self.now.told c.act-actor.ensures.acted.due
     (ap (λ (w : WorldValue). w.told) c.self.view_is)
 
 pub returns-clause-explained : goal.returns-clause-explained
 returns-clause-explained g c =
     explained_act c.self.inside.settings c.self.inside.ports c.self.inside.sessions.items c.self.inside.actors.items c.args.place c.in-Some.actor
     (c.take_out.ensures.actor ∙ ap Some c.in-Some.is) g.A.App.next c.act-actor.new.ports c.args.doing.now c.act-actor.result.1 c.args.self.now.told
-    c.act-actor.ensures.explained (ap (λ (w : WorldValue). w.told) c.self.view_is)
+    c.act-actor.ensures.acted.explained (ap (λ (w : WorldValue). w.told) c.self.view_is)
 
 pub returns-clause-balanced : goal.returns-clause-balanced
 returns-clause-balanced g c = λ purse h.
     world_balanced c.self.inside.settings c.self.inside.ports c.act-actor.new.ports c.self.inside.sessions.items c.note.new.sessions.items c.self.inside.actors.items c.args.place c.in-Some.actor c.act-actor.result.0
     (c.take_out.ensures.actor ∙ ap Some c.in-Some.is) c.put_back.new.actors.items c.args.self.now _ c.act-actor.result.1 purse
     (c.put_back.ensures ∙ ap (λ (l : List (Option (Actor g.row.A.Denot g.row.C.Denot))). slice_set l c.args.place (Some c.act-actor.result.0)) c.take_out.ensures.after)
-    c.act-actor.ensures.spare c.count_right.ensures c.act-actor.ensures.counts c.self.view_is refl h
+    c.act-actor.ensures.acted.spare c.count_right.ensures c.act-actor.ensures.acted.counts c.self.view_is refl h
 
 pub returns-clause-leads : goal.returns-clause-leads
 returns-clause-leads g c =
