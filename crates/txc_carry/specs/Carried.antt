@@ -16,9 +16,8 @@ use Rattle.txc_carry.specs.declared.error.CarryError.TheVariants.{Old, TooManyVe
 abbrev pub stands_before : ℕ → ℕ → RowValue → Bool
 stands_before table id r = nat_lt r.table table || ((r.table == table) && nat_lt r.id id)
 
--- the new database is whole, has that capacity and holds nothing; its newest state is the rows of the old one's
--- that stand before the table and id, and so are the rows of its versions; and it has at most one event for
--- each row
+-- The new database is whole, has that capacity and holds nothing. Its newest state is the rows of the old one's that stand
+-- before the table and id, and so are the rows of its versions. It has at most one event for each row.
 pub record HasCarried (old : DatabaseValue) (capacity table id : ℕ) (new : DatabaseValue) : Type 0 where
   pub whole : new.broken ≡ false
   pub room : length new.events ≡ capacity
