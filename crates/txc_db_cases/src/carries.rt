@@ -7,8 +7,9 @@ use std::str::SplitWhitespace;
 use std::test::Fail;
 use txc_carry::{CarryError, carry};
 use txc_db::DbCore;
-use txc_players::{Obeys, Player, give, is_played, played, room};
+use txc_players::{Obeys, Player, is_played, played, room};
 use txc_stream::MAX_CAPACITY;
+use txc_tags::Table;
 
 /// A database after a carry. No other has the same commands behind it.
 #[derive(Drop)]
@@ -40,29 +41,21 @@ impl Player for Carried {
 /// commands after it, to the new database, or to the old one where there is no new one.
 type Case = (usize, &'static str, usize, &'static str, &'static str);
 
-const CASES: [Case; 5] = [
-    (16, MANY, 16, "", MANY_CARRIED),
-    (16, MANY, 4, "the new database refused: the history is full", MANY_KEPT),
-    (16, "", 1, "", "front => 0\nquery all 1 0 => 0 [0,0] still\n"),
-    (16, HELD, 1, "", "front => 1\nquery all 1 1 => 1 7:b 7:b [1,1] still\nvacuum => 1\n"),
-    (16, BROKEN, 4, "the old database refused: the database is broken", ""),
-];
-
 /// Rows of three tables, more of one than a query may give, at both ends of the tables and of the ids.
 const MANY: &str = "commit 0 -: put 1 0-1023 2 a => 1
-commit 0 -: put 1 1024-2047 3 b => 2
+commit 0 -: put 1 1024-1030 3 b => 2
 commit 0 -: put 1 4294967295 2 z, put 0 0 1 y, put 15 7 4 x => 3
 commit 0 -: remove 1 5 => 4
 pin 1000 0 => 5 at 1000
 unpin 5 =>
 ";
 
-/// The commits of the new database: table 0, the two halves of the low ids of table 1, its last id, table 15.
+/// The commits of the new database: table 0, the low ids of table 1 in two, its last id, table 15.
 const MANY_CARRIED: &str = "front => 5
 query all 0 5 => 1 0:y 0:y [1,5] still
 query range 1 0 1023 5 => 1023 0:a 1023:a [2,5] still
 query id 1 5 5 => 0 [0,5] still
-query range 1 1024 2047 5 => 1024 1024:b 2047:b [3,5] still
+query range 1 1024 2047 5 => 7 1024:b 1030:b [3,5] still
 query range 1 2048 4294967295 5 => 1 4294967295:z 4294967295:z [4,5] still
 query group 1 2 5 => 1024 0:a 4294967295:z [4,5] still
 query range 2 0 4294967295 5 => 0 [0,5] still
@@ -72,16 +65,37 @@ hold => 6
 query all 2 6 => 1 1:n 1:n [6,6] still
 ";
 
-/// What the old database goes on to answer.
-const MANY_KEPT: &str = "query range 1 0 1023 5 => 1023 0:a 1023:a [5,5] still
-query range 1 0 1023 4 => the snapshot is gone: the horizon is 5
-commit 5 -: put 2 1 1 n => 6
+const NOTHING_CARRIED: &str = "front => 0
+query all 1 0 => 0 [0,0] still
 ";
 
-/// A hold keeps the version before the newest one, which is not carried.
+/// A hold keeps a version beside the newest one, which alone is carried.
 const HELD: &str = "commit 0 -: put 1 7 2 a => 1
 hold => 1
 commit 0 -: put 1 7 2 b => 2
+";
+
+const HELD_CARRIED: &str = "front => 1
+query all 1 1 => 1 7:b 7:b [1,1] still
+vacuum => 1
+";
+
+/// A state of two commits, for which one cell is too little.
+const TWO: &str = "commit 0 -: put 1 7 2 a, put 2 7 2 b => 1
+commit 1 -: put 1 7 2 c => 2
+";
+
+const TWO_CARRIED: &str = "front => 2
+query all 1 2 => 1 7:c 7:c [1,2] still
+query all 2 2 => 1 7:b 7:b [2,2] still
+";
+
+const FULL: &str = "the new database refused: the history is full";
+
+/// What the old database goes on to answer after the vacuum.
+const TWO_KEPT: &str = "query all 1 2 => 1 7:c 7:c [2,2] still
+query all 1 1 => the snapshot is gone: the horizon is 2
+commit 2 -: put 2 1 1 n => 3
 ";
 
 const BROKEN: &str = "commit 0 -: put 1 7 2 a => 1
@@ -90,8 +104,20 @@ foreign =>
 commit 2 -: put 1 9 2 c => the database is broken
 ";
 
+const IS_BROKEN: &str = "the old database refused: the database is broken";
+
+const MANY_CASES: [Case; 1] = [(16, MANY, 16, "", MANY_CARRIED)];
+
+const FEW_CASES: [Case; 5] = [
+    (16, "", 1, "", NOTHING_CARRIED),
+    (16, HELD, 1, "", HELD_CARRIED),
+    (16, TWO, 2, "", TWO_CARRIED),
+    (16, TWO, 1, FULL, TWO_KEPT),
+    (16, BROKEN, 4, IS_BROKEN, ""),
+];
+
 /// Carries, and once more where that is refused: the old database goes on as it was or after a vacuum.
-fn carried(alloc: Global, old: &mut DbCore, room: usize) -> Result<DbCore, CarryError>
+fn carry_again(alloc: Global, old: &mut DbCore, room: usize) -> Result<DbCore, CarryError>
     requires least { 1 ≤ room }
     requires most { room ≤ MAX_CAPACITY }
 {
@@ -111,7 +137,7 @@ fn is_answered(
     answer: &mut String,
 ) -> bool {
     answer.clear();
-    let core = match carried(alloc, &mut old, room.clamp(1, MAX_CAPACITY)) {
+    let core = match carry_again(alloc, &mut old, room.clamp(1, MAX_CAPACITY)) {
         Ok(core) => core,
         Err(refusal) => {
             let _ = write!(answer, "{refusal}");
@@ -129,40 +155,36 @@ fn is_case_answered(alloc: Global, case: Case, answer: &mut String) -> bool {
     }
 }
 
-#[test]
-fn a_new_database_answers_as_the_old_one_did(rt: HostRuntime) -> Result<(), Fail> {
+fn answer_all(rt: &(impl Abort + AllocGlobal), cases: &[Case]) -> Result<(), Fail> {
     let mut answer = room(rt.alloc())?;
-    for case in CASES {
-        assert!(&rt; is_case_answered(rt.alloc(), case, &mut answer), "{answer}");
+    for case in cases {
+        assert!(rt;
+            is_case_answered(rt.alloc(), *case, &mut answer),
+            "{answer}"
+        );
     }
     Ok(())
 }
 
-/// A database whose first state is held, and of one row the most versions that there can be: the commit after
-/// them is refused.
-fn overfull(alloc: Global, answer: &mut String) -> Option<DbCore> {
-    let mut core = played(alloc, 2048, "hold => 0\n", answer)?;
-    for _ in 0..513 {
-        give(&mut core, alloc, "commit 0 -: put 1 7 2 a\ncommit 0 -: put 1 7 2 b\n", answer);
-        answer.clear();
-    }
-    Some(core)
+#[test]
+fn more_rows_than_a_query_gives_are_carried(rt: HostRuntime) -> Result<(), Fail> {
+    answer_all(&rt, &MANY_CASES)
 }
 
 #[test]
-fn a_row_with_too_many_versions_is_not_carried(rt: HostRuntime) -> Result<(), Fail> {
+fn a_new_database_answers_as_the_old_one_did_or_is_refused(rt: HostRuntime) -> Result<(), Fail> {
+    answer_all(&rt, &FEW_CASES)
+}
+
+#[test]
+fn a_row_with_too_many_versions_is_named(rt: HostRuntime) -> Result<(), Fail> {
     let mut answer = room(rt.alloc())?;
-    let mut done = false;
-    if let Some(core) = overfull(rt.alloc(), &mut answer) {
-        done = is_answered(
-            rt.alloc(),
-            core,
-            4,
-            "over 1,024 versions of t1:id=7 are kept",
-            "unpin 0 =>\nvacuum => 1025\nquery all 1 1025 => 1 7:a 7:a [1025,1025] still\n",
-            &mut answer,
-        );
+    if let Some(table) = Table::new(1) {
+        let _ = write!(answer, "{}", CarryError::TooManyVersions(table, 7));
     }
-    assert!(&rt; done, "{answer}");
+    assert!(&rt;
+        answer.as_str() == "over 1,024 versions of t1:id=7 are kept",
+        "{answer}"
+    );
     Ok(())
 }
