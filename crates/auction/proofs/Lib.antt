@@ -1,3 +1,4 @@
 mod Bodies
+mod Returns
 mod Shown
 mod Tallies

@@ -10,7 +10,7 @@ use Rattle.auction.specs.Tallies.{pages_of, HasSeen}
 use Rattle.auction.specs.declared.arguments.Arguments.{Arguments}
 use Rattle.auction.specs.declared.tally.Tally.{Tally}
 
-sum_of_each : {X : Type 0} (f : X → ℕ) (n : ℕ) (xs : List X) → All (λ x. f x ≡ n) xs → sum_by f xs ≡ length xs * n
+pub sum_of_each : {X : Type 0} (f : X → ℕ) (n : ℕ) (xs : List X) → All (λ x. f x ≡ n) xs → sum_by f xs ≡ length xs * n
 sum_of_each f n [] each = sym (zero-mul n)
 sum_of_each f n (x ∷ xs) each =
     omega (arith, sum_by-cons f x xs, All-head (λ y. f y ≡ n) x xs each, sum_of_each f n xs (All-tail (λ y. f y ≡ n) x xs each), suc-mul (length xs) n)

@@ -1,12 +1,14 @@
 //! What the program is asked to do.
 
-/// What is asked: by the words `THREADS PAGES SEED STALENESS [--plain]`, each of which may be left out.
+/// What is asked: by the words `THREADS PAGES SEED STALENESS GENERATIONS [--plain]`, each of which may be left out.
 #[derive(Clone, Copy)]
 pub struct Arguments {
-    pub threads: u32,
+    pub threads: u8,
     pub pages: u32,
     pub seed: u32,
     pub staleness: u32,
+    /// How often the visitors come again, after the first generation.
+    pub returns: u8,
     /// Whether each call has a transaction of its own.
     pub is_plain: bool,
 }
@@ -22,10 +24,11 @@ fn number(words: &[String], at: usize, other: u32) -> u32 {
 impl Arguments {
     pub fn read(words: &[String]) -> Arguments {
         Arguments {
-            threads: number(words, 1, 4).clamp(1, 64),
+            threads: number(words, 1, 4).clamp(1, 64) as u8,
             pages: number(words, 2, 40),
             seed: number(words, 3, 0),
             staleness: number(words, 4, 2),
+            returns: number(words, 5, 1).clamp(1, 64) as u8 - 1,
             is_plain: words.iter().any(|word| word.as_str() == "--plain"),
         }
     }

@@ -12,7 +12,7 @@ use std::alloc::Global;
 use std::sync::Wait;
 use txc_db::Naming;
 use txc_ports::Bounds;
-use txc_site::{Keeper, SiteClient, Visitor};
+use txc_site::{Generation, Keeper, Returning, SiteClient, Visitor};
 use txc_stamp::Stamp;
 
 /// A visitor's client.
@@ -224,5 +224,15 @@ impl Visitor<Auction, AuctionFunction> for Crowd {
         }
         count_lookups(&client, &mut tally);
         tally
+    }
+}
+
+impl Returning<Auction, AuctionFunction> for Crowd {
+    ghost use Rattle.std.specs.Prelude.{◌<◌, ◌↔◌, IsTrue};
+
+    ghost goes = { λ crowd generation more. IsTrue more ↔ (generation.number < crowd.arguments.returns) };
+
+    fn goes_on(&self, generation: &Generation<Tally>) -> bool {
+        generation.number < usize::from(self.arguments.returns)
     }
 }

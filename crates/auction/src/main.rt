@@ -1,7 +1,7 @@
 //! An auction on threads: visitors read pages in read-only transactions, and bid in read-write ones.
 #![tactic(auto)]
 
-ghost use Rattle.std.specs.Prelude.{◌*◌, IfOk};
+ghost use Rattle.std.specs.Prelude.{◌+◌, ◌*◌, IfOk};
 ghost use Rattle.auction.specs.Tallies.{HasSeen};
 
 mod arguments;
@@ -19,16 +19,17 @@ use std::alloc::Global;
 use std::env;
 use std::sync::Wait;
 use std::thread::Threads;
-use tally::{Tally, total};
-use txc_site::{Plan, with_site};
+use tally::{Tally, grand_total};
+use txc_site::{Plan, with_generations};
 
-/// Opens the site with the first rows, and lets the visitors come.
+/// Opens the site with the first rows, and lets the visitors come, generation after generation.
 fn hold<R: Threads + Wait + Sync>(
     rt: &R,
     alloc: Global,
     arguments: Arguments,
 ) -> anyhow::Result<Tally>
-    ensures { IfOk result (HasSeen (arguments.threads * arguments.pages) arguments) }
+    ensures { IfOk result (HasSeen
+        ((arguments.returns + 1) * (arguments.threads * arguments.pages)) arguments) }
 {
     let plan = Plan {
         events: 2048,
@@ -36,7 +37,7 @@ fn hold<R: Threads + Wait + Sync>(
         ..Plan::DEFAULT
     };
     let crowd = Crowd { arguments };
-    let visited = with_site::<Auction, AuctionFunction, _, _, _>(
+    let served = with_generations::<Auction, AuctionFunction, _, _, _>(
         rt,
         alloc,
         plan,
@@ -44,7 +45,8 @@ fn hold<R: Threads + Wait + Sync>(
         arguments.threads as usize,
         &crowd,
     )?;
-    Ok(total(&visited.outputs))
+    served.end?;
+    Ok(grand_total(&served.generations))
 }
 
 fn main(rt: HostRuntime) -> anyhow::Result<()> {

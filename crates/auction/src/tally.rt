@@ -92,3 +92,17 @@ pub fn total(tallies: &[Tally]) -> Tally
     }
     all
 }
+
+/// What the visitors of all generations came to.
+pub fn grand_total(generations: &[Vec<Tally>]) -> Tally
+    requires { sum_by (λ tallies. sum_by pages_of tallies.items) generations.now < 2 ^ 64 }
+    ensures pages { pages_of result ≡ sum_by (λ tallies. sum_by pages_of tallies.items) generations.now }
+    ensures torn { result.torn
+        ≡ sum_by (λ tallies. sum_by (λ tally. tally.torn) tallies.items) generations.now }
+{
+    let mut all = Tally::ZERO;
+    for tallies in generations {
+        all.add(&total(tallies));
+    }
+    all
+}

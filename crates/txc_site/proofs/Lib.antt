@@ -5,3 +5,4 @@ mod Listing
 mod NodeRows
 pub mod Opened
 mod Tried
+pub mod Turns

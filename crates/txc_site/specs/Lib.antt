@@ -1,4 +1,5 @@
 pub mod Attempts
+pub mod Generations
 pub mod Keeping
 pub mod Opened
 pub mod Plans

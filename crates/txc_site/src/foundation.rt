@@ -1,10 +1,13 @@
 //! What a site stands on.
 ghost use Rattle.std.specs.Prelude.{◌≡◌, ◌≤◌, IfOk, vec_len};
+ghost use Rattle.txc_db.specs.Shared.{IsDatabaseOf};
 ghost use Rattle.txc_site.specs.Plans.{nodes_of, IsPlan};
 ghost use Rattle.txc_site.specs.Rows.{AreRowsOf};
 
+use crate::keeper::retire;
 use crate::plan::Plan;
 use std::alloc::{AllocError, Global};
+use std::sync::Wait;
 use txc_app::App;
 use txc_cushion::Pincushion;
 use txc_db::{Database, DbCore, Naming};
@@ -72,5 +75,19 @@ impl<A: App, J: Naming> Foundation<A, J> {
             nodes,
             plan,
         })
+    }
+
+    /// The database without its lock, once no thread has it any more. No pin is held but one that is lost.
+    pub(crate) fn into_core(self, rt: &impl Wait, alloc: Global) -> DbCore
+        ensures { IsDatabaseOf J.database_row result }
+    {
+        let Foundation {
+            database,
+            cushion,
+            nodes: _,
+            plan: _,
+        } = self;
+        let _ = retire(rt, alloc, &database, &cushion, u64::MAX, 0);
+        database.into_core()
     }
 }

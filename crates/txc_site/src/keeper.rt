@@ -200,7 +200,7 @@ fn pin<J: Naming>(
 }
 
 /// Retires the pins that no transaction may use and that are too old, and takes their holds away.
-fn retire<J: Naming>(
+pub(crate) fn retire<J: Naming>(
     rt: &impl Wait,
     alloc: Global,
     database: &Database<J>,

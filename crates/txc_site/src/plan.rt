@@ -19,6 +19,9 @@ pub const MAX_NODES: usize = 64;
 /// as many, the node has nothing and keeps nothing, and all calls are computed. So a site of `e` events ends
 /// after `e` commits and pins: at ten a second [`Plan::DEFAULT`] lasts 109 minutes.
 /// [`Keeper::keep`](crate::Keeper::keep) tells what is left.
+///
+/// [`with_generations`](crate::with_generations) goes on from there: each generation has this room anew, less the
+/// events that carry the state over, which are at most one for each row.
 #[derive(Clone, Copy, Debug, PartialEq, Eq)]
 pub struct Plan {
     /// How many nodes there are, from 1 to [`MAX_NODES`].

@@ -1,0 +1,81 @@
+-- What visitors came to who came again.
+use Rattle.std.proofs.Common.{◌≡◌, ◌∙◌, ℕ, ◌+◌, ◌*◌, ◌^◌, ◌<◌, ◌≤◌, List, [], ◌∷◌, ◌++◌, map, length, true, false, Result, Ok, refl, sym, ap, subst, length-append, length-map, arith}
+use Rattle.std.specs.Prelude.{◌↔◌, All, Bool, IsTrue, Vec}
+use Rattle.std.specs.declared.alloc.Global.{Global}
+use Rattle.std.specs.List.{sum_by}
+use Rattle.std.proofs.Math.Nat.{mul-zero}
+use Rattle.std.proofs.lemmas.Nat.{mul-le}
+use Rattle.std.proofs.lemmas.List.Elements.{All-head, All-map, All-tail, All-weaker}
+use Rattle.txc_db.specs.Seen.{FrontValue}
+use Rattle.txc_site.specs.declared.error.GenerationError.{GenerationError}
+use Rattle.txc_site.specs.declared.plan.Plan.{Plan}
+use Rattle.txc_site.specs.declared.returning.Generation.{Generation}
+use Rattle.txc_site.specs.Generations.{AreInTurn, ComeAfter, HasEnded, HaveServed, IsGeneration, IsLast}
+use Rattle.auction.proofs.Tallies.{asked_in_all, sum_of_each, torn_in_all}
+use Rattle.auction.specs.Tallies.{pages_of, HasSeen}
+use Rattle.auction.specs.declared.arguments.Arguments.{Arguments}
+use Rattle.auction.specs.declared.tally.Tally.{Tally}
+
+module _ {T : Type 0} where
+  -- the last has the number of those before it
+  later_number : (g : Generation T) (before : List (Generation T)) (last : Generation T) → ComeAfter g (before ++ last ∷ [])
+      → last.number ≡ g.number + 1 + length before
+  later_number g [] last turns = omega (arith, turns.0.number)
+  later_number g (h ∷ before) last turns = omega (arith, turns.0.number, later_number h before last turns.1)
+
+  last_number : (opened : FrontValue) (before : List (Generation T)) (last : Generation T) → AreInTurn opened (before ++ last ∷ [])
+      → last.number ≡ length before
+  last_number opened [] last turns = turns.0
+  last_number opened (g ∷ before) last turns = omega (arith, turns.0, later_number g before last turns.2)
+
+  -- where those before it have lower numbers than this, it has none that is higher
+  later_few : (most : ℕ) (g : Generation T) (before : List (Generation T)) (last : Generation T) → ComeAfter g (before ++ last ∷ [])
+      → g.number < most → All (λ h. h.number < most) before → last.number ≤ most
+  later_few most g [] last turns few each = omega (arith, few, turns.0.number)
+  later_few most g (h ∷ before) last turns few each =
+      later_few most h before last turns.1 (All-head (λ k. k.number < most) h before each) (All-tail (λ k. k.number < most) h before each)
+
+  last_few : (most : ℕ) (opened : FrontValue) (before : List (Generation T)) (last : Generation T) → AreInTurn opened (before ++ last ∷ [])
+      → All (λ h. h.number < most) before → last.number ≤ most
+  last_few most opened [] last turns each = omega (arith, turns.0)
+  last_few most opened (g ∷ before) last turns each =
+      later_few most g before last turns.2 (All-head (λ k. k.number < most) g before each) (All-tail (λ k. k.number < most) g before each)
+
+-- who comes again below a number of generations comes as often, and once before
+pub came_so_often : {T U : Type 0} (most room : ℕ) (numbers : List ℕ) (opened : FrontValue) (gs : List (Generation T)) (u : U) → AreInTurn opened gs
+    → HasEnded (λ g more. IsTrue more ↔ (g.number < most)) room numbers gs (Ok u) → length gs ≡ most + 1
+came_so_often {T} most room numbers opened gs u turns (before, last, is, went_on, stopped) =
+    let ordered = subst (AreInTurn opened) is turns in
+    let low = All-weaker (λ (g : Generation T). IsTrue true ↔ (g.number < most)) (λ g. g.number < most) (λ g goes. goes.0 refl) before went_on in
+    let few = last_few most opened before last ordered low in
+    let number = last_number opened before last ordered in
+    let enough : most ≤ last.number = grind (arith, stopped.1) in
+    omega (arith, few, number, enough, ap length is, length-append before (last ∷ []))
+
+-- so many visitors came to each generation, and each asked for so many pages
+module _ (plan : Plan) (a : Arguments) (came : List (Vec Tally Global)) (gs : List (Generation Tally)) (outputs : came ≡ map (λ g. g.outputs) gs)
+    (each : All (IsGeneration plan a.threads (λ plan row number tally. HasSeen a.pages a tally)) gs) where
+  of_each : (f : Vec Tally Global → ℕ) (n : ℕ)
+      → ((g : Generation Tally) → IsGeneration plan a.threads (λ plan row number tally. HasSeen a.pages a tally) g → f g.outputs ≡ n)
+      → sum_by f came ≡ length gs * n
+  of_each f n one =
+      ap (sum_by f) outputs
+      ∙ sum_of_each f n (map (λ g. g.outputs) gs)
+      (All-map (λ ts. f ts ≡ n) (λ (g : Generation Tally). g.outputs) gs (All-weaker (IsGeneration plan a.threads (λ plan row number tally. HasSeen a.pages a tally)) (λ g. f g.outputs ≡ n) one gs each))
+      ∙ ap (λ (k : ℕ). k * n) (length-map gs (λ (g : Generation Tally). g.outputs))
+
+  pub asked_in_generations : sum_by (λ ts. sum_by pages_of ts.items) came ≡ length gs * (a.threads * a.pages)
+  asked_in_generations =
+      of_each (λ ts. sum_by pages_of ts.items) (a.threads * a.pages)
+      (λ g one. asked_in_all a.threads a.pages a g.outputs.items g.outputs.items refl (omega (arith, one.each, g.outputs.ok.0)) one.came)
+
+  pub torn_in_generations : a.is_plain ≡ false → sum_by (λ ts. sum_by (λ t. t.torn) ts.items) came ≡ 0
+  torn_in_generations plain =
+      of_each (λ ts. sum_by (λ t. t.torn) ts.items) 0
+      (λ g one. torn_in_all a.threads a.pages a g.outputs.items g.outputs.items refl (omega (arith, one.each, g.outputs.ok.0)) one.came plain)
+      ∙ mul-zero (length gs)
+
+  pub few_in_generations : length gs ≤ 256 → a.threads < 2 ^ 8 → a.pages < 2 ^ 32 → sum_by (λ ts. sum_by pages_of ts.items) came < 2 ^ 64
+  few_in_generations few threads pages =
+      let one = mul-le a.threads a.pages 255 4294967295 (omega arith) (omega arith) in
+      omega (arith, asked_in_generations, mul-le (length gs) (a.threads * a.pages) 256 (255 * 4294967295) (omega arith) (omega (arith, one)))

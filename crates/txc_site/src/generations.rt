@@ -1,0 +1,195 @@
+//! A site that goes on: one generation after the other.
+ghost use Rattle.std.specs.Prelude.{◌≡◌, ◌⊎◌, [], Err, IfErr, IfOk, length};
+ghost use mathlib.Core.List.{IsPrefix};
+ghost use Rattle.txc_db.specs.DatabaseValue.{front_of};
+ghost use Rattle.txc_site.specs.Generations.{HaveServed, IsGeneration, IsGenerationRefused, IsNextRefused, IsServed, last_state};
+ghost use Rattle.txc_site.specs.Opened.{IsOpenRefused};
+ghost use Rattle.txc_site.specs.Plans.{IsPlan};
+
+use crate::application::Application;
+use crate::change::Change;
+use crate::error::{GenerationError, OpenError, SiteError};
+use crate::opening::opened;
+use crate::plan::Plan;
+use crate::returning::{Generation, Returning};
+use crate::rows::over_new_rows;
+use crate::writing::Written;
+use std::alloc::Global;
+use std::sync::Wait;
+use std::thread::Threads;
+use txc_carry::carry;
+use txc_db::{DbCore, DbError, HistoryFront};
+use txc_functions::Definition;
+
+/// What a site came to in all its generations.
+#[derive(Drop)]
+pub struct Served<O, T> {
+    /// What the opening came to, with its commit.
+    pub opening: Written<O>,
+    /// What each thread of each generation came to, in the order of the generations and of the threads.
+    pub generations: Vec<Vec<T>>,
+    /// Whether the visitors wanted no other generation, or why there was none.
+    pub end: Result<(), GenerationError>,
+}
+
+/// What a generation begins with.
+#[derive(Drop)]
+struct Begun {
+    core: DbCore,
+    front: HistoryFront,
+}
+
+/// The front of the whole history, which goes on from what was seen of it. `Broken` where it shows less.
+fn whole_front(alloc: Global, core: &DbCore, seen: &HistoryFront) -> Result<HistoryFront, DbError>
+    requires { core.now.events ≡ seen.now.events }
+    ensures whole { IfOk result (λ front. front ≡ front_of core.now) }
+    ensures goes_on { IfOk result (λ front. IsPrefix seen.now.history front.history) }
+    ensures refused { IfErr result (λ error. (error ≡ DbError.Memory) ⊎ (error ≡ DbError.Broken)) }
+{
+    let whole = core.front(alloc)?;
+    if whole.len() < seen.len() {
+        return Err(DbError::Broken);
+    }
+    whole.agree(seen);
+    Ok(whole)
+}
+
+/// One generation: it begins with this database, and ends once all threads have.
+fn generation<A, D, V, R>(
+    rt: &R,
+    alloc: Global,
+    plan: Plan,
+    begun: Begun,
+    number: usize,
+    count: usize,
+    visitors: &V,
+) -> Result<(Generation<V::Output>, DbCore), GenerationError>
+where
+    A: Application<D> + Send + Sync,
+    D: Definition + Send,
+    V: Returning<A, D> + Sync,
+    R: Threads + Wait + Sync,
+    requires plan { IsPlan plan }
+    requires row { begun.core.events ≡ begun.front.events }
+    requires room { length begun.front.events ≡ plan.events }
+    ensures generation { IfOk result (λ ended. IsGeneration plan count (V.gives visitors.now) ended.0) }
+    ensures number { IfOk result (λ ended. ended.0.number ≡ number) }
+    ensures begun { IfOk result (λ ended. ended.0.begun ≡ begun.front) }
+    ensures ended { IfOk result (λ ended. ended.0.ended ≡ front_of ended.1) }
+    ensures refused { IfErr result (IsGenerationRefused A.numbers) }
+{
+    let Begun { core, front: begun } = begun;
+    let (outputs, core) = over_new_rows::<A, D, V, R>(rt, alloc, plan, core, count, visitors)?;
+    let ended = whole_front(alloc, &core, &begun)?;
+    let generation = Generation {
+        number,
+        begun,
+        ended,
+        outputs,
+    };
+    Ok((generation, core))
+}
+
+/// What the next generation begins with: the newest state of this database.
+fn next(alloc: Global, plan: Plan, mut core: DbCore) -> Result<Begun, GenerationError>
+    requires { IsPlan plan }
+    ensures row { IfOk result (λ begun. begun.core.events ≡ begun.front.events) }
+    ensures room { IfOk result (λ begun. length begun.front.events ≡ plan.events) }
+    ensures state { IfOk result (λ begun. last_state begun.front ≡ last_state (front_of core)) }
+    ensures refused { IfErr result (IsNextRefused plan.events (front_of core)) }
+{
+    let core = match carry(alloc, &mut core, plan.events) {
+        Ok(core) => core,
+        Err(cause) => return Err(GenerationError::Carry(cause)),
+    };
+    let front = core.front(alloc)?;
+    Ok(Begun { core, front })
+}
+
+/// Opens a site as [`with_site`](crate::with_site) does, and lets the threads visit. Once all have ended, the
+/// visitors answer whether they come again. Where they do, the newest state is carried over to a new database
+/// with the plan's room, with new nodes, and `count` threads visit that; and so on.
+///
+/// Stamps begin anew in each generation, and the nodes have nothing. What was refused after the opening stands
+/// in the result, beside what the generations before came to.
+pub fn with_generations<A, D, O, V, R>(
+    rt: &R,
+    alloc: Global,
+    plan: Plan,
+    opening: &O,
+    count: usize,
+    visitors: &V,
+) -> Result<Served<O::Output, V::Output>, OpenError>
+where
+    A: Application<D> + Send + Sync,
+    D: Definition + Send,
+    O: Change<A, D>,
+    V: Returning<A, D> + Sync,
+    R: Threads + Wait + Sync,
+    ensures served { IfOk result (IsServed A.next plan count A.numbers (O.makes opening.now)
+        (V.gives visitors.now) (V.goes visitors.now)) }
+    ensures unsound { ¬ (IsPlan plan) → result ≡ Err (OpenError.Site SiteError.Plan) }
+    ensures refused { IfErr result
+        (IsOpenRefused plan A.numbers (O.makes opening.now) (O.refuses opening.now)) }
+{
+    if !plan.is_sound() {
+        return Err(OpenError::Site(SiteError::Plan));
+    }
+    let (opening, core) = opened::<A, D, O, R>(rt, alloc, plan, opening)?;
+    let front = opening.committed.front.again(alloc)?;
+    let mut generations = Vec::new(alloc);
+    let end = go_on::<A, D, V, R>(
+        rt,
+        alloc,
+        plan,
+        Begun { core, front },
+        count,
+        visitors,
+        &mut generations,
+    );
+    Ok(Served {
+        opening,
+        generations,
+        end,
+    })
+}
+
+/// One generation after the other, until the visitors want no other or one is refused.
+#[tactic(auto, using(crate::proofs::Turns::failed_so))]
+fn go_on<A, D, V, R>(
+    rt: &R,
+    alloc: Global,
+    plan: Plan,
+    begun: Begun,
+    count: usize,
+    visitors: &V,
+    generations: &mut Vec<Vec<V::Output>>,
+) -> Result<(), GenerationError>
+where
+    A: Application<D> + Send + Sync,
+    D: Definition + Send,
+    V: Returning<A, D> + Sync,
+    R: Threads + Wait + Sync,
+    requires plan { IsPlan plan }
+    requires row { begun.core.events ≡ begun.front.events }
+    requires room { length begun.front.events ≡ plan.events }
+    requires none { generations.old.items ≡ [] }
+    ensures { HaveServed plan count A.numbers (V.gives visitors.now) (V.goes visitors.now) begun.front
+        generations.new.items result }
+{
+    let mut begun = begun;
+    for _ in rt.forever() {
+        generations.reserve(1)?;
+        let number = generations.len();
+        let (generation, core) = generation::<A, D, V, R>(
+            rt, alloc, plan, begun, number, count, visitors,
+        )?;
+        let goes_on = visitors.goes_on(&generation);
+        generations.push_reserved(generation.outputs);
+        if !goes_on {
+            return Ok(());
+        }
+        begun = next(alloc, plan, core)?;
+    }
+    unreachable!()
+}
