@@ -1,9 +1,10 @@
 -- What visitors came to who came again.
-use Rattle.std.proofs.Common.{◌≡◌, ◌∙◌, ℕ, ◌+◌, ◌*◌, ◌^◌, ◌<◌, ◌≤◌, List, [], ◌∷◌, ◌++◌, map, length, true, false, Result, Ok, refl, sym, ap, subst, length-append, length-map, arith}
+use Rattle.std.proofs.Common.{◌≡◌, ◌∙◌, ℕ, ◌+◌, ◌*◌, ◌^◌, ◌<◌, ◌≤◌, List, [], ◌∷◌, ◌++◌, map, length, true, false, Result, Ok, refl, sym, ap, subst, length-append, arith}
 use Rattle.std.specs.Prelude.{◌↔◌, All, Bool, IsTrue, Vec}
 use Rattle.std.specs.declared.alloc.Global.{Global}
 use Rattle.std.specs.List.{sum_by}
 use Rattle.std.proofs.Math.Nat.{mul-zero}
+use Rattle.std.proofs.lemmas.List.{length-map}
 use Rattle.std.proofs.lemmas.Nat.{mul-le}
 use Rattle.std.proofs.lemmas.List.Elements.{All-head, All-map, All-tail, All-weaker}
 use Rattle.txc_db.specs.Seen.{FrontValue}
@@ -42,7 +43,7 @@ module _ {T : Type 0} where
       later_few most g before last turns.2 (All-head (λ k. k.number < most) g before each) (All-tail (λ k. k.number < most) g before each)
 
 -- who comes again below a number of generations comes as often, and once before
-pub came_so_often : {T U : Type 0} (most room : ℕ) (numbers : List ℕ) (opened : FrontValue) (gs : List (Generation T)) (u : U) → AreInTurn opened gs
+came_so_often : {T U : Type 0} (most room : ℕ) (numbers : List ℕ) (opened : FrontValue) (gs : List (Generation T)) (u : U) → AreInTurn opened gs
     → HasEnded (λ g more. IsTrue more ↔ (g.number < most)) room numbers gs (Ok u) → length gs ≡ most + 1
 came_so_often {T} most room numbers opened gs u turns (before, last, is, went_on, stopped) =
     let ordered = subst (AreInTurn opened) is turns in
@@ -53,29 +54,37 @@ came_so_often {T} most room numbers opened gs u turns (before, last, is, went_on
     omega (arith, few, number, enough, ap length is, length-append before (last ∷ []))
 
 -- so many visitors came to each generation, and each asked for so many pages
-module _ (plan : Plan) (a : Arguments) (came : List (Vec Tally Global)) (gs : List (Generation Tally)) (outputs : came ≡ map (λ g. g.outputs) gs)
-    (each : All (IsGeneration plan a.threads (λ plan row number tally. HasSeen a.pages a tally)) gs) where
-  of_each : (f : Vec Tally Global → ℕ) (n : ℕ)
-      → ((g : Generation Tally) → IsGeneration plan a.threads (λ plan row number tally. HasSeen a.pages a tally) g → f g.outputs ≡ n)
-      → sum_by f came ≡ length gs * n
-  of_each f n one =
-      ap (sum_by f) outputs
-      ∙ sum_of_each f n (map (λ g. g.outputs) gs)
-      (All-map (λ ts. f ts ≡ n) (λ (g : Generation Tally). g.outputs) gs (All-weaker (IsGeneration plan a.threads (λ plan row number tally. HasSeen a.pages a tally)) (λ g. f g.outputs ≡ n) one gs each))
-      ∙ ap (λ (k : ℕ). k * n) (length-map gs (λ (g : Generation Tally). g.outputs))
+module _ {U : Type 0} (plan : Plan) (a : Arguments) (numbers : List ℕ) (opened : FrontValue) (came tallies : List (Vec Tally Global))
+    (end : Result U GenerationError) (u : U) (is : end ≡ Ok u) (same : tallies ≡ came)
+    (served : HaveServed plan a.threads numbers (λ p row number tally. HasSeen a.pages a tally) (λ g more. IsTrue more ↔ (g.number < a.returns)) opened came end) where
+  many : length served.generations ≡ a.returns + 1
+  many =
+      came_so_often a.returns plan.events numbers opened served.generations u served.turns
+      (subst (λ (e : Result U GenerationError). HasEnded (λ g more. IsTrue more ↔ (g.number < a.returns)) plan.events numbers served.generations e) is served.ended)
 
-  pub asked_in_generations : sum_by (λ ts. sum_by pages_of ts.items) came ≡ length gs * (a.threads * a.pages)
+  of_each : (f : Vec Tally Global → ℕ) (n : ℕ)
+      → ((g : Generation Tally) → IsGeneration plan a.threads (λ p row number tally. HasSeen a.pages a tally) g → f g.outputs ≡ n)
+      → sum_by f tallies ≡ (a.returns + 1) * n
+  of_each f n one =
+      ap (sum_by f) (same ∙ served.outputs)
+      ∙ sum_of_each f n (map (λ g. g.outputs) served.generations)
+      (All-map (λ ts. f ts ≡ n) (λ (g : Generation Tally). g.outputs) served.generations
+      (All-weaker (IsGeneration plan a.threads (λ p row number tally. HasSeen a.pages a tally)) (λ g. f g.outputs ≡ n) one served.generations served.each))
+      ∙ ap (λ (k : ℕ). k * n) (length-map served.generations (λ (g : Generation Tally). g.outputs) ∙ many)
+
+  pub asked_in_generations : sum_by (λ ts. sum_by pages_of ts.items) tallies ≡ (a.returns + 1) * (a.threads * a.pages)
   asked_in_generations =
       of_each (λ ts. sum_by pages_of ts.items) (a.threads * a.pages)
       (λ g one. asked_in_all a.threads a.pages a g.outputs.items g.outputs.items refl (omega (arith, one.each, g.outputs.ok.0)) one.came)
 
-  pub torn_in_generations : a.is_plain ≡ false → sum_by (λ ts. sum_by (λ t. t.torn) ts.items) came ≡ 0
+  pub torn_in_generations : a.is_plain ≡ false → sum_by (λ ts. sum_by (λ t. t.torn) ts.items) tallies ≡ 0
   torn_in_generations plain =
       of_each (λ ts. sum_by (λ t. t.torn) ts.items) 0
       (λ g one. torn_in_all a.threads a.pages a g.outputs.items g.outputs.items refl (omega (arith, one.each, g.outputs.ok.0)) one.came plain)
-      ∙ mul-zero (length gs)
+      ∙ mul-zero (a.returns + 1)
 
-  pub few_in_generations : length gs ≤ 256 → a.threads < 2 ^ 8 → a.pages < 2 ^ 32 → sum_by (λ ts. sum_by pages_of ts.items) came < 2 ^ 64
-  few_in_generations few threads pages =
+  pub few_in_generations : a.returns < 2 ^ 8 → a.threads < 2 ^ 8 → a.pages < 2 ^ 32 → sum_by (λ ts. sum_by pages_of ts.items) tallies < 2 ^ 64
+  few_in_generations returns threads pages =
       let one = mul-le a.threads a.pages 255 4294967295 (omega arith) (omega arith) in
-      omega (arith, asked_in_generations, mul-le (length gs) (a.threads * a.pages) 256 (255 * 4294967295) (omega arith) (omega (arith, one)))
+      let all = mul-le (a.returns + 1) (a.threads * a.pages) 256 1095216660225 (omega arith) (omega (arith, one)) in
+      omega (arith, asked_in_generations, all)

@@ -1,24 +1,23 @@
-use Rattle.std.proofs.Common.{◌≡◌, ◌∙◌, length, arith}
-use Rattle.auction.proofs.Tallies.{asked_in_all, few_in_all, torn_in_all}
+use Rattle.std.proofs.Common.{◌≡◌, ◌∙◌}
+use Rattle.auction.proofs.Returns.{asked_in_generations, few_in_generations, torn_in_generations}
 use Rattle.auction.proofs.hold.Goals as goal
 
--- each number of the arguments is a `u32`
-pub total-requires : goal.total-requires
-total-requires g c =
-    let a = c.args.arguments in
-    let visited = c.in_ok-visited.ensures.visited in
-    let tallies = c.in_ok-visited.visited.outputs in
+-- each number of the arguments fits its type
+pub grand_total-requires : goal.grand_total-requires
+grand_total-requires g c =
+    let served = c.in_ok-served.ensures.served.came in
     let numbers = c.well_formed.1.1.0.1.1 in
-    few_in_all a.threads a.pages a tallies.items c.deref.result.now c.deref.ensures.value (omega (arith, visited.each, tallies.ok.0)) visited.came
-    numbers.0.1 numbers.1.0.1
+    few_in_generations _ c.args.arguments _ _ _ c.deref.result.now c.in_ok-served.served.end c.in_ok-served-2.field-0 c.in_ok-served-2.was c.deref.ensures.value served
+    numbers.1.1.1.1.0.1 numbers.0.1 numbers.1.0.1
 
 pub returns : goal.returns
 returns g c =
-    let a = c.args.arguments in
-    let visited = c.in_ok-visited.ensures.visited in
-    let tallies = c.in_ok-visited.visited.outputs in
-    let each : length tallies.items ≡ a.threads = omega (arith, visited.each, tallies.ok.0) in
+    let served = c.in_ok-served.ensures.served.came in
     record {
-      asked = c.total.ensures.pages ∙ asked_in_all a.threads a.pages a tallies.items c.deref.result.now c.deref.ensures.value each visited.came;
-      whole = λ one. c.total.ensures.torn ∙ torn_in_all a.threads a.pages a tallies.items c.deref.result.now c.deref.ensures.value each visited.came one;
+      asked =
+          c.grand_total.ensures.pages
+          ∙ asked_in_generations _ c.args.arguments _ _ _ c.deref.result.now c.in_ok-served.served.end c.in_ok-served-2.field-0 c.in_ok-served-2.was c.deref.ensures.value served;
+      whole = λ one.
+          c.grand_total.ensures.torn
+          ∙ torn_in_generations _ c.args.arguments _ _ _ c.deref.result.now c.in_ok-served.served.end c.in_ok-served-2.field-0 c.in_ok-served-2.was c.deref.ensures.value served one;
     }
