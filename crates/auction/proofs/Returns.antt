@@ -1,6 +1,6 @@
 -- What visitors came to who came again.
-use Rattle.std.proofs.Common.{◌≡◌, ◌∙◌, ℕ, ◌+◌, ◌*◌, ◌^◌, ◌<◌, ◌≤◌, List, [], ◌∷◌, ◌++◌, map, length, true, false, Result, Ok, refl, sym, ap, subst, length-append, arith}
-use Rattle.std.specs.Prelude.{◌↔◌, All, Bool, IsTrue, Vec}
+use Rattle.std.proofs.Common.{◌≡◌, ◌∙◌, ℕ, ◌+◌, ◌*◌, ◌^◌, ◌<◌, ◌≤◌, List, [], ◌∷◌, ◌++◌, map, length, true, false, Result, Ok, refl, ap, subst, length-append, arith}
+use Rattle.std.specs.Prelude.{◌↔◌, All, IsTrue, Vec}
 use Rattle.std.specs.declared.alloc.Global.{Global}
 use Rattle.std.specs.List.{sum_by}
 use Rattle.std.proofs.Math.Nat.{mul-zero}
@@ -11,7 +11,7 @@ use Rattle.txc_db.specs.Seen.{FrontValue}
 use Rattle.txc_site.specs.declared.error.GenerationError.{GenerationError}
 use Rattle.txc_site.specs.declared.plan.Plan.{Plan}
 use Rattle.txc_site.specs.declared.returning.Generation.{Generation}
-use Rattle.txc_site.specs.Generations.{AreInTurn, ComeAfter, HasEnded, HaveServed, IsGeneration, IsLast}
+use Rattle.txc_site.specs.Generations.{AreInTurn, ComeAfter, HasEnded, HaveServed, IsGeneration}
 use Rattle.auction.proofs.Tallies.{asked_in_all, sum_of_each, torn_in_all}
 use Rattle.auction.specs.Tallies.{pages_of, HasSeen}
 use Rattle.auction.specs.declared.arguments.Arguments.{Arguments}

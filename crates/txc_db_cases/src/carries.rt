@@ -116,13 +116,33 @@ const FEW_CASES: [Case; 5] = [
     (16, BROKEN, 4, IS_BROKEN, ""),
 ];
 
-/// Carries, and once more where that is refused: the old database goes on as it was or after a vacuum.
-fn carry_again(alloc: Global, old: &mut DbCore, room: usize) -> Result<DbCore, CarryError>
+/// Writes the refusal, and returns whether it is the wanted one.
+fn is_told(refusal: &CarryError, wanted: &str, answer: &mut String) -> bool {
+    answer.clear();
+    let _ = write!(answer, "{refusal}");
+    answer.as_str() == wanted
+}
+
+/// Carries, and once more where another refusal comes than the wanted one: the old database goes on as it was or
+/// after a vacuum.
+fn carry_again(
+    alloc: Global,
+    old: &mut DbCore,
+    room: usize,
+    wanted: &str,
+    answer: &mut String,
+) -> Result<DbCore, CarryError>
     requires least { 1 ≤ room }
     requires most { room ≤ MAX_CAPACITY }
 {
     match carry(alloc, old, room) {
-        Err(_) => carry(alloc, old, room),
+        Err(refusal) => {
+            if is_told(&refusal, wanted, answer) {
+                Err(refusal)
+            } else {
+                carry(alloc, old, room)
+            }
+        }
         done => done,
     }
 }
@@ -136,15 +156,16 @@ fn is_answered(
     after: &str,
     answer: &mut String,
 ) -> bool {
-    answer.clear();
-    let core = match carry_again(alloc, &mut old, room.clamp(1, MAX_CAPACITY)) {
-        Ok(core) => core,
-        Err(refusal) => {
-            let _ = write!(answer, "{refusal}");
-            old
+    let room = room.clamp(1, MAX_CAPACITY);
+    match carry_again(alloc, &mut old, room, wanted, answer) {
+        Ok(core) => {
+            wanted.is_empty() && is_played(&mut Carried { core }, alloc, "", after, answer)
         }
-    };
-    answer.as_str() == wanted && is_played(&mut Carried { core }, alloc, "", after, answer)
+        Err(refusal) => {
+            is_told(&refusal, wanted, answer)
+                && is_played(&mut Carried { core: old }, alloc, "", after, answer)
+        }
+    }
 }
 
 fn is_case_answered(alloc: Global, case: Case, answer: &mut String) -> bool {

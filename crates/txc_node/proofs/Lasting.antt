@@ -37,12 +37,6 @@ module _ {X : Type 0} (P : X → Type 0) where
       let n : suc (suc (length ys)) - 1 ≡ suc (suc (length ys) - 1) = omega arith in
       subst (λ k. AllByRecursion P (drop (suc i) (take k (x ∷ set (y ∷ ys) i (get_or (x ∷ y ∷ ys) k d))))) (sym n) (all_from_swapped (y ∷ ys) i d h)
 
-  pub all_past : (xs : List X) (i : ℕ) → slice_get xs i ≡ None → AllByRecursion P (drop i xs)
-  all_past [] zero h = tt
-  all_past [] (suc i) h = tt
-  all_past (x ∷ xs) zero h = let none : Some x ≡ None = h in cc
-  all_past (x ∷ xs) (suc i) h = all_past xs i h
-
 all_from_set : {K V : Type 0} (P : K × V → Type 0) (xs : List (K × V)) (i : ℕ) (w : V) → ((k : K) → P (k, w)) → AllByRecursion P (drop (suc i) xs) → AllByRecursion P (drop i (set_value_at xs i w))
 all_from_set P [] zero w own h = tt
 all_from_set P [] (suc i) w own h = tt

@@ -12,7 +12,7 @@ use Rattle.txc_rows.specs.Versions.{suits, version_cmp}
 use Rattle.txc_rows.specs.Found.{Finds}
 use Rattle.txc_rows.specs.Keeping.{AnswersStates}
 use Rattle.txc_rows.specs.declared.store_error.StoreError.{StoreError}
-use Rattle.txc_rows.specs.Placed.{Placed, version_of, by_place, versions_by_place, is_left, left_from}
+use Rattle.txc_rows.specs.Placed.{Placed, version_of, versions_by_place, is_left, left_from}
 use Rattle.sqlite.specs.Held.{Held, state}
 use Rattle.sqlite.specs.Steps.{over_memory}
 use Rattle.sqlite.specs.Order.{Row}

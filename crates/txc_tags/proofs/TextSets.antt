@@ -6,7 +6,7 @@ use Rattle.std.proofs.lemmas.List.Elements.{All-head, All-tail, All-nil, All-con
 use Rattle.std.proofs.lemmas.Bool.Decides.{nat_tests}
 use Rattle.txc_tags.specs.declared.tag.Tag.{Tag}
 use Rattle.txc_tags.specs.declared.text.tag.Spelling.{Spelling}
-use Rattle.txc_tags.specs.declared.text.tag.Spelling.TheVariants.{Usual, Slashed}
+use Rattle.txc_tags.specs.declared.text.tag.Spelling.TheVariants.{Usual}
 use Rattle.txc_tags.specs.Tags.{with_tag, set_of, IsCanonical}
 use Rattle.txc_tags.specs.TextGrammar.{IsText, IsTextOf}
 use Rattle.txc_tags.specs.TextReading.{IsWord, Either, Reads, GoesWrong, IsRefused, IsJoined, HasRead}
