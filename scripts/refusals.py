@@ -1,20 +1,27 @@
-"""Refuses each allocation of the built tests in its turn, and of the program over the examples.
+"""Refuses each allocation of the tests in its turn, and of the program over the examples.
 
-usage: JOBS=N python3 scripts/refusals.py REFUSE.SO [WORD..]    at the top of the repository
+usage: JOBS=N python3 scripts/refusals.py REFUSE.SO ROOM [WORD..]    at the top of the repository
 
-refusals.sh builds what this runs, and says what the words and the printed lines mean. A test is
-run in a process of its own, as the runner of `rt test` starts it, for each of its allocations.
+refusals.sh says what the words and the printed lines mean. The tests of a crate are built into the folder ROOM, with no
+proof, but for those that lie there. A test runs once a core, as the runner of `rt test` starts it, and forks at each of
+its allocations, as scripts/refuse.c says. A refusal while it has several threads is a run from the start.
 """
 
+import array
 import glob
 import os
+import re
 import resource
+import shutil
 import subprocess
 import sys
+import tempfile
 from concurrent.futures import ThreadPoolExecutor
 from functools import partial
 from typing import Callable, NamedTuple
 
+import rows
+import unproved
 from script_files import MODES, settings_of
 
 # Tests that count to a large limit: they do not begin anew where memory is refused on the way.
@@ -28,14 +35,20 @@ LEFT_OUT = {
     "txc_world_cases world::a_reader_that_never_ends",
 }
 
-# Each allocation of a test is refused where there are at most so many, and all those runs take at most so many seconds of
-# one core. Of another test an evenly spaced sample is refused, of at most so many, which takes no longer.
-ALL = 79_999
+# Each allocation of a row of a test is refused, or of a script, where all those runs take at most so many seconds of one
+# core. Of another an evenly spaced sample is refused, of at most so many, which takes no longer.
 COST = 1_800
 SAMPLE = 2_000
 
+# What a fork costs beside what is played in it.
+FORK = 0.0005
+
 # How long a run may take.
-SECONDS = 60
+SECONDS = int(os.environ.get("RUN_SECONDS", "60"))
+
+# The status of a test that was done with its row, and the signal of one that took too long, as refuse.c has them.
+ROW_ENDED = 77
+TOO_LONG = -14
 
 REFUSED = b"refused memory"
 
@@ -118,14 +131,41 @@ def without(script: bytes, reply: int) -> bytes:
     return b"\n".join(lines)
 
 
-def tests() -> list[Case]:
+def named_tests() -> dict[str, list[str]]:
+    """The names of the tests of each crate, by the text of its files."""
+    found = {}
+    for folder in sorted(glob.glob("crates/*_cases")):
+        files = sorted(glob.glob(f"{folder}/src/**/*.rt", recursive=True))
+        crate = os.path.basename(folder)
+        found[crate] = []
+        for file in files:
+            module = os.path.relpath(file, f"{folder}/src")[: -len(".rt")].replace("/", "::")
+            with open(file, encoding="utf-8") as it:
+                tests = re.findall(r"^#\[test\]\nfn (\w+)", it.read(), re.M)
+            found[crate] += [f"{crate} {module}::{it}".replace(" lib::", " ") for it in tests]
+    return found
+
+
+def built(room: str, crate: str) -> str:
+    """The program of a crate's tests, in which rows say where they begin."""
+    program = f"{room}/{crate}_tests"
+    if not os.path.exists(program):
+        with tempfile.TemporaryDirectory(prefix="rows-") as folder:
+            said = unproved.build(rows.copy(crate, f"{folder}/copy"), f"{folder}/program")
+            if said:
+                sys.exit(f"{crate} does not compile:\n{said[-3000:]}")
+            shutil.move(f"{folder}/program", program)
+    return program
+
+
+def tests(room: str, is_wanted: Callable[[str], bool]) -> list[Case]:
     found = []
-    for program in sorted(glob.glob("crates/*_cases/out/*_cases_tests")):
-        crate = program.split("/")[1]
-        listed = subprocess.run([program, "--list"], capture_output=True, text=True, check=True)
-        names = [line[: -len(": test")] for line in listed.stdout.split("\n") if ": test" in line]
-        found += [Case(f"{crate} {it}", [program, it], b"", wrong_of_test) for it in names]
-    return [case for case in found if case.name not in LEFT_OUT]
+    for crate, named in named_tests().items():
+        wanted = [it for it in named if it not in LEFT_OUT and is_wanted(it)]
+        if wanted:
+            program = built(room, crate)
+            found += [Case(it, [program, it.split(" ")[1]], b"", wrong_of_test) for it in wanted]
+    return found
 
 
 def program(script: str, mode: str, wrong: Callable[[Case, Ended, Ended], str | None]) -> Case:
@@ -157,60 +197,152 @@ def seconds_of_children() -> float:
     return used.ru_utime + used.ru_stime
 
 
-def count(case: Case) -> tuple[int, float, Ended]:
-    """How many allocations a run makes where none is refused, how many seconds it takes, and how it ends."""
-    file = f"{sys.argv[1]}.count"
+class Row(NamedTuple):
+    """A row's number, from 1 on, or 0 for what comes before; its allocations; and how long it takes to play it."""
+
+    number: int
+    first: int
+    count: int
+    seconds: float
+
+
+def count(case: Case) -> tuple[int, float, Ended, list[Row]]:
+    """How many allocations a run makes where none is refused, how many seconds it takes, how it ends, and its rows."""
+    file, begun = f"{sys.argv[1]}.count", f"{sys.argv[1]}.rows"
     # what the last run left would hide that this one counted nothing
-    open(file, "wb").close()
+    for it in (file, begun):
+        open(it, "wb").close()
     before = seconds_of_children()
-    whole = run(case, REFUSE_COUNT=file)
+    whole = run(case, REFUSE_COUNT=file, REFUSE_ROWS=begun)
     seconds = seconds_of_children() - before
     with open(file, "rb") as it:
         counted = it.read()
-    return int.from_bytes(counted, "little") if counted else -1, seconds, whole
+    allocations = int.from_bytes(counted, "little") if counted else -1
+    with open(begun, encoding="ascii") as it:
+        starts = [(int(line.split()[0]), int(line.split()[1]) / 1e9) for line in it]
+    ends = [*starts, (allocations, max(seconds, starts[-1][1] if starts else 0))]
+    found, (last, since) = [], (0, 0.0)
+    for number, (end, until) in enumerate(ends):
+        # what is refused before the first row is judged by that row
+        judged = ends[1][1] if number == 0 and starts else until
+        if end > last:
+            found.append(Row(number, last + 1, end - last, judged - since))
+        last, since = end, until
+    return allocations, seconds, whole, found
 
 
-def chosen(allocations: int, seconds: float) -> list[int]:
+def chosen(first: int, allocations: int, seconds: float) -> list[int]:
     """The allocations that are refused, of so many, where a run takes so many seconds."""
-    if allocations <= ALL and allocations * seconds <= COST:
-        return list(range(1, allocations + 1))
+    if allocations * seconds <= COST:
+        return list(range(first, first + allocations))
     sample = min(SAMPLE, int(COST / max(seconds, 0.001)), allocations)
-    return [1 + at * (allocations - 1) // max(sample - 1, 1) for at in range(sample)]
+    return [first + at * (allocations - 1) // max(sample - 1, 1) for at in range(sample)]
 
 
 def tried(case: Case, whole: Ended, at: int) -> str | None:
     return case.wrong(case, whole, run(case, REFUSE_AT=str(at)))
 
 
+def wrong_of_fork(status: int, text: str) -> str | None:
+    """What is wrong with a fork, of which refuse.c tells so much."""
+    if not text and status in (0, ROW_ENDED):
+        return None
+    if status == TOO_LONG:
+        return f"had not ended after {SECONDS} seconds"
+    return f"signal {-status}: {text}" if status < 0 else f"failed with status {status}: {text}"
+
+
+def forked(case: Case, words: str, job: int, places: list[tuple[int, ...]]) -> tuple[dict[int, str | None], list[int]]:
+    """Refuses the allocations of these places, whose last words are their numbers, in forks of one run, which takes them
+    as refuse.c's setting of that name. Returns what is wrong with each, and those at which there were several threads."""
+    file = f"{sys.argv[1]}.{job}"
+    with open(f"{file}.places", "wb") as it:
+        array.array("Q", [word for place in places for word in place]).tofile(it)
+    open(f"{file}.each", "wb").close()
+    how = {"REFUSE_EACH": f"{file}.each", words: f"{file}.places", "REFUSE_SECONDS": str(SECONDS)}
+    ran = subprocess.run(case.words, env={"LD_PRELOAD": sys.argv[1], **how}, input=case.given, capture_output=True)
+    told, left = {}, []
+    with open(f"{file}.each", encoding="utf-8", errors="replace") as it:
+        for line in it:
+            number, status, *text = line.rstrip("\n").split(" ", 2)
+            if status == "threads":
+                left.append(int(number))
+            else:
+                told[int(number)] = wrong_of_fork(int(status), "".join(text))
+    ended, known = Ended(ran.returncode, ran.stdout, ran.stderr), {*told, *left}
+    missing = [place[-1] for place in places if place[-1] not in known]
+    why = "the run that forks ended badly" if case.wrong(case, ended, ended) else "was not reached"
+    # where there are threads, a run may make fewer allocations than another
+    is_reached = left and why == "was not reached"
+    return (told, left + missing) if is_reached else ({**told, **dict.fromkeys(missing, why)}, left)
+
+
+def refuse_all(
+    pool: ThreadPoolExecutor, case: Case, words: str, places: list[tuple[int, ...]]
+) -> tuple[dict[int, str | None], list[int]]:
+    """As `forked`, by as many runs as there are cores."""
+    if not places:
+        return {}, []
+    jobs = min(int(os.environ["JOBS"]), 1 + len(places) // 100)
+    told, left = {}, []
+    for ends, rest in pool.map(partial(forked, case, words), range(jobs), [places[job::jobs] for job in range(jobs)]):
+        told.update(ends)
+        left += rest
+    return told, sorted(left)
+
+
+def refuse_test(pool: ThreadPoolExecutor, case: Case, found: list[Row]) -> tuple[dict[int, str | None], int]:
+    """Refuses the allocations of a test's rows. Returns what is wrong with each, and how many there were for threads."""
+    numbers = [(it,) for row in found for it in chosen(row.first, row.count, row.seconds + FORK)]
+    told, left = refuse_all(pool, case, "REFUSE_NUMBERS", numbers)
+    places = [(row.number, it - row.first + 1, it) for row in found for it in left if row.first <= it < row.first + row.count]
+    ends, rest = refuse_all(pool, case, "REFUSE_PLACES", places)
+    return {**told, **ends, **dict.fromkeys(rest, "there were threads where its row begins")}, len(places)
+
+
 def refuse(pool: ThreadPoolExecutor, case: Case) -> tuple[int, int]:
     """Refuses the case's allocations, and returns how many, and how many runs ended badly."""
-    allocations, seconds, whole = count(case)
+    begun = seconds_of_children()
+    allocations, seconds, whole, found = count(case)
     why = stopped(whole) or case.wrong(case, whole, whole)
     if not why and allocations < 0:
         why = "its allocations were not counted"
     if why:
         print(f"{case.name}: fails where nothing is refused: {why}", flush=True)
         return 0, 1
-    numbers = chosen(allocations, seconds)
-    ends = zip(numbers, pool.map(partial(tried, case, whole), numbers))
-    bad = [(at, why) for at, why in ends if why]
-    sample = " (a sample)" if len(numbers) < allocations else ""
-    text = f"{case.name}: {allocations} allocations, {len(numbers)} refused{sample}, "
-    text += f"{len(bad)} ended badly"
+    text = f"{case.name}: "
+    threads = 0
+    if case.wrong == wrong_of_test:
+        told, threads = refuse_test(pool, case, found)
+        text += f"{len(found)} row{'' if len(found) == 1 else 's'}, "
+    else:
+        numbers = chosen(1, allocations, seconds)
+        told = dict(zip(numbers, pool.map(partial(tried, case, whole), numbers)))
+    bad = [(at, why) for at, why in sorted(told.items()) if why]
+    text += f"{allocations} allocations, {len(told)} refused"
+    text += f", {threads} of them beside other threads" if threads else ""
+    text += " (a sample)" if len(told) < allocations else ""
+    text += f", {len(bad)} ended badly"
     if bad:
         text += f": {' '.join(str(at) for at, _ in bad[:5])} ({bad[0][1]})"
-    print(text, flush=True)
-    return len(numbers), len(bad)
+    print(f"{text}, {seconds_of_children() - begun:.0f} s", flush=True)
+    return len(told), len(bad)
 
 
 def main() -> int:
-    words = sys.argv[2:]
-    cases = [*tests(), *examples()]
-    cases = [it for it in cases if not words or any(word in it.name for word in words)]
-    if not cases:
-        sys.exit(f"refusals.py: no test's name contains {' or '.join(words)}")
+    room, *words = sys.argv[2:]
+    is_wanted = lambda name: not words or any(word in name for word in words)
     # a failed assert ends the process by a signal
     resource.setrlimit(resource.RLIMIT_CORE, (0, 0))
+    scripts = [it for it in examples() if is_wanted(it.name)]
+    if scripts:
+        with open("crates/txcache/stdin", "rb") as it:
+            ran = subprocess.run(["rt", "run", "--", "node"], cwd="crates/txcache", stdin=it, capture_output=True, text=True)
+        if ran.returncode:
+            sys.exit(ran.stdout + ran.stderr)
+    cases = [*tests(room, is_wanted), *scripts]
+    if not cases:
+        sys.exit(f"refusals.py: no test's name contains {' or '.join(words)}")
     pool = ThreadPoolExecutor(int(os.environ["JOBS"]))
     try:
         counts = [refuse(pool, it) for it in cases]

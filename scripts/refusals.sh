@@ -1,27 +1,26 @@
 #!/usr/bin/env bash
-# Refuses each allocation of the tests in its turn, and each of the program over the examples:
-# a test must pass all the same. It first proves and builds what has changed.
+# Refuses each allocation of the tests in its turn, and each of the program over the examples: a test must pass all the
+# same. It builds the tests with no proof, and proves and builds the program where it has changed.
 #
-# usage: [JOBS=N] scripts/refusals.sh [TEST..]
-#   TEST    tries those alone whose name, as `txc_cases tags::adding`, contains one of these words
+# usage: [JOBS=N] [ROOM=FOLDER] scripts/refusals.sh [TEST..]
+#   TEST    tries those alone whose name, as `txc_cases tags::sets_are_answered_as_worked`, contains one of these words
 #   JOBS    how many runs go side by side, by default one a core
+#   ROOM    keeps the built tests there, and takes those that are there: remove it where the sources changed
 #
-# It prints a line for each test, and last `N refusals, M ended badly`. The exit status is 0 only
-# if M is 0.
+# A test that plays the rows of a table, which have nothing in common, is done with a refusal once it begins the next row.
+# What it compares after the last row, as a sum over all, is seen where the last row is refused alone.
+#
+# It prints a line for each test: its rows, its allocations, how many of them were refused, how many of these runs ended
+# badly, the first five of those, and the seconds of processor time. The last line is `N refusals, M ended badly`. The
+# exit status is 0 only if M is 0.
 set -euo pipefail
 cd "$(dirname "$0")/.."
 
-room=$(mktemp -d)
-trap 'rm -rf "$room"' EXIT
+own=$(mktemp -d)
+trap 'rm -rf "$own"' EXIT
 trap 'exit 130' INT TERM
 
-quietly() {
-    "$@" >"$room/said" 2>&1 || { cat "$room/said" >&2; exit 2; }
-}
-
-quietly cc -shared -fPIC -O2 -o "$room/refuse.so" scripts/refuse.c
-for crate in crates/*_cases; do
-    (cd "$crate" && quietly rt test)
-done
-(cd crates/txcache && quietly rt run -- node <stdin)
-JOBS=${JOBS:-$(nproc)} python3 scripts/refusals.py "$room/refuse.so" "$@"
+cc -shared -fPIC -O2 -o "$own/refuse.so" scripts/refuse.c
+room=${ROOM:-$own/room}
+mkdir -p "$room"
+JOBS=${JOBS:-$(nproc)} python3 scripts/refusals.py "$own/refuse.so" "$(realpath "$room")" "$@"

@@ -1,0 +1,81 @@
+"""Builds the tests of a crate with no proof, as `rt try --test` compiles them, into a program that can be run by itself.
+
+`rt try` compiles the tests, runs them and keeps nothing. So it is run from a copy of the toolchain's folder, of links, in
+which the compiler's last step, clang, is a script that keeps what it was given. That is then compiled and linked as the
+toolchain does for proved tests.
+"""
+
+import os
+import shutil
+import subprocess
+import sys
+
+# In the place of clang: keeps the module of the tests, which alone is to have the sanitizer, and ends the try.
+KEEPS = """#!/bin/sh
+case " $* " in
+*" -fsanitize=address "*) cp module.bc '{module}.part' && mv '{module}.part' '{module}' && exit 1 ;;
+*) exec '{clang}' "$@" ;;
+esac
+"""
+
+# The words that the toolchain gives clang for a module, but for its sanitizer.
+FLAGS = """--target=x86_64-unknown-linux-gnu -march=x86-64 -mllvm -no-trap-after-noreturn -ffunction-sections -fdata-sections
+-mllvm -trap-unreachable -mllvm -no-x86-call-frame-opt -mllvm -disable-machine-licm -mllvm -disable-postra-machine-licm
+-mllvm -sink-common-insts=false --no-default-config -no-canonical-prefixes -fno-crash-diagnostics -c -x ir -fPIE -O1""".split()
+
+
+def kit():
+    """The toolchain's folder, which `rt doc` names."""
+    return os.path.dirname(subprocess.run(["rt", "doc"], capture_output=True, text=True, check=True).stdout.strip())
+
+
+def linked(real, folder, own):
+    """Makes the folder, with a link to each thing of the real one but for its own."""
+    os.makedirs(folder)
+    for name in os.listdir(real):
+        if name not in own:
+            os.symlink(f"{real}/{name}", f"{folder}/{name}")
+
+
+def copy_of_kit(real, folder, module):
+    """A copy of the toolchain's folder that keeps the module."""
+    linked(real, folder, {"bin", "toolchain"})
+    linked(f"{real}/bin", f"{folder}/bin", {"rt", "rtlib.py", "rattle"})
+    # the prover is asked for a hint alone
+    os.symlink("/bin/true", f"{folder}/bin/rattle")
+    for name in ("rt", "rtlib.py"):
+        # what they are told of the toolchain is where they lie themselves
+        with open(f"{real}/bin/{name}", "rb") as it, open(f"{folder}/bin/{name}", "wb") as to:
+            to.write(it.read())
+        os.chmod(f"{folder}/bin/{name}", 0o755)
+    linked(f"{real}/toolchain", f"{folder}/toolchain", {"bin"})
+    linked(f"{real}/toolchain/bin", f"{folder}/toolchain/bin", {"clang"})
+    with open(f"{folder}/toolchain/bin/clang", "w", encoding="utf-8") as it:
+        it.write(KEEPS.format(module=module, clang=f"{real}/toolchain/bin/clang"))
+    os.chmod(f"{folder}/toolchain/bin/clang", 0o755)
+
+
+def build(crate, program):
+    """Builds the tests of the crate's folder into the program, and returns what was said where they do not compile."""
+    real, room = kit(), f"{program}.made"
+    module = f"{room}/module.bc"
+    shutil.rmtree(room, ignore_errors=True)
+    copy_of_kit(real, f"{room}/kit", module)
+    tried = subprocess.run([f"{room}/kit/bin/rt", "try", "--test"], cwd=crate, capture_output=True, text=True, errors="replace")
+    if not os.path.exists(module):
+        return tried.stdout + tried.stderr
+    toolchain = f"{real}/toolchain"
+    commands = [
+        [f"{toolchain}/bin/clang", f"--sysroot={toolchain}", *FLAGS, module, "-o", f"{room}/module.o"],
+        [f"{real}/bin/rattle-link", "--target", "x86_64-unknown-linux-gnu", "--toolchain", toolchain, "-o", program,
+         f"{room}/module.o", f"{real}/c/libos_c.a", f"{real}/c/liblibc_c.a"],
+    ]
+    for words in commands:
+        ran = subprocess.run(words, capture_output=True, text=True, errors="replace")
+        if ran.returncode:
+            return ran.stdout + ran.stderr
+    return ""
+
+
+if __name__ == "__main__":
+    sys.exit(build(*map(os.path.abspath, sys.argv[1:3])) or 0)
