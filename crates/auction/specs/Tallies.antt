@@ -1,11 +1,19 @@
 -- What visitors came to.
-use Rattle.std.specs.Prelude.{◌≡◌, ℕ, ◌+◌, false}
+use Rattle.std.specs.Prelude.{◌≡◌, ℕ, ◌+◌, ◌-◌, ◌^◌, min, false}
 use Rattle.auction.specs.declared.arguments.Arguments.{Arguments}
 use Rattle.auction.specs.declared.tally.Tally.{Tally}
 
 -- how many pages were asked for
 abbrev pub pages_of : Tally → ℕ
 pages_of t = t.whole + t.torn + t.refused
+
+-- the sum, or the greatest number of 64 bits
+abbrev pub added : ℕ → ℕ → ℕ
+added m n = min (m + n) (2 ^ 64 - 1)
+
+-- nothing is another but what is counted of bids
+abbrev pub CountsBids : Tally → Tally → Type 0
+CountsBids old new = new ≡ record old { bids = new.bids; conflicts = new.conflicts; raised = new.raised; last = new.last }
 
 -- so many pages were asked for; and none that was shown was torn, where both calls of a page were made in one transaction
 pub record HasSeen (pages : ℕ) (arguments : Arguments) (t : Tally) : Type 0 where

@@ -1,12 +1,13 @@
 //! The visitors, who read pages and bid, each on a thread.
 ghost use Rattle.std.specs.Prelude.{◌≡◌, ◌+◌, ◌<◌, ◌^◌, false, IfSome};
 ghost use Rattle.auction.specs.Pages.{IsWhole};
-ghost use Rattle.auction.specs.Tallies.{pages_of};
+ghost use Rattle.auction.specs.Tallies.{pages_of, CountsBids};
 
 use crate::arguments::Arguments;
 use crate::changes::{Bid, ITEM_COUNT, USER_COUNT};
 use crate::functions::{Auction, AuctionFunction};
 use crate::pages::{BothBids, ItemPage, OneCall};
+use crate::seen::{AllBids, Seen};
 use crate::tally::Tally;
 use std::alloc::Global;
 use std::sync::Wait;
@@ -18,7 +19,7 @@ use txc_stamp::Stamp;
 /// A visitor's client.
 type Guest<'a, J> = SiteClient<'a, Auction, AuctionFunction, J>;
 
-/// How often a bid is tried.
+/// How often a bid is tried, and the last page.
 const TRIES: u32 = 8;
 
 /// How many rounds a pin stays.
@@ -40,7 +41,9 @@ pub struct Crowd {
 
 impl Crowd {
     /// What a page of the round may show: nothing that is too old, or older than the stamp.
-    fn bounds(&self, round: Round, at_least: Stamp) -> Bounds {
+    fn bounds(&self, round: Round, at_least: Stamp) -> Bounds
+        ensures { result ≡ record { now = round.now; staleness = self.now.arguments.staleness; at_least = at_least } }
+    {
         Bounds {
             now: u64::from(round.now),
             staleness: u64::from(self.arguments.staleness),
@@ -57,7 +60,7 @@ impl Crowd {
         round: Round,
         tally: &mut Tally,
     ) -> (Option<Stamp>, Guest<'a, J>)
-        ensures { tally.new ≡ record tally.old { bids = tally.new.bids; conflicts = tally.new.conflicts } }
+        ensures { CountsBids tally.old tally.new }
     {
         let bid = Bid {
             item: round.item,
@@ -66,7 +69,7 @@ impl Crowd {
         };
         let (written, client) = client.write(rt, alloc, TRIES, &bid);
         match written {
-            Ok(written) => (Some(tally.count_bid(&written)), client),
+            Ok(written) => (Some(tally.count_bid(bid.more, &written)), client),
             Err(_) => (None, client),
         }
     }
@@ -100,7 +103,7 @@ impl Crowd {
         round: Round,
         tally: &mut Tally,
     ) -> (Option<BothBids>, Guest<'a, J>)
-        ensures { tally.new ≡ record tally.old { bids = tally.new.bids; conflicts = tally.new.conflicts } }
+        ensures { CountsBids tally.old tally.new }
     {
         let id = round.item;
         let bounds = self.bounds(round, Stamp::ZERO);
@@ -130,7 +133,7 @@ impl Crowd {
         round: Round,
         tally: &mut Tally,
     ) -> (Option<BothBids>, Guest<'a, J>)
-        ensures counts { tally.new ≡ record tally.old { bids = tally.new.bids; conflicts = tally.new.conflicts } }
+        ensures counts { CountsBids tally.old tally.new }
         ensures whole { self.now.arguments.is_plain ≡ false → IfSome result.0 IsWhole }
     {
         if self.arguments.is_plain {
@@ -157,6 +160,45 @@ impl Crowd {
         tally.count(page);
         let (_stamp, client) = self.bid(rt, alloc, client, round, tally);
         client
+    }
+
+    /// What all highest bids come to in a state that is not before this stamp. None where the page is refused.
+    fn last_page<'a, J: Naming, R: Wait>(
+        &self,
+        rt: &R,
+        alloc: Global,
+        client: Guest<'a, J>,
+        at_least: Stamp,
+    ) -> (Option<Seen>, Guest<'a, J>) {
+        let round = Round {
+            item: 0,
+            now: self.arguments.pages,
+        };
+        let bounds = self.bounds(round, at_least);
+        let (shown, client) = client.read(rt, alloc, bounds, &AllBids);
+        match shown {
+            Ok(shown) => (Seen::by(&shown), client),
+            Err(_) => (None, client),
+        }
+    }
+
+    /// The same. Where the page is refused, it is asked for again, some times.
+    fn see<J: Naming, R: Wait>(
+        &self,
+        rt: &R,
+        alloc: Global,
+        client: Guest<'_, J>,
+        at_least: Stamp,
+    ) -> Option<Seen> {
+        let mut client = client;
+        for _ in 0..TRIES {
+            let (seen, left) = self.last_page(rt, alloc, client, at_least);
+            if seen.is_some() {
+                return seen;
+            }
+            client = left;
+        }
+        None
     }
 }
 
@@ -223,6 +265,7 @@ impl Visitor<Auction, AuctionFunction> for Crowd {
             keeper = keep(rt, alloc, keeper, now, &mut tally);
         }
         count_lookups(&client, &mut tally);
+        tally.seen = self.see(rt, alloc, client, tally.last);
         tally
     }
 }
