@@ -9,6 +9,7 @@ abbrev pub number_of : ShopFunction → ℕ
 number_of functions.Stock = 0
 number_of functions.ProductPage = 1
 number_of functions.CategoryList = 2
+number_of functions.StockList = 3
 
 abbrev pub says_of : ShopFunction → Says
 says_of f = shop (number_of f)

@@ -13,7 +13,7 @@ use Rattle.txc_app.specs.Eval.{Next}
 abbrev pub PRODUCTS : ℕ
 PRODUCTS = 1
 
--- how many of a product are left is the row of its id: a number in decimal
+-- how many of a product are left is the row of its id, in the group 0: a number in decimal
 abbrev pub STOCKS : ℕ
 STOCKS = 2
 
@@ -37,14 +37,9 @@ text_in (Rows rows) = body_of rows
 text_in (Value bytes) = bytes
 
 -- the bodies, with a semicolon after each
-abbrev pub titles_of : List RowValue → List ℕ
-titles_of [] = []
-titles_of (r ∷ rows) = r.body ++ 59 ∷ titles_of rows
-
--- a mark, #, for each row
-abbrev pub marks_of : List RowValue → List ℕ
-marks_of [] = []
-marks_of (r ∷ rows) = 35 ∷ marks_of rows
+abbrev pub bodies_of : List RowValue → List ℕ
+bodies_of [] = []
+bodies_of (r ∷ rows) = r.body ++ 59 ∷ bodies_of rows
 
 -- a call of a function with one argument
 abbrev pub call_of : ℕ → ℕ → CallValue
@@ -56,20 +51,26 @@ stock (product ∷ []) [] = Some (Query (ById STOCKS product))
 stock (product ∷ []) (row ∷ more) = Some (Done (text_in row))
 stock args given = None
 
--- 1: the page of a product: its title and price, how many are left, and a mark for each order of it
+-- 1: the page of a product: its title and price, how many are left, and who ordered it
 abbrev pub product_page : List ℕ → List Answer → Option Ask
 product_page (product ∷ []) [] = Some (Call (call_of 0 product))
 product_page (product ∷ []) (left ∷ []) = Some (Query (ById PRODUCTS product))
 product_page (product ∷ []) (left ∷ row ∷ []) = Some (Query (ByGroup ORDERS product))
 product_page (product ∷ []) (left ∷ row ∷ orders ∷ more) =
-    Some (Done (text_in row ++ 124 ∷ text_in left ++ 124 ∷ marks_of (rows_in orders)))
+    Some (Done (text_in row ++ 124 ∷ text_in left ++ 124 ∷ bodies_of (rows_in orders)))
 product_page args given = None
 
 -- 2: the titles and prices of a category's products
 abbrev pub category_list : List ℕ → List Answer → Option Ask
 category_list (category ∷ []) [] = Some (Query (ByGroup PRODUCTS category))
-category_list (category ∷ []) (rows ∷ more) = Some (Done (titles_of (rows_in rows)))
+category_list (category ∷ []) (rows ∷ more) = Some (Done (bodies_of (rows_in rows)))
 category_list args given = None
+
+-- 3: the stocks of all products of a group, which is 0
+abbrev pub stock_list : List ℕ → List Answer → Option Ask
+stock_list (group ∷ []) [] = Some (Query (ByGroup STOCKS group))
+stock_list (group ∷ []) (rows ∷ more) = Some (Done (bodies_of (rows_in rows)))
+stock_list args given = None
 
 -- no function has this number
 abbrev pub refuses : List ℕ → List Answer → Option Ask
@@ -77,4 +78,6 @@ refuses args given = None
 
 -- the functions, by their numbers
 abbrev pub shop : Next
-shop f = if f == 0 then stock else (if f == 1 then product_page else (if f == 2 then category_list else refuses))
+shop f =
+    if f == 0 then stock
+    else (if f == 1 then product_page else (if f == 2 then category_list else (if f == 3 then stock_list else refuses)))

@@ -1,5 +1,6 @@
-ghost use Rattle.std.specs.Prelude.{◌≡◌, ◌++◌, ◌∷◌, ◌≤◌, ◌<◌, IfOk};
-ghost use Rattle.shop.specs.Shop.{call_of, marks_of, rows_in, text_in, titles_of};
+ghost use Rattle.std.specs.Prelude.{◌≡◌, ◌++◌, ◌∷◌, ◌≤◌, IfOk};
+ghost use Rattle.txc_app.specs.declared.ask.Ask.TheVariants.{Done};
+ghost use Rattle.shop.specs.Shop.{bodies_of, call_of, rows_in, text_in};
 
 use std::alloc::{AllocError, Global};
 use txc_app::{Answer, App, Ask, Bytes};
@@ -29,7 +30,7 @@ pub fn table(number: u8) -> Table
 
 /// The call of a function with one argument.
 pub fn key(function: u8, id: u32) -> Key
-    requires { function ≤ 2 }
+    requires { function ≤ 3 }
     ensures { result ≡ call_of function id }
 {
     let Ok(key) = Key::new(function, &[id]) else {
@@ -50,46 +51,36 @@ fn rows(answer: &Answer) -> &[Row]
 fn text(answer: &Answer) -> &[u8]
     ensures { result.now ≡ text_in answer.now }
 {
-    match answer {
-        Answer::Rows(rows) => match rows.as_slice().first() {
-            Some(row) => row.body(),
-            None => &[],
-        },
-        Answer::Value(value) => value.bytes(),
+    if let Answer::Value(value) = answer {
+        return value.bytes();
+    }
+    match rows(answer).first() {
+        Some(row) => row.body(),
+        None => &[],
     }
 }
 
-fn titles(alloc: Global, rows: &[Row]) -> Result<Bytes, AllocError>
-    ensures { IfOk result (λ titles. titles ≡ titles_of rows.now) }
+/// The bytes, and then the bodies with a semicolon after each.
+fn listed(mut bytes: Vec<u8>, rows: &[Row]) -> Result<Ask, AllocError>
+    ensures { IfOk result (λ ask. ask ≡ Done (bytes.items ++ bodies_of rows.now)) }
 {
-    let mut bytes = Vec::new(alloc);
     for row in rows {
         bytes.extend_from_slice(row.body())?;
         bytes.push(b';')?;
     }
-    Ok(Bytes::new(bytes))
-}
-
-fn page(alloc: Global, product: &[u8], left: &[u8], orders: &[Row]) -> Result<Bytes, AllocError>
-    ensures { IfOk result (λ page. page ≡ product.now ++ 124 ∷ left.now ++ 124 ∷ marks_of orders.now) }
-{
-    let mut bytes = Vec::from_slice(alloc, product)?;
-    bytes.push(b'|')?;
-    bytes.extend_from_slice(left)?;
-    bytes.push(b'|')?;
-    for _order in orders {
-        bytes.push(b'#')?;
-    }
-    Ok(Bytes::new(bytes))
+    Ok(Ask::Done(Bytes::new(bytes)))
 }
 
 /// One of the shop's functions.
-#[derive(Drop)]
+#[derive(Clone, Copy)]
 pub enum ShopFunction {
     Stock,
     ProductPage,
     CategoryList,
+    StockList,
 }
+
+use ShopFunction::{CategoryList, ProductPage, Stock, StockList};
 
 impl Definition for ShopFunction {
     ghost use Rattle.shop.specs.Objects.{number_of, says_of};
@@ -99,11 +90,7 @@ impl Definition for ShopFunction {
     ghost says = { says_of };
 
     fn number(&self) -> u8 {
-        match self {
-            ShopFunction::Stock => 0,
-            ShopFunction::ProductPage => 1,
-            ShopFunction::CategoryList => 2,
-        }
+        *self as u8
     }
 
     fn accepts(&self, args: &[u32]) -> bool {
@@ -113,9 +100,10 @@ impl Definition for ShopFunction {
     fn first(&self, _alloc: Global, args: &[u32]) -> Result<Ask, AllocError> {
         let [id] = args else { unreachable!() };
         Ok(match self {
-            ShopFunction::Stock => Ask::Query(Query::ById(table(2), *id)),
-            ShopFunction::ProductPage => Ask::Call(key(0, *id)),
-            ShopFunction::CategoryList => Ask::Query(Query::ByGroup(table(1), *id)),
+            Stock => Ask::Query(Query::ById(table(2), *id)),
+            ProductPage => Ask::Call(key(0, *id)),
+            CategoryList => Ask::Query(Query::ByGroup(table(1), *id)),
+            StockList => Ask::Query(Query::ByGroup(table(2), *id)),
         })
     }
 
@@ -127,29 +115,28 @@ impl Definition for ShopFunction {
         answer: &Answer,
     ) -> Result<Ask, AllocError> {
         let [id] = args else { unreachable!() };
-        Ok(match self {
-            ShopFunction::Stock => Ask::Done(Bytes::new(Vec::from_slice(alloc, text(answer))?)),
-            ShopFunction::ProductPage => match answers {
-                [] => Ask::Query(Query::ById(table(1), *id)),
-                [_left] => Ask::Query(Query::ByGroup(table(3), *id)),
-                [left, row] => Ask::Done(page(alloc, text(row), text(left), rows(answer))?),
-                _ => unreachable!(),
-            },
-            ShopFunction::CategoryList => Ask::Done(titles(alloc, rows(answer))?),
-        })
+        match (self, answers) {
+            (Stock, _) => listed(Vec::from_slice(alloc, text(answer))?, &[]),
+            (ProductPage, []) => Ok(Ask::Query(Query::ById(table(1), *id))),
+            (ProductPage, [_left]) => Ok(Ask::Query(Query::ByGroup(table(3), *id))),
+            (ProductPage, [left, row, ..]) => {
+                let mut page = Vec::from_slice(alloc, text(row))?;
+                page.push(b'|')?;
+                page.extend_from_slice(text(left))?;
+                page.push(b'|')?;
+                listed(page, rows(answer))
+            }
+            (CategoryList | StockList, _) => listed(Vec::new(alloc), rows(answer)),
+        }
     }
 }
 
 impl Application<ShopFunction> for Shop {
     ghost use Rattle.std.specs.Prelude.{[], ◌∷◌};
 
-    ghost numbers = { 0 ∷ 1 ∷ 2 ∷ [] };
+    ghost numbers = { 0 ∷ 1 ∷ 2 ∷ 3 ∷ [] };
 
     fn definitions(alloc: Global) -> Result<Vec<ShopFunction>, AllocError> {
-        Ok(vec![in alloc;
-            ShopFunction::Stock,
-            ShopFunction::ProductPage,
-            ShopFunction::CategoryList,
-        ]?)
+        Ok(vec![in alloc; Stock, ProductPage, CategoryList, StockList]?)
     }
 }

@@ -1,0 +1,92 @@
+use crate::functions::{Shop, ShopFunction};
+use crate::trade::{OneCall, PRODUCT_COUNT, Purchase, is_whole, sum_of};
+use std::alloc::Global;
+use std::sync::Wait;
+use txc_db::Naming;
+use txc_ports::Bounds;
+use txc_site::{SiteClient, Visitor};
+use txc_stamp::Stamp;
+
+/// What visitors came to, and the sum of the stocks at the stamp where it was last read.
+#[derive(Clone, Copy, Default)]
+pub struct Tally {
+    pub pages: u32,
+    pub torn: u32,
+    pub purchases: u32,
+    pub conflicts: usize,
+    pub left: Option<(Stamp, u32)>,
+}
+
+impl Tally {
+    /// Counts a page that was whole, or one that was torn or not shown.
+    fn count_page(&mut self, is_whole: bool) {
+        self.pages = self.pages.saturating_add(1);
+        self.torn = self.torn.saturating_add(u32::from(!is_whole));
+    }
+}
+
+/// The visitors: each asks for so many pages, not older than that, and buys after each.
+#[derive(Clone, Copy)]
+pub struct Visitors {
+    pub pages: u32,
+    pub seed: u32,
+    pub staleness: u32,
+}
+
+impl Visitors {
+    fn bounds(&self, round: u32, at_least: Stamp) -> Bounds {
+        Bounds {
+            now: u64::from(round),
+            staleness: u64::from(self.staleness),
+            at_least,
+        }
+    }
+}
+
+impl Visitor<Shop, ShopFunction> for Visitors {
+    type Output = Tally;
+
+    ghost gives = { λ visitor plan row number output. Unit {0} };
+
+    /// The first visitor keeps the site. Time is the number of the round.
+    fn visit<J: Naming + Send + Sync, R: Wait>(
+        &self,
+        rt: &R,
+        alloc: Global,
+        number: usize,
+        client: &mut Option<SiteClient<'_, Shop, ShopFunction, J>>,
+    ) -> Tally {
+        let Some(mut client) = client.take() else {
+            unreachable!()
+        };
+        let mut keeper = client.keeper(rt, alloc).ok().filter(|_| number == 0);
+        let buyer = u32::try_from(number).unwrap_or(0);
+        let mut tally = Tally::default();
+        let mut at_least = Stamp::ZERO;
+        for round in 0..self.pages {
+            let id = round.wrapping_add(buyer).wrapping_add(self.seed) % PRODUCT_COUNT;
+            let bounds = self.bounds(round, Stamp::ZERO);
+            let (page, back) = client.read(rt, alloc, bounds, &OneCall { function: 1, id });
+            tally.count_page(page.is_ok_and(|page| is_whole(&page.output)));
+            let (written, back) = back.write(rt, alloc, 8, &Purchase { id, buyer, round });
+            if let Ok(written) = written {
+                at_least = written.committed.stamp;
+                tally.conflicts = tally.conflicts.saturating_add(written.conflicts.len());
+                tally.purchases = tally.purchases.saturating_add(u32::from(written.output));
+            }
+            let id = id % 2;
+            let (list, back) = back.read(rt, alloc, bounds, &OneCall { function: 2, id });
+            tally.count_page(list.is_ok());
+            client = back;
+            keeper = keeper.map(|keeper| keeper.keep(rt, alloc, bounds.now, 16).1);
+        }
+        let bounds = self.bounds(self.pages, at_least);
+        let page = OneCall { function: 3, id: 0 };
+        let (stocks, _client) = client.read(rt, alloc, bounds, &page);
+        if let Ok(stocks) = stocks {
+            let left = sum_of(&stocks.output);
+            tally.left = stocks.receipt.pin.map(|pin| (pin.stamp, left));
+        }
+        tally
+    }
+}
