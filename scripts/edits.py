@@ -3,11 +3,13 @@
 
 usage: [JOBS=N] scripts/edits.py [CRATE..]
        [JOBS=N] scripts/edits.py --named [CRATE..]
+       [JOBS=N] scripts/edits.py --kept CRATE[/NAME]..
   CRATE    tries the wrong bodies of these crates alone
   JOBS     how many checks run side by side, by default one a core (up to 2.7 GB each)
   --named  tries those that edits.txt names, as the gate does, over the libraries that `rt ci` has just left in
            crates/*/out: of each crate the functions that they change are checked, and nothing else. Without it, it
            tries all of what is committed, in a temporary folder, over libraries that it builds where it has to
+  --kept   tries all of these crates, or those alone that are named, as --named does, over the same libraries
 
 A function's contract is all that the proofs of others know of it, so the wrong bodies of different
 functions are tried together, in one check: each is refused if the check says that its own function
@@ -17,7 +19,7 @@ An edit may change files of proofs/ beside its file of src/, so that a clause re
 that changes no function, but a constant, has a line `function: NAME`: the function that is to refuse it, by its name or the end of it. Of
 a function that the prover does not know by that name the edit is bad, and the others of its check are tried without it.
 
-It prints each wrong body that is not plainly refused, with --named each, and last `N refused, M proved`, with
+It prints each wrong body that is not plainly refused, with --named and --kept each, and last `N refused, M proved`, with
 `, K bad` where some could not be tried. The exit status is 0 only if M and K are 0.
 """
 
@@ -205,12 +207,27 @@ def try_named(root, edits):
 
 
 def named(root, crates):
-    """The wrong bodies that edits.txt names."""
-    edits = []
+    """The wrong bodies that edits.txt names, as CRATE/NAME."""
+    found = []
     for line in open(f"{root}/edits.txt", encoding="utf-8"):
         crate, colon, names = line.partition("#")[0].partition(":")
         if colon and (not crates or crate in crates):
-            edits += [Edit(crate, f"{root}/crates/{crate}/more-edits/{it}.edit") for it in names.split()]
+            found += [f"{crate}/{it}" for it in names.split()]
+    return found
+
+
+def kept(root, words):
+    """All wrong bodies of the crates that stand alone among the words, and those said as CRATE/NAME."""
+    found = []
+    for word in words:
+        folder = f"{root}/crates/{word}/more-edits"
+        found += [word] if "/" in word else [f"{word}/{it.removesuffix('.edit')}" for it in sorted(os.listdir(folder)) if it.endswith(".edit")]
+    return found
+
+
+def edits_of(root, words):
+    """The wrong bodies that are said as CRATE/NAME, with their functions."""
+    edits = [Edit(crate, f"{root}/crates/{crate}/more-edits/{name}.edit") for crate, _, name in (it.partition("/") for it in words)]
     for edit in edits:
         edit.find_functions(f"{root}/crates/{edit.crate}")
         if not edit.functions:
@@ -218,16 +235,24 @@ def named(root, crates):
     return edits
 
 
-def try_all_named(root, crates):
-    edits = named(root, crates)
+def try_over_kept(root, words):
+    """Tries the wrong bodies that are said as CRATE/NAME over the libraries of crates/*/out."""
+    edits = edits_of(root, words)
     lists = [it for crate in dict.fromkeys(edit.crate for edit in edits)
              for it in rounds([edit for edit in edits if edit.crate == crate and not edit.verdict])]
-    with ThreadPoolExecutor(JOBS) as pool:
-        list(pool.map(lambda it: try_named(root, it), sorted(lists, key=len, reverse=True)))
-        # one that calls another one's function was not judged beside it
-        list(pool.map(lambda it: try_named(root, [it]), [edit for edit in edits if not edit.verdict]))
+    def tried(together):
+        try_named(root, together)
+        for edit in together:
+            if edit.verdict:
+                print(f"{edit.name}: {edit.verdict}: {edit.said[:200]}", flush=True)
+
     for edit in edits:
-        print(f"{edit.name}: {edit.verdict}: {edit.said[:200]}")
+        if edit.verdict:
+            print(f"{edit.name}: {edit.verdict}: {edit.said}")
+    with ThreadPoolExecutor(JOBS) as pool:
+        list(pool.map(tried, sorted(lists, key=len, reverse=True)))
+        # one that calls another one's function was not judged beside it
+        list(pool.map(tried, [[edit] for edit in edits if not edit.verdict]))
     return told(edits)
 
 
@@ -280,8 +305,11 @@ def proof_folder(path):
 
 def main():
     os.chdir(f"{os.path.dirname(os.path.abspath(__file__))}/..")
+    words = [it for it in sys.argv[1:] if it not in ("--named", "--kept")]
     if "--named" in sys.argv[1:]:
-        sys.exit(try_all_named(os.getcwd(), [it for it in sys.argv[1:] if it != "--named"]))
+        sys.exit(try_over_kept(os.getcwd(), named(os.getcwd(), words)))
+    if "--kept" in sys.argv[1:]:
+        sys.exit(try_over_kept(os.getcwd(), kept(os.getcwd(), words)))
     room = tempfile.mkdtemp(prefix="edits-")
     try:
         sys.exit(try_all(room, sys.argv[1:]))

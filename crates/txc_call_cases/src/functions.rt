@@ -8,9 +8,8 @@ use std::alloc::{AllocError, Global};
 use std::str::SplitWhitespace;
 use std::test::Fail;
 use txc_app::{Answer, App, Ask, Rows};
-use txc_functions::{
-    Again, BodiesAndBody, BodiesIn, BodyAt, Function, IdsIn, Itself, Program, RowCount,
-};
+use txc_definition::Function;
+use txc_functions::{Again, BodiesAndBody, BodiesIn, BodyAt, IdsIn, Itself, Program, RowCount};
 use txc_node::Value;
 use txc_permits::PermitPool;
 use txc_players::{Obeys, Player, body, give, is_played, number, room, say_unknown};
@@ -128,7 +127,7 @@ fn say_step(out: &mut String, step: Result<Ask, CallFault>) {
     }
 }
 
-fn call<C: Cacheable>(
+pub(crate) fn call<C: Cacheable>(
     function: &mut C,
     alloc: Global,
     words: &mut SplitWhitespace<'_>,

@@ -8,4 +8,6 @@
 #[cfg(test)]
 mod calls;
 #[cfg(test)]
+mod definitions;
+#[cfg(test)]
 mod functions;

@@ -1,12 +1,12 @@
 use crate::bodies_and_body::BodiesAndBody;
 use crate::bodies_in::BodiesIn;
 use crate::body_at::BodyAt;
-use crate::definition::Definition;
 use crate::endless::{Again, Itself};
 use crate::ids_in::IdsIn;
 use crate::row_count::RowCount;
 use std::alloc::{AllocError, Global};
 use txc_app::{Answer, Ask};
+use txc_definition::Definition;
 
 /// One of the program's functions.
 #[derive(Drop)]

@@ -2,9 +2,9 @@ ghost use Rattle.std.specs.Prelude.{◌≡◌, ◌++◌, ◌∷◌, IfOk};
 ghost use Rattle.txc_functions.specs.Program.{body_of, bytes_in, rows_in};
 
 use crate::body_at::{append_body, table};
-use crate::definition::Definition;
 use std::alloc::{AllocError, Global};
 use txc_app::{Answer, Ask, Bytes};
+use txc_definition::Definition;
 use txc_rows::Query;
 use txc_tags::Key;
 

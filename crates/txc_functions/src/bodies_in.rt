@@ -2,9 +2,9 @@ ghost use Rattle.std.specs.Prelude.{◌≡◌, IfOk};
 ghost use Rattle.txc_functions.specs.Program.{bodies_of, rows_in};
 
 use crate::body_at::table;
-use crate::definition::Definition;
 use std::alloc::{AllocError, Global};
 use txc_app::{Answer, Ask, Bytes};
+use txc_definition::Definition;
 use txc_rows::{Query, Row};
 
 /// Function 1: the bodies of a group by id, with a comma between two of them.

@@ -1,9 +1,9 @@
 ghost use Rattle.std.specs.Prelude.{◌≡◌, ◌++◌, IfOk, OnOk, OnErr};
 ghost use Rattle.txc_functions.specs.Program.{body_of, rows_in, TABLE};
 
-use crate::definition::Definition;
 use std::alloc::{AllocError, Global};
 use txc_app::{Answer, Ask, Bytes};
+use txc_definition::Definition;
 use txc_rows::Query;
 use txc_tags::Table;
 

@@ -1,8 +1,8 @@
 //! Functions that never give a value.
 use crate::body_at::table;
-use crate::definition::Definition;
 use std::alloc::{AllocError, Global};
 use txc_app::{Answer, Ask};
+use txc_definition::Definition;
 use txc_rows::Query;
 use txc_tags::Key;
 

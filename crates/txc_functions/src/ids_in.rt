@@ -2,10 +2,10 @@ ghost use Rattle.std.specs.Prelude.{◌≡◌, IfOk};
 ghost use Rattle.txc_functions.specs.Program.{ids_of, rows_in};
 
 use crate::body_at::table;
-use crate::definition::Definition;
 use std::alloc::{AllocError, Global};
 use std::fmt;
 use txc_app::{Answer, Ask, Bytes};
+use txc_definition::Definition;
 use txc_rows::{Query, Row};
 
 /// Function 6: the ids of the rows from one id to another, in decimal, with a comma between two of them.

@@ -3,7 +3,7 @@ ghost use Rattle.std.specs.Prelude.{◌≡◌, [], ◌∷◌, ◌++◌, map, vec
 ghost use Rattle.txc_registry.specs.Activity.{idle};
 ghost use Rattle.txc_registry.specs.Objects.{numbers_of, AllIdle};
 ghost use Rattle.txc_functions.specs.AnyFunction.{ALL_NUMBERS, number_of};
-ghost use Rattle.txc_functions.specs.Pools.{pool_of};
+ghost use Rattle.txc_definition.specs.Pools.{pool_of};
 ghost use Rattle.txc_functions.specs.Program.{program};
 
 use crate::any_function::AnyFunction;
@@ -11,11 +11,11 @@ use crate::bodies_and_body::BodiesAndBody;
 use crate::bodies_in::BodiesIn;
 use crate::body_at::BodyAt;
 use crate::endless::{Again, Itself};
-use crate::function::Function;
 use crate::ids_in::IdsIn;
 use crate::program::Program;
 use crate::row_count::RowCount;
 use std::alloc::{AllocError, Global};
+use txc_definition::Function;
 use txc_permits::PermitPool;
 use txc_registry::{Cacheable, Registry, enlist};
 

@@ -3,9 +3,9 @@ ghost use Rattle.std.specs.Fmt.{decimal};
 ghost use Rattle.txc_functions.specs.Program.{rows_in};
 
 use crate::body_at::table;
-use crate::definition::Definition;
 use std::alloc::{AllocError, Global};
 use txc_app::{Answer, Ask, Bytes};
+use txc_definition::Definition;
 use txc_rows::Query;
 
 /// Function 3: the number of rows, in decimal.

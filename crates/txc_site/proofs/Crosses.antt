@@ -12,10 +12,10 @@ use Rattle.txc_app.specs.declared.app.App as app
 use Rattle.txc_shared.specs.contracts.shared_node.SharedNode as SharedNode
 use Rattle.txc_shared.proofs.Crosses.{node_sync}
 use Rattle.txc_registry.proofs.registry.Registry.TheSendSync as registry
-use Rattle.txc_functions.specs.declared.definition.Definition as definition
-use Rattle.txc_functions.specs.contracts.function.Function as Function
-use Rattle.txc_functions.specs.contracts.function.FunctionCacheable.TheImpl as function
-use Rattle.txc_functions.proofs.function.Function.TheSendSync as function_crosses
+use Rattle.txc_definition.specs.declared.definition.Definition as definition
+use Rattle.txc_definition.specs.contracts.function.Function as Function
+use Rattle.txc_definition.specs.contracts.function.FunctionCacheable.TheImpl as function
+use Rattle.txc_definition.proofs.function.Function.TheSendSync as function_crosses
 use Rattle.txc_client.proofs.Crosses.{client_send}
 use Rattle.txc_site.specs.contracts.client.SiteClient as SiteClient
 use Rattle.txc_site.specs.contracts.client.SiteClient.TheInside as inside

@@ -6,7 +6,7 @@ ghost use Rattle.txc_site.specs.Sites.{IsRegistryRefused};
 use crate::error::SiteError;
 use std::alloc::{AllocError, Global};
 use txc_app::App;
-use txc_functions::{Definition, Function};
+use txc_definition::{Definition, Function};
 use txc_permits::PermitPool;
 use txc_registry::{Registry, enlist};
 

@@ -5,7 +5,7 @@ use std::alloc::Global;
 use std::sync::Wait;
 use txc_app::App;
 use txc_db::Naming;
-use txc_functions::{Definition, Function};
+use txc_definition::{Definition, Function};
 use txc_ports::TxnError;
 use txc_rw::RwTxn;
 

@@ -21,7 +21,7 @@ use std::sync::Wait;
 use txc_app::App;
 use txc_client::Client;
 use txc_db::Naming;
-use txc_functions::{Definition, Function};
+use txc_definition::{Definition, Function};
 use txc_node::Counts;
 use txc_ports::Bounds;
 use txc_registry::Registry;

@@ -19,7 +19,7 @@ use std::sync::Wait;
 use std::thread::Threads;
 use txc_carry::carry;
 use txc_db::{DbCore, DbError, HistoryFront};
-use txc_functions::Definition;
+use txc_definition::Definition;
 
 /// What a site came to in all its generations.
 #[derive(Drop)]

@@ -40,6 +40,6 @@ pub use plan::{MAX_NODES, Plan};
 pub use reading::Shown;
 pub use returning::{Generation, Returning};
 pub use room::{events_left, records_left};
-pub use txc_functions::{Definition, Function};
+pub use txc_definition::{Definition, Function, InTurn, Or, Straight};
 pub use visitor::Visitor;
 pub use writing::Written;

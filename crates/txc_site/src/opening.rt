@@ -18,7 +18,7 @@ use std::marker::Brand;
 use std::sync::Wait;
 use std::thread::Threads;
 use txc_db::{Database, DbCore, Naming};
-use txc_functions::Definition;
+use txc_definition::Definition;
 use txc_permits::PermitPool;
 
 /// What a site came to.

@@ -6,7 +6,7 @@ use std::sync::Wait;
 use txc_app::App;
 use txc_client::RoTxn;
 use txc_db::Naming;
-use txc_functions::{Definition, Function};
+use txc_definition::{Definition, Function};
 use txc_ports::TxnError;
 
 /// A page: what is read in one read-only transaction, by calls of the application's functions.

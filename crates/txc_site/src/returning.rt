@@ -1,7 +1,7 @@
 use crate::visitor::Visitor;
 use txc_app::App;
 use txc_db::HistoryFront;
-use txc_functions::Definition;
+use txc_definition::Definition;
 
 /// A generation of a site that has ended: each has a database and nodes of its own.
 #[derive(Drop)]

@@ -18,7 +18,7 @@ use std::marker::Brand;
 use std::sync::Wait;
 use std::thread::Threads;
 use txc_db::{DbCore, Naming};
-use txc_functions::Definition;
+use txc_definition::Definition;
 use txc_node::Record;
 use txc_permits::PermitPool;
 use txc_stream::EventRow;

@@ -14,7 +14,7 @@ use std::sync::Wait;
 use std::thread::{self, Threads};
 use txc_client::Client;
 use txc_db::Naming;
-use txc_functions::Definition;
+use txc_definition::Definition;
 use txc_permits::PermitPool;
 
 /// A client with a pass of its own through each node.

@@ -6,7 +6,7 @@ use std::alloc::Global;
 use std::sync::Wait;
 use txc_app::App;
 use txc_db::Naming;
-use txc_functions::Definition;
+use txc_definition::Definition;
 
 /// What is done on each of the threads of a site. It is generic in what names the site's rows, so that nothing
 /// of one site is used with another.

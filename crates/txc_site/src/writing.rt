@@ -10,7 +10,7 @@ use std::alloc::Global;
 use std::sync::Wait;
 use txc_app::App;
 use txc_db::{Answered, CommitError, Database, Naming};
-use txc_functions::{Definition, Function};
+use txc_definition::{Definition, Function};
 use txc_registry::Registry;
 use txc_rw::{Committed, RwTxn};
 use txc_stamp::Stamp;

@@ -5,7 +5,7 @@ ghost use Rattle.txc_stand_ins.specs.Counting.{ask_at, called};
 
 use std::alloc::{AllocError, Global};
 use txc_app::{Answer, App, Ask, Bytes};
-use txc_functions::Definition;
+use txc_definition::Definition;
 use txc_rows::Query;
 use txc_tags::{Key, Table};
 

@@ -11,7 +11,7 @@ ghost use Rattle.txc_registry.specs.Objects.{AllIdle};
 use driver::Driver;
 use std::alloc::Global;
 use std::test::Fail;
-use txc_functions::Function;
+use txc_definition::Function;
 use txc_permits::PermitPool;
 use txc_players::{Obeys, give, is_played, obey, room};
 use txc_registry::{Registry, enlist};

@@ -7,9 +7,8 @@ use std::alloc::{AllocError, Global};
 use std::process::Abort;
 use std::test::Fail;
 use txc_app::App;
-use txc_functions::{
-    Again, BodiesAndBody, BodiesIn, BodyAt, Function, IdsIn, Itself, Program, RowCount,
-};
+use txc_definition::Function;
+use txc_functions::{Again, BodiesAndBody, BodiesIn, BodyAt, IdsIn, Itself, Program, RowCount};
 use txc_permits::PermitPool;
 use txc_players::{is_played, room};
 use txc_registry::{Cacheable, Registry, enlist};

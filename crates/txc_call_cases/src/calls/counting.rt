@@ -2,7 +2,7 @@
 use super::boxes::play;
 use std::alloc::{AllocError, Global};
 use std::test::Fail;
-use txc_functions::Function;
+use txc_definition::Function;
 use txc_permits::PermitPool;
 use txc_players::room;
 use txc_registry::enlist;

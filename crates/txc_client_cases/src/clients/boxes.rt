@@ -16,9 +16,8 @@ use txc_app::App;
 use txc_client::Client;
 use txc_cushion::Pincushion;
 use txc_db::{Database, DbCore, Naming};
-use txc_functions::{
-    Again, BodiesAndBody, BodiesIn, BodyAt, Definition, Function, Itself, Program,
-};
+use txc_definition::{Definition, Function};
+use txc_functions::{Again, BodiesAndBody, BodiesIn, BodyAt, Itself, Program};
 use txc_judge::{Verdict, play_lines};
 use txc_node::Record;
 use txc_permits::PermitPool;

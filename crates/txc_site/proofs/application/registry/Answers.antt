@@ -1,7 +1,7 @@
 use Rattle.std.proofs.Common.{◌≡◌, ℕ, List, map, subst, arith}
 use Rattle.std.proofs.lemmas.Grind.{common_steps}
 use Rattle.std.proofs.lemmas.List.Elements.{All-rest}
-use Rattle.txc_functions.specs.contracts.function.FunctionCacheable.TheImpl as function
+use Rattle.txc_definition.specs.contracts.function.FunctionCacheable.TheImpl as function
 use Rattle.txc_registry.specs.Objects.{HasTwice}
 use Rattle.txc_site.proofs.Listing.{one_listed_more}
 use Rattle.txc_site.proofs.application.registry.Goals as goal

@@ -1,5 +1,5 @@
 use Rattle.std.proofs.Common.{◌≡◌, ◌++◌, All, map}
-use Rattle.txc_functions.specs.contracts.function.FunctionCacheable.TheImpl as function
+use Rattle.txc_definition.specs.contracts.function.FunctionCacheable.TheImpl as function
 use Rattle.txc_registry.specs.Activity.{idle}
 use Rattle.txc_site.proofs.application.registry.Given as goal
 

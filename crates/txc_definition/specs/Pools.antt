@@ -1,7 +1,7 @@
 -- Which pool an object has its permits of.
 use Rattle.txc_permits.specs.Counting.{Pool}
-use Rattle.txc_functions.specs.declared.definition.Definition.{Ghosts}
-use Rattle.txc_functions.specs.declared.function.Function.{Function}
+use Rattle.txc_definition.specs.declared.definition.Definition.{Ghosts}
+use Rattle.txc_definition.specs.declared.function.Function.{Function}
 
 -- the pool of the object's permits
 abbrev pub pool_of : {D : Type 0} {d : Ghosts D} → Function D d → Pool

@@ -19,7 +19,7 @@ pub struct Function<D: Definition> {
 
 impl<D: Definition> Function<D> {
     ghost use Rattle.txc_registry.specs.Activity.{idle};
-    ghost use Rattle.txc_functions.specs.Pools.{pool_of};
+    ghost use Rattle.txc_definition.specs.Pools.{pool_of};
 
     /// The object of the function with this definition, idle. It takes its memory from the allocator, and its
     /// permit from the pool, as it runs.
@@ -49,7 +49,7 @@ impl<D: Definition> Function<D> {
 }
 
 impl<D: Definition> Cacheable for Function<D> {
-    ghost use Rattle.txc_functions.specs.Running.{activity_with};
+    ghost use Rattle.txc_definition.specs.Running.{activity_with};
 
     ghost number = { λ o. D.number o.definition };
 

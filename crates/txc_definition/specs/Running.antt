@@ -1,7 +1,7 @@
 -- What an object does that holds this.
 use Rattle.std.specs.Prelude.{Option, Some, None}
 use Rattle.txc_registry.specs.Activity.{Activity, idle, running}
-use Rattle.txc_functions.specs.declared.held.Held.{Held}
+use Rattle.txc_definition.specs.declared.held.Held.{Held}
 
 abbrev pub activity_with : Option Held → Activity
 activity_with None = idle

@@ -1,0 +1,4 @@
+pub mod Or
+pub mod Pools
+pub mod Running
+pub mod Straight

@@ -1,0 +1,82 @@
+ghost use Rattle.std.specs.Prelude.{◌≡◌, ◌+◌, ◌<◌, ℕ, List, [], ◌∷◌, ◌++◌, length, slice_get, Some, IfOk};
+ghost use Rattle.txc_app.specs.declared.ask.Answer.{Answer};
+ghost use Rattle.txc_app.specs.declared.ask.Ask.{Ask};
+
+use crate::definition::Definition;
+use std::alloc::{AllocError, Global};
+use txc_app::{Answer, Ask, Bytes};
+
+/// A function whose asks are known from its arguments. It refuses the arguments for which it would ask nothing.
+/// [`InTurn`] makes its definition.
+pub trait Straight: Drop {
+    // The number of the function.
+    ghost number: { Self → ℕ };
+
+    // What it asks, in turn, by its arguments.
+    ghost asks: { Self → List ℕ → List Ask };
+
+    // What it gives, by its arguments and all answers.
+    ghost gives: { Self → List ℕ → List Answer → List ℕ };
+
+    /// The number of the function.
+    fn number(&self) -> u8
+        ensures { result ≡ number self.now };
+
+    /// How many asks it has.
+    fn count(&self, args: &[u32]) -> usize
+        ensures { result ≡ length (asks self.now args.now) };
+
+    /// The ask after so many others.
+    fn ask(&self, alloc: Global, args: &[u32], at: usize) -> Result<Ask, AllocError>
+        requires { at < length (asks self.now args.now) }
+        ensures { IfOk result (λ ask. slice_get (asks self.now args.now) at ≡ Some ask) };
+
+    /// What it gives once all is answered: the answers but the last one, and that one.
+    fn give(
+        &self,
+        alloc: Global,
+        args: &[u32],
+        answers: &[Answer],
+        last: &Answer,
+    ) -> Result<Bytes, AllocError>
+        requires { length answers.now + 1 ≡ length (asks self.now args.now) }
+        ensures { IfOk result (λ bytes. bytes ≡ gives self.now args.now (answers.now ++ last.now ∷ [])) };
+}
+
+/// The definition of a function whose asks are known from its arguments: it asks them in turn, and then gives.
+#[derive(Drop)]
+pub struct InTurn<S: Straight>(pub S);
+
+impl<S: Straight> Definition for InTurn<S> {
+    ghost use Rattle.txc_definition.specs.Straight.{in_turn};
+
+    ghost number = { λ f. S.number f.0 };
+
+    ghost says = { λ f. in_turn (S.asks f.0) (S.gives f.0) };
+
+    fn number(&self) -> u8 {
+        self.0.number()
+    }
+
+    fn accepts(&self, args: &[u32]) -> bool {
+        self.0.count(args) != 0
+    }
+
+    fn first(&self, alloc: Global, args: &[u32]) -> Result<Ask, AllocError> {
+        self.0.ask(alloc, args, 0)
+    }
+
+    fn next(
+        &self,
+        alloc: Global,
+        args: &[u32],
+        answers: &[Answer],
+        answer: &Answer,
+    ) -> Result<Ask, AllocError> {
+        let asked = answers.len() + 1;
+        if asked < self.0.count(args) {
+            return self.0.ask(alloc, args, asked);
+        }
+        Ok(Ask::Done(self.0.give(alloc, args, answers, answer)?))
+    }
+}
