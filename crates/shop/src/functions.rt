@@ -115,18 +115,21 @@ impl Definition for ShopFunction {
         answer: &Answer,
     ) -> Result<Ask, AllocError> {
         let [id] = args else { unreachable!() };
-        match (self, answers) {
-            (Stock, _) => listed(Vec::from_slice(alloc, text(answer))?, &[]),
-            (ProductPage, []) => Ok(Ask::Query(Query::ById(table(1), *id))),
-            (ProductPage, [_left]) => Ok(Ask::Query(Query::ByGroup(table(3), *id))),
-            (ProductPage, [left, row, ..]) => {
-                let mut page = Vec::from_slice(alloc, text(row))?;
-                page.push(b'|')?;
-                page.extend_from_slice(text(left))?;
-                page.push(b'|')?;
-                listed(page, rows(answer))
-            }
-            (CategoryList | StockList, _) => listed(Vec::new(alloc), rows(answer)),
+        match self {
+            Stock => Ok(Ask::Done(Bytes::new(Vec::from_slice(alloc, text(answer))?))),
+            ProductPage => match answers {
+                [] => Ok(Ask::Query(Query::ById(table(1), *id))),
+                [_left] => Ok(Ask::Query(Query::ByGroup(table(3), *id))),
+                [left, row] => {
+                    let mut page = Vec::from_slice(alloc, text(row))?;
+                    page.push(b'|')?;
+                    page.extend_from_slice(text(left))?;
+                    page.push(b'|')?;
+                    listed(page, rows(answer))
+                }
+                _ => unreachable!(),
+            },
+            CategoryList | StockList => listed(Vec::new(alloc), rows(answer)),
         }
     }
 }

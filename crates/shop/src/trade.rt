@@ -1,5 +1,6 @@
 ghost use Rattle.std.specs.Prelude.{◌≡◌, ◌≤◌, string_bytes};
 ghost use Rattle.txc_rows.specs.Values.{IsBody};
+ghost use Rattle.shop.specs.Purchases.{IsNumberIn};
 
 use crate::functions::{Shop, ShopFunction, key, table};
 use std::alloc::Global;
@@ -55,8 +56,10 @@ pub fn is_whole(page: &Value) -> bool {
     left.parse::<usize>().unwrap_or(0).saturating_add(sold) == FIRST_STOCK as usize
 }
 
-/// The number that the text of a stock says; 0 where it says none.
-fn number_in(text: &str) -> u32 {
+/// The number that a text says; 0 where it says none.
+fn number_in(text: &str) -> u32
+    ensures { IsNumberIn text.now result }
+{
     text.parse().unwrap_or(0)
 }
 
@@ -107,18 +110,20 @@ impl Change<Shop, ShopFunction> for Opening {
     }
 }
 
-/// Takes one of a product, where one is left, and writes the buyer's order of this round.
+/// Takes one of a product, where one is left, and writes the order of this number.
 #[derive(Drop)]
 pub struct Purchase {
-    pub id: u32,
+    pub product: u32,
+    pub order: u32,
     pub buyer: u32,
-    pub round: u32,
 }
 
 impl Change<Shop, ShopFunction> for Purchase {
+    ghost use Rattle.shop.specs.Purchases.{WritesPurchase};
+
     type Output = bool;
 
-    ghost makes = { λ change core output. Unit {0} };
+    ghost makes = { WritesPurchase };
 
     ghost refuses = { λ change error. Unit {0} };
 
@@ -128,15 +133,14 @@ impl Change<Shop, ShopFunction> for Purchase {
         alloc: Global,
         txn: &mut RwTxn<'_, J, Shop, Function<ShopFunction>>,
     ) -> Result<bool, TxnError> {
-        let left = txn.call(rt, alloc, key(0, self.id))?;
+        let left = txn.call(rt, alloc, key(0, self.product))?;
         let left = number_in(str::from_utf8(left.bytes()).unwrap_or(""));
         if left == 0 {
             return Ok(false);
         }
-        txn.put(row(2, self.id, 0, format!(in alloc; "{}", left - 1)?))?;
-        let order = self.buyer.wrapping_mul(65_536).wrapping_add(self.round);
+        txn.put(row(2, self.product, 0, format!(in alloc; "{}", left - 1)?))?;
         let buyer = format!(in alloc; "buyer{}", self.buyer)?;
-        txn.put(row(3, order, self.id, buyer))?;
+        txn.put(row(3, self.order, self.product, buyer))?;
         Ok(true)
     }
 }

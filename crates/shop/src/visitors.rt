@@ -68,7 +68,12 @@ impl Visitor<Shop, ShopFunction> for Visitors {
             let bounds = self.bounds(round, Stamp::ZERO);
             let (page, back) = client.read(rt, alloc, bounds, &OneCall { function: 1, id });
             tally.count_page(page.is_ok_and(|page| is_whole(&page.output)));
-            let (written, back) = back.write(rt, alloc, 8, &Purchase { id, buyer, round });
+            let purchase = Purchase {
+                product: id,
+                order: buyer.wrapping_mul(65_536).wrapping_add(round),
+                buyer,
+            };
+            let (written, back) = back.write(rt, alloc, 8, &purchase);
             if let Ok(written) = written {
                 at_least = written.committed.stamp;
                 tally.conflicts = tally.conflicts.saturating_add(written.conflicts.len());
