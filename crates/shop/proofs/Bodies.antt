@@ -37,13 +37,22 @@ ends_in_number before text n small few prints is =
 
 -- a word, a number, a word and a number
 pub two_numbers : (first second text : List ℕ) (m n : ℕ) → m < 2 ^ 32 → n < 2 ^ 32 → length first ≤ 50 → length second ≤ 50
-    → AllByRecursion Prints first → AllByRecursion Prints second → text ≡ (first ++ (decimal m ++ second)) ++ decimal n
+    → AllByRecursion Prints first → AllByRecursion Prints second → text ≡ first ++ (decimal m ++ (second ++ decimal n))
     → IsBody text
 two_numbers first second text m n small_m small few_first few_second prints_first prints_second is =
-    let before = first ++ (decimal m ++ second) in
-    let long = length-append first (decimal m ++ second) in
-    let rest = length-append (decimal m) second in
-    let short = length-decimal-le 10 m (omega arith) (omega arith) (omega arith) in
-    ends_in_number before text n small (omega (arith, long, rest, short))
-    (both_print first (decimal m ++ second) prints_first
-    (both_print (decimal m) second (digits_print m (omega arith)) prints_second)) is
+    let rest = second ++ decimal n in
+    let long = ap length is ∙ length-append first (decimal m ++ rest) in
+    let more = length-append (decimal m) rest in
+    let last = length-append second (decimal n) in
+    let some = decimal_nonempty n (omega arith) in
+    let short_m = length-decimal-le 10 m (omega arith) (omega arith) (omega arith) in
+    let short = length-decimal-le 10 n (omega arith) (omega arith) (omega arith) in
+    record {
+      some = omega (arith, long, more, last, some);
+      most = omega (arith, long, more, last, short_m, short);
+      each =
+          subst (AllByRecursion Prints) (sym is)
+          (both_print first (decimal m ++ rest) prints_first
+          (both_print (decimal m) rest (digits_print m (omega arith))
+          (both_print second (decimal n) prints_second (digits_print n (omega arith)))));
+    }

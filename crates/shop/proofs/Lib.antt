@@ -1,1 +1,3 @@
 mod Bodies
+mod Numbers
+mod Purchases

@@ -1,5 +1,5 @@
 -- What a purchase reads and writes.
-use Rattle.std.specs.Prelude.{◌≡◌, ℕ, ◌-◌, ◌^◌, ◌<◌, ◌==◌, if◌then◌else◌, Bool, true, false, List, [], ◌∷◌}
+use Rattle.std.specs.Prelude.{◌≡◌, ℕ, ◌-◌, ◌^◌, ◌<◌, ◌↔◌, Bool, true, false, IsTrue, List, [], ◌∷◌}
 use Rattle.std.specs.Fmt.{decimal}
 use Rattle.txc_rows.specs.Values.{RowValue}
 use Rattle.txc_rows.specs.declared.query.Change.{Change}
@@ -17,27 +17,31 @@ IsNumberIn text number = (n : ℕ) → n < 2 ^ 32 → text ≡ decimal n → num
 abbrev pub stock_row : ℕ → ℕ → RowValue
 stock_row product left = record { table = STOCKS; id = product; group = 0; body = decimal left }
 
--- the row of the order, whose body is the buyer's name, such as buyer3
+-- the name of a buyer, such as buyer3
+abbrev pub name_of : ℕ → List ℕ
+name_of buyer = 98 ∷ 117 ∷ 121 ∷ 101 ∷ 114 ∷ decimal buyer
+
+-- the row of the order: who ordered, in the group of the product
 abbrev pub order_row : Purchase → RowValue
 order_row purchase =
     record {
       table = ORDERS;
       id = purchase.order;
       group = purchase.product;
-      body = 98 ∷ 117 ∷ 121 ∷ 101 ∷ 114 ∷ decimal purchase.buyer;
+      body = name_of purchase.buyer;
     }
 
--- where so many are left: one less and the order, or nothing where none is left
-abbrev pub changes_of : Purchase → ℕ → List Change
-changes_of purchase left =
-    if left == 0 then [] else Put (stock_row purchase.product (left - 1)) ∷ Put (order_row purchase) ∷ []
+-- what is bought is taken from so many, and ordered; else nothing is written
+abbrev pub changes_of : Purchase → ℕ → Bool → List Change
+changes_of purchase left true = Put (stock_row purchase.product (left - 1)) ∷ Put (order_row purchase) ∷ []
+changes_of purchase left false = []
 
--- the stock of the product was asked for, and nothing else; by the number that it says the changes are these, and it
--- was bought unless none was left
+-- The stock of the product was asked for, and nothing else. By the number that it says, it was bought just where one
+-- was left, and that is what was written.
 pub record WritesPurchase (purchase : Purchase) (core : RwValue) (bought : Bool) : Type 0 where
   pub text : List ℕ
   pub left : ℕ
   pub asked : core.answers ≡ Value (call_of 0 purchase.product) text ∷ []
   pub number : IsNumberIn text left
-  pub written : core.changes ≡ changes_of purchase left
-  pub sold : bought ≡ (if left == 0 then false else true)
+  pub sold : IsTrue bought ↔ (0 < left)
+  pub written : core.changes ≡ changes_of purchase left bought

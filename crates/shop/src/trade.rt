@@ -1,9 +1,9 @@
-ghost use Rattle.std.specs.Prelude.{◌≡◌, ◌≤◌, string_bytes};
+ghost use Rattle.std.specs.Prelude.{◌≡◌, ◌≤◌, IfOk, string_bytes};
 ghost use Rattle.txc_rows.specs.Values.{IsBody};
-ghost use Rattle.shop.specs.Purchases.{IsNumberIn};
+ghost use Rattle.shop.specs.Purchases.{IsNumberIn, name_of};
 
 use crate::functions::{Shop, ShopFunction, key, table};
-use std::alloc::Global;
+use std::alloc::{AllocError, Global};
 use std::str;
 use std::sync::Wait;
 use txc_client::RoTxn;
@@ -57,19 +57,22 @@ pub fn is_whole(page: &Value) -> bool {
 }
 
 /// The number that a text says; 0 where it says none.
-fn number_in(text: &str) -> u32
+fn number_in(text: &[u8]) -> u32
     ensures { IsNumberIn text.now result }
 {
-    text.parse().unwrap_or(0)
+    match str::from_utf8(text) {
+        Ok(text) => text.parse().unwrap_or(0),
+        Err(_) => 0,
+    }
 }
 
 /// The sum of the stocks of a list.
 pub fn sum_of(stocks: &Value) -> u32 {
-    let stocks = str::from_utf8(stocks.bytes()).unwrap_or("");
-    stocks
-        .split(';')
-        .map(number_in)
-        .fold(0, u32::saturating_add)
+    let mut sum: u32 = 0;
+    for stock in stocks.bytes().split(|byte| *byte == b';') {
+        sum = sum.saturating_add(number_in(stock));
+    }
+    sum
 }
 
 /// The row with that body.
@@ -82,6 +85,14 @@ fn row(number: u8, id: u32, group: u32, body: String) -> Row
         unreachable!()
     };
     row
+}
+
+/// The name of a buyer, such as `buyer3`.
+fn name(alloc: Global, buyer: u32) -> Result<String, AllocError>
+    ensures text { IfOk result (λ name. string_bytes name ≡ name_of buyer) }
+    ensures body { IfOk result (λ name. IsBody (string_bytes name)) }
+{
+    format!(in alloc; "buyer{buyer}")
 }
 
 /// Puts the products and their first stocks.
@@ -134,12 +145,12 @@ impl Change<Shop, ShopFunction> for Purchase {
         txn: &mut RwTxn<'_, J, Shop, Function<ShopFunction>>,
     ) -> Result<bool, TxnError> {
         let left = txn.call(rt, alloc, key(0, self.product))?;
-        let left = number_in(str::from_utf8(left.bytes()).unwrap_or(""));
+        let left = number_in(left.bytes());
         if left == 0 {
             return Ok(false);
         }
         txn.put(row(2, self.product, 0, format!(in alloc; "{}", left - 1)?))?;
-        let buyer = format!(in alloc; "buyer{}", self.buyer)?;
+        let buyer = name(alloc, self.buyer)?;
         txn.put(row(3, self.order, self.product, buyer))?;
         Ok(true)
     }

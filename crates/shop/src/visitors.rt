@@ -4,7 +4,7 @@ use std::alloc::Global;
 use std::sync::Wait;
 use txc_db::Naming;
 use txc_ports::Bounds;
-use txc_site::{SiteClient, Visitor};
+use txc_site::{Keeper, SiteClient, Visitor};
 use txc_stamp::Stamp;
 
 /// What visitors came to, and the sum of the stocks at the stamp where it was last read.
@@ -43,6 +43,17 @@ impl Visitors {
     }
 }
 
+/// Keeps the site, where the visitor has a keeper.
+fn keep<'a, J: Naming, R: Wait>(
+    rt: &R,
+    alloc: Global,
+    keeper: Option<Keeper<'a, Shop, J>>,
+    now: u64,
+) -> Option<Keeper<'a, Shop, J>> {
+    let (_kept, keeper) = keeper?.keep(rt, alloc, now, 16);
+    Some(keeper)
+}
+
 impl Visitor<Shop, ShopFunction> for Visitors {
     type Output = Tally;
 
@@ -59,7 +70,10 @@ impl Visitor<Shop, ShopFunction> for Visitors {
         let Some(mut client) = client.take() else {
             unreachable!()
         };
-        let mut keeper = client.keeper(rt, alloc).ok().filter(|_| number == 0);
+        let mut keeper = None;
+        if number == 0 {
+            keeper = client.keeper(rt, alloc).ok();
+        }
         let buyer = u32::try_from(number).unwrap_or(0);
         let mut tally = Tally::default();
         let mut at_least = Stamp::ZERO;
@@ -83,7 +97,7 @@ impl Visitor<Shop, ShopFunction> for Visitors {
             let (list, back) = back.read(rt, alloc, bounds, &OneCall { function: 2, id });
             tally.count_page(list.is_ok());
             client = back;
-            keeper = keeper.map(|keeper| keeper.keep(rt, alloc, bounds.now, 16).1);
+            keeper = keep(rt, alloc, keeper, bounds.now);
         }
         let bounds = self.bounds(self.pages, at_least);
         let page = OneCall { function: 3, id: 0 };
