@@ -3,8 +3,9 @@ use crate::trade::{OneCall, PRODUCT_COUNT, Purchase, is_whole, sum_of};
 use std::alloc::Global;
 use std::sync::Wait;
 use txc_db::Naming;
+use txc_node::Value;
 use txc_ports::Bounds;
-use txc_site::{Keeper, SiteClient, Visitor};
+use txc_site::{Keeper, Shown, SiteClient, Visitor, Written};
 use txc_stamp::Stamp;
 
 /// What visitors came to, and the sum of the stocks at the stamp where it was last read.
@@ -22,6 +23,22 @@ impl Tally {
     fn count_page(&mut self, is_whole: bool) {
         self.pages = self.pages.saturating_add(1);
         self.torn = self.torn.saturating_add(u32::from(!is_whole));
+    }
+
+    /// Counts what came of a purchase, and returns the stamp that it left.
+    fn count_purchase(&mut self, written: &Written<bool>) -> Stamp {
+        self.conflicts = self.conflicts.saturating_add(written.conflicts.len());
+        self.purchases = self.purchases.saturating_add(u32::from(written.output));
+        written.committed.stamp
+    }
+
+    /// Notes how many are left in all, and where that was read.
+    fn note_stocks(&mut self, stocks: &Shown<Value>) {
+        let left = sum_of(&stocks.output);
+        self.left = match stocks.receipt.pin {
+            Some(pin) => Some((pin.stamp, left)),
+            None => None,
+        };
     }
 }
 
@@ -88,10 +105,8 @@ impl Visitor<Shop, ShopFunction> for Visitors {
                 buyer,
             };
             let (written, back) = back.write(rt, alloc, 8, &purchase);
-            if let Ok(written) = written {
-                at_least = written.committed.stamp;
-                tally.conflicts = tally.conflicts.saturating_add(written.conflicts.len());
-                tally.purchases = tally.purchases.saturating_add(u32::from(written.output));
+            if let Ok(written) = &written {
+                at_least = tally.count_purchase(written);
             }
             let id = id % 2;
             let (list, back) = back.read(rt, alloc, bounds, &OneCall { function: 2, id });
@@ -102,9 +117,8 @@ impl Visitor<Shop, ShopFunction> for Visitors {
         let bounds = self.bounds(self.pages, at_least);
         let page = OneCall { function: 3, id: 0 };
         let (stocks, _client) = client.read(rt, alloc, bounds, &page);
-        if let Ok(stocks) = stocks {
-            let left = sum_of(&stocks.output);
-            tally.left = stocks.receipt.pin.map(|pin| (pin.stamp, left));
+        if let Ok(stocks) = &stocks {
+            tally.note_stocks(stocks);
         }
         tally
     }
