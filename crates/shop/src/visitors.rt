@@ -8,13 +8,18 @@ use txc_ports::Bounds;
 use txc_site::{Keeper, Shown, SiteClient, Visitor, Written};
 use txc_stamp::Stamp;
 
-/// What visitors came to, and the sum of the stocks at the stamp where it was last read.
+/// A visitor's client.
+type Guest<'a, J> = SiteClient<'a, Shop, ShopFunction, J>;
+
+/// What visitors came to, the stamp of a visitor's last purchase, and the sum of the stocks at the stamp where it was
+/// last read.
 #[derive(Clone, Copy, Default)]
 pub struct Tally {
     pub pages: u32,
     pub torn: u32,
     pub purchases: u32,
     pub conflicts: usize,
+    pub last: Option<Stamp>,
     pub left: Option<(Stamp, u32)>,
 }
 
@@ -25,11 +30,11 @@ impl Tally {
         self.torn = self.torn.saturating_add(u32::from(!is_whole));
     }
 
-    /// Counts what came of a purchase, and returns the stamp that it left.
-    fn count_purchase(&mut self, written: &Written<bool>) -> Stamp {
+    /// Counts what came of a purchase, and notes the stamp that it left.
+    fn count_purchase(&mut self, written: &Written<bool>) {
         self.conflicts = self.conflicts.saturating_add(written.conflicts.len());
         self.purchases = self.purchases.saturating_add(u32::from(written.output));
-        written.committed.stamp
+        self.last = Some(written.committed.stamp);
     }
 
     /// Notes how many are left in all, and where that was read.
@@ -58,6 +63,35 @@ impl Visitors {
             at_least,
         }
     }
+
+    /// Shows the page of a product, buys it, and shows the list of its category.
+    fn come<'a, J: Naming, R: Wait>(
+        &self,
+        rt: &R,
+        alloc: Global,
+        client: Guest<'a, J>,
+        buyer: u32,
+        round: u32,
+        tally: &mut Tally,
+    ) -> Guest<'a, J> {
+        let id = round.wrapping_add(buyer).wrapping_add(self.seed) % PRODUCT_COUNT;
+        let bounds = self.bounds(round, Stamp::ZERO);
+        let (page, client) = client.read(rt, alloc, bounds, &OneCall { function: 1, id });
+        tally.count_page(page.is_ok_and(|page| is_whole(&page.output)));
+        let purchase = Purchase {
+            product: id,
+            order: buyer.wrapping_mul(65_536).wrapping_add(round),
+            buyer,
+        };
+        let (written, client) = client.write(rt, alloc, 8, &purchase);
+        if let Ok(written) = &written {
+            tally.count_purchase(written);
+        }
+        let id = id % 2;
+        let (list, client) = client.read(rt, alloc, bounds, &OneCall { function: 2, id });
+        tally.count_page(list.is_ok());
+        client
+    }
 }
 
 /// Keeps the site, where the visitor has a keeper.
@@ -82,7 +116,7 @@ impl Visitor<Shop, ShopFunction> for Visitors {
         rt: &R,
         alloc: Global,
         number: usize,
-        client: &mut Option<SiteClient<'_, Shop, ShopFunction, J>>,
+        client: &mut Option<Guest<'_, J>>,
     ) -> Tally {
         let Some(mut client) = client.take() else {
             unreachable!()
@@ -93,28 +127,11 @@ impl Visitor<Shop, ShopFunction> for Visitors {
         }
         let buyer = u32::try_from(number).unwrap_or(0);
         let mut tally = Tally::default();
-        let mut at_least = Stamp::ZERO;
         for round in 0..self.pages {
-            let id = round.wrapping_add(buyer).wrapping_add(self.seed) % PRODUCT_COUNT;
-            let bounds = self.bounds(round, Stamp::ZERO);
-            let (page, back) = client.read(rt, alloc, bounds, &OneCall { function: 1, id });
-            tally.count_page(page.is_ok_and(|page| is_whole(&page.output)));
-            let purchase = Purchase {
-                product: id,
-                order: buyer.wrapping_mul(65_536).wrapping_add(round),
-                buyer,
-            };
-            let (written, back) = back.write(rt, alloc, 8, &purchase);
-            if let Ok(written) = &written {
-                at_least = tally.count_purchase(written);
-            }
-            let id = id % 2;
-            let (list, back) = back.read(rt, alloc, bounds, &OneCall { function: 2, id });
-            tally.count_page(list.is_ok());
-            client = back;
-            keeper = keep(rt, alloc, keeper, bounds.now);
+            client = self.come(rt, alloc, client, buyer, round, &mut tally);
+            keeper = keep(rt, alloc, keeper, u64::from(round));
         }
-        let bounds = self.bounds(self.pages, at_least);
+        let bounds = self.bounds(self.pages, tally.last.unwrap_or(Stamp::ZERO));
         let page = OneCall { function: 3, id: 0 };
         let (stocks, _client) = client.read(rt, alloc, bounds, &page);
         if let Ok(stocks) = &stocks {
