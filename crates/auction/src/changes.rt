@@ -23,6 +23,9 @@ pub const ITEM_COUNT: u32 = 8;
 /// How many users there are.
 pub const USER_COUNT: u32 = 3;
 
+/// The amount of the first bid on each item.
+pub const FIRST_BID: u32 = 10;
+
 type Writing<'a, J> = RwTxn<'a, J, Auction, Function<AuctionFunction>>;
 
 /// The row with that body is to stand in the table.
@@ -66,7 +69,7 @@ fn bid_text(alloc: Global, amount: u32, user: u32) -> Result<String, AllocError>
 }
 
 /// The amount of a bid.
-fn amount_of(bid: &Value) -> u32 {
+pub fn amount_of(bid: &Value) -> u32 {
     let text = str::from_utf8(bid.bytes()).unwrap_or("");
     let (amount, _user) = text.split_once(':').unwrap_or(("", ""));
     amount.parse().unwrap_or(0)
@@ -94,7 +97,7 @@ impl Change<Auction, AuctionFunction> for Opening {
         }
         for item in 0..ITEM_COUNT {
             put(txn, items(), item, item % USER_COUNT, title(alloc, item)?)?;
-            put(txn, bids(), item, 0, bid_text(alloc, 10, 0)?)?;
+            put(txn, bids(), item, 0, bid_text(alloc, FIRST_BID, 0)?)?;
         }
         Ok(())
     }

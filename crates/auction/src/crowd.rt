@@ -7,6 +7,7 @@ use crate::arguments::Arguments;
 use crate::changes::{Bid, ITEM_COUNT, USER_COUNT};
 use crate::functions::{Auction, AuctionFunction};
 use crate::pages::{BothBids, ItemPage, OneCall};
+use crate::seen::{AllBids, Seen};
 use crate::tally::Tally;
 use std::alloc::Global;
 use std::sync::Wait;
@@ -18,7 +19,7 @@ use txc_stamp::Stamp;
 /// A visitor's client.
 type Guest<'a, J> = SiteClient<'a, Auction, AuctionFunction, J>;
 
-/// How often a bid is tried.
+/// How often a bid is tried, and the last page.
 const TRIES: u32 = 8;
 
 /// How many rounds a pin stays.
@@ -57,7 +58,12 @@ impl Crowd {
         round: Round,
         tally: &mut Tally,
     ) -> (Option<Stamp>, Guest<'a, J>)
-        ensures { tally.new ≡ record tally.old { bids = tally.new.bids; conflicts = tally.new.conflicts } }
+        ensures { tally.new ≡ record tally.old {
+          bids = tally.new.bids;
+          conflicts = tally.new.conflicts;
+          raised = tally.new.raised;
+          last = tally.new.last;
+        } }
     {
         let bid = Bid {
             item: round.item,
@@ -66,7 +72,7 @@ impl Crowd {
         };
         let (written, client) = client.write(rt, alloc, TRIES, &bid);
         match written {
-            Ok(written) => (Some(tally.count_bid(&written)), client),
+            Ok(written) => (Some(tally.count_bid(bid.more, &written)), client),
             Err(_) => (None, client),
         }
     }
@@ -100,7 +106,12 @@ impl Crowd {
         round: Round,
         tally: &mut Tally,
     ) -> (Option<BothBids>, Guest<'a, J>)
-        ensures { tally.new ≡ record tally.old { bids = tally.new.bids; conflicts = tally.new.conflicts } }
+        ensures { tally.new ≡ record tally.old {
+          bids = tally.new.bids;
+          conflicts = tally.new.conflicts;
+          raised = tally.new.raised;
+          last = tally.new.last;
+        } }
     {
         let id = round.item;
         let bounds = self.bounds(round, Stamp::ZERO);
@@ -130,7 +141,12 @@ impl Crowd {
         round: Round,
         tally: &mut Tally,
     ) -> (Option<BothBids>, Guest<'a, J>)
-        ensures counts { tally.new ≡ record tally.old { bids = tally.new.bids; conflicts = tally.new.conflicts } }
+        ensures counts { tally.new ≡ record tally.old {
+          bids = tally.new.bids;
+          conflicts = tally.new.conflicts;
+          raised = tally.new.raised;
+          last = tally.new.last;
+        } }
         ensures whole { self.now.arguments.is_plain ≡ false → IfSome result.0 IsWhole }
     {
         if self.arguments.is_plain {
@@ -157,6 +173,38 @@ impl Crowd {
         tally.count(page);
         let (_stamp, client) = self.bid(rt, alloc, client, round, tally);
         client
+    }
+
+    /// What all highest bids come to in a state that is not before this stamp. Where the page is refused, it is
+    /// asked for again. None where each try was refused.
+    fn see<J: Naming, R: Wait>(
+        &self,
+        rt: &R,
+        alloc: Global,
+        client: Guest<'_, J>,
+        at_least: Stamp,
+    ) -> Option<Seen>
+        ensures { IfSome result (λ seen. at_least ≤ seen.stamp) }
+    {
+        let round = Round {
+            item: 0,
+            now: self.arguments.pages,
+        };
+        let bounds = self.bounds(round, at_least);
+        let mut client = client;
+        for _ in 0..TRIES {
+            let (shown, left) = client.read(rt, alloc, bounds, &AllBids);
+            client = left;
+            let Ok(shown) = shown else { continue };
+            let Some(pin) = shown.receipt.pin else {
+                continue
+            };
+            return Some(Seen {
+                stamp: pin.stamp,
+                sum: shown.output,
+            });
+        }
+        None
     }
 }
 
@@ -223,6 +271,7 @@ impl Visitor<Auction, AuctionFunction> for Crowd {
             keeper = keep(rt, alloc, keeper, now, &mut tally);
         }
         count_lookups(&client, &mut tally);
+        tally.seen = self.see(rt, alloc, client, tally.last);
         tally
     }
 }

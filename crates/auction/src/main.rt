@@ -9,6 +9,7 @@ mod changes;
 mod crowd;
 mod functions;
 mod pages;
+mod seen;
 mod tally;
 
 use arguments::Arguments;
@@ -54,11 +55,20 @@ fn main(rt: HostRuntime) -> anyhow::Result<()> {
     let words = env::args(&rt)?.collect::<Vec<String>>(alloc)?;
     let all = hold(&rt, alloc, Arguments::read(words.as_slice()))?;
     let pages = all.whole.saturating_add(all.torn);
-    println!(rt; "{pages} pages, {} torn, {} refused", all.torn, all.refused)?;
+    print!(rt; "{pages} pages, {} torn, {} refused", all.torn, all.refused)?;
+    match all.lost() {
+        Some(lost) => println!(rt; ", {lost} lost")?,
+        None => {
+            println!(rt)?;
+            eprintln!(rt;
+                "a visitor's last page was refused: whether bids were lost is not known"
+            )?;
+        }
+    }
     // The rest is not the same in each run.
     eprintln!(rt;
-        "{} bids, {} conflicts, kept {} times",
-        all.bids, all.conflicts, all.kept
+        "{} bids that raised by {}, {} conflicts, kept {} times",
+        all.bids, all.raised, all.conflicts, all.kept
     )?;
     eprintln!(rt; "{} hits of {} lookups", all.hits, all.lookups)?;
     Ok(())

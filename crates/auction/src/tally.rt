@@ -4,7 +4,9 @@ ghost use Rattle.std.specs.List.{sum_by};
 ghost use Rattle.auction.specs.Pages.{IsWhole};
 ghost use Rattle.auction.specs.Tallies.{pages_of};
 
+use crate::changes::{FIRST_BID, ITEM_COUNT};
 use crate::pages::BothBids;
+use crate::seen::Seen;
 use txc_site::Written;
 use txc_stamp::Stamp;
 
@@ -19,6 +21,12 @@ pub struct Tally {
     pub kept: u64,
     pub lookups: u64,
     pub hits: u64,
+    /// By how much the bids that were made raised the highest ones.
+    pub raised: u64,
+    /// The stamp of a visitor's last bid.
+    pub last: Stamp,
+    /// What was seen last, after all bids; none where that was refused.
+    pub seen: Option<Seen>,
 }
 
 impl Tally {
@@ -32,6 +40,9 @@ impl Tally {
         kept: 0,
         lookups: 0,
         hits: 0,
+        raised: 0,
+        last: Stamp::ZERO,
+        seen: None,
     };
 
     /// Counts a page, or that one was refused.
@@ -52,18 +63,26 @@ impl Tally {
         }
     }
 
-    /// Counts a bid that was made, with the conflicts before it. Returns its stamp.
-    pub fn count_bid(&mut self, written: &Written<u32>) -> Stamp
-        ensures { self.new ≡ record self.old { bids = self.new.bids; conflicts = self.new.conflicts } }
+    /// Counts a bid of so much more that was made, with the conflicts before it. Returns its stamp.
+    pub fn count_bid(&mut self, more: u32, written: &Written<u32>) -> Stamp
+        ensures counts { self.new ≡ record self.old {
+          bids = self.new.bids;
+          conflicts = self.new.conflicts;
+          raised = self.new.raised;
+          last = written.now.committed.stamp;
+        } }
+        ensures stamp { result ≡ written.now.committed.stamp }
     {
         self.bids = self.bids.saturating_add(1);
         self.conflicts = self
             .conflicts
             .saturating_add(written.conflicts.len() as u64);
-        written.committed.stamp
+        self.raised = self.raised.saturating_add(u64::from(more));
+        self.last = written.committed.stamp;
+        self.last
     }
 
-    /// Adds what others came to.
+    /// Adds what others came to, but for what they saw.
     pub fn add(&mut self, others: &Tally)
         requires { pages_of self.old + pages_of others.now < 2 ^ 64 }
         ensures pages { pages_of self.new ≡ pages_of self.old + pages_of others.now }
@@ -77,10 +96,32 @@ impl Tally {
         self.kept = self.kept.saturating_add(others.kept);
         self.lookups = self.lookups.saturating_add(others.lookups);
         self.hits = self.hits.saturating_add(others.hits);
+        self.raised = self.raised.saturating_add(others.raised);
+    }
+
+    /// By how much the first bids, and all that raised them, come to more than what was seen: a bid that
+    /// was made and is not in that state was lost. None where nothing was seen.
+    pub fn lost(&self) -> Option<i128> {
+        let seen = self.seen?;
+        let first = i128::from(ITEM_COUNT) * i128::from(FIRST_BID);
+        Some(first + i128::from(self.raised) - i128::from(seen.sum))
     }
 }
 
-/// What visitors came to in all.
+/// What the visitors of one generation saw last. The page of the greatest stamp shows the bids of all: whose
+/// bid was the last has seen it. None where one of them was refused, since that may be the one.
+fn last_seen(tallies: &[Tally]) -> Option<Seen> {
+    let mut last = tallies.first()?.seen?;
+    for tally in tallies {
+        let seen = tally.seen?;
+        if last.stamp < seen.stamp {
+            last = seen;
+        }
+    }
+    Some(last)
+}
+
+/// What the visitors of one generation came to in all.
 pub fn total(tallies: &[Tally]) -> Tally
     requires { sum_by pages_of tallies.now < 2 ^ 64 }
     ensures pages { pages_of result ≡ sum_by pages_of tallies.now }
@@ -90,10 +131,12 @@ pub fn total(tallies: &[Tally]) -> Tally
     for tally in tallies {
         all.add(tally);
     }
+    all.seen = last_seen(tallies);
     all
 }
 
-/// What the visitors of all generations came to.
+/// What the visitors of all generations came to. What was seen last is of the last one, whose bids stand on those
+/// of the others.
 pub fn grand_total(generations: &[Vec<Tally>]) -> Tally
     requires { sum_by (λ tallies. sum_by pages_of tallies.items) generations.now < 2 ^ 64 }
     ensures pages { pages_of result ≡ sum_by (λ tallies. sum_by pages_of tallies.items) generations.now }
@@ -102,7 +145,9 @@ pub fn grand_total(generations: &[Vec<Tally>]) -> Tally
 {
     let mut all = Tally::ZERO;
     for tallies in generations {
-        all.add(&total(tallies));
+        let of_one = total(tallies);
+        all.add(&of_one);
+        all.seen = of_one.seen;
     }
     all
 }

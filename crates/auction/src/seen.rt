@@ -1,0 +1,46 @@
+//! What a visitor sees last: what all highest bids come to, after each bid of its own.
+ghost use Rattle.std.specs.Prelude.{◌≡◌};
+
+use crate::changes::{ITEM_COUNT, amount_of};
+use crate::functions::{Auction, AuctionFunction};
+use crate::pages::key;
+use std::alloc::Global;
+use std::sync::Wait;
+use txc_client::RoTxn;
+use txc_db::Naming;
+use txc_ports::TxnError;
+use txc_site::{Function, Page};
+use txc_stamp::Stamp;
+
+/// What all highest bids come to, and the stamp of that state.
+#[derive(Clone, Copy)]
+pub struct Seen {
+    pub stamp: Stamp,
+    pub sum: u64,
+}
+
+/// The page that reads all highest bids in one transaction, and adds up their amounts.
+#[derive(Drop)]
+pub struct AllBids;
+
+impl Page<Auction, AuctionFunction> for AllBids {
+    type Output = u64;
+
+    ghost shows = { λ page calls sum. Unit {0} };
+
+    ghost refuses = { λ page error. Unit {0} };
+
+    fn show<J: Naming, R: Wait>(
+        &self,
+        rt: &R,
+        alloc: Global,
+        txn: &mut RoTxn<'_, Auction, Function<AuctionFunction>, J>,
+    ) -> Result<u64, TxnError> {
+        let mut sum = 0u64;
+        for item in 0..ITEM_COUNT {
+            let highest = txn.call(rt, alloc, key(0, item))?;
+            sum = sum.saturating_add(u64::from(amount_of(&highest)));
+        }
+        Ok(sum)
+    }
+}
