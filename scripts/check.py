@@ -23,7 +23,8 @@ def check_words(root, crate):
         name, colon, below = line.partition("#")[0].partition(":")
         if colon:
             uses[name.split()[0]] = below.split()
-    words = ["--crate-name", crate, "src/lib.rt", "--jobs", "1", "--links", f"{crate}="]
+    source = "src/main.rt" if os.path.exists(f"{root}/crates/{crate}/src/main.rt") else "src/lib.rt"
+    words = ["--crate-name", crate, source, "--jobs", "1", "--links", f"{crate}="]
     library = lambda it: f"{root}/crates/{it}/out/rlib/{it}.rlib" if it in uses else f"{KIT}/rlibs/{it}.rlib"
     words += [it for name in ("std", *uses[crate]) for it in ("--extern", f"{name}={library(name)}")]
     folders = [f"{KIT}/rlibs", *(f"{root}/crates/{it}/out/rlib" for it in uses)]

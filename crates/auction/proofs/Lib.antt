@@ -1,4 +1,5 @@
 mod Bodies
 mod Returns
 mod Shown
+mod Sums
 mod Tallies

@@ -1,8 +1,8 @@
 //! What is written: the first rows, and bids.
-ghost use Rattle.std.specs.Prelude.{◌≡◌, ◌++◌, ◌∷◌, [], IfOk, OnOk, string_bytes};
+ghost use Rattle.std.specs.Prelude.{◌≡◌, ℕ, ◌++◌, ◌∷◌, [], IfOk, OnOk, string_bytes};
 ghost use Rattle.txc_rows.specs.declared.query.Change.TheVariants.{Put};
 ghost use Rattle.txc_rows.specs.Values.{IsBody};
-ghost use Rattle.auction.specs.Bids.{text_of};
+ghost use Rattle.auction.specs.Bids.{text_of, IsBid};
 
 use crate::functions::{Auction, AuctionFunction, bids, items, users};
 use crate::pages::key;
@@ -69,7 +69,9 @@ fn bid_text(alloc: Global, amount: u32, user: u32) -> Result<String, AllocError>
 }
 
 /// The amount of a bid.
-pub fn amount_of(bid: &Value) -> u32 {
+pub fn amount_of(bid: &Value) -> u32
+    ensures { (amount : ℕ) → IsBid bid.now amount → result ≡ amount }
+{
     let text = str::from_utf8(bid.bytes()).unwrap_or("");
     let (amount, _user) = text.split_once(':').unwrap_or(("", ""));
     amount.parse().unwrap_or(0)

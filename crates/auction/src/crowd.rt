@@ -1,7 +1,7 @@
 //! The visitors, who read pages and bid, each on a thread.
-ghost use Rattle.std.specs.Prelude.{◌≡◌, ◌+◌, ◌<◌, ◌^◌, false, IfSome};
+ghost use Rattle.std.specs.Prelude.{◌≡◌, ◌+◌, ◌<◌, ◌≤◌, ◌^◌, false, IfSome, MatchOption};
 ghost use Rattle.auction.specs.Pages.{IsWhole};
-ghost use Rattle.auction.specs.Tallies.{pages_of};
+ghost use Rattle.auction.specs.Tallies.{pages_of, CountsBids};
 
 use crate::arguments::Arguments;
 use crate::changes::{Bid, ITEM_COUNT, USER_COUNT};
@@ -58,12 +58,8 @@ impl Crowd {
         round: Round,
         tally: &mut Tally,
     ) -> (Option<Stamp>, Guest<'a, J>)
-        ensures { tally.new ≡ record tally.old {
-          bids = tally.new.bids;
-          conflicts = tally.new.conflicts;
-          raised = tally.new.raised;
-          last = tally.new.last;
-        } }
+        ensures counts { CountsBids tally.old tally.new }
+        ensures made { MatchOption result.0 (tally.new ≡ tally.old) (λ stamp. tally.new.last ≡ stamp) }
     {
         let bid = Bid {
             item: round.item,
@@ -106,12 +102,7 @@ impl Crowd {
         round: Round,
         tally: &mut Tally,
     ) -> (Option<BothBids>, Guest<'a, J>)
-        ensures { tally.new ≡ record tally.old {
-          bids = tally.new.bids;
-          conflicts = tally.new.conflicts;
-          raised = tally.new.raised;
-          last = tally.new.last;
-        } }
+        ensures { CountsBids tally.old tally.new }
     {
         let id = round.item;
         let bounds = self.bounds(round, Stamp::ZERO);
@@ -141,12 +132,7 @@ impl Crowd {
         round: Round,
         tally: &mut Tally,
     ) -> (Option<BothBids>, Guest<'a, J>)
-        ensures counts { tally.new ≡ record tally.old {
-          bids = tally.new.bids;
-          conflicts = tally.new.conflicts;
-          raised = tally.new.raised;
-          last = tally.new.last;
-        } }
+        ensures counts { CountsBids tally.old tally.new }
         ensures whole { self.now.arguments.is_plain ≡ false → IfSome result.0 IsWhole }
     {
         if self.arguments.is_plain {

@@ -1,6 +1,4 @@
 //! What a visitor sees last: what all highest bids come to, after each bid of its own.
-ghost use Rattle.std.specs.Prelude.{◌≡◌};
-
 use crate::changes::{ITEM_COUNT, amount_of};
 use crate::functions::{Auction, AuctionFunction};
 use crate::pages::key;
@@ -24,9 +22,11 @@ pub struct Seen {
 pub struct AllBids;
 
 impl Page<Auction, AuctionFunction> for AllBids {
+    ghost use Rattle.auction.specs.Pages.{ShowsAllBids};
+
     type Output = u64;
 
-    ghost shows = { λ page calls sum. Unit {0} };
+    ghost shows = { λ page. ShowsAllBids };
 
     ghost refuses = { λ page error. Unit {0} };
 

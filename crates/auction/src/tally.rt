@@ -1,8 +1,8 @@
 //! What visitors came to.
-ghost use Rattle.std.specs.Prelude.{◌≡◌, ◌+◌, ◌<◌, ◌^◌, IfSome};
+ghost use Rattle.std.specs.Prelude.{◌≡◌, ◌+◌, ◌*◌, ◌<◌, ◌^◌, ◌-ℤ◌, pos, IfSome, MatchOption, vec_len};
 ghost use Rattle.std.specs.List.{sum_by};
 ghost use Rattle.auction.specs.Pages.{IsWhole};
-ghost use Rattle.auction.specs.Tallies.{pages_of};
+ghost use Rattle.auction.specs.Tallies.{added, pages_of, IsLastSeen, IsSeenInTheEnd};
 
 use crate::changes::{FIRST_BID, ITEM_COUNT};
 use crate::pages::BothBids;
@@ -66,9 +66,9 @@ impl Tally {
     /// Counts a bid of so much more that was made, with the conflicts before it. Returns its stamp.
     pub fn count_bid(&mut self, more: u32, written: &Written<u32>) -> Stamp
         ensures counts { self.new ≡ record self.old {
-          bids = self.new.bids;
-          conflicts = self.new.conflicts;
-          raised = self.new.raised;
+          bids = added self.old.bids 1;
+          conflicts = added self.old.conflicts (vec_len written.now.conflicts);
+          raised = added self.old.raised more;
           last = written.now.committed.stamp;
         } }
         ensures stamp { result ≡ written.now.committed.stamp }
@@ -82,11 +82,13 @@ impl Tally {
         self.last
     }
 
-    /// Adds what others came to, but for what they saw.
+    /// Adds what others came to, but for what each of them did or saw last.
     pub fn add(&mut self, others: &Tally)
         requires { pages_of self.old + pages_of others.now < 2 ^ 64 }
         ensures pages { pages_of self.new ≡ pages_of self.old + pages_of others.now }
         ensures torn { self.new.torn ≡ self.old.torn + others.now.torn }
+        ensures raised { self.new.raised ≡ added self.old.raised others.now.raised }
+        ensures last { self.new.last ≡ self.old.last }
     {
         self.whole += others.whole;
         self.torn += others.torn;
@@ -101,7 +103,10 @@ impl Tally {
 
     /// By how much the first bids, and all that raised them, come to more than what was seen: a bid that
     /// was made and is not in that state was lost. None where nothing was seen.
-    pub fn lost(&self) -> Option<i128> {
+    pub fn lost(&self) -> Option<i128>
+        ensures { MatchOption self.now.seen (result ≡ None)
+            (λ seen. result ≡ Some (pos (ITEM_COUNT * FIRST_BID + self.now.raised) -ℤ pos seen.sum)) }
+    {
         let seen = self.seen?;
         let first = i128::from(ITEM_COUNT) * i128::from(FIRST_BID);
         Some(first + i128::from(self.raised) - i128::from(seen.sum))
@@ -110,7 +115,9 @@ impl Tally {
 
 /// What the visitors of one generation saw last. The page of the greatest stamp shows the bids of all: whose
 /// bid was the last has seen it. None where one of them was refused, since that may be the one.
-fn last_seen(tallies: &[Tally]) -> Option<Seen> {
+fn last_seen(tallies: &[Tally]) -> Option<Seen>
+    ensures { IsLastSeen tallies.now result }
+{
     let mut last = tallies.first()?.seen?;
     for tally in tallies {
         let seen = tally.seen?;
@@ -121,33 +128,36 @@ fn last_seen(tallies: &[Tally]) -> Option<Seen> {
     Some(last)
 }
 
-/// What the visitors of one generation came to in all.
+/// What visitors came to in all, but for what each of them did or saw last.
 pub fn total(tallies: &[Tally]) -> Tally
     requires { sum_by pages_of tallies.now < 2 ^ 64 }
     ensures pages { pages_of result ≡ sum_by pages_of tallies.now }
     ensures torn { result.torn ≡ sum_by (λ tally. tally.torn) tallies.now }
+    ensures last { result.last ≡ 0 }
 {
     let mut all = Tally::ZERO;
     for tally in tallies {
         all.add(tally);
     }
-    all.seen = last_seen(tallies);
     all
 }
 
-/// What the visitors of all generations came to. What was seen last is of the last one, whose bids stand on those
-/// of the others.
+/// What the visitors of all generations came to. What was seen last is what those of the last one saw, whose bids
+/// stand on those of the others.
 pub fn grand_total(generations: &[Vec<Tally>]) -> Tally
     requires { sum_by (λ tallies. sum_by pages_of tallies.items) generations.now < 2 ^ 64 }
     ensures pages { pages_of result ≡ sum_by (λ tallies. sum_by pages_of tallies.items) generations.now }
     ensures torn { result.torn
         ≡ sum_by (λ tallies. sum_by (λ tally. tally.torn) tallies.items) generations.now }
+    ensures last { result.last ≡ 0 }
+    ensures seen { IsSeenInTheEnd generations.now result.seen }
 {
     let mut all = Tally::ZERO;
     for tallies in generations {
-        let of_one = total(tallies);
-        all.add(&of_one);
-        all.seen = of_one.seen;
+        all.add(&total(tallies));
+    }
+    if let Some(tallies) = generations.last() {
+        all.seen = last_seen(tallies);
     }
     all
 }

@@ -7,4 +7,5 @@ abbrev pub invariant-loop-tallies : goal.invariant-loop-tallies
 invariant-loop-tallies l = record {
   pages : pages_of l.all ≡ sum_by (λ tallies. sum_by pages_of tallies.items) (take l.tallies-index l.generations);
   torn : l.all.torn ≡ sum_by (λ tallies. sum_by (λ t. t.torn) tallies.items) (take l.tallies-index l.generations);
+  last : l.all.last ≡ 0;
 }

@@ -7,4 +7,5 @@ abbrev pub invariant-loop-tally : goal.invariant-loop-tally
 invariant-loop-tally l = record {
   pages : pages_of l.all ≡ sum_by pages_of (take l.tally-index l.tallies);
   torn : l.all.torn ≡ sum_by (λ t. t.torn) (take l.tally-index l.tallies);
+  last : l.all.last ≡ 0;
 }
