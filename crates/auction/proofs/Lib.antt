@@ -1,4 +1,6 @@
+mod Amounts
 mod Bodies
+mod LastSeen
 mod Returns
 mod Shown
 mod Sums

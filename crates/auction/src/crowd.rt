@@ -41,7 +41,9 @@ pub struct Crowd {
 
 impl Crowd {
     /// What a page of the round may show: nothing that is too old, or older than the stamp.
-    fn bounds(&self, round: Round, at_least: Stamp) -> Bounds {
+    fn bounds(&self, round: Round, at_least: Stamp) -> Bounds
+        ensures { result ≡ record { now = round.now; staleness = self.now.arguments.staleness; at_least = at_least } }
+    {
         Bounds {
             now: u64::from(round.now),
             staleness: u64::from(self.arguments.staleness),
@@ -161,8 +163,29 @@ impl Crowd {
         client
     }
 
-    /// What all highest bids come to in a state that is not before this stamp. Where the page is refused, it is
-    /// asked for again. None where each try was refused.
+    /// What all highest bids come to in a state that is not before this stamp. None where the page is refused.
+    fn last_page<'a, J: Naming, R: Wait>(
+        &self,
+        rt: &R,
+        alloc: Global,
+        client: Guest<'a, J>,
+        at_least: Stamp,
+    ) -> (Option<Seen>, Guest<'a, J>)
+        ensures { IfSome result.0 (λ seen. at_least ≤ seen.stamp) }
+    {
+        let round = Round {
+            item: 0,
+            now: self.arguments.pages,
+        };
+        let bounds = self.bounds(round, at_least);
+        let (shown, client) = client.read(rt, alloc, bounds, &AllBids);
+        match shown {
+            Ok(shown) => (Seen::by(&shown), client),
+            Err(_) => (None, client),
+        }
+    }
+
+    /// The same. Where the page is refused, it is asked for again, some times.
     fn see<J: Naming, R: Wait>(
         &self,
         rt: &R,
@@ -172,23 +195,13 @@ impl Crowd {
     ) -> Option<Seen>
         ensures { IfSome result (λ seen. at_least ≤ seen.stamp) }
     {
-        let round = Round {
-            item: 0,
-            now: self.arguments.pages,
-        };
-        let bounds = self.bounds(round, at_least);
         let mut client = client;
         for _ in 0..TRIES {
-            let (shown, left) = client.read(rt, alloc, bounds, &AllBids);
+            let (seen, left) = self.last_page(rt, alloc, client, at_least);
+            if seen.is_some() {
+                return seen;
+            }
             client = left;
-            let Ok(shown) = shown else { continue };
-            let Some(pin) = shown.receipt.pin else {
-                continue
-            };
-            return Some(Seen {
-                stamp: pin.stamp,
-                sum: shown.output,
-            });
         }
         None
     }

@@ -1,4 +1,6 @@
 //! What a visitor sees last: what all highest bids come to, after each bid of its own.
+ghost use Rattle.std.specs.Prelude.{◌≡◌, ◌⊎◌, ◌≤◌, MatchOption};
+
 use crate::changes::{ITEM_COUNT, amount_of};
 use crate::functions::{Auction, AuctionFunction};
 use crate::pages::key;
@@ -7,7 +9,7 @@ use std::sync::Wait;
 use txc_client::RoTxn;
 use txc_db::Naming;
 use txc_ports::TxnError;
-use txc_site::{Function, Page};
+use txc_site::{Function, Page, Shown};
 use txc_stamp::Stamp;
 
 /// What all highest bids come to, and the stamp of that state.
@@ -15,6 +17,35 @@ use txc_stamp::Stamp;
 pub struct Seen {
     pub stamp: Stamp,
     pub sum: u64,
+}
+
+impl Seen {
+    /// What the page showed; none where it made no call.
+    pub fn by(shown: &Shown<u64>) -> Option<Seen>
+        ensures { MatchOption shown.now.receipt.pin (result ≡ None)
+            (λ pin. result ≡ Some (record { stamp = pin.stamp; sum = shown.now.output })) }
+    {
+        match &shown.receipt.pin {
+            Some(pin) => Some(Seen {
+                stamp: pin.stamp,
+                sum: shown.output,
+            }),
+            None => None,
+        }
+    }
+
+    /// The later one of two.
+    pub fn later(self, other: Seen) -> Seen
+        ensures either { (result ≡ self) ⊎ (result ≡ other) }
+        ensures one { self.stamp ≤ result.stamp }
+        ensures other { other.stamp ≤ result.stamp }
+    {
+        if self.stamp < other.stamp {
+            other
+        } else {
+            self
+        }
+    }
 }
 
 /// The page that reads all highest bids in one transaction, and adds up their amounts.

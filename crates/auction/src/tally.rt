@@ -2,7 +2,7 @@
 ghost use Rattle.std.specs.Prelude.{◌≡◌, ◌+◌, ◌*◌, ◌<◌, ◌^◌, ◌-ℤ◌, pos, IfSome, MatchOption, vec_len};
 ghost use Rattle.std.specs.List.{sum_by};
 ghost use Rattle.auction.specs.Pages.{IsWhole};
-ghost use Rattle.auction.specs.Tallies.{added, pages_of, IsLastSeen, IsSeenInTheEnd};
+ghost use Rattle.auction.specs.Tallies.{added, pages_of, CountsBids, IsLastSeen, IsSeenInTheEnd};
 
 use crate::changes::{FIRST_BID, ITEM_COUNT};
 use crate::pages::BothBids;
@@ -65,12 +65,11 @@ impl Tally {
 
     /// Counts a bid of so much more that was made, with the conflicts before it. Returns its stamp.
     pub fn count_bid(&mut self, more: u32, written: &Written<u32>) -> Stamp
-        ensures counts { self.new ≡ record self.old {
-          bids = added self.old.bids 1;
-          conflicts = added self.old.conflicts (vec_len written.now.conflicts);
-          raised = added self.old.raised more;
-          last = written.now.committed.stamp;
-        } }
+        ensures counts { CountsBids self.old self.new }
+        ensures bids { self.new.bids ≡ added self.old.bids 1 }
+        ensures conflicts { self.new.conflicts ≡ added self.old.conflicts (vec_len written.now.conflicts) }
+        ensures raised { self.new.raised ≡ added self.old.raised more }
+        ensures last { self.new.last ≡ written.now.committed.stamp }
         ensures stamp { result ≡ written.now.committed.stamp }
     {
         self.bids = self.bids.saturating_add(1);
@@ -108,8 +107,8 @@ impl Tally {
             (λ seen. result ≡ Some (pos (ITEM_COUNT * FIRST_BID + self.now.raised) -ℤ pos seen.sum)) }
     {
         let seen = self.seen?;
-        let first = i128::from(ITEM_COUNT) * i128::from(FIRST_BID);
-        Some(first + i128::from(self.raised) - i128::from(seen.sum))
+        let first = ITEM_COUNT * FIRST_BID;
+        Some(i128::from(first) + i128::from(self.raised) - i128::from(seen.sum))
     }
 }
 
@@ -120,10 +119,7 @@ fn last_seen(tallies: &[Tally]) -> Option<Seen>
 {
     let mut last = tallies.first()?.seen?;
     for tally in tallies {
-        let seen = tally.seen?;
-        if last.stamp < seen.stamp {
-            last = seen;
-        }
+        last = last.later(tally.seen?);
     }
     Some(last)
 }

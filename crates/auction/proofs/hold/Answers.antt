@@ -1,4 +1,5 @@
 use Rattle.std.proofs.Common.{◌≡◌, ◌∙◌}
+use Rattle.auction.proofs.LastSeen.{never_before}
 use Rattle.auction.proofs.Returns.{asked_in_generations, few_in_generations, torn_in_generations}
 use Rattle.auction.proofs.hold.Goals as goal
 
@@ -20,4 +21,5 @@ returns g c =
       whole = λ one.
           c.grand_total.ensures.torn
           ∙ torn_in_generations _ c.args.arguments _ _ _ c.deref.result.now c.in_ok-served.served.end c.in_ok-served-2.field-0 c.in_ok-served-2.was c.deref.ensures.value served one;
+      after = never_before c.grand_total.result.seen c.grand_total.result.last c.grand_total.ensures.last;
     }
