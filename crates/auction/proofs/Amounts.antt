@@ -30,8 +30,8 @@ bid_is_utf8 bid amount (user, small, few, is) =
 -- what is read as UTF-8 is those bytes, where it can't fail
 pub read_is : {E : Type 0} (bid : List ℕ) (A : Bor (List ℕ) → Type 0) (B : E → Type 0) (r : Result (Bor (List ℕ)) E) (other text : Bor (List ℕ))
     → ((s : Bor (List ℕ)) → A s → s.now ≡ bid) → ((e : E) → B e → ⊥) → MatchResult r A B → text ≡ result_unwrap_or r other → text.now ≡ bid
-read_is bid A B (Ok s) other text yes no cases is = ap (λ (t : Bor (List ℕ)). t.now) is ∙ yes s cases
-read_is bid A B (Err e) other text yes no cases is = absurd (no e cases)
+read_is bid A B (Ok s) other text right wrong cases is = ap (λ (t : Bor (List ℕ)). t.now) is ∙ right s cases
+read_is bid A B (Err e) other text right wrong cases is = absurd (wrong e cases)
 
 -- before its first colon stands its amount
 pub before_colon : (bid : List ℕ) (amount : ℕ) → IsBid bid amount → (r : Option (Bor (List ℕ) × Bor (List ℕ))) (other parts : Bor (List ℕ) × Bor (List ℕ))
