@@ -11,9 +11,9 @@ use Rattle.txc_db.specs.Seen.{FrontValue}
 use Rattle.txc_site.specs.declared.error.GenerationError.{GenerationError}
 use Rattle.txc_site.specs.declared.plan.Plan.{Plan}
 use Rattle.txc_site.specs.declared.returning.Generation.{Generation}
-use Rattle.txc_site.specs.Generations.{AreInTurn, ComeAfter, HasEnded, HaveServed, IsGeneration}
+use Rattle.txc_site.specs.Generations.{AreInTurn, ComeAfter, GenerationsHaveEnded, HaveServed, IsGeneration}
 use Rattle.auction.proofs.Tallies.{asked_in_all, sum_of_each, torn_in_all}
-use Rattle.auction.specs.Tallies.{pages_of, HasSeen}
+use Rattle.auction.specs.Tallies.{pages_of, HasTallied}
 use Rattle.auction.specs.declared.arguments.Arguments.{Arguments}
 use Rattle.auction.specs.declared.tally.Tally.{Tally}
 
@@ -44,7 +44,7 @@ module _ {T : Type 0} where
 
 -- who comes again below a number of generations comes as often, and once before
 came_so_often : {T U : Type 0} (most room : ℕ) (numbers : List ℕ) (opened : FrontValue) (gs : List (Generation T)) (u : U) → AreInTurn opened gs
-    → HasEnded (λ g more. IsTrue more ↔ (g.number < most)) room numbers gs (Ok u) → length gs ≡ most + 1
+    → GenerationsHaveEnded (λ g more. IsTrue more ↔ (g.number < most)) room numbers gs (Ok u) → length gs ≡ most + 1
 came_so_often {T} most room numbers opened gs u turns (before, last, is, went_on, stopped) =
     let ordered = subst (AreInTurn opened) is turns in
     let low = All-weaker (λ (g : Generation T). IsTrue true ↔ (g.number < most)) (λ g. g.number < most) (λ g goes. goes.0 refl) before went_on in
@@ -56,20 +56,20 @@ came_so_often {T} most room numbers opened gs u turns (before, last, is, went_on
 -- so many visitors came to each generation, and each asked for so many pages
 module _ {U : Type 0} (plan : Plan) (a : Arguments) (numbers : List ℕ) (opened : FrontValue) (came tallies : List (Vec Tally Global))
     (end : Result U GenerationError) (u : U) (is : end ≡ Ok u) (same : tallies ≡ came)
-    (served : HaveServed plan a.threads numbers (λ p row number tally. HasSeen a.pages a tally) (λ g more. IsTrue more ↔ (g.number < a.returns)) opened came end) where
+    (served : HaveServed plan a.threads numbers (λ p row number tally. HasTallied a.pages a tally) (λ g more. IsTrue more ↔ (g.number < a.returns)) opened came end) where
   many : length served.generations ≡ a.returns + 1
   many =
       came_so_often a.returns plan.events numbers opened served.generations u served.turns
-      (subst (λ (e : Result U GenerationError). HasEnded (λ g more. IsTrue more ↔ (g.number < a.returns)) plan.events numbers served.generations e) is served.ended)
+      (subst (λ (e : Result U GenerationError). GenerationsHaveEnded (λ g more. IsTrue more ↔ (g.number < a.returns)) plan.events numbers served.generations e) is served.ended)
 
   of_each : (f : Vec Tally Global → ℕ) (n : ℕ)
-      → ((g : Generation Tally) → IsGeneration plan a.threads (λ p row number tally. HasSeen a.pages a tally) g → f g.outputs ≡ n)
+      → ((g : Generation Tally) → IsGeneration plan a.threads (λ p row number tally. HasTallied a.pages a tally) g → f g.outputs ≡ n)
       → sum_by f tallies ≡ (a.returns + 1) * n
   of_each f n one =
       ap (sum_by f) (same ∙ served.outputs)
       ∙ sum_of_each f n (map (λ g. g.outputs) served.generations)
       (All-map (λ ts. f ts ≡ n) (λ (g : Generation Tally). g.outputs) served.generations
-      (All-weaker (IsGeneration plan a.threads (λ p row number tally. HasSeen a.pages a tally)) (λ g. f g.outputs ≡ n) one served.generations served.each))
+      (All-weaker (IsGeneration plan a.threads (λ p row number tally. HasTallied a.pages a tally)) (λ g. f g.outputs ≡ n) one served.generations served.each))
       ∙ ap (λ (k : ℕ). k * n) (length-map served.generations (λ (g : Generation Tally). g.outputs) ∙ many)
 
   pub asked_in_generations : sum_by (λ ts. sum_by pages_of ts.items) tallies ≡ (a.returns + 1) * (a.threads * a.pages)

@@ -19,7 +19,7 @@ use Rattle.txc_ports.specs.declared.bounds.Bounds.{Bounds}
 use Rattle.txc_ports.specs.declared.recorded.Recorded.{Recorded}
 use Rattle.txc_txn.specs.Core.{Explains}
 use Rattle.txc_site.specs.declared.reading.Shown.{Shown}
-use Rattle.auction.specs.Auction.{auction, call_of, body_of, group_of, BIDS, ITEMS, USERS}
+use Rattle.auction.specs.Auction.{auction, call_with_argument, body_of, group_of, BIDS, ITEMS, USERS}
 use Rattle.auction.specs.Pages.{IsWhole, ShowsBoth}
 use Rattle.auction.specs.declared.pages.BothBids.{BothBids}
 
@@ -34,8 +34,8 @@ goes_on : (b : Bool) (bytes value page : List ℕ) (rest : Answer → Evaluation
 goes_on true bytes value page rest is shown = shown
 goes_on false bytes value page rest is shown = absurd (cc is)
 
-pub page_shows_bid : (item : ℕ) (s : State) (highest page : List ℕ) → eval auction (call_of 0 item) s ≡ Some highest
-    → eval auction (call_of 1 item) s ≡ Some page → (before : List ℕ) × (page ≡ before ++ 124 ∷ highest)
+pub page_shows_bid : (item : ℕ) (s : State) (highest page : List ℕ) → eval auction (call_with_argument 0 item) s ≡ Some highest
+    → eval auction (call_with_argument 1 item) s ≡ Some page → (before : List ℕ) × (page ≡ before ++ 124 ∷ highest)
 unfolding activation call_below
 page_shows_bid item s highest page called shown =
     let bid = body_of (answer (ById BIDS item) s) in
@@ -54,8 +54,8 @@ pub both_are_whole : (L : History) (bounds : Bounds) (pin : Option Pin) (item : 
 both_are_whole L bounds None item answers both explained shown = absurd (cc (sym shown ∙ explained))
 both_are_whole L bounds (Some pin) item answers both explained shown =
     let right = λ (r : Recorded). eval auction r.key (state_at L pin.stamp) ≡ Some r.value in
-    let first : Recorded = record { key = call_of 0 item; value = both.highest } in
-    let second : Recorded = record { key = call_of 1 item; value = both.page } in
+    let first : Recorded = record { key = call_with_argument 0 item; value = both.highest } in
+    let second : Recorded = record { key = call_with_argument 1 item; value = both.page } in
     let each = All-same right (first ∷ second ∷ []) answers (sym shown) explained.2 in
     page_shows_bid item (state_at L pin.stamp) both.highest both.page (All-head right first (second ∷ []) each)
     (All-head right second [] (All-tail right first (second ∷ []) each))

@@ -6,7 +6,7 @@ use Rattle.std.proofs.Math.Nat.{mul-zero, suc-mul, zero-mul}
 use Rattle.std.proofs.lemmas.Nat.{mul-le}
 use Rattle.std.proofs.lemmas.List.Elements.{All-head, All-tail, All-weaker}
 use Rattle.std.proofs.lemmas.List.Sums.{sum_by-cons}
-use Rattle.auction.specs.Tallies.{pages_of, HasSeen}
+use Rattle.auction.specs.Tallies.{pages_of, HasTallied}
 use Rattle.auction.specs.declared.arguments.Arguments.{Arguments}
 use Rattle.auction.specs.declared.tally.Tally.{Tally}
 
@@ -17,17 +17,17 @@ sum_of_each f n (x ∷ xs) each =
 
 -- so many visitors came, and each asked for so many pages
 module _ (threads pages : ℕ) (a : Arguments) (all tallies : List Tally) (same : tallies ≡ all) (each : length all ≡ threads)
-    (seen : All (HasSeen pages a) all) where
+    (seen : All (HasTallied pages a) all) where
   pub asked_in_all : sum_by pages_of tallies ≡ threads * pages
   asked_in_all =
       ap (λ (ts : List Tally). sum_by pages_of ts) same
-      ∙ sum_of_each pages_of pages all (All-weaker (HasSeen pages a) (λ t. pages_of t ≡ pages) (λ t h. h.asked) all seen)
+      ∙ sum_of_each pages_of pages all (All-weaker (HasTallied pages a) (λ t. pages_of t ≡ pages) (λ t h. h.asked) all seen)
       ∙ ap (λ (n : ℕ). n * pages) each
 
   pub torn_in_all : a.is_plain ≡ false → sum_by (λ t. t.torn) tallies ≡ 0
   torn_in_all one =
       ap (λ (ts : List Tally). sum_by (λ t. t.torn) ts) same
-      ∙ sum_of_each (λ t. t.torn) 0 all (All-weaker (HasSeen pages a) (λ t. t.torn ≡ 0) (λ t h. h.whole one) all seen)
+      ∙ sum_of_each (λ t. t.torn) 0 all (All-weaker (HasTallied pages a) (λ t. t.torn ≡ 0) (λ t h. h.whole one) all seen)
       ∙ mul-zero (length all)
 
   pub few_in_all : threads < 2 ^ 32 → pages < 2 ^ 32 → sum_by pages_of tallies < 2 ^ 64

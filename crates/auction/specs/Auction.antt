@@ -47,8 +47,8 @@ titles_of [] = []
 titles_of (r ∷ rows) = r.body ++ 59 ∷ titles_of rows
 
 -- a call of a function with one argument
-abbrev pub call_of : ℕ → ℕ → CallValue
-call_of function arg = record { function = function; args = arg ∷ [] }
+abbrev pub call_with_argument : ℕ → ℕ → CallValue
+call_with_argument function arg = record { function = function; args = arg ∷ [] }
 
 -- 0: the highest bid on an item
 abbrev pub highest_bid : List ℕ → List Answer → Option Ask
@@ -58,7 +58,7 @@ highest_bid args given = None
 
 -- 1: the page of an item: its title, the name of its seller, and the highest bid
 abbrev pub item_page : List ℕ → List Answer → Option Ask
-item_page (item ∷ []) [] = Some (Call (call_of 0 item))
+item_page (item ∷ []) [] = Some (Call (call_with_argument 0 item))
 item_page (item ∷ []) (bid ∷ []) = Some (Query (ById ITEMS item))
 item_page (item ∷ []) (bid ∷ row ∷ []) = Some (Query (ById USERS (group_of (rows_in row))))
 item_page (item ∷ []) (bid ∷ row ∷ seller ∷ more) =

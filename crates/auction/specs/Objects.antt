@@ -5,10 +5,10 @@ use Rattle.auction.specs.Auction.{auction}
 use Rattle.auction.specs.declared.functions.AuctionFunction.{AuctionFunction}
 use Rattle.auction.specs.declared.functions.AuctionFunction.TheVariants as functions
 
-abbrev pub number_of : AuctionFunction → ℕ
-number_of functions.HighestBid = 0
-number_of functions.ItemPage = 1
-number_of functions.ItemsOf = 2
+abbrev pub auction_number : AuctionFunction → ℕ
+auction_number functions.HighestBid = 0
+auction_number functions.ItemPage = 1
+auction_number functions.ItemsOf = 2
 
-abbrev pub says_of : AuctionFunction → Says
-says_of f = auction (number_of f)
+abbrev pub auction_says : AuctionFunction → Says
+auction_says f = auction (auction_number f)

@@ -1,13 +1,13 @@
 -- What the pages of the auction show.
 use Rattle.std.specs.Prelude.{◌≡◌, ℕ, List, [], ◌∷◌, ◌++◌}
 use Rattle.txc_ports.specs.declared.recorded.Recorded.{Recorded}
-use Rattle.auction.specs.Auction.{call_of}
+use Rattle.auction.specs.Auction.{call_with_argument}
 use Rattle.auction.specs.declared.pages.BothBids.{BothBids}
 
 -- the highest bid on the item was called, and then its page
 abbrev pub ShowsBoth : ℕ → List Recorded → BothBids → Type 0
-ShowsBoth item calls both = calls ≡ record { key = call_of 0 item; value = both.highest }
-    ∷ record { key = call_of 1 item; value = both.page } ∷ []
+ShowsBoth item calls both = calls ≡ record { key = call_with_argument 0 item; value = both.highest }
+    ∷ record { key = call_with_argument 1 item; value = both.page } ∷ []
 
 -- the page ends with a bar and the highest bid
 abbrev pub IsWhole : BothBids → Type 0

@@ -16,6 +16,6 @@ abbrev pub CountsBids : Tally → Tally → Type 0
 CountsBids old new = new ≡ record old { bids = new.bids; conflicts = new.conflicts; raised = new.raised; last = new.last }
 
 -- so many pages were asked for; and none that was shown was torn, where both calls of a page were made in one transaction
-pub record HasSeen (pages : ℕ) (arguments : Arguments) (t : Tally) : Type 0 where
+pub record HasTallied (pages : ℕ) (arguments : Arguments) (t : Tally) : Type 0 where
   pub asked : pages_of t ≡ pages
   pub whole : arguments.is_plain ≡ false → t.torn ≡ 0

@@ -236,11 +236,11 @@ fn count_lookups<J: Naming>(client: &Guest<'_, J>, tally: &mut Tally)
 }
 
 impl Visitor<Auction, AuctionFunction> for Crowd {
-    ghost use Rattle.auction.specs.Tallies.{HasSeen};
+    ghost use Rattle.auction.specs.Tallies.{HasTallied};
 
     type Output = Tally;
 
-    ghost gives = { λ crowd plan row number tally. HasSeen crowd.arguments.pages crowd.arguments tally };
+    ghost gives = { λ crowd plan row number tally. HasTallied crowd.arguments.pages crowd.arguments tally };
 
     /// The first visitor keeps the site.
     fn visit<J: Naming + Send + Sync, R: Wait>(

@@ -111,11 +111,11 @@ pub enum AuctionFunction {
 }
 
 impl Definition for AuctionFunction {
-    ghost use Rattle.auction.specs.Objects.{number_of, says_of};
+    ghost use Rattle.auction.specs.Objects.{auction_number, auction_says};
 
-    ghost number = { number_of };
+    ghost number = { auction_number };
 
-    ghost says = { says_of };
+    ghost says = { auction_says };
 
     fn number(&self) -> u8 {
         match self {

@@ -2,7 +2,7 @@
 #![tactic(auto)]
 
 ghost use Rattle.std.specs.Prelude.{◌+◌, ◌*◌, IfOk};
-ghost use Rattle.auction.specs.Tallies.{HasSeen};
+ghost use Rattle.auction.specs.Tallies.{HasTallied};
 
 mod arguments;
 mod changes;
@@ -29,7 +29,7 @@ fn hold<R: Threads + Wait + Sync>(
     alloc: Global,
     arguments: Arguments,
 ) -> anyhow::Result<Tally>
-    ensures { IfOk result (HasSeen
+    ensures { IfOk result (HasTallied
         ((arguments.returns + 1) * (arguments.threads * arguments.pages)) arguments) }
 {
     let plan = Plan {

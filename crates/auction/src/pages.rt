@@ -1,6 +1,6 @@
 //! What visitors read: an item's highest bid and its page, in one transaction or in two.
 ghost use Rattle.std.specs.Prelude.{◌≡◌, ◌≤◌, ◌↔◌, IsTrue};
-ghost use Rattle.auction.specs.Auction.{call_of};
+ghost use Rattle.auction.specs.Auction.{call_with_argument};
 ghost use Rattle.auction.specs.Pages.{IsWhole};
 
 use crate::functions::{Auction, AuctionFunction};
@@ -16,7 +16,7 @@ use txc_tags::Key;
 /// The call of a function with one argument.
 pub fn key(function: u8, id: u32) -> Key
     requires { function ≤ 2 }
-    ensures { result ≡ call_of function id }
+    ensures { result ≡ call_with_argument function id }
 {
     let Ok(key) = Key::new(function, &[id]) else {
         unreachable!()
@@ -80,11 +80,11 @@ pub struct OneCall {
 
 impl Page<Auction, AuctionFunction> for OneCall {
     ghost use Rattle.std.specs.Prelude.{◌≡◌, [], ◌∷◌};
-    ghost use Rattle.auction.specs.Auction.{call_of};
+    ghost use Rattle.auction.specs.Auction.{call_with_argument};
 
     type Output = Value;
 
-    ghost shows = { λ page calls value. calls ≡ record { key = call_of page.function page.id; value = value } ∷ [] };
+    ghost shows = { λ page calls value. calls ≡ record { key = call_with_argument page.function page.id; value = value } ∷ [] };
 
     ghost refuses = { λ page error. Unit {0} };
 

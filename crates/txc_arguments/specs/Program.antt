@@ -40,20 +40,20 @@ abbrev pub settings_rule : Rule
 settings_rule = record (new_rule (codes "settings")) { long = Some (codes "settings"); value_names = 1 }
 
 -- a mode, and at most once the settings
-abbrev pub program : Option ValueParser → App
-program modes = with_rule (with_rule (new_app (codes "txcache")) (mode_rule modes)) settings_rule
+abbrev pub command_line : Option ValueParser → App
+command_line modes = with_rule (with_rule (new_app (codes "txcache")) (mode_rule modes)) settings_rule
 
 -- the words give the mode of this script
 abbrev pub HasMode : List Text → Script → Type 0
 HasMode words script =
     (modes : Option ValueParser) × ReadsModes modes
-    × (first_of (codes "mode") (matches_of (program modes) words) ≡ Some (mode_text script))
+    × (first_of (codes "mode") (matches_of (command_line modes) words) ≡ Some (mode_text script))
 
 -- the words give this text of settings, or none
 abbrev pub HasSettings : List Text → Option Text → Type 0
 HasSettings words settings =
     (modes : Option ValueParser) × ReadsModes modes
-    × (first_of (codes "settings") (matches_of (program modes) words) ≡ settings)
+    × (first_of (codes "settings") (matches_of (command_line modes) words) ≡ settings)
 
 -- a growth was refused, or the words are none of a command line, and the error is of a kind that they call
 -- for
@@ -61,7 +61,7 @@ abbrev pub IsRefusedAs : List Text → Error → Type 0
 IsRefusedAs words error =
     (kind_of error ≡ OutOfMemory)
     ⊎ ((modes : Option ValueParser) × ReadsModes modes
-    × IsAmong (kind_of error) (fault_of (program modes) words))
+    × IsAmong (kind_of error) (fault_of (command_line modes) words))
 
 -- ---- only private functions need this
 

@@ -19,7 +19,7 @@ IsNoText reasons.Memory = ⊤
 -- ---- only private functions need this
 
 -- the argument of this number has these bytes, and is no text
-pub record IsNoWord (number : ℕ) (bytes : List ℕ) (fault : NotText) : Type 0 where
+pub record IsNotTextAt (number : ℕ) (bytes : List ℕ) (fault : NotText) : Type 0 where
   pub numbered : fault.number ≡ number
   pub has : fault.bytes.items ≡ bytes
   pub none : HasNoText fault

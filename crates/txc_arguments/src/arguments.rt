@@ -2,7 +2,7 @@
 ghost use Rattle.std.specs.Prelude.{◌≡◌, IfOk, IfErr, IfSome, IfNone, map, option_map, string_bytes, Option};
 ghost use Rattle.clap.specs.Words.{app_of, kind_of};
 ghost use Rattle.clap.specs.declared.builder.value_parser.ValueParser.{ValueParser};
-ghost use Rattle.txc_arguments.specs.Program.{AsksForMode, HasMode, HasSettings, IsModeArg, IsRefusedAs, IsSettingsArg, ReadsModes, mode_text, program};
+ghost use Rattle.txc_arguments.specs.Program.{AsksForMode, HasMode, HasSettings, IsModeArg, IsRefusedAs, IsSettingsArg, ReadsModes, command_line, mode_text};
 ghost use Rattle.txc_settings.specs.declared.script.Script.{Script};
 
 use clap::error::ErrorKind;
@@ -48,7 +48,7 @@ fn settings_argument<'a>(alloc: Global) -> Arg<'a>
 /// The command line of the program.
 fn program<'a>(alloc: Global) -> Result<Command<'a>, Error>
     ensures shape { IfOk result (λ c. (parser : Option ValueParser) × ReadsModes parser
-        × (app_of c ≡ program parser)) }
+        × (app_of c ≡ command_line parser)) }
     ensures asks { IfOk result AsksForMode }
     ensures refused { IfErr result (λ e. kind_of e ≡ ErrorKind.OutOfMemory) }
 {

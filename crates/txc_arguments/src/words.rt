@@ -1,6 +1,6 @@
 //! The words of a command line, from the arguments of the process.
 ghost use Rattle.std.specs.Prelude.{◌≡◌, IfOk, IfErr, string_bytes};
-ghost use Rattle.txc_arguments.specs.WordsRead.{IsNoText, IsNoWord};
+ghost use Rattle.txc_arguments.specs.WordsRead.{IsNoText, IsNotTextAt};
 
 use std::alloc::{AllocError, AllocFailed, Global};
 use std::env::{Env, FillError};
@@ -89,7 +89,7 @@ fn argument<R: Env>(rt: &R, alloc: Global, number: usize) -> Result<Option<Vec<u
 /// The word that the bytes of the argument of that number are.
 fn word(number: usize, bytes: Vec<u8>) -> Result<String, NotText>
     ensures answer { IfOk result (λ word. string_bytes word ≡ bytes.items) }
-    ensures refused { IfErr result (IsNoWord number bytes.items) }
+    ensures refused { IfErr result (IsNotTextAt number bytes.items) }
 {
     match String::from_utf8(bytes) {
         Ok(word) => Ok(word),

@@ -7,7 +7,7 @@ use Rattle.std.proofs.KnownBytes.{Appends-kept}
 use Rattle.std.specs.Io.KnownBytes.{Appends, Keeps}
 use Rattle.std.specs.declared.alloc.Global.{Global}
 use Rattle.txc_app.specs.Eval.{Next}
-use Rattle.txc_script.specs.Runs.{HasRun}
+use Rattle.txc_script.specs.Runs.{ScriptHasRun}
 use Rattle.txc_script.specs.Written.{AppendsPrefix}
 use Rattle.txc_script.specs.declared.fault.RunFault.{RunFault}
 use Rattle.txc_script.specs.declared.fault.RunFault.TheVariants.{Write}
@@ -17,7 +17,7 @@ use Rattle.txc_work.specs.declared.job.Receipted.{Receipted}
 use Rattle.txc_world.specs.Worlds.{WorldValue}
 use Rattle.txc_batch.specs.BatchRuns.{status_of, EndsAfterLines, EndsInJobs, HasRunBatch}
 use Rattle.txc_batch.specs.BatchScripts.{batch_script}
-use Rattle.txc_batch.specs.BatchStates.{begun, BatchState}
+use Rattle.txc_batch.specs.BatchStates.{begun_batch, BatchState}
 use Rattle.txc_batch.specs.OutcomeTexts.{batch_text, is_refused_batch}
 use Rattle.txc_batch.specs.RunJobs.{EndsSo}
 
@@ -48,7 +48,7 @@ jobs_cut next s was_refused batch old new text fault (Err x) ends text_is cut is
     subst (λ (e : RunFault). EndsInJobs next s was_refused old new (Err e)) (sym (h.1 ∙ is)) (batch, ends, subst (AppendsPrefix old new) text_is cut)
 
 -- the lines were run, and then what comes after them
-pub run_ended : (next : Next) (world : WorldValue) (functions : List ℕ) (start left : BatchState) (a b w x y : Option (List ℕ)) (ended result : Result Status RunFault) → start ≡ begun world functions
-    → HasRun (batch_script next) start a b w x ended left → EndsAfterLines next left ended x y result → HasRunBatch next world functions a b w y result
+pub run_ended : (next : Next) (world : WorldValue) (functions : List ℕ) (start left : BatchState) (a b w x y : Option (List ℕ)) (ended result : Result Status RunFault) → start ≡ begun_batch world functions
+    → ScriptHasRun (batch_script next) start a b w x ended left → EndsAfterLines next left ended x y result → HasRunBatch next world functions a b w y result
 run_ended next world functions start left a b w x y ended result is run after =
-    (left, x, ended, subst (λ (s : BatchState). HasRun (batch_script next) s a b w x ended left) is run, after)
+    (left, x, ended, subst (λ (s : BatchState). ScriptHasRun (batch_script next) s a b w x ended left) is run, after)

@@ -12,19 +12,19 @@ use Rattle.txc_work.specs.declared.job.Job.{Job}
 use Rattle.txc_work.specs.declared.job.Outcome.{Outcome}
 use Rattle.txc_work.specs.declared.job.Outcome.TheVariants as outcomes
 use Rattle.txc_work.specs.declared.job.Receipted.{Receipted}
-use Rattle.txc_batch.specs.Rows.{IsOfRow}
+use Rattle.txc_batch.specs.Rows.{OutcomeIsOfRow}
 use Rattle.txc_batch.specs.RunJobs.{AgreesWith, HaveRun}
 
-of_row : (next : Next) (row : List ℕ) (node_rows : ℕ → List ℕ) (functions : List ℕ) (job : Job) (outcome : Outcome) → Meets next row node_rows functions job outcome → IsOfRow row outcome
+of_row : (next : Next) (row : List ℕ) (node_rows : ℕ → List ℕ) (functions : List ℕ) (job : Job) (outcome : Outcome) → Meets next row node_rows functions job outcome → OutcomeIsOfRow row outcome
 of_row next row node_rows functions job (outcomes.Receipt receipt) h = h.events
 of_row next row node_rows functions job (outcomes.Refused error) h = tt
 
 -- what the results of jobs over a row show is a part of that row
 pub all_of_row : (next : Next) (row shown : List ℕ) (node_rows : ℕ → List ℕ) (functions : List ℕ) (jobs : List Job) (results : List Receipted) → shown ≡ row
-    → All (IsResultOf jobs (Meets next row node_rows functions)) results → All (λ told. IsOfRow shown told.outcome) results
+    → All (IsResultOf jobs (Meets next row node_rows functions)) results → All (λ told. OutcomeIsOfRow shown told.outcome) results
 all_of_row next row shown node_rows functions jobs results same all =
-    subst (λ (shown : List ℕ). All (λ told. IsOfRow shown told.outcome) results) (sym same)
-    (All-weaker (IsResultOf jobs (Meets next row node_rows functions)) (λ told. IsOfRow row told.outcome) (λ told h. of_row next row node_rows functions h.0 told.outcome h.3) results all)
+    subst (λ (shown : List ℕ). All (λ told. OutcomeIsOfRow shown told.outcome) results) (sym same)
+    (All-weaker (IsResultOf jobs (Meets next row node_rows functions)) (λ told. OutcomeIsOfRow row told.outcome) (λ told h. of_row next row node_rows functions h.0 told.outcome h.3) results all)
 
 -- the jobs ran over the database, whose row was the named one
 pub have_run : (next : Next) (database : DatabaseValue) (row : List ℕ) (node_rows : ℕ → List ℕ) (functions : List ℕ) (jobs : List Job) (results : List Receipted) (history : History) → database.events ≡ row

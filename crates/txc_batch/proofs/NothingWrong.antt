@@ -11,7 +11,7 @@ use Rattle.txc_script.specs.declared.line_fault.CommandFault.{CommandFault}
 use Rattle.txc_script.specs.declared.line_fault.CommandFault.TheVariants as faults
 use Rattle.txc_script.specs.declared.line_fault.WordKind.TheVariants.{Key}
 use Rattle.txc_script.specs.declared.line_name.LineName.{LineName}
-use Rattle.txc_play.specs.Tasks.{name_text, Says}
+use Rattle.txc_play.specs.Tasks.{LineAsksFor, name_text}
 use Rattle.txc_play.specs.declared.task.Task.{Task}
 use Rattle.txc_play.proofs.NothingWrong.{has_kinds, none_after, none_bad}
 use Rattle.txc_work.specs.declared.job.Job.{Job}
@@ -49,7 +49,7 @@ no_job_fault words q faults.AfterJob h f = f
 
 -- ---- words that are a change or a pin
 
-no_preparing_fault : (jobs : List Job) (name : LineName) (words : List (List ℕ)) (task : Task) (fault : CommandFault) → jobs ≡ [] → Says name words task → IsPreparingFault jobs name words fault → ⊥
+no_preparing_fault : (jobs : List Job) (name : LineName) (words : List (List ℕ)) (task : Task) (fault : CommandFault) → jobs ≡ [] → LineAsksFor name words task → IsPreparingFault jobs name words fault → ⊥
 no_preparing_fault jobs name words task fault none says h =
     none_after name words fault (subst (λ (js : List Job). IsPreparingFault js name words fault) none h) (has_kinds name words task says)
 

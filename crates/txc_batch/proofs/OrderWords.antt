@@ -9,7 +9,7 @@ use Rattle.txc_script.specs.declared.unread.Unread.TheVariants as reasons
 use Rattle.txc_script.specs.declared.line_name.LineName.{LineName}
 use Rattle.txc_script.specs.declared.line_name.LineName.TheVariants as names
 use Rattle.txc_script.proofs.Offered.{words_alone}
-use Rattle.txc_play.specs.Tasks.{name_text, Says}
+use Rattle.txc_play.specs.Tasks.{LineAsksFor, name_text}
 use Rattle.txc_play.specs.declared.task.Task.{Task}
 use Rattle.txc_play.proofs.TaskNames.{same_name, some_words}
 use Rattle.txc_play.proofs.TaskParts.{apart, first_is, others_are}
@@ -31,11 +31,11 @@ no_job_name name is e = absurd is
 pub first_of : (line word : List ℕ) (words : List (List ℕ)) (task : Task) → words_of line ≡ word ∷ words → (h : SpellsPreparing line task) → word ≡ name_text h.name
 first_of line word words task e h = first_is word (name_text h.name) words h.words (sym e ∙ h.line_is)
 
-pub says_named : (line word : List ℕ) (words : List (List ℕ)) (name : LineName) (task : Task) → words_of line ≡ word ∷ words → word ≡ name_text name → SpellsPreparing line task → Says name words task
+pub says_named : (line word : List ℕ) (words : List (List ℕ)) (name : LineName) (task : Task) → words_of line ≡ word ∷ words → word ≡ name_text name → SpellsPreparing line task → LineAsksFor name words task
 says_named line word words name task e is h =
     let same : h.name ≡ name = same_name h.name name (sym (first_of line word words task e h) ∙ is) in
     let others : h.words ≡ words = others_are (name_text h.name) word h.words words (sym h.line_is ∙ e) in
-    subst (λ (n : LineName). Says n words task) same (subst (λ (ws : List (List ℕ)). Says h.name ws task) others h.says)
+    subst (λ (n : LineName). LineAsksFor n words task) same (subst (λ (ws : List (List ℕ)). LineAsksFor h.name ws task) others h.says)
 
 pub job_word : (line word : List ℕ) (words : List (List ℕ)) (q : QueuedValue) → words_of line ≡ word ∷ words → (h : SpellsJob line q) → word ≡ codes "job"
 job_word line word words q e h = first_is word (codes "job") words h.words (sym e ∙ h.line_is)
@@ -50,7 +50,7 @@ job_said line word words q e h =
 pub no_order_alone : (jobs : List Job) (line : List ℕ) (order : Order) → HasNoBlank line → AsksFor jobs line order → ⊥
 no_order_alone jobs line (Prepare task) bare h =
     let alone : words_of line ≡ line ∷ [] = words_alone line bare in
-    some_words h.1.name task (subst (λ (ws : List (List ℕ)). Says h.1.name ws task) (others_are (name_text h.1.name) line h.1.words [] (sym h.1.line_is ∙ alone)) h.1.says)
+    some_words h.1.name task (subst (λ (ws : List (List ℕ)). LineAsksFor h.1.name ws task) (others_are (name_text h.1.name) line h.1.words [] (sym h.1.line_is ∙ alone)) h.1.says)
 no_order_alone jobs line (Run q) bare h = no_words q (job_said line line [] q (words_alone line bare) h)
 
 -- one that is called a job, and is none
@@ -72,7 +72,7 @@ too_late jobs line word words (Run q) e other some h = other (job_word line word
 
 -- one that has the name of a change or of a pin, and is none
 pub not_named : (jobs : List Job) (line word : List ℕ) (words : List (List ℕ)) (name : LineName) (order : Order) → words_of line ≡ word ∷ words → (word ≡ codes "job" → ⊥) → word ≡ name_text name
-    → ((task : Task) → Says name words task → ⊥) → AsksFor jobs line order → ⊥
+    → ((task : Task) → LineAsksFor name words task → ⊥) → AsksFor jobs line order → ⊥
 not_named jobs line word words name (Prepare task) e other is none h = none task (says_named line word words name task e is h.1)
 not_named jobs line word words name (Run q) e other is none h = other (job_word line word words q e h)
 
@@ -90,7 +90,7 @@ job_asked jobs line word words (Prepare task) e is h = absurd (no_job_name h.1.n
 job_asked jobs line word words (Run q) e is h = (q, job_said line word words q e h)
 
 pub task_asked : (jobs : List Job) (line word : List ℕ) (words : List (List ℕ)) (name : LineName) (order : Order) → words_of line ≡ word ∷ words → (word ≡ codes "job" → ⊥) → word ≡ name_text name
-    → AsksFor jobs line order → (task : Task) × Says name words task
+    → AsksFor jobs line order → (task : Task) × LineAsksFor name words task
 task_asked jobs line word words name (Prepare task) e other is h = (task, says_named line word words name task e is h.1)
 task_asked jobs line word words name (Run q) e other is h = absurd (other (job_word line word words q e h))
 

@@ -5,7 +5,7 @@ use Rattle.std.specs.declared.alloc.Global.{Global}
 use Rattle.std.specs.declared.vec.Vec.{Vec}
 use Rattle.txc_settings.specs.declared.settings.Settings.{Settings}
 use Rattle.txc_app.specs.Eval.{Next}
-use Rattle.txc_script.specs.Runs.{HasRun}
+use Rattle.txc_script.specs.Runs.{ScriptHasRun}
 use Rattle.txc_script.specs.Written.{AppendsPrefix}
 use Rattle.txc_script.specs.declared.fault.RunFault.{RunFault}
 use Rattle.txc_script.specs.declared.fault.RunFault.TheVariants.{Read, Write, Memory}
@@ -17,7 +17,7 @@ use Rattle.txc_world.specs.Worlds.{WorldValue}
 use Rattle.txc_world.specs.declared.settings.WorldSettings.{WorldSettings}
 use Rattle.txc_play.specs.WorldRuns.{world_settings}
 use Rattle.txc_batch.specs.BatchScripts.{batch_script}
-use Rattle.txc_batch.specs.BatchStates.{begun, BatchState}
+use Rattle.txc_batch.specs.BatchStates.{begun_batch, BatchState}
 use Rattle.txc_batch.specs.OutcomeTexts.{batch_text, is_refused_batch}
 use Rattle.txc_batch.specs.RunJobs.{EndsSo}
 
@@ -64,6 +64,6 @@ abbrev pub HasRunBatch : Next → WorldValue → List ℕ → Option (List ℕ) 
     → Option (List ℕ) → Result Status RunFault → Type 0
 HasRunBatch next world functions remaining_old remaining_new contents_old contents_new result =
     (left : BatchState) × (contents : Option (List ℕ)) × (lines_ended : Result Status RunFault)
-    × HasRun (batch_script next) (begun world functions) remaining_old remaining_new contents_old contents
+    × ScriptHasRun (batch_script next) (begun_batch world functions) remaining_old remaining_new contents_old contents
     lines_ended left
     × EndsAfterLines next left lines_ended contents contents_new result

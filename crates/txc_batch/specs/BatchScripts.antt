@@ -2,7 +2,7 @@
 use Rattle.std.specs.Prelude.{◌≡◌, ◌⊎◌, ℕ, Bool, false, List, [], ◌∷◌, ◌++◌, Option, Some, None, length}
 use Rattle.txc_app.specs.Eval.{Next}
 use Rattle.txc_script.specs.Kinds.{ScriptKind, no_closing}
-use Rattle.txc_play.specs.TaskSteps.{HasBegun, IsDone}
+use Rattle.txc_play.specs.TaskSteps.{TaskHasBegun, TaskIsDone}
 use Rattle.txc_play.specs.TaskTexts.{printed_text, is_refused_line}
 use Rattle.txc_play.specs.declared.printed.Printed.{Printed}
 use Rattle.txc_play.specs.declared.task.Task.{Task}
@@ -29,14 +29,14 @@ pub record Queues (q : QueuedValue) (s end : BatchState) : Type 0 where
 -- and has no reply yet
 abbrev pub DoesOrder : Next → BatchState → Order → Option Printed → BatchState → Type 0
 DoesOrder next s (Prepare task) None end = ⊥
-DoesOrder next s (Prepare task) (Some printed) end = LeadsWorld (λ w v. IsDone next w task printed v) s end
+DoesOrder next s (Prepare task) (Some printed) end = LeadsWorld (λ w v. TaskIsDone next w task printed v) s end
 DoesOrder next s (Run q) reply end = (reply ≡ None) × Queues q s end
 
 -- nothing was done of what a line asks for, or the first steps of a change or a pin were taken, or all of them
 abbrev pub BreaksOffOrder : Next → BatchState → List ℕ → BatchState → Type 0
 BreaksOffOrder next s line end =
     (end ≡ s)
-    ⊎ ((task : Task) × AsksFor s.jobs line (Prepare task) × LeadsWorld (λ w v. HasBegun next w task v) s end)
+    ⊎ ((task : Task) × AsksFor s.jobs line (Prepare task) × LeadsWorld (λ w v. TaskHasBegun next w task v) s end)
 
 -- what is written of a line: of a job nothing
 abbrev pub order_text : Option Printed → List ℕ

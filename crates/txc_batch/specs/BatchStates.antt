@@ -11,5 +11,5 @@ pub record BatchState : Type 0 where
   pub jobs : List Job
 
 -- this world and these functions, and no job
-abbrev pub begun : WorldValue → List ℕ → BatchState
-begun world functions = record { world = world; functions = functions; jobs = [] }
+abbrev pub begun_batch : WorldValue → List ℕ → BatchState
+begun_batch world functions = record { world = world; functions = functions; jobs = [] }

@@ -6,7 +6,7 @@ use Rattle.txc_tags.specs.TextKey.{key_text, IsKeyInRange}
 use Rattle.txc_script.specs.Words.{words_of}
 use Rattle.txc_script.specs.declared.line_name.LineName.{LineName}
 use Rattle.txc_script.specs.declared.line_name.LineName.TheVariants as names
-use Rattle.txc_play.specs.Tasks.{name_text, Says}
+use Rattle.txc_play.specs.Tasks.{LineAsksFor, name_text}
 use Rattle.txc_play.specs.declared.parts.TheConstants.{LAST_MOMENT}
 use Rattle.txc_play.specs.declared.task.Task.{Task}
 use Rattle.txc_work.specs.declared.job.Job.{Job}
@@ -27,7 +27,7 @@ pub record SpellsPreparing (line : List ℕ) (task : Task) : Type 0 where
   pub words : List (List ℕ)
   pub preparing : IsPreparing name
   pub line_is : words_of line ≡ name_text name ∷ words
-  pub says : Says name words task
+  pub says : LineAsksFor name words task
 
 -- the words are a moment, a staleness, and keys, one at least
 pub record AreJobWords (words : List (List ℕ)) (q : QueuedValue) : Type 0 where

@@ -22,15 +22,15 @@ abbrev pub result_text : Receipted → List ℕ
 result_text told = codes "job " ++ (decimal told.number ++ (outcome_text told.outcome ++ 10 ∷ []))
 
 -- the line of a batch that has no results; that memory was refused has none
-abbrev pub refusal_text : BatchError → List ℕ
-refusal_text (Missing number) = codes "refused J1 " ++ (decimal number ++ 10 ∷ [])
-refusal_text (Twice number) = codes "refused J2 " ++ (decimal number ++ 10 ∷ [])
-refusal_text Memory = []
+abbrev pub batch_error_text : BatchError → List ℕ
+batch_error_text (Missing number) = codes "refused J1 " ++ (decimal number ++ 10 ∷ [])
+batch_error_text (Twice number) = codes "refused J2 " ++ (decimal number ++ 10 ∷ [])
+batch_error_text Memory = []
 
 -- the lines of the jobs; or that of the batch
 abbrev pub batch_text : Result (Vec Receipted Global) BatchError → List ℕ
 batch_text (Ok results) = flat_map result_text results.items
-batch_text (Err error) = refusal_text error
+batch_text (Err error) = batch_error_text error
 
 -- a call of the job was refused
 abbrev pub is_refused_outcome : Outcome → Bool

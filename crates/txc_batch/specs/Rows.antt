@@ -9,6 +9,6 @@ AreRowsOf named number [] = Unit {0}
 AreRowsOf named number (row ∷ rows) = (row ≡ named number) × AreRowsOf named (number + 1) rows
 
 -- a receipt shows a part of this row
-abbrev pub IsOfRow : List ℕ → Outcome → Type 0
-IsOfRow row (outcomes.Receipt receipt) = receipt.seen.events ≡ row
-IsOfRow row (outcomes.Refused error) = Unit {0}
+abbrev pub OutcomeIsOfRow : List ℕ → Outcome → Type 0
+OutcomeIsOfRow row (outcomes.Receipt receipt) = receipt.seen.events ≡ row
+OutcomeIsOfRow row (outcomes.Refused error) = Unit {0}

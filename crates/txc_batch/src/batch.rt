@@ -1,7 +1,7 @@
 //! What the lines of a batch's script find and leave: a world, and the jobs that are to be run over it.
 ghost use Rattle.std.specs.Prelude.{◌≡◌, IfOk, OnOk, OnErr};
 ghost use Rattle.txc_batch.specs.BatchScripts.{Queues};
-ghost use Rattle.txc_batch.specs.BatchStates.{begun};
+ghost use Rattle.txc_batch.specs.BatchStates.{begun_batch};
 ghost use Rattle.txc_batch.specs.Crews.{numbers_in, IsCrew};
 ghost use Rattle.txc_batch.specs.Preparing.{IsBrokenOff, IsCutOff, IsObeyed, IsPrepared};
 
@@ -42,7 +42,7 @@ impl<A: App, C: Cacheable> Batch<A, C> {
     /// No job yet.
     pub fn new(alloc: Global, world: World<A, C>, crew: Vec<Registry<A, C>>) -> Batch<A, C>
         requires { IsCrew crew.items }
-        ensures { result ≡ begun world (numbers_in crew.items) }
+        ensures { result ≡ begun_batch world (numbers_in crew.items) }
     {
         Batch {
             world,

@@ -6,7 +6,7 @@ ghost use Rattle.txc_registry.specs.Objects.{numbers_of};
 ghost use Rattle.txc_work.specs.Batches.{job_numbers, NamesOneOf};
 ghost use Rattle.txc_batch.specs.Crews.{numbers_in, IsCrew};
 ghost use Rattle.txc_batch.specs.RunJobs.{AgreesWith, HaveRun};
-ghost use Rattle.txc_batch.specs.Rows.{AreRowsOf, IsOfRow};
+ghost use Rattle.txc_batch.specs.Rows.{AreRowsOf, OutcomeIsOfRow};
 
 use crate::batch::Batch;
 use std::alloc::{AllocError, Global};
@@ -106,7 +106,7 @@ fn clients<'a, A: App, C: Cacheable, J: Naming>(
 /// What a receipt shows of the history agrees with what this front shows. This is a lemma: it does nothing when
 /// it runs.
 fn outcome_agrees(told: &HistoryFront, outcome: &Outcome)
-    requires { IsOfRow told.now.events outcome.now }
+    requires { OutcomeIsOfRow told.now.events outcome.now }
     ensures { AgreesWith told.now.history outcome.now }
 {
     match outcome {
@@ -117,7 +117,7 @@ fn outcome_agrees(told: &HistoryFront, outcome: &Outcome)
 
 /// The same of each result.
 fn results_agree(told: &HistoryFront, results: &[Receipted])
-    requires { All (λ r. IsOfRow told.now.events r.outcome) results.now }
+    requires { All (λ r. OutcomeIsOfRow told.now.events r.outcome) results.now }
     ensures { All (λ r. AgreesWith told.now.history r.outcome) results.now }
 {
     for result in results {

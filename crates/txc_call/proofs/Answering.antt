@@ -18,7 +18,7 @@ use Rattle.txc_app.specs.Answering.{IsRight, AreRight, queries_of, queries_after
 use Rattle.txc_app.specs.Claims.{RowsHold, ValueHolds}
 use Rattle.txc_app.specs.Laws.{RightAnswersGiveTheValue}
 use Rattle.txc_app.proofs.Offered.{each_push}
-use Rattle.txc_call.specs.Reaches.{Meets, meet}
+use Rattle.txc_call.specs.Reaches.{ReachesMeet, meet}
 use Rattle.txc_call.specs.Frames.{AnswerHolds, AnswersHold}
 use Rattle.txc_call.proofs.Claims.{both_hold, weaker}
 
@@ -34,7 +34,7 @@ module _ (next : Next) (k : Call) where
 
   -- what was given, and one answer more
   pub answers_more : (L : History) (given : List Answer) (ask : Ask) (x : Answer) (r r' : Option Interval) (tags tags' : List Tag)
-      → next k.function k.args given ≡ Some ask → Meets r r'
+      → next k.function k.args given ≡ Some ask → ReachesMeet r r'
       → AnswersHold next L k given r tags → AnswerHolds next L k.function ask x r' tags'
       → AnswersHold next L k (given ++ x ∷ []) (meet r r') (with_tags tags' tags)
   answers_more L given ask x r r' tags tags' asked m h new =

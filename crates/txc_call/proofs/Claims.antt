@@ -13,7 +13,7 @@ use Rattle.txc_rows.specs.States.{State}
 use Rattle.txc_rows.specs.RowTags.{query_tag, covers_query}
 use Rattle.txc_db.specs.History.{History, state_at}
 use Rattle.txc_app.specs.Claims.{covers_all, HoldsOver}
-use Rattle.txc_call.specs.Reaches.{InReach, Meets, meet}
+use Rattle.txc_call.specs.Reaches.{InReach, ReachesMeet, meet}
 
 -- ---- cover
 
@@ -97,12 +97,12 @@ in_meet t (Some a) (Some b) h k =
     subst (λ (o : Option Interval). InReach t o) (sym (meet_is t a b h k)) (omega (arith, h0, k0), omega (arith, h1, k1))
 
 -- what both hold, they meet at
-pub meets_at : (t : ℕ) (a b : Option Interval) → InReach t a → InReach t b → Meets a b
+pub meets_at : (t : ℕ) (a b : Option Interval) → InReach t a → InReach t b → ReachesMeet a b
 meets_at t None b h k = tt
 meets_at t (Some a) None h k = tt
 meets_at t (Some a) (Some b) h k = record { at_stamp = t; one = h; other = k }
 
-pub meets_none : (a : Option Interval) → Meets a None
+pub meets_none : (a : Option Interval) → ReachesMeet a None
 meets_none None = tt
 meets_none (Some a) = tt
 
@@ -110,7 +110,7 @@ meets_none (Some a) = tt
 
 -- two claims hold together over the meet of their reaches, with the tags of both, where some stamp lies in both
 pub both_hold : (L : History) (P P' : State → Type 0) (Q Q' : State → List Query) (r r' : Option Interval) (tags tags' : List Tag)
-    → Meets r r' → HoldsOver L P Q r tags → HoldsOver L P' Q' r' tags'
+    → ReachesMeet r r' → HoldsOver L P Q r tags → HoldsOver L P' Q' r' tags'
     → HoldsOver L (λ s. P s × P' s) (λ s. Q s ++ Q' s) (meet r r') (with_tags tags' tags)
 both_hold L P P' Q Q' None None tags tags' m h k = λ s. (((h s).0, (k s).0), rw ((h s).1, (k s).1) refl)
 both_hold L P P' Q Q' None (Some b) tags tags' m h k = record {

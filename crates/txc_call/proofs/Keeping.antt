@@ -31,8 +31,8 @@ use Rattle.txc_call.specs.Reaches.{InReach}
 use Rattle.txc_call.specs.Frames.{answers_in, begun_frame, given, AnswerHolds, AreFew, AreUnreached, FramesHold, InAll, IsOpen, IsRising}
 use Rattle.txc_call.specs.Needs.{reply_reach, InNeed, IsUnreached, IsWaiting, NeedFits, NeedHolds, ReplyHolds}
 use Rattle.txc_call.specs.Calling.{Calling, CallHolds, CallIsUnreached, InCall, IsCalling}
-use Rattle.txc_call.specs.Turns.{Standing, UnlessRefused, count_refusal, call_refusal, value_refusal, ask_refusal, entry_of, outcome_of, unreached, Onward, DoneLeads, AllowedLeads, AskLeads, AfterAsk, AfterMiss, AfterReply, AfterRows, AfterValue, next_ask, with_answer, with_begun}
-use Rattle.txc_call.specs.Laws.{at_start, CallsComeToTheirValues, InsertionsAreTrue, IsLed, IsLedFrom, IsStep}
+use Rattle.txc_call.specs.Turns.{Standing, UnlessRefused, count_refusal, call_refusal, value_refusal, ask_refusal, entry_of_frame, outcome_of, unreached, Onward, DoneLeads, AllowedLeads, AskLeads, AfterAsk, AfterMiss, AfterReply, AfterRows, AfterValue, next_ask, with_answer, with_begun}
+use Rattle.txc_call.specs.Laws.{at_start, CallsComeToTheirValues, InsertionsAreTrue, IsLed, IsLedBy, IsLedFrom}
 use Rattle.txc_call.proofs.Claims.{meets_at}
 use Rattle.txc_call.proofs.Answering.{rows_answer, value_answers}
 use Rattle.txc_call.proofs.Leading.{few_by}
@@ -96,7 +96,7 @@ module _ (next : Next) (top : Call) (law : RightAnswersGiveTheValue) (s : Standi
     done_keeps : (bytes : List ℕ) (r : Option Interval) → frame.reach ≡ r → length bytes ≤ MAX_VALUE_LEN → IsOpen next os top (asks.Done bytes) (frame ∷ outer) → GoesOn goes_on frame outer os
         → DoneLeads outer asked frame r bytes (with_activity os frame.key.function idle) goes_on (Ok s) → KeepsFrames (frame ∷ outer) os
     done_keeps bytes (Some r) is short h on leads =
-        let e : s ≡ record { frames = outer; asked = asked; need = Some (needs.Insert (entry_of frame bytes r)); objects = with_activity os frame.key.function idle } = cc in
+        let e : s ≡ record { frames = outer; asked = asked; need = Some (needs.Insert (entry_of_frame frame bytes r)); objects = with_activity os frame.key.function idle } = cc in
         subst (λ (st : Standing). Keeps next top (λ L. FramesHold next L os (frame ∷ outer)) (λ t. InAll t (frame ∷ outer)) (AreUnreached (frame ∷ outer)) st) (sym e) record {
           fits = (record { open_frames = closed next os top (asks.Done bytes) frame outer h; few = few }, h.rising);
           holds = λ L hold. let two = hold_closed next L os law top bytes frame outer h may short hold in
@@ -322,7 +322,7 @@ machine_keeps next law seen c os need reply s same is calling common leads =
 -- ---- over all replies
 
 module _ (next : Next) (law : RightAnswersGiveTheValue) (L : History) (k : Call) where
-  step_keeps : (s after : Standing) (reply : Reply) → NeedFits next s.objects k s.need s.frames → NeedHolds next L s.objects s.need s.frames → IsStep next L s reply after
+  step_keeps : (s after : Standing) (reply : Reply) → NeedFits next s.objects k s.need s.frames → NeedHolds next L s.objects s.need s.frames → IsLedBy next L s reply after
       → NeedFits next after.objects k after.need after.frames × NeedHolds next L after.objects after.need after.frames
   step_keeps s after reply fits holds step =
       let kept = call_keeps next law (record { top = k; asked = s.asked; frames = s.frames; need = s.need }) s.objects step.need reply after step.needed fits step.common.0 step.common.1 step.common.2 step.leads in
@@ -378,7 +378,7 @@ module _ (next : Next) (s : Standing) where
   done_counts : (outer : List Frame) (asked : ℕ) (frame : Frame) (r : Option Interval) (bytes : List ℕ) (os : Objects) (goes_on : Onward)
       → ((idle_os : Objects) (bytes : List ℕ) → goes_on idle_os bytes → Counts (asked + 1)) → DoneLeads outer (asked + 1) frame r bytes os goes_on (Ok s) → Counts asked
   done_counts outer asked frame (Some r) bytes os goes_on on leads =
-      let e : s ≡ record { frames = outer; asked = asked + 1; need = Some (needs.Insert (entry_of frame bytes r)); objects = os } = cc in
+      let e : s ≡ record { frames = outer; asked = asked + 1; need = Some (needs.Insert (entry_of_frame frame bytes r)); objects = os } = cc in
       counts_one asked (ap (λ (st : Standing). st.asked) e)
   done_counts outer asked frame None bytes os goes_on on leads = counts_less asked (on os bytes leads)
 

@@ -21,8 +21,8 @@ use Rattle.txc_registry.specs.Activity.{Activation, Activity, activation_in, ans
 use Rattle.txc_registry.specs.Objects.{Objects, activation_of, activity_of, with_activity, AllIdle, IsAskingAt}
 use Rattle.txc_registry.proofs.Offered.{here_after, again, restored, elsewhere, idle_there}
 use Rattle.txc_call.specs.declared.frame.Frame.{Frame}
-use Rattle.txc_call.specs.Reaches.{InReach, Meets, meet}
-use Rattle.txc_call.specs.Frames.{answers_in, AnswersHold, AreFew, IsAsking, IsStack, IsRising, AreRising, released, IsOpen, AnswerHolds, FramesHold, InAll, AreUnreached, begun_frame, given}
+use Rattle.txc_call.specs.Reaches.{InReach, ReachesMeet, meet}
+use Rattle.txc_call.specs.Frames.{answers_in, AnswersHold, AreFew, FrameAsks, IsStack, IsRising, AreRising, released, IsOpen, AnswerHolds, FramesHold, InAll, AreUnreached, begun_frame, given}
 use Rattle.txc_call.proofs.Claims.{in_meet}
 use Rattle.txc_call.proofs.Answering.{answers_more, done_holds}
 
@@ -56,7 +56,7 @@ module _ (f : ℕ) (new : Activity) where
   same_else : (os : Objects) (g : ℕ) → g ≢ f → activity_of (with_activity os f new) g ≡ activity_of os g
   same_else os g other = elsewhere f g new other os
 
-  asking_else : (next : Next) (os : Objects) (ask : Ask) (x : Frame) → x.key.function ≢ f → IsAsking next os ask x → IsAsking next (with_activity os f new) ask x
+  asking_else : (next : Next) (os : Objects) (ask : Ask) (x : Frame) → x.key.function ≢ f → FrameAsks next os ask x → FrameAsks next (with_activity os f new) ask x
   asking_else next os ask x other h =
       let same = same_else os x.key.function other in
       let answers = answers_by (with_activity os f new) os x.key.function x.key.function same in
@@ -156,7 +156,7 @@ module _ (next : Next) (L : History) (os : Objects) where
       (subst (λ (xs : List Answer). AnswersHold next L k xs None []) (sym answers) (λ s. (each_none (λ (before : List Answer) (a : Answer). IsRight next k.function s (next k.function k.args before) a), refl)), hold_else k.function (running (begun k.args)) next L os fs up h)
 
   pub hold_resumed : (top : Call) (ask : Ask) (x : Answer) (frame : Frame) (reach : Option Interval) (tags : List Tag) (fs : List Frame)
-      → IsOpen next os top ask (frame ∷ fs) → Meets frame.reach reach
+      → IsOpen next os top ask (frame ∷ fs) → ReachesMeet frame.reach reach
       → FramesHold next L os (frame ∷ fs) → AnswerHolds next L frame.key.function ask x reach tags
       → FramesHold next L (with_activity os frame.key.function (running (answered (activation_of os frame.key.function) x))) (given frame reach tags ∷ fs)
   hold_resumed top ask x frame reach tags fs open_ m h new =
@@ -228,7 +228,7 @@ module _ (next : Next) (os os' : Objects) (top : Call) (fs fs' : List Frame) whe
       rw (objects, frames, is_f) (resumed next os top ask ask' x frame reach tags rest (subst (λ (st : List Frame). IsOpen next os top ask st) at h) (rw is_f at asked))
 
   pub hold_resumed_at : (L : History) (ask : Ask) (x : Answer) (frame : Frame) (rest : List Frame) (f : ℕ) (reach : Option Interval) (tags : List Tag) → fs ≡ frame ∷ rest → f ≡ frame.key.function
-      → IsOpen next os top ask fs → Meets frame.reach reach
+      → IsOpen next os top ask fs → ReachesMeet frame.reach reach
       → os' ≡ with_activity os f (running (answered (activation_of os f) x)) → fs' ≡ given frame reach tags ∷ rest
       → FramesHold next L os fs → AnswerHolds next L frame.key.function ask x reach tags → FramesHold next L os' fs'
   hold_resumed_at L ask x frame rest f reach tags at is_f h m objects frames hold new =

@@ -25,7 +25,7 @@ abbrev pub answers_in : Objects → ℕ → List Answer
 answers_in objects f = (activation_of objects f).answers
 
 -- the frame's object runs the activation of its key, and asks this
-pub record IsAsking (next : Next) (objects : Objects) (ask : Ask) (frame : Frame) : Type 0 where
+pub record FrameAsks (next : Next) (objects : Objects) (ask : Ask) (frame : Frame) : Type 0 where
   pub runs :
       activity_of objects frame.key.function ≡ Some (running (activation_of objects frame.key.function))
   pub args : (activation_of objects frame.key.function).args ≡ frame.key.args
@@ -36,7 +36,7 @@ pub record IsAsking (next : Next) (objects : Objects) (ask : Ask) (frame : Frame
 abbrev pub IsStack : Next → Objects → Call → Ask → List Frame → Type 0
 IsStack next objects top ask [] = ask ≡ asks.Call top
 IsStack next objects top ask (frame ∷ frames) =
-    IsAsking next objects ask frame × IsStack next objects top (asks.Call frame.key) frames
+    FrameAsks next objects ask frame × IsStack next objects top (asks.Call frame.key) frames
 
 -- each is of a greater function than the one inside it, the innermost of a greater one than f
 abbrev pub IsRising : ℕ → List Frame → Type 0

@@ -16,7 +16,7 @@ use Rattle.txc_call.specs.Turns.{Standing, AfterReply}
 
 -- a reply to what the call needs, which is right in the history, and holds together with what the call was
 -- given before, leads it on
-pub record IsStep (next : Next) (L : History) (s : Standing) (reply : Reply) (after : Standing) : Type 0 where
+pub record IsLedBy (next : Next) (L : History) (s : Standing) (reply : Reply) (after : Standing) : Type 0 where
   pub need : Need
   pub needed : s.need ≡ Some need
   pub right : ReplyHolds next L need reply
@@ -27,7 +27,7 @@ pub record IsStep (next : Next) (L : History) (s : Standing) (reply : Reply) (af
 abbrev pub IsLed : Next → History → Standing → List Reply → Standing → Type 0
 IsLed next L s [] end = end ≡ s
 IsLed next L s (reply ∷ replies) end =
-    (after : Standing) × IsStep next L s reply after × IsLed next L after replies end
+    (after : Standing) × IsLedBy next L s reply after × IsLed next L after replies end
 
 -- a call that was just started
 abbrev pub at_start : Call → Objects → Standing

@@ -20,7 +20,7 @@ pub record HaveCommon (a b : Interval) : Type 0 where
   pub other : Holds b at_stamp
 
 -- some stamp lies in both
-abbrev pub Meets : Option Interval → Option Interval → Type 0
-Meets None other = Unit {0}
-Meets (Some a) None = Unit {0}
-Meets (Some a) (Some b) = HaveCommon a b
+abbrev pub ReachesMeet : Option Interval → Option Interval → Type 0
+ReachesMeet None other = Unit {0}
+ReachesMeet (Some a) None = Unit {0}
+ReachesMeet (Some a) (Some b) = HaveCommon a b

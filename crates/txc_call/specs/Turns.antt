@@ -91,8 +91,8 @@ UnlessMemory turn rest = ((error : CallError) × (turn ≡ Err error) × IsOutOf
 -- ---- asks
 
 -- the entry of a frame that is done
-abbrev pub entry_of : Frame → List ℕ → Interval → Entry
-entry_of frame bytes reach = record { key = frame.key; value = bytes; reach = reach; tags = frame.tags }
+abbrev pub entry_of_frame : Frame → List ℕ → Interval → Entry
+entry_of_frame frame bytes reach = record { key = frame.key; value = bytes; reach = reach; tags = frame.tags }
 
 -- where a value without a reach goes on to, by the objects and its bytes
 abbrev pub Onward : Type 1
@@ -102,7 +102,7 @@ Onward = Objects → List ℕ → Type 0
 -- on
 abbrev pub DoneLeads : List Frame → ℕ → Frame → Option Interval → List ℕ → Objects → Onward → Turn → Type 0
 DoneLeads outer asked frame (Some reach) bytes objects goes_on turn =
-    turn ≡ needing outer asked (needs.Insert (entry_of frame bytes reach)) objects
+    turn ≡ needing outer asked (needs.Insert (entry_of_frame frame bytes reach)) objects
 DoneLeads outer asked frame None bytes objects goes_on turn = goes_on objects bytes
 
 -- what comes of an ask that is allowed
@@ -137,22 +137,22 @@ abbrev pub unreached : Frame → List ℕ → Outcome
 unreached frame bytes = record { key = frame.key; value = bytes; reach = None; tags = frame.tags }
 
 -- an answer, where it holds, and what it depends on
-pub record Held : Type 0 where
+pub record HeldAnswer : Type 0 where
   pub answer : Answer
   pub reach : Option Interval
   pub tags : List Tag
 
 -- the answer of a call's value
-abbrev pub value_held : Outcome → Held
+abbrev pub value_held : Outcome → HeldAnswer
 value_held o = record { answer = answers.Value o.value; reach = o.reach; tags = o.tags }
 
 -- the answer of what was found
-abbrev pub rows_held : Found → Held
+abbrev pub rows_held : Found → HeldAnswer
 rows_held found =
     record { answer = answers.Rows found.rows.items; reach = Some found.reach; tags = found.tags }
 
 -- what comes of an answer to the innermost frame: it goes on with it, if memory is there
-abbrev pub AnswerLeads : Next → List Frame → ℕ → Frame → Held → Objects → Onward → Turn → Type 0
+abbrev pub AnswerLeads : Next → List Frame → ℕ → Frame → HeldAnswer → Objects → Onward → Turn → Type 0
 AnswerLeads next outer asked frame x objects goes_on turn =
     UnlessMemory turn (
     (ask : Ask) × (next_ask next objects frame x.answer ≡ Some ask)

@@ -7,7 +7,7 @@ ghost use Rattle.txc_registry.specs.Activity.{idle, WantsAnswer};
 ghost use Rattle.txc_registry.specs.Objects.{activity_of, numbers_of, with_activity, AllIdle};
 ghost use Rattle.txc_call.specs.declared.frame.Frame.{Frame};
 ghost use Rattle.txc_call.specs.declared.frames.TheConstants.{MAX_CALL_ASKS};
-ghost use Rattle.txc_call.specs.Reaches.{Meets};
+ghost use Rattle.txc_call.specs.Reaches.{ReachesMeet};
 ghost use Rattle.txc_call.specs.Frames.{begun_frame, given, released, IsOpen, IsRising};
 ghost use Rattle.txc_call.specs.Turns.{count_refusal, error_of, next_ask, with_answer, with_begun};
 ghost use Rattle.txc_call.specs.Turns.{IsBeginRefusal, IsOutOfMemory};
@@ -118,7 +118,7 @@ impl Frames {
         requires open { (ask : Ask)
             × IsOpen A.next registry.old self.old.top ask self.old.stack × WantsAnswer (Some ask) }
         requires some { (frame : Frame) × (rest : List Frame)
-            × (self.old.stack ≡ frame ∷ rest) × (frame.answers < MAX_ASKS) × Meets frame.reach reach }
+            × (self.old.stack ≡ frame ∷ rest) × (frame.answers < MAX_ASKS) × ReachesMeet frame.reach reach }
         ensures frame { OnOk result ((frame : Frame) (rest : List Frame) → self.old.stack ≡ frame ∷ rest
             → self.new.stack ≡ given frame reach tags.now ∷ rest) }
         ensures objects { OnOk result ((frame : Frame) (rest : List Frame) → self.old.stack ≡ frame ∷ rest

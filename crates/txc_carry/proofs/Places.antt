@@ -9,7 +9,7 @@ use Rattle.txc_rows.specs.declared.version.Versioned.{Versioned}
 use Rattle.txc_rows.specs.Values.{IsRow}
 use Rattle.txc_rows.specs.States.{RowValue, State, IsState, row_before, matches, answer}
 use Rattle.txc_rows.specs.Versions.{row_of, suits, is_visible, visible_rows, IsVersion}
-use Rattle.txc_rows.specs.Says.{Says}
+use Rattle.txc_rows.specs.Says.{VersionsSay}
 use Rattle.txc_tags.specs.declared.tag.TheConstants.{LAST_TABLE}
 use Rattle.txc_tags.specs.declared.text.number.TheConstants.{LAST_NUMBER}
 use Rattle.txc_db.specs.DatabaseValue.{DatabaseValue, IsSound, newest, newest_state}
@@ -155,7 +155,7 @@ all_left P p (x ∷ xs) a = let rest = all_left P p xs a.1 in elim (p x) as (λ 
 -- the rows of the newest state are rows
 pub state_row : (d : DatabaseValue) → IsSound d → (r : RowValue) → IsIn r (newest_state d) → IsRow r
 state_row d sound r h =
-    let says : Says (newest d) d.versions (newest_state d) = sound.kept.says.kept (newest d) sound.kept.kept (omega arith) in
+    let says : VersionsSay (newest d) d.versions (newest_state d) = sound.kept.says.kept (newest d) sound.kept.kept (omega arith) in
     let seen : IsIn r (visible_rows (newest d) d.versions) = is_in (visible_rows (newest d) d.versions) r (says.each r (contains_it (newest_state d) r h)) in
     visible_in r (filter (is_visible (newest d)) d.versions) seen (all_left IsVersion (is_visible (newest d)) d.versions sound.kept.versions.each)
 

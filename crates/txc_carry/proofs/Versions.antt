@@ -10,7 +10,7 @@ use Rattle.txc_db.specs.DatabaseValue.{DatabaseValue, IsSound, newest, least, af
 use Rattle.txc_db.specs.Calls.{matching_of}
 use Rattle.txc_carry.specs.declared.error.CarryError.{CarryError}
 use Rattle.txc_carry.specs.declared.error.CarryError.TheVariants.{Old, TooManyVersions, New}
-use Rattle.txc_carry.specs.Carried.{IsStepRefused, IsNotTooMany}
+use Rattle.txc_carry.specs.Carried.{IsCarryStepRefused, IsNotTooMany}
 use Rattle.txc_carry.proofs.Places.{all_in, filter_none}
 
 off_test : (n h : ℕ) → n ≤ h → not (nat_le n h) ≡ true → ⊥
@@ -53,7 +53,7 @@ at_most_one t i (v ∷ vs) apart lives = go (suits (ById t i) v) refl (at_most_o
         omega (arith, count)
     go false e rest = rest
 
-not_too_many : (d : DatabaseValue) (capacity : ℕ) → IsSound d → d.horizon ≡ newest d → (e : CarryError) → IsStepRefused d capacity e → IsNotTooMany e
+not_too_many : (d : DatabaseValue) (capacity : ℕ) → IsSound d → d.horizon ≡ newest d → (e : CarryError) → IsCarryStepRefused d capacity e → IsNotTooMany e
 not_too_many d capacity sound at (TooManyVersions table id) many =
     let one : matching_of d (ById table id) ≤ 1 = at_most_one table id d.versions sound.kept.versions.apart (never_died d sound at) in
     absurd (omega (arith, many, one))
@@ -61,7 +61,7 @@ not_too_many d capacity sound at (Old e) r = tt
 not_too_many d capacity sound at (New e) r = tt
 
 -- after a vacuum where nothing is held
-pub vacuumed_few : (old d : DatabaseValue) (capacity : ℕ) → old.holds ≡ [] → d ≡ after_vacuum old → IsSound d → (e : CarryError) → IsStepRefused d capacity e → IsNotTooMany e
+pub vacuumed_few : (old d : DatabaseValue) (capacity : ℕ) → old.holds ≡ [] → d ≡ after_vacuum old → IsSound d → (e : CarryError) → IsCarryStepRefused d capacity e → IsNotTooMany e
 vacuumed_few old d capacity none is sound e r =
     let low : d.horizon ≡ newest old = ap (λ (v : DatabaseValue). v.horizon) is ∙ ap (λ holds. least (newest old) holds) none in
     let last : newest d ≡ newest old = ap newest is in

@@ -45,15 +45,15 @@ IsPutRefusal old room e = ⊥
 
 -- of the carry of some rows: the old database refused to read, or keeps too many versions of one row, or the
 -- new one refused
-abbrev pub IsStepRefused : DatabaseValue → ℕ → CarryError → Type 0
-IsStepRefused old room (Old e) = IsReadRefusal e
-IsStepRefused old room (TooManyVersions table id) = MAX_MATCHING < matching_of old (ById table id)
-IsStepRefused old room (New e) = IsPutRefusal old room e
+abbrev pub IsCarryStepRefused : DatabaseValue → ℕ → CarryError → Type 0
+IsCarryStepRefused old room (Old e) = IsReadRefusal e
+IsCarryStepRefused old room (TooManyVersions table id) = MAX_MATCHING < matching_of old (ById table id)
+IsCarryStepRefused old room (New e) = IsPutRefusal old room e
 
 -- of a carry: the old database is broken; or else what a step of it is refused for
 abbrev pub IsCarryRefused : DatabaseValue → ℕ → CarryError → Type 0
 IsCarryRefused old room (Old refusals.Broken) = old.broken ≡ true
-IsCarryRefused old room e = (old.broken ≡ false) × IsStepRefused old room e
+IsCarryRefused old room e = (old.broken ≡ false) × IsCarryStepRefused old room e
 
 -- it is not that a row has too many versions
 abbrev pub IsNotTooMany : CarryError → Type 0

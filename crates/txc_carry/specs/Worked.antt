@@ -4,21 +4,21 @@ use Rattle.txc_rows.specs.States.{RowValue, State}
 use Rattle.txc_carry.specs.Carried.{stands_before}
 
 -- a row of group 5
-abbrev pub row_of : ℕ → ℕ → RowValue
-row_of table id = record { table = table; id = id; group = 5; body = 97 ∷ [] }
+abbrev pub carried_row : ℕ → ℕ → RowValue
+carried_row table id = record { table = table; id = id; group = 5; body = 97 ∷ [] }
 
 -- the four rows
-abbrev pub worked : State
-worked = row_of 1 3 ∷ row_of 1 9 ∷ row_of 2 0 ∷ row_of 2 3 ∷ []
+abbrev pub worked_rows : State
+worked_rows = carried_row 1 3 ∷ carried_row 1 9 ∷ carried_row 2 0 ∷ carried_row 2 3 ∷ []
 
 -- those before a place
 abbrev pub before : ℕ → ℕ → State
-before table id = filter (stands_before table id) worked
+before table id = filter (stands_before table id) worked_rows
 
 -- at the beginning, at a row, behind it, at the next table, and behind all
 pub record WorkedOrder : Type 0 where
   pub none : before 0 0 ≡ []
-  pub at_row : before 1 9 ≡ row_of 1 3 ∷ []
-  pub behind_row : before 1 10 ≡ row_of 1 3 ∷ row_of 1 9 ∷ []
-  pub next_table : before 2 0 ≡ row_of 1 3 ∷ row_of 1 9 ∷ []
-  pub all : before 3 0 ≡ worked
+  pub at_row : before 1 9 ≡ carried_row 1 3 ∷ []
+  pub behind_row : before 1 10 ≡ carried_row 1 3 ∷ carried_row 1 9 ∷ []
+  pub next_table : before 2 0 ≡ carried_row 1 3 ∷ carried_row 1 9 ∷ []
+  pub all : before 3 0 ≡ worked_rows

@@ -4,7 +4,7 @@ ghost use Rattle.txc_rows.specs.declared.query.Change.TheVariants.{Put};
 ghost use Rattle.txc_db.specs.History.{state_at};
 ghost use Rattle.txc_db.specs.DatabaseValue.{newest, newest_state, after_commit, after_vacuum};
 ghost use Rattle.txc_db.specs.Calls.{IsCommitRefused};
-ghost use Rattle.txc_carry.specs.Carried.{HasCarried, IsCarryRefused, IsStepRefused, IsNotTooMany};
+ghost use Rattle.txc_carry.specs.Carried.{HasCarried, IsCarryRefused, IsCarryStepRefused, IsNotTooMany};
 
 use crate::error::CarryError;
 use std::alloc::{AllocError, Global};
@@ -55,7 +55,7 @@ fn carry_range(
     ensures same { old.new ≡ old.old }
     ensures carried { OnOk result
         (HasCarried old.old (length new.old.events) table (last + 1) new.new) }
-    ensures refused { IfErr result (IsStepRefused old.old (length new.old.events)) }
+    ensures refused { IfErr result (IsCarryStepRefused old.old (length new.old.events)) }
 {
     states_are_maps();
     net_changes_are_differences();
@@ -91,7 +91,7 @@ fn carry_table(
     ensures same { old.new ≡ old.old }
     ensures carried { OnOk result
         (HasCarried old.old (length new.old.events) (table + 1) 0 new.new) }
-    ensures refused { IfErr result (IsStepRefused old.old (length new.old.events)) }
+    ensures refused { IfErr result (IsCarryStepRefused old.old (length new.old.events)) }
 {
     old.is_sound();
     carry_range(alloc, old, new, stamp, table, 0, u32::MAX)
@@ -110,7 +110,7 @@ fn carry_tables(
     ensures same { old.new ≡ old.old }
     ensures carried { OnOk result
         (HasCarried old.old (length new.old.events) (LAST_TABLE + 1) 0 new.new) }
-    ensures refused { IfErr result (IsStepRefused old.old (length new.old.events)) }
+    ensures refused { IfErr result (IsCarryStepRefused old.old (length new.old.events)) }
 {
     for number in 0..LAST_TABLE + 1 {
         match carry_table(alloc, old, new, stamp, Table::new(number).unwrap()) {

@@ -1,6 +1,6 @@
 //! How a crate calls a node: the callers that docs/CALLING.md shows.
 ghost use Rattle.std.specs.Prelude.{◌≡◌, ◌≤◌, IfOk, IfSome, MatchOption, None};
-ghost use Rattle.txc_node.specs.Cache.{answer};
+ghost use Rattle.txc_node.specs.Cache.{lookup_answer};
 
 use crate::tags::read_set;
 use std::alloc::{AllocError, Global};
@@ -16,8 +16,8 @@ fn shown_at(
     at: Stamp,
 ) -> Result<Option<Vec<u8>>, AllocError>
     ensures { IfOk result (λ value. MatchOption value
-        (answer node.old key.now at at ≡ None)
-        (λ bytes. IfSome (answer node.old key.now at at) (λ shown. shown.value ≡ bytes.items))) }
+        (lookup_answer node.old key.now at at ≡ None)
+        (λ bytes. IfSome (lookup_answer node.old key.now at at) (λ shown. shown.value ≡ bytes.items))) }
 {
     match node.lookup(key, at, at) {
         Ok(Some(hit)) => Ok(Some(Vec::from_slice(alloc, hit.value.bytes())?)),

@@ -11,7 +11,7 @@ use Rattle.txc_node.specs.declared.reply.Reply.TheVariants.{Hit}
 use Rattle.txc_shared.specs.declared.error.NodeError.{NodeError}
 use Rattle.txc_shared.specs.declared.insertion.Insertion.{Insertion}
 use Rattle.txc_shared.specs.Passes.{PassValue, shown_of_entry, HasFound, HasGrown, HasInserted, HasMade, IsPassLeft}
-use Rattle.txc_shared.specs.Refusals.{IsLookupRefused, IsRefusedThrough, IsStepRefused, MayRefuse}
+use Rattle.txc_shared.specs.Refusals.{IsLookupRefused, IsRefusedThrough, IsStepRefused, NodeMayRefuse}
 use Rattle.txc_client.specs.Ports.{InsertLeaves, IsCallAt, LookupLeaves}
 
 pub called_at : (ps : List PassValue) (node : ℕ) (call : PassValue → PassValue → Type 0) (old new : PassValue) → node < length ps → old ≡ get_or ps node old
@@ -24,7 +24,7 @@ module _ (node_rows : ℕ → List ℕ) (old new : PassValue) where
   module _ {F : Type 0} (r : Result (Option F) NodeError) (entry_of : F → Entry) (key : Call) (lo hi : ℕ)
       (found : IfOk r (λ o. HasFound old new (Lookup key lo hi) (option_map entry_of o)))
       (left : IfErr r (IsPassLeft (node_rows old.settings.number) old new))
-      (refused : IfErr r (MayRefuse node_rows (λ n. IsRefusedThrough (λ m. IsLookupRefused m lo hi) n old))) where
+      (refused : IfErr r (NodeMayRefuse node_rows (λ n. IsRefusedThrough (λ m. IsLookupRefused m lo hi) n old))) where
     pub lookup_hit : (f : F) (hit : Answered Shown) → r ≡ Ok (Some f) → hit.answer ≡ shown_of_entry (entry_of f) → LookupLeaves node_rows key lo hi (Some hit) old new
     lookup_hit f hit is shown =
         inl (subst (λ (s : Shown). HasMade old new (Lookup key lo hi) (Hit s)) (sym shown)
@@ -38,13 +38,13 @@ module _ (node_rows : ℕ → List ℕ) (old new : PassValue) where
       refl,
       record {
         error = e;
-        reason = subst (λ (q : Result (Option F) NodeError). IfErr q (MayRefuse node_rows (λ n. IsRefusedThrough (λ m. IsLookupRefused m lo hi) n old))) is refused;
+        reason = subst (λ (q : Result (Option F) NodeError). IfErr q (NodeMayRefuse node_rows (λ n. IsRefusedThrough (λ m. IsLookupRefused m lo hi) n old))) is refused;
         left = subst (λ (q : Result (Option F) NodeError). IfErr q (IsPassLeft (node_rows old.settings.number) old new)) is left;
       },
     )
 
   -- an insertion, by what it returns
   pub inserted : (entry : Entry) (r : Result Insertion NodeError) → IfOk r (HasInserted old new entry) → IfErr r (IsPassLeft (node_rows old.settings.number) old new)
-      → IfErr r (MayRefuse node_rows (λ n. IsRefusedThrough IsStepRefused n old)) → InsertLeaves node_rows entry old new
+      → IfErr r (NodeMayRefuse node_rows (λ n. IsRefusedThrough IsStepRefused n old)) → InsertLeaves node_rows entry old new
   inserted entry (Ok insertion) made left refused = inl (insertion, made)
   inserted entry (Err e) made left refused = inr (record { error = e; reason = refused; left = left })

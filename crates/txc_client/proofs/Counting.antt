@@ -25,7 +25,7 @@ use Rattle.txc_call.specs.Frames.{begun_frame, given}
 use Rattle.txc_app.specs.declared.ask.Answer.TheVariants as answers
 use Rattle.txc_cushion.specs.Pinning.{pin_of}
 use Rattle.txc_call.specs.Turns.{Turn as CallTurn}
-use Rattle.txc_txn.specs.Core.{CoreValue, IsAnswered, IsAsking, IsAt, IsNarrowed, IsTurn, PinningFits, PinsAfter, WaitsForPin}
+use Rattle.txc_txn.specs.Core.{CoreAsks, CoreValue, IsAnswered, IsNarrowed, IsPinningAt, IsTurn, PinningFits, PinsAfter, WaitsForPin}
 use Rattle.txc_txn.specs.Kept.{TxnValue, IsTxn, HasGoneOn}
 use Rattle.txc_txn.specs.Leading.{CallLeads, HitLeads, ReplyLeads, StandingLeads}
 use Rattle.txc_ports.specs.Refusals.{refused_pin}
@@ -167,14 +167,14 @@ waits_for_no_value (Some k) need members o is waits = let no : None ≡ Some (ne
 waits_for_no_value None need members o is waits = let no : Some (needs.Query waits.0) ≡ Some (needs.Value o) = sym waits.1 ∙ is in absurd (cc no)
 
 module _ (c : CoreValue) (fits : PinningFits c.pinning c.pins c.call.need) where
-  pinned_fits : (step : PinStep) (at : IsAt c step) → PinningFits (Some (record { step = step; first = at.0 })) c.pins c.call.need
+  pinned_fits : (step : PinStep) (at : IsPinningAt c step) → PinningFits (Some (record { step = step; first = at.0 })) c.pins c.call.need
   pinned_fits step at = subst (λ (p : Option Pinning). PinningFits p c.pins c.call.need) at.1 fits
 
-  pinning_waits : (step : PinStep) (o : Outcome) → IsAt c step → c.call.need ≢ Some (needs.Value o)
+  pinning_waits : (step : PinStep) (o : Outcome) → IsPinningAt c step → c.call.need ≢ Some (needs.Value o)
   pinning_waits step o at is = waits_for_no_value at.0 c.call.need c.pins.members o is (pinned_fits step at).1
 
   -- its call has no value yet
-  asking_waits : (request : PortRequest) (o : Outcome) → IsAsking c request → c.call.need ≢ Some (needs.Value o)
+  asking_waits : (request : PortRequest) (o : Outcome) → CoreAsks c request → c.call.need ≢ Some (needs.Value o)
   asking_waits (requests.Pin now at_least) o asking is = pinning_waits Asked o asking.0 is
   asking_waits (requests.AddPin pinned) o asking is = pinning_waits (Adding (pin_of pinned)) o asking is
   asking_waits (requests.Unpin stamp) o asking is = pinning_waits (Dropping stamp asking.0) o asking.1 is
@@ -183,7 +183,7 @@ module _ (c : CoreValue) (fits : PinningFits c.pinning c.pins c.call.need) where
   asking_waits (requests.Insert node entry) o asking is = let no : Some (needs.Insert entry) ≡ Some (needs.Value o) = sym asking.0.1 ∙ is in absurd (cc no)
 
   -- how many follow while the present is pinned
-  pinning_left : (step : PinStep) → IsAt c step → left_of c ≡ MAX_CALL_ASKS + steps_of step
+  pinning_left : (step : PinStep) → IsPinningAt c step → left_of c ≡ MAX_CALL_ASKS + steps_of step
   pinning_left step at =
       subst (λ (b : Bool). left b c.pinning c.call.asked ≡ MAX_CALL_ASKS + steps_of step) (sym (pinned_fits step at).0)
       (subst (λ (p : Option Pinning). left true p c.call.asked ≡ MAX_CALL_ASKS + steps_of step) (sym at.1) refl)
@@ -201,7 +201,7 @@ lost_present reach old new same is = let no : false ≡ true = sym (ap (λ (p : 
 
 -- ---- what comes of a reply
 
-module _ (next : Next) (old new : TxnValue) (was : IsTxn next old) (now : IsTxn next new) (request : PortRequest) (asking : IsAsking new.core request) where
+module _ (next : Next) (old new : TxnValue) (was : IsTxn next old) (now : IsTxn next new) (request : PortRequest) (asking : CoreAsks new.core request) where
   -- to what the call needs
   call_leads_less : (need : Need) (reply : Reply) → old.core.pinning ≡ None → (new.core.pins.has_present ≡ true → old.core.pins.has_present ≡ true)
       → CallLeads next old.core old.objects need reply new.core new.objects (turns.Ask request) → left_of new.core < left_of old.core
@@ -235,7 +235,7 @@ module _ (next : Next) (old new : TxnValue) (was : IsTxn next old) (now : IsTxn 
   asks_less (ports.Pin (Ok pinned)) answered leads pins =
       let same : request ≡ requests.AddPin pinned = cc in
       let before = pinning_left old.core was.fits.pinning Asked answered.0 in
-      let after = pinning_left new.core now.fits.pinning (Adding (pin_of pinned)) (subst (IsAsking new.core) same asking) in
+      let after = pinning_left new.core now.fits.pinning (Adding (pin_of pinned)) (subst (CoreAsks new.core) same asking) in
       omega (arith, before, after)
   asks_less (ports.Pin (Err error)) answered leads pins = absurd (cc leads)
   asks_less (ports.AddPin pinned (Ok added)) answered leads pins =

@@ -11,17 +11,17 @@ use Rattle.txc_ports.specs.Exchanges.{Exchange, IsExchange}
 use Rattle.txc_ports.proofs.Offered.{both_exchange, by_exchange}
 use Rattle.txc_txn.specs.Kept.{HasGoneOn}
 use Rattle.txc_client.specs.Ports.{PassesAfter}
-use Rattle.txc_client.specs.Run.{HasBegun, HasRun, IsLed, IsRefusedSo, IsStep}
+use Rattle.txc_client.specs.Run.{ExchangeLeads, ExchangesLead, HasBegun, HasRun, IsRefusedSo}
 use Rattle.txc_client.specs.Txn.{RoTxnValue}
 
 module _ (next : Next) (row : List ℕ) (node_rows : ℕ → List ℕ) where
   led_more : (old mid new : RoTxnValue) (asking then turn : Turn) (exchanges : List Exchange) (x : Exchange)
-      → IsLed next row node_rows old asking exchanges mid then → IsStep next row node_rows mid then x new turn
-      → IsLed next row node_rows old asking (exchanges ++ x ∷ []) new turn
+      → ExchangesLead next row node_rows old asking exchanges mid then → ExchangeLeads next row node_rows mid then x new turn
+      → ExchangesLead next row node_rows old asking (exchanges ++ x ∷ []) new turn
   led_more old mid new asking then turn [] x led step = (
     new,
     turn,
-    subst (λ (v : RoTxnValue). IsStep next row node_rows v asking x new turn) led.0 (subst (λ (t : Turn). IsStep next row node_rows mid t x new turn) led.1 step),
+    subst (λ (v : RoTxnValue). ExchangeLeads next row node_rows v asking x new turn) led.0 (subst (λ (t : Turn). ExchangeLeads next row node_rows mid t x new turn) led.1 step),
     (refl, refl),
   )
   led_more old mid new asking then turn (first ∷ exchanges) x led step =
@@ -35,7 +35,7 @@ module _ (next : Next) (row : List ℕ) (node_rows : ℕ → List ℕ) where
 
     -- an exchange more
     pub run_on : (mid new : RoTxnValue) (then turn : Turn) (x : Exchange)
-        → HasRun next row node_rows old k mid then → IsStep next row node_rows mid then x new turn → HasRun next row node_rows old k new turn
+        → HasRun next row node_rows old k mid then → ExchangeLeads next row node_rows mid then x new turn → HasRun next row node_rows old k new turn
     run_on mid new then turn x run step = record {
       first = run.first;
       first_turn = run.first_turn;

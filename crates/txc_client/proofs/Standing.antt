@@ -19,13 +19,13 @@ use Rattle.txc_app.specs.Eval.{Next}
 use Rattle.txc_shared.specs.declared.error.NodeError.{NodeError}
 use Rattle.txc_shared.specs.declared.error.NodeError.TheVariants.{Broken, EmptyRange, HistoryFull, PassesFull, Memory}
 use Rattle.txc_shared.specs.Histories.{records_of, next_record}
-use Rattle.txc_shared.specs.Passes.{PassValue, Follows, GrowsByOthers, HasGrown, HasMade, IsPassLeft}
+use Rattle.txc_shared.specs.Passes.{PassValue, HasNextRecord, GrowsByOthers, HasGrown, HasMade, IsPassLeft}
 use Rattle.txc_ports.specs.declared.turn.Turn.{Turn}
 use Rattle.txc_ports.specs.Exchanges.{Exchange}
 use Rattle.txc_ports.specs.Exchanges as exchanges
 use Rattle.txc_client.specs.Laws.{asks, own_records, IsOne, AreOne, Leaves, AreLeftBy, HasAdded, CallsStandOnce}
-use Rattle.txc_client.specs.Ports.{found_reply, InsertLeaves, IsCallAt, LookupLeaves, PassesAfter}
-use Rattle.txc_client.specs.Run.{IsLed}
+use Rattle.txc_client.specs.Ports.{InsertLeaves, IsCallAt, LookupLeaves, PassesAfter, reply_to_lookup}
+use Rattle.txc_client.specs.Run.{ExchangesLead}
 use Rattle.txc_client.specs.Txn.{RoTxnValue}
 
 -- ---- the records of a pass among others
@@ -47,7 +47,7 @@ module _ (pass : ℕ) where
       ∙ ap (λ (l : List Record). made_by pass old ++ l) (by_others others none)
       ∙ append-nil (made_by pass old)
 
-  one_more : (old new : List Record) (op : Op) (reply : Reply Shown) → Follows pass old new op reply
+  one_more : (old new : List Record) (op : Op) (reply : Reply Shown) → HasNextRecord pass old new op reply
       → made_by pass new ≡ made_by pass old ++ next_record pass old op reply ∷ []
   one_more old new op reply h =
       let own = next_record pass old op reply ∷ [] in
@@ -162,7 +162,7 @@ module _ (node_rows : ℕ → List ℕ) (olds news : List PassValue) (node : ℕ
   hit_adds at key lo hi hit h is =
       added_at at node (exchanges.Lookup at key lo hi (Some hit)) (LookupLeaves node_rows key lo hi (Some hit)) olds news p
       (λ old new grown called. elim called [
-        | inl made ↦ added_one old new grown (exchanges.Lookup at key lo hi (Some hit)) (ops.Lookup key lo hi) (found_reply (Some hit)) made (λ one. one) (refl, refl)
+        | inl made ↦ added_one old new grown (exchanges.Lookup at key lo hi (Some hit)) (ops.Lookup key lo hi) (reply_to_lookup (Some hit)) made (λ one. one) (refl, refl)
         | inr refused ↦ absurd (cc refused.0)
       ]) h is
 
@@ -171,7 +171,7 @@ module _ (node_rows : ℕ → List ℕ) (olds news : List PassValue) (node : ℕ
   miss_adds at key lo hi h is =
       added_at at node (exchanges.Lookup at key lo hi None) (LookupLeaves node_rows key lo hi None) olds news p
       (λ old new grown called. elim called [
-        | inl made ↦ added_one old new grown (exchanges.Lookup at key lo hi None) (ops.Lookup key lo hi) (found_reply None) made (λ one. inr one) (refl, refl)
+        | inl made ↦ added_one old new grown (exchanges.Lookup at key lo hi None) (ops.Lookup key lo hi) (reply_to_lookup None) made (λ one. inr one) (refl, refl)
         | inr refused ↦ added_no old new grown (exchanges.Lookup at key lo hi None) (inl refl) (node_rows old.settings.number) refused.1.error refused.1.left
       ]) h is
 
@@ -197,7 +197,7 @@ module _ (node_rows : ℕ → List ℕ) (olds news : List PassValue) (node : ℕ
 -- ---- a run
 
 module _ (next : Next) (row : List ℕ) (node_rows : ℕ → List ℕ) (node : ℕ) where
-  led_adds : (xs : List Exchange) (old new : RoTxnValue) (asking turn : Turn) (p : PassValue) → IsLed next row node_rows old asking xs new turn
+  led_adds : (xs : List Exchange) (old new : RoTxnValue) (asking turn : Turn) (p : PassValue) → ExchangesLead next row node_rows old asking xs new turn
       → slice_get old.passes node ≡ Some p → AddedAt node (filter (asks node) xs) p new.passes
   led_adds [] old new asking turn p led is = stays_at node p old.passes new.passes (ap (λ (v : RoTxnValue). v.passes) led.0) is
   led_adds (x ∷ xs) old new asking turn p led is =

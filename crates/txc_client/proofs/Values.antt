@@ -9,7 +9,7 @@ use Rattle.txc_ports.specs.Answers.{IsFresh, AreConsistent}
 use Rattle.txc_ports.specs.declared.bounds.Bounds.{Bounds}
 use Rattle.txc_ports.specs.declared.recorded.Recorded.{Recorded}
 use Rattle.txc_txn.specs.Core.{CoreValue}
-use Rattle.txc_client.specs.Txn.{IsValueOf}
+use Rattle.txc_client.specs.Txn.{IsValueAtMembers}
 
 -- what holds of each item holds of the last one
 of_last : {X : Type 0} (P : X → Type 0) (xs : List X) (x : X) → All P (xs ++ x ∷ []) → P x
@@ -18,7 +18,7 @@ of_last P xs x all = subst P (get_or_push xs x x (length xs) refl) (all (length 
 -- the value that was recorded last is the call's at every member
 pub value_of_last : (next : Next) (c : CoreValue) (old : List Recorded) (k : Call) (bytes : List ℕ)
     → All (λ p. AreConsistent next c.recorded (state_at c.seen.history p.stamp)) c.pins.members
-    → c.recorded ≡ old ++ record { key = k; value = bytes } ∷ [] → IsValueOf next c k bytes
+    → c.recorded ≡ old ++ record { key = k; value = bytes } ∷ [] → IsValueAtMembers next c k bytes
 value_of_last next c old k bytes all is = λ i d below.
     of_last (λ (r : Recorded). eval next r.key (state_at c.seen.history (get_or c.pins.members i d).stamp) ≡ Some r.value) old
     (record { key = k; value = bytes })

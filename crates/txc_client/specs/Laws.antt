@@ -11,7 +11,7 @@ use Rattle.txc_shared.specs.Passes.{PassValue}
 use Rattle.txc_ports.specs.Exchanges.{Exchange}
 use Rattle.txc_ports.specs.Exchanges as exchanges
 use Rattle.txc_ports.specs.declared.turn.Turn.{Turn}
-use Rattle.txc_client.specs.Ports.{found_reply}
+use Rattle.txc_client.specs.Ports.{reply_to_lookup}
 use Rattle.txc_client.specs.Run.{HasRun}
 use Rattle.txc_client.specs.Txn.{RoTxnValue}
 
@@ -27,7 +27,7 @@ asks node exchange = false
 
 -- the record is of the step that was asked, and shows the reply
 abbrev pub IsOne : Exchange → Record → Type 0
-IsOne (exchanges.Lookup at key lo hi found) r = (r.op ≡ ops.Lookup key lo hi) × (r.reply ≡ found_reply found)
+IsOne (exchanges.Lookup at key lo hi found) r = (r.op ≡ ops.Lookup key lo hi) × (r.reply ≡ reply_to_lookup found)
 IsOne (exchanges.Insert at entry) r = (r.op ≡ ops.Insert entry)
     × ((inserted : Inserted) × (r.reply ≡ replies.Inserted inserted))
 IsOne exchange r = ⊥

@@ -11,7 +11,7 @@ use Rattle.txc_shared.specs.declared.error.NodeError.{NodeError}
 use Rattle.txc_shared.specs.declared.insertion.Insertion.{Insertion}
 use Rattle.txc_shared.specs.Nodes.{NodeValue}
 use Rattle.txc_shared.specs.Passes.{PassValue, HasGrown, HasInserted, HasMade, IsPassLeft}
-use Rattle.txc_shared.specs.Refusals.{IsLookupRefused, IsRefusedThrough, IsStepRefused, MayRefuse}
+use Rattle.txc_shared.specs.Refusals.{IsLookupRefused, IsRefusedThrough, IsStepRefused, NodeMayRefuse}
 use Rattle.txc_ports.specs.Exchanges.{Exchange}
 use Rattle.txc_ports.specs.Exchanges as exchanges
 
@@ -34,17 +34,17 @@ pub record IsCallAt (node : ℕ) (call : PassValue → PassValue → Type 0) (ol
 pub record IsCallRefused (node_rows : ℕ → List ℕ) (refused : NodeValue → NodeError → Type 0)
     (old new : PassValue) : Type 0 where
   pub error : NodeError
-  pub reason : MayRefuse node_rows (λ n. IsRefusedThrough refused n old) error
+  pub reason : NodeMayRefuse node_rows (λ n. IsRefusedThrough refused n old) error
   pub left : IsPassLeft (node_rows old.settings.number) old new error
 
 -- what a node replied to a lookup that found so much
-abbrev pub found_reply : Option (Answered Shown) → Reply Shown
-found_reply None = Miss
-found_reply (Some hit) = Hit hit.answer
+abbrev pub reply_to_lookup : Option (Answered Shown) → Reply Shown
+reply_to_lookup None = Miss
+reply_to_lookup (Some hit) = Hit hit.answer
 
 -- one lookup, whose record shows what was found; or it was refused, and nothing was found
 abbrev pub LookupLeaves : (ℕ → List ℕ) → Call → ℕ → ℕ → Option (Answered Shown) → PassValue → PassValue → Type 0
-LookupLeaves node_rows key lo hi found old new = HasMade old new (Lookup key lo hi) (found_reply found)
+LookupLeaves node_rows key lo hi found old new = HasMade old new (Lookup key lo hi) (reply_to_lookup found)
     ⊎ ((found ≡ None) × IsCallRefused node_rows (λ n. IsLookupRefused n lo hi) old new)
 
 -- one insertion of the entry; or it was refused

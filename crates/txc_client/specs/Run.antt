@@ -5,7 +5,7 @@ use Rattle.txc_tags.specs.Keys.{Call}
 use Rattle.txc_db.specs.Calls.{IsPinRefused, IsQueryRefused}
 use Rattle.txc_db.specs.Shared.{MayRefuse}
 use Rattle.txc_cushion.specs.Refusals.{IsAddRefused}
-use Rattle.txc_cushion.specs.Shared.{MayAnswer}
+use Rattle.txc_cushion.specs.Shared.{CushionMayAnswer}
 use Rattle.txc_app.specs.Eval.{Next}
 use Rattle.txc_registry.specs.Objects.{numbers_of}
 use Rattle.txc_ports.specs.declared.error.TxnError.{TxnError}
@@ -25,7 +25,7 @@ use Rattle.txc_client.specs.Txn.{RoTxnValue}
 abbrev pub IsRefusedSo : List ℕ → Exchange → Type 0
 IsRefusedSo row (exchanges.Pin now at_least (Err error)) = MayRefuse row (λ d. IsPinRefused d at_least) error
 IsRefusedSo row (exchanges.AddPin pinned given (Err error)) =
-    MayAnswer row (λ c. IsAddRefused c pinned.stamp) error
+    CushionMayAnswer row (λ c. IsAddRefused c pinned.stamp) error
 IsRefusedSo row (exchanges.Query query stamp (Err error)) =
     MayRefuse row (λ d. IsQueryRefused d query stamp) error
 IsRefusedSo row exchange = Unit {0}
@@ -46,7 +46,7 @@ pub record HasBegun (old : RoTxnValue) (k : Call) (new : RoTxnValue) (turn : Tur
   pub passes : new.passes ≡ old.passes
 
 -- the turn asks, the request leaves the passes so, and the reply to it leads on to the next turn
-pub record IsStep (next : Next) (row : List ℕ) (node_rows : ℕ → List ℕ) (old : RoTxnValue) (asking : Turn)
+pub record ExchangeLeads (next : Next) (row : List ℕ) (node_rows : ℕ → List ℕ) (old : RoTxnValue) (asking : Turn)
     (x : Exchange) (new : RoTxnValue) (turn : Turn) : Type 0 where
   pub asks : asking ≡ Ask (request_of x)
   pub given : IsGiven next row x
@@ -54,10 +54,10 @@ pub record IsStep (next : Next) (row : List ℕ) (node_rows : ℕ → List ℕ) 
   pub goes_on : HasGoneOn next old.txn (reply_of x) new.txn turn
 
 -- the exchanges lead on, one after the other, to the last turn
-abbrev pub IsLed : Next → List ℕ → (ℕ → List ℕ) → RoTxnValue → Turn → List Exchange → RoTxnValue → Turn → Type 0
-IsLed next row node_rows old asking [] new turn = (new ≡ old) × (turn ≡ asking)
-IsLed next row node_rows old asking (x ∷ exchanges) new turn = (after : RoTxnValue) × (then : Turn)
-    × IsStep next row node_rows old asking x after then × IsLed next row node_rows after then exchanges new turn
+abbrev pub ExchangesLead : Next → List ℕ → (ℕ → List ℕ) → RoTxnValue → Turn → List Exchange → RoTxnValue → Turn → Type 0
+ExchangesLead next row node_rows old asking [] new turn = (new ≡ old) × (turn ≡ asking)
+ExchangesLead next row node_rows old asking (x ∷ exchanges) new turn = (after : RoTxnValue) × (then : Turn)
+    × ExchangeLeads next row node_rows old asking x after then × ExchangesLead next row node_rows after then exchanges new turn
 
 -- the call of a transaction ran from its beginning, by such exchanges, to this turn
 pub record HasRun (next : Next) (row : List ℕ) (node_rows : ℕ → List ℕ) (old : RoTxnValue) (k : Call)
@@ -66,9 +66,9 @@ pub record HasRun (next : Next) (row : List ℕ) (node_rows : ℕ → List ℕ) 
   pub first_turn : Turn
   pub exchanges : List Exchange
   pub begun : HasBegun old k first first_turn
-  pub led : IsLed next row node_rows first first_turn exchanges new turn
+  pub led : ExchangesLead next row node_rows first first_turn exchanges new turn
 
 -- the turn that ends a call with this result
-abbrev pub turn_of : Result (List ℕ) TxnError → Turn
-turn_of (Ok value) = Value value
-turn_of (Err error) = Refused error
+abbrev pub turn_of_result : Result (List ℕ) TxnError → Turn
+turn_of_result (Ok value) = Value value
+turn_of_result (Err error) = Refused error

@@ -1,11 +1,11 @@
 //! Clients, and the beginning of their transactions.
 ghost use Rattle.std.specs.Prelude.{◌≡◌, ◌≤◌, ◌<◌, ◌⊎◌, ◌↔◌, [], get_or, slice_get, true, All, Any, IfErr, IfOk, IfSome, IsSome, MatchOption, None, length, map};
 ghost use Rattle.txc_node.specs.Counts.{AreCountsOf};
-ghost use Rattle.txc_cushion.specs.Cushion.{front_of, handed_out};
-ghost use Rattle.txc_cushion.specs.Shared.{MayAnswer};
+ghost use Rattle.txc_cushion.specs.Cushion.{cushion_front, handed_out};
+ghost use Rattle.txc_cushion.specs.Shared.{CushionMayAnswer};
 ghost use Rattle.txc_registry.specs.Objects.{AllIdle};
 ghost use Rattle.txc_app.specs.Eval.{Next};
-ghost use Rattle.txc_shared.specs.Refusals.{IsNewPassRefused, MayRefuse};
+ghost use Rattle.txc_shared.specs.Refusals.{IsNewPassRefused, NodeMayRefuse};
 ghost use Rattle.txc_registry.specs.Objects.{Objects};
 ghost use Rattle.txc_txn.specs.Core.{value_of, CoreHolds, IsCore, IsIdle};
 ghost use Rattle.txc_txn.specs.Kept.{IsTxn};
@@ -72,7 +72,7 @@ impl<'a, A: App, C: Cacheable, J: Naming> Client<'a, A, C, J> {
         ensures renew_after { IfOk result (λ client. client.renew_after ≡ renew_after) }
         ensures functions { IfOk result (λ client. client.objects ≡ registry) }
         ensures refused { IfErr result (λ e. (e ≡ NodeError.Memory)
-            ⊎ Any (λ node. MayRefuse J.node_rows (IsNewPassRefused node) e) nodes.now) }
+            ⊎ Any (λ node. NodeMayRefuse J.node_rows (IsNewPassRefused node) e) nodes.now) }
     {
         let ports = Ports::new(rt, alloc, database, cushion, nodes)?;
         Ok(Client {
@@ -93,7 +93,7 @@ impl<'a, A: App, C: Cacheable, J: Naming> Client<'a, A, C, J> {
         ensures bounds { IfOk result (λ txn. txn.txn.core.bounds ≡ bounds) }
         ensures recorded { IfOk result (λ txn. txn.txn.core.recorded ≡ []) }
         ensures meant { IfOk result (λ txn. IsTxn A.next txn.txn) }
-        ensures members { IfOk result (MayAnswer J.database_row (λ c txn. (txn.txn.core.seen ≡ front_of c)
+        ensures members { IfOk result (CushionMayAnswer J.database_row (λ c txn. (txn.txn.core.seen ≡ cushion_front c)
             × (txn.txn.core.pins.members ≡ handed_out c bounds.now bounds.staleness bounds.at_least))) }
         ensures taken { IfOk result (λ txn. txn.txn.core.taken
             ≡ map (λ pin. pin.stamp) txn.txn.core.pins.members) }
@@ -140,7 +140,7 @@ impl<'a, A: App, C: Cacheable, J: Naming> Client<'a, A, C, J> {
             ≡ record { now = now; staleness = staleness; at_least = session.now }) }
         ensures recorded { IfOk result (λ txn. txn.txn.core.recorded ≡ []) }
         ensures meant { IfOk result (λ txn. IsTxn A.next txn.txn) }
-        ensures members { IfOk result (MayAnswer J.database_row (λ c txn. (txn.txn.core.seen ≡ front_of c)
+        ensures members { IfOk result (CushionMayAnswer J.database_row (λ c txn. (txn.txn.core.seen ≡ cushion_front c)
             × (txn.txn.core.pins.members ≡ handed_out c now staleness session.now))) }
         ensures taken { IfOk result (λ txn. txn.txn.core.taken
             ≡ map (λ pin. pin.stamp) txn.txn.core.pins.members) }
@@ -207,7 +207,7 @@ fn begun<J: Naming>(
     ensures renew_after { IfOk result (λ core. (value_of core).renew_after ≡ renew_after) }
     ensures nodes { IfOk result (λ core. (value_of core).nodes ≡ nodes) }
     ensures recorded { IfOk result (λ core. (value_of core).recorded ≡ []) }
-    ensures members { IfOk result (MayAnswer J.database_row (λ c core. ((value_of core).seen ≡ front_of c)
+    ensures members { IfOk result (CushionMayAnswer J.database_row (λ c core. ((value_of core).seen ≡ cushion_front c)
         × ((value_of core).pins.members ≡ handed_out c bounds.now bounds.staleness bounds.at_least))) }
     ensures taken { IfOk result (λ core. (value_of core).taken
         ≡ map (λ pin. pin.stamp) (value_of core).pins.members) }

@@ -1,6 +1,6 @@
 //! The locked ports that a transaction asks, one call for each request.
 ghost use Rattle.std.specs.Prelude.{◌≡◌, ◌≤◌, ◌<◌, ◌⊎◌, [], get_or, map, All, Any, IfErr, IfOk, IfSome, length};
-ghost use Rattle.txc_shared.specs.Refusals.{IsNewPassRefused, MayRefuse};
+ghost use Rattle.txc_shared.specs.Refusals.{IsNewPassRefused, NodeMayRefuse};
 
 use crate::finding::find;
 use std::alloc::Global;
@@ -57,7 +57,7 @@ impl<'a, A: App, J: Naming> Ports<'a, A, J> {
         ensures nodes { IfOk result (λ ports. map (λ pass. pass.settings) ports ≡ nodes.now) }
         ensures records { IfOk result (λ ports. All (λ pass. pass.records ≡ []) ports) }
         ensures refused { IfErr result (λ e. (e ≡ NodeError.Memory)
-            ⊎ Any (λ node. MayRefuse J.node_rows (IsNewPassRefused node) e) nodes.now) }
+            ⊎ Any (λ node. NodeMayRefuse J.node_rows (IsNewPassRefused node) e) nodes.now) }
     {
         let passes = draw_passes(rt, alloc, nodes)?;
         Ok(Ports {
@@ -184,7 +184,7 @@ fn draw_passes<A: App, J: Naming>(
     ensures nodes { IfOk result (λ passes. map (λ pass. pass.settings) passes.items ≡ nodes.now) }
     ensures records { IfOk result (λ passes. All (λ pass. pass.records ≡ []) passes.items) }
     ensures refused { IfErr result (λ e. (e ≡ NodeError.Memory)
-        ⊎ Any (λ node. MayRefuse J.node_rows (IsNewPassRefused node) e) nodes.now) }
+        ⊎ Any (λ node. NodeMayRefuse J.node_rows (IsNewPassRefused node) e) nodes.now) }
 {
     let mut passes = Vec::new(alloc);
     for node in nodes {

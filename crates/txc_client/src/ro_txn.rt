@@ -7,8 +7,8 @@ ghost use Rattle.txc_txn.specs.Core.{receipt_pin, Explains, KeepsSettings};
 ghost use Rattle.txc_txn.specs.Kept.{IsTxn};
 ghost use Rattle.txc_txn.specs.Sessions.{IsAtLeast};
 ghost use Rattle.txc_client.specs.Ports.{HaveGrown};
-ghost use Rattle.txc_client.specs.Run.{turn_of, HasRun};
-ghost use Rattle.txc_client.specs.Txn.{client_of, IsValueOf};
+ghost use Rattle.txc_client.specs.Run.{turn_of_result, HasRun};
+ghost use Rattle.txc_client.specs.Txn.{client_of, IsValueAtMembers};
 
 use crate::calling::call_at;
 use crate::client::Client;
@@ -54,14 +54,14 @@ impl<'a, A: App, C: Cacheable, J: Naming> RoTxn<'a, A, C, J> {
     /// that has nothing, and keeps nothing.
     pub fn call(&mut self, rt: &impl Wait, alloc: Global, key: Key) -> Result<Value, TxnError>
         ensures passes { HaveGrown self.old.passes self.new.passes }
-        ensures answer { IfOk result (IsValueOf A.next self.new.txn.core key) }
+        ensures answer { IfOk result (IsValueAtMembers A.next self.new.txn.core key) }
         ensures recorded { IfOk result (λ value. self.new.txn.core.recorded
             ≡ self.old.txn.core.recorded ++ record { key = key; value = value } ∷ []) }
         ensures unchanged { OnErr result (self.new.txn.core.recorded ≡ self.old.txn.core.recorded) }
         ensures meant { IsTxn A.next self.new.txn }
         ensures idle { AllIdle self.new.txn.objects }
         ensures functions { self.new.txn.objects ≡ self.old.txn.objects }
-        ensures run { HasRun A.next J.database_row J.node_rows self.old key self.new (turn_of result) }
+        ensures run { HasRun A.next J.database_row J.node_rows self.old key self.new (turn_of_result result) }
         ensures settings { KeepsSettings self.old.txn.core self.new.txn.core }
         ensures longer { IsPrefix self.old.txn.core.seen.history self.new.txn.core.seen.history }
         ensures missing { self.old.txn.core.pins.members ≢ []

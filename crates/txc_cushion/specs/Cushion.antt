@@ -24,8 +24,8 @@ pub record IsCushion (c : CushionValue) : Type 0 where
   pub few : length c.entries ≤ MAX_PINS
 
 -- what its front shows
-abbrev pub front_of : CushionValue → FrontValue
-front_of c = record { events = c.events; history = c.history }
+abbrev pub cushion_front : CushionValue → FrontValue
+cushion_front c = record { events = c.events; history = c.history }
 
 -- no pin yet
 abbrev pub empty_cushion : FrontValue → CushionValue

@@ -3,5 +3,5 @@ use Rattle.std.specs.Prelude.{◌≡◌, ℕ, List}
 use Rattle.txc_cushion.specs.Cushion.{CushionValue, IsCushion}
 
 -- some pincushion of this row of events answers so
-abbrev pub MayAnswer : {A : Type 0} → List ℕ → (CushionValue → A → Type 0) → A → Type 0
-MayAnswer events answers a = (c : CushionValue) × (c.events ≡ events) × IsCushion c × answers c a
+abbrev pub CushionMayAnswer : {A : Type 0} → List ℕ → (CushionValue → A → Type 0) → A → Type 0
+CushionMayAnswer events answers a = (c : CushionValue) × (c.events ≡ events) × IsCushion c × answers c a

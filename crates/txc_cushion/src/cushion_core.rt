@@ -40,7 +40,7 @@ impl Model for CushionCore {
 }
 
 impl CushionCore {
-    ghost use Rattle.txc_cushion.specs.Cushion.{IsCushion, front_of, empty_cushion, handed_out, after_fresh, after_add, after_give_back, retired, after_retire};
+    ghost use Rattle.txc_cushion.specs.Cushion.{IsCushion, cushion_front, empty_cushion, handed_out, after_fresh, after_add, after_give_back, retired, after_retire};
 
     /// A pincushion with no pin, for the pins of the front's row.
     pub fn new(alloc: Global, front: HistoryFront) -> CushionCore
@@ -74,7 +74,7 @@ impl CushionCore {
         ensures after { OnOk result (self.new ≡ after_fresh self.old now staleness at_least) }
         ensures pins { IfOk result (λ given.
             given.pins.items ≡ handed_out self.old now staleness at_least) }
-        ensures front { IfOk result (λ given. given.front ≡ front_of self.old) }
+        ensures front { IfOk result (λ given. given.front ≡ cushion_front self.old) }
         ensures allowed { IfOk result (λ given. All
             (λ pin. IsAllowed given.front.history pin.stamp now staleness at_least) given.pins.items) }
         ensures unchanged { OnErr result (self.new ≡ self.old) }

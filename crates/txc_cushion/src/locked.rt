@@ -1,7 +1,7 @@
 //! What is done to the pincushion under its lock.
 ghost use Rattle.std.specs.Prelude.{◌≡◌, All, IfOk, OnOk, OnErr, IfErr};
 ghost use Rattle.txc_db.specs.History.{IsAllowed};
-ghost use Rattle.txc_cushion.specs.Cushion.{IsCushion, front_of, handed_out, after_fresh, after_add, after_give_back, retired, after_retire};
+ghost use Rattle.txc_cushion.specs.Cushion.{IsCushion, cushion_front, handed_out, after_fresh, after_add, after_give_back, retired, after_retire};
 ghost use Rattle.txc_cushion.specs.Refusals.{IsAddRefused, IsFirstUnused};
 
 use crate::cushion_core::CushionCore;
@@ -52,7 +52,7 @@ impl<J: Naming> Locked<J> {
         ensures after { OnOk result (self.new ≡ after_fresh self.old now staleness at_least) }
         ensures pins { IfOk result (λ given.
             given.pins.items ≡ handed_out self.old now staleness at_least) }
-        ensures front { IfOk result (λ given. given.front ≡ front_of self.old) }
+        ensures front { IfOk result (λ given. given.front ≡ cushion_front self.old) }
         ensures allowed { IfOk result (λ given. All
             (λ pin. IsAllowed given.front.history pin.stamp now staleness at_least) given.pins.items) }
         ensures unchanged { OnErr result (self.new ≡ self.old) }

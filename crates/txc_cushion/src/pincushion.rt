@@ -1,9 +1,9 @@
 //! The pincushion under its lock.
 ghost use Rattle.std.specs.Prelude.{◌≡◌, All, IfOk, IfErr};
 ghost use Rattle.txc_db.specs.History.{IsAllowed};
-ghost use Rattle.txc_cushion.specs.Cushion.{front_of, handed_out, retired};
+ghost use Rattle.txc_cushion.specs.Cushion.{cushion_front, handed_out, retired};
 ghost use Rattle.txc_cushion.specs.Refusals.{IsAddRefused, IsFirstUnused};
-ghost use Rattle.txc_cushion.specs.Shared.{MayAnswer};
+ghost use Rattle.txc_cushion.specs.Shared.{CushionMayAnswer};
 
 use crate::cushion_core::CushionCore;
 use crate::error::{AddError, UnknownPin};
@@ -52,8 +52,8 @@ impl<J: Naming> Pincushion<J> {
         ensures named { IfOk result (λ given. given.front.events ≡ J.database_row) }
         ensures allowed { IfOk result (λ given. All
             (λ pin. IsAllowed given.front.history pin.stamp now staleness at_least) given.pins.items) }
-        ensures answer { IfOk result (MayAnswer J.database_row (λ c given.
-            (given.pins.items ≡ handed_out c now staleness at_least) × (given.front ≡ front_of c))) }
+        ensures answer { IfOk result (CushionMayAnswer J.database_row (λ c given.
+            (given.pins.items ≡ handed_out c now staleness at_least) × (given.front ≡ cushion_front c))) }
     {
         self.lock.lock(rt).fresh(alloc, now, staleness, at_least)
     }
@@ -61,7 +61,7 @@ impl<J: Naming> Pincushion<J> {
     /// Adds a pin, with one user.
     pub fn add(&self, rt: &impl Wait, pinned: &Pinned) -> Result<(), AddError>
         requires { pinned.now.front.events ≡ J.database_row }
-        ensures refused { IfErr result (MayAnswer J.database_row (λ c.
+        ensures refused { IfErr result (CushionMayAnswer J.database_row (λ c.
             IsAddRefused c pinned.now.stamp)) }
     {
         self.lock.lock(rt).add(pinned)
@@ -69,7 +69,7 @@ impl<J: Naming> Pincushion<J> {
 
     /// Takes one user away for each stamp named. It takes no memory.
     pub fn give_back(&self, rt: &impl Wait, stamps: &[Stamp]) -> Result<(), UnknownPin>
-        ensures refused { IfErr result (MayAnswer J.database_row (λ c unknown.
+        ensures refused { IfErr result (CushionMayAnswer J.database_row (λ c unknown.
             IsFirstUnused c.entries stamps.now unknown.stamp)) }
     {
         self.lock.lock(rt).give_back(stamps)
@@ -84,7 +84,7 @@ impl<J: Naming> Pincushion<J> {
         now: u64,
         age: u64,
     ) -> Result<Vec<Stamp>, AllocError>
-        ensures answer { IfOk result (MayAnswer J.database_row (λ c stamps.
+        ensures answer { IfOk result (CushionMayAnswer J.database_row (λ c stamps.
             stamps.items ≡ retired c now age)) }
     {
         self.lock.lock(rt).retire(alloc, now, age)

@@ -11,7 +11,7 @@ use Rattle.txc_rows.specs.States.{State, IsState, answer}
 use Rattle.txc_rows.specs.RowTags.{covers_query, tags_between}
 use Rattle.txc_rows.specs.Laws.{ChangedIsState, TagsAreSound, NoTagsBetween}
 use Rattle.txc_db.specs.Facts.{Fact, commit, pin, EventValue}
-use Rattle.txc_db.specs.History.{History, after_fact, after_event, state_at, tags_at, AreTagged, moment_at, moment_of, pinned_moment}
+use Rattle.txc_db.specs.History.{History, after_fact, state_after_event, state_at, tags_at, AreTagged, moment_at, moment_of, pinned_moment}
 
 -- ---- states
 
@@ -19,7 +19,7 @@ fact_state : ChangedIsState → (f : Fact) (s : State) → IsState s → IsState
 fact_state changed (commit net) s h = changed net s h
 fact_state changed (pin m) s h = h
 
-fold_state : ChangedIsState → (es : History) (s : State) → IsState s → IsState (fold after_event s es)
+fold_state : ChangedIsState → (es : History) (s : State) → IsState s → IsState (fold state_after_event s es)
 fold_state changed [] s h = h
 fold_state changed (e ∷ es) s h = fold_state changed es (after_fact e.fact s) (fact_state changed e.fact s h)
 
@@ -31,7 +31,7 @@ pub event_tags_sound : ChangedIsState → TagsAreSound → (L : History) (t : �
 event_tags_sound changed sound L t q set apart c = sound (state_at L t) (state_at L (suc t)) q set (is_state changed L t) (is_state changed L (suc t)) apart c
 
 pub states_stay : (L more : History) (t : ℕ) → t ≤ length L → state_at (L ++ more) t ≡ state_at L t
-states_stay L more t h = ap (fold after_event []) (take-append-le t L more h)
+states_stay L more t h = ap (fold state_after_event []) (take-append-le t L more h)
 
 pub tags_stay : (L more : History) (e : ℕ) → e ≤ length L → tags_at (L ++ more) e ≡ tags_at L e
 tags_stay L more zero h = refl
@@ -39,7 +39,7 @@ tags_stay L more (suc t) h = rw (states_stay L more t (omega arith), states_stay
 
 -- ---- pins
 
-step_pin : (s : State) (L : History) (t m : ℕ) → pinned_moment (slice_get L t) ≡ Some m → fold after_event s (take (suc t) L) ≡ fold after_event s (take t L)
+step_pin : (s : State) (L : History) (t m : ℕ) → pinned_moment (slice_get L t) ≡ Some m → fold state_after_event s (take (suc t) L) ≡ fold state_after_event s (take t L)
 step_pin s [] t m e = absurd (let f = e in cc)
 step_pin s (x ∷ xs) zero m e = go x.fact refl e
   where
@@ -64,11 +64,11 @@ whole L e = ap (λ n. take n (L ++ e ∷ [])) (let n : suc (length L) ≡ length
 pub state_before : (L : History) (e : EventValue) → state_at (L ++ e ∷ []) (length L) ≡ state_at L (length L)
 state_before L e = states_stay L (e ∷ []) (length L) (omega arith)
 
-pub state_pushed : (L : History) (e : EventValue) → state_at (L ++ e ∷ []) (suc (length L)) ≡ after_event (state_at L (length L)) e
+pub state_pushed : (L : History) (e : EventValue) → state_at (L ++ e ∷ []) (suc (length L)) ≡ state_after_event (state_at L (length L)) e
 state_pushed L e =
-    ap (fold after_event []) (whole L e) ∙ (fold-append after_event [] L (e ∷ []) ∙ ap (λ xs. after_event (fold after_event [] xs) e) (sym (take-length L)))
+    ap (fold state_after_event []) (whole L e) ∙ (fold-append state_after_event [] L (e ∷ []) ∙ ap (λ xs. state_after_event (fold state_after_event [] xs) e) (sym (take-length L)))
 
-pub tags_pushed : (L : History) (e : EventValue) → tags_at (L ++ e ∷ []) (suc (length L)) ≡ tags_between (state_at L (length L)) (after_event (state_at L (length L)) e)
+pub tags_pushed : (L : History) (e : EventValue) → tags_at (L ++ e ∷ []) (suc (length L)) ≡ tags_between (state_at L (length L)) (state_after_event (state_at L (length L)) e)
 tags_pushed L e = rw (state_before L e, state_pushed L e) refl
 
 pushed_get : (L : History) (e v : EventValue) (t : ℕ) → slice_get (L ++ e ∷ []) t ≡ Some v → (slice_get L t ≡ Some v × (t < length L)) ⊎ ((t ≡ length L) × (v ≡ e))
@@ -81,7 +81,7 @@ pushed_get (x ∷ xs) e v (suc t) at = elim (pushed_get xs e v t at) [
 ]
 
 -- where the new event stands beside its tags, each one does
-pub tagged_pushed : (L : History) (e : EventValue) → AreTagged L → e.tags ≡ tags_between (state_at L (length L)) (after_event (state_at L (length L)) e) → AreTagged (L ++ e ∷ [])
+pub tagged_pushed : (L : History) (e : EventValue) → AreTagged L → e.tags ≡ tags_between (state_at L (length L)) (state_after_event (state_at L (length L)) e) → AreTagged (L ++ e ∷ [])
 tagged_pushed L e tagged beside zero v at = absurd (let f = at in cc)
 tagged_pushed L e tagged beside (suc t) v at = elim (pushed_get L e v t at) [
   | inl old ↦ tagged (suc t) v old.0 ∙ sym (tags_stay L (e ∷ []) (suc t) (omega (arith, old.1)))

@@ -17,12 +17,12 @@ after_fact (commit net) s = after_changes net s
 after_fact (pin moment) s = s
 
 -- the state after an event
-abbrev pub after_event : State → EventValue → State
-after_event s e = after_fact e.fact s
+abbrev pub state_after_event : State → EventValue → State
+state_after_event s e = after_fact e.fact s
 
 -- the state after the first t events
 abbrev pub state_at : History → ℕ → State
-state_at L t = fold after_event [] (take t L)
+state_at L t = fold state_after_event [] (take t L)
 
 -- the tags of event e, from 1 on: those of the keys on which the states before and after it differ
 abbrev pub tags_at : History → ℕ → List Tag

@@ -4,7 +4,7 @@ ghost use Rattle.std.specs.Arc.{arc_value};
 ghost use mathlib.Core.List.{IsPrefix};
 ghost use Rattle.txc_stamp.specs.declared.stamp.TheConstants.{LAST_STAMP};
 ghost use Rattle.txc_rows.specs.RowTags.{tags_between};
-ghost use Rattle.txc_db.specs.History.{AreTagged, after_event, state_at, tags_at, event_at};
+ghost use Rattle.txc_db.specs.History.{AreTagged, state_after_event, state_at, tags_at, event_at};
 
 use crate::error::DbError;
 use crate::event::Event;
@@ -147,7 +147,7 @@ impl HistoryFront {
     pub(crate) fn append(&mut self, event: Box<Event>) -> Result<(), DbError>
         requires room { length self.old.history < length self.old.events }
         requires tagged { let before = state_at self.old.history (length self.old.history)
-            in event.value.tags ≡ tags_between before (after_event before event.value) }
+            in event.value.tags ≡ tags_between before (state_after_event before event.value) }
         ensures after { OnOk result (self.new
             ≡ record self.old { history = self.old.history ++ event.value ∷ [] }) }
         ensures unchanged { IfErr result (λ refusal. self.new ≡ self.old) }

@@ -18,7 +18,7 @@ use Rattle.txc_node.specs.declared.stored.Stored.{Stored}
 use Rattle.txc_node.specs.Places.{place_of, equal_places, equal_places_is}
 use Rattle.txc_node.specs.Entries.{same_place, AreApart}
 use Rattle.txc_node.specs.Cache.{is_invalidated, entry_after}
-use Rattle.txc_node.specs.Indexed.{Held, entry_of, entries_of, ArePlaced, entries_under, reaches_under, in_stead, has_place, equal_rows, lists_rows, AreSparedAt, listed, Relists, is_stale, stored_after, closed_reach, after_at, AreTied, Closes, IsSpared}
+use Rattle.txc_node.specs.Indexed.{HeldEntries, entry_of, entries_of, ArePlaced, entries_under, reaches_under, in_stead, has_place, equal_rows, lists_rows, AreSparedAt, listed, Relists, is_stale, stored_after, closed_reach, after_at, AreTied, Closes, IsSpared}
 use Rattle.txc_node.proofs.Apart.{eqb_sym, after_both, after_apart}
 use Rattle.txc_node.proofs.Pairs.{found_pair}
 use Rattle.txc_node.proofs.KeyLists.{indexes_by, under_yes, under_no}
@@ -241,7 +241,7 @@ no_entry test (x ∷ ps) o h k = (elim (test x.0) as (λ v. cond v (Some x.1) (l
   | false ↦ λ h k. no_entry test ps o h k
 ]) h k
 
-abbrev held : List (Place × Stored) → ℕ → Held
+abbrev held : List (Place × Stored) → ℕ → HeldEntries
 held ps n = record { entries = entries_of ps; capacity = n }
 
 module _ (stamp : ℕ) (tags : List Tag) where
@@ -266,7 +266,7 @@ module _ (stamp : ℕ) (tags : List Tag) where
     spared = set_spared stamp tags q ps s h placed;
   }
 
-  pub closes_none : (h : Held) → Closes stamp tags h h 0
+  pub closes_none : (h : HeldEntries) → Closes stamp tags h h 0
   closes_none h = record { after = refl; capacity = refl; count = omega arith; spared = λ q k. k }
 
   -- where nothing is closed, nothing changes
@@ -311,7 +311,7 @@ module _ (stamp : ℕ) (tags : List Tag) where
     | Some s ↦ λ t o k. set_here stamp tags q ps s o t (sym (found_pair q (set_value (equal_places q) ps (stored_after stamp tags s)) (set_placed stamp tags (equal_places q) ps s t placed)) ∙ k)
   ]) refl
 
-  pub closes_more : (a b c : Held) (m n : ℕ) → Closes stamp tags a b m → Closes stamp tags b c n → Closes stamp tags a c (m + n)
+  pub closes_more : (a b c : HeldEntries) (m n : ℕ) → Closes stamp tags a b m → Closes stamp tags b c n → Closes stamp tags a c (m + n)
   closes_more a b c m n h k = record {
     after = k.after ∙ h.after;
     capacity = k.capacity ∙ h.capacity;

@@ -16,7 +16,7 @@ use Rattle.txc_node.specs.declared.place.Place.{Place}
 use Rattle.txc_node.specs.Places.{place_of, equal_places, equal_places_is}
 use Rattle.txc_node.specs.Entries.{AreApart}
 use Rattle.txc_node.specs.Cache.{is_invalidated, entry_after}
-use Rattle.txc_node.specs.Indexed.{Held, stored_of, entry_at, is_live, lists, IndexesTags, IsListed, KeepsListed, AreSparedBy, Closes, IsSpared}
+use Rattle.txc_node.specs.Indexed.{HeldEntries, stored_of, entry_at, is_live, lists, IndexesTags, IsListed, KeepsListed, AreSparedBy, Closes, IsSpared}
 use Rattle.txc_node.proofs.Fronts.{found_self}
 use Rattle.txc_node.proofs.Listed.{kept_tags}
 
@@ -48,7 +48,7 @@ module _ {S : Type 0} (stamp : ℕ) (tags : List Tag) (tables : List (HashMap Ro
       let b = any_of (λ t. lists tables t (place_of e) ≡ true) (tags_match a.0) e.tags (own.1 parts.0) a.2 in
       subst (IsSpared stamp tags new) here (a.1 b.0 (place_of e) b.2 b.1)
 
-  pub none_left : (old new : Held) (n : ℕ) → IndexesTags tables old.entries → AllByRecursion (AreSparedBy stamp tags new.entries tables) tags → Closes stamp tags old new n → (q : Place) → IsSpared stamp tags new.entries q
+  pub none_left : (old new : HeldEntries) (n : ℕ) → IndexesTags tables old.entries → AllByRecursion (AreSparedBy stamp tags new.entries tables) tags → Closes stamp tags old new n → (q : Place) → IsSpared stamp tags new.entries q
   none_left old new n indexed spared closes q = (elim (entry_at old.entries q) as (λ f. entry_at old.entries q ≡ f → IsSpared stamp tags new.entries q) [
     | None ↦ λ t. closes.spared q (λ e h. let none : None ≡ Some e = sym t ∙ h in cc)
     | Some e ↦ λ t. (elim (is_invalidated stamp tags e) as (λ v. is_invalidated stamp tags e ≡ v → IsSpared stamp tags new.entries q) [
@@ -74,7 +74,7 @@ module _ (stamp : ℕ) (tags : List Tag) where
       let rest = count_none xs h.1 in
       omega (arith, here, all, rest)
 
-  pub all_closed : (old new : Held) (n : ℕ) → AreApart new.entries → Closes stamp tags old new n → ((q : Place) → IsSpared stamp tags new.entries q)
+  pub all_closed : (old new : HeldEntries) (n : ℕ) → AreApart new.entries → Closes stamp tags old new n → ((q : Place) → IsSpared stamp tags new.entries q)
       → (new.entries ≡ map (entry_after stamp tags) old.entries) × (n ≡ count_by (is_invalidated stamp tags) old.entries)
   all_closed old new n apart closes spared =
       let none = all_spared new.entries new.entries spared (found_self new.entries apart) in

@@ -13,7 +13,7 @@ use Rattle.txc_node.specs.declared.refusal.Refusal.{Refusal}
 use Rattle.txc_node.specs.declared.refusal.Refusal.TheVariants.{EmptyRange, BadReach, OutOfOrder, ValueTooLong, Memory}
 use Rattle.txc_node.specs.declared.reply.Reply.{Reply}
 use Rattle.txc_node.specs.declared.reply.Reply.TheVariants as replies
-use Rattle.txc_node.specs.Cache.{Cache, answer, after_lookup, is_kept, outcome, after_insert, closed_count, after_event, swept_count, after_sweep}
+use Rattle.txc_node.specs.Cache.{Cache, lookup_answer, after_lookup, is_kept, outcome, after_insert, closed_count, after_event, swept_count, after_sweep}
 use Rattle.txc_node.specs.Steps.{found_reply, entry_refusal, refusal_of, step_reply, after_step, reply_by, reply_to, cache_by, after_op, MayReply}
 
 -- a step that is not refused
@@ -48,7 +48,7 @@ insertion_out_of_memory c e next none stores leaves = inr ((none, stores), refl,
 
 -- ---- the other steps
 
-pub lookup_done : (c : Cache) (key : Call) (lo hi : ℕ) (found : Option Shown) (next : Cache) → lo ≤ hi → found ≡ answer c key lo hi → next ≡ after_lookup c key lo hi
+pub lookup_done : (c : Cache) (key : Call) (lo hi : ℕ) (found : Option Shown) (next : Cache) → lo ≤ hi → found ≡ lookup_answer c key lo hi → next ≡ after_lookup c key lo hi
     → MayReply c (Lookup key lo hi) (found_reply found) next
 lookup_done c key lo hi found next l is leaves =
     let none : refusal_of c (Lookup key lo hi) ≡ None = grind (arith, nat_tests) in

@@ -57,8 +57,8 @@ abbrev pub shown_of : ℕ → Entry → Shown
 shown_of processed e = record { reach = shown processed e.reach; value = e.value; tags = e.tags }
 
 -- the answer of the entry that is found, or none, which is a miss
-abbrev pub answer : Cache → Call → ℕ → ℕ → Option Shown
-answer c key lo hi = option_map (shown_of c.processed) (found c key lo hi)
+abbrev pub lookup_answer : Cache → Call → ℕ → ℕ → Option Shown
+lookup_answer c key lo hi = option_map (shown_of c.processed) (found c key lo hi)
 
 -- ---- an insertion: the events that the entry missed are replayed first
 

@@ -51,7 +51,7 @@ unfoldable pub is_live : List Entry → Place → Bool
 is_live es q = unwrap_or (option_map (λ e. e.reach.still) (entry_at es q)) false
 
 -- entries, the most recently used first, and the most that there may be
-pub record Held : Type 0 where
+pub record HeldEntries : Type 0 where
   pub entries : List Entry
   pub capacity : ℕ
 
@@ -183,7 +183,7 @@ AreSparedBy stamp tags es tables tag = (t : Tag) (q : Place) → tags_match tag 
     → lists tables t q ≡ true → IsSpared stamp tags es q
 
 -- of the old entries the event has closed n, and where it invalidated none before, it does so now
-pub record Closes (stamp : ℕ) (tags : List Tag) (old new : Held) (n : ℕ) : Type 0 where
+pub record Closes (stamp : ℕ) (tags : List Tag) (old new : HeldEntries) (n : ℕ) : Type 0 where
   pub after : map (entry_after stamp tags) new.entries ≡ map (entry_after stamp tags) old.entries
   pub capacity : new.capacity ≡ old.capacity
   pub count : n + count_by (is_invalidated stamp tags) new.entries ≡ count_by (is_invalidated stamp tags) old.entries
@@ -192,7 +192,7 @@ pub record Closes (stamp : ℕ) (tags : List Tag) (old new : Held) (n : ℕ) : T
 -- ---- all of it
 
 -- at most one entry for a place, and no more than there is room for
-pub record HoldsApart (h : Held) : Type 0 where
+pub record HoldsApart (h : HeldEntries) : Type 0 where
   pub apart : AreApart h.entries
   pub within : length h.entries ≤ h.capacity
   pub some : 0 < h.capacity

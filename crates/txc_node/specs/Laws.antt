@@ -5,7 +5,7 @@ use Rattle.txc_tags.specs.declared.tag.Tag.{Tag}
 use Rattle.txc_tags.specs.Tags.{sets_match}
 use Rattle.txc_tags.specs.Keys.{Call}
 use Rattle.txc_node.specs.declared.entry.Entry.{Entry}
-use Rattle.txc_node.specs.Cache.{Cache, IsCache, empty_cache, found, shown_of, answer, after_lookup, replayed_reach, replayed_entry, is_kept, evicted_entry, after_insert, entry_after, last_of, after_event, swept_count, after_sweep}
+use Rattle.txc_node.specs.Cache.{Cache, IsCache, empty_cache, found, shown_of, lookup_answer, after_lookup, replayed_reach, replayed_entry, is_kept, evicted_entry, after_insert, entry_after, last_of, after_event, swept_count, after_sweep}
 
 -- ---- lookup
 
@@ -144,7 +144,7 @@ SweepDropsTheEnded = (c : Cache) (horizon : ℕ) → DropsTheEnded c horizon
 -- a sweep changes the answer of no lookup from the horizon on
 abbrev pub ChangesNoLaterAnswer : Type 0
 ChangesNoLaterAnswer = (c : Cache) (horizon : ℕ) (key : Call) (lo hi : ℕ) → horizon ≤ lo
-    → answer (after_sweep c horizon) key lo hi ≡ answer c key lo hi
+    → lookup_answer (after_sweep c horizon) key lo hi ≡ lookup_answer c key lo hi
 
 -- ---- all steps
 

@@ -13,7 +13,7 @@ use Rattle.txc_node.specs.declared.refusal.Refusal.TheVariants.{EmptyRange, BadR
 use Rattle.txc_node.specs.declared.reply.Reply.{Reply}
 use Rattle.txc_node.specs.declared.reply.Reply.TheVariants as replies
 use Rattle.txc_node.specs.Hit.{seen}
-use Rattle.txc_node.specs.Cache.{Cache, answer, after_lookup, is_kept, outcome, after_insert, closed_count, after_event, swept_count, after_sweep}
+use Rattle.txc_node.specs.Cache.{Cache, lookup_answer, after_lookup, is_kept, outcome, after_insert, closed_count, after_event, swept_count, after_sweep}
 
 -- the function whose call is looked up or inserted
 abbrev pub function_of : Op → Option ℕ
@@ -73,7 +73,7 @@ refusal_of c (Sweep horizon) = None
 -- what a step replies that is not refused
 abbrev pub step_reply : Cache → Op → Reply Shown
 step_reply c (Insert e) = replies.Inserted (outcome c e)
-step_reply c (Lookup key lo hi) = found_reply (answer c key lo hi)
+step_reply c (Lookup key lo hi) = found_reply (lookup_answer c key lo hi)
 step_reply c (Event stamp tags) = replies.Closed (closed_count c stamp tags)
 step_reply c (Sweep horizon) = replies.Swept (swept_count c horizon)
 

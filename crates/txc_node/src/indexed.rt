@@ -31,9 +31,9 @@ pub(crate) struct IndexedEntries {
 }
 
 impl Model for IndexedEntries {
-    ghost use Rattle.txc_node.specs.Indexed.{Held, IndexesTags};
+    ghost use Rattle.txc_node.specs.Indexed.{HeldEntries, IndexesTags};
 
-    ghost Value = { Held };
+    ghost Value = { HeldEntries };
 
     ghost view = { λ x. x.entries };
 

@@ -35,9 +35,9 @@ pub(crate) struct KeyedEntries {
 }
 
 impl Model for KeyedEntries {
-    ghost use Rattle.txc_node.specs.Indexed.{AreTied, Held, entries_of};
+    ghost use Rattle.txc_node.specs.Indexed.{AreTied, HeldEntries, entries_of};
 
-    ghost Value = { Held };
+    ghost Value = { HeldEntries };
 
     ghost view = { λ x. record { entries = entries_of x.cache.entries; capacity = x.cache.cap } };
 

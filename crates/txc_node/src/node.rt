@@ -5,7 +5,7 @@ ghost use Rattle.std.specs.Borrow.{sem};
 ghost use Rattle.std.specs.Io.BufRead.{Rests};
 ghost use Rattle.txc_node.specs.contracts.node.NodeCore.{the_row};
 ghost use Rattle.txc_node.specs.declared.entry.Entry.{Entry};
-ghost use Rattle.txc_node.specs.Cache.{ends_no_earlier, shown_of, empty_cache, found, answer, after_lookup, is_kept, after_insert, outcome, after_event, closed_count, after_sweep, swept_count};
+ghost use Rattle.txc_node.specs.Cache.{ends_no_earlier, shown_of, empty_cache, found, lookup_answer, after_lookup, is_kept, after_insert, outcome, after_event, closed_count, after_sweep, swept_count};
 ghost use Rattle.txc_node.specs.Hit.{seen};
 ghost use Rattle.txc_node.specs.Indexed.{IsFound, entries_under, shown_as};
 
@@ -187,7 +187,7 @@ impl NodeCore {
     pub fn find(&self, key: &Key, lo: Stamp, hi: Stamp) -> Result<Option<Hit<'_>>, EmptyRange>
         ensures only_if { OnOk result (lo ≤ hi) }
         ensures refused { OnErr result (hi < lo) }
-        ensures answer { IfOk result (λ r. option_map seen r ≡ answer self.now key.now lo hi) }
+        ensures answer { IfOk result (λ r. option_map seen r ≡ lookup_answer self.now key.now lo hi) }
     {
         check_range(lo, hi)?;
         let entries = self.entries.keyed();
@@ -230,7 +230,7 @@ impl NodeCore {
     pub fn lookup(&mut self, key: &Key, lo: Stamp, hi: Stamp) -> Result<Option<Hit<'_>>, EmptyRange>
         ensures only_if { OnOk result (lo ≤ hi) }
         ensures refused { OnErr result (hi < lo) }
-        ensures answer { IfOk result (λ r. option_map seen r ≡ answer self.old key.now lo hi) }
+        ensures answer { IfOk result (λ r. option_map seen r ≡ lookup_answer self.old key.now lo hi) }
         // after an Ok the node is that after the lookup, and after an Err as it was
         ensures* after { sem 𝓛 (Rests the_row self.entry (λ new. MatchResult result
             (λ _. new ≡ after_lookup self.old key.now lo hi)
@@ -251,7 +251,7 @@ impl NodeCore {
     ) -> Result<(Option<Hit<'_>>, u64), EmptyRange>
         ensures only_if { OnOk result (lo ≤ hi) }
         ensures refused { OnErr result (hi < lo) }
-        ensures answer { IfOk result (λ r. option_map seen r.0 ≡ answer self.old key.now lo hi) }
+        ensures answer { IfOk result (λ r. option_map seen r.0 ≡ lookup_answer self.old key.now lo hi) }
         ensures looked { IfOk result (λ r. r.1 ≡ length (entries_under key.now self.old.entries)) }
         // after an Ok the node is that after the lookup, and after an Err as it was
         ensures* after { sem 𝓛 (Rests the_row self.entry (λ new. MatchResult result

@@ -24,8 +24,8 @@ pub record IsHeld (p : PinSetValue) (space : ℕ) : Type 0 where
   pub room : p.has_present ≡ true → length p.members < space
 
 -- the pins that were handed out, and the present
-abbrev pub begun : List Pin → PinSetValue
-begun pins = record { members = pins; has_present = true }
+abbrev pub begun_pin_set : List Pin → PinSetValue
+begun_pin_set pins = record { members = pins; has_present = true }
 
 -- the reach holds the stamp of the pin
 abbrev pub is_held_by : Interval → Pin → Bool

@@ -60,11 +60,11 @@ fn keep_held(members: &mut Vec<Pin>, reach: Reach)
 }
 
 impl PinSet {
-    ghost use Rattle.txc_pinset.specs.Members.{begun, narrowed, with_present, choice_of, AreBounds, IsPinSet};
+    ghost use Rattle.txc_pinset.specs.Members.{begun_pin_set, narrowed, with_present, choice_of, AreBounds, IsPinSet};
 
     /// The pins that were handed out, and the present. It makes room for the present's pin.
     pub fn begin(alloc: Global, pins: &Pins) -> Result<PinSet, AllocError>
-        ensures { IfOk result (λ set. set ≡ begun pins.now.pins.items) }
+        ensures { IfOk result (λ set. set ≡ begun_pin_set pins.now.pins.items) }
     {
         let mut members = Vec::with_capacity(alloc, pins.pins.len() + 1)?;
         members.extend_from_slice(&pins.pins)?;

@@ -22,8 +22,8 @@ use Rattle.txc_script.specs.declared.line_fault.WordKind.TheVariants.{Key, Stamp
 use Rattle.txc_script.specs.declared.line_name.LineName.{LineName}
 use Rattle.txc_script.specs.declared.line_name.LineName.TheVariants as names
 use Rattle.txc_play.specs.TaskReading.{ArePairWords, AreRangeWords}
-use Rattle.txc_play.specs.Tasks.{AreAfterPlace, AreBoundsInRange, AreChangeWords, AreQueryWords, Says, bounds_words, change_words, query_words, row_words}
-use Rattle.txc_play.specs.WorldFaults.{change_line, function, kinds_after, moment, number, pair_kinds, place, query_line, range_kinds, row_kinds, second_of, table}
+use Rattle.txc_play.specs.Tasks.{AreAfterPlace, AreBoundsInRange, AreChangeWords, AreQueryWords, LineAsksFor, bounds_words, change_words, query_words, row_words}
+use Rattle.txc_play.specs.WorldFaults.{change_line, function, kinds_after, moment, number_word, pair_kinds, place, query_line, range_kinds, row_kinds, second_of, table}
 use Rattle.txc_play.specs.declared.task.Task.{Task}
 use Rattle.txc_play.specs.declared.task.Task.TheVariants as tasks
 use Rattle.txc_play.proofs.TaskParts.{by_id, by_group, by_range, by_table, pair_words, put_words, range_words, remove_words, row_of}
@@ -100,7 +100,7 @@ record HasPair (words : List (List ℕ)) : Type 0 where
 
 has_pair : (words : List (List ℕ)) → AreOfKinds pair_kinds words → HasPair words
 has_pair words h =
-    let two = has_two table number words h in
+    let two = has_two table number_word words h in
     record { t = two.first_is.0; n = two.second_is.0; are = pair_words words two.first two.second two.first_is.0 two.second_is.0 two.words_are two.first_is.1 two.second_is.1 }
 
 record HasRange (words : List (List ℕ)) : Type 0 where
@@ -240,7 +240,7 @@ has_bounds (a ∷ b ∷ c ∷ d ∷ e ∷ words) h = absurd h.1.1.1.1
 
 -- the words after this name ask for something
 abbrev pub Asks : LineName → List (List ℕ) → Type 0
-Asks name words = (task : Task) × Says name words task
+Asks name words = (task : Task) × LineAsksFor name words task
 
 asks_put : (words : List (List ℕ)) → HasRow words → Asks names.Put words
 asks_put words row = (tasks.One (Keeper (keeps.Write (changes.Put row.row))), (changes.Put row.row, put_words (codes "put" ∷ words) words (codes "put") row.row refl refl row.are, refl))

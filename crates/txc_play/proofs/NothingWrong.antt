@@ -15,7 +15,7 @@ use Rattle.txc_script.specs.declared.line_fault.WordKind.{WordKind}
 use Rattle.txc_script.specs.declared.line_fault.WordKind.TheVariants.{Key, Stamp, QueryName, ChangeName}
 use Rattle.txc_script.specs.declared.line_name.LineName.{LineName}
 use Rattle.txc_script.specs.declared.line_name.LineName.TheVariants as names
-use Rattle.txc_play.specs.Tasks.{AreAfterPlace, AreChangeWords, IsChangeInRange, IsIdRange, IsPair, IsQueryInRange, Says, change_words, name_text, query_words, row_words}
+use Rattle.txc_play.specs.Tasks.{AreAfterPlace, AreChangeWords, IsChangeInRange, IsIdRange, IsPair, IsQueryInRange, LineAsksFor, change_words, name_text, query_words, row_words}
 use Rattle.txc_play.specs.WorldFaults.{IsFaultAfter, IsFirstBad, IsWorldFault, change_line, function, kinds_after, moment, pair_kinds, place, query_line, range_kinds, row_kinds, second_of, table}
 use Rattle.txc_play.specs.declared.task.Task.{Task}
 use Rattle.txc_play.proofs.TaskNames.{same_name}
@@ -82,7 +82,7 @@ write_kinds word (changes.Remove t n) is h = record { kinds = place ∷ ChangeNa
 only_place : (name : LineName) (words : List (List ℕ)) (n : ℕ) → kinds_after name [] ≡ Some (place ∷ []) → AreAfterPlace words n [] → HasKinds name words
 only_place name words n known h = as_words name words (decimal n ∷ []) h.0 (record { kinds = place ∷ []; known = known; good = ((n, (h.1, refl)), tt) })
 
-pub has_kinds : (name : LineName) (words : List (List ℕ)) (task : Task) → Says name words task → HasKinds name words
+pub has_kinds : (name : LineName) (words : List (List ℕ)) (task : Task) → LineAsksFor name words task → HasKinds name words
 has_kinds names.Put words task h = put_kinds words h.0 h.1
 has_kinds names.Remove words task h = remove_kinds words h.0 h.1
 has_kinds names.Pin words task h = as_words names.Pin words (decimal h.0 ∷ []) h.1 (record { kinds = moment ∷ []; known = refl; good = ((h.0, (h.2, refl)), tt) })

@@ -5,7 +5,7 @@ use Rattle.std.specs.Str.{bytes_eq}
 use Rattle.txc_rows.specs.declared.query.Change.{Change}
 use Rattle.txc_rows.specs.declared.query.Change.TheVariants as changes
 use Rattle.txc_script.specs.Words.{HasNoBlank, words_of}
-use Rattle.txc_play.specs.Tasks.{name_text, change_words, Says, SpellsTask}
+use Rattle.txc_play.specs.Tasks.{name_text, change_words, LineAsksFor, SpellsTask}
 use Rattle.txc_script.specs.declared.line_name.LineName.{LineName}
 use Rattle.txc_script.specs.declared.line_name.LineName.TheVariants as names
 use Rattle.txc_play.specs.declared.task.Task.{Task}
@@ -60,19 +60,19 @@ pub same_name : (a b : LineName) → name_text a ≡ name_text b → a ≡ b
 same_name a b e = let same : Some a ≡ Some b = sym (read_back a) ∙ ap read_name e ∙ read_back b in cc
 
 -- what a line of this name asks for
-pub says_of : (line : List ℕ) (name : LineName) (words : List (List ℕ)) (task : Task) → words_of line ≡ name_text name ∷ words → SpellsTask line task → Says name words task
+pub says_of : (line : List ℕ) (name : LineName) (words : List (List ℕ)) (task : Task) → words_of line ≡ name_text name ∷ words → SpellsTask line task → LineAsksFor name words task
 says_of line name words task e s =
     let both : name_text name ∷ words ≡ name_text s.0 ∷ s.1 = sym e ∙ s.2 in
     let same : name ≡ s.0 = same_name name s.0 cc in
     let others : words ≡ s.1 = cc in
-    subst (λ (n : LineName). Says n words task) (sym same) (subst (λ (ws : List (List ℕ)). Says s.0 ws task) (sym others) s.3)
+    subst (λ (n : LineName). LineAsksFor n words task) (sym same) (subst (λ (ws : List (List ℕ)). LineAsksFor s.0 ws task) (sym others) s.3)
 
 no_change : (name : List ℕ) (change : Change) → name ∷ [] ≡ change_words change → ⊥
 no_change name (changes.Put row) e = cc
 no_change name (changes.Remove table id) e = cc
 
 -- each line has words after its name
-pub some_words : (name : LineName) (task : Task) → Says name [] task → ⊥
+pub some_words : (name : LineName) (task : Task) → LineAsksFor name [] task → ⊥
 some_words names.Put task h = no_change (codes "put") h.0 h.1.0
 some_words names.Remove task h = no_change (codes "remove") h.0 h.1.0
 some_words names.Pin task h = let e = h.1 in cc
@@ -98,7 +98,7 @@ pub no_blank : (line : List ℕ) (task : Task) → HasNoBlank line → SpellsTas
 no_blank line task bare s =
     let both : line ∷ [] ≡ name_text s.0 ∷ s.1 = sym (words_alone line bare) ∙ s.2 in
     let none : s.1 ≡ [] = cc in
-    some_words s.0 task (subst (λ (ws : List (List ℕ)). Says s.0 ws task) none s.3)
+    some_words s.0 task (subst (λ (ws : List (List ℕ)). LineAsksFor s.0 ws task) none s.3)
 
 -- nor does one whose first word is no name
 pub no_name : (line word : List ℕ) (words : List (List ℕ)) (task : Task) → words_of line ≡ word ∷ words → ((name : LineName) → word ≡ name_text name → ⊥) → SpellsTask line task → ⊥

@@ -23,7 +23,7 @@ use Rattle.txc_world.specs.declared.reply.Refusal.TheVariants.{NoNode}
 use Rattle.txc_world.specs.declared.reply.Reply.{Reply}
 use Rattle.txc_world.specs.declared.reply.Reply.TheVariants as replies
 use Rattle.txc_world.specs.Worlds.{WorldValue}
-use Rattle.txc_play.specs.TaskSteps.{AreTaken, IsTaken, HasBegun, IsDone, Does, DoesCounts, DoesPins, DoesUnpin, ending_of, is_added, is_unpinned, leaves_hold, stamp_in, taken_out, tidied}
+use Rattle.txc_play.specs.TaskSteps.{AreTaken, IsTaken, TaskHasBegun, TaskIsDone, Does, DoesCounts, DoesPins, DoesUnpin, ending_of, is_added, is_unpinned, leaves_hold, stamp_in, taken_out, tidied}
 use Rattle.txc_play.specs.Playing.{HasEndedTxn, HasUnpinned, IsCutShort}
 use Rattle.txc_play.specs.declared.printed.Printed.{Printed}
 use Rattle.txc_play.specs.declared.printed.Printed.TheVariants.{Replied, Counted}
@@ -33,13 +33,13 @@ use Rattle.txc_play.proofs.WorldSteps.{taken_alone, taken_more}
 
 -- ---- one step
 
-pub done_one : (next : Next) (world end : WorldValue) (step : Step) (reply : Reply) → IsTaken next world step reply end → IsDone next world (tasks.One step) (Replied reply) end
+pub done_one : (next : Next) (world end : WorldValue) (step : Step) (reply : Reply) → IsTaken next world step reply end → TaskIsDone next world (tasks.One step) (Replied reply) end
 done_one next world end step reply one = record { steps = step ∷ []; replied = reply ∷ []; taken = taken_alone next world end step reply one; does = (reply, refl, refl, refl) }
 
 -- ---- a pin
 
 pub pin_alone : (next : Next) (world end : WorldValue) (now : ℕ) (pinned : Reply) → IsTaken next world (Keeper (keeps.Pin now)) pinned end → stamp_in pinned ≡ None
-    → IsDone next world (tasks.Pin now) (Replied pinned) end
+    → TaskIsDone next world (tasks.Pin now) (Replied pinned) end
 pin_alone next world end now pinned one none = record {
   steps = Keeper (keeps.Pin now) ∷ [];
   replied = pinned ∷ [];
@@ -53,7 +53,7 @@ third stamp b = if b then keeps.GiveBack stamp else keeps.Unpin stamp
 
 pub pin_added : (next : Next) (world a b end : WorldValue) (now stamp : ℕ) (pinned added last : Reply) → IsTaken next world (Keeper (keeps.Pin now)) pinned a → stamp_in pinned ≡ Some stamp
     → IsTaken next a (Keeper (keeps.Add stamp)) added b → is_added added ≡ true → IsTaken next b (Keeper (keeps.GiveBack stamp)) last end
-    → IsDone next world (tasks.Pin now) (Replied pinned) end
+    → TaskIsDone next world (tasks.Pin now) (Replied pinned) end
 pin_added next world a b end now stamp pinned added last one some two is three = record {
   steps = Keeper (keeps.Pin now) ∷ Keeper (keeps.Add stamp) ∷ Keeper (keeps.GiveBack stamp) ∷ [];
   replied = pinned ∷ added ∷ last ∷ [];
@@ -68,7 +68,7 @@ pin_added next world a b end now stamp pinned added last one some two is three =
 
 pub pin_refused : (next : Next) (world a b end : WorldValue) (now stamp : ℕ) (pinned added last : Reply) → IsTaken next world (Keeper (keeps.Pin now)) pinned a → stamp_in pinned ≡ Some stamp
     → IsTaken next a (Keeper (keeps.Add stamp)) added b → is_added added ≡ false → IsTaken next b (Keeper (keeps.Unpin stamp)) last end
-    → IsDone next world (tasks.Pin now) (Replied added) end
+    → TaskIsDone next world (tasks.Pin now) (Replied added) end
 pin_refused next world a b end now stamp pinned added last one some two not three = record {
   steps = Keeper (keeps.Pin now) ∷ Keeper (keeps.Add stamp) ∷ Keeper (keeps.Unpin stamp) ∷ [];
   replied = pinned ∷ added ∷ last ∷ [];
@@ -116,7 +116,7 @@ one_requested next world mid end actor reply h one none = record {
 }
 
 pub call_ended : (next : Next) (world mid end : WorldValue) (actor : ℕ) (reply : Reply) (printed : Printed) → HasRequested next world actor mid → IsTaken next mid (Actor actor acts.Request) reply end
-    → ending_of reply ≡ Some printed → IsDone next world (tasks.Finish actor) printed end
+    → ending_of reply ≡ Some printed → TaskIsDone next world (tasks.Finish actor) printed end
 call_ended next world mid end actor reply printed h one some = record {
   steps = h.steps ++ Actor actor acts.Request ∷ [];
   replied = h.replied ++ reply ∷ [];
@@ -151,10 +151,10 @@ ended_with next world mid end actor act reply last one is two = record {
   does = (is, refl, refl);
 }
 
-pub done_commit : (next : Next) (world end : WorldValue) (actor : ℕ) (reply : Reply) → HasEndedTxn next world actor acts.Commit reply end → IsDone next world (tasks.Commit actor) (Replied reply) end
+pub done_commit : (next : Next) (world end : WorldValue) (actor : ℕ) (reply : Reply) → HasEndedTxn next world actor acts.Commit reply end → TaskIsDone next world (tasks.Commit actor) (Replied reply) end
 done_commit next world end actor reply h = record { steps = h.steps; replied = h.replied; taken = h.taken; does = h.does }
 
-pub done_abort : (next : Next) (world end : WorldValue) (actor : ℕ) (reply : Reply) → HasEndedTxn next world actor acts.Abort reply end → IsDone next world (tasks.Abort actor) (Replied reply) end
+pub done_abort : (next : Next) (world end : WorldValue) (actor : ℕ) (reply : Reply) → HasEndedTxn next world actor acts.Abort reply end → TaskIsDone next world (tasks.Abort actor) (Replied reply) end
 done_abort next world end actor reply h = record { steps = h.steps; replied = h.replied; taken = h.taken; does = h.does }
 
 -- ---- a tidy
@@ -188,7 +188,7 @@ one_unpinned next world mid end stamp stamps count reply printed one is h = reco
 }
 
 pub tidy_refused : (next : Next) (world end : WorldValue) (now age : ℕ) (reply : Reply) → IsTaken next world (Keeper (keeps.Retire now age)) reply end → taken_out reply ≡ None
-    → IsDone next world (tasks.Tidy now age) (Replied reply) end
+    → TaskIsDone next world (tasks.Tidy now age) (Replied reply) end
 tidy_refused next world end now age reply one none = record {
   steps = Keeper (keeps.Retire now age) ∷ [];
   replied = reply ∷ [];
@@ -197,7 +197,7 @@ tidy_refused next world end now age reply one none = record {
 }
 
 pub tidy_done : (next : Next) (world mid end : WorldValue) (now age : ℕ) (reply : Reply) (stamps : List ℕ) (count : ℕ) (printed : Printed) → IsTaken next world (Keeper (keeps.Retire now age)) reply mid
-    → taken_out reply ≡ Some stamps → count ≡ length stamps → HasUnpinned next mid stamps count printed end → IsDone next world (tasks.Tidy now age) printed end
+    → taken_out reply ≡ Some stamps → count ≡ length stamps → HasUnpinned next mid stamps count printed end → TaskIsDone next world (tasks.Tidy now age) printed end
 tidy_done next world mid end now age reply stamps count printed one some is h =
     let does : DoesUnpin stamps (length stamps) h.steps h.replied printed = subst (λ (n : ℕ). DoesUnpin stamps n h.steps h.replied printed) is h.does in
     record {
@@ -209,7 +209,7 @@ tidy_done next world mid end now age reply stamps count printed one some is h =
 
 -- ---- members
 
-pub done_pins : (next : Next) (world : WorldValue) (actor : ℕ) (r : Result Printed AllocError) → IfOk r (λ printed. DoesPins next world actor printed) → IfOk r (λ printed. IsDone next world (tasks.Pins actor) printed world)
+pub done_pins : (next : Next) (world : WorldValue) (actor : ℕ) (r : Result Printed AllocError) → IfOk r (λ printed. DoesPins next world actor printed) → IfOk r (λ printed. TaskIsDone next world (tasks.Pins actor) printed world)
 done_pins next world actor (Ok printed) h = record { steps = []; replied = []; taken = refl; does = (refl, h) }
 done_pins next world actor (Err e) h = tt
 
@@ -249,12 +249,12 @@ pub not_counted : (world : WorldValue) (node function : ℕ) (r : Result Totals 
     → DoesCounts world node function (Replied (replies.Refused refusal))
 not_counted world node function r refusal = not_counted_at (slice_get world.ports.nodes node) function r refusal
 
-pub done_counts : (next : Next) (world : WorldValue) (node function : ℕ) (printed : Printed) → DoesCounts world node function printed → IsDone next world (tasks.Counts node function) printed world
+pub done_counts : (next : Next) (world : WorldValue) (node function : ℕ) (printed : Printed) → DoesCounts world node function printed → TaskIsDone next world (tasks.Counts node function) printed world
 done_counts next world node function printed h = record { steps = []; replied = []; taken = refl; does = (refl, h) }
 
 -- ---- what breaks off
 
-pub done_begun : (next : Next) (world end : WorldValue) (task : Task) (printed : Printed) → IsDone next world task printed end → HasBegun next world task end
+pub done_begun : (next : Next) (world end : WorldValue) (task : Task) (printed : Printed) → TaskIsDone next world task printed end → TaskHasBegun next world task end
 done_begun next world end task printed h = record {
   steps = h.steps;
   replied = h.replied;
@@ -267,7 +267,7 @@ done_begun next world end task printed h = record {
 }
 
 -- a call that goes on may end at the next request
-pub requests_begun : (next : Next) (world end : WorldValue) (actor : ℕ) → HasRequested next world actor end → HasBegun next world (tasks.Finish actor) end
+pub requests_begun : (next : Next) (world end : WorldValue) (actor : ℕ) → HasRequested next world actor end → TaskHasBegun next world (tasks.Finish actor) end
 requests_begun next world end actor h = record {
   steps = h.steps;
   replied = h.replied;
@@ -285,7 +285,7 @@ requests_begun next world end actor h = record {
   };
 }
 
-pub finish_cut : (next : Next) (world end : WorldValue) (actor : ℕ) (r : Result Printed AllocError) → OnErr r (HasBegun next world (tasks.Finish actor) end) → OnErr r (IsCutShort next world (tasks.Finish actor) end)
+pub finish_cut : (next : Next) (world end : WorldValue) (actor : ℕ) (r : Result Printed AllocError) → OnErr r (TaskHasBegun next world (tasks.Finish actor) end) → OnErr r (IsCutShort next world (tasks.Finish actor) end)
 finish_cut next world end actor (Ok printed) h = tt
 finish_cut next world end actor (Err e) h = inr h
 
@@ -294,6 +294,6 @@ nothing_cut next world task (Ok printed) = tt
 nothing_cut next world task (Err e) = inl refl
 
 -- what was done is not written
-pub done_cut : {T : Type 0} (next : Next) (world end : WorldValue) (task : Task) (printed : Printed) (r : Result T AllocError) → IsDone next world task printed end → OnErr r (IsCutShort next world task end)
+pub done_cut : {T : Type 0} (next : Next) (world end : WorldValue) (task : Task) (printed : Printed) (r : Result T AllocError) → TaskIsDone next world task printed end → OnErr r (IsCutShort next world task end)
 done_cut next world end task printed (Ok x) h = tt
 done_cut next world end task printed (Err e) h = inr (done_begun next world end task printed h)

@@ -5,7 +5,7 @@ use Rattle.txc_world.specs.declared.step.Act.{Act}
 use Rattle.txc_world.specs.declared.step.Step.{Step}
 use Rattle.txc_world.specs.declared.reply.Reply.{Reply}
 use Rattle.txc_world.specs.Worlds.{WorldValue}
-use Rattle.txc_play.specs.TaskSteps.{AreTaken, DoesEnd, DoesUnpin, HasBegun, IsDone}
+use Rattle.txc_play.specs.TaskSteps.{AreTaken, DoesEnd, DoesUnpin, TaskHasBegun, TaskIsDone}
 use Rattle.txc_play.specs.TaskTexts.{printed_text, is_refused_line}
 use Rattle.txc_play.specs.declared.printed.Printed.{Printed}
 use Rattle.txc_play.specs.declared.printed.Printed.TheVariants.{Replied}
@@ -29,12 +29,12 @@ pub record HasUnpinned (next : Next) (world : WorldValue) (stamps : List ℕ) (c
 
 -- none of the steps of what a line asks for were taken, or the first ones
 abbrev pub IsCutShort : Next → WorldValue → Task → WorldValue → Type 0
-IsCutShort next world task end = (end ≡ world) ⊎ HasBegun next world task end
+IsCutShort next world task end = (end ≡ world) ⊎ TaskHasBegun next world task end
 
 -- what a line asks for was done, and what is written of it was put after the text
 pub record IsTaskDone (next : Next) (world : WorldValue) (task : Task) (end : WorldValue) (old new : List ℕ)
     (refused : Bool) : Type 0 where
   pub printed : Printed
-  pub done : IsDone next world task printed end
+  pub done : TaskIsDone next world task printed end
   pub text : new ≡ old ++ (printed_text printed ++ 10 ∷ [])
   pub is_refused : refused ≡ is_refused_line printed

@@ -170,7 +170,7 @@ Does next world (tasks.Counts node function) steps replied printed =
     (steps ≡ []) × DoesCounts world node function printed
 
 -- what a line asks for was done: its steps were taken, and this is written of them
-pub record IsDone (next : Next) (world : WorldValue) (task : Task) (printed : Printed) (end : WorldValue)
+pub record TaskIsDone (next : Next) (world : WorldValue) (task : Task) (printed : Printed) (end : WorldValue)
     : Type 0 where
   pub steps : List Step
   pub replied : List Reply
@@ -178,7 +178,7 @@ pub record IsDone (next : Next) (world : WorldValue) (task : Task) (printed : Pr
   pub does : Does next world task steps replied printed
 
 -- the first steps of what a line asks for were taken, or all of them
-pub record HasBegun (next : Next) (world : WorldValue) (task : Task) (end : WorldValue) : Type 0 where
+pub record TaskHasBegun (next : Next) (world : WorldValue) (task : Task) (end : WorldValue) : Type 0 where
   pub steps : List Step
   pub replied : List Reply
   pub taken : AreTaken next world steps replied end

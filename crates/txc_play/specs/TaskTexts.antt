@@ -70,10 +70,10 @@ transaction_text transactions.PinsFull = codes "X4"
 transaction_text transactions.BufferFull = codes "X5"
 transaction_text transactions.Memory = codes "memory"
 
-abbrev pub add_text : AddError → List ℕ
-add_text adding.Full = codes "C2"
-add_text (adding.Known stamp) = codes "C3 " ++ decimal stamp
-add_text adding.Memory = codes "memory"
+abbrev pub add_error_text : AddError → List ℕ
+add_error_text adding.Full = codes "C2"
+add_error_text (adding.Known stamp) = codes "C3 " ++ decimal stamp
+add_error_text adding.Memory = codes "memory"
 
 abbrev pub node_text : NodeError → List ℕ
 node_text nodes.HistoryFull = codes "H1"
@@ -82,19 +82,19 @@ node_text nodes.PassesFull = codes "H3"
 node_text nodes.EmptyRange = codes "N1"
 node_text nodes.Memory = codes "memory"
 
-abbrev pub refusal_text : Refusal → List ℕ
-refusal_text refusals.NoActor = codes "O1"
-refusal_text refusals.NotOpen = codes "O2"
-refusal_text refusals.AlreadyOpen = codes "O3"
-refusal_text refusals.NoRequest = codes "O4"
-refusal_text refusals.MidCall = codes "O5"
-refusal_text refusals.NoNode = codes "O6"
-refusal_text (refusals.Database cause) = database_text cause
-refusal_text (refusals.Pincushion cause) = add_text cause
-refusal_text (refusals.GiveBack unknown) = codes "C1 " ++ decimal unknown.stamp
-refusal_text (refusals.Node cause) = node_text cause
-refusal_text (refusals.Transaction cause) = transaction_text cause
-refusal_text refusals.Memory = codes "memory"
+abbrev pub world_refusal_text : Refusal → List ℕ
+world_refusal_text refusals.NoActor = codes "O1"
+world_refusal_text refusals.NotOpen = codes "O2"
+world_refusal_text refusals.AlreadyOpen = codes "O3"
+world_refusal_text refusals.NoRequest = codes "O4"
+world_refusal_text refusals.MidCall = codes "O5"
+world_refusal_text refusals.NoNode = codes "O6"
+world_refusal_text (refusals.Database cause) = database_text cause
+world_refusal_text (refusals.Pincushion cause) = add_error_text cause
+world_refusal_text (refusals.GiveBack unknown) = codes "C1 " ++ decimal unknown.stamp
+world_refusal_text (refusals.Node cause) = node_text cause
+world_refusal_text (refusals.Transaction cause) = transaction_text cause
+world_refusal_text refusals.Memory = codes "memory"
 
 -- ---- rows
 
@@ -117,7 +117,7 @@ end_text (ends.Refused error) = codes "refused " ++ transaction_text error
 abbrev pub did_text : Did → List ℕ
 did_text (dids.Pinned stamp) = codes "pinned " ++ decimal stamp
 did_text dids.Added = codes "added"
-did_text (dids.NotAdded error) = codes "refused " ++ add_text error
+did_text (dids.NotAdded error) = codes "refused " ++ add_error_text error
 did_text dids.Unpinned = codes "unpinned"
 did_text (dids.Hit reach) = codes "hit " ++ reach_text reach
 did_text dids.Miss = codes "miss"
@@ -139,28 +139,28 @@ advanced_text (advances.Taken stamp closed) =
     codes "advanced " ++ (decimal stamp ++ (codes " closed " ++ decimal closed))
 advanced_text advances.Idle = codes "idle"
 
-abbrev pub reply_text : Reply → List ℕ
-reply_text replies.Begun = codes "open"
-reply_text (replies.Based base) = codes "open " ++ decimal base
-reply_text replies.Started = codes "started"
-reply_text (replies.Asked did end) = asked_text did end
-reply_text (replies.Ended end) = end_text end
-reply_text (replies.Answered rows) = codes "rows " ++ ids_text (map (λ r. r.id) rows.items)
-reply_text replies.Kept = codes "kept"
-reply_text (replies.Receipt None) = codes "receipt none"
-reply_text (replies.Receipt (Some pin)) =
+abbrev pub world_reply_text : Reply → List ℕ
+world_reply_text replies.Begun = codes "open"
+world_reply_text (replies.Based base) = codes "open " ++ decimal base
+world_reply_text replies.Started = codes "started"
+world_reply_text (replies.Asked did end) = asked_text did end
+world_reply_text (replies.Ended end) = end_text end
+world_reply_text (replies.Answered rows) = codes "rows " ++ ids_text (map (λ r. r.id) rows.items)
+world_reply_text replies.Kept = codes "kept"
+world_reply_text (replies.Receipt None) = codes "receipt none"
+world_reply_text (replies.Receipt (Some pin)) =
     codes "receipt " ++ (decimal pin.stamp ++ (codes " " ++ decimal pin.moment))
-reply_text (replies.Aborted left) = codes "aborted"
-reply_text (replies.At stamp) = codes "at " ++ decimal stamp
-reply_text replies.Added = codes "added"
-reply_text replies.GivenBack = codes "given back"
-reply_text (replies.Retired stamps) = codes "retired " ++ decimal (length stamps.items)
-reply_text replies.Unpinned = codes "unpinned"
-reply_text (replies.Vacuumed horizon) = codes "horizon " ++ decimal horizon
-reply_text (replies.Rows found) = found_text found
-reply_text (replies.Advanced advanced) = advanced_text advanced
-reply_text (replies.Swept count) = codes "swept " ++ decimal count
-reply_text (replies.Refused refusal) = codes "refused " ++ refusal_text refusal
+world_reply_text (replies.Aborted left) = codes "aborted"
+world_reply_text (replies.At stamp) = codes "at " ++ decimal stamp
+world_reply_text replies.Added = codes "added"
+world_reply_text replies.GivenBack = codes "given back"
+world_reply_text (replies.Retired stamps) = codes "retired " ++ decimal (length stamps.items)
+world_reply_text replies.Unpinned = codes "unpinned"
+world_reply_text (replies.Vacuumed horizon) = codes "horizon " ++ decimal horizon
+world_reply_text (replies.Rows found) = found_text found
+world_reply_text (replies.Advanced advanced) = advanced_text advanced
+world_reply_text (replies.Swept count) = codes "swept " ++ decimal count
+world_reply_text (replies.Refused refusal) = codes "refused " ++ world_refusal_text refusal
 
 -- each after a blank
 abbrev pub stamps_text : List ℕ → List ℕ
@@ -168,7 +168,7 @@ stamps_text stamps = flat_map (λ s. codes " " ++ decimal s) stamps
 
 -- what is written of a line, without its end
 abbrev pub printed_text : Printed → List ℕ
-printed_text (Replied reply) = reply_text reply
+printed_text (Replied reply) = world_reply_text reply
 printed_text (Ended end) = end_text end
 printed_text (Members has_present stamps) =
     codes "pins" ++ ((if has_present then codes " *" else []) ++ stamps_text stamps.items)

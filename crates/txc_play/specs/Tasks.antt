@@ -107,53 +107,53 @@ abbrev pub AreBoundsWords : List (List ℕ) → Bounds → Type 0
 AreBoundsWords words b = (words ≡ bounds_words b) × AreBoundsInRange b
 
 -- what a line asks for that has this name and these words after it
-abbrev pub Says : LineName → List (List ℕ) → Task → Type 0
-Says names.Put words task =
+abbrev pub LineAsksFor : LineName → List (List ℕ) → Task → Type 0
+LineAsksFor names.Put words task =
     (change : Change) × AreChangeWords (codes "put" ∷ words) change × (task ≡ tasks.One (Keeper (keeps.Write change)))
-Says names.Remove words task =
+LineAsksFor names.Remove words task =
     (change : Change) × AreChangeWords (codes "remove" ∷ words) change
     × (task ≡ tasks.One (Keeper (keeps.Write change)))
-Says names.Pin words task =
+LineAsksFor names.Pin words task =
     (now : ℕ) × (words ≡ decimal now ∷ []) × (now ≤ LAST_MOMENT) × (task ≡ tasks.Pin now)
-Says names.Query words task =
+LineAsksFor names.Query words task =
     (stamp : ℕ) × (query : Query) × (words ≡ decimal stamp ∷ query_words query) × (stamp ≤ LAST_STAMP)
     × IsQueryInRange query × (task ≡ tasks.One (Keeper (keeps.Query stamp query)))
-Says names.Ro words task =
+LineAsksFor names.Ro words task =
     (actor : ℕ) × (b : Bounds) × AreAfterPlace words actor (bounds_words b) × AreBoundsInRange b
     × (task ≡ tasks.One (Actor actor (acts.BeginRo b)))
-Says names.Rw words task =
+LineAsksFor names.Rw words task =
     (actor : ℕ) × AreAfterPlace words actor [] × (task ≡ tasks.One (Actor actor acts.BeginRw))
-Says names.Session words task =
+LineAsksFor names.Session words task =
     (actor now staleness : ℕ) × AreAfterPlace words actor (decimal now ∷ decimal staleness ∷ [])
     × (now ≤ LAST_MOMENT) × (staleness ≤ LAST_MOMENT) × (task ≡ tasks.One (BeginIn actor now staleness))
-Says names.Call words task =
+LineAsksFor names.Call words task =
     (actor : ℕ) × (key : Call) × AreAfterPlace words actor (key_text key ∷ []) × IsKeyInRange key
     × (task ≡ tasks.One (Actor actor (acts.Start key)))
-Says names.Step words task =
+LineAsksFor names.Step words task =
     (actor : ℕ) × AreAfterPlace words actor [] × (task ≡ tasks.One (Actor actor acts.Request))
-Says names.Finish words task = (actor : ℕ) × AreAfterPlace words actor [] × (task ≡ tasks.Finish actor)
-Says names.Ask words task =
+LineAsksFor names.Finish words task = (actor : ℕ) × AreAfterPlace words actor [] × (task ≡ tasks.Finish actor)
+LineAsksFor names.Ask words task =
     (actor : ℕ) × (query : Query) × AreAfterPlace words actor (query_words query) × IsQueryInRange query
     × (task ≡ tasks.One (Actor actor (acts.Ask query)))
-Says names.Write words task =
+LineAsksFor names.Write words task =
     (actor : ℕ) × (change : Change) × AreAfterPlace words actor (change_words change) × IsChangeInRange change
     × (task ≡ tasks.One (Actor actor (acts.Write change)))
-Says names.Pins words task = (actor : ℕ) × AreAfterPlace words actor [] × (task ≡ tasks.Pins actor)
-Says names.Commit words task = (actor : ℕ) × AreAfterPlace words actor [] × (task ≡ tasks.Commit actor)
-Says names.Abort words task = (actor : ℕ) × AreAfterPlace words actor [] × (task ≡ tasks.Abort actor)
-Says names.Advance words task =
+LineAsksFor names.Pins words task = (actor : ℕ) × AreAfterPlace words actor [] × (task ≡ tasks.Pins actor)
+LineAsksFor names.Commit words task = (actor : ℕ) × AreAfterPlace words actor [] × (task ≡ tasks.Commit actor)
+LineAsksFor names.Abort words task = (actor : ℕ) × AreAfterPlace words actor [] × (task ≡ tasks.Abort actor)
+LineAsksFor names.Advance words task =
     (node : ℕ) × AreAfterPlace words node [] × (task ≡ tasks.One (Keeper (keeps.Advance node)))
-Says names.Sweep words task =
+LineAsksFor names.Sweep words task =
     (node horizon : ℕ) × AreAfterPlace words node (decimal horizon ∷ []) × (horizon ≤ LAST_STAMP)
     × (task ≡ tasks.One (Keeper (keeps.Sweep node horizon)))
-Says names.Tidy words task =
+LineAsksFor names.Tidy words task =
     (now age : ℕ) × (words ≡ decimal now ∷ decimal age ∷ []) × (now ≤ LAST_MOMENT) × (age ≤ LAST_MOMENT)
     × (task ≡ tasks.Tidy now age)
-Says names.Counts words task =
+LineAsksFor names.Counts words task =
     (node function : ℕ) × AreAfterPlace words node (decimal function ∷ []) × (function ≤ LAST_FUNCTION)
     × (task ≡ tasks.Counts node function)
 
 -- the line is a name and words that ask for this
 abbrev pub SpellsTask : List ℕ → Task → Type 0
 SpellsTask line task =
-    (name : LineName) × (words : List (List ℕ)) × (words_of line ≡ name_text name ∷ words) × Says name words task
+    (name : LineName) × (words : List (List ℕ)) × (words_of line ≡ name_text name ∷ words) × LineAsksFor name words task

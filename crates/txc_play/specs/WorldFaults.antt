@@ -27,8 +27,8 @@ abbrev pub table : WordKind
 table = Number LAST_TABLE
 
 -- an id or a group
-abbrev pub number : WordKind
-number = Number LAST_NUMBER
+abbrev pub number_word : WordKind
+number_word = Number LAST_NUMBER
 
 -- a moment, or a time
 abbrev pub moment : WordKind
@@ -39,14 +39,14 @@ function = Number LAST_FUNCTION
 
 -- a table, and an id or a group
 abbrev pub pair_kinds : List WordKind
-pair_kinds = table ∷ number ∷ []
+pair_kinds = table ∷ number_word ∷ []
 
 -- a table, and the first and the last of some ids
 abbrev pub range_kinds : List WordKind
-range_kinds = table ∷ number ∷ number ∷ []
+range_kinds = table ∷ number_word ∷ number_word ∷ []
 
 abbrev pub row_kinds : List WordKind
-row_kinds = table ∷ number ∷ number ∷ Text MAX_BODY_LEN ∷ []
+row_kinds = table ∷ number_word ∷ number_word ∷ Text MAX_BODY_LEN ∷ []
 
 -- a word of this kind, and a query of this name, if it is one
 abbrev pub query_line : WordKind → List ℕ → Option (List WordKind)

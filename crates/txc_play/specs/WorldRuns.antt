@@ -4,7 +4,7 @@ use Rattle.txc_settings.specs.declared.settings.Settings.{Settings}
 use Rattle.txc_app.specs.Eval.{Next}
 use Rattle.txc_world.specs.declared.settings.WorldSettings.{WorldSettings}
 use Rattle.txc_world.specs.Worlds.{WorldValue}
-use Rattle.txc_script.specs.Runs.{HasRun}
+use Rattle.txc_script.specs.Runs.{ScriptHasRun}
 use Rattle.txc_script.specs.declared.fault.RunFault.{RunFault}
 use Rattle.txc_script.specs.declared.fault.Status.{Status}
 use Rattle.txc_play.specs.TaskSteps.{HasGivenUp}
@@ -26,5 +26,5 @@ abbrev pub HasPlayed : Next → WorldValue → Option (List ℕ) → Option (Lis
     → Option (List ℕ) → Result Status RunFault → WorldValue → Type 0
 HasPlayed next start remaining_old remaining_new contents_old contents_new result left =
     (s : WorldValue)
-    × HasRun (world_script next) start remaining_old remaining_new contents_old contents_new result s
+    × ScriptHasRun (world_script next) start remaining_old remaining_new contents_old contents_new result s
     × HasGivenUp next s left

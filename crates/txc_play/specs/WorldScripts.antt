@@ -4,7 +4,7 @@ use Rattle.txc_app.specs.Eval.{Next}
 use Rattle.txc_script.specs.Kinds.{ScriptKind, no_closing}
 use Rattle.txc_world.specs.Worlds.{WorldValue}
 use Rattle.txc_play.specs.Tasks.{SpellsTask}
-use Rattle.txc_play.specs.TaskSteps.{HasBegun, IsDone}
+use Rattle.txc_play.specs.TaskSteps.{TaskHasBegun, TaskIsDone}
 use Rattle.txc_play.specs.TaskTexts.{printed_text, is_refused_line}
 use Rattle.txc_play.specs.WorldFaults.{IsWorldFault}
 use Rattle.txc_play.specs.declared.printed.Printed.{Printed}
@@ -13,14 +13,14 @@ use Rattle.txc_play.specs.declared.task.Task.{Task}
 -- nothing was done of what a line asks for, or the first steps were taken, or all of them
 abbrev pub BreaksOffTask : Next → WorldValue → List ℕ → WorldValue → Type 0
 BreaksOffTask next s line end =
-    (end ≡ s) ⊎ ((task : Task) × SpellsTask line task × HasBegun next s task end)
+    (end ≡ s) ⊎ ((task : Task) × SpellsTask line task × TaskHasBegun next s task end)
 
 -- A script of a world's lines, whose functions compute this: what a line asks for is done by steps, and
 -- nothing comes after all lines.
 abbrev pub world_script : Next → ScriptKind WorldValue Task Printed
 world_script next = record {
   asks = λ s. SpellsTask;
-  does = IsDone next;
+  does = TaskIsDone next;
   breaks_off = BreaksOffTask next;
   text = λ printed. printed_text printed ++ 10 ∷ [];
   is_refused = is_refused_line;

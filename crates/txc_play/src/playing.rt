@@ -1,6 +1,6 @@
 //! The steps that a line of a world's script stands for.
 ghost use Rattle.std.specs.Prelude.{◌≡◌, map, All, IfOk, OnErr};
-ghost use Rattle.txc_play.specs.TaskSteps.{DoesCounts, DoesPins, HasBegun, HasGivenUp, IsDone, IsTaken};
+ghost use Rattle.txc_play.specs.TaskSteps.{DoesCounts, DoesPins, HasGivenUp, IsTaken, TaskHasBegun, TaskIsDone};
 ghost use Rattle.txc_world.specs.Told.{idle};
 ghost use Rattle.txc_play.specs.Playing.{HasEndedTxn, HasUnpinned, IsCutShort};
 
@@ -25,7 +25,7 @@ fn take<A: App, C: Cacheable>(alloc: Global, world: &mut World<A, C>, step: Step
 /// The keeper pins the present and adds the pin, which no transaction uses then; where it is not added, its
 /// hold is taken away.
 fn pin_present<A: App, C: Cacheable>(alloc: Global, world: &mut World<A, C>, now: u64) -> Reply
-    ensures { IsDone A.next world.old (Task.Pin now) (Printed.Replied result) world.new }
+    ensures { TaskIsDone A.next world.old (Task.Pin now) (Printed.Replied result) world.new }
 {
     let pinned = take(alloc, world, Step::Keeper(Keep::Pin(now)));
     let Some(stamp) = stamp_in(&pinned) else {
@@ -47,8 +47,8 @@ fn finish_call<A: App, C: Cacheable>(
     actor: usize,
 ) -> Result<Printed, AllocError>
     ensures after { IfOk result (λ printed.
-        IsDone A.next world.old (Task.Finish actor) printed world.new) }
-    ensures broke { OnErr result (HasBegun A.next world.old (Task.Finish actor) world.new) }
+        TaskIsDone A.next world.old (Task.Finish actor) printed world.new) }
+    ensures broke { OnErr result (TaskHasBegun A.next world.old (Task.Finish actor) world.new) }
 {
     for _ in 0..u64::MAX {
         let reply = take(alloc, world, Step::Actor(actor, Act::Request));
@@ -103,7 +103,7 @@ fn tidy_up<A: App, C: Cacheable>(
     now: u64,
     age: u64,
 ) -> Printed
-    ensures { IsDone A.next world.old (Task.Tidy now age) result world.new }
+    ensures { TaskIsDone A.next world.old (Task.Tidy now age) result world.new }
 {
     let reply = take(alloc, world, Step::Keeper(Keep::Retire { now, age }));
     match taken_out(reply) {
@@ -160,7 +160,7 @@ pub fn play<A: App, C: Cacheable>(
     world: &mut World<A, C>,
     task: Task,
 ) -> Result<Printed, AllocError>
-    ensures after { IfOk result (λ printed. IsDone A.next world.old task printed world.new) }
+    ensures after { IfOk result (λ printed. TaskIsDone A.next world.old task printed world.new) }
     ensures broke { OnErr result (IsCutShort A.next world.old task world.new) }
 {
     match task {

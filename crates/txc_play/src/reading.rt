@@ -2,7 +2,7 @@
 ghost use Rattle.std.specs.Prelude.{◌≡◌, ◌≤◌, ℕ, List, [], ◌∷◌, IfOk, IfErr};
 ghost use Rattle.std.specs.Fmt.{decimal};
 ghost use Rattle.txc_script.specs.Words.{words_of};
-ghost use Rattle.txc_play.specs.Tasks.{name_text, AreAfterPlace, Says, SpellsTask};
+ghost use Rattle.txc_play.specs.Tasks.{name_text, AreAfterPlace, LineAsksFor, SpellsTask};
 ghost use Rattle.txc_script.specs.Unread.{IsNone};
 ghost use Rattle.txc_play.specs.TaskReading.{IsKeeperChange};
 ghost use Rattle.txc_play.specs.declared.task.Task.{Task};
@@ -44,8 +44,8 @@ fn read_actor(text: &[u8]) -> Result<(usize, &[u8]), Malformed>
 
 /// `query`, by what comes after its name.
 fn read_keeper_query(text: &[u8]) -> Result<Task, Malformed>
-    ensures answer { IfOk result (Says LineName.Query (words_of text.now)) }
-    ensures refused { IfErr result (λ _. (task : Task) → Says LineName.Query (words_of text.now) task → ⊥) }
+    ensures answer { IfOk result (LineAsksFor LineName.Query (words_of text.now)) }
+    ensures refused { IfErr result (λ _. (task : Task) → LineAsksFor LineName.Query (words_of text.now) task → ⊥) }
 {
     let Some((stamp, text)) = first_word(text) else {
         return Err(Malformed);
@@ -57,8 +57,8 @@ fn read_keeper_query(text: &[u8]) -> Result<Task, Malformed>
 
 /// `ro`, by what comes after its name.
 fn read_ro(text: &[u8]) -> Result<Task, Malformed>
-    ensures answer { IfOk result (Says LineName.Ro (words_of text.now)) }
-    ensures refused { IfErr result (λ _. (task : Task) → Says LineName.Ro (words_of text.now) task → ⊥) }
+    ensures answer { IfOk result (LineAsksFor LineName.Ro (words_of text.now)) }
+    ensures refused { IfErr result (λ _. (task : Task) → LineAsksFor LineName.Ro (words_of text.now) task → ⊥) }
 {
     let (actor, text) = read_actor(text)?;
     let bounds = read_bounds(text)?;
@@ -67,8 +67,8 @@ fn read_ro(text: &[u8]) -> Result<Task, Malformed>
 
 /// `session`, by what comes after its name.
 fn read_session(text: &[u8]) -> Result<Task, Malformed>
-    ensures answer { IfOk result (Says LineName.Session (words_of text.now)) }
-    ensures refused { IfErr result (λ _. (task : Task) → Says LineName.Session (words_of text.now) task → ⊥) }
+    ensures answer { IfOk result (LineAsksFor LineName.Session (words_of text.now)) }
+    ensures refused { IfErr result (λ _. (task : Task) → LineAsksFor LineName.Session (words_of text.now) task → ⊥) }
 {
     let (actor, now, staleness) = three_words(text)?;
     let actor = read_place(actor)?;
@@ -83,8 +83,8 @@ fn read_session(text: &[u8]) -> Result<Task, Malformed>
 
 /// `call`, by what comes after its name.
 fn read_call(text: &[u8]) -> Result<Task, Malformed>
-    ensures answer { IfOk result (Says LineName.Call (words_of text.now)) }
-    ensures refused { IfErr result (λ _. (task : Task) → Says LineName.Call (words_of text.now) task → ⊥) }
+    ensures answer { IfOk result (LineAsksFor LineName.Call (words_of text.now)) }
+    ensures refused { IfErr result (λ _. (task : Task) → LineAsksFor LineName.Call (words_of text.now) task → ⊥) }
 {
     let (actor, key) = two_words(text)?;
     let actor = read_place(actor)?;
@@ -94,8 +94,8 @@ fn read_call(text: &[u8]) -> Result<Task, Malformed>
 
 /// `ask`, by what comes after its name.
 fn read_ask(text: &[u8]) -> Result<Task, Malformed>
-    ensures answer { IfOk result (Says LineName.Ask (words_of text.now)) }
-    ensures refused { IfErr result (λ _. (task : Task) → Says LineName.Ask (words_of text.now) task → ⊥) }
+    ensures answer { IfOk result (LineAsksFor LineName.Ask (words_of text.now)) }
+    ensures refused { IfErr result (λ _. (task : Task) → LineAsksFor LineName.Ask (words_of text.now) task → ⊥) }
 {
     let (actor, text) = read_actor(text)?;
     let query = read_query(text)?;
@@ -104,8 +104,8 @@ fn read_ask(text: &[u8]) -> Result<Task, Malformed>
 
 /// `write`, by what comes after its name.
 fn read_write(alloc: Global, text: &[u8]) -> Result<Task, Unread>
-    ensures answer { IfOk result (Says LineName.Write (words_of text.now)) }
-    ensures refused { IfErr result (IsNone (Says LineName.Write (words_of text.now))) }
+    ensures answer { IfOk result (LineAsksFor LineName.Write (words_of text.now)) }
+    ensures refused { IfErr result (IsNone (LineAsksFor LineName.Write (words_of text.now))) }
 {
     let (actor, text) = read_actor(text)?;
     let change = read_change(alloc, text)?;
@@ -114,8 +114,8 @@ fn read_write(alloc: Global, text: &[u8]) -> Result<Task, Unread>
 
 /// `sweep`, by what comes after its name.
 fn read_sweep(text: &[u8]) -> Result<Task, Malformed>
-    ensures answer { IfOk result (Says LineName.Sweep (words_of text.now)) }
-    ensures refused { IfErr result (λ _. (task : Task) → Says LineName.Sweep (words_of text.now) task → ⊥) }
+    ensures answer { IfOk result (LineAsksFor LineName.Sweep (words_of text.now)) }
+    ensures refused { IfErr result (λ _. (task : Task) → LineAsksFor LineName.Sweep (words_of text.now) task → ⊥) }
 {
     let (node, horizon) = two_words(text)?;
     let node = read_place(node)?;
@@ -125,8 +125,8 @@ fn read_sweep(text: &[u8]) -> Result<Task, Malformed>
 
 /// `tidy`, by what comes after its name.
 fn read_tidy(text: &[u8]) -> Result<Task, Malformed>
-    ensures answer { IfOk result (Says LineName.Tidy (words_of text.now)) }
-    ensures refused { IfErr result (λ _. (task : Task) → Says LineName.Tidy (words_of text.now) task → ⊥) }
+    ensures answer { IfOk result (LineAsksFor LineName.Tidy (words_of text.now)) }
+    ensures refused { IfErr result (λ _. (task : Task) → LineAsksFor LineName.Tidy (words_of text.now) task → ⊥) }
 {
     let (now, age) = two_words(text)?;
     let now = read_moment(now)?;
@@ -136,8 +136,8 @@ fn read_tidy(text: &[u8]) -> Result<Task, Malformed>
 
 /// `counts`, by what comes after its name.
 fn read_counts(text: &[u8]) -> Result<Task, Malformed>
-    ensures answer { IfOk result (Says LineName.Counts (words_of text.now)) }
-    ensures refused { IfErr result (λ _. (task : Task) → Says LineName.Counts (words_of text.now) task → ⊥) }
+    ensures answer { IfOk result (LineAsksFor LineName.Counts (words_of text.now)) }
+    ensures refused { IfErr result (λ _. (task : Task) → LineAsksFor LineName.Counts (words_of text.now) task → ⊥) }
 {
     let (node, function) = two_words(text)?;
     let node = read_place(node)?;
@@ -157,8 +157,8 @@ fn read_keeper_change(alloc: Global, line: &[u8]) -> Result<Task, Unread>
 /// What the words after a line's name ask for.
 pub fn read_named(alloc: Global, name: LineName, line: &[u8], text: &[u8]) -> Result<Task, Unread>
     requires { words_of line.now ≡ name_text name ∷ words_of text.now }
-    ensures answer { IfOk result (Says name (words_of text.now)) }
-    ensures refused { IfErr result (IsNone (Says name (words_of text.now))) }
+    ensures answer { IfOk result (LineAsksFor name (words_of text.now)) }
+    ensures refused { IfErr result (IsNone (LineAsksFor name (words_of text.now))) }
 {
     match name {
         LineName::Put => read_keeper_change(alloc, line),

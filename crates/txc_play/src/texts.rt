@@ -114,9 +114,9 @@ struct OfAdd<'a>(&'a AddError);
 
 impl fmt::Display for OfAdd<'_> {
     ghost use Rattle.std.specs.Prelude.{Some};
-    ghost use Rattle.txc_play.specs.TaskTexts.{add_text};
+    ghost use Rattle.txc_play.specs.TaskTexts.{add_error_text};
 
-    ghost output = { λ e. Some (add_text e.0.now) };
+    ghost output = { λ e. Some (add_error_text e.0.now) };
 
     fn fmt<W: fmt::Write>(&self, f: &mut fmt::Formatter<W>) -> fmt::Result {
         match self.0 {
@@ -152,9 +152,9 @@ struct OfRefusal<'a>(&'a Refusal);
 
 impl fmt::Display for OfRefusal<'_> {
     ghost use Rattle.std.specs.Prelude.{Some};
-    ghost use Rattle.txc_play.specs.TaskTexts.{refusal_text};
+    ghost use Rattle.txc_play.specs.TaskTexts.{world_refusal_text};
 
-    ghost output = { λ e. Some (refusal_text e.0.now) };
+    ghost output = { λ e. Some (world_refusal_text e.0.now) };
 
     fn fmt<W: fmt::Write>(&self, f: &mut fmt::Formatter<W>) -> fmt::Result {
         match self.0 {
@@ -341,9 +341,9 @@ struct Replying<'a>(&'a Reply);
 
 impl fmt::Display for Replying<'_> {
     ghost use Rattle.std.specs.Prelude.{Some};
-    ghost use Rattle.txc_play.specs.TaskTexts.{reply_text};
+    ghost use Rattle.txc_play.specs.TaskTexts.{world_reply_text};
 
-    ghost output = { λ r. Some (reply_text r.0.now) };
+    ghost output = { λ r. Some (world_reply_text r.0.now) };
 
     fn fmt<W: fmt::Write>(&self, f: &mut fmt::Formatter<W>) -> fmt::Result {
         match self.0 {

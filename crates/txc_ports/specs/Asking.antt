@@ -15,7 +15,7 @@ use Rattle.txc_ports.specs.declared.turn.Turn.{Turn}
 use Rattle.txc_ports.specs.declared.turn.Turn.TheVariants as turns
 use Rattle.txc_ports.specs.Exchanges.{Exchange, IsExchange}
 use Rattle.txc_ports.specs.Exchanges as exchanges
-use Rattle.txc_ports.specs.Fronts.{front_of}
+use Rattle.txc_ports.specs.Fronts.{front_of_reply}
 
 -- what may be asked of ports with so many nodes: to add a pin of the row, what a node that there is has, and to
 -- keep only an entry that is true in the history
@@ -55,4 +55,4 @@ AddsSuch P turn = Unit {0}
 
 -- what the reply shows is of the row
 abbrev pub IsOfRow : List ℕ → PortReply → Type 0
-IsOfRow row reply = ForSome (front_of reply) (λ front. front.events ≡ row)
+IsOfRow row reply = ForSome (front_of_reply reply) (λ front. front.events ≡ row)

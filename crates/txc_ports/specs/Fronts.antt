@@ -5,9 +5,9 @@ use Rattle.txc_ports.specs.declared.reply.PortReply.{PortReply}
 use Rattle.txc_ports.specs.declared.reply.PortReply.TheVariants.{Pin, AddPin, Lookup, Query}
 
 -- the front beside what a port answered; none where it answered nothing that a history shows
-abbrev pub front_of : PortReply → Option FrontValue
-front_of (Pin (Ok pinned)) = Some pinned.front
-front_of (AddPin pinned added) = Some pinned.front
-front_of (Lookup (Some hit)) = Some hit.front
-front_of (Query (Ok found)) = Some found.front
-front_of reply = None
+abbrev pub front_of_reply : PortReply → Option FrontValue
+front_of_reply (Pin (Ok pinned)) = Some pinned.front
+front_of_reply (AddPin pinned added) = Some pinned.front
+front_of_reply (Lookup (Some hit)) = Some hit.front
+front_of_reply (Query (Ok found)) = Some found.front
+front_of_reply reply = None

@@ -23,12 +23,12 @@ pub enum PortReply {
 }
 
 impl PortReply {
-    ghost use Rattle.txc_ports.specs.Fronts.{front_of};
+    ghost use Rattle.txc_ports.specs.Fronts.{front_of_reply};
 
     /// What it shows of the history, if it shows any.
     pub fn front(&self) -> Option<&HistoryFront>
-        ensures { MatchOption result (front_of self.now ≡ None)
-            (λ front. front_of self.now ≡ Some front.now) }
+        ensures { MatchOption result (front_of_reply self.now ≡ None)
+            (λ front. front_of_reply self.now ≡ Some front.now) }
     {
         match self {
             PortReply::Pin(Ok(pinned)) => Some(&pinned.front),

@@ -16,11 +16,11 @@ use Rattle.txc_rows.specs.declared.query.Query.{Query}
 use Rattle.txc_rows.specs.declared.texts.TheConstants.{MOST_READ}
 use Rattle.txc_rows.specs.States.{query_table}
 use Rattle.txc_rows.specs.Versions.{suits}
-use Rattle.txc_rows.specs.Holdable.{IsHoldable}
+use Rattle.txc_rows.specs.Holdable.{IsStorable}
 use Rattle.txc_rows.specs.Placed.{Placed, version_of, is_left, left_from}
 use Rattle.txc_rows.specs.Kept.{IsShown, IsListing}
 use Rattle.txc_rows.specs.Texts.{version_schema}
-use Rattle.txc_rows.specs.Stored.{stored, placed_in, placed_all, shown, version_shown, IsStored, AreStored}
+use Rattle.txc_rows.specs.Stored.{stored, placed_in, placed_all, queried_columns, version_shown, IsStored, AreVersionRows}
 use Rattle.txc_rows.proofs.Members.{both_true}
 use Rattle.txc_rows.proofs.Commands.{alone, shown_columns, most_shown, listed, shown_names, IsListingOf}
 use Rattle.txc_rows.proofs.StoredRows.{select_stored, is_asked, shown_again, answered, IsPage}
@@ -28,13 +28,13 @@ use Rattle.txc_rows.proofs.Finding.{of_its_table}
 
 -- what the query shows, by no order
 abbrev out : Versioned → Output
-out v = ([], shown v)
+out v = ([], queried_columns v)
 
 -- some of the versions that pass, at most so many
 pub record Lists (passes : Versioned → Bool) (most : ℕ) (versions : List Versioned) (rows : List Row) : Type 0 where
   pub found : List Versioned
   pub same : IsPermutation (filter passes versions) found
-  pub rows_are : rows ≡ take most (map shown found)
+  pub rows_are : rows ≡ take most (map queried_columns found)
 
 module _ (tree : ℕ) (fs : List Term) (params : Row) where
   outputs : (rows : List Row) → AllByRecursion IsStored rows → (p : Row → Bool)
@@ -49,18 +49,18 @@ module _ (tree : ℕ) (fs : List Term) (params : Row) where
   passed P table = ap (map version_of) (sym (filter-map (λ x. P (version_of x)) placed_in table)) ∙ sym (filter-map P version_of (placed_all table))
 
   lists_page : (P : Versioned → Bool) (most : ℕ) → ((id : ℤ) (x : Placed) → list_all (holds (params ∷ stored id x ∷ [])) fs ≡ P (version_of x)) → as_count (eval most_shown (params ∷ [])) ≡ Some most
-      → (table rows : List Row) → AreStored table → IsPage tree [] fs shown_columns [] most_shown params table rows → Lists P most (map version_of (placed_all table)) rows
+      → (table rows : List Row) → AreVersionRows table → IsPage tree [] fs shown_columns [] most_shown params table rows → Lists P most (map version_of (placed_all table)) rows
   lists_page P most test limit table rows keeps page =
       let chosen = select_stored _ (λ x. P (version_of x)) test table keeps.each in
       let moved : IsPermutation (map out (filter P (map version_of (placed_all table)))) page.ordered =
       subst (λ xs. IsPermutation xs page.ordered) (outputs table keeps.each _ ∙ ap (map out) (passed P table))
       (subst (λ xs. IsPermutation (map (λ r. output (listed tree fs) (params ∷ r ∷ [])) xs) page.ordered) chosen page.same) in
       let back = pull_back out _ page.ordered moved (filter P (map version_of (placed_all table))) refl in
-      let all : map (λ (o : Output). o.1) page.ordered ≡ map shown back.0 = ap (map (λ (o : Output). o.1)) back.2 ∙ map-map (λ (o : Output). o.1) out back.0 in
+      let all : map (λ (o : Output). o.1) page.ordered ≡ map queried_columns back.0 = ap (map (λ (o : Output). o.1)) back.2 ∙ map-map (λ (o : Output). o.1) out back.0 in
       record { found = back.0; same = back.1; rows_are = page.rows ∙ ap (λ n. limited n (map (λ (o : Output). o.1) page.ordered)) limit ∙ ap (take most) all }
 
   pub selects : (text : List ℕ) (P : Versioned → Bool) (most : ℕ) → ((id : ℤ) (x : Placed) → list_all (holds (params ∷ stored id x ∷ [])) fs ≡ P (version_of x)) → as_count (eval most_shown (params ∷ [])) ≡ Some most
-      → IsListingOf tree fs text → (old new : State) (rows : List Row) → overlay old.now.trees [] tree ≡ old.now.trees tree → old.now.schema ≡ version_schema → AreStored (old.now.trees tree) → Shown text params old new rows
+      → IsListingOf tree fs text → (old new : State) (rows : List Row) → overlay old.now.trees [] tree ≡ old.now.trees tree → old.now.schema ≡ version_schema → AreVersionRows (old.now.trees tree) → Shown text params old new rows
       → Lists P most (map version_of (placed_all (old.now.trees tree))) rows
   selects text P most test limit is old new rows own has keeps h =
       let read = reads_as text params old new version_schema has (Select (alone (listed tree fs)) shown_names) is.command is.plain is.rows rows h in
@@ -68,19 +68,19 @@ module _ (tree : ℕ) (fs : List Term) (params : Row) where
       lists_page P most test limit (old.now.trees tree) rows keeps (subst (λ table. IsPage tree [] fs shown_columns [] most_shown params table rows) own page)
 
 -- what is shown is read back
-read_back : (t : ℕ) (vs : List Versioned) → AllByRecursion (λ v. (v.row.table ≡ t) × IsHoldable v) vs → (map (version_shown t) (map shown vs) ≡ vs) × AllByRecursion (IsShown t) (map shown vs)
+read_back : (t : ℕ) (vs : List Versioned) → AllByRecursion (λ v. (v.row.table ≡ t) × IsStorable v) vs → (map (version_shown t) (map queried_columns vs) ≡ vs) × AllByRecursion (IsShown t) (map queried_columns vs)
 read_back t [] all = (refl, tt)
 read_back t (v ∷ vs) all =
-    let one : version_shown t (shown v) ≡ v = subst (λ x. version_shown x (shown v) ≡ v) all.0.0 (shown_again v) in
+    let one : version_shown t (queried_columns v) ≡ v = subst (λ x. version_shown x (queried_columns v) ≡ v) all.0.0 (shown_again v) in
     let more = read_back t vs all.1 in
-    (rw (one, more.0) refl, (record { is = ap shown (sym one); version = subst IsHoldable (sym one) all.0.1 }, more.1))
+    (rw (one, more.0) refl, (record { is = ap queried_columns (sym one); version = subst IsStorable (sym one) all.0.1 }, more.1))
 
-of_table : (q : Query) (from : ℕ) (vs : List Versioned) → AllByRecursion IsHoldable vs → AllByRecursion (λ v. (v.row.table ≡ query_table q) × IsHoldable v) (filter (is_asked q from) vs)
+of_table : (q : Query) (from : ℕ) (vs : List Versioned) → AllByRecursion IsStorable vs → AllByRecursion (λ v. (v.row.table ≡ query_table q) × IsStorable v) (filter (is_asked q from) vs)
 of_table q from [] all = tt
 of_table q from (v ∷ vs) all = go (is_asked q from v) refl (of_table q from vs all.1)
   where
-    go : (b : Bool) → is_asked q from v ≡ b → AllByRecursion (λ w. (w.row.table ≡ query_table q) × IsHoldable w) (filter (is_asked q from) vs)
-        → AllByRecursion (λ w. (w.row.table ≡ query_table q) × IsHoldable w) (cond b (v ∷ filter (is_asked q from) vs) (filter (is_asked q from) vs))
+    go : (b : Bool) → is_asked q from v ≡ b → AllByRecursion (λ w. (w.row.table ≡ query_table q) × IsStorable w) (filter (is_asked q from) vs)
+        → AllByRecursion (λ w. (w.row.table ≡ query_table q) × IsStorable w) (cond b (v ∷ filter (is_asked q from) vs) (filter (is_asked q from) vs))
     go true e more = ((of_its_table q v (both_true (suits q v) (is_left from v) e).0, all.0), more)
     go false e more = more
 
@@ -100,13 +100,13 @@ all_first P zero xs all = tt
 all_first P (suc n) [] all = tt
 all_first P (suc n) (x ∷ xs) all = (all.0, all_first P n xs all.1)
 
-pub listing : (q : Query) (from : ℕ) (placed : List Placed) (rows : List Row) → AllByRecursion (λ x. IsHoldable x.version) placed → Lists (is_asked q from) MOST_READ (map version_of placed) rows
+pub listing : (q : Query) (from : ℕ) (placed : List Placed) (rows : List Row) → AllByRecursion (λ x. IsStorable x.version) placed → Lists (is_asked q from) MOST_READ (map version_of placed) rows
     → IsListing q (left_from from (map version_of placed)) rows
 listing q from placed rows each h =
     let t = query_table q in
     let vs = map version_of placed in
-    let all = all-permutation _ (filter (is_asked q from) vs) h.found h.same (of_table q from vs (all-map IsHoldable version_of placed each)) in
-    let first : rows ≡ map shown (take MOST_READ h.found) = h.rows_are ∙ take-map shown MOST_READ h.found in
+    let all = all-permutation _ (filter (is_asked q from) vs) h.found h.same (of_table q from vs (all-map IsStorable version_of placed each)) in
+    let first : rows ≡ map queried_columns (take MOST_READ h.found) = h.rows_are ∙ take-map queried_columns MOST_READ h.found in
     let back = read_back t (take MOST_READ h.found) (all_first _ MOST_READ h.found all) in
     let kept : IsPermutation (filter (suits q) (left_from from vs)) h.found = rw (asked_left q from vs) h.same in
     record {

@@ -6,12 +6,12 @@ use Rattle.sqlite_trees.specs.declared.memory.MemStore.{MemStore}
 use Rattle.txc_stamp.specs.declared.stamp.TheConstants.{LAST_STAMP}
 use Rattle.txc_rows.specs.Values.{RowValue, IsRow}
 use Rattle.txc_rows.specs.Versions.{removed, put}
-use Rattle.txc_rows.specs.Placed.{closed_placed, put_latest, put_dead, Placed, has_key, new_placed, renewed, version_of, AreBelow, AreApart, AreWritten, HaveOwnPlaces}
+use Rattle.txc_rows.specs.Placed.{closed_placed, put_latest, put_dead, Placed, has_key, new_placed, renewed, version_of, AreBelow, AreWellPlaced, AreWritten, HaveOwnPlaces}
 use Rattle.std.specs.List.Sorted.{IsPermutation}
 use Rattle.std.proofs.lemmas.List.Sorted.{IsPermutation-trans, IsPermutation-append_right}
 use Rattle.sqlite_trees.proofs.ListLemmas.{all-append, all-permutation}
 use Rattle.txc_rows.specs.declared.version.Versioned.{Versioned}
-use Rattle.txc_rows.specs.Holdable.{IsHoldable}
+use Rattle.txc_rows.specs.Holdable.{IsStorable}
 use Rattle.txc_rows.proofs.PlaceLemmas.{own_places_permuted, by_place_same}
 use Rattle.sqlite.specs.declared.error.Error.{Error}
 use Rattle.txc_rows.specs.Kept.{IsStep, latest_in, dead_in, placed_of, versions_of, HasVersions, HasWritten}
@@ -19,14 +19,14 @@ use Rattle.txc_rows.proofs.PutLemmas.{all_front, all_back, HasNoCurrent, ended_a
 
 -- ---- the dead in any order
 
-pub apart_permuted : (latest dead others : List Placed) → IsPermutation dead others → AreApart latest dead → AreApart latest others
+pub apart_permuted : (latest dead others : List Placed) → IsPermutation dead others → AreWellPlaced latest dead → AreWellPlaced latest others
 apart_permuted latest dead others same h = record {
   places = own_places_permuted _ _ (IsPermutation-append_right latest _ _ same) h.places;
   keys = h.keys;
   current = h.current;
   ended = all-permutation (λ x. x.version.died ≢ None) dead others same h.ended;
-  each = all-append (λ x. IsHoldable x.version) latest others (all_front (λ x. IsHoldable x.version) latest dead h.each)
-      (all-permutation (λ x. IsHoldable x.version) dead others same (all_back (λ x. IsHoldable x.version) latest dead h.each));
+  each = all-append (λ x. IsStorable x.version) latest others (all_front (λ x. IsStorable x.version) latest dead h.each)
+      (all-permutation (λ x. IsStorable x.version) dead others same (all_back (λ x. IsStorable x.version) latest dead h.each));
 }
 
 pub written_permuted : (versions : List Versioned) (next : ℕ) (xs ys : List Placed) → IsPermutation xs ys → HaveOwnPlaces xs → AreWritten versions next xs → AreWritten versions next ys
@@ -39,10 +39,10 @@ module _ (latest dead : List Placed) (h : Held MemStore) (has : HasVersions late
   placed_permuted : IsPermutation (latest ++ dead) (placed_of h)
   placed_permuted = rw has.latest_are (IsPermutation-append_right latest _ _ has.dead_are)
 
-  pub has_apart : AreApart latest dead → AreApart (latest_in h) (dead_in h)
+  pub has_apart : AreWellPlaced latest dead → AreWellPlaced (latest_in h) (dead_in h)
   has_apart apart = rw has.latest_are (apart_permuted latest dead (dead_in h) has.dead_are apart)
 
-  pub has_written : (versions : List Versioned) (next : ℕ) → AreApart latest dead → AreWritten versions next (latest ++ dead) → AreWritten versions next (placed_of h)
+  pub has_written : (versions : List Versioned) (next : ℕ) → AreWellPlaced latest dead → AreWritten versions next (latest ++ dead) → AreWritten versions next (placed_of h)
   has_written versions next apart written = written_permuted versions next (latest ++ dead) (placed_of h) placed_permuted apart.places written
 
   pub has_below : (next : ℕ) → AreBelow next (latest ++ dead) → AreBelow next (placed_of h)
@@ -50,12 +50,12 @@ module _ (latest dead : List Placed) (h : Held MemStore) (has : HasVersions late
 
 -- ---- the statements of one change
 
-module _ (old mid : Held MemStore) (t i s place : ℕ) (low : s ≤ LAST_STAMP) (apart : AreApart (latest_in old) (dead_in old)) (below : AreBelow place (placed_of old))
+module _ (old mid : Held MemStore) (t i s place : ℕ) (low : s ≤ LAST_STAMP) (apart : AreWellPlaced (latest_in old) (dead_in old)) (below : AreBelow place (placed_of old))
     (has : HasVersions (map (closed_placed t i s) (latest_in old)) (dead_in old) mid) where
-  ended : AreApart (map (closed_placed t i s) (latest_in old)) (dead_in old)
+  ended : AreWellPlaced (map (closed_placed t i s) (latest_in old)) (dead_in old)
   ended = ended_apart t i s low (latest_in old) (dead_in old) apart
 
-  pub ended_is_apart : AreApart (latest_in mid) (dead_in mid)
+  pub ended_is_apart : AreWellPlaced (latest_in mid) (dead_in mid)
   ended_is_apart = has_apart _ _ mid has ended
 
   pub removed_step : HasWritten (removed t i s (versions_of old)) (place + 1) mid
@@ -65,7 +65,7 @@ module _ (old mid : Held MemStore) (t i s place : ℕ) (low : s ≤ LAST_STAMP) 
     written = has_written _ _ mid has _ _ ended (removed_written t i s place low (latest_in old) (dead_in old) apart below);
   }
 
-module _ (old mid end : Held MemStore) (row : RowValue) (s place : ℕ) (low : s ≤ LAST_STAMP) (is : IsRow row) (apart : AreApart (latest_in old) (dead_in old)) (below : AreBelow place (placed_of old))
+module _ (old mid end : Held MemStore) (row : RowValue) (s place : ℕ) (low : s ≤ LAST_STAMP) (is : IsRow row) (apart : AreWellPlaced (latest_in old) (dead_in old)) (below : AreBelow place (placed_of old))
     (has : HasVersions (map (closed_placed row.table row.id s) (latest_in old)) (dead_in old) mid)
     (puts : HasVersions (put_latest place row s (latest_in mid)) (put_dead row (latest_in mid) (dead_in mid)) end) where
   before : HasWritten (removed row.table row.id s (versions_of old)) (place + 1) mid

@@ -20,7 +20,7 @@ use Rattle.txc_rows.specs.declared.texts.Segment.TheVariants.{First, Second, Thi
 use Rattle.txc_rows.specs.declared.texts.Source.{Source}
 use Rattle.txc_rows.specs.declared.texts.Source.TheVariants.{Latest, Dead}
 use Rattle.txc_rows.specs.Readings.{tree_read, table_text, row_text, group_text, range_text, left_text}
-use Rattle.txc_rows.specs.Texts.{no_schema, latest_table, latest_schema, version_schema, place_of, segment_table, schema_before, schema_to, add_text, copy_text, make_text, drop_text}
+use Rattle.txc_rows.specs.Texts.{no_schema, latest_table, latest_schema, version_schema, segment_place, segment_table, schema_before, schema_to, add_text, copy_text, make_text, drop_text}
 
 -- ---- rows that are given
 
@@ -35,7 +35,7 @@ pub add_latest_plain : IsPlain (understood version_schema ADD_LATEST.now)
 unfolding understood everything
 add_latest_plain = (refl, refl)
 
-pub add_segment_is : (s : Segment) → command_of (understood version_schema (add_text s)) ≡ Insert (place_of s) (Values terms 8)
+pub add_segment_is : (s : Segment) → command_of (understood version_schema (add_text s)) ≡ Insert (segment_place s) (Values terms 8)
 unfolding understood everything
 add_segment_is First = refl
 add_segment_is Second = refl
@@ -101,7 +101,7 @@ cells_project = col 1 1 ∷ col 1 2 ∷ col 1 3 ∷ col 1 4 ∷ col 1 5 ∷ col 
 abbrev pub copy_query : Query
 copy_query = record (whole 0 key_filter (lit Null ∷ cells_project)) { collations = Binary ∷ Binary ∷ Binary ∷ Binary ∷ Binary ∷ Binary ∷ Binary ∷ Binary ∷ [] }
 
-pub copy_is : (s : Segment) → command_of (understood version_schema (copy_text s)) ≡ Insert (place_of s) (source.Query (alone copy_query))
+pub copy_is : (s : Segment) → command_of (understood version_schema (copy_text s)) ≡ Insert (segment_place s) (source.Query (alone copy_query))
 unfolding understood everything
 copy_is First = refl
 copy_is Second = refl
@@ -287,7 +287,7 @@ make_plain Fifth = (refl, refl)
 make_plain Sixth = (refl, refl)
 make_plain Seventh = (refl, refl)
 
-pub drop_is : (s : Segment) → command_of (understood (schema_to s) (drop_text s)) ≡ DropTable (place_of s)
+pub drop_is : (s : Segment) → command_of (understood (schema_to s) (drop_text s)) ≡ DropTable (segment_place s)
 unfolding understood everything
 drop_is First = refl
 drop_is Second = refl

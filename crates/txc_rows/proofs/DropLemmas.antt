@@ -12,8 +12,8 @@ use Rattle.sqlite.proofs.Callers.{statement_of, runs_as}
 use Rattle.sqlite_trees.specs.declared.memory.MemStore.{MemStore}
 use Rattle.txc_rows.specs.declared.texts.Segment.{Segment}
 use Rattle.txc_rows.specs.declared.texts.Segment.TheVariants.{First, Second, Third, Fourth, Fifth, Sixth, Seventh}
-use Rattle.txc_rows.specs.Texts.{latest_schema, schema_before, schema_to, place_of, drop_text}
-use Rattle.txc_rows.specs.Stored.{placed_all, AreStored}
+use Rattle.txc_rows.specs.Texts.{latest_schema, schema_before, schema_to, segment_place, drop_text}
+use Rattle.txc_rows.specs.Stored.{placed_all, AreVersionRows}
 use Rattle.txc_rows.specs.declared.texts.TheConstants.{DROP_LATEST}
 use Rattle.txc_rows.specs.Kept.{latest_in, HasNoTable, HasLatest}
 use Rattle.txc_rows.proofs.Commands.{drop_is, drop_plain, drop_latest_is, drop_latest_plain}
@@ -21,9 +21,9 @@ use Rattle.txc_rows.proofs.Steps.{went, same_value}
 
 pub drops_table : (s : Segment) (old new : State) (count : ℕ) → old.now.schema ≡ schema_to s → Executes (drop_text s) [] old new (Ok count) → (new.now.schema ≡ schema_before s) × (new.now.trees 0 ≡ old.now.trees 0)
 drops_table First old new count has h =
-    let w = runs_as (drop_text First) [] old new (schema_to First) has (DropTable (place_of First)) (drop_is First) (drop_plain First) count h in
+    let w = runs_as (drop_text First) [] old new (schema_to First) has (DropTable (segment_place First)) (drop_is First) (drop_plain First) count h in
     let text = statement_of (drop_text First) (understood (schema_to First) (drop_text First)) in
-    let done = went (subst (λ c. Does old.step_limit (mode_of old) [] (record old.now { schema = c }) text None (DropTable (place_of First)) (Ok (w.tally, new.now))) has w.changed) in
+    let done = went (subst (λ c. Does old.step_limit (mode_of old) [] (record old.now { schema = c }) text None (DropTable (segment_place First)) (Ok (w.tally, new.now))) has w.changed) in
     let counted = went done.2 in
     let tested = went counted.2 in
     let left = went tested.2 in
@@ -31,9 +31,9 @@ drops_table First old new count has h =
     let before : counted.0 ≡ old.now.trees = same_value counted.1 ∙ same_value done.1 in
     (ap (λ (d : Database). d.schema) now ∙ left.1.0, ap (λ (d : Database). d.trees 0) now ∙ left.1.1.0 ∙ ap (λ (t : Trees). t 0) before)
 drops_table Second old new count has h =
-    let w = runs_as (drop_text Second) [] old new (schema_to Second) has (DropTable (place_of Second)) (drop_is Second) (drop_plain Second) count h in
+    let w = runs_as (drop_text Second) [] old new (schema_to Second) has (DropTable (segment_place Second)) (drop_is Second) (drop_plain Second) count h in
     let text = statement_of (drop_text Second) (understood (schema_to Second) (drop_text Second)) in
-    let done = went (subst (λ c. Does old.step_limit (mode_of old) [] (record old.now { schema = c }) text None (DropTable (place_of Second)) (Ok (w.tally, new.now))) has w.changed) in
+    let done = went (subst (λ c. Does old.step_limit (mode_of old) [] (record old.now { schema = c }) text None (DropTable (segment_place Second)) (Ok (w.tally, new.now))) has w.changed) in
     let counted = went done.2 in
     let tested = went counted.2 in
     let left = went tested.2 in
@@ -41,9 +41,9 @@ drops_table Second old new count has h =
     let before : counted.0 ≡ old.now.trees = same_value counted.1 ∙ same_value done.1 in
     (ap (λ (d : Database). d.schema) now ∙ left.1.0, ap (λ (d : Database). d.trees 0) now ∙ left.1.1.0 ∙ ap (λ (t : Trees). t 0) before)
 drops_table Third old new count has h =
-    let w = runs_as (drop_text Third) [] old new (schema_to Third) has (DropTable (place_of Third)) (drop_is Third) (drop_plain Third) count h in
+    let w = runs_as (drop_text Third) [] old new (schema_to Third) has (DropTable (segment_place Third)) (drop_is Third) (drop_plain Third) count h in
     let text = statement_of (drop_text Third) (understood (schema_to Third) (drop_text Third)) in
-    let done = went (subst (λ c. Does old.step_limit (mode_of old) [] (record old.now { schema = c }) text None (DropTable (place_of Third)) (Ok (w.tally, new.now))) has w.changed) in
+    let done = went (subst (λ c. Does old.step_limit (mode_of old) [] (record old.now { schema = c }) text None (DropTable (segment_place Third)) (Ok (w.tally, new.now))) has w.changed) in
     let counted = went done.2 in
     let tested = went counted.2 in
     let left = went tested.2 in
@@ -51,9 +51,9 @@ drops_table Third old new count has h =
     let before : counted.0 ≡ old.now.trees = same_value counted.1 ∙ same_value done.1 in
     (ap (λ (d : Database). d.schema) now ∙ left.1.0, ap (λ (d : Database). d.trees 0) now ∙ left.1.1.0 ∙ ap (λ (t : Trees). t 0) before)
 drops_table Fourth old new count has h =
-    let w = runs_as (drop_text Fourth) [] old new (schema_to Fourth) has (DropTable (place_of Fourth)) (drop_is Fourth) (drop_plain Fourth) count h in
+    let w = runs_as (drop_text Fourth) [] old new (schema_to Fourth) has (DropTable (segment_place Fourth)) (drop_is Fourth) (drop_plain Fourth) count h in
     let text = statement_of (drop_text Fourth) (understood (schema_to Fourth) (drop_text Fourth)) in
-    let done = went (subst (λ c. Does old.step_limit (mode_of old) [] (record old.now { schema = c }) text None (DropTable (place_of Fourth)) (Ok (w.tally, new.now))) has w.changed) in
+    let done = went (subst (λ c. Does old.step_limit (mode_of old) [] (record old.now { schema = c }) text None (DropTable (segment_place Fourth)) (Ok (w.tally, new.now))) has w.changed) in
     let counted = went done.2 in
     let tested = went counted.2 in
     let left = went tested.2 in
@@ -61,9 +61,9 @@ drops_table Fourth old new count has h =
     let before : counted.0 ≡ old.now.trees = same_value counted.1 ∙ same_value done.1 in
     (ap (λ (d : Database). d.schema) now ∙ left.1.0, ap (λ (d : Database). d.trees 0) now ∙ left.1.1.0 ∙ ap (λ (t : Trees). t 0) before)
 drops_table Fifth old new count has h =
-    let w = runs_as (drop_text Fifth) [] old new (schema_to Fifth) has (DropTable (place_of Fifth)) (drop_is Fifth) (drop_plain Fifth) count h in
+    let w = runs_as (drop_text Fifth) [] old new (schema_to Fifth) has (DropTable (segment_place Fifth)) (drop_is Fifth) (drop_plain Fifth) count h in
     let text = statement_of (drop_text Fifth) (understood (schema_to Fifth) (drop_text Fifth)) in
-    let done = went (subst (λ c. Does old.step_limit (mode_of old) [] (record old.now { schema = c }) text None (DropTable (place_of Fifth)) (Ok (w.tally, new.now))) has w.changed) in
+    let done = went (subst (λ c. Does old.step_limit (mode_of old) [] (record old.now { schema = c }) text None (DropTable (segment_place Fifth)) (Ok (w.tally, new.now))) has w.changed) in
     let counted = went done.2 in
     let tested = went counted.2 in
     let left = went tested.2 in
@@ -71,9 +71,9 @@ drops_table Fifth old new count has h =
     let before : counted.0 ≡ old.now.trees = same_value counted.1 ∙ same_value done.1 in
     (ap (λ (d : Database). d.schema) now ∙ left.1.0, ap (λ (d : Database). d.trees 0) now ∙ left.1.1.0 ∙ ap (λ (t : Trees). t 0) before)
 drops_table Sixth old new count has h =
-    let w = runs_as (drop_text Sixth) [] old new (schema_to Sixth) has (DropTable (place_of Sixth)) (drop_is Sixth) (drop_plain Sixth) count h in
+    let w = runs_as (drop_text Sixth) [] old new (schema_to Sixth) has (DropTable (segment_place Sixth)) (drop_is Sixth) (drop_plain Sixth) count h in
     let text = statement_of (drop_text Sixth) (understood (schema_to Sixth) (drop_text Sixth)) in
-    let done = went (subst (λ c. Does old.step_limit (mode_of old) [] (record old.now { schema = c }) text None (DropTable (place_of Sixth)) (Ok (w.tally, new.now))) has w.changed) in
+    let done = went (subst (λ c. Does old.step_limit (mode_of old) [] (record old.now { schema = c }) text None (DropTable (segment_place Sixth)) (Ok (w.tally, new.now))) has w.changed) in
     let counted = went done.2 in
     let tested = went counted.2 in
     let left = went tested.2 in
@@ -81,9 +81,9 @@ drops_table Sixth old new count has h =
     let before : counted.0 ≡ old.now.trees = same_value counted.1 ∙ same_value done.1 in
     (ap (λ (d : Database). d.schema) now ∙ left.1.0, ap (λ (d : Database). d.trees 0) now ∙ left.1.1.0 ∙ ap (λ (t : Trees). t 0) before)
 drops_table Seventh old new count has h =
-    let w = runs_as (drop_text Seventh) [] old new (schema_to Seventh) has (DropTable (place_of Seventh)) (drop_is Seventh) (drop_plain Seventh) count h in
+    let w = runs_as (drop_text Seventh) [] old new (schema_to Seventh) has (DropTable (segment_place Seventh)) (drop_is Seventh) (drop_plain Seventh) count h in
     let text = statement_of (drop_text Seventh) (understood (schema_to Seventh) (drop_text Seventh)) in
-    let done = went (subst (λ c. Does old.step_limit (mode_of old) [] (record old.now { schema = c }) text None (DropTable (place_of Seventh)) (Ok (w.tally, new.now))) has w.changed) in
+    let done = went (subst (λ c. Does old.step_limit (mode_of old) [] (record old.now { schema = c }) text None (DropTable (segment_place Seventh)) (Ok (w.tally, new.now))) has w.changed) in
     let counted = went done.2 in
     let tested = went counted.2 in
     let left = went tested.2 in
@@ -94,7 +94,7 @@ drops_table Seventh old new count has h =
 pub drops : (s : Segment) (old new : Held MemStore) (count : ℕ) → HasLatest (schema_to s) (latest_in old) old → Executes (drop_text s) [] (state over_memory old) (state over_memory new) (Ok count) → HasLatest (schema_before s) (latest_in old) new
 drops s old new count has h =
     let it = drops_table s (state over_memory old) (state over_memory new) count has.schema_is h in
-    record { schema_is = it.0; rows = subst AreStored (sym it.1) has.rows; latest_are = ap placed_all it.1; are_empty = tt }
+    record { schema_is = it.0; rows = subst AreVersionRows (sym it.1) has.rows; latest_are = ap placed_all it.1; are_empty = tt }
 
 pub drops_latest : (latest : _) (old new : Held MemStore) (count : ℕ) → HasLatest latest_schema latest old → Executes DROP_LATEST.now [] (state over_memory old) (state over_memory new) (Ok count) → HasNoTable new
 drops_latest latest old new count has h =

@@ -22,7 +22,7 @@ use Rattle.txc_rows.specs.declared.texts.Segment.{Segment}
 use Rattle.txc_rows.specs.declared.texts.Segment.TheVariants.{First, Second, Third, Fourth, Fifth, Sixth, Seventh}
 use Rattle.txc_rows.specs.declared.texts.Source.{Source}
 use Rattle.txc_rows.specs.declared.texts.Source.TheVariants.{Latest, Dead}
-use Rattle.txc_rows.specs.Holdable.{IsHoldable}
+use Rattle.txc_rows.specs.Holdable.{IsStorable}
 use Rattle.sqlite.specs.Tree.{Trees}
 use Rattle.sqlite.specs.Program.{overlay}
 use borrow.Author.Tests.{eqb-true}
@@ -31,8 +31,8 @@ use Rattle.txc_rows.proofs.PutLemmas.{all_front, all_back}
 use Rattle.txc_rows.proofs.Commands.{IsListingOf, most_shown, left_plain}
 use Rattle.txc_rows.proofs.LeftLemmas.{leaves_rows}
 use Rattle.txc_rows.proofs.StoredRows.{is_asked}
-use Rattle.txc_rows.specs.Placed.{Placed, AreApart}
-use Rattle.txc_rows.specs.Stored.{stored, number, placed_all, AreStored}
+use Rattle.txc_rows.specs.Placed.{Placed, AreWellPlaced}
+use Rattle.txc_rows.specs.Stored.{stored, number, placed_all, AreVersionRows}
 use Rattle.txc_rows.specs.Kept.{latest_in, dead_among, dead_in, placed_of, placed_read, AreStoredIn, HasTables, HasVersions, IsKept, IsStep, IsCall, IsSame, OthersStay, IsReading, IsLeaving}
 use Rattle.txc_rows.proofs.WriteLemmas.{Leaves, segment_rows}
 use Rattle.txc_rows.proofs.Refusals.{Refused, query_refused, shown_same}
@@ -73,7 +73,7 @@ pub placed_same : (old new : Held MemStore) → IsSame old new → placed_of new
 placed_same old new same = placed_by old new same.trees
 
 -- what is seen is what was seen, and it is committed
-now_same : (old new : Held MemStore) → HasTables old → AreApart (latest_in old) (dead_in old) → (state over_memory new).now ≡ (state over_memory old).now → (state over_memory new).committed ≡ (state over_memory new).now → new.in_transaction ≡ false
+now_same : (old new : Held MemStore) → HasTables old → AreWellPlaced (latest_in old) (dead_in old) → (state over_memory new).now ≡ (state over_memory old).now → (state over_memory new).committed ≡ (state over_memory new).now → new.in_transaction ≡ false
     → IsSame old new
 now_same old new tables apart now settled idle =
     let trees : (state over_memory new).now.trees ≡ (state over_memory old).now.trees = ap (λ (d : Database). d.trees) now in
@@ -81,12 +81,12 @@ now_same old new tables apart now settled idle =
       kept = record {
         tables = record {
           schema = ap (λ (d : Database). d.schema) now ∙ tables.schema;
-          latest = subst (λ t. AreStored (t 0)) (sym trees) tables.latest;
+          latest = subst (λ t. AreVersionRows (t 0)) (sym trees) tables.latest;
           dead = subst (λ t. AreStoredIn t segments) (sym trees) tables.dead;
         };
         idle = idle;
         settled = settled;
-        apart = subst (λ t. AreApart (placed_all (t 0)) (dead_among t segments)) (sym trees) apart;
+        apart = subst (λ t. AreWellPlaced (placed_all (t 0)) (dead_among t segments)) (sym trees) apart;
       };
       trees = trees;
     }
@@ -116,11 +116,11 @@ undone_call old mid end kept base back =
     kept_same old end kept ((back.undone refl).0 ∙ base ∙ kept.settled) ((back.undone refl).1 ∙ base) back.autocommit
 
 -- what a commit leaves
-pub committed_kept : (mid end : Held MemStore) → HasTables mid → AreApart (latest_in mid) (dead_in mid) → end.in_transaction ≡ false
+pub committed_kept : (mid end : Held MemStore) → HasTables mid → AreWellPlaced (latest_in mid) (dead_in mid) → end.in_transaction ≡ false
     → Shows (state over_memory mid) (state over_memory end) (state over_memory mid).now (state over_memory mid).now false → IsSame mid end
 committed_kept mid end tables apart idle shown = now_same mid end tables apart shown.now_is (shown.committed_is ∙ sym shown.now_is) idle
 
-pub ended_call : (L : List Placed → Type 0) (old mid end : Held MemStore) (r : Result (Unit {0}) Error) → IsKept old → HasTables mid → AreApart (latest_in mid) (dead_in mid) → L (placed_of mid)
+pub ended_call : (L : List Placed → Type 0) (old mid end : Held MemStore) (r : Result (Unit {0}) Error) → IsKept old → HasTables mid → AreWellPlaced (latest_in mid) (dead_in mid) → L (placed_of mid)
     → (state over_memory mid).committed ≡ (state over_memory old).committed → end.in_transaction ≡ false
     → OnOk r (IsTrue (state over_memory mid).in_transaction × Shows (state over_memory mid) (state over_memory end) (state over_memory mid).now (state over_memory mid).now false × KeepsCounts (state over_memory mid) (state over_memory end) × ((state over_memory end).marks ≡ []))
     → IfErr r (FailsToCommit (state over_memory mid) (state over_memory end)) → mid.in_transaction ≡ true → IsCall L old end r
@@ -133,7 +133,7 @@ ended_call L old mid end (Err e) kept tables apart leaves base idle ok (inr late
 -- ---- the versions of a query in one table
 
 -- the rows of the table that is read
-pub rows_read : (s : Source) (h : Held MemStore) → HasTables h → AreStored ((state over_memory h).now.trees (tree_read s))
+pub rows_read : (s : Source) (h : Held MemStore) → HasTables h → AreVersionRows ((state over_memory h).now.trees (tree_read s))
 rows_read Latest h has = has.latest
 rows_read (Dead j) h has = segment_rows j (state over_memory h).now.trees segments (once j) has.dead
 
@@ -156,9 +156,9 @@ dead_each P j trees (s ∷ ss) one all = go (is_tree j s) refl one (λ h. dead_e
     go true e h on = subst (λ t. AllByRecursion P (placed_all (trees t))) (eqb-true (tree_of s) (tree_of j) e) (all_front P (placed_all (trees (tree_of s))) (dead_among trees ss) all)
     go false e h on = on h
 
-each_read : (s : Source) (h : Held MemStore) → AreApart (latest_in h) (dead_in h) → AllByRecursion (λ x. IsHoldable x.version) (placed_read s h)
-each_read Latest h apart = all_front (λ x. IsHoldable x.version) (latest_in h) (dead_in h) apart.each
-each_read (Dead j) h apart = dead_each (λ x. IsHoldable x.version) j (state over_memory h).now.trees segments (once j) (all_back (λ x. IsHoldable x.version) (latest_in h) (dead_in h) apart.each)
+each_read : (s : Source) (h : Held MemStore) → AreWellPlaced (latest_in h) (dead_in h) → AllByRecursion (λ x. IsStorable x.version) (placed_read s h)
+each_read Latest h apart = all_front (λ x. IsStorable x.version) (latest_in h) (dead_in h) apart.each
+each_read (Dead j) h apart = dead_each (λ x. IsStorable x.version) j (state over_memory h).now.trees segments (once j) (all_back (λ x. IsStorable x.version) (latest_in h) (dead_in h) apart.each)
 
 module _ (q : Query) (from : ℕ) (s : Source) (fs : List Term) (text : List ℕ) (is : IsListingOf (tree_read s) fs text) (params : Row)
     (test : (id : ℤ) (x : Placed) → list_all (holds (params ∷ stored id x ∷ [])) fs ≡ is_asked q from x.version) (limit : as_count (eval most_shown (params ∷ [])) ≡ Some MOST_READ) (old new : Held MemStore) (kept : IsKept old) where

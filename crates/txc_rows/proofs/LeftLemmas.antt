@@ -18,7 +18,7 @@ use Rattle.txc_rows.specs.declared.texts.Source.{Source}
 use Rattle.txc_rows.specs.Placed.{Placed, is_left, placed_left}
 use Rattle.txc_rows.specs.Texts.{version_schema}
 use Rattle.txc_rows.specs.Readings.{tree_read, left_text}
-use Rattle.txc_rows.specs.Stored.{stored, cells_of, number, placed_in, placed_all, placed_from, IsStored, AreStored, AreCells}
+use Rattle.txc_rows.specs.Stored.{stored, cells_of, number, placed_in, placed_all, placed_from, IsStored, AreVersionRows, AreCells}
 use Rattle.txc_rows.proofs.Commands.{alone, whole, endless, cells_project, cells_names, left_filter, left_reads, left_plain, left_lists}
 use Rattle.txc_rows.proofs.StoredRows.{select_stored, left_test_is, cells_again, asked, answered, IsPage}
 
@@ -54,7 +54,7 @@ from_cells : (xs : List Placed) → map placed_from (map cells_of xs) ≡ xs
 from_cells [] = refl
 from_cells (x ∷ xs) = rw (cells_again x, from_cells xs) refl
 
-left_from_page : (tree from : ℕ) (table rows : List Row) → AreStored table → IsPage tree [] (left_filter 0) cells_project [] endless (number from ∷ []) table rows
+left_from_page : (tree from : ℕ) (table rows : List Row) → AreVersionRows table → IsPage tree [] (left_filter 0) cells_project [] endless (number from ∷ []) table rows
     → AllByRecursion AreCells rows × IsPermutation (placed_left from (placed_all table)) (map placed_from rows)
 left_from_page tree from table rows keeps page =
     let same = one_table tree [] (left_filter 0) cells_project (number from ∷ []) (λ x. is_left from x.version) (left_test_is from) cells_of (λ id x. refl) table rows keeps.each page in
@@ -64,7 +64,7 @@ left_from_page tree from table rows keeps page =
     )
 
 -- the rows that are read show the versions of the table that did not die before the stamp
-pub leaves_rows : (s : Source) (from : ℕ) (old new : State) (rows : List Row) → overlay old.now.trees [] (tree_read s) ≡ old.now.trees (tree_read s) → old.now.schema ≡ version_schema → AreStored (old.now.trees (tree_read s))
+pub leaves_rows : (s : Source) (from : ℕ) (old new : State) (rows : List Row) → overlay old.now.trees [] (tree_read s) ≡ old.now.trees (tree_read s) → old.now.schema ≡ version_schema → AreVersionRows (old.now.trees (tree_read s))
     → Shown (left_text s) (number from ∷ []) old new rows → AllByRecursion AreCells rows × IsPermutation (placed_left from (placed_all (old.now.trees (tree_read s)))) (map placed_from rows)
 leaves_rows s from old new rows own has keeps h =
     let tree = tree_read s in

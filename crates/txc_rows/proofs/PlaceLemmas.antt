@@ -6,7 +6,7 @@ use Rattle.std.specs.List.Sorted.{IsPermutation}
 use Rattle.std.proofs.lemmas.List.Sorted.{IsPermutation-refl, IsPermutation-trans, IsPermutation-cons, IsPermutation-middle}
 use Rattle.sqlite.specs.Tree.{IsAscending}
 use Rattle.sqlite_trees.proofs.ListLemmas.{along_permutation, all-permutation, all-filter}
-use Rattle.txc_rows.specs.Placed.{Placed, put_in, by_place, HaveOwnPlaces, AreBelow}
+use Rattle.txc_rows.specs.Placed.{Placed, put_at_place, by_place, HaveOwnPlaces, AreBelow}
 
 -- ---- a relation of each two, in whichever order, holds of them in any order
 
@@ -22,9 +22,9 @@ own_places_permuted xs ys same h = (pairs_permuted (λ x y. x.place ≢ y.place)
 
 -- ---- one at its place
 
-pub put_in_permutes : (x : Placed) (ys : List Placed) → IsPermutation (x ∷ ys) (put_in x ys)
+pub put_in_permutes : (x : Placed) (ys : List Placed) → IsPermutation (x ∷ ys) (put_at_place x ys)
 put_in_permutes x [] = IsPermutation-refl (x ∷ [])
-put_in_permutes x (y ∷ ys) = elim (nat_lt x.place y.place) as (λ b. IsPermutation (x ∷ y ∷ ys) (cond b (x ∷ y ∷ ys) (y ∷ put_in x ys))) [
+put_in_permutes x (y ∷ ys) = elim (nat_lt x.place y.place) as (λ b. IsPermutation (x ∷ y ∷ ys) (cond b (x ∷ y ∷ ys) (y ∷ put_at_place x ys))) [
   | true ↦ IsPermutation-refl (x ∷ y ∷ ys)
   | false ↦ IsPermutation-trans _ _ _ (IsPermutation-middle (x ∷ []) y ys) (IsPermutation-cons y _ _ (put_in_permutes x ys))
 ]
@@ -55,10 +55,10 @@ not_through : (a b c : ℕ) → nat_lt a b ≡ true → nat_lt a c ≡ false →
 not_through a b c h k = grind (arith, nat_tests)
 
 -- the order of two puts is none where their places differ
-put_in_turned : (x y : Placed) → x.place ≢ y.place → (zs : List Placed) → put_in x (put_in y zs) ≡ put_in y (put_in x zs)
+put_in_turned : (x y : Placed) → x.place ≢ y.place → (zs : List Placed) → put_at_place x (put_at_place y zs) ≡ put_at_place y (put_at_place x zs)
 put_in_turned x y apart [] = go (nat_lt y.place x.place) refl
   where
-    go : (b : Bool) → nat_lt y.place x.place ≡ b → put_in x (put_in y []) ≡ put_in y (put_in x [])
+    go : (b : Bool) → nat_lt y.place x.place ≡ b → put_at_place x (put_at_place y []) ≡ put_at_place y (put_at_place x [])
     go true e = let f : nat_lt x.place y.place ≡ false = turned x.place y.place apart ∙ ap not e in rw (e, f) refl
     go false e = let f : nat_lt x.place y.place ≡ true = turned x.place y.place apart ∙ ap not e in rw (e, f) refl
 put_in_turned x y apart (z ∷ zs) = go (nat_lt x.place z.place) refl (nat_lt y.place z.place) refl (nat_lt x.place y.place) refl (put_in_turned x y apart zs)
@@ -66,13 +66,13 @@ put_in_turned x y apart (z ∷ zs) = go (nat_lt x.place z.place) refl (nat_lt y.
     back : (b : Bool) → nat_lt x.place y.place ≡ b → nat_lt y.place x.place ≡ not b
     back b e = turned y.place x.place (λ f. apart (sym f)) ∙ ap not e
 
-    go : (a : Bool) → nat_lt x.place z.place ≡ a → (b : Bool) → nat_lt y.place z.place ≡ b → (c : Bool) → nat_lt x.place y.place ≡ c → put_in x (put_in y zs) ≡ put_in y (put_in x zs)
-        → put_in x (put_in y (z ∷ zs)) ≡ put_in y (put_in x (z ∷ zs))
+    go : (a : Bool) → nat_lt x.place z.place ≡ a → (b : Bool) → nat_lt y.place z.place ≡ b → (c : Bool) → nat_lt x.place y.place ≡ c → put_at_place x (put_at_place y zs) ≡ put_at_place y (put_at_place x zs)
+        → put_at_place x (put_at_place y (z ∷ zs)) ≡ put_at_place y (put_at_place x (z ∷ zs))
     go true e true f true g more = rw (e, f, g, back true g) refl
     go true e true f false g more = rw (f, e, g, back false g) refl
     go true e false f true g more =
-        let one : put_in x (put_in y (z ∷ zs)) ≡ x ∷ (z ∷ put_in y zs) = rw (f, e) refl in
-        let other : put_in y (put_in x (z ∷ zs)) ≡ x ∷ (z ∷ put_in y zs) = rw (e, back true g, f) refl in
+        let one : put_at_place x (put_at_place y (z ∷ zs)) ≡ x ∷ (z ∷ put_at_place y zs) = rw (f, e) refl in
+        let other : put_at_place y (put_at_place x (z ∷ zs)) ≡ x ∷ (z ∷ put_at_place y zs) = rw (e, back true g, f) refl in
         one ∙ sym other
     go true e false f false g more = absurd (let h : nat_lt y.place z.place ≡ true = lt_through y.place x.place z.place (back false g) e in cc)
     go false e true f true g more = absurd (let h : nat_lt x.place z.place ≡ true = lt_through x.place y.place z.place g f in cc)
@@ -82,7 +82,7 @@ put_in_turned x y apart (z ∷ zs) = go (nat_lt x.place z.place) refl (nat_lt y.
 pub by_place_same : (xs ys : List Placed) → IsPermutation xs ys → HaveOwnPlaces xs → by_place xs ≡ by_place ys
 by_place_same xs ys same = (along_permutation (λ ps qs. IsPermutation ps qs × (HaveOwnPlaces ps → by_place ps ≡ by_place qs))
     (λ ps. (IsPermutation-refl ps, λ h. refl))
-    (λ x ps qs h. (IsPermutation-cons x ps qs h.0, λ p. ap (put_in x) (h.1 p.1)))
+    (λ x ps qs h. (IsPermutation-cons x ps qs h.0, λ p. ap (put_at_place x) (h.1 p.1)))
     (λ x y ps. (IsPermutation-middle (x ∷ []) y ps, λ p. put_in_turned x y p.0.0 (by_place ps)))
     (λ ps qs rs h k. (IsPermutation-trans ps qs rs h.0 k.0, λ p. h.1 p ∙ k.1 (own_places_permuted ps qs h.0 p)))
     xs ys same).1
@@ -90,36 +90,36 @@ by_place_same xs ys same = (along_permutation (λ ps qs. IsPermutation ps qs × 
 -- ---- a change of each, and one more
 
 module _ (f : Placed → Placed) (keeps : (x : Placed) → (f x).place ≡ x.place) where
-  put_in_mapped : (x : Placed) (ys : List Placed) → put_in (f x) (map f ys) ≡ map f (put_in x ys)
+  put_in_mapped : (x : Placed) (ys : List Placed) → put_at_place (f x) (map f ys) ≡ map f (put_at_place x ys)
   put_in_mapped x [] = refl
   put_in_mapped x (y ∷ ys) = go (nat_lt x.place y.place) refl (put_in_mapped x ys)
     where
-      go : (b : Bool) → nat_lt x.place y.place ≡ b → put_in (f x) (map f ys) ≡ map f (put_in x ys) → put_in (f x) (map f (y ∷ ys)) ≡ map f (put_in x (y ∷ ys))
+      go : (b : Bool) → nat_lt x.place y.place ≡ b → put_at_place (f x) (map f ys) ≡ map f (put_at_place x ys) → put_at_place (f x) (map f (y ∷ ys)) ≡ map f (put_at_place x (y ∷ ys))
       go true e more = let here : nat_lt (f x).place (f y).place ≡ true = rw (keeps x, keeps y) e in rw (here, e) refl
       go false e more = let here : nat_lt (f x).place (f y).place ≡ false = rw (keeps x, keeps y) e in rw (here, e) (ap (λ rest. f y ∷ rest) more)
 
   pub by_place_mapped : (xs : List Placed) → by_place (map f xs) ≡ map f (by_place xs)
   by_place_mapped [] = refl
-  by_place_mapped (x ∷ xs) = ap (put_in (f x)) (by_place_mapped xs) ∙ put_in_mapped x (by_place xs)
+  by_place_mapped (x ∷ xs) = ap (put_at_place (f x)) (by_place_mapped xs) ∙ put_in_mapped x (by_place xs)
 
-put_in_before : (x n : Placed) (ys : List Placed) → x.place < n.place → put_in x (ys ++ n ∷ []) ≡ put_in x ys ++ n ∷ []
+put_in_before : (x n : Placed) (ys : List Placed) → x.place < n.place → put_at_place x (ys ++ n ∷ []) ≡ put_at_place x ys ++ n ∷ []
 put_in_before x n [] low = let e : nat_lt x.place n.place ≡ true = lower x.place n.place low in rw e refl
   where
     lower : (a b : ℕ) → a < b → nat_lt a b ≡ true
     lower a b h = grind (arith, nat_tests)
 put_in_before x n (y ∷ ys) low = go (nat_lt x.place y.place) refl (put_in_before x n ys low)
   where
-    go : (b : Bool) → nat_lt x.place y.place ≡ b → put_in x (ys ++ n ∷ []) ≡ put_in x ys ++ n ∷ [] → put_in x ((y ∷ ys) ++ n ∷ []) ≡ put_in x (y ∷ ys) ++ n ∷ []
+    go : (b : Bool) → nat_lt x.place y.place ≡ b → put_at_place x (ys ++ n ∷ []) ≡ put_at_place x ys ++ n ∷ [] → put_at_place x ((y ∷ ys) ++ n ∷ []) ≡ put_at_place x (y ∷ ys) ++ n ∷ []
     go true e more = rw e refl
     go false e more = rw e (ap (λ rest. y ∷ rest) more)
 
 pub by_place_last : (n : Placed) (xs : List Placed) → AreBelow n.place xs → by_place (xs ++ n ∷ []) ≡ by_place xs ++ n ∷ []
 by_place_last n [] low = refl
-by_place_last n (x ∷ xs) low = ap (put_in x) (by_place_last n xs low.1) ∙ put_in_before x n (by_place xs) low.0
+by_place_last n (x ∷ xs) low = ap (put_at_place x) (by_place_last n xs low.1) ∙ put_in_before x n (by_place xs) low.0
 
 -- ---- some of them
 
-put_in_rises : (x : Placed) (ys : List Placed) → IsAscending (λ a b. a.place ≤ b.place) ys → IsAscending (λ a b. a.place ≤ b.place) (put_in x ys)
+put_in_rises : (x : Placed) (ys : List Placed) → IsAscending (λ a b. a.place ≤ b.place) ys → IsAscending (λ a b. a.place ≤ b.place) (put_at_place x ys)
 put_in_rises x [] up = (tt, tt)
 put_in_rises x (y ∷ ys) up = go (nat_lt x.place y.place) refl (put_in_rises x ys up.1)
   where
@@ -133,9 +133,9 @@ put_in_rises x (y ∷ ys) up = go (nat_lt x.place y.place) refl (put_in_rises x 
     over [] low all = tt
     over (z ∷ zs) low all = (let a = all.0 in omega arith, over zs low all.1)
 
-    go : (b : Bool) → nat_lt x.place y.place ≡ b → IsAscending (λ a c. a.place ≤ c.place) (put_in x ys) → IsAscending (λ a c. a.place ≤ c.place) (cond b (x ∷ y ∷ ys) (y ∷ put_in x ys))
+    go : (b : Bool) → nat_lt x.place y.place ≡ b → IsAscending (λ a c. a.place ≤ c.place) (put_at_place x ys) → IsAscending (λ a c. a.place ≤ c.place) (cond b (x ∷ y ∷ ys) (y ∷ put_at_place x ys))
     go true e more = let low = low_of x.place y.place e in ((low, over ys low up.0), up)
-    go false e more = (all-permutation (λ b. y.place ≤ b.place) (x ∷ ys) (put_in x ys) (put_in_permutes x ys) (high_of x.place y.place e, up.0), more)
+    go false e more = (all-permutation (λ b. y.place ≤ b.place) (x ∷ ys) (put_at_place x ys) (put_in_permutes x ys) (high_of x.place y.place e, up.0), more)
 
 by_place_rises : (xs : List Placed) → IsAscending (λ a b. a.place ≤ b.place) (by_place xs)
 by_place_rises [] = tt
@@ -143,11 +143,11 @@ by_place_rises (x ∷ xs) = put_in_rises x (by_place xs) (by_place_rises xs)
 
 module _ (p : Placed → Bool) where
   -- before all that are left of those after it
-  put_in_first : (x : Placed) (ys : List Placed) → AllByRecursion (λ y. nat_lt x.place y.place ≡ true) ys → put_in x ys ≡ x ∷ ys
+  put_in_first : (x : Placed) (ys : List Placed) → AllByRecursion (λ y. nat_lt x.place y.place ≡ true) ys → put_at_place x ys ≡ x ∷ ys
   put_in_first x [] all = refl
   put_in_first x (y ∷ ys) all = rw all.0 refl
 
-  put_in_left : (x : Placed) (ys : List Placed) → IsAscending (λ a b. a.place ≤ b.place) ys → filter p (put_in x ys) ≡ cond (p x) (put_in x (filter p ys)) (filter p ys)
+  put_in_left : (x : Placed) (ys : List Placed) → IsAscending (λ a b. a.place ≤ b.place) ys → filter p (put_at_place x ys) ≡ cond (p x) (put_at_place x (filter p ys)) (filter p ys)
   put_in_left x [] up = go (p x) refl
     where
       go : (b : Bool) → p x ≡ b → filter p (x ∷ []) ≡ cond (p x) (x ∷ []) []
@@ -162,8 +162,8 @@ module _ (p : Placed → Bool) where
       after [] low all = tt
       after (z ∷ zs) low all = (below x.place y.place z.place low all.0, after zs low all.1)
 
-      go : (b : Bool) → nat_lt x.place y.place ≡ b → (c : Bool) → p x ≡ c → (d : Bool) → p y ≡ d → filter p (put_in x ys) ≡ cond (p x) (put_in x (filter p ys)) (filter p ys)
-          → filter p (put_in x (y ∷ ys)) ≡ cond (p x) (put_in x (filter p (y ∷ ys))) (filter p (y ∷ ys))
+      go : (b : Bool) → nat_lt x.place y.place ≡ b → (c : Bool) → p x ≡ c → (d : Bool) → p y ≡ d → filter p (put_at_place x ys) ≡ cond (p x) (put_at_place x (filter p ys)) (filter p ys)
+          → filter p (put_at_place x (y ∷ ys)) ≡ cond (p x) (put_at_place x (filter p (y ∷ ys))) (filter p (y ∷ ys))
       go true e true f true g more = rw (e, f, g, e) refl
       go true e true f false g more = rw (e, f, g) (sym (put_in_first x (filter p ys) (all-filter _ p ys (after ys e up.0))))
       go true e false f d g more = rw (e, f) refl
@@ -176,6 +176,6 @@ module _ (p : Placed → Bool) where
   by_place_left [] = refl
   by_place_left (x ∷ xs) = put_in_left x (by_place xs) (by_place_rises xs) ∙ go (p x) refl (by_place_left xs)
     where
-      go : (b : Bool) → p x ≡ b → filter p (by_place xs) ≡ by_place (filter p xs) → cond (p x) (put_in x (filter p (by_place xs))) (filter p (by_place xs)) ≡ by_place (filter p (x ∷ xs))
-      go true e more = rw e (ap (put_in x) more)
+      go : (b : Bool) → p x ≡ b → filter p (by_place xs) ≡ by_place (filter p xs) → cond (p x) (put_at_place x (filter p (by_place xs))) (filter p (by_place xs)) ≡ by_place (filter p (x ∷ xs))
+      go true e more = rw e (ap (put_at_place x) more)
       go false e more = rw e more

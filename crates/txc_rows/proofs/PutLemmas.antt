@@ -12,8 +12,8 @@ use Rattle.txc_stamp.specs.declared.stamp.TheConstants.{LAST_STAMP}
 use Rattle.txc_rows.specs.Values.{RowValue, IsRow}
 use Rattle.txc_rows.specs.States.{is_at}
 use Rattle.txc_rows.specs.Versions.{is_current, closed, removed, put}
-use Rattle.txc_rows.specs.Holdable.{IsHoldable}
-use Rattle.txc_rows.specs.Placed.{Placed, version_of, by_place, versions_by_place, has_key, closed_placed, new_placed, renewed, put_latest, put_dead, HaveOwnPlaces, HaveOwnKeys, AreBelow, IsOneCurrent, AreApart, AreWritten}
+use Rattle.txc_rows.specs.Holdable.{IsStorable}
+use Rattle.txc_rows.specs.Placed.{Placed, version_of, by_place, versions_by_place, has_key, closed_placed, new_placed, renewed, put_latest, put_dead, HaveOwnPlaces, HaveOwnKeys, AreBelow, IsOneCurrent, AreWellPlaced, AreWritten}
 use Rattle.txc_rows.proofs.Members.{bool_cases, both_true, and_true}
 use Rattle.txc_rows.proofs.StoredVersions.{hit_is, holdable_closed, closed_dead}
 use Rattle.txc_rows.proofs.PlaceLemmas.{pairs_permuted, by_place_same, by_place_mapped, by_place_last, own_places_permuted}
@@ -74,11 +74,11 @@ still_one t i s x y h at current = closed_dead t i s y.version (h at (alive (is_
     alive true e f = absurd (let g = f in cc)
     alive false e f = f
 
-all_holdable : (t i s : ℕ) → s ≤ LAST_STAMP → (xs : List Placed) → AllByRecursion (λ x. IsHoldable x.version) xs → AllByRecursion (λ x. IsHoldable x.version) (map (closed_placed t i s) xs)
+all_holdable : (t i s : ℕ) → s ≤ LAST_STAMP → (xs : List Placed) → AllByRecursion (λ x. IsStorable x.version) xs → AllByRecursion (λ x. IsStorable x.version) (map (closed_placed t i s) xs)
 all_holdable t i s low [] all = tt
 all_holdable t i s low (x ∷ xs) all = (holdable_closed t i s low x.version all.0, all_holdable t i s low xs all.1)
 
-pub ended_apart : (t i s : ℕ) → s ≤ LAST_STAMP → (latest earlier : List Placed) → AreApart latest earlier → AreApart (map (closed_placed t i s) latest) earlier
+pub ended_apart : (t i s : ℕ) → s ≤ LAST_STAMP → (latest earlier : List Placed) → AreWellPlaced latest earlier → AreWellPlaced (map (closed_placed t i s) latest) earlier
 ended_apart t i s low latest earlier h =
     let all = ended_all t i s latest earlier h.ended in
     record {
@@ -197,7 +197,7 @@ module _ (place s : ℕ) (row : RowValue) where
           (IsPermutation-trans _ _ _ (moved (map (renewed place row s) latest) (filter here latest) earlier)
           (IsPermutation-trans _ _ _ (IsPermutation-append_left earlier _ _ some) (moved latest earlier (new ∷ []))))
 
-  module _ (latest earlier : List Placed) (h : AreApart latest earlier) (low : AreBelow place (latest ++ earlier)) where
+  module _ (latest earlier : List Placed) (h : AreWellPlaced latest earlier) (low : AreBelow place (latest ++ earlier)) where
     all : List Placed
     all = latest ++ earlier
 
@@ -274,22 +274,22 @@ module _ (place s : ℕ) (row : RowValue) where
           go true e more = (off.0 (both_true _ _ e).0, more)
           go false e more = more
 
-      holdable : IsHoldable new.version
+      holdable : IsStorable new.version
       holdable = record { row = is; born = stamp; died = λ d e. absurd (let f = e in cc) }
 
-      pub put_apart : AreApart (put_latest place row s latest) (put_dead row latest earlier)
+      pub put_apart : AreWellPlaced (put_latest place row s latest) (put_dead row latest earlier)
       put_apart = record {
         places = own_places_permuted _ _ (IsPermutation-sym _ _ permutes) own_then;
         keys = keys_then;
         current = one_then;
         ended = all-append (λ x. x.version.died ≢ None) earlier (filter here latest) h.ended (dead_there latest none);
-        each = all-permutation (λ x. IsHoldable x.version) _ _ (IsPermutation-sym _ _ permutes)
-            (all-append (λ x. IsHoldable x.version) (latest ++ earlier) (new ∷ []) h.each (holdable, tt));
+        each = all-permutation (λ x. IsStorable x.version) _ _ (IsPermutation-sym _ _ permutes)
+            (all-append (λ x. IsStorable x.version) (latest ++ earlier) (new ∷ []) h.each (holdable, tt));
       }
 
 -- ---- one change
 
-pub removed_written : (t i s place : ℕ) → s ≤ LAST_STAMP → (latest earlier : List Placed) → AreApart latest earlier → AreBelow place (latest ++ earlier)
+pub removed_written : (t i s place : ℕ) → s ≤ LAST_STAMP → (latest earlier : List Placed) → AreWellPlaced latest earlier → AreBelow place (latest ++ earlier)
     → AreWritten (removed t i s (versions_by_place (latest ++ earlier))) (place + 1) (map (closed_placed t i s) latest ++ earlier)
 removed_written t i s place low latest earlier h below = record {
   versions_are = ended_versions t i s latest earlier h.ended;
@@ -300,7 +300,7 @@ removed_written t i s place low latest earlier h below = record {
     higher [] below = tt
     higher (x ∷ xs) below = (let l = below.0 in omega arith, higher xs below.1)
 
-pub put_written : (s place : ℕ) (row : RowValue) (latest earlier : List Placed) → AreApart latest earlier → AreBelow place (latest ++ earlier)
+pub put_written : (s place : ℕ) (row : RowValue) (latest earlier : List Placed) → AreWellPlaced latest earlier → AreBelow place (latest ++ earlier)
     → AreWritten (versions_by_place (latest ++ earlier) ++ record { row = row; born = s; died = None } ∷ []) (place + 1) (put_latest place row s latest ++ put_dead row latest earlier)
 put_written s place row latest earlier h low = record {
   versions_are = put_versions place s row latest earlier h low;

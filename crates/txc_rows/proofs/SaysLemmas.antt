@@ -11,20 +11,20 @@ use Rattle.txc_rows.specs.States.{RowValue, State, IsState, row_before, is_at, q
 use Rattle.txc_rows.proofs.Rising.{filter_state, same_rows}
 use Rattle.txc_rows.specs.declared.version.Versioned.{Versioned}
 use Rattle.txc_rows.specs.Versions.{lives_at, is_visible, row_of, visible_rows, shown_at, closed, removed, put, after_write, after_net, died_by, purged}
-use Rattle.txc_rows.specs.Says.{Says, AreUpTo, IdsRise}
+use Rattle.txc_rows.specs.Says.{VersionsSay, AreUpTo, IdsRise}
 use Rattle.txc_rows.specs.Laws.{SaysNothing, SaysAgree, SaysWritten, SaysQuiet, SaysPurged, SaysAnswer}
 use Rattle.txc_rows.proofs.ChangeLemmas.{made_there, other_there, from_change}
 use Rattle.txc_rows.proofs.Members.{IsIn, bool_cases, both_true, and_true, not_true_is, is_in, contains_it, in_filter, from_filter, in_left, in_right}
 
 -- ---- what versions say, by `IsIn`
 
-said_each : (t : ℕ) (vs : List Versioned) (s : State) (r : RowValue) → Says t vs s → IsIn r s → IsIn r (visible_rows t vs)
+said_each : (t : ℕ) (vs : List Versioned) (s : State) (r : RowValue) → VersionsSay t vs s → IsIn r s → IsIn r (visible_rows t vs)
 said_each t vs s r says h = is_in (visible_rows t vs) r (says.each r (contains_it s r h))
 
-pub said_only : (t : ℕ) (vs : List Versioned) (s : State) (r : RowValue) → Says t vs s → IsIn r (visible_rows t vs) → IsIn r s
+pub said_only : (t : ℕ) (vs : List Versioned) (s : State) (r : RowValue) → VersionsSay t vs s → IsIn r (visible_rows t vs) → IsIn r s
 said_only t vs s r says h = is_in s r (says.only r (contains_it (visible_rows t vs) r h))
 
-says_of : (t : ℕ) (vs : List Versioned) (s : State) → ((r : RowValue) → IsIn r s → IsIn r (visible_rows t vs)) → ((r : RowValue) → IsIn r (visible_rows t vs) → IsIn r s) → Says t vs s
+says_of : (t : ℕ) (vs : List Versioned) (s : State) → ((r : RowValue) → IsIn r s → IsIn r (visible_rows t vs)) → ((r : RowValue) → IsIn r (visible_rows t vs) → IsIn r s) → VersionsSay t vs s
 says_of t vs s each only = record {
   each = λ r h. contains_it (visible_rows t vs) r (each r (is_in s r h));
   only = λ r h. contains_it s r (only r (is_in (visible_rows t vs) r h));
@@ -147,7 +147,7 @@ pub record IsOther (i n : ℕ) (s : State) (r : RowValue) : Type 0 where
   pub apart : is_at i n r ≡ false
 
 -- what is seen after a removal are the rows of other keys
-seen_removed : (s i n : ℕ) (vs : List Versioned) (st : State) (r : RowValue) → DeadBy s vs → Says s vs st → Behind (is_visible s) (removed i n s vs) r → IsOther i n st r
+seen_removed : (s i n : ℕ) (vs : List Versioned) (st : State) (r : RowValue) → DeadBy s vs → VersionsSay s vs st → Behind (is_visible s) (removed i n s vs) r → IsOther i n st r
 seen_removed s i n vs st r dead says b =
     let it = from_removed i n s b.version vs b.stands in
     let v = it.0 in
@@ -161,13 +161,13 @@ seen_removed s i n vs st r dead says b =
       }
     ]
 
-removed_seen : (s i n : ℕ) (vs : List Versioned) (st : State) (r : RowValue) → Says s vs st → IsOther i n st r → Behind (is_visible s) (removed i n s vs) r
+removed_seen : (s i n : ℕ) (vs : List Versioned) (st : State) (r : RowValue) → VersionsSay s vs st → IsOther i n st r → Behind (is_visible s) (removed i n s vs) r
 removed_seen s i n vs st r says o =
     let b = behind (is_visible s) vs r (said_each s vs st r says o.stands) in
     let same : closed i n s b.version ≡ b.version = left s i n b.version (ap (is_at i n) (sym b.is) ∙ o.apart) in
     record { version = b.version; stands = subst (λ (x : Versioned). IsIn x (removed i n s vs)) same (in_removed i n s b.version vs b.stands); passes = b.passes; is = b.is }
 
-one_change : (s : ℕ) (c : Change) (vs : List Versioned) (st : State) → DeadBy s vs → Says s vs st → Says s (after_write s c vs) (after_change c st)
+one_change : (s : ℕ) (c : Change) (vs : List Versioned) (st : State) → DeadBy s vs → VersionsSay s vs st → VersionsSay s (after_write s c vs) (after_change c st)
 one_change s (Put row) vs st dead says = says_of s (put row s vs) (after_change (Put row) st) each only
   where
     each : (r : RowValue) → IsIn r (after_change (Put row) st) → IsIn r (visible_rows s (put row s vs))
@@ -187,7 +187,7 @@ one_change s (Remove i n) vs st dead says = says_of s (removed i n s vs) (after_
     (λ r h. let it = from_filter (λ (x : RowValue). not (is_at i n x)) r st h in in_front (is_visible s) (removed i n s vs) r (removed_seen s i n vs st r says (record { stands = it.0; apart = not_true_is _ it.1 })))
     (λ r h. let o = seen_removed s i n vs st r dead says (behind (is_visible s) (removed i n s vs) r h) in in_filter (λ (x : RowValue). not (is_at i n x)) r st o.stands (ap not o.apart))
 
-all_changes : (s : ℕ) (net : List Change) (vs : List Versioned) (st : State) → DeadBy s vs → Says s vs st → Says s (after_net s net vs) (after_changes net st)
+all_changes : (s : ℕ) (net : List Change) (vs : List Versioned) (st : State) → DeadBy s vs → VersionsSay s vs st → VersionsSay s (after_net s net vs) (after_changes net st)
 all_changes s [] vs st dead says = says
 all_changes s (c ∷ cs) vs st dead says = all_changes s cs (after_write s c vs) (after_change c st) (dead_after s c vs dead) (one_change s c vs st dead says)
 
@@ -218,7 +218,7 @@ upto_after s [] vs h = h
 upto_after s (Put row ∷ cs) vs h = upto_after s cs (put row s vs) (upto_end s row (removed row.table row.id s vs) (upto_removed s row.table row.id vs h))
 upto_after s (Remove i n ∷ cs) vs h = upto_after s cs (removed i n s vs) (upto_removed s i n vs h)
 
-says_at : (t u : ℕ) (vs ws : List Versioned) (s : State) → visible_rows u ws ≡ visible_rows t vs → Says t vs s → Says u ws s
+says_at : (t u : ℕ) (vs ws : List Versioned) (s : State) → visible_rows u ws ≡ visible_rows t vs → VersionsSay t vs s → VersionsSay u ws s
 says_at t u vs ws s same h = record {
   each = λ r k. subst (λ (rs : List RowValue). Contains rs r) (sym same) (h.each r k);
   only = λ r k. h.only r (subst (λ (rs : List RowValue). Contains rs r) same k);
@@ -239,10 +239,10 @@ quiet_rows t (v ∷ vs) h = rw (later_sight t v h.0) (go (is_visible t v) (quiet
     go true e = ap (λ (rs : List RowValue). v.row ∷ rs) e
     go false e = e
 
-quiet : (t : ℕ) (vs : List Versioned) (s : State) → AreUpTo t vs → Says t vs s → Says (suc t) vs s × AreUpTo (suc t) vs
+quiet : (t : ℕ) (vs : List Versioned) (s : State) → AreUpTo t vs → VersionsSay t vs s → VersionsSay (suc t) vs s × AreUpTo (suc t) vs
 quiet t vs s h says = (says_at t (suc t) vs vs s (quiet_rows t vs h) says, upto_weaker t vs h)
 
-written : (t : ℕ) (net : List Change) (vs : List Versioned) (s : State) → AreUpTo t vs → Says t vs s → Says (suc t) (after_net (suc t) net vs) (after_changes net s) × AreUpTo (suc t) (after_net (suc t) net vs)
+written : (t : ℕ) (net : List Change) (vs : List Versioned) (s : State) → AreUpTo t vs → VersionsSay t vs s → VersionsSay (suc t) (after_net (suc t) net vs) (after_changes net s) × AreUpTo (suc t) (after_net (suc t) net vs)
 written t net vs s h says =
     let on = quiet t vs s h says in
     (all_changes (suc t) net vs s (dead_upto (suc t) vs on.1) on.0, upto_after (suc t) net vs on.1)
@@ -273,7 +273,7 @@ net_rows t s [] vs early = refl
 net_rows t s (Put row ∷ cs) vs early = net_rows t s cs (put row s vs) early ∙ (end_rows t s row (removed row.table row.id s vs) early ∙ removed_rows t s row.table row.id vs early)
 net_rows t s (Remove i n ∷ cs) vs early = net_rows t s cs (removed i n s vs) early ∙ removed_rows t s i n vs early
 
-before : (t stamp : ℕ) (net : List Change) (vs : List Versioned) (s : State) → t < stamp → Says t vs s → Says t (after_net stamp net vs) s
+before : (t stamp : ℕ) (net : List Change) (vs : List Versioned) (s : State) → t < stamp → VersionsSay t vs s → VersionsSay t (after_net stamp net vs) s
 before t stamp net vs s early says = says_at t t vs (after_net stamp net vs) s (net_rows t stamp net vs early) says
 
 -- ---- a purge
@@ -297,7 +297,7 @@ purged_rows h t (v ∷ vs) late = go (died_by h v.died) refl (purged_rows h t vs
       | false ↦ on
     ]
 
-purge_says : (horizon t : ℕ) (vs : List Versioned) (s : State) → horizon ≤ t → Says t vs s → Says t (purged horizon vs) s
+purge_says : (horizon t : ℕ) (vs : List Versioned) (s : State) → horizon ≤ t → VersionsSay t vs s → VersionsSay t (purged horizon vs) s
 purge_says h t vs s late says = says_at t t vs (purged h vs) s (purged_rows h t vs late) says
 
 -- ---- answers
@@ -351,7 +351,7 @@ says_nothing states empty = record {
 
 pub says_agree : SaysAgree
 says_agree states others horizon newest vs same says = record {
-  kept = λ t low high. subst (Says t vs) (same t low high) (says.kept t low high);
+  kept = λ t low high. subst (VersionsSay t vs) (same t low high) (says.kept t low high);
   upto = says.upto;
 }
 
@@ -371,7 +371,7 @@ says_written states horizon newest net vs kept leads says = record {
   upto = new.1;
 }
   where
-    new : Says (suc newest) (after_net (suc newest) net vs) (after_changes net (states newest)) × AreUpTo (suc newest) (after_net (suc newest) net vs)
+    new : VersionsSay (suc newest) (after_net (suc newest) net vs) (after_changes net (states newest)) × AreUpTo (suc newest) (after_net (suc newest) net vs)
     new = written newest net vs (states newest) says.upto (says.kept newest kept (omega arith))
 
 pub says_quiet : SaysQuiet
@@ -383,7 +383,7 @@ says_quiet states horizon newest vs kept same says = record {
   upto = new.1;
 }
   where
-    new : Says (suc newest) vs (states newest) × AreUpTo (suc newest) vs
+    new : VersionsSay (suc newest) vs (states newest) × AreUpTo (suc newest) vs
     new = quiet newest vs (states newest) says.upto (says.kept newest kept (omega arith))
 
 upto_purged : (newest horizon : ℕ) (vs : List Versioned) → AreUpTo newest vs → AreUpTo newest (purged horizon vs)

@@ -9,7 +9,7 @@ use Rattle.txc_rows.specs.declared.texts.Segment.{Segment}
 use Rattle.txc_rows.specs.declared.texts.Segment.TheVariants.{First, Second, Third, Fourth, Fifth, Sixth, Seventh}
 use Rattle.txc_rows.specs.Placed.{Placed}
 use Rattle.txc_rows.specs.Texts.{tree_of, segments}
-use Rattle.txc_rows.specs.Stored.{placed_all, AreStored}
+use Rattle.txc_rows.specs.Stored.{placed_all, AreVersionRows}
 use Rattle.txc_rows.specs.Kept.{dead_among, AreStoredIn}
 
 -- the rows of each segment but that of a tree are as they were
@@ -53,21 +53,21 @@ none_written tree old new (s ∷ ss) apart same = rw (same.0 apart.0, none_writt
 
 pub none_stored : (tree : ℕ) (old new : Trees) (ss : List Segment) → AllByRecursion (λ s. tree_of s ≢ tree) ss → AreSame tree old new ss → AreStoredIn old ss → AreStoredIn new ss
 none_stored tree old new [] apart same each = tt
-none_stored tree old new (s ∷ ss) apart same each = (subst AreStored (sym (same.0 apart.0)) each.0, none_stored tree old new ss apart.1 same.1 each.1)
+none_stored tree old new (s ∷ ss) apart same each = (subst AreVersionRows (sym (same.0 apart.0)) each.0, none_stored tree old new ss apart.1 same.1 each.1)
 
 pub all_not_latest : (ss : List Segment) → AllByRecursion (λ s. tree_of s ≢ 0) ss
 all_not_latest [] = tt
 all_not_latest (s ∷ ss) = (not_latest s, all_not_latest ss)
 
 -- one of them gets more
-module _ (j : Segment) (old new : Trees) (more : List Placed) (written : placed_all (new (tree_of j)) ≡ placed_all (old (tree_of j)) ++ more) (rows : AreStored (new (tree_of j))) where
+module _ (j : Segment) (old new : Trees) (more : List Placed) (written : placed_all (new (tree_of j)) ≡ placed_all (old (tree_of j)) ++ more) (rows : AreVersionRows (new (tree_of j))) where
   pub stored_with : (ss : List Segment) → AreSame (tree_of j) old new ss → AreStoredIn old ss → AreStoredIn new ss
   stored_with [] same each = tt
   stored_with (s ∷ ss) same each = (go (is_tree j s) refl, stored_with ss same.1 each.1)
     where
-      go : (b : Bool) → is_tree j s ≡ b → AreStored (new (tree_of s))
-      go true e = subst (λ t. AreStored (new t)) (sym (eqb-true (tree_of s) (tree_of j) e)) rows
-      go false e = subst AreStored (sym (same.0 (λ at. true≢false (sym (eq-eqb (tree_of s) (tree_of j) at) ∙ e)))) each.0
+      go : (b : Bool) → is_tree j s ≡ b → AreVersionRows (new (tree_of s))
+      go true e = subst (λ t. AreVersionRows (new t)) (sym (eqb-true (tree_of s) (tree_of j) e)) rows
+      go false e = subst AreVersionRows (sym (same.0 (λ at. true≢false (sym (eq-eqb (tree_of s) (tree_of j) at) ∙ e)))) each.0
 
   abbrev hits : List Segment → ℕ
   hits ss = length (filter (is_tree j) ss)

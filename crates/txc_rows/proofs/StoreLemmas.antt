@@ -8,7 +8,7 @@ use Rattle.sqlite.specs.Held.{Held}
 use Rattle.sqlite_trees.specs.declared.memory.MemStore.{MemStore}
 use Rattle.txc_rows.specs.declared.query.Change.{Change}
 use Rattle.txc_rows.specs.Versions.{after_net, purged}
-use Rattle.txc_rows.specs.Holdable.{IsHoldable}
+use Rattle.txc_rows.specs.Holdable.{IsStorable}
 use Rattle.txc_rows.specs.Placed.{Placed, versions_by_place, left_from, placed_left, AreBelow, AreWritten, AreSwept, AreLeft}
 use Rattle.sqlite.specs.Held.{state}
 use Rattle.sqlite.specs.Steps.{over_memory}
@@ -16,7 +16,7 @@ use Rattle.sqlite.specs.Tree.{Trees}
 use Rattle.txc_rows.specs.declared.texts.Segment.{Segment}
 use Rattle.txc_rows.specs.declared.texts.Segment.TheVariants.{First}
 use Rattle.txc_rows.specs.declared.tally.Tally.{Tally}
-use Rattle.txc_rows.specs.Texts.{place_of, tree_of}
+use Rattle.txc_rows.specs.Texts.{segment_place, tree_of}
 use Rattle.txc_rows.specs.Kept.{placed_of, versions_of, newest_of, AreEmptyBefore, OthersAreEmpty, OthersStay, IsKept, IsCall, IsSame, IsRoom, IsStore}
 use Rattle.txc_rows.proofs.HeldLemmas.{placed_by, placed_same}
 use Rattle.txc_rows.proofs.SweepLemmas.{swept_same, left_is_swept, left_alone, none_hidden}
@@ -55,7 +55,7 @@ pub fewer_empty : (n m : ℕ) (h : Held MemStore) → n ≤ m → AreEmptyBefore
 fewer_empty n m h low empty s below = empty s (omega (arith, low, below))
 
 -- where the newest one is written
-pub written_empty : (j : Segment) (n : ℕ) (old new : Held MemStore) → place_of j + n ≡ 7 → OthersStay (tree_of j) old new → AreEmptyBefore n old → AreEmptyBefore n new
+pub written_empty : (j : Segment) (n : ℕ) (old new : Held MemStore) → segment_place j + n ≡ 7 → OthersStay (tree_of j) old new → AreEmptyBefore n old → AreEmptyBefore n new
 written_empty j n old new newest stay empty s low = stay s (λ same. omega (arith, newest, low, same)) ∙ empty s low
 
 -- ---- nothing is written
@@ -130,13 +130,13 @@ module _ (from first number stamp next : ℕ) (net : List Change) (t u : Tally) 
   pub room_store : IsStore next u mid
   room_store = record { kept = room.kept; below = room.below next store.below; empty = empty }
 
-  pub written_store : {X : Type 0} (j : Segment) (v : Tally) (new : Held MemStore) (x : X) → place_of j + newest_of u ≡ 7 → newest_of v ≡ newest_of u → OthersStay (tree_of j) mid new → IsCall (AreWritten (after_net stamp net (versions_of mid)) (next + length net)) mid new (Ok x)
-      → IsStore (next + length net) v new × (left_from first (versions_of new) ≡ after_net stamp net (left_from from (versions_of old))) × AllByRecursion IsHoldable (after_net stamp net (left_from from (versions_of old)))
+  pub written_store : {X : Type 0} (j : Segment) (v : Tally) (new : Held MemStore) (x : X) → segment_place j + newest_of u ≡ 7 → newest_of v ≡ newest_of u → OthersStay (tree_of j) mid new → IsCall (AreWritten (after_net stamp net (versions_of mid)) (next + length net)) mid new (Ok x)
+      → IsStore (next + length net) v new × (left_from first (versions_of new) ≡ after_net stamp net (left_from from (versions_of old))) × AllByRecursion IsStorable (after_net stamp net (left_from from (versions_of old)))
   written_store j v new x newest same stay call =
       let is = written_view first stamp (subst (λ n. first ≤ n) same_stamp room.low) net (placed_of mid) (placed_of new) (next + length net) call.leaves ∙ ap (after_net stamp net) room.shown in (
-        record { kept = call.kept; below = call.leaves.below; empty = written_empty j (newest_of v) mid new (ap (λ n. place_of j + n) same ∙ newest) stay (subst (λ n. AreEmptyBefore n mid) (sym same) empty) },
+        record { kept = call.kept; below = call.leaves.below; empty = written_empty j (newest_of v) mid new (ap (λ n. segment_place j + n) same ∙ newest) stay (subst (λ n. AreEmptyBefore n mid) (sym same) empty) },
         is,
-        subst (AllByRecursion IsHoldable) is (view_each first (placed_of new) call.kept.apart.each),
+        subst (AllByRecursion IsStorable) is (view_each first (placed_of new) call.kept.apart.each),
       )
 
   pub unwritten_store : {X : Type 0} (L : List Placed → Type 0) (new : Held MemStore) (e : Error) → IsCall {X = X} L mid new (Err e)

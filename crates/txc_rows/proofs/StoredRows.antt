@@ -26,7 +26,7 @@ use Rattle.txc_rows.specs.Versions.{suits, is_current}
 use Rattle.txc_rows.specs.Placed.{Placed, lasts_to, is_left, has_key}
 use Rattle.txc_rows.specs.declared.query.Query.{Query}
 use Rattle.txc_rows.specs.declared.query.Query.TheVariants.{ById, ByGroup, All, Range}
-use Rattle.txc_rows.specs.Stored.{stored, cells_of, number, death, IsStored, death_in, placed_in, placed_from, shown, version_shown}
+use Rattle.txc_rows.specs.Stored.{stored, cells_of, number, death, IsStored, death_in, placed_in, placed_from, queried_columns, version_shown}
 use Rattle.txc_rows.proofs.Commands.{close_filter, key_filter, left_filter, table_filter, row_filter, group_filter, range_filter, whole}
 
 pub int_cmp-pos : (a b : ℕ) → int_cmp (pos a) (pos b) ≡ nat_cmp a b
@@ -152,7 +152,7 @@ pub cells_again : (x : Placed) → placed_from (cells_of x) ≡ x
 cells_again x = ap (λ d. record x { version = record x.version { died = d } }) (death_again x.version.died)
 
 -- and so is what the query shows of it
-pub shown_again : (v : Versioned) → version_shown v.row.table (shown v) ≡ v
+pub shown_again : (v : Versioned) → version_shown v.row.table (queried_columns v) ≡ v
 shown_again v = ap (λ d. record v { died = d }) (death_again v.died)
 
 -- ---- the answer of a query on one table

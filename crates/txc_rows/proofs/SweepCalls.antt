@@ -18,9 +18,9 @@ use Rattle.txc_rows.specs.declared.texts.Source.TheVariants.{Dead}
 use Rattle.txc_rows.specs.declared.texts.Segment.TheVariants.{First, Second, Third, Fourth, Fifth, Sixth, Seventh}
 use Rattle.sqlite.specs.Schema.{Schema}
 use Rattle.txc_rows.specs.Texts.{tree_of, segments, made_before}
-use Rattle.txc_rows.specs.Placed.{Placed, is_left, placed_left, AreApart, AreSwept, AreLeft}
+use Rattle.txc_rows.specs.Placed.{Placed, is_left, placed_left, AreWellPlaced, AreSwept, AreLeft}
 use Rattle.txc_rows.specs.Stored.{AreCells, death, placed_all, placed_from}
-use Rattle.txc_rows.specs.Kept.{HasTables, HasMade, latest_in, dead_among, dead_in, placed_of, HasVersions, IsKept, IsCall, IsSame, IsLeaving, OthersStay, OthersAreEmpty}
+use Rattle.txc_rows.specs.Kept.{HasTables, HasMadeTables, latest_in, dead_among, dead_in, placed_of, HasVersions, IsKept, IsCall, IsSame, IsLeaving, OthersStay, OthersAreEmpty}
 use Rattle.txc_rows.proofs.SweepLemmas.{swept_earlier, swept_apart, swept_both, both_apart}
 use Rattle.txc_rows.proofs.HeldLemmas.{placed_same, undone_call, refused_call, committed_kept, ended_call}
 
@@ -80,7 +80,7 @@ filled_latest xs mid end made filled = record {
 }
 
 -- each segment was made
-pub all_made : (schema : Schema) (latest : List Placed) (h : Held MemStore) (r : Result ℕ Error) → OnOk r (HasMade schema latest (First ∷ made_before First) h) → OnOk r ((s : Segment) → (state over_memory h).now.trees (tree_of s) ≡ [])
+pub all_made : (schema : Schema) (latest : List Placed) (h : Held MemStore) (r : Result ℕ Error) → OnOk r (HasMadeTables schema latest (First ∷ made_before First) h) → OnOk r ((s : Segment) → (state over_memory h).now.trees (tree_of s) ≡ [])
 all_made schema latest h (Err e) made = tt
 all_made schema latest h (Ok n) made = each made.are_empty
   where
@@ -103,7 +103,7 @@ rest_empty mid end (Err e) empty stay = tt
 pub made_of : (first mid : Held MemStore) → latest_in first ≡ [] → HasVersions (latest_in first) [] mid → HasVersions [] [] mid
 made_of first mid none has = subst (λ latest. HasVersions latest [] mid) none has
 
-none_apart : AreApart [] []
+none_apart : AreWellPlaced [] []
 none_apart = record { places = tt; keys = tt; current = tt; ended = tt; each = tt }
 
 abbrev Commits : Held MemStore → Held MemStore → Type 0
@@ -121,7 +121,7 @@ made_empty mid end (Ok x) has idle ok = placed_same mid end (made_same mid end h
 made_empty mid end (Err e) has idle ok = tt
 
 -- what is committed stays
-pub rest_kept : (mid end : Held MemStore) (r : Result (Unit {0}) Error) → HasTables mid → AreApart (latest_in mid) (dead_in mid) → end.in_transaction ≡ false → OnOk r (Commits mid end) → OthersAreEmpty First mid → OnOk r (OthersAreEmpty First end)
+pub rest_kept : (mid end : Held MemStore) (r : Result (Unit {0}) Error) → HasTables mid → AreWellPlaced (latest_in mid) (dead_in mid) → end.in_transaction ≡ false → OnOk r (Commits mid end) → OthersAreEmpty First mid → OnOk r (OthersAreEmpty First end)
 rest_kept mid end (Ok x) tables apart idle ok empty = λ s off. ap (λ (t : Trees). t (tree_of s)) (committed_kept mid end tables apart idle ok.1).trees ∙ empty s off
 rest_kept mid end (Err e) tables apart idle ok empty = tt
 
@@ -154,7 +154,7 @@ module _ (from : ℕ) (old first mid : Held MemStore) (same : IsSame old first) 
     dead : IsPermutation (placed_left from (dead_in old)) (dead_in mid)
     dead = IsPermutation-trans _ _ _ two has.dead_are
 
-    apart : AreApart (latest_in mid) (dead_in mid)
+    apart : AreWellPlaced (latest_in mid) (dead_in mid)
     apart = rw latest (swept_apart from (latest_in old) (dead_in old) (dead_in mid) dead kept.apart)
 
     pub dead_call : (end : Held MemStore) (r : Result (Unit {0}) Error) → (state over_memory mid).committed ≡ (state over_memory first).committed → end.in_transaction ≡ false → OnOk r (Commits mid end)
@@ -170,7 +170,7 @@ module _ (from : ℕ) (old first mid : Held MemStore) (same : IsSame old first) 
     before : IsPermutation (placed_left from (dead_in old)) (dead_in mid)
     before = IsPermutation-trans _ _ _ two has.dead_are
 
-    both : AreApart (latest_in mid) (dead_in mid)
+    both : AreWellPlaced (latest_in mid) (dead_in mid)
     both = rw has.latest_are (both_apart from (latest_in old) (dead_in old) last (dead_in mid) one before kept.apart)
 
     pub all_call : (end : Held MemStore) (r : Result (Unit {0}) Error) → (state over_memory mid).committed ≡ (state over_memory first).committed → end.in_transaction ≡ false → OnOk r (Commits mid end)

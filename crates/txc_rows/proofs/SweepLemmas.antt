@@ -13,8 +13,8 @@ use Rattle.txc_rows.specs.declared.query.Change.TheVariants.{Put, Remove}
 use Rattle.txc_rows.specs.Values.{RowValue}
 use Rattle.txc_rows.specs.States.{is_at}
 use Rattle.txc_rows.specs.Versions.{is_current, has_died_by, died_by, closed, removed, put, after_net, purged}
-use Rattle.txc_rows.specs.Holdable.{IsHoldable}
-use Rattle.txc_rows.specs.Placed.{Placed, version_of, by_place, versions_by_place, lasts_to, is_left, left_from, placed_left, has_key, HaveOwnPlaces, IsOneCurrent, AreApart, AreSwept, AreLeft}
+use Rattle.txc_rows.specs.Holdable.{IsStorable}
+use Rattle.txc_rows.specs.Placed.{Placed, version_of, by_place, versions_by_place, lasts_to, is_left, left_from, placed_left, has_key, HaveOwnPlaces, IsOneCurrent, AreWellPlaced, AreSwept, AreLeft}
 use Rattle.txc_rows.proofs.Members.{bool_cases}
 use Rattle.txc_rows.proofs.StoredVersions.{hit_is}
 use Rattle.txc_rows.proofs.PlaceLemmas.{pairs_permuted, by_place_same, by_place_left, own_places_permuted}
@@ -50,14 +50,14 @@ module _ (from : ℕ) (latest earlier kept : List Placed) (left : IsPermutation 
   some_after R p (x ∷ xs) ys pairs =
       (all-append (R x) xs (filter p ys) (all_front (R x) xs ys pairs.0) (all-filter (R x) p ys (all_back (R x) xs ys pairs.0)), some_after R p xs ys pairs.1)
 
-  pub swept_apart : AreApart latest earlier → AreApart latest kept
+  pub swept_apart : AreWellPlaced latest earlier → AreWellPlaced latest kept
   swept_apart h = record {
     places = own_places_permuted _ _ (IsPermutation-append_right latest _ _ left) (some_after (λ x y. x.place ≢ y.place) (λ x. is_left from x.version) latest earlier h.places);
     keys = h.keys;
     current = h.current;
     ended = all-permutation (λ x. x.version.died ≢ None) _ kept left (all-filter (λ x. x.version.died ≢ None) (λ x. is_left from x.version) earlier h.ended);
-    each = all-append (λ x. IsHoldable x.version) latest kept (all_front (λ x. IsHoldable x.version) latest earlier h.each)
-        (all-permutation (λ x. IsHoldable x.version) _ kept left (all-filter (λ x. IsHoldable x.version) (λ x. is_left from x.version) earlier (all_back (λ x. IsHoldable x.version) latest earlier h.each)));
+    each = all-append (λ x. IsStorable x.version) latest kept (all_front (λ x. IsStorable x.version) latest earlier h.each)
+        (all-permutation (λ x. IsStorable x.version) _ kept left (all-filter (λ x. IsStorable x.version) (λ x. is_left from x.version) earlier (all_back (λ x. IsStorable x.version) latest earlier h.each)));
   }
 
 module _ (from : ℕ) (latest earlier last before : List Placed) (one : IsPermutation (placed_left from latest) last) (two : IsPermutation (placed_left from earlier) before) where
@@ -74,13 +74,13 @@ module _ (from : ℕ) (latest earlier last before : List Placed) (one : IsPermut
   keys_turned x y off =
       key_turned x.version.row.table x.version.row.id x.version.row.group y.version.row.table y.version.row.id y.version.row.group ∙ off
 
-  pub both_apart : AreApart latest earlier → AreApart last before
+  pub both_apart : AreWellPlaced latest earlier → AreWellPlaced last before
   both_apart h = record {
     places = own_places_permuted _ _ together (ascending-filter (λ x y. x.place ≢ y.place) (λ x. is_left from x.version) (latest ++ earlier) h.places);
     keys = (pairs_permuted (λ x y. has_key x.version.row.table x.version.row.id x.version.row.group y ≡ false) keys_turned _ last one).1 (ascending-filter _ (λ x. is_left from x.version) latest h.keys);
     current = (pairs_permuted IsOneCurrent one_turned _ last one).1 (ascending-filter IsOneCurrent (λ x. is_left from x.version) latest h.current);
     ended = all-permutation (λ x. x.version.died ≢ None) _ before two (all-filter (λ x. x.version.died ≢ None) (λ x. is_left from x.version) earlier h.ended);
-    each = all-permutation (λ x. IsHoldable x.version) _ (last ++ before) together (all-filter (λ x. IsHoldable x.version) (λ x. is_left from x.version) (latest ++ earlier) h.each);
+    each = all-permutation (λ x. IsStorable x.version) _ (last ++ before) together (all-filter (λ x. IsStorable x.version) (λ x. is_left from x.version) (latest ++ earlier) h.each);
   }
 
 pub left_is_swept : (from : ℕ) (old new : List Placed) → AreLeft from old new → AreSwept from old new

@@ -9,7 +9,7 @@ use Rattle.txc_rows.specs.Net.{IsNet}
 use Rattle.txc_rows.specs.Versions.{after_net, after_write, purged, has_died_by}
 use Rattle.txc_rows.specs.Holdable.{AreHeld, IsWritable}
 use Rattle.txc_rows.specs.Keeping.{KeepsStates, Leads}
-use Rattle.txc_rows.specs.Uses.{Use, write, purge, after_use, use_at, next_horizon, AreRising, UsesAnswer, KeepsNothing, KeepsAgreed, KeepsQuiet}
+use Rattle.txc_rows.specs.Uses.{Use, write, purge, versions_after_use, use_at, horizon_after_use, AreUsesInOrder, UsesAnswer, KeepsNothing, KeepsAgreed, KeepsQuiet}
 use Rattle.txc_rows.proofs.SaysLemmas.{says_agree}
 use Rattle.txc_rows.proofs.StoredVersions.{held_write, held_kept}
 use Rattle.txc_rows.proofs.KeepingLemmas.{keeps_nothing, keeps_quiet, keeps_to, keeps_written, keeps_purged, found_answers}
@@ -52,11 +52,11 @@ record KeptAfter (states : ℕ → State) (horizon : ℕ) (vs : List Versioned) 
   pub stays : (t : ℕ) → last ≤ t → states t ≡ states last
 
 keeps_uses : (uses : List Use) (states : ℕ → State) (horizon newest : ℕ) (vs : List Versioned) → KeepsStates states horizon newest vs → ((t : ℕ) → newest ≤ t → states t ≡ states newest) → AreHeld vs
-    → AreRising (states newest) horizon newest uses → KeptAfter (λ t. fold (use_at t) (states t) uses) (fold next_horizon horizon uses) (fold after_use vs uses)
+    → AreUsesInOrder (states newest) horizon newest uses → KeptAfter (λ t. fold (use_at t) (states t) uses) (fold horizon_after_use horizon uses) (fold versions_after_use vs uses)
 keeps_uses [] states horizon newest vs keeps stays held rising = record { last = newest; keeps = keeps; stays = stays }
 keeps_uses (write net stamp ∷ uses) states horizon newest vs keeps stays held rising =
     keeps_uses uses next horizon stamp (after_net stamp net vs) (keeps_written net stamp vs written.each next horizon newest before leads)
-    (λ t low. rw (from_it stamp t low, from_it stamp stamp (omega arith)) (ap (after_changes net) (stays t (omega arith) ∙ sym (stays stamp (omega arith))))) written (subst (λ s. AreRising s horizon stamp uses) (sym changed) rising.3)
+    (λ t low. rw (from_it stamp t low, from_it stamp stamp (omega arith)) (ap (after_changes net) (stays t (omega arith) ∙ sym (stays stamp (omega arith))))) written (subst (λ s. AreUsesInOrder s horizon stamp uses) (sym changed) rising.3)
   where
     next : ℕ → State
     next t = use_at t (states t) (write net stamp)
@@ -88,7 +88,7 @@ keeps_uses (purge next ∷ uses) states horizon newest vs keeps stays held risin
     let all = keeps_to states horizon newest (max newest next) vs low (λ t from to. stays t from) keeps in
     let same : states (max newest next) ≡ states newest = stays (max newest next) low in
     keeps_uses uses states next (max newest next) (purged next vs) (keeps_purged next vs states horizon (max newest next) all rising.0 high)
-    (λ t late. stays t (omega arith) ∙ sym same) (held_kept (λ v. not (has_died_by next v)) vs held) (subst (λ s. AreRising s next (max newest next) uses) (sym same) rising.1)
+    (λ t late. stays t (omega arith) ∙ sym same) (held_kept (λ v. not (has_died_by next v)) vs held) (subst (λ s. AreUsesInOrder s next (max newest next) uses) (sym same) rising.1)
 
 pub uses_answer : UsesAnswer
 uses_answer uses q found t rising finds late =

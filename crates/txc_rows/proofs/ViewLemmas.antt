@@ -4,7 +4,7 @@ use Rattle.std.specs.List.{AllByRecursion}
 use Rattle.sqlite_trees.proofs.ListLemmas.{all-filter, all-map, all-permutation}
 use Rattle.txc_rows.specs.declared.query.Change.{Change}
 use Rattle.txc_rows.specs.Versions.{after_net, purged}
-use Rattle.txc_rows.specs.Holdable.{IsHoldable}
+use Rattle.txc_rows.specs.Holdable.{IsStorable}
 use Rattle.txc_rows.specs.Placed.{Placed, version_of, by_place, versions_by_place, is_left, left_from, HaveOwnPlaces, AreWritten, AreSwept}
 use Rattle.txc_rows.proofs.PlaceLemmas.{by_place_permutes}
 use Rattle.txc_rows.proofs.SweepLemmas.{swept_same, purged_left, net_left}
@@ -19,7 +19,7 @@ pub purged_view : (from h : ℕ) (old new : List Placed) → HaveOwnPlaces old �
 purged_view from h old new own swept = swept_same (max from (h + 1)) old new swept own ∙ purged_left from h (versions_by_place old)
 
 -- each can be held
-pub view_each : (from : ℕ) (placed : List Placed) → AllByRecursion (λ x. IsHoldable x.version) placed → AllByRecursion IsHoldable (left_from from (versions_by_place placed))
+pub view_each : (from : ℕ) (placed : List Placed) → AllByRecursion (λ x. IsStorable x.version) placed → AllByRecursion IsStorable (left_from from (versions_by_place placed))
 view_each from placed each =
-    all-filter IsHoldable (is_left from) (versions_by_place placed)
-    (all-map IsHoldable version_of (by_place placed) (all-permutation (λ x. IsHoldable x.version) placed (by_place placed) (by_place_permutes placed) each))
+    all-filter IsStorable (is_left from) (versions_by_place placed)
+    (all-map IsStorable version_of (by_place placed) (all-permutation (λ x. IsStorable x.version) placed (by_place placed) (by_place_permutes placed) each))

@@ -10,7 +10,7 @@ use Rattle.txc_rows.specs.States.{RowValue, State, is_at}
 use Rattle.txc_rows.specs.RowTags.{has_row}
 use Rattle.txc_rows.specs.Net.{change_table, change_id, key_before, changes_state, KeysRise}
 use Rattle.txc_rows.specs.Versions.{is_visible, closed, removed, IsPutOver, IsChange, AreChanges, after_write}
-use Rattle.txc_rows.specs.Says.{Says, AreUpTo}
+use Rattle.txc_rows.specs.Says.{VersionsSay, AreUpTo}
 use Rattle.txc_rows.specs.Laws.{NetIsWritable}
 use Rattle.txc_rows.proofs.Members.{IsIn, bool_cases, both_true, not_true_is}
 use Rattle.txc_rows.proofs.RowTests.{has_there}
@@ -67,7 +67,7 @@ each_then s (c ∷ cs) vs rise h = (h.0, each_then s cs (after_write s c vs) ris
 -- ---- each net change may be written over the versions that say the state
 
 -- a current version that nothing has happened after is visible
-current_row : (n : ℕ) (v : Versioned) (vs : List Versioned) (s : State) → Says n vs s → IsIn v vs → v.born ≤ n → v.died ≡ None → IsIn v.row s
+current_row : (n : ℕ) (v : Versioned) (vs : List Versioned) (s : State) → VersionsSay n vs s → IsIn v vs → v.born ≤ n → v.died ≡ None → IsIn v.row s
 current_row n v vs s says stands low alive = said_only n vs s v.row says (in_front (is_visible n) vs v.row (record { version = v; stands = stands; passes = seen; is = refl }))
   where
     le_is : (a b : ℕ) → a ≤ b → nat_le a b ≡ true
@@ -76,7 +76,7 @@ current_row n v vs s says stands low alive = said_only n vs s v.row says (in_fro
     seen : is_visible n v ≡ true
     seen = rw (alive, le_is v.born n low) refl
 
-over_each : (n : ℕ) (row : RowValue) (vs ws : List Versioned) (s : State) → Says n vs s → ((v : Versioned) → IsIn v ws → IsIn v vs) → AreUpTo n ws
+over_each : (n : ℕ) (row : RowValue) (vs ws : List Versioned) (s : State) → VersionsSay n vs s → ((v : Versioned) → IsIn v ws → IsIn v vs) → AreUpTo n ws
     → has_row s row ≡ false → IsChange (suc n) (Put row) ws
 over_each n row vs [] s says within upto fresh = tt
 over_each n row vs (v ∷ ws) s says within upto fresh = (
@@ -95,11 +95,11 @@ gone_each : (n t i : ℕ) (vs : List Versioned) → AreUpTo n vs → IsChange (s
 gone_each n t i [] upto = tt
 gone_each n t i (v ∷ vs) upto = (λ a b. let low = upto.0.0 in omega arith, gone_each n t i vs upto.1)
 
-one_writable : (n : ℕ) (c : Change) (vs : List Versioned) (s : State) → Says n vs s → AreUpTo n vs → changes_state s c ≡ true → IsChange (suc n) c vs
+one_writable : (n : ℕ) (c : Change) (vs : List Versioned) (s : State) → VersionsSay n vs s → AreUpTo n vs → changes_state s c ≡ true → IsChange (suc n) c vs
 one_writable n (Put row) vs s says upto changes = over_each n row vs vs s says (λ v k. k) upto (not_true_is _ changes)
 one_writable n (Remove t i) vs s says upto changes = gone_each n t i vs upto
 
-all_writable : (n : ℕ) (net : List Change) (vs : List Versioned) (s : State) → Says n vs s → AreUpTo n vs → list_all (changes_state s) net ≡ true → AllByRecursion (λ c. IsChange (suc n) c vs) net
+all_writable : (n : ℕ) (net : List Change) (vs : List Versioned) (s : State) → VersionsSay n vs s → AreUpTo n vs → list_all (changes_state s) net ≡ true → AllByRecursion (λ c. IsChange (suc n) c vs) net
 all_writable n [] vs s says upto e = tt
 all_writable n (c ∷ cs) vs s says upto e = let two = both_true (changes_state s c) (list_all (changes_state s) cs) e in (one_writable n c vs s says upto two.0, all_writable n cs vs s says upto two.1)
 

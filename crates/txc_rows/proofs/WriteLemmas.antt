@@ -31,9 +31,9 @@ use Rattle.txc_rows.specs.Values.{RowValue}
 use Rattle.txc_rows.specs.States.{is_at}
 use Rattle.txc_rows.specs.Versions.{is_current}
 use Rattle.txc_rows.specs.Placed.{Placed, has_key, closed_placed, renewed}
-use Rattle.txc_rows.specs.Texts.{latest_keys, segment_keys, latest_table, segment_table, name_of, place_of, tree_of, segments, add_text, copy_text, version_schema}
+use Rattle.txc_rows.specs.Texts.{latest_keys, segment_keys, latest_table, segment_table, name_of, segment_place, tree_of, segments, add_text, copy_text, version_schema}
 use Rattle.txc_rows.specs.Kept.{dead_among, AreStoredIn}
-use Rattle.txc_rows.specs.Stored.{stored, cells_of, number, placed_in, placed_all, IsStored, AreStored}
+use Rattle.txc_rows.specs.Stored.{stored, cells_of, number, placed_in, placed_all, IsStored, AreVersionRows}
 use Rattle.txc_rows.specs.declared.texts.TheConstants.{ADD_LATEST, END_VERSION, RENEW_LATEST}
 use Rattle.txc_rows.specs.declared.texts.Segment.{Segment}
 use Rattle.txc_rows.specs.declared.texts.Segment.TheVariants.{First, Second, Third, Fourth, Fifth, Sixth, Seventh}
@@ -54,14 +54,14 @@ use Rattle.sqlite.specs.Rows.{Outcome}
 -- both tables are there, and these are the versions in them
 pub record Leaves (tree : ℕ) (db : Trees) (latest dead : List Placed) (s : State) : Type 0 where
   pub schema : s.now.schema ≡ version_schema
-  pub latest_rows : AreStored (s.now.trees 0)
+  pub latest_rows : AreVersionRows (s.now.trees 0)
   pub dead_rows : AreStoredIn s.now.trees segments
   pub latest_are : placed_all (s.now.trees 0) ≡ latest
   pub dead_are : IsPermutation dead (dead_among s.now.trees segments)
   pub others : AreSame tree db s.now.trees segments
 
 -- the table of the last versions was written alone
-latest_written : (db : Trees) (latest : List Placed) (s : State) → s.now.schema ≡ version_schema → AreStored (s.now.trees 0) → placed_all (s.now.trees 0) ≡ latest → AreSame 0 db s.now.trees segments
+latest_written : (db : Trees) (latest : List Placed) (s : State) → s.now.schema ≡ version_schema → AreVersionRows (s.now.trees 0) → placed_all (s.now.trees 0) ≡ latest → AreSame 0 db s.now.trees segments
     → AreStoredIn db segments → Leaves 0 db latest (dead_among db segments) s
 latest_written db latest s schema rows are same stored = record {
   schema = schema;
@@ -74,8 +74,8 @@ latest_written db latest s schema rows are same stored = record {
 
 -- a segment was written alone, and got more versions
 segment_written : (j : Segment) (db : Trees) (more : List Placed) (s : State) → s.now.schema ≡ version_schema → s.now.trees 0 ≡ db 0 → AreSame (tree_of j) db s.now.trees segments
-    → AreStored (s.now.trees (tree_of j)) → placed_all (s.now.trees (tree_of j)) ≡ placed_all (db (tree_of j)) ++ more
-    → AreStored (db 0) → AreStoredIn db segments → Leaves (tree_of j) db (placed_all (db 0)) (dead_among db segments ++ more) s
+    → AreVersionRows (s.now.trees (tree_of j)) → placed_all (s.now.trees (tree_of j)) ≡ placed_all (db (tree_of j)) ++ more
+    → AreVersionRows (db 0) → AreStoredIn db segments → Leaves (tree_of j) db (placed_all (db 0)) (dead_among db segments ++ more) s
 segment_written j db more s schema other same rows are latest stored = record {
   schema = schema;
   latest_rows = rw other latest;
@@ -86,20 +86,20 @@ segment_written j db more s schema other same rows are latest stored = record {
 }
 
 -- the rows of a segment
-pub segment_rows : (j : Segment) (trees : Trees) (ss : List Segment) → length (filter (is_tree j) ss) ≡ 1 → AreStoredIn trees ss → AreStored (trees (tree_of j))
+pub segment_rows : (j : Segment) (trees : Trees) (ss : List Segment) → length (filter (is_tree j) ss) ≡ 1 → AreStoredIn trees ss → AreVersionRows (trees (tree_of j))
 segment_rows j trees [] one each = absurd (omega (arith, one))
 segment_rows j trees (s ∷ ss) one each = go (is_tree j s) refl one (λ h. segment_rows j trees ss h each.1)
   where
-    go : (b : Bool) → is_tree j s ≡ b → length (cond b (s ∷ filter (is_tree j) ss) (filter (is_tree j) ss)) ≡ 1 → (length (filter (is_tree j) ss) ≡ 1 → AreStored (trees (tree_of j))) → AreStored (trees (tree_of j))
-    go true e h on = subst (λ t. AreStored (trees t)) (eqb-true (tree_of s) (tree_of j) e) each.0
+    go : (b : Bool) → is_tree j s ≡ b → length (cond b (s ∷ filter (is_tree j) ss) (filter (is_tree j) ss)) ≡ 1 → (length (filter (is_tree j) ss) ≡ 1 → AreVersionRows (trees (tree_of j))) → AreVersionRows (trees (tree_of j))
+    go true e h on = subst (λ t. AreVersionRows (trees t)) (eqb-true (tree_of s) (tree_of j) e) each.0
     go false e h on = on h
 
 -- an insertion that names a segment writes its table
 module _ (limit : Option ℕ) (mode : Mode) (params : Row) (db : Database) (text : List ℕ) (from : Source) (out : Outcome (Tally × Database)) where
   abbrev written_by : Segment → Type 0
-  written_by j = OnRows (record { limit = limit; keys = mode.keys; schema = version_schema; table = segment_table j; params = params }) mode None (Insert (place_of j) from) db.trees out
+  written_by j = OnRows (record { limit = limit; keys = mode.keys; schema = version_schema; table = segment_table j; params = params }) mode None (Insert (segment_place j) from) db.trees out
 
-  on_segment : (j : Segment) → Does limit mode params (record db { schema = version_schema }) text None (Insert (place_of j) from) out → written_by j
+  on_segment : (j : Segment) → Does limit mode params (record db { schema = version_schema }) text None (Insert (segment_place j) from) out → written_by j
   on_segment First h = h
   on_segment Second h = h
   on_segment Third h = h
@@ -117,15 +117,15 @@ is_stored id x = ap (stored id) (sym (placed_again id x))
 
 -- ---- a row more
 
-stored_put : (id : ℤ) (x : Placed) (rows : List Row) → AreStored rows → AreStored (put_row (stored id x) rows)
+stored_put : (id : ℤ) (x : Placed) (rows : List Row) → AreVersionRows rows → AreVersionRows (put_row (stored id x) rows)
 stored_put id x rows h = record { table = IsTable-put_row (stored id x) rows h.table; each = all-put_row IsStored (stored id x) rows (is_stored id x) h.each }
 
-placed_put : (x : Placed) (rows : List Row) → AreStored rows → placed_all (put_row (stored (next_rowid rows) x) rows) ≡ placed_all rows ++ x ∷ []
+placed_put : (x : Placed) (rows : List Row) → AreVersionRows rows → placed_all (put_row (stored (next_rowid rows) x) rows) ≡ placed_all rows ++ x ∷ []
 placed_put x rows h =
     ap placed_all (put_row_last (stored (next_rowid rows) x) rows (next_above rows h.table (keyed_all rows h.each)))
     ∙ map-append placed_in rows (stored (next_rowid rows) x ∷ []) ∙ ap (λ w. placed_all rows ++ w ∷ []) (placed_again (next_rowid rows) x)
 
-pub adds_latest : (old new : State) (x : Placed) (count : ℕ) → old.now.schema ≡ version_schema → AreStored (old.now.trees 0) → AreStoredIn old.now.trees segments → Executes ADD_LATEST.now (cells_of x) old new (Ok count)
+pub adds_latest : (old new : State) (x : Placed) (count : ℕ) → old.now.schema ≡ version_schema → AreVersionRows (old.now.trees 0) → AreStoredIn old.now.trees segments → Executes ADD_LATEST.now (cells_of x) old new (Ok count)
     → Leaves 0 old.now.trees (placed_all (old.now.trees 0) ++ x ∷ []) (dead_among old.now.trees segments) new
 adds_latest old new x count has latest dead h =
     let params = cells_of x in
@@ -138,17 +138,17 @@ adds_latest old new x count has latest dead h =
     = it.4.rows ∙ ap (λ all. edited db (edit_of db latest_table [] Chosen 0 all)) it.1.1 ∙ one_more (codes "latest") 0 latest_keys old.step_limit (mode_of old) params db x in
     latest_written db _ new it.2 (rw rows (stored_put (next_rowid (db 0)) x (db 0) latest)) (ap placed_all rows ∙ placed_put x (db 0) latest) it.4.tables.1 dead
 
-pub adds_dead : (j : Segment) (old new : State) (x : Placed) (count : ℕ) → old.now.schema ≡ version_schema → AreStored (old.now.trees 0) → AreStoredIn old.now.trees segments → Executes (add_text j) (cells_of x) old new (Ok count)
+pub adds_dead : (j : Segment) (old new : State) (x : Placed) (count : ℕ) → old.now.schema ≡ version_schema → AreVersionRows (old.now.trees 0) → AreStoredIn old.now.trees segments → Executes (add_text j) (cells_of x) old new (Ok count)
     → Leaves (tree_of j) old.now.trees (placed_all (old.now.trees 0)) (dead_among old.now.trees segments ++ x ∷ []) new
 adds_dead j old new x count has latest dead h =
     let params = cells_of x in
     let db = old.now.trees in
     let tree = tree_of j in
     let own = segment_rows j db segments (once j) dead in
-    let w = runs_as (add_text j) params old new version_schema has (Insert (place_of j) (Values terms 8)) (add_segment_is j) (add_segment_plain j) count h in
+    let w = runs_as (add_text j) params old new version_schema has (Insert (segment_place j) (Values terms 8)) (add_segment_is j) (add_segment_plain j) count h in
     let text = statement_of (add_text j) (understood version_schema (add_text j)) in
-    let done = subst (λ s. Does old.step_limit (mode_of old) params (record old.now { schema = s }) text None (Insert (place_of j) (Values terms 8)) (Ok (w.tally, new.now))) has w.changed in
-    let it = inserts_rows (name_of j) tree segment_keys old.step_limit (mode_of old) params db (place_of j) (Values terms 8) w.tally new.now (on_segment old.step_limit (mode_of old) params old.now text (Values terms 8) _ j done) in
+    let done = subst (λ s. Does old.step_limit (mode_of old) params (record old.now { schema = s }) text None (Insert (segment_place j) (Values terms 8)) (Ok (w.tally, new.now))) has w.changed in
+    let it = inserts_rows (name_of j) tree segment_keys old.step_limit (mode_of old) params db (segment_place j) (Values terms 8) w.tally new.now (on_segment old.step_limit (mode_of old) params old.now text (Values terms 8) _ j done) in
     let rows : new.now.trees tree ≡ put_row (stored (next_rowid (db tree)) x) (db tree)
     = it.4.rows ∙ ap (λ all. edited db (edit_of db (segment_table j) [] Chosen 0 all)) it.1.1 ∙ one_more (name_of j) tree segment_keys old.step_limit (mode_of old) params db x in
     segment_written j db (x ∷ []) new it.2 (it.4.tables.0 (λ e. not_latest j (sym e))) it.4.tables.1 (rw rows (stored_put (next_rowid (db tree)) x (db tree) own)) (ap placed_all rows ∙ placed_put x (db tree) own) latest dead
@@ -197,7 +197,7 @@ module _ (fs project : List Term) (params : Row) (P : Placed → Bool) (test : (
         go true e on = absurd (let h = rw e at none in cc)
         go false e on = rw (spares (placed_in r) e, on (rw e at none)) (ap (λ x. x ∷ rows) (sym all.0))
 
-    updates_page : (db : Trees) (given : List Row) → AreStored (db 0) → length (filter (λ r. P (placed_in r)) (db 0)) ≤ 1 → IsPage 0 [] fs project [] endless params (db 0) given
+    updates_page : (db : Trees) (given : List Row) → AreVersionRows (db 0) → length (filter (λ r. P (placed_in r)) (db 0)) ≤ 1 → IsPage 0 [] fs project [] endless params (db 0) given
         → edited db (edit_of db latest_table (ids_of given) Given 1 given) ≡ map changed (db 0)
     updates_page db given rows few page = go (filter (λ r. P (placed_in r)) (db 0)) refl few
       where
@@ -210,7 +210,7 @@ module _ (fs project : List Term) (params : Row) (P : Placed → Bool) (test : (
             ∙ replaced (λ r. P (placed_in r)) changed x refl (db 0) rows.table (keyed_all (db 0) rows.each) (spared (db 0) rows.each) is
         go (x ∷ y ∷ more) is short = absurd (omega arith)
 
-    stored_changed : (rows : List Row) → AreStored rows → AreStored (map changed rows)
+    stored_changed : (rows : List Row) → AreVersionRows rows → AreVersionRows (map changed rows)
     stored_changed rows h = record { table = up rows h.table h.each; each = each rows }
       where
         each : (xs : List Row) → AllByRecursion IsStored (map changed xs)
@@ -231,7 +231,7 @@ module _ (fs project : List Term) (params : Row) (P : Placed → Bool) (test : (
     placed_changed (r ∷ rows) = rw (placed_again (id_in (rowid r)) (F (placed_in r)), placed_changed rows) refl
 
     pub updates : (sql : List ℕ) → command_of (understood version_schema sql) ≡ Update 0 (alone (whole 0 fs project)) → IsPlain (understood version_schema sql)
-        → (old new : State) (count : ℕ) → old.now.schema ≡ version_schema → AreStored (old.now.trees 0) → AreStoredIn old.now.trees segments → length (filter P (placed_all (old.now.trees 0))) ≤ 1 → Executes sql params old new (Ok count)
+        → (old new : State) (count : ℕ) → old.now.schema ≡ version_schema → AreVersionRows (old.now.trees 0) → AreStoredIn old.now.trees segments → length (filter P (placed_all (old.now.trees 0))) ≤ 1 → Executes sql params old new (Ok count)
         → Leaves 0 old.now.trees (map F (placed_all (old.now.trees 0))) (dead_among old.now.trees segments) new
     updates sql is plain old new count has latest dead few h =
         let db = old.now.trees in
@@ -252,7 +252,7 @@ ends_one : (t i s : ℕ) (db : Trees) (id : ℤ) (x : Placed) → is_at t i x.ve
     → edited db (edit_of db latest_table (ids_of (ended_given s id x ∷ [])) Given 1 (ended_given s id x ∷ [])) ≡ put_row (stored id (closed_placed t i s x)) (without_rowid id (db 0))
 ends_one t i s db id x hit = rw (hit, cast_int id, cast_int (pos x.place), cast_int (pos x.version.row.table), cast_int (pos x.version.row.id), cast_int (pos x.version.born), cast_int (pos x.version.row.group), cast_int (pos s)) refl
 
-pub closes : (old new : State) (t i s : ℕ) (count : ℕ) → old.now.schema ≡ version_schema → AreStored (old.now.trees 0) → AreStoredIn old.now.trees segments
+pub closes : (old new : State) (t i s : ℕ) (count : ℕ) → old.now.schema ≡ version_schema → AreVersionRows (old.now.trees 0) → AreStoredIn old.now.trees segments
     → length (filter (λ x. is_at t i x.version.row && is_current x.version) (placed_all (old.now.trees 0))) ≤ 1
     → Executes END_VERSION.now (number t ∷ number i ∷ number s ∷ []) old new (Ok count)
     → Leaves 0 old.now.trees (map (closed_placed t i s) (placed_all (old.now.trees 0))) (dead_among old.now.trees segments) new
@@ -273,7 +273,7 @@ renews_one place s row db id x hit =
 abbrev pub renew_params : ℕ → ℕ → RowValue → Row
 renew_params place s row = number row.table ∷ number row.id ∷ number row.group ∷ number place ∷ number s ∷ Blob row.body ∷ []
 
-pub renews : (old new : State) (place s : ℕ) (row : RowValue) (count : ℕ) → old.now.schema ≡ version_schema → AreStored (old.now.trees 0) → AreStoredIn old.now.trees segments
+pub renews : (old new : State) (place s : ℕ) (row : RowValue) (count : ℕ) → old.now.schema ≡ version_schema → AreVersionRows (old.now.trees 0) → AreStoredIn old.now.trees segments
     → length (filter (has_key row.table row.id row.group) (placed_all (old.now.trees 0))) ≤ 1
     → Executes RENEW_LATEST.now (renew_params place s row) old new (Ok count)
     → Leaves 0 old.now.trees (map (renewed place row s) (placed_all (old.now.trees 0))) (dead_among old.now.trees segments) new
@@ -291,13 +291,13 @@ copied_project = lit Null ∷ cells_project
 abbrev copied_by : List Collation
 copied_by = copy_query.collations
 
-module _ (j : Segment) (keys : Keys) (db : Trees) (new : State) (t i g : ℕ) (latest : AreStored (db 0)) (dead : AreStoredIn db segments) (given : List Row)
+module _ (j : Segment) (keys : Keys) (db : Trees) (new : State) (t i g : ℕ) (latest : AreVersionRows (db 0)) (dead : AreStoredIn db segments) (given : List Row)
     (page : IsPage 0 copied_by key_filter copied_project [] endless (number t ∷ number i ∷ number g ∷ []) (db 0) given) (schema : new.now.schema ≡ version_schema)
     (applies : Applies version_schema keys db (edit_of db (segment_table j) [] Chosen 0 given) new.now.trees) where
   abbrev tree : ℕ
   tree = tree_of j
 
-  own : AreStored (db tree)
+  own : AreVersionRows (db tree)
   own = segment_rows j db segments (once j) dead
 
   abbrev copied : List Placed
@@ -328,7 +328,7 @@ module _ (j : Segment) (keys : Keys) (db : Trees) (new : State) (t i g : ℕ) (l
       )
   copied_hits limit mode (x ∷ y ∷ more) is short = absurd (omega arith)
 
-pub copies : (j : Segment) (old new : State) (t i g : ℕ) (count : ℕ) → old.now.schema ≡ version_schema → AreStored (old.now.trees 0) → AreStoredIn old.now.trees segments
+pub copies : (j : Segment) (old new : State) (t i g : ℕ) (count : ℕ) → old.now.schema ≡ version_schema → AreVersionRows (old.now.trees 0) → AreStoredIn old.now.trees segments
     → length (filter (has_key t i g) (placed_all (old.now.trees 0))) ≤ 1
     → Executes (copy_text j) (number t ∷ number i ∷ number g ∷ []) old new (Ok count)
     → Leaves (tree_of j) old.now.trees (placed_all (old.now.trees 0)) (dead_among old.now.trees segments ++ filter (has_key t i g) (placed_all (old.now.trees 0))) new
@@ -337,10 +337,10 @@ copies j old new t i g count has latest dead few h =
     let db = old.now.trees in
     let params : Row = number t ∷ number i ∷ number g ∷ [] in
     let from : Source = source.Query (alone copy_query) in
-    let ran = runs_as (copy_text j) params old new version_schema has (Insert (place_of j) from) (copy_is j) (copy_plain j) count h in
+    let ran = runs_as (copy_text j) params old new version_schema has (Insert (segment_place j) from) (copy_is j) (copy_plain j) count h in
     let text = statement_of (copy_text j) (understood version_schema (copy_text j)) in
-    let done = subst (λ s. Does old.step_limit (mode_of old) params (record old.now { schema = s }) text None (Insert (place_of j) from) (Ok (ran.tally, new.now))) has ran.changed in
-    let it = inserts_rows (name_of j) (tree_of j) segment_keys old.step_limit (mode_of old) params db (place_of j) from ran.tally new.now (on_segment old.step_limit (mode_of old) params old.now text from _ j done) in
+    let done = subst (λ s. Does old.step_limit (mode_of old) params (record old.now { schema = s }) text None (Insert (segment_place j) from) (Ok (ran.tally, new.now))) has ran.changed in
+    let it = inserts_rows (name_of j) (tree_of j) segment_keys old.step_limit (mode_of old) params db (segment_place j) from ran.tally new.now (on_segment old.step_limit (mode_of old) params old.now text from _ j done) in
     let page : IsPage 0 copied_by key_filter copied_project [] endless params (db 0) it.0 = answered 0 copied_by key_filter copied_project [] endless (overlay db []) params it.0 it.1.answer in
     let all = copied_hits j _ db new t i g latest dead it.0 page it.2 it.4 old.step_limit (mode_of old) (filter (λ r. has_key t i g (placed_in r)) (db 0)) refl (few_rows (has_key t i g) (db 0) few) in
     (all.0, ran.counted ∙ ap (λ n. unwrap_or n 0) it.3 ∙ all.1)

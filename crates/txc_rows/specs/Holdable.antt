@@ -9,7 +9,7 @@ use Rattle.txc_rows.specs.Values.{IsRow}
 use Rattle.txc_rows.specs.Versions.{Pairwise}
 
 -- a row, and stamps that can be
-pub record IsHoldable (v : Versioned) : Type 0 where
+pub record IsStorable (v : Versioned) : Type 0 where
   pub row : IsRow v.row
   pub born : v.born ≤ LAST_STAMP
   pub died : (d : ℕ) → v.died ≡ Some d → d ≤ LAST_STAMP
@@ -20,7 +20,7 @@ HasEnded v w = v.row.table ≡ w.row.table → v.row.id ≡ w.row.id → v.died 
 
 -- so no table and id has two versions that have not died
 pub record AreHeld (vs : List Versioned) : Type 0 where
-  pub each : AllByRecursion IsHoldable vs
+  pub each : AllByRecursion IsStorable vs
   pub ended : Pairwise HasEnded vs
 
 -- the change writes what can be held

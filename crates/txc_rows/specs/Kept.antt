@@ -14,16 +14,16 @@ use Rattle.txc_rows.specs.declared.texts.TheConstants.{MOST_READ}
 use Rattle.txc_rows.specs.States.{query_table}
 use Rattle.txc_rows.specs.declared.store_error.TheConstants.{MAX_MATCHING}
 use Rattle.txc_rows.specs.Versions.{suits}
-use Rattle.txc_rows.specs.Holdable.{IsHoldable}
+use Rattle.txc_rows.specs.Holdable.{IsStorable}
 use Rattle.sqlite.specs.Tree.{Trees}
 use Rattle.txc_rows.specs.declared.texts.Segment.{Segment}
 use Rattle.txc_rows.specs.declared.tally.Tally.{Tally}
 use Rattle.sqlite.specs.Schema.{Schema}
-use Rattle.txc_rows.specs.Texts.{no_schema, version_schema, segments, place_of, tree_of}
+use Rattle.txc_rows.specs.Texts.{no_schema, version_schema, segments, segment_place, tree_of}
 use Rattle.txc_rows.specs.declared.texts.Source.{Source}
 use Rattle.txc_rows.specs.Readings.{tree_read}
-use Rattle.txc_rows.specs.Placed.{Placed, version_of, versions_by_place, left_from, placed_left, AreBelow, AreApart, AreWritten}
-use Rattle.txc_rows.specs.Stored.{placed_all, placed_from, AreStored, AreCells, shown, version_shown}
+use Rattle.txc_rows.specs.Placed.{Placed, version_of, versions_by_place, left_from, placed_left, AreBelow, AreWellPlaced, AreWritten}
+use Rattle.txc_rows.specs.Stored.{placed_all, placed_from, AreVersionRows, AreCells, queried_columns, version_shown}
 
 -- the last versions of each table, id and group, as the transaction sees them
 abbrev pub latest_in : Held MemStore → List Placed
@@ -48,12 +48,12 @@ versions_of h = versions_by_place (placed_of h)
 
 -- the rows of these segments are versions
 abbrev pub AreStoredIn : Trees → List Segment → Type 0
-AreStoredIn trees = AllByRecursion (λ s. AreStored (trees (tree_of s)))
+AreStoredIn trees = AllByRecursion (λ s. AreVersionRows (trees (tree_of s)))
 
 -- all tables are there, and their rows are versions
 pub record HasTables (h : Held MemStore) : Type 0 where
   pub schema : (state over_memory h).now.schema ≡ version_schema
-  pub latest : AreStored ((state over_memory h).now.trees 0)
+  pub latest : AreVersionRows ((state over_memory h).now.trees 0)
   pub dead : AreStoredIn (state over_memory h).now.trees segments
 
 -- all tables are there, and these are the versions in them, the dead in any order
@@ -67,12 +67,12 @@ pub record IsKept (h : Held MemStore) : Type 0 where
   pub tables : HasTables h
   pub idle : h.in_transaction ≡ false
   pub settled : (state over_memory h).committed ≡ (state over_memory h).now
-  pub apart : AreApart (latest_in h) (dead_in h)
+  pub apart : AreWellPlaced (latest_in h) (dead_in h)
 
 -- all tables are there, no two versions are in each other's way, and they are these by place
 pub record HasWritten (versions : List Versioned) (next : ℕ) (h : Held MemStore) : Type 0 where
   pub tables : HasTables h
-  pub apart : AreApart (latest_in h) (dead_in h)
+  pub apart : AreWellPlaced (latest_in h) (dead_in h)
   pub written : AreWritten versions next (placed_of h)
 
 -- one statement of a transaction: it leaves what it should, or it is refused. What is committed stays.
@@ -91,8 +91,8 @@ pub record IsCall {X : Type 0} (Leaves : List Placed → Type 0) (old new : Held
 
 -- the row shows a version of the table
 pub record IsShown (table : ℕ) (r : Row) : Type 0 where
-  pub is : r ≡ shown (version_shown table r)
-  pub version : IsHoldable (version_shown table r)
+  pub is : r ≡ queried_columns (version_shown table r)
+  pub version : IsStorable (version_shown table r)
 
 -- the rows show the versions that the query asks for, in any order, up to one more than may match
 pub record IsListing (q : Query) (versions : List Versioned) (rows : List Row) : Type 0 where
@@ -133,7 +133,7 @@ newest_of t = min t.segments.used 7 - 1
 
 -- where so many are in use beside the first, those that are made before them are empty
 abbrev pub AreEmptyBefore : ℕ → Held MemStore → Type 0
-AreEmptyBefore n h = (s : Segment) → place_of s + n < 7 → (state over_memory h).now.trees (tree_of s) ≡ []
+AreEmptyBefore n h = (s : Segment) → segment_place s + n < 7 → (state over_memory h).now.trees (tree_of s) ≡ []
 
 -- ---- tables that come and go
 
@@ -142,15 +142,15 @@ pub record HasNoTable (h : Held MemStore) : Type 0 where
   pub schema : (state over_memory h).now.schema ≡ no_schema
 
 -- the tables of a schema are there: these are the last versions, and these segments are empty
-pub record HasMade (schema : Schema) (latest : List Placed) (empty : List Segment) (h : Held MemStore) : Type 0 where
+pub record HasMadeTables (schema : Schema) (latest : List Placed) (empty : List Segment) (h : Held MemStore) : Type 0 where
   pub schema_is : (state over_memory h).now.schema ≡ schema
-  pub rows : AreStored ((state over_memory h).now.trees 0)
+  pub rows : AreVersionRows ((state over_memory h).now.trees 0)
   pub latest_are : latest_in h ≡ latest
   pub are_empty : AllByRecursion (λ s. (state over_memory h).now.trees (tree_of s) ≡ []) empty
 
 -- the tables of a schema are there, and these are the last versions
 abbrev pub HasLatest : Schema → List Placed → Held MemStore → Type 0
-HasLatest schema latest = HasMade schema latest []
+HasLatest schema latest = HasMadeTables schema latest []
 
 -- a reading of the versions of one table that did not die before a stamp, or it is refused. All tables are as they
 -- were.

@@ -11,7 +11,7 @@ use Rattle.txc_rows.specs.States.{RowValue, State, IsState, row_at, matches, ans
 use Rattle.txc_rows.specs.Net.{change_table, change_id, net_changes, IsNet, puts_of, rows_at}
 use Rattle.txc_rows.specs.RowTags.{tags_of_row, tags_between, covers_query}
 use Rattle.txc_rows.specs.Versions.{shown_at, after_net, purged, AreChanges}
-use Rattle.txc_rows.specs.Says.{Says, SaysStates, IdsRise}
+use Rattle.txc_rows.specs.Says.{VersionsSay, SaysStates, IdsRise}
 
 -- ---- states
 
@@ -99,7 +99,7 @@ SaysPurged = (states : ℕ → State) (horizon newest next : ℕ) (vs : List Ver
 
 -- the versions that match a query show its answer
 abbrev pub SaysAnswer : Type 0
-SaysAnswer = (q : Query) (t : ℕ) (vs found : List Versioned) (s : State) → IsState s → Says t vs s
+SaysAnswer = (q : Query) (t : ℕ) (vs found : List Versioned) (s : State) → IsState s → VersionsSay t vs s
     → ((v : Versioned) → Contains found v → Contains vs v)
     → ((v : Versioned) → Contains vs v → matches q v.row ≡ true → Contains found v)
     → IdsRise (shown_at q t found) → shown_at q t found ≡ answer q s

@@ -6,7 +6,7 @@ use Rattle.sqlite.specs.Tree.{IsAscending}
 use Rattle.txc_rows.specs.declared.version.Versioned.{Versioned}
 use Rattle.txc_rows.specs.Versions.{closed}
 use Rattle.txc_rows.specs.States.{RowValue, is_at}
-use Rattle.txc_rows.specs.Holdable.{IsHoldable}
+use Rattle.txc_rows.specs.Holdable.{IsStorable}
 
 -- a version, and where it stands among all
 pub record Placed : Type 0 where
@@ -18,14 +18,14 @@ abbrev pub version_of : Placed → Versioned
 version_of x = x.version
 
 -- before the first that has a later place
-abbrev pub put_in : Placed → List Placed → List Placed
-put_in x [] = x ∷ []
-put_in x (y ∷ ys) = if nat_lt x.place y.place then x ∷ (y ∷ ys) else y ∷ put_in x ys
+abbrev pub put_at_place : Placed → List Placed → List Placed
+put_at_place x [] = x ∷ []
+put_at_place x (y ∷ ys) = if nat_lt x.place y.place then x ∷ (y ∷ ys) else y ∷ put_at_place x ys
 
 -- by place
 abbrev pub by_place : List Placed → List Placed
 by_place [] = []
-by_place (x ∷ xs) = put_in x (by_place xs)
+by_place (x ∷ xs) = put_at_place x (by_place xs)
 
 -- the versions in the order of their places
 abbrev pub versions_by_place : List Placed → List Versioned
@@ -82,12 +82,12 @@ IsOneCurrent x y = is_at x.version.row.table x.version.row.id y.version.row ≡ 
     → y.version.died ≢ None
 
 -- all versions, the last of each table, id and group apart from those before it, which have died
-pub record AreApart (latest dead : List Placed) : Type 0 where
+pub record AreWellPlaced (latest dead : List Placed) : Type 0 where
   pub places : HaveOwnPlaces (latest ++ dead)
   pub keys : HaveOwnKeys latest
   pub current : IsAscending IsOneCurrent latest
   pub ended : AllByRecursion (λ x. x.version.died ≢ None) dead
-  pub each : AllByRecursion (λ x. IsHoldable x.version) (latest ++ dead)
+  pub each : AllByRecursion (λ x. IsStorable x.version) (latest ++ dead)
 
 -- the last versions after a put: the new one stands in place of the last of its table, id and group, or else at
 -- the end

@@ -6,7 +6,7 @@ use Rattle.txc_rows.specs.declared.version.Versioned.{Versioned}
 use Rattle.txc_rows.specs.Versions.{visible_rows}
 
 -- the versions that are visible at the stamp have the rows of the state, and no others
-pub record Says (t : ℕ) (vs : List Versioned) (s : State) : Type 0 where
+pub record VersionsSay (t : ℕ) (vs : List Versioned) (s : State) : Type 0 where
   pub each : (r : RowValue) → Contains s r → Contains (visible_rows t vs) r
   pub only : (r : RowValue) → Contains (visible_rows t vs) r → Contains s r
 
@@ -16,7 +16,7 @@ AreUpTo t = AllByRecursion (λ v. (v.born ≤ t) × ((d : ℕ) → v.died ≡ So
 
 -- each state from the horizon to the newest stamp is said, and nothing has happened later
 pub record SaysStates (states : ℕ → State) (horizon newest : ℕ) (vs : List Versioned) : Type 0 where
-  pub kept : (t : ℕ) → horizon ≤ t → t ≤ newest → Says t vs (states t)
+  pub kept : (t : ℕ) → horizon ≤ t → t ≤ newest → VersionsSay t vs (states t)
   pub upto : AreUpTo newest vs
 
 -- strictly by id

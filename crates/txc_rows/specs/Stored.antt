@@ -83,8 +83,8 @@ abbrev pub AreCells : Row → Type 0
 AreCells r = r ≡ cells_of (placed_from r)
 
 -- what the query on one table shows of a version: id, group, body, birth and death
-abbrev pub shown : Versioned → Row
-shown v = number v.row.id ∷ number v.row.group ∷ Blob v.row.body ∷ number v.born ∷ death v.died ∷ []
+abbrev pub queried_columns : Versioned → Row
+queried_columns v = number v.row.id ∷ number v.row.group ∷ Blob v.row.body ∷ number v.born ∷ death v.died ∷ []
 
 -- and how that is read, for a table
 abbrev pub version_shown : ℕ → Row → Versioned
@@ -108,6 +108,6 @@ abbrev pub IsStored : Row → Type 0
 IsStored r = r ≡ stored (id_in (rowid r)) (placed_in r)
 
 -- the rows are versions, and stand by their numbers
-pub record AreStored (rows : List Row) : Type 0 where
+pub record AreVersionRows (rows : List Row) : Type 0 where
   pub table : IsTable rows
   pub each : AllByRecursion IsStored rows

@@ -77,18 +77,18 @@ name_of Sixth = codes "dead_6"
 name_of Seventh = codes "dead_7"
 
 -- its place among the tables: the first is made last
-abbrev pub place_of : Segment → ℕ
-place_of First = 7
-place_of Second = 6
-place_of Third = 5
-place_of Fourth = 4
-place_of Fifth = 3
-place_of Sixth = 2
-place_of Seventh = 1
+abbrev pub segment_place : Segment → ℕ
+segment_place First = 7
+segment_place Second = 6
+segment_place Third = 5
+segment_place Fourth = 4
+segment_place Fifth = 3
+segment_place Sixth = 2
+segment_place Seventh = 1
 
 -- its rows stand in that tree, since each table and its keys have three
 abbrev pub tree_of : Segment → ℕ
-tree_of s = 3 * place_of s
+tree_of s = 3 * segment_place s
 
 -- the table of a segment
 abbrev pub segment_table : Segment → Table

@@ -17,13 +17,13 @@ pub data Use : Type 0 where
   purge : ℕ → Use
 
 -- what a use leaves of the versions
-abbrev pub after_use : List Versioned → Use → List Versioned
-after_use vs (write net stamp) = after_net stamp net vs
-after_use vs (purge horizon) = purged horizon vs
+abbrev pub versions_after_use : List Versioned → Use → List Versioned
+versions_after_use vs (write net stamp) = after_net stamp net vs
+versions_after_use vs (purge horizon) = purged horizon vs
 
 -- the versions of an empty store after these uses
 abbrev pub versions_after : List Use → List Versioned
-versions_after = fold after_use []
+versions_after = fold versions_after_use []
 
 -- what a use makes of the state at a stamp: a write changes it from its own stamp on, and a purge changes no
 -- state
@@ -36,27 +36,27 @@ abbrev pub state_after : List Use → ℕ → State
 state_after uses t = fold (use_at t) [] uses
 
 -- the horizon after one more use of the store
-abbrev pub next_horizon : ℕ → Use → ℕ
-next_horizon horizon (write net stamp) = horizon
-next_horizon horizon (purge next) = next
+abbrev pub horizon_after_use : ℕ → Use → ℕ
+horizon_after_use horizon (write net stamp) = horizon
+horizon_after_use horizon (purge next) = next
 
 -- the horizon of the last purge
 abbrev pub horizon_after : List Use → ℕ
-horizon_after = fold next_horizon 0
+horizon_after = fold horizon_after_use 0
 
 -- writes of net changes of the state at rising stamps, and purges at rising horizons
-abbrev pub AreRising : State → ℕ → ℕ → List Use → Type 0
-AreRising s horizon newest [] = Unit {0}
-AreRising s horizon newest (write net stamp ∷ uses) = (newest < stamp)
+abbrev pub AreUsesInOrder : State → ℕ → ℕ → List Use → Type 0
+AreUsesInOrder s horizon newest [] = Unit {0}
+AreUsesInOrder s horizon newest (write net stamp ∷ uses) = (newest < stamp)
     × IsNet s net (after_changes net s) × AllByRecursion (IsWritable stamp) net
-    × AreRising (after_changes net s) horizon stamp uses
-AreRising s horizon newest (purge next ∷ uses) = (horizon ≤ next) × AreRising s next (max newest next) uses
+    × AreUsesInOrder (after_changes net s) horizon stamp uses
+AreUsesInOrder s horizon newest (purge next ∷ uses) = (horizon ≤ next) × AreUsesInOrder s next (max newest next) uses
 
 -- from an empty store, after any writes of net changes at rising stamps and purges at rising horizons,
 -- what is found for a query shows its answer at every kept stamp
 abbrev pub UsesAnswer : Type 0
 UsesAnswer = (uses : List Use) (q : Query) (found : List Versioned) (t : ℕ)
-    → AreRising [] 0 0 uses → Finds q (versions_after uses) found → horizon_after uses ≤ t
+    → AreUsesInOrder [] 0 0 uses → Finds q (versions_after uses) found → horizon_after uses ≤ t
     → (shown_at q t found ≡ answer q (state_after uses t)) × AreVersions found
 
 -- ---- one call after another

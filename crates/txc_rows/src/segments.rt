@@ -1,7 +1,7 @@
 //! Which segments are in use, and how many versions they have.
 
 ghost use Rattle.std.specs.Prelude.{◌≡◌, ◌≤◌, ◌+◌, ◌-◌, min};
-ghost use Rattle.txc_rows.specs.Texts.{place_of};
+ghost use Rattle.txc_rows.specs.Texts.{segment_place};
 
 use crate::texts::Segment;
 
@@ -52,7 +52,7 @@ impl Segments {
 
     /// The segment to which the next versions go.
     pub(crate) fn newest(&self) -> Segment
-        ensures { place_of result + (min self.now.used 7 - 1) ≡ 7 }
+        ensures { segment_place result + (min self.now.used 7 - 1) ≡ 7 }
     {
         match self.newest_at() {
             0 => Segment::First,

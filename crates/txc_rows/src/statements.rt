@@ -10,7 +10,7 @@ ghost use Rattle.txc_rows.specs.Stored.{AreCells, placed_from};
 ghost use Rattle.txc_rows.specs.declared.texts.Segment.{Segment};
 ghost use Rattle.txc_rows.specs.Texts.{latest_schema, version_schema, schema_to, schema_before, made_before, segments, tree_of};
 ghost use Rattle.txc_rows.specs.declared.texts.Segment.TheVariants.{First};
-ghost use Rattle.txc_rows.specs.Kept.{latest_in, dead_in, placed_of, HasNoTable, HasMade, HasLatest, HasTables, HasVersions, IsKept, IsSame, IsStep, IsCall, IsLeaving, OthersStay, OthersAreEmpty};
+ghost use Rattle.txc_rows.specs.Kept.{latest_in, dead_in, placed_of, HasNoTable, HasMadeTables, HasLatest, HasTables, HasVersions, IsKept, IsSame, IsStep, IsCall, IsLeaving, OthersStay, OthersAreEmpty};
 
 use crate::texts::{
     ADD_LATEST, DROP_LATEST, MAKE_LATEST, SEGMENTS, Segment, Source, add_text, drop_text,
@@ -32,11 +32,11 @@ fn make_latest(tx: &mut Transaction<'_, MemStore>) -> Result<usize, Error>
 
 /// Makes a segment, where those before it have been made and no other.
 fn make_segment(tx: &mut Transaction<'_, MemStore>, segment: Segment) -> Result<usize, Error>
-    requires table { HasMade (schema_before segment) (latest_in tx.old.conn.now) (made_before segment) tx.old.conn.now }
+    requires table { HasMadeTables (schema_before segment) (latest_in tx.old.conn.now) (made_before segment) tx.old.conn.now }
     requires inside { tx.old.conn.now.in_transaction ≡ true }
     ensures same_reference { tx.new.conn.ghost_name ≡ tx.old.conn.ghost_name }
     ensures step { IsStep
-        (HasMade (schema_to segment) (latest_in tx.old.conn.now) (segment ∷ made_before segment))
+        (HasMadeTables (schema_to segment) (latest_in tx.old.conn.now) (segment ∷ made_before segment))
         tx.old.conn.now tx.new.conn.now result }
 {
     tx.execute(make_text(segment), &[])

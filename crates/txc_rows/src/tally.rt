@@ -1,7 +1,7 @@
 //! What is known of the tables without looking into them.
 
 ghost use Rattle.std.specs.Prelude.{◌≡◌, ◌≤◌, ◌+◌, ◌↔◌, IsTrue};
-ghost use Rattle.txc_rows.specs.Texts.{place_of};
+ghost use Rattle.txc_rows.specs.Texts.{segment_place};
 ghost use Rattle.txc_rows.specs.Kept.{newest_of};
 
 use crate::segments::Segments;
@@ -44,14 +44,14 @@ impl Tally {
 
     /// The segment to which the next versions go.
     pub(crate) fn segment(&self) -> Segment
-        ensures { place_of result + newest_of self.now ≡ 7 }
+        ensures { segment_place result + newest_of self.now ≡ 7 }
     {
         self.segments.newest()
     }
 
     /// Whether a segment is in use.
     pub(crate) fn uses(&self, segment: Segment) -> bool
-        ensures { IsTrue result ↔ (7 ≤ place_of segment + newest_of self.now) }
+        ensures { IsTrue result ↔ (7 ≤ segment_place segment + newest_of self.now) }
     {
         segment.place() + self.segments.newest_at() >= 7
     }

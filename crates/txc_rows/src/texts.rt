@@ -1,7 +1,7 @@
 //! The texts of the statements on the tables of versions.
 
 ghost use Rattle.std.specs.Prelude.{◌≡◌};
-ghost use Rattle.txc_rows.specs.Texts.{place_of, add_text, copy_text, drop_text, make_text};
+ghost use Rattle.txc_rows.specs.Texts.{segment_place, add_text, copy_text, drop_text, make_text};
 ghost use Rattle.txc_rows.specs.Readings.{table_text, row_text, group_text, range_text, left_text};
 
 use crate::store_error::MAX_MATCHING;
@@ -150,7 +150,7 @@ pub(crate) const SEGMENTS: &[Segment] = &[
 impl Segment {
     /// Its place among the tables.
     pub(crate) fn place(self) -> usize
-        ensures { result ≡ place_of self }
+        ensures { result ≡ segment_place self }
     {
         match self {
             Segment::First => 7,

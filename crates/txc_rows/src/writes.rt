@@ -4,7 +4,7 @@ ghost use Rattle.std.specs.Prelude.{◌≡◌, ◌++◌, ◌∷◌, [], ◌≤�
 ghost use Rattle.txc_stamp.specs.declared.stamp.TheConstants.{LAST_STAMP};
 ghost use Rattle.txc_rows.specs.Values.{IsRow};
 ghost use Rattle.txc_rows.specs.Versions.{put, after_write, after_net};
-ghost use Rattle.txc_rows.specs.Placed.{has_key, closed_placed, new_placed, renewed, put_latest, put_dead, HaveOwnKeys, AreBelow, AreApart, AreWritten};
+ghost use Rattle.txc_rows.specs.Placed.{has_key, closed_placed, new_placed, renewed, put_latest, put_dead, HaveOwnKeys, AreBelow, AreWellPlaced, AreWritten};
 ghost use Rattle.txc_rows.specs.Texts.{tree_of};
 ghost use Rattle.txc_rows.specs.Kept.{latest_in, dead_in, placed_of, versions_of, HasTables, HasVersions, HasWritten, OthersStay, IsKept, IsStep, IsCall};
 
@@ -78,7 +78,7 @@ fn end_version(
 ) -> Result<usize, Error>
     requires table { HasTables tx.old.conn.now }
     requires inside { tx.old.conn.now.in_transaction ≡ true }
-    requires apart { AreApart (latest_in tx.old.conn.now) (dead_in tx.old.conn.now) }
+    requires apart { AreWellPlaced (latest_in tx.old.conn.now) (dead_in tx.old.conn.now) }
     ensures same_reference { tx.new.conn.ghost_name ≡ tx.old.conn.ghost_name }
     ensures stamp { stamp ≤ LAST_STAMP }
     ensures step { IsStep
@@ -186,7 +186,7 @@ fn write_put(
 ) -> Result<Written, Error>
     requires table { HasTables tx.old.conn.now }
     requires inside { tx.old.conn.now.in_transaction ≡ true }
-    requires apart { AreApart (latest_in tx.old.conn.now) (dead_in tx.old.conn.now) }
+    requires apart { AreWellPlaced (latest_in tx.old.conn.now) (dead_in tx.old.conn.now) }
     requires below { AreBelow place (placed_of tx.old.conn.now) }
     ensures same_reference { tx.new.conn.ghost_name ≡ tx.old.conn.ghost_name }
     ensures step { IsStep
@@ -212,7 +212,7 @@ fn write_change(
 ) -> Result<Written, Error>
     requires table { HasTables tx.old.conn.now }
     requires inside { tx.old.conn.now.in_transaction ≡ true }
-    requires apart { AreApart (latest_in tx.old.conn.now) (dead_in tx.old.conn.now) }
+    requires apart { AreWellPlaced (latest_in tx.old.conn.now) (dead_in tx.old.conn.now) }
     requires below { AreBelow place (placed_of tx.old.conn.now) }
     ensures same_reference { tx.new.conn.ghost_name ≡ tx.old.conn.ghost_name }
     ensures step { IsStep

@@ -8,7 +8,7 @@ use Rattle.txc_node.specs.declared.op.Op.{Op}
 use Rattle.txc_node.specs.declared.op.Op.TheVariants.{Insert, Lookup, Event, Sweep}
 use Rattle.txc_script.specs.declared.line_fault.WordKind.{WordKind}
 use Rattle.txc_script.specs.LineFaults.{AreOfKinds, IsCommand}
-use Rattle.txc_run.specs.NodeScripts.{insert_kinds, lookup_kinds, event_kinds, sweep_kinds, kinds_after}
+use Rattle.txc_run.specs.NodeScripts.{insert_kinds, lookup_kinds, event_kinds, sweep_kinds, step_kinds}
 use Rattle.txc_run.specs.Lines.{Spells}
 use Rattle.txc_script.specs.Words.{HasWords, words_of}
 use Rattle.txc_script.proofs.Offered.{has_words}
@@ -85,6 +85,6 @@ by_name line name words kinds false false false true has is_i is_l is_e is_s kno
     sweep_spells line words (subst (λ (n : List ℕ). HasWords line (n ∷ words)) ((bytes_eq-Decides name (codes "sweep")).0 is_s) has) (subst (λ (ks : List WordKind). AreOfKinds ks words) (sym (same_some sweep_kinds kinds known)) h)
 by_name line name words kinds false false false false has is_i is_l is_e is_s known h = absurd (let no : None ≡ Some kinds = known in cc)
 
-pub all_spell : (line : List ℕ) (words : List (List ℕ)) (kinds : List WordKind) → IsCommand kinds_after (words_of line) words kinds → AreOfKinds kinds words → (op : Op) × Spells line op
+pub all_spell : (line : List ℕ) (words : List (List ℕ)) (kinds : List WordKind) → IsCommand step_kinds (words_of line) words kinds → AreOfKinds kinds words → (op : Op) × Spells line op
 all_spell line words kinds is h =
     by_name line is.name words kinds _ _ _ _ (subst (HasWords line) is.are (has_words line)) refl refl refl refl is.known h

@@ -10,7 +10,7 @@ use Rattle.txc_node.specs.declared.op.Op.{Op}
 use Rattle.txc_node.specs.declared.record.Record.{Record}
 use Rattle.txc_node.specs.declared.reply.Reply.{Reply}
 use Rattle.txc_script.specs.Kinds.{Given, Nothing, Replied, Malformed, AreGiven, Closing, Gives, IsFaultOf, IsMalformed, IsStatusOf, is_malformed, is_refused, line_text, lines_text}
-use Rattle.txc_script.specs.Runs.{Breaks, After, Within, AtEnd, BreaksOff, Ends, HasRun, HasWritten}
+use Rattle.txc_script.specs.Runs.{Breaks, After, Within, AtEnd, BreaksOff, Ends, ScriptHasRun, ScriptHasWritten}
 use Rattle.txc_script.specs.declared.fault.RunFault.{RunFault}
 use Rattle.txc_script.specs.declared.fault.RunFault.TheVariants as faults
 use Rattle.txc_script.specs.declared.fault.Status.{Status}
@@ -130,7 +130,7 @@ same_broke start read at_end lines given left none h = record {
 }
 
 same_written : (start : Counted) (read : List ℕ) (at_end : Type 0) (written : List ℕ) (r : Result Status RunFault) (left : Counted) → HasReport [] start.report
-    → HasWritten counted_script start read at_end written r left → HasWritten (node_script Report) start.node read at_end written r left.node
+    → ScriptHasWritten counted_script start read at_end written r left → ScriptHasWritten (node_script Report) start.node read at_end written r left.node
 same_written start read at_end written (Ok status) left none h = (
   h.0,
   h.1,
@@ -147,11 +147,11 @@ same_written start read at_end written (Err faults.Write) left none (lines, give
     (lines, given, n, inr (h.0, same_ends start read at_end lines given h.0 left none h.1, h.2 ∙ ap (λ (xs : List ℕ). take n (xs ++ h.0.text)) (same_text given)))
 same_written start read at_end written (Err faults.Memory) left none h = (h.0, h.1, same_broke start read at_end h.0 h.1 left none h.2, h.3 ∙ same_text h.1, h.4)
 
-pub same_run : (start : Counted) (a b w x : Option (List ℕ)) (r : Result Status RunFault) (left : Counted) (c : Cache) → start.node ≡ c → HasReport [] start.report → HasRun counted_script start a b w x r left
-    → HasRun (node_script Report) c a b w x r left.node
+pub same_run : (start : Counted) (a b w x : Option (List ℕ)) (r : Result Status RunFault) (left : Counted) (c : Cache) → start.node ≡ c → HasReport [] start.report → ScriptHasRun counted_script start a b w x r left
+    → ScriptHasRun (node_script Report) c a b w x r left.node
 same_run start a b w x r left c is none h =
-    subst (λ (c : Cache). HasRun (node_script Report) c a b w x r left.node) is (h.0, h.1, h.2, h.3, same_written start h.0 _ h.1 r left none h.4)
+    subst (λ (c : Cache). ScriptHasRun (node_script Report) c a b w x r left.node) is (h.0, h.1, h.2, h.3, same_written start h.0 _ h.1 r left none h.4)
 
 -- a run begins in the same cache
-pub run_from : (start c : Cache) (a b w x : Option (List ℕ)) (r : Result Status RunFault) (left : Cache) → start ≡ c → HasRun (node_script Node) start a b w x r left → HasRun (node_script Node) c a b w x r left
-run_from start c a b w x r left is h = subst (λ (s : Cache). HasRun (node_script Node) s a b w x r left) is h
+pub run_from : (start c : Cache) (a b w x : Option (List ℕ)) (r : Result Status RunFault) (left : Cache) → start ≡ c → ScriptHasRun (node_script Node) start a b w x r left → ScriptHasRun (node_script Node) c a b w x r left
+run_from start c a b w x r left is h = subst (λ (s : Cache). ScriptHasRun (node_script Node) s a b w x r left) is h

@@ -19,7 +19,7 @@ use Rattle.txc_node.proofs.Offered.{entry_has_no_reach, entry_is_too_long}
 use Rattle.txc_script.specs.Words.{HasNoBlank, HasWords, words_of}
 use Rattle.txc_script.specs.Hex.{IsHexWord}
 use Rattle.txc_script.specs.Lines.{IsKeyWord, IsStampWord, IsTagsWord, still_text}
-use Rattle.txc_run.specs.Lines.{AreLookupWords, AreEventWords, AreSweepWords, AreInsertWords, name_of, AreWordsAfter, Spells}
+use Rattle.txc_run.specs.Lines.{AreLookupWords, AreEventWords, AreSweepWords, AreInsertWords, step_name, AreWordsAfter, Spells}
 use Rattle.txc_script.specs.Unread.{IsNone}
 use Rattle.txc_script.specs.declared.unread.Unread.{Unread}
 use Rattle.txc_script.specs.declared.unread.Unread.TheVariants as unread
@@ -184,12 +184,12 @@ spelled line name text e bare op h =
     (words_of text, subst (λ (n : List ℕ). HasWords line (n ∷ words_of text)) (sym h.0) (line_words line name text e bare), words_after op text h.1.0 h.1.1 h.1.2)
 
 record SameWords (name text : List ℕ) (op : Op) (words : List (List ℕ)) : Type 0 where
-  names : name_of op ≡ name
+  names : step_name op ≡ name
   others : words ≡ words_of text
 
-same_words : (line name text : List ℕ) (op : Op) (words : List (List ℕ)) → line ≡ name ++ 32 ∷ text → HasNoBlank name → HasWords line (name_of op ∷ words) → SameWords name text op words
+same_words : (line name text : List ℕ) (op : Op) (words : List (List ℕ)) → line ≡ name ++ 32 ∷ text → HasNoBlank name → HasWords line (step_name op ∷ words) → SameWords name text op words
 same_words line name text op words e bare has =
-    let same : name_of op ∷ words ≡ name ∷ words_of text = sym (words_are line (name_of op) words has) ∙ words_cut line name text e bare in
+    let same : step_name op ∷ words ≡ name ∷ words_of text = sym (words_are line (step_name op) words has) ∙ words_cut line name text e bare in
     record { names = cc; others = cc }
 
 pub named : (line name text : List ℕ) → line ≡ name ++ 32 ∷ text → HasNoBlank name → (op : Op) → Spells line op → IsNamed name text op
@@ -200,7 +200,7 @@ named line name text e bare op s =
 -- a line without a blank names no step
 pub unnamed : (line : List ℕ) (op : Op) → HasNoBlank line → Spells line op → ⊥
 unnamed line op bare s =
-    let same : name_of op ∷ s.0 ≡ line ∷ [] = sym (words_are line (name_of op) s.0 s.1) ∙ words_alone line bare in
+    let same : step_name op ∷ s.0 ≡ line ∷ [] = sym (words_are line (step_name op) s.0 s.1) ∙ words_alone line bare in
     let none : s.0 ≡ [] = cc in
     some_words op (subst (AreWordsAfter op) none s.2)
 

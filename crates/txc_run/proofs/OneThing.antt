@@ -20,7 +20,7 @@ use Rattle.txc_node.specs.Steps.{entry_refusal, refusal_by}
 use Rattle.txc_node.specs.Texts.{digit_of, digits_of}
 use Rattle.txc_script.specs.Hex.{IsHexWord}
 use Rattle.txc_script.specs.Lines.{IsKeyWord, IsStampWord, IsTagsWord, still_text, IsQuiet}
-use Rattle.txc_run.specs.Lines.{AreLookupWords, AreEventWords, AreSweepWords, AreInsertWords, AreWordsAfter, name_of, Spells, IsStepLine}
+use Rattle.txc_run.specs.Lines.{AreLookupWords, AreEventWords, AreSweepWords, AreInsertWords, AreWordsAfter, step_name, Spells, IsStepLine}
 use Rattle.txc_run.specs.Reading.{Line, Quiet, Step, Unmade, Malformed, IsLine, CanBeMade}
 use Rattle.txc_script.proofs.Offered.{words_are}
 
@@ -106,7 +106,7 @@ same_insert words a b p q =
     let made : ◌≡◌ {A = Entry} (record { key = a.key; value = a.value; reach = a.reach; tags = a.tags }) (record { key = b.key; value = b.value; reach = b.reach; tags = b.tags }) = cc in
     made
 
-same_after : (a b : Op) (words : List (List ℕ)) → name_of a ≡ name_of b → AreWordsAfter a words → AreWordsAfter b words → a ≡ b
+same_after : (a b : Op) (words : List (List ℕ)) → step_name a ≡ step_name b → AreWordsAfter a words → AreWordsAfter b words → a ≡ b
 same_after (Insert x) (Insert y) words e p q = ap Insert (same_insert words x y p q)
 same_after (Lookup x lo hi) (Lookup y low high) words e p q = same_lookup words x y lo low hi high p q
 same_after (Event s x) (Event t y) words e p q = same_event words s t x y p q
@@ -126,15 +126,15 @@ same_after (Sweep x) (Event t y) words e p q = cc
 
 same_spelled : (line : List ℕ) (a b : Op) → Spells line a → Spells line b → a ≡ b
 same_spelled line a b h k =
-    let same : name_of a ∷ h.0 ≡ name_of b ∷ k.0 = sym (words_are line (name_of a) h.0 h.1) ∙ words_are line (name_of b) k.0 k.1 in
-    let names : name_of a ≡ name_of b = cc in
+    let same : step_name a ∷ h.0 ≡ step_name b ∷ k.0 = sym (words_are line (step_name a) h.0 h.1) ∙ words_are line (step_name b) k.0 k.1 in
+    let names : step_name a ≡ step_name b = cc in
     let others : k.0 ≡ h.0 = cc in
     same_after a b h.0 names h.2 (subst (AreWordsAfter b) others k.2)
 
 -- ---- lines
 
 -- a name begins with a letter
-begins_with_letter : (op : Op) (words : List (List ℕ)) (b : ℕ) (line : List ℕ) → b ∷ line ≡ join_with_byte 32 (name_of op ∷ words) → b ≡ 35 → ⊥
+begins_with_letter : (op : Op) (words : List (List ℕ)) (b : ℕ) (line : List ℕ) → b ∷ line ≡ join_with_byte 32 (step_name op ∷ words) → b ≡ 35 → ⊥
 begins_with_letter (Insert x) [] b line e h = omega (arith, h, (let first : b ≡ 105 = cc in first))
 begins_with_letter (Insert x) (w ∷ words) b line e h = omega (arith, h, (let first : b ≡ 105 = cc in first))
 begins_with_letter (Lookup x lo hi) [] b line e h = omega (arith, h, (let first : b ≡ 108 = cc in first))
@@ -144,7 +144,7 @@ begins_with_letter (Event s x) (w ∷ words) b line e h = omega (arith, h, (let 
 begins_with_letter (Sweep x) [] b line e h = omega (arith, h, (let first : b ≡ 115 = cc in first))
 begins_with_letter (Sweep x) (w ∷ words) b line e h = omega (arith, h, (let first : b ≡ 115 = cc in first))
 
-is_not_empty : (op : Op) (words : List (List ℕ)) → [] ≡ join_with_byte 32 (name_of op ∷ words) → ⊥
+is_not_empty : (op : Op) (words : List (List ℕ)) → [] ≡ join_with_byte 32 (step_name op ∷ words) → ⊥
 is_not_empty (Insert x) [] e = cc
 is_not_empty (Insert x) (w ∷ words) e = cc
 is_not_empty (Lookup x lo hi) [] e = cc

@@ -50,11 +50,11 @@ pub record AreInsertWords (e : Entry) (words : List (List ℕ)) : Type 0 where
   pub is_value : IsHexWord value_word e.value
 
 -- the name of a step
-abbrev pub name_of : Op → List ℕ
-name_of (Insert e) = codes "insert"
-name_of (Lookup key lo hi) = codes "lookup"
-name_of (Event stamp tags) = codes "event"
-name_of (Sweep horizon) = codes "sweep"
+abbrev pub step_name : Op → List ℕ
+step_name (Insert e) = codes "insert"
+step_name (Lookup key lo hi) = codes "lookup"
+step_name (Event stamp tags) = codes "event"
+step_name (Sweep horizon) = codes "sweep"
 
 -- the words after the name of that step
 abbrev pub AreWordsAfter : Op → List (List ℕ) → Type 0
@@ -69,7 +69,7 @@ IsTextAfter op text = (words : List (List ℕ)) × HasWords text words × AreWor
 
 -- the line is the step's name and its words
 abbrev pub Spells : List ℕ → Op → Type 0
-Spells line op = (words : List (List ℕ)) × HasWords line (name_of op ∷ words) × AreWordsAfter op words
+Spells line op = (words : List (List ℕ)) × HasWords line (step_name op ∷ words) × AreWordsAfter op words
 
 -- ---- lines
 

@@ -29,8 +29,8 @@ event_kinds = Stamp ∷ Tags ∷ []
 abbrev pub sweep_kinds : List WordKind
 sweep_kinds = Stamp ∷ []
 
-abbrev pub kinds_after : List ℕ → Option (List WordKind)
-kinds_after name =
+abbrev pub step_kinds : List ℕ → Option (List WordKind)
+step_kinds name =
     if bytes_eq name (codes "insert") then Some insert_kinds
     else (if bytes_eq name (codes "lookup") then Some lookup_kinds
     else (if bytes_eq name (codes "event") then Some event_kinds
@@ -65,7 +65,7 @@ node_script mode = record {
   breaks_off = λ c line next. Unit {0};
   text = reply_line mode;
   is_refused = is_refusal;
-  is_wrong = λ c. IsCommandFault kinds_after;
+  is_wrong = λ c. IsCommandFault step_kinds;
   closes = CloseNode mode;
   breaks_at_end = λ c next. MayBreakAtEnd mode;
 }

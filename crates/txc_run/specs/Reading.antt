@@ -13,7 +13,7 @@ use Rattle.txc_script.specs.Kinds.{IsMalformed}
 use Rattle.txc_script.specs.Lines.{IsQuiet}
 use Rattle.txc_script.specs.declared.unread.Unread.{Unread}
 use Rattle.txc_script.specs.declared.unread.Unread.TheVariants as unread
-use Rattle.txc_run.specs.Lines.{IsStepLine, IsTextAfter, name_of}
+use Rattle.txc_run.specs.Lines.{IsStepLine, IsTextAfter, step_name}
 use Rattle.txc_run.specs.NodeScripts.{node_script}
 use Rattle.txc_run.specs.declared.unread.NoStep.{NoStep}
 use Rattle.txc_run.specs.declared.unread.NoStep.TheVariants as reasons
@@ -36,7 +36,7 @@ IsNoWord Is reasons.Memory = ⊤
 
 -- the step has this name, and the text is its words after it
 abbrev pub IsNamed : List ℕ → List ℕ → Op → Type 0
-IsNamed name text op = (name_of op ≡ name) × IsTextAfter op text
+IsNamed name text op = (step_name op ≡ name) × IsTextAfter op text
 
 -- an insertion's entry can be made
 abbrev pub CanBeMade : Op → Type 0

@@ -1,7 +1,7 @@
 //! Runs of a node's scripts.
 ghost use Rattle.txc_node.specs.Cache.{Cache, empty_cache};
 ghost use Rattle.std.specs.Prelude.{◌≡◌, [], IfOk};
-ghost use Rattle.txc_script.specs.Runs.{HasRun};
+ghost use Rattle.txc_script.specs.Runs.{ScriptHasRun};
 ghost use Rattle.txc_run.specs.Counting.{HasReport};
 ghost use Rattle.txc_run.specs.NodeScripts.{node_script};
 
@@ -20,7 +20,7 @@ fn run_replying<R: Read, W: Write>(
     reader: &mut R,
     writer: &mut W,
 ) -> Result<Status, RunFault>
-    ensures { (left : Cache) × HasRun (node_script Mode.Node) (empty_cache settings.capacity settings.recent)
+    ensures { (left : Cache) × ScriptHasRun (node_script Mode.Node) (empty_cache settings.capacity settings.recent)
         (R.remaining reader.old) (R.remaining reader.new)
         (W.contents writer.old) (W.contents writer.new) result left }
 {
@@ -48,7 +48,7 @@ fn run_counting<R: Read, W: Write>(
     writer: &mut W,
 ) -> Result<Status, RunFault>
     ensures { (left : Cache)
-        × HasRun (node_script Mode.Report) (empty_cache settings.capacity settings.recent)
+        × ScriptHasRun (node_script Mode.Report) (empty_cache settings.capacity settings.recent)
         (R.remaining reader.old) (R.remaining reader.new)
         (W.contents writer.old) (W.contents writer.new) result left }
 {
@@ -69,7 +69,7 @@ pub fn run<R: Read, W: Write>(
     reader: &mut R,
     writer: &mut W,
 ) -> Result<Status, RunFault>
-    ensures { (left : Cache) × HasRun (node_script mode) (empty_cache settings.capacity settings.recent)
+    ensures { (left : Cache) × ScriptHasRun (node_script mode) (empty_cache settings.capacity settings.recent)
         (R.remaining reader.old) (R.remaining reader.new)
         (W.contents writer.old) (W.contents writer.new) result left }
 {

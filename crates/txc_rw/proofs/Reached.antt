@@ -3,7 +3,7 @@ use Rattle.std.proofs.Common.{◌≡◌, ℕ, List, [], ◌∷◌, ◌++◌, tak
 use Rattle.txc_rows.specs.declared.query.Change.{Change}
 use Rattle.txc_rows.specs.States.{State, after_change, after_changes}
 use Rattle.txc_db.specs.Facts.{Fact, commit, pin, net_of}
-use Rattle.txc_db.specs.History.{History, after_event, after_fact, state_at}
+use Rattle.txc_db.specs.History.{History, after_fact, state_after_event, state_at}
 use Rattle.txc_rw.specs.Answers.{state_of}
 
 -- all changes of the events
@@ -19,10 +19,10 @@ fact_changes : (f : Fact) (s : State) → after_changes (net_of f) s ≡ after_f
 fact_changes (commit net) s = refl
 fact_changes (pin moment) s = refl
 
-events_change : (es : History) (s : State) → fold after_event s es ≡ after_changes (changes_of es) s
+events_change : (es : History) (s : State) → fold state_after_event s es ≡ after_changes (changes_of es) s
 events_change [] s = refl
 events_change (e ∷ es) s =
-    events_change es (after_event s e)
+    events_change es (state_after_event s e)
     ∙ ap (λ (t : State). after_changes (changes_of es) t) (sym (fact_changes e.fact s))
     ∙ sym (changes_then (net_of e.fact) (changes_of es) s)
 

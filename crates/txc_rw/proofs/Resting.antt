@@ -12,8 +12,8 @@ use Rattle.txc_call.specs.declared.need.Need.{Need}
 use Rattle.txc_call.specs.Needs.{NeedFits}
 use Rattle.txc_rw.specs.declared.given.Given.{Given}
 use Rattle.txc_rw.specs.Answers.{AreRightIn, IsRightIn}
-use Rattle.txc_rw.specs.Core.{RwValue, RwHolds, IsIdle, IsRw}
-use Rattle.txc_rw.specs.Txn.{IsResting, TxnValue}
+use Rattle.txc_rw.specs.Core.{RwValue, RwHolds, IsRwIdle, IsRw}
+use Rattle.txc_rw.specs.Txn.{IsRwResting, RwTxnValue}
 use Rattle.txc_rw.proofs.Holding.{at_rest_holds}
 
 -- at rest, whatever the objects do
@@ -24,7 +24,7 @@ holds_at_rest next L os os' c empty none h = record {
   call = λ changes agree. at_rest_holds next _ os' c.call empty none;
 }
 
-pub rested : (next : Next) (L : History) (os : Objects) (c : RwValue) → IsRw next os c → IsIdle c → RwHolds next L os c → AllIdle os × IsResting next L c
+pub rested : (next : Next) (L : History) (os : Objects) (c : RwValue) → IsRw next os c → IsRwIdle c → RwHolds next L os c → AllIdle os × IsRwResting next L c
 rested next L os c fits idle h =
     let at_rest : (c.call.frames ≡ []) × AllIdle os = subst (λ (n : Option Need). NeedFits next os c.call.top n c.call.frames) idle.0 fits.call in
     (at_rest.1, record { frames = at_rest.0; need = idle.0; reading = idle.1; holds = λ os'. holds_at_rest next L os os' c at_rest.0 idle.0 h })
@@ -34,7 +34,7 @@ pub holds_by : (next : Next) (F L : History) (os os' : Objects) (c c' : RwValue)
 holds_by next F L os os' c c' same step h =
     subst (λ (M : History). RwHolds next M os' c') same (step (subst (λ (M : History). RwHolds next M os c) (sym same) h))
 
-abbrev pub txn_of : RwValue → History → Objects → TxnValue
+abbrev pub txn_of : RwValue → History → Objects → RwTxnValue
 txn_of c L objects = record { core = c; history = L; objects = objects }
 
 -- what a call changes of a transaction
@@ -48,8 +48,8 @@ called old new L os os' is none same =
     (ap (λ (w : RwValue). txn_of w L os) core)
 
 -- a change more
-pub written : (next : Next) (L : History) (c c' : RwValue) (changes : List Change) → c' ≡ record c { changes = changes } → IsResting next L c → IsResting next L c'
-written next L c c' changes is h = subst (λ (w : RwValue). IsResting next L w) (sym is) record {
+pub written : (next : Next) (L : History) (c c' : RwValue) (changes : List Change) → c' ≡ record c { changes = changes } → IsRwResting next L c → IsRwResting next L c'
+written next L c c' changes is h = subst (λ (w : RwValue). IsRwResting next L w) (sym is) record {
   frames = h.frames;
   need = h.need;
   reading = h.reading;
@@ -70,6 +70,6 @@ if_err P Q (Ok v) step h = tt
 if_err P Q (Err e) step h = step e h
 
 pub written_or_not : {T E : Type 0} (r : Result T E) (next : Next) (L : History) (c c' : RwValue) (changes : List Change)
-    → OnOk r (c' ≡ record c { changes = changes }) → OnErr r (c' ≡ c) → IsResting next L c → IsResting next L c'
+    → OnOk r (c' ≡ record c { changes = changes }) → OnErr r (c' ≡ c) → IsRwResting next L c → IsRwResting next L c'
 written_or_not (Ok done) next L c c' changes after unchanged h = written next L c c' changes after h
-written_or_not (Err e) next L c c' changes after unchanged h = subst (λ (w : RwValue). IsResting next L w) (sym unchanged) h
+written_or_not (Err e) next L c c' changes after unchanged h = subst (λ (w : RwValue). IsRwResting next L w) (sym unchanged) h

@@ -24,9 +24,9 @@ use Rattle.txc_ports.specs.declared.turn.Turn.TheVariants.{Ask, Value, Rows, Ref
 use Rattle.txc_ports.specs.Refusals.{refused_call, refused_request}
 use Rattle.txc_rw.specs.declared.given.Given.{Given}
 use Rattle.txc_rw.specs.declared.given.Given.TheVariants as given
-use Rattle.txc_rw.specs.Core.{RwValue, answers_after, queried_after, IsIdle, IsTurn}
+use Rattle.txc_rw.specs.Core.{RwValue, answers_after, queried_after, IsRwIdle, IsRwTurn}
 use Rattle.txc_ports.specs.Turns.{IsAsk}
-use Rattle.txc_rw.specs.Leading.{query_in, queries_in, standing_of, CallLeads, EndsCall, IsLedAt, IsLedTo, IsRefusedAt, IsQueryRefusal, IsRun, IsStepAt, IsUncached, RowsLead, StandingLeads, Step}
+use Rattle.txc_rw.specs.Leading.{query_in, queries_in, standing_of, RwCallLeads, EndsCall, IsLedAt, IsLedTo, IsQueryRefusedAt, IsQueryRefusal, IsUncachedRun, IsStepAt, IsUncached, RowsLead, RwStandingLeads, Step}
 
 module _ (next : Next) (s : State) where
   led_more : (from mid end : CallTurn) (steps : List Step) (x : Step) → IsLedAt next s from steps mid → IsStepAt next s mid x end → IsLedAt next s from (steps ++ x ∷ []) end
@@ -100,7 +100,7 @@ same_found reply one other is is' =
 
 -- the database refused what the call needs
 abbrev pub IsAskRefused : List ℕ → ℕ → CallTurn → Turn → Type 0
-IsAskRefused row base (Ok standing) (Refused error) = (q : Query) × (standing.need ≡ Some (needs.Query q)) × IsRefusedAt row base q error
+IsAskRefused row base (Ok standing) (Refused error) = (q : Query) × (standing.need ≡ Some (needs.Query q)) × IsQueryRefusedAt row base q error
 IsAskRefused row base stands turn = ⊥
 
 -- a call came so far, and the core did this last
@@ -109,11 +109,11 @@ pub record IsRunSo (next : Next) (row : List ℕ) (s : State) (from : CallTurn) 
   pub stands : CallTurn
   pub led : IsLedTo next s from queries stands
   pub queried : new.queried ≡ old.queried ++ queries
-  pub does : StandingLeads stands new objects turn ⊎ IsAskRefused row old.base stands turn
+  pub does : RwStandingLeads stands new objects turn ⊎ IsAskRefused row old.base stands turn
 
 -- as the core begins
 pub run_begins : (next : Next) (row : List ℕ) (s : State) (from : CallTurn) (old new : RwValue) (objects : Objects) (turn : Turn) → new.queried ≡ old.queried
-    → CallLeads next s from [] new objects turn → IsRunSo next row s from old new objects turn
+    → RwCallLeads next s from [] new objects turn → IsRunSo next row s from old new objects turn
 run_begins next row s from old new objects turn same leads = record {
   queries = [];
   stands = leads.0;
@@ -124,8 +124,8 @@ run_begins next row s from old new objects turn same leads = record {
 
 -- as it ends, with its value or a refusal
 run_ends : (next : Next) (row : List ℕ) (s : State) (from : CallTurn) (old new : RwValue) (objects : Objects) (turn : Turn) (result : Result (List ℕ) TxnError)
-    → ((stands : CallTurn) → StandingLeads stands new objects turn ⊎ IsAskRefused row old.base stands turn → EndsCall row old.base stands objects result)
-    → IsRunSo next row s from old new objects turn → IsRun next row s from old new objects result
+    → ((stands : CallTurn) → RwStandingLeads stands new objects turn ⊎ IsAskRefused row old.base stands turn → EndsCall row old.base stands objects result)
+    → IsRunSo next row s from old new objects turn → IsUncachedRun next row s from old new objects result
 run_ends next row s from old new objects turn result ends h = record {
   queries = h.queries;
   stands = h.stands;
@@ -134,14 +134,14 @@ run_ends next row s from old new objects turn result ends h = record {
   ended = ends h.stands h.does;
 }
 
-value_ends : (row : List ℕ) (base : ℕ) (stands : CallTurn) (new : RwValue) (objects : Objects) (v : List ℕ) → StandingLeads stands new objects (Value v) ⊎ IsAskRefused row base stands (Value v)
+value_ends : (row : List ℕ) (base : ℕ) (stands : CallTurn) (new : RwValue) (objects : Objects) (v : List ℕ) → RwStandingLeads stands new objects (Value v) ⊎ IsAskRefused row base stands (Value v)
     → EndsCall row base stands objects (Ok v)
 value_ends row base (Ok standing) new objects v (inl h) = h
 value_ends row base (Ok standing) new objects v (inr h) = absurd h
 value_ends row base (Err e) new objects v (inl h) = absurd (cc h)
 value_ends row base (Err e) new objects v (inr h) = absurd h
 
-refusal_ends : (row : List ℕ) (base : ℕ) (stands : CallTurn) (new : RwValue) (objects : Objects) (e : TxnError) → StandingLeads stands new objects (Refused e) ⊎ IsAskRefused row base stands (Refused e)
+refusal_ends : (row : List ℕ) (base : ℕ) (stands : CallTurn) (new : RwValue) (objects : Objects) (e : TxnError) → RwStandingLeads stands new objects (Refused e) ⊎ IsAskRefused row base stands (Refused e)
     → EndsCall row base stands objects (Err e)
 refusal_ends row base (Ok standing) new objects e (inl h) = inl h
 refusal_ends row base (Ok standing) new objects e (inr h) = inr h
@@ -149,7 +149,7 @@ refusal_ends row base (Err cause) new objects e (inl h) = let same : e ≡ refus
 refusal_ends row base (Err cause) new objects e (inr h) = absurd h
 
 pub run_over : (next : Next) (row : List ℕ) (s : State) (from : CallTurn) (old new : RwValue) (objects : Objects) (turn : Turn) (result : Result (List ℕ) TxnError)
-    → IfOk result (λ v. turn ≡ Value v) → IfErr result (λ e. turn ≡ Refused e) → IsRunSo next row s from old new objects turn → IsRun next row s from old new objects result
+    → IfOk result (λ v. turn ≡ Value v) → IfErr result (λ e. turn ≡ Refused e) → IsRunSo next row s from old new objects turn → IsUncachedRun next row s from old new objects result
 run_over next row s from old new objects turn (Ok v) is there h =
     run_ends next row s from old new objects (Value v) (Ok v) (λ stands. value_ends row old.base stands new objects v) (subst (λ (t : Turn). IsRunSo next row s from old new objects t) is h)
 run_over next row s from old new objects turn (Err e) there is h =
@@ -157,7 +157,7 @@ run_over next row s from old new objects turn (Err e) there is h =
 
 -- a core that asks: its call stands as it came so far
 run_asks : (next : Next) (row : List ℕ) (s : State) (from : CallTurn) (old core : RwValue) (objects : Objects) (turn : Turn) (queries : List Query) (stands : CallTurn)
-    → IsLedTo next s from queries stands → StandingLeads stands core objects turn ⊎ IsAskRefused row old.base stands turn → IsAsk turn
+    → IsLedTo next s from queries stands → RwStandingLeads stands core objects turn ⊎ IsAskRefused row old.base stands turn → IsAsk turn
     → IsLedTo next s from queries (standing_of core.call objects)
 run_asks next row s from old core objects (Ask r) queries (Ok standing) led (inl does) asks = subst (λ (t : CallTurn). IsLedTo next s from queries t) (sym does) led
 run_asks next row s from old core objects (Ask r) queries (Ok standing) led (inr does) asks = absurd does
@@ -171,7 +171,7 @@ pub run_goes_on : (next : Next) (row : List ℕ) (s : State) (from : CallTurn) (
     → new.queried ≡ queried_after core.queried core.reading reply
     → IfErr reply (MayRefuse row (λ d. IsQueryRefused d q old.base))
     → ((e : DbError) → reply ≡ Err e → turn' ≡ Refused (refused_request e))
-    → ((f : Found) → reply ≡ Ok f → CallLeads next s (standing_of core.call objects) (q ∷ []) new objects' turn')
+    → ((f : Found) → reply ≡ Ok f → RwCallLeads next s (standing_of core.call objects) (q ∷ []) new objects' turn')
     → IsRunSo next row s from old new objects' turn'
 run_goes_on next row s from old core new objects objects' turn turn' (Ok f) q h asks reading need queried refused is leads =
     let on = leads f refl in
@@ -205,14 +205,14 @@ query_refused row base q (Err d) turn e refused rows is turned =
     let same : e ≡ refused_request d = cc both in
     inr (d, refused, same)
 
-pub query_after : (old new : RwValue) (q : Query) (reply : Result Found DbError) (turn : Turn) (rows : Vec RowValue Global) → IsIdle old → turn ≡ Rows rows
-    → IsTurn new turn → new.queried ≡ queried_after old.queried (Some q) reply → new.answers ≡ answers_after old.answers old.call.top (Some q) turn
+pub query_after : (old new : RwValue) (q : Query) (reply : Result Found DbError) (turn : Turn) (rows : Vec RowValue Global) → IsRwIdle old → turn ≡ Rows rows
+    → IsRwTurn new turn → new.queried ≡ queried_after old.queried (Some q) reply → new.answers ≡ answers_after old.answers old.call.top (Some q) turn
     → new.call ≡ old.call → ((d : DbError) → reply ≡ Err d → turn ≡ Refused (refused_request d))
     → new ≡ record old { queried = new.queried; answers = new.answers; call = new.call; reading = new.reading }
     → new ≡ record old { queried = old.queried ++ q ∷ []; answers = old.answers ++ given.Rows q rows.items ∷ [] }
 query_after old new q (Err d) turn rows idle is fits queried answers call refused same = absurd (cc (sym is ∙ refused d refl))
 query_after old new q (Ok f) turn rows idle is fits queried answers call refused same =
-    let now : new.reading ≡ old.reading = (subst (λ (t : Turn). IsTurn new t) is fits).1 ∙ sym idle.1 in
+    let now : new.reading ≡ old.reading = (subst (λ (t : Turn). IsRwTurn new t) is fits).1 ∙ sym idle.1 in
     let kept : new.answers ≡ old.answers ++ given.Rows q rows.items ∷ [] = answers ∙ ap (λ (t : Turn). answers_after old.answers old.call.top (Some q) t) is in
     same
     ∙ ap (λ (qs : List Query). record old { queried = qs; answers = new.answers; call = new.call; reading = new.reading }) queried

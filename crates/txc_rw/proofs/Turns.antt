@@ -12,11 +12,11 @@ use Rattle.txc_tags.specs.Keys.{Call}
 use Rattle.txc_db.specs.History.{History}
 use Rattle.txc_call.specs.declared.need.Need.{Need}
 use Rattle.txc_rw.specs.declared.given.Given.{Given}
-use Rattle.txc_rw.specs.Core.{RwValue, answers_after, asked_of, IsFoundAt, IsIdle, IsOfCall, IsOfNeed, IsRightReply, IsTurn}
+use Rattle.txc_rw.specs.Core.{RwValue, answers_after, asked_of, IsFoundAt, IsRwIdle, IsOfCall, IsOfNeed, IsRightReply, IsRwTurn}
 use Rattle.txc_ports.specs.Turns.{IsAsk, IsCallEnd}
 
 -- what a turn that asks a query asks
-pub turn_asks : (c : RwValue) (turn : Turn) (q : Query) (stamp : ℕ) → asked_of turn ≡ Some (q, stamp) → IsTurn c turn → (c.reading ≡ Some q) × (stamp ≡ c.base) × IsAsk turn
+pub turn_asks : (c : RwValue) (turn : Turn) (q : Query) (stamp : ℕ) → asked_of turn ≡ Some (q, stamp) → IsRwTurn c turn → (c.reading ≡ Some q) × (stamp ≡ c.base) × IsAsk turn
 turn_asks c (Ask request) q stamp is t =
     let same : Some (t.0, c.base) ≡ Some (q, stamp) = sym (ap asked_of (ap Ask t.2)) ∙ is in
     let pair : (t.0, c.base) ≡ (q, stamp) = cc in
@@ -26,7 +26,7 @@ turn_asks c (Rows rows) q stamp is t = absurd (cc is)
 turn_asks c (Refused error) q stamp is t = absurd (cc is)
 
 -- a turn of a call that asks none has ended it
-pub turn_ends : (c : RwValue) (turn : Turn) → asked_of turn ≡ None → IsTurn c turn → IsOfCall turn → IsCallEnd turn × IsIdle c
+pub turn_ends : (c : RwValue) (turn : Turn) → asked_of turn ≡ None → IsRwTurn c turn → IsOfCall turn → IsCallEnd turn × IsRwIdle c
 turn_ends c (Ask request) is t of =
     let no : Some (t.0, c.base) ≡ None = sym (ap asked_of (ap Ask t.2)) ∙ is in
     absurd (cc no)

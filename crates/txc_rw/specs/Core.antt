@@ -48,9 +48,9 @@ tags_read c = tags_of c.queried
 
 -- ---- what is kept
 
-abbrev pub asked_query : Option Reading → Option Query
-asked_query None = None
-asked_query (Some r) = Some r.query
+abbrev pub query_of_reading : Option Reading → Option Query
+query_of_reading None = None
+query_of_reading (Some r) = Some r.query
 
 -- the query's tag is among those that will have been read, and there is room for the query
 abbrev pub IsReady : Option Reading → List Tag → ℕ → ℕ → Type 0
@@ -77,8 +77,8 @@ pub record IsBegun (base : ℕ) (c : RwValue) : Type 0 where
   pub reading : c.reading ≡ None
 
 -- no call is open, and no query
-abbrev pub IsIdle : RwValue → Type 0
-IsIdle c = (c.call.need ≡ None) × (c.reading ≡ None)
+abbrev pub IsRwIdle : RwValue → Type 0
+IsRwIdle c = (c.call.need ≡ None) × (c.reading ≡ None)
 
 -- the query is what the call needs, or, where no call is open, the transaction's own; without one no call is
 -- open
@@ -132,11 +132,11 @@ HasCounted old new = IsDone new.need ⊎ ((¬ (IsDone old.need)) × (old.asked �
 -- ---- turns
 
 -- the core asks a query at its base, or what it did has ended
-abbrev pub IsTurn : RwValue → Turn → Type 0
-IsTurn c (Ask request) = (q : Query) × (c.reading ≡ Some q) × (request ≡ requests.Query q c.base)
-IsTurn c (Value value) = IsIdle c
-IsTurn c (Rows rows) = IsIdle c
-IsTurn c (Refused error) = IsIdle c
+abbrev pub IsRwTurn : RwValue → Turn → Type 0
+IsRwTurn c (Ask request) = (q : Query) × (c.reading ≡ Some q) × (request ≡ requests.Query q c.base)
+IsRwTurn c (Value value) = IsRwIdle c
+IsRwTurn c (Rows rows) = IsRwIdle c
+IsRwTurn c (Refused error) = IsRwIdle c
 
 -- a call asks, has its value, or is refused; a query finds its rows, or is refused
 abbrev pub IsOfCall : Turn → Type 0
@@ -155,10 +155,10 @@ IsOfNeed None turn = IsOfQuery turn
 IsOfNeed (Some need) turn = IsOfCall turn
 
 -- it asks this query at the stamp, or is out of memory
-abbrev pub IsAsked : Query → ℕ → Turn → Type 0
-IsAsked q stamp (Ask request) = request ≡ requests.Query q stamp
-IsAsked q stamp (Refused error) = error ≡ Memory
-IsAsked q stamp turn = ⊥
+abbrev pub AsksQueryAt : Query → ℕ → Turn → Type 0
+AsksQueryAt q stamp (Ask request) = request ≡ requests.Query q stamp
+AsksQueryAt q stamp (Refused error) = error ≡ Memory
+AsksQueryAt q stamp turn = ⊥
 
 -- the query that the turn asks, and the stamp, if it asks one
 abbrev pub asked_of : Turn → Option (Query × ℕ)
@@ -166,23 +166,23 @@ asked_of (Ask (requests.Query q stamp)) = Some (q, stamp)
 asked_of turn = None
 
 -- the turn is a refusal
-abbrev pub IsRefused : Turn → Type 0
-IsRefused (Refused error) = Unit {0}
-IsRefused turn = ⊥
+abbrev pub IsRefusal : Turn → Type 0
+IsRefusal (Refused error) = Unit {0}
+IsRefusal turn = ⊥
 
 -- it is one answer more, or was dropped
 abbrev pub IsOneMore : Given → List Given → List Given → Type 0
 IsOneMore x old new = (new ≡ old ++ x ∷ []) ⊎ (new ≡ old)
 
 -- the rows that were found for the query, if one was asked
-abbrev pub found_rows : Option Query → List RowValue → List Given
-found_rows None rows = []
-found_rows (Some q) rows = given.Rows q rows ∷ []
+abbrev pub given_of_rows : Option Query → List RowValue → List Given
+given_of_rows None rows = []
+given_of_rows (Some q) rows = given.Rows q rows ∷ []
 
 -- a value of the call, and the rows of the query, are one answer more
 abbrev pub answers_after : List Given → Call → Option Query → Turn → List Given
 answers_after answers k reading (Value value) = answers ++ given.Value k value ∷ []
-answers_after answers k reading (Rows rows) = answers ++ found_rows reading rows.items
+answers_after answers k reading (Rows rows) = answers ++ given_of_rows reading rows.items
 answers_after answers k reading turn = answers
 
 -- ---- replies

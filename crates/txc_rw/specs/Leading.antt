@@ -23,7 +23,7 @@ use Rattle.txc_ports.specs.declared.turn.Turn.{Turn}
 use Rattle.txc_ports.specs.declared.turn.Turn.TheVariants.{Ask, Value, Rows, Refused}
 use Rattle.txc_ports.specs.Refusals.{refused_call, refused_request}
 use Rattle.txc_rw.specs.Core.{RwValue}
-use Rattle.txc_rw.specs.Txn.{TxnValue}
+use Rattle.txc_rw.specs.Txn.{RwTxnValue}
 
 -- ---- steps
 
@@ -79,18 +79,18 @@ standing_of call objects =
 
 -- What the core does once its call stands so. It asks what the call needs, and the call stands so still; or
 -- the call's value is that of the turn; or it is refused, as the call is, or as out of memory.
-abbrev pub StandingLeads : CallTurn → RwValue → Objects → Turn → Type 0
-StandingLeads (Ok standing) new objects (Ask request) = standing_of new.call objects ≡ Ok standing
-StandingLeads (Ok standing) new objects (Value value) = (o : Outcome) × (standing.need ≡ Some (needs.Value o))
+abbrev pub RwStandingLeads : CallTurn → RwValue → Objects → Turn → Type 0
+RwStandingLeads (Ok standing) new objects (Ask request) = standing_of new.call objects ≡ Ok standing
+RwStandingLeads (Ok standing) new objects (Value value) = (o : Outcome) × (standing.need ≡ Some (needs.Value o))
     × (value ≡ o.value) × (objects ≡ standing.objects)
-StandingLeads (Ok standing) new objects (Refused error) = error ≡ Memory
-StandingLeads (Ok standing) new objects turn = ⊥
-StandingLeads (Err error) new objects turn = turn ≡ Refused (refused_call error)
+RwStandingLeads (Ok standing) new objects (Refused error) = error ≡ Memory
+RwStandingLeads (Ok standing) new objects turn = ⊥
+RwStandingLeads (Err error) new objects turn = turn ≡ Refused (refused_call error)
 
 -- where these queries are answered on the way, the call comes to stand so that the core does this
-abbrev pub CallLeads : Next → State → CallTurn → List Query → RwValue → Objects → Turn → Type 0
-CallLeads next s from queries new objects turn =
-    (stands : CallTurn) × IsLedTo next s from queries stands × StandingLeads stands new objects turn
+abbrev pub RwCallLeads : Next → State → CallTurn → List Query → RwValue → Objects → Turn → Type 0
+RwCallLeads next s from queries new objects turn =
+    (stands : CallTurn) × IsLedTo next s from queries stands × RwStandingLeads stands new objects turn
 
 -- what comes of the rows of the transaction's own query: they are those of the turn, or out of memory
 abbrev pub RowsLead : List RowValue → Turn → Type 0
@@ -101,8 +101,8 @@ RowsLead rows turn = ⊥
 -- ---- the transaction
 
 -- some database of the row refuses the query at the base so
-abbrev pub IsRefusedAt : List ℕ → ℕ → Query → TxnError → Type 0
-IsRefusedAt row base q error = (cause : DbError)
+abbrev pub IsQueryRefusedAt : List ℕ → ℕ → Query → TxnError → Type 0
+IsQueryRefusedAt row base q error = (cause : DbError)
     × MayRefuse row (λ d. IsQueryRefused d q base) cause × (error ≡ refused_request cause)
 
 -- how a call ends that stands so: with its value; refused as the call is; or, where it needs a query, as the
@@ -111,12 +111,12 @@ abbrev pub EndsCall : List ℕ → ℕ → CallTurn → Objects → Result (List
 EndsCall row base (Ok standing) objects (Ok value) = (o : Outcome) × (standing.need ≡ Some (needs.Value o))
     × (value ≡ o.value) × (objects ≡ standing.objects)
 EndsCall row base (Ok standing) objects (Err error) = (error ≡ Memory)
-    ⊎ ((q : Query) × (standing.need ≡ Some (needs.Query q)) × IsRefusedAt row base q error)
+    ⊎ ((q : Query) × (standing.need ≡ Some (needs.Query q)) × IsQueryRefusedAt row base q error)
 EndsCall row base (Err cause) objects result = result ≡ Err (refused_call cause)
 
 -- a call in a state: replies of no cache led it on to where it stands; the queries that were answered on the
 -- way, and no other, were answered the transaction; and it ended so
-pub record IsRun (next : Next) (row : List ℕ) (s : State) (from : CallTurn) (old new : RwValue)
+pub record IsUncachedRun (next : Next) (row : List ℕ) (s : State) (from : CallTurn) (old new : RwValue)
     (objects : Objects) (result : Result (List ℕ) TxnError) : Type 0 where
   pub queries : List Query
   pub stands : CallTurn
@@ -125,13 +125,13 @@ pub record IsRun (next : Next) (row : List ℕ) (s : State) (from : CallTurn) (o
   pub ended : EndsCall row old.base stands objects result
 
 -- the call of a transaction ran in the state of its base, from its start
-abbrev pub HasRun : Next → List ℕ → TxnValue → Call → TxnValue → Result (List ℕ) TxnError → Type 0
-HasRun next row old k new result = IsRun next row (state_at old.history old.core.base)
+abbrev pub HasRunAtBase : Next → List ℕ → RwTxnValue → Call → RwTxnValue → Result (List ℕ) TxnError → Type 0
+HasRunAtBase next row old k new result = IsUncachedRun next row (state_at old.history old.core.base)
     (standing_of (started k) old.objects) old.core new.core new.objects result
 
 -- of a query of its own: out of memory, or as the database refuses it
 abbrev pub IsQueryRefusal : List ℕ → ℕ → Query → TxnError → Type 0
-IsQueryRefusal row base q error = (error ≡ Memory) ⊎ IsRefusedAt row base q error
+IsQueryRefusal row base q error = (error ≡ Memory) ⊎ IsQueryRefusedAt row base q error
 
 -- what a query that was refused leaves: all as it was, but that out of memory it may have been answered
 abbrev pub IsQueryLeft : RwValue → Query → RwValue → TxnError → Type 0

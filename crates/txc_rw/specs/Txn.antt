@@ -7,13 +7,13 @@ use Rattle.txc_rw.specs.Core.{RwValue, RwHolds}
 
 -- What callers see of a transaction: its core; the history that it has seen, which has its base; and what the
 -- objects of its functions do.
-pub record TxnValue : Type 0 where
+pub record RwTxnValue : Type 0 where
   pub core : RwValue
   pub history : History
   pub objects : Objects
 
 -- no call is open, and no query, and each answer is right in the history
-pub record IsResting (next : Next) (L : History) (c : RwValue) : Type 0 where
+pub record IsRwResting (next : Next) (L : History) (c : RwValue) : Type 0 where
   pub frames : c.call.frames ≡ []
   pub need : c.call.need ≡ None
   pub reading : c.reading ≡ None

@@ -22,9 +22,9 @@ use txc_rows::Query;
 use txc_tags::Key;
 
 impl RwCore {
-    ghost use Rattle.txc_rw.specs.Core.{answers_after, IsAsked, IsDone, IsOfCall, IsRefused, IsRw, IsTurn, RwHolds};
+    ghost use Rattle.txc_rw.specs.Core.{answers_after, AsksQueryAt, IsDone, IsOfCall, IsRefusal, IsRw, IsRwTurn, RwHolds};
     ghost use Rattle.txc_ports.specs.Turns.{IsAsk};
-    ghost use Rattle.txc_rw.specs.Leading.{standing_of, CallLeads, StandingLeads};
+    ghost use Rattle.txc_rw.specs.Leading.{standing_of, RwCallLeads, RwStandingLeads};
 
     // Makes the query ready: when it is answered, it takes no memory to keep that.
     fn make_ready(&mut self, alloc: Global, query: &Query) -> Result<(), AllocError>
@@ -51,13 +51,13 @@ impl RwCore {
             → IsRw next objects self.new }
         ensures holds { (next : Next) (objects : Objects) (L : History) → IsCalling next objects self.old.call
             → InCall 1 self.old.call → RwHolds next L objects self.old → RwHolds next L objects self.new }
-        ensures turn { IsTurn self.new result }
+        ensures turn { IsRwTurn self.new result }
         ensures kind { IsOfCall result }
         ensures ended { ¬ (IsAsk result) }
         ensures answers { (next : Next) (objects : Objects) → IsCalling next objects self.old.call
             → self.new.answers ≡ answers_after self.old.answers self.old.call.top None result }
         ensures leads { (objects : Objects)
-            → StandingLeads (standing_of self.old.call objects) self.new objects result }
+            → RwStandingLeads (standing_of self.old.call objects) self.new objects result }
         ensures same { self.new
             ≡ record self.old { answers = self.new.answers; call = record self.old.call { need = None } } }
     {
@@ -92,14 +92,14 @@ impl RwCore {
         ensures fits { IsRw A.next registry.new self.new }
         ensures holds { (L : History) → RwHolds A.next L registry.old self.old
             → RwHolds A.next L registry.new self.new }
-        ensures turn { IsTurn self.new result }
+        ensures turn { IsRwTurn self.new result }
         ensures kind { IsOfCall result }
         ensures answers { self.new.answers ≡ answers_after self.old.answers self.old.call.top None result }
         ensures open { IsAsk result → IsSome self.new.call.need }
         ensures goes_on { IsAsk result → self.new.call.top ≡ self.old.call.top }
         ensures counted { IsAsk result
             → (¬ (IsDone self.old.call.need)) × (self.old.call.asked ≤ self.new.call.asked) }
-        ensures leads { (s : State) → CallLeads A.next s (standing_of self.old.call registry.old) []
+        ensures leads { (s : State) → RwCallLeads A.next s (standing_of self.old.call registry.old) []
             self.new registry.new result }
         ensures functions { numbers_of registry.new ≡ numbers_of registry.old }
         ensures same { self.new ≡ record self.old {
@@ -135,11 +135,11 @@ impl RwCore {
         ensures fits { IsRw A.next registry.new self.new }
         ensures holds { (L : History) → RwHolds A.next L registry.old self.old
             → RwHolds A.next L registry.new self.new }
-        ensures turn { IsTurn self.new result }
+        ensures turn { IsRwTurn self.new result }
         ensures kind { IsOfCall result }
         ensures no_value { self.old.answers ≡ answers_after self.old.answers self.old.call.top None result }
         ensures after { IsAsk result → self.new ≡ record self.old { reading = Some query } }
-        ensures leads { StandingLeads (standing_of self.old.call registry.old) self.new registry.new result }
+        ensures leads { RwStandingLeads (standing_of self.old.call registry.old) self.new registry.new result }
         ensures functions { numbers_of registry.new ≡ numbers_of registry.old }
         ensures same { self.new ≡ record self.old { call = self.new.call; reading = self.new.reading } }
     {
@@ -166,13 +166,13 @@ impl RwCore {
         ensures fits { IsRw A.next registry.new self.new }
         ensures holds { (L : History) → RwHolds A.next L registry.old self.old
             → RwHolds A.next L registry.new self.new }
-        ensures turn { IsTurn self.new result }
+        ensures turn { IsRwTurn self.new result }
         ensures kind { IsOfCall result }
         ensures answers { self.new.answers ≡ answers_after self.old.answers key None result }
         ensures open { IsAsk result → IsSome self.new.call.need }
         ensures begins { IsAsk result → self.new.call.top ≡ key }
         ensures leads { IsSome (activity_of registry.old key.function)
-            → (s : State) → CallLeads A.next s (standing_of (started key) registry.old) []
+            → (s : State) → RwCallLeads A.next s (standing_of (started key) registry.old) []
             self.new registry.new result }
         ensures missing { IsNone (activity_of registry.old key.function)
             → result ≡ Turn.Refused (TxnError.Call (NoFunction key.function)) }
@@ -204,10 +204,10 @@ impl RwCore {
         ensures fits { IsRw A.next registry.now self.new }
         ensures holds { (L : History) → RwHolds A.next L registry.now self.old
             → RwHolds A.next L registry.now self.new }
-        ensures turn { IsTurn self.new result }
-        ensures answer { IsAsked query self.new.base result }
+        ensures turn { IsRwTurn self.new result }
+        ensures answer { AsksQueryAt query self.new.base result }
         ensures after { IsAsk result → self.new ≡ record self.old { reading = Some query } }
-        ensures refused { IsRefused result → self.new ≡ self.old }
+        ensures refused { IsRefusal result → self.new ≡ self.old }
     {
         let Ok(()) = self.make_ready(alloc, &query) else {
             return Turn::Refused(TxnError::Memory);

@@ -4,9 +4,9 @@ ghost use Rattle.txc_db.specs.History.{state_at};
 ghost use Rattle.txc_registry.specs.Objects.{activity_of, numbers_of};
 ghost use Rattle.txc_call.specs.declared.error.CallError.TheVariants.{NoFunction};
 ghost use Rattle.txc_call.specs.Calling.{started};
-ghost use Rattle.txc_rw.specs.Core.{asked_of, IsIdle, IsOfQuery, IsRw, RwHolds};
+ghost use Rattle.txc_rw.specs.Core.{asked_of, IsOfQuery, IsRw, IsRwIdle, RwHolds};
 ghost use Rattle.txc_ports.specs.Turns.{IsCallEnd};
-ghost use Rattle.txc_rw.specs.Leading.{standing_of, IsQueryLeft, IsQueryRefusal, IsRun};
+ghost use Rattle.txc_rw.specs.Leading.{standing_of, IsQueryLeft, IsQueryRefusal, IsUncachedRun};
 
 use crate::finding::find;
 use crate::given::Given;
@@ -73,14 +73,14 @@ pub(crate) fn call_at<J: Naming, A: App, C: Cacheable>(
     requires idle { core.old.reading ≡ None }
     requires shown { core.old.base ≤ length seen.now.history }
     ensures fits { IsRw A.next registry.new core.new }
-    ensures idle { IsIdle core.new }
+    ensures idle { IsRwIdle core.new }
     ensures holds { RwHolds A.next seen.now.history registry.old core.old
         → RwHolds A.next seen.now.history registry.new core.new }
     ensures after { IfOk result (λ value.
         core.new.answers ≡ core.old.answers ++ Given.Value key value ∷ []) }
     ensures unchanged { OnErr result (core.new.answers ≡ core.old.answers) }
     ensures run { IsSome (activity_of registry.old key.function)
-        → IsRun A.next J.database_row (state_at seen.now.history core.old.base)
+        → IsUncachedRun A.next J.database_row (state_at seen.now.history core.old.base)
         (standing_of (started key) registry.old) core.old core.new registry.new result }
     ensures missing { IsNone (activity_of registry.old key.function)
         → result ≡ Err (TxnError.Call (NoFunction key.function)) }
@@ -115,10 +115,10 @@ pub(crate) fn query_at<J: Naming, A: App, C: Cacheable>(
 ) -> Result<Vec<Row>, TxnError>
     requires named { seen.now.events ≡ J.database_row }
     requires fits { IsRw A.next registry.old core.old }
-    requires idle { IsIdle core.old }
+    requires idle { IsRwIdle core.old }
     requires shown { core.old.base ≤ length seen.now.history }
     ensures fits { IsRw A.next registry.new core.new }
-    ensures idle { IsIdle core.new }
+    ensures idle { IsRwIdle core.new }
     ensures holds { RwHolds A.next seen.now.history registry.old core.old
         → RwHolds A.next seen.now.history registry.new core.new }
     ensures after { IfOk result (λ rows. core.new

@@ -67,15 +67,15 @@ fn give_up<A: App, C: Cacheable>(machine: &mut CallMachine, registry: &mut Regis
 }
 
 impl RwCore {
-    ghost use Rattle.txc_rw.specs.Core.{answers_after, queried_after, IsOfNeed, IsOfQuery, IsOneMore, IsRightReply, IsRw, IsTurn, RwHolds};
+    ghost use Rattle.txc_rw.specs.Core.{answers_after, queried_after, IsOfNeed, IsOfQuery, IsOneMore, IsRightReply, IsRw, IsRwTurn, RwHolds};
     ghost use Rattle.txc_ports.specs.Turns.{IsAsk};
-    ghost use Rattle.txc_rw.specs.Leading.{standing_of, CallLeads, RowsLead};
+    ghost use Rattle.txc_rw.specs.Leading.{standing_of, RowsLead, RwCallLeads};
 
     // Keeps the rows of the transaction's own query, and returns a copy of them.
     fn keep_rows(&mut self, alloc: Global, query: Query, rows: Vec<Row>) -> Turn
         requires none { self.old.reading ≡ None }
         requires idle { self.old.call.need ≡ None }
-        ensures turn { IsTurn self.new result }
+        ensures turn { IsRwTurn self.new result }
         ensures kind { IsOfQuery result }
         ensures answers { self.new.answers
             ≡ answers_after self.old.answers self.old.call.top (Some query) result }
@@ -106,7 +106,7 @@ impl RwCore {
         ensures fits { IsRw A.next registry.new self.new }
         ensures holds { (L : History) → IsRightReply L self.old reply → RwHolds A.next L registry.old self.old
             → RwHolds A.next L registry.new self.new }
-        ensures turn { IsTurn self.new result }
+        ensures turn { IsRwTurn self.new result }
         ensures kind { IsOfNeed self.old.call.need result }
         ensures answers { self.new.answers
             ≡ answers_after self.old.answers self.old.call.top self.old.reading result }
@@ -117,7 +117,7 @@ impl RwCore {
         ensures leads { (s : State) (query : Query) (found : Found)
             → self.old.call.need ≡ Some (Need.Query query) → reply ≡ Ok found
             → found.rows.items ≡ answer query s
-            → CallLeads A.next s (standing_of self.old.call registry.old) (query ∷ [])
+            → RwCallLeads A.next s (standing_of self.old.call registry.old) (query ∷ [])
             self.new registry.new result }
         ensures rows { (found : Found) → self.old.call.need ≡ None → reply ≡ Ok found
             → RowsLead found.rows.items result }

@@ -33,7 +33,7 @@ pub struct RwCore {
 }
 
 impl Model for RwCore {
-    ghost use Rattle.txc_rw.specs.Core.{asked_query, RwValue, IsRwState};
+    ghost use Rattle.txc_rw.specs.Core.{query_of_reading, RwValue, IsRwState};
 
     ghost Value = { RwValue };
 
@@ -43,7 +43,7 @@ impl Model for RwCore {
       answers = c.answers.items;
       changes = c.changes.items;
       call = c.machine;
-      reading = asked_query c.reading;
+      reading = query_of_reading c.reading;
     } };
 
     ghost invariant = { λ c. IsRwState c.tags c.queried c.changes.items c.reading };
@@ -51,7 +51,7 @@ impl Model for RwCore {
 
 impl RwCore {
     ghost use Rattle.txc_registry.specs.Objects.{numbers_of, AllIdle};
-    ghost use Rattle.txc_rw.specs.Core.{tags_read, IsBegun, IsIdle, IsRw, IsWriteRefused};
+    ghost use Rattle.txc_rw.specs.Core.{tags_read, IsBegun, IsRw, IsRwIdle, IsWriteRefused};
 
     /// A transaction whose base is the stamp that is held for it.
     pub fn begin(alloc: Global, base: Stamp) -> RwCore
@@ -123,7 +123,7 @@ impl RwCore {
 
     /// What it was answered, in order, where no call is open. Whoever holds its base gives that up.
     pub fn finish(self) -> Vec<Given>
-        requires { IsIdle self }
+        requires { IsRwIdle self }
         ensures { result.items ≡ self.answers }
     {
         let RwCore {

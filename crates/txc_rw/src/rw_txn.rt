@@ -11,7 +11,7 @@ ghost use Rattle.txc_call.specs.declared.error.CallError.TheVariants.{NoFunction
 ghost use Rattle.txc_rw.specs.declared.rw_core.TheConstants.{MAX_CHANGES};
 ghost use Rattle.txc_rw.specs.Answers.{state_of, AgreeOn, AreRightIn};
 ghost use Rattle.txc_rw.specs.Core.{tags_read, IsBegun, IsWriteRefused};
-ghost use Rattle.txc_rw.specs.Leading.{HasRun, IsQueryLeft, IsQueryRefusal};
+ghost use Rattle.txc_rw.specs.Leading.{HasRunAtBase, IsQueryLeft, IsQueryRefusal};
 ghost use Rattle.txc_rw.specs.Outcomes.{IsCommitted};
 
 use crate::calling::{call_at, query_at};
@@ -55,13 +55,13 @@ pub struct RwTxn<'a, J: Naming, A: App, C: Cacheable> {
 
 impl<'a, J: Naming, A: App, C: Cacheable> Model for RwTxn<'a, J, A, C> {
     ghost use Rattle.txc_registry.specs.Objects.{AllIdle};
-    ghost use Rattle.txc_rw.specs.Txn.{TxnValue, IsResting};
+    ghost use Rattle.txc_rw.specs.Txn.{RwTxnValue, IsRwResting};
 
-    ghost Value = { TxnValue };
+    ghost Value = { RwTxnValue };
 
     ghost view = { λ t. record { core = t.core; history = t.held; objects = t.registry } };
 
-    ghost invariant = { λ t. AllIdle t.registry × IsResting A.next t.held t.core };
+    ghost invariant = { λ t. AllIdle t.registry × IsRwResting A.next t.held t.core };
 }
 
 impl<'a, J: Naming, A: App, C: Cacheable> RwTxn<'a, J, A, C> {
@@ -130,7 +130,7 @@ impl<'a, J: Naming, A: App, C: Cacheable> RwTxn<'a, J, A, C> {
             self.new.core.answers ≡ self.old.core.answers ++ Given.Value key value ∷ []) }
         ensures unchanged { OnErr result (self.new.core.answers ≡ self.old.core.answers) }
         ensures run { IsSome (activity_of self.old.objects key.function)
-            → HasRun A.next J.database_row self.old key self.new result }
+            → HasRunAtBase A.next J.database_row self.old key self.new result }
         ensures missing { IsNone (activity_of self.old.objects key.function)
             → result ≡ Err (TxnError.Call (NoFunction key.function)) }
         ensures missing_left { IsNone (activity_of self.old.objects key.function) → self.new ≡ self.old }

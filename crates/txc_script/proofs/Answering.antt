@@ -6,11 +6,11 @@ use Rattle.std.specs.declared.alloc.AllocError.{AllocError}
 use Rattle.std.proofs.lemmas.Bool.Decides.{nat_tests}
 use Rattle.std.proofs.lemmas.List.{append-nil, length-append}
 use Rattle.std.proofs.lemmas.List.Elements.{All-append, All-nil}
-use Rattle.txc_script.specs.Answers.{IsAnswered, IsClosed}
+use Rattle.txc_script.specs.Answers.{IsClosed, LineIsAnswered}
 use Rattle.txc_script.specs.Flows.{IsStoppedAt}
-use Rattle.txc_script.specs.Kinds.{ScriptKind, Given, Replied, Malformed, AreFirstLines, Closing, Closes, Gives, IsMalformed, IsWhole, no_closing, is_malformed, is_refused, lines_text, malformed_text}
+use Rattle.txc_script.specs.Kinds.{ScriptKind, Given, Replied, Malformed, AreFirstLines, Closing, ClosesScript, Gives, IsMalformed, IsWholeScript, no_closing, is_malformed, is_refused, lines_text, malformed_text}
 use Rattle.txc_script.specs.Lines.{IsBlankOrComment, IsPlain}
-use Rattle.txc_script.specs.Progress.{Progress, progress_of, kept_of, AnswersAs, AnswersLast, AnswersLine, HasAnswered, HasClosed, HasLast, IsHalted, IsStopped, MayBreakOff}
+use Rattle.txc_script.specs.Progress.{Progress, progress_of, kept_of, AnswersAs, AnswersLast, AnswersLine, HasAnsweredLines, HasClosed, HasLast, IsHalted, IsStopped, MayBreakOff}
 use Rattle.txc_script.specs.Runs.{Answers, Breaks, After, Within, AtEnd}
 use Rattle.txc_script.specs.Script.{AreLinesOf, BeginsWithLines, HasNoEnd}
 use Rattle.txc_script.specs.declared.line_fault.MalformedLine.{MalformedLine}
@@ -49,7 +49,7 @@ malformed_answered kind s next old new seen number line (Err e) bad same kept st
 
 -- what a line asks for was done
 pub line_answered : {S A R : Type 0} (kind : ScriptKind S A R) (s next : S) (old new : Replies) (refused : Bool) (number : ℕ) (line : List ℕ) → IsPlain line
-    → IsAnswered kind s line next old.text.items new.text.items refused → new.is_refused ≡ (old.is_refused || refused) → AnswersLine kind s next old new number line GoesOn
+    → LineIsAnswered kind s line next old.text.items new.text.items refused → new.is_refused ≡ (old.is_refused || refused) → AnswersLine kind s next old new number line GoesOn
 line_answered kind s next old new refused number line plain h same = record {
   given = Replied h.asked h.reply;
   gives = ((plain, h.asks), h.does);
@@ -73,7 +73,7 @@ record LineAdded {S A R : Type 0} (kind : ScriptKind S A R) (start : S) (written
   refused : q.replies.is_refused ≡ list_any (is_refused kind) given
   count : q.lines ≡ length lines
 
-added_line : {S A R : Type 0} (kind : ScriptKind S A R) (start : S) (read written line x : List ℕ) (s next : S) (r q : Running) (flow : Flow) (h : HasAnswered kind start read written (progress_of s r))
+added_line : {S A R : Type 0} (kind : ScriptKind S A R) (start : S) (read written line x : List ℕ) (s next : S) (r q : Running) (flow : Flow) (h : HasAnsweredLines kind start read written (progress_of s r))
     → ReadsAs kind x line → (a : Answered kind s next r q x flow) → LineAdded kind start written next q (h.lines ++ line ∷ []) (h.given ++ a.answers.given ∷ [])
 added_line {S} {A} {R} kind start read written line x s next r q flow h reads a =
     let given = a.answers.given in
@@ -90,7 +90,7 @@ malformed_more : {A R : Type 0} (given : List (Given A R)) (g : Given A R) (b : 
 malformed_more given g b none is = any_more is_malformed given g ∙ ap (λ (c : Bool). c || is_malformed g) none ∙ is
 
 -- the line that ends after `before` was answered
-answered_line : {S A R : Type 0} (kind : ScriptKind S A R) (start : S) (read written before x : List ℕ) (s next : S) (r q : Running) (flow : Flow) (h : HasAnswered kind start read written (progress_of s r))
+answered_line : {S A R : Type 0} (kind : ScriptKind S A R) (start : S) (read written before x : List ℕ) (s next : S) (r q : Running) (flow : Flow) (h : HasAnsweredLines kind start read written (progress_of s r))
     → HasNoEnd before → ReadsAs kind x (h.rest ++ before) → Answered kind s next r q x flow → AnswersAs kind start (read ++ (before ++ 10 ∷ [])) written (progress_of next q) (Ok flow)
 answered_line kind start read written before x s next r q GoesOn h bare reads a =
     let line = h.rest ++ before in
@@ -130,7 +130,7 @@ broke_line : {S A R : Type 0} (kind : ScriptKind S A R) (read : List ℕ) (at_en
 broke_line kind read at_end lines others line s next begins more (inl same) = After others begins same
 broke_line kind read at_end lines others line s next begins more (inr (plain, broke)) = Within others line begins more plain broke
 
-halted_at : {S A R : Type 0} (kind : ScriptKind S A R) (start : S) (read before : List ℕ) (at_end : Type 0) (written : List ℕ) (s next : S) (r q : Running) (h : HasAnswered kind start before written (progress_of s r))
+halted_at : {S A R : Type 0} (kind : ScriptKind S A R) (start : S) (read before : List ℕ) (at_end : Type 0) (written : List ℕ) (s next : S) (r q : Running) (h : HasAnsweredLines kind start before written (progress_of s r))
     → q.replies.text.items ≡ r.replies.text.items → Breaks kind read at_end h.lines s next → IsHalted kind start read at_end written (progress_of next q)
 halted_at kind start read before at_end written s next r q h e breaks = record {
   lines = h.lines;
@@ -141,12 +141,12 @@ halted_at kind start read before at_end written s next r q h e breaks = record {
 }
 
 -- nothing was done of the line that goes on or ends with these bytes
-pub halted_before : {S A R : Type 0} (kind : ScriptKind S A R) (start : S) (read written more : List ℕ) (s : S) (r q : Running) → HasAnswered kind start read written (progress_of s r)
+pub halted_before : {S A R : Type 0} (kind : ScriptKind S A R) (start : S) (read written more : List ℕ) (s : S) (r q : Running) → HasAnsweredLines kind start read written (progress_of s r)
     → q.replies.text.items ≡ r.replies.text.items → IsHalted kind start (read ++ more) ⊥ written (progress_of s q)
 halted_before kind start read written more s r q h e =
     halted_at kind start (read ++ more) read ⊥ written s s r q h e (After (h.rest ++ more) (begins_longer read h.lines h.rest more h.begins) refl)
 
-halted_line : {S A R : Type 0} (kind : ScriptKind S A R) (start : S) (read written before x : List ℕ) (s next : S) (r q : Running) (h : HasAnswered kind start read written (progress_of s r)) → HasNoEnd before
+halted_line : {S A R : Type 0} (kind : ScriptKind S A R) (start : S) (read written before x : List ℕ) (s next : S) (r q : Running) (h : HasAnsweredLines kind start read written (progress_of s r)) → HasNoEnd before
     → ReadsAs kind x (h.rest ++ before) → MayBreakOff kind s x next → q.replies.text.items ≡ r.replies.text.items → IsHalted kind start (read ++ (before ++ 10 ∷ [])) ⊥ written (progress_of next q)
 halted_line kind start read written before x s next r q h bare reads broke e =
     let line = h.rest ++ before in
@@ -160,7 +160,7 @@ halted_line kind start read written before x s next r q h bare reads broke e =
 -- of which the beginning was kept
 pub answered_end : {S A R : Type 0} (kind : ScriptKind S A R) (start : S) (read written before x : List ℕ) (s next : S) (r q : Running) (res : Result Flow AllocError) → HasNoEnd before
     → x ≡ take MAX_KEPT (r.line ++ before) → IfOk res (AnswersLine kind s next r.replies q.replies (r.lines + 1) x) → OnErr res (MayBreakOff kind s x next) → q.lines ≡ r.lines + 1 → q.line ≡ []
-    → OnErr res (q.replies.text.items ≡ r.replies.text.items) → HasAnswered kind start read written (progress_of s r) → AnswersAs kind start (read ++ (before ++ 10 ∷ [])) written (progress_of next q) res
+    → OnErr res (q.replies.text.items ≡ r.replies.text.items) → HasAnsweredLines kind start read written (progress_of s r) → AnswersAs kind start (read ++ (before ++ 10 ∷ [])) written (progress_of next q) res
 answered_end kind start read written before x s next r q (Ok flow) bare is a broke count emptied e h =
     let kept : x ≡ kept_of (h.rest ++ before) = is ∙ ap (λ (l : List ℕ). take MAX_KEPT (l ++ before)) h.kept ∙ kept_append MAX_KEPT h.rest before in
     answered_line kind start read written before x s next r q flow h bare (kept_reads kind x (h.rest ++ before) kept) (record { answers = a; count = count; emptied = emptied })
@@ -171,7 +171,7 @@ answered_end kind start read written before x s next r q (Err error) bare is a b
 -- that lies whole in the bytes
 pub answered_whole : {S A R : Type 0} (kind : ScriptKind S A R) (start : S) (read written before : List ℕ) (s next : S) (r q : Running) (res : Result Flow AllocError) → HasNoEnd before → r.line ≡ []
     → IfOk res (AnswersLine kind s next r.replies q.replies (r.lines + 1) before) → OnErr res (MayBreakOff kind s before next) → q.lines ≡ r.lines + 1 → q.line ≡ r.line
-    → OnErr res (q.replies.text.items ≡ r.replies.text.items) → HasAnswered kind start read written (progress_of s r) → AnswersAs kind start (read ++ (before ++ 10 ∷ [])) written (progress_of next q) res
+    → OnErr res (q.replies.text.items ≡ r.replies.text.items) → HasAnsweredLines kind start read written (progress_of s r) → AnswersAs kind start (read ++ (before ++ 10 ∷ [])) written (progress_of next q) res
 answered_whole kind start read written before s next r q (Ok flow) bare none a broke count same e h =
     let begun : h.rest ≡ [] = nothing_kept h.rest (sym h.kept ∙ none) in
     answered_line kind start read written before before s next r q flow h bare (whole_reads kind before (h.rest ++ before) (ap (λ (l : List ℕ). l ++ before) (sym begun)))
@@ -182,7 +182,7 @@ answered_whole kind start read written before s next r q (Err error) bare none a
 
 -- a line goes on
 pub extended_line : {S A R : Type 0} (kind : ScriptKind S A R) (start : S) (read written more : List ℕ) (s : S) (r q : Running) (res : Result Flow AllocError) → HasNoEnd more → IfOk res (λ flow. flow ≡ GoesOn)
-    → OnOk res (q.line ≡ take MAX_KEPT (r.line ++ more)) → q.lines ≡ r.lines → q.replies ≡ r.replies → HasAnswered kind start read written (progress_of s r)
+    → OnOk res (q.line ≡ take MAX_KEPT (r.line ++ more)) → q.lines ≡ r.lines → q.replies ≡ r.replies → HasAnsweredLines kind start read written (progress_of s r)
     → AnswersAs kind start (read ++ more) written (progress_of s q) res
 extended_line kind start read written more s r q (Ok (Stopped bad)) bare goes is count same h = absurd (let apart : Stopped bad ≡ GoesOn = goes in cc)
 extended_line kind start read written more s r q (Ok GoesOn) bare goes is count same h = record {
@@ -205,7 +205,7 @@ extended_line kind start read written more s r q (Err error) bare goes is count 
 begins_all : (read : List ℕ) (lines : List (List ℕ)) (others more all : List ℕ) → read ++ more ≡ all → BeginsWithLines read lines others → BeginsWithLines all lines (others ++ more)
 begins_all read lines others more all e h = subst (λ (xs : List ℕ). BeginsWithLines xs lines (others ++ more)) e (begins_longer read lines others more h)
 
-whole_longer : {A R : Type 0} (read more all : List ℕ) (lines : List (List ℕ)) (given : List (Given A R)) → read ++ more ≡ all → IsWhole read ⊥ lines given → IsWhole all ⊥ lines given
+whole_longer : {A R : Type 0} (read more all : List ℕ) (lines : List (List ℕ)) (given : List (Given A R)) → read ++ more ≡ all → IsWholeScript read ⊥ lines given → IsWholeScript all ⊥ lines given
 whole_longer read more all lines given e (inl h) = absurd h.1
 whole_longer read more all lines given e (inr h) = inr (h.0 ++ more, begins_all read lines h.0 more all e h.1, h.2)
 
@@ -243,15 +243,15 @@ halted_longer kind start read written more all p e h = record {
 
 -- ---- the last line, and what comes after it
 
-whole_last : {S A R : Type 0} (kind : ScriptKind S A R) (start : S) (read written : List ℕ) (s : S) (r : Running) (h : HasAnswered kind start read written (progress_of s r)) → (r.line ≡ [] → ⊥)
+whole_last : {S A R : Type 0} (kind : ScriptKind S A R) (start : S) (read written : List ℕ) (s : S) (r : Running) (h : HasAnsweredLines kind start read written (progress_of s r)) → (r.line ≡ [] → ⊥)
     → AreLinesOf read (h.lines ++ (h.rest ++ []) ∷ [])
 whole_last kind start read written s r h some = all_read read h.lines h.rest h.begins h.not_ended (λ e. some (h.kept ∙ ap kept_of e))
 
-reads_last : {S A R : Type 0} (kind : ScriptKind S A R) (start : S) (read written : List ℕ) (s : S) (r : Running) (h : HasAnswered kind start read written (progress_of s r)) → ReadsAs kind r.line (h.rest ++ [])
+reads_last : {S A R : Type 0} (kind : ScriptKind S A R) (start : S) (read written : List ℕ) (s : S) (r : Running) (h : HasAnsweredLines kind start read written (progress_of s r)) → ReadsAs kind r.line (h.rest ++ [])
 reads_last kind start read written s r h = kept_reads kind r.line (h.rest ++ []) (h.kept ∙ ap kept_of (sym (append-nil h.rest)))
 
 -- the last line was answered
-ended_line : {S A R : Type 0} (kind : ScriptKind S A R) (start : S) (read written : List ℕ) (s next : S) (r q : Running) (flow : Flow) → HasAnswered kind start read written (progress_of s r) → (r.line ≡ [] → ⊥)
+ended_line : {S A R : Type 0} (kind : ScriptKind S A R) (start : S) (read written : List ℕ) (s next : S) (r q : Running) (flow : Flow) → HasAnsweredLines kind start read written (progress_of s r) → (r.line ≡ [] → ⊥)
     → Answered kind s next r q r.line flow → AnswersLast kind start read written (progress_of next q) (Ok flow)
 ended_line kind start read written s next r q GoesOn h some a =
     let line = h.rest ++ [] in
@@ -280,7 +280,7 @@ ended_line kind start read written s next r q (Stopped bad) h some a =
       wrong = (a.answers.flow_is.1.0 ∙ sym a.count ∙ added.count, (h.lines, line, refl, reads.fault next bad.fault a.answers.flow_is.1.1));
     }
 
-pub answered_last : {S A R : Type 0} (kind : ScriptKind S A R) (start : S) (read written : List ℕ) (s next : S) (r q : Running) (res : Result Flow AllocError) → HasAnswered kind start read written (progress_of s r)
+pub answered_last : {S A R : Type 0} (kind : ScriptKind S A R) (start : S) (read written : List ℕ) (s next : S) (r q : Running) (res : Result Flow AllocError) → HasAnsweredLines kind start read written (progress_of s r)
     → (r.line ≡ [] → ⊥) → IfOk res (AnswersLine kind s next r.replies q.replies (r.lines + 1) r.line) → OnErr res (MayBreakOff kind s r.line next) → q.lines ≡ r.lines + 1 → q.line ≡ []
     → OnErr res (q.replies.text.items ≡ r.replies.text.items) → AnswersLast kind start read written (progress_of next q) res
 answered_last kind start read written s next r q (Ok flow) h some a broke count emptied e = ended_line kind start read written s next r q flow h some (record { answers = a; count = count; emptied = emptied })
@@ -290,7 +290,7 @@ answered_last kind start read written s next r q (Err error) h some a broke coun
     (broke_line kind read (Unit {0}) h.lines h.rest line s next h.begins (inr (whole_last kind start read written s r h some, tt)) ((reads_last kind start read written s r h).breaks s next broke))
 
 -- no line was left
-pub none_left : {S A R : Type 0} (kind : ScriptKind S A R) (start : S) (read written : List ℕ) (s : S) (r : Running) → HasAnswered kind start read written (progress_of s r) → r.line ≡ []
+pub none_left : {S A R : Type 0} (kind : ScriptKind S A R) (start : S) (read written : List ℕ) (s : S) (r : Running) → HasAnsweredLines kind start read written (progress_of s r) → r.line ≡ []
     → HasLast kind start read written (progress_of s r)
 none_left kind start read written s r h none = record {
   lines = h.lines;
@@ -303,7 +303,7 @@ none_left kind start read written s r h none = record {
 }
 
 closes_well : {S A R : Type 0} (kind : ScriptKind S A R) (s : S) (given : List (Given A R)) (closing : Closing) (next : S) → list_any is_malformed given ≡ false → kind.closes s given closing next
-    → Closes kind s given closing next
+    → ClosesScript kind s given closing next
 closes_well {S} kind s given closing next none h = subst (λ (b : Bool). MatchBool b ((closing ≡ no_closing) × (next ≡ s)) (kind.closes s given closing next)) (sym none) h
 
 pub closed : {S A R : Type 0} (kind : ScriptKind S A R) (start : S) (read written : List ℕ) (s next : S) (r q : Running) (refused : Bool) → HasLast kind start read written (progress_of s r)
@@ -351,16 +351,16 @@ pub stopped_of : {S A R : Type 0} (kind : ScriptKind S A R) (start : S) (read wr
 stopped_of kind start read written p flow bad e h = subst (λ (f : Flow). AnswersAs kind start read written p (Ok f)) e h
 
 pub answered_of : {S A R : Type 0} (kind : ScriptKind S A R) (start : S) (read written : List ℕ) (p : Progress S) (flow : Flow) → flow ≡ GoesOn → AnswersAs kind start read written p (Ok flow)
-    → HasAnswered kind start read written p
+    → HasAnsweredLines kind start read written p
 answered_of kind start read written p flow e h = subst (λ (f : Flow). AnswersAs kind start read written p (Ok f)) e h
 
-pub answered_same : {S A R : Type 0} (kind : ScriptKind S A R) (start : S) (a b written : List ℕ) (p : Progress S) → a ≡ b → HasAnswered kind start a written p → HasAnswered kind start b written p
-answered_same kind start a b written p e h = subst (λ (xs : List ℕ). HasAnswered kind start xs written p) e h
+pub answered_same : {S A R : Type 0} (kind : ScriptKind S A R) (start : S) (a b written : List ℕ) (p : Progress S) → a ≡ b → HasAnsweredLines kind start a written p → HasAnsweredLines kind start b written p
+answered_same kind start a b written p e h = subst (λ (xs : List ℕ). HasAnsweredLines kind start xs written p) e h
 
 -- ---- a run that begins
 
 pub nothing_answered : {S A R : Type 0} (kind : ScriptKind S A R) (start : S) (r : Running) → r.lines ≡ 0 → r.line ≡ [] → r.replies.text.items ≡ [] → r.replies.is_refused ≡ false
-    → HasAnswered kind start [] [] (progress_of start r)
+    → HasAnsweredLines kind start [] [] (progress_of start r)
 nothing_answered kind start r lines line output refused = record {
   lines = [];
   given = [];

@@ -7,7 +7,7 @@ use Rattle.std.proofs.lemmas.List.Elements.{All-append, All-cons, All-nil}
 use Rattle.std.proofs.lemmas.List.Folds.{list_any-append}
 use Rattle.std.proofs.lemmas.Grind.{flat_map-append}
 use Rattle.txc_script.specs.Script.{BeginsWithLines, HasNoEnd, AreLinesOf, ended, last_line}
-use Rattle.txc_script.specs.Kinds.{ScriptKind, Given, Nothing, Replied, Malformed, Closing, AreGiven, Asks, Gives, GoesOn, IsFaultOf, IsStatusOf, IsWhole, is_malformed, is_refused, line_text, lines_text}
+use Rattle.txc_script.specs.Kinds.{ScriptKind, Given, Nothing, Replied, Malformed, Closing, AreGiven, Asks, Gives, EndsAtMalformed, IsFaultOf, IsStatusOf, IsWholeScript, is_malformed, is_refused, line_text, lines_text}
 use Rattle.txc_script.specs.Flows.{status_after}
 use Rattle.txc_script.specs.Lines.{IsPlain, IsQuiet}
 use Rattle.txc_script.specs.Progress.{MayBreakOff, kept_of}
@@ -19,11 +19,11 @@ use Rattle.txc_script.specs.declared.running.Flow.TheVariants as flows
 
 -- ---- what the lines give
 
-goes_on : (malformed : Bool) (lines : List (List ℕ)) → malformed ≡ false → GoesOn malformed lines
+goes_on : (malformed : Bool) (lines : List (List ℕ)) → malformed ≡ false → EndsAtMalformed malformed lines
 goes_on true lines h = cc
 goes_on false lines h = tt
 
-goes_nowhere : (malformed : Bool) → GoesOn malformed []
+goes_nowhere : (malformed : Bool) → EndsAtMalformed malformed []
 goes_nowhere true = refl
 goes_nowhere false = tt
 
@@ -190,6 +190,6 @@ pub status_is : {S A R : Type 0} (kind : ScriptKind S A R) (left : S) (lines : L
 status_is kind left lines given closing true same none = (sym same, none)
 status_is kind left lines given closing false same none = sym same
 
-pub whole_at : {A R : Type 0} (P Q : Type 0) (read : List ℕ) (lines : List (List ℕ)) (given : List (Given A R)) → (P → Q) → IsWhole read P lines given → IsWhole read Q lines given
+pub whole_at : {A R : Type 0} (P Q : Type 0) (read : List ℕ) (lines : List (List ℕ)) (given : List (Given A R)) → (P → Q) → IsWholeScript read P lines given → IsWholeScript read Q lines given
 whole_at P Q read lines given f (inl h) = inl (h.0, f h.1)
 whole_at P Q read lines given f (inr h) = inr h

@@ -8,8 +8,8 @@ use Rattle.std.proofs.lemmas.List.{append-nil, take_all}
 use Rattle.std.proofs.lemmas.List.Elements.{All-nil}
 use Rattle.txc_script.specs.Flows.{status_after}
 use Rattle.txc_script.specs.Kinds.{ScriptKind, Given, AreFirstLines, Closing, lines_text, no_closing}
-use Rattle.txc_script.specs.Progress.{Progress, progress_of, AnswersAs, EndsAs, EndsFlushed, EndsWith, HasAnswered, HasClosed, IsHalted, IsKeptBeside, IsStopped, TurnsTo}
-use Rattle.txc_script.specs.Runs.{Breaks, After, Within, AtEnd, BreaksOff, Ends, HasRun, HasWritten}
+use Rattle.txc_script.specs.Progress.{Progress, progress_of, AnswersAs, EndsAs, EndsFlushed, EndsWith, HasAnsweredLines, HasClosed, IsHalted, IsKeptBeside, IsStopped, TurnsTo}
+use Rattle.txc_script.specs.Runs.{Breaks, After, Within, AtEnd, BreaksOff, Ends, ScriptHasRun, ScriptHasWritten}
 use Rattle.txc_script.specs.Script.{HasNoEnd}
 use Rattle.txc_script.specs.Written.{AppendsPrefix}
 use Rattle.txc_script.specs.declared.fault.RunFault.{RunFault}
@@ -79,7 +79,7 @@ turn_faults kind start read written p (Err e) old new prefix k = halt_faults kin
 
 -- the run goes on
 turn_goes_on : {S A R : Type 0} (kind : ScriptKind S A R) (start : S) (read written : List ℕ) (s : S) (r q : Running) → IsKeptBeside r q → q.replies.text.items ≡ []
-    → HasAnswered kind start read written (progress_of s r) → HasAnswered kind start read (written ++ r.replies.text.items) (progress_of s q)
+    → HasAnsweredLines kind start read written (progress_of s r) → HasAnsweredLines kind start read (written ++ r.replies.text.items) (progress_of s q)
 turn_goes_on kind start read written s r q same none h = record {
   lines = h.lines;
   given = h.given;
@@ -144,7 +144,7 @@ ends_at : {S A R : Type 0} (kind : ScriptKind S A R) (P Q : Type 0) (start : S) 
 ends_at kind P Q start read lines given closing left f h = record { end = h.end; answers = h.answers; whole = whole_at P Q read lines given f h.whole; closes = h.closes }
 
 written_at : {S A R : Type 0} (kind : ScriptKind S A R) (P Q : Type 0) (start : S) (read written : List ℕ) (r : Result Status RunFault) (left : S) → (P → Q)
-    → HasWritten kind start read P written r left → HasWritten kind start read Q written r left
+    → ScriptHasWritten kind start read P written r left → ScriptHasWritten kind start read Q written r left
 written_at kind P Q start read written (Ok status) left f h = (h.0, h.1, h.2, ends_at kind P Q start read h.0 h.1 h.2 left f h.3, h.4, h.5)
 written_at kind P Q start read written (Err Read) left f h = h
 written_at kind P Q start read written (Err Write) left f (lines, given, n, inl h) = (lines, given, n, inl (broke_at kind P Q start read lines given left f h.0, h.1))
@@ -153,12 +153,12 @@ written_at kind P Q start read written (Err Memory) left f h = (h.0, h.1, broke_
 
 -- what was read and written before, and how the run ended after it
 pub run_ends : {S A R : Type 0} (kind : ScriptKind S A R) (P : Type 0) (start : S) (a b : Option (List ℕ)) (w x y : Option (List ℕ)) (read written : List ℕ) (r : Result Status RunFault) (left : S) → Consumes a b read
-    → Appends w x written → (P → IsAtEnd b) → EndsWith kind start read P written x y r left → HasRun kind start a b w y r left
+    → Appends w x written → (P → IsAtEnd b) → EndsWith kind start read P written x y r left → ScriptHasRun kind start a b w y r left
 run_ends kind P start a b w x y read written r left consumes appends f e =
     (read, written ++ e.0, consumes, Appends-trans w x y written e.0 appends e.1, written_at kind P (IsAtEnd b) start read (written ++ e.0) r left f e.2)
 
 -- out of memory before anything was read
-pub run_out_of_memory : {S A R : Type 0} (kind : ScriptKind S A R) (start : S) (a w : Option (List ℕ)) → HasRun kind start a a w w (Err Memory) start
+pub run_out_of_memory : {S A R : Type 0} (kind : ScriptKind S A R) (start : S) (a w : Option (List ℕ)) → ScriptHasRun kind start a a w w (Err Memory) start
 run_out_of_memory kind start a w =
     ([], [], Consumes-nil a, Appends-nil w, ([], [], record { end = start; answers = refl; breaks = After [] (record { joined = refl; each_is_one = All-nil HasNoEnd }) refl }, refl, refl))
 
@@ -184,23 +184,23 @@ read_fault r n fault is reads e = e ∙ ap Err (ap (λ (x : Result ℕ RunFault)
 
 -- the reader failed
 pub reader_failed : {S A R : Type 0} (kind : ScriptKind S A R) (start : S) (a b w x : Option (List ℕ)) (read written : List ℕ) (p : Progress S) (r : Result Status RunFault) → Consumes a b read → Appends w x written
-    → HasAnswered kind start read written p → p.text ≡ [] → r ≡ Err Read → HasRun kind start a b w x r p.state
+    → HasAnsweredLines kind start read written p → p.text ≡ [] → r ≡ Err Read → ScriptHasRun kind start a b w x r p.state
 reader_failed kind start a b w x read written p r consumes appends h none is =
     let text : written ≡ lines_text kind h.given = sym (append-nil written) ∙ ap (λ (xs : List ℕ). written ++ xs) (sym none) ∙ h.text in
-    subst (λ (e : Result Status RunFault). HasRun kind start a b w x e p.state) (sym is) (read, written, consumes, appends, (h.lines, h.given, h.rest, h.answers, h.begins, h.not_ended, text, h.well_formed))
+    subst (λ (e : Result Status RunFault). ScriptHasRun kind start a b w x e p.state) (sym is) (read, written, consumes, appends, (h.lines, h.given, h.rest, h.answers, h.begins, h.not_ended, text, h.well_formed))
 
 -- ---- the writer is flushed
 
-pub flushed : {S A R : Type 0} (kind : ScriptKind S A R) (start : S) (a b w x y : Option (List ℕ)) (ended result : Result Status RunFault) (left : S) → HasRun kind start a b w x ended left → EndsFlushed x y ended result
-    → HasRun kind start a b w y result left
+pub flushed : {S A R : Type 0} (kind : ScriptKind S A R) (start : S) (a b w x y : Option (List ℕ)) (ended result : Result Status RunFault) (left : S) → ScriptHasRun kind start a b w x ended left → EndsFlushed x y ended result
+    → ScriptHasRun kind start a b w y result left
 flushed kind start a b w x y (Ok status) result left h (keeps, inl is) =
-    subst (λ (e : Result Status RunFault). HasRun kind start a b w y e left) (sym is) (h.0, h.1, h.2, Appends-kept w x y h.1 h.3 keeps, h.4)
+    subst (λ (e : Result Status RunFault). ScriptHasRun kind start a b w y e left) (sym is) (h.0, h.1, h.2, Appends-kept w x y h.1 h.3 keeps, h.4)
 flushed kind start a b w x y (Ok status) result left h (keeps, inr is) =
     let written = h.4 in
     let all = lines_text kind written.1 ++ written.2.text in
     let text : h.1 ≡ all = written.4 in
     let whole : h.1 ≡ take (length h.1) all = text ∙ sym (take_all (length h.1) all (omega (arith, ap length text))) in
-    subst (λ (e : Result Status RunFault). HasRun kind start a b w y e left) (sym is)
+    subst (λ (e : Result Status RunFault). ScriptHasRun kind start a b w y e left) (sym is)
     (h.0, h.1, h.2, Appends-kept w x y h.1 h.3 keeps, (written.0, written.1, length h.1, inr (written.2, written.3, whole)))
 flushed kind start a b w x y (Err fault) result left h (keeps, is) =
-    subst (λ (e : Result Status RunFault). HasRun kind start a b w y e left) (sym is) (h.0, h.1, h.2, Appends-kept w x y h.1 h.3 keeps, h.4)
+    subst (λ (e : Result Status RunFault). ScriptHasRun kind start a b w y e left) (sym is) (h.0, h.1, h.2, Appends-kept w x y h.1 h.3 keeps, h.4)

@@ -6,7 +6,7 @@ use Rattle.txc_script.specs.declared.unread.Unread.{Unread}
 use Rattle.txc_script.specs.declared.unread.Unread.TheVariants.{Malformed, Memory}
 
 -- the line asks for something, which was done, and what is written of its reply was put after the text
-pub record IsAnswered {S A R : Type 0} (kind : ScriptKind S A R) (s : S) (line : List ℕ) (end : S)
+pub record LineIsAnswered {S A R : Type 0} (kind : ScriptKind S A R) (s : S) (line : List ℕ) (end : S)
     (old new : List ℕ) (refused : Bool) : Type 0 where
   pub asked : A
   pub reply : R

@@ -101,9 +101,9 @@ Gives kind s number line (Replied asked reply) next = Asks kind s line asked × 
 Gives kind s number line (Malformed k) next = IsMalformed kind s line × (k ≡ number) × (next ≡ s)
 
 -- no line is read after a malformed one
-abbrev pub GoesOn : Bool → List (List ℕ) → Type 0
-GoesOn true lines = lines ≡ []
-GoesOn false lines = Unit {0}
+abbrev pub EndsAtMalformed : Bool → List (List ℕ) → Type 0
+EndsAtMalformed true lines = lines ≡ []
+EndsAtMalformed false lines = Unit {0}
 
 -- What each of the lines gives, in order: the first has this number, the next the one after it, and each
 -- finds the state that the lines before it left.
@@ -113,20 +113,20 @@ AreGiven kind s number [] [] end = end ≡ s
 AreGiven kind s number [] (g ∷ given) end = ⊥
 AreGiven kind s number (line ∷ lines) [] end = ⊥
 AreGiven {S} {A} {R} kind s number (line ∷ lines) (g ∷ given) end =
-    (next : S) × Gives kind s number line g next × GoesOn (is_malformed g) lines
+    (next : S) × Gives kind s number line g next × EndsAtMalformed (is_malformed g) lines
     × AreGiven kind next (number + 1) lines given end
 
 -- what comes after lines that gave this, and the state that is left: nothing, where one was malformed
-abbrev pub Closes : {S A R : Type 0} → ScriptKind S A R → S → List (Given A R) → Closing → S → Type 0
-Closes kind s given closing end =
+abbrev pub ClosesScript : {S A R : Type 0} → ScriptKind S A R → S → List (Given A R) → Closing → S → Type 0
+ClosesScript kind s given closing end =
     MatchBool (list_any is_malformed given) ((closing ≡ no_closing) × (end ≡ s))
     (kind.closes s given closing end)
 
 -- ---- how a run of them ends
 
 -- the lines of a whole script; or those up to a malformed one, and what comes after it was not answered
-abbrev pub IsWhole : {A R : Type 0} → List ℕ → Type 0 → List (List ℕ) → List (Given A R) → Type 0
-IsWhole read at_end lines given =
+abbrev pub IsWholeScript : {A R : Type 0} → List ℕ → Type 0 → List (List ℕ) → List (Given A R) → Type 0
+IsWholeScript read at_end lines given =
     (AreLinesOf read lines × at_end)
     ⊎ ((others : List ℕ) × BeginsWithLines read lines others × (list_any is_malformed given ≡ true))
 

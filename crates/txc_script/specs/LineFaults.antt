@@ -104,5 +104,5 @@ IsCommandFault kinds_after all fault = ⊥
 -- ---- only private functions need these
 
 -- the text is the digits of some bytes
-abbrev pub IsRun : List ℕ → Type 0
-IsRun text = (value : List ℕ) × IsBytes value × (flat_map digits_of value ≡ text)
+abbrev pub AreDigitsOfBytes : List ℕ → Type 0
+AreDigitsOfBytes text = (value : List ℕ) × IsBytes value × (flat_map digits_of value ≡ text)

@@ -4,9 +4,9 @@ use Rattle.std.specs.List.{list_any}
 use Rattle.std.specs.Io.KnownBytes.{Appends, Keeps}
 use Rattle.std.specs.declared.alloc.AllocError.{AllocError}
 use Rattle.txc_script.specs.Flows.{IsFlowAfter}
-use Rattle.txc_script.specs.Kinds.{ScriptKind, Given, Closing, Closes, EndInFault, Gives, IsWhole, is_malformed, is_refused, line_text, lines_text}
+use Rattle.txc_script.specs.Kinds.{ScriptKind, Given, Closing, ClosesScript, EndInFault, Gives, IsWholeScript, is_malformed, is_refused, line_text, lines_text}
 use Rattle.txc_script.specs.Lines.{IsPlain}
-use Rattle.txc_script.specs.Runs.{Answers, BreaksOff, HasWritten}
+use Rattle.txc_script.specs.Runs.{Answers, BreaksOff, ScriptHasWritten}
 use Rattle.txc_script.specs.Script.{BeginsWithLines, HasNoEnd, AreLinesOf}
 use Rattle.txc_script.specs.declared.fault.RunFault.{RunFault}
 use Rattle.txc_script.specs.declared.fault.RunFault.TheVariants.{Write}
@@ -56,7 +56,7 @@ MayBreakOff kind s line end = (end ≡ s) ⊎ (IsPlain line × kind.breaks_off s
 
 -- the lines that have ended were answered, and none was malformed; these bytes were written, and the rest of
 -- the replies is at hand
-pub record HasAnswered {S A R : Type 0} (kind : ScriptKind S A R) (start : S) (read written : List ℕ)
+pub record HasAnsweredLines {S A R : Type 0} (kind : ScriptKind S A R) (start : S) (read written : List ℕ)
     (p : Progress S) : Type 0 where
   pub lines : List (List ℕ)
   pub given : List (Given A R)
@@ -76,7 +76,7 @@ pub record IsStopped {S A R : Type 0} (kind : ScriptKind S A R) (start : S) (rea
   pub lines : List (List ℕ)
   pub given : List (Given A R)
   pub answers : Answers kind start lines given p.state
-  pub whole : IsWhole read at_end lines given
+  pub whole : IsWholeScript read at_end lines given
   pub text : written ++ p.text ≡ lines_text kind given
   pub malformed : list_any is_malformed given ≡ true
   pub wrong : EndInFault kind p.state lines malformed_line
@@ -110,7 +110,7 @@ pub record HasClosed {S A R : Type 0} (kind : ScriptKind S A R) (start : S) (rea
   pub end : S
   pub answers : Answers kind start lines given end
   pub all : AreLinesOf read lines
-  pub closes : Closes kind end given closing p.state
+  pub closes : ClosesScript kind end given closing p.state
   pub text : written ++ p.text ≡ lines_text kind given ++ closing.text
   pub refused : p.refused ≡ (list_any (is_refused kind) given || closing.is_refused)
   pub well_formed : list_any is_malformed given ≡ false
@@ -119,7 +119,7 @@ pub record HasClosed {S A R : Type 0} (kind : ScriptKind S A R) (start : S) (rea
 -- out of memory
 abbrev pub AnswersAs : {S A R : Type 0} → ScriptKind S A R → S → List ℕ → List ℕ → Progress S
     → Result Flow AllocError → Type 0
-AnswersAs kind start read written p (Ok GoesOn) = HasAnswered kind start read written p
+AnswersAs kind start read written p (Ok GoesOn) = HasAnsweredLines kind start read written p
 AnswersAs kind start read written p (Ok (Stopped malformed)) = IsStopped kind start read ⊥ written malformed p
 AnswersAs kind start read written p (Err e) = IsHalted kind start read ⊥ written p
 
@@ -152,7 +152,7 @@ abbrev pub EndsWith : {S A R : Type 0} → ScriptKind S A R → S → List ℕ �
     → Option (List ℕ) → Result Status RunFault → S → Type 0
 EndsWith kind start read at_end written contents_old contents_new result left =
     (more : List ℕ) × Appends contents_old contents_new more
-    × HasWritten kind start read at_end (written ++ more) result left
+    × ScriptHasWritten kind start read at_end (written ++ more) result left
 
 -- the lines that end in the bytes of a read were answered, and the replies written: the run goes on, or it
 -- ends so
@@ -160,7 +160,7 @@ abbrev pub TurnsTo : {S A R : Type 0} → ScriptKind S A R → S → List ℕ �
     → Option (List ℕ) → Result Flow RunFault → Type 0
 TurnsTo kind start read written p contents_old contents_new (Ok GoesOn) =
     (more : List ℕ) × Appends contents_old contents_new more
-    × HasAnswered kind start read (written ++ more) p × (p.text ≡ [])
+    × HasAnsweredLines kind start read (written ++ more) p × (p.text ≡ [])
 TurnsTo kind start read written p contents_old contents_new (Ok (Stopped malformed)) =
     EndsWith kind start read ⊥ written contents_old contents_new (Ok (statuses.Malformed malformed)) p.state
 TurnsTo kind start read written p contents_old contents_new (Err fault) =

@@ -2,7 +2,7 @@
 use Rattle.std.specs.Prelude.{◌≡◌, ◌⊎◌, ℕ, false, List, [], ◌∷◌, ◌++◌, Option, Result, Ok, Err, take}
 use Rattle.std.specs.List.{list_any}
 use Rattle.std.specs.Io.KnownBytes.{Appends, Consumes, IsAtEnd}
-use Rattle.txc_script.specs.Kinds.{ScriptKind, Given, Closing, AreFirstLines, AreGiven, Closes, IsStatusOf, IsWhole, is_malformed, lines_text}
+use Rattle.txc_script.specs.Kinds.{ScriptKind, Given, Closing, AreFirstLines, AreGiven, ClosesScript, IsStatusOf, IsWholeScript, is_malformed, lines_text}
 use Rattle.txc_script.specs.Lines.{IsPlain}
 use Rattle.txc_script.specs.Script.{AreLinesOf, BeginsWithLines, HasNoEnd}
 use Rattle.txc_script.specs.declared.fault.RunFault.{RunFault}
@@ -18,8 +18,8 @@ pub record Ends {S A R : Type 0} (kind : ScriptKind S A R) (start : S) (read : L
     (lines : List (List ℕ)) (given : List (Given A R)) (closing : Closing) (left : S) : Type 0 where
   pub end : S
   pub answers : Answers kind start lines given end
-  pub whole : IsWhole read at_end lines given
-  pub closes : Closes kind end given closing left
+  pub whole : IsWholeScript read at_end lines given
+  pub closes : ClosesScript kind end given closing left
 
 -- where a run broke off that had answered these lines, which left this state: right after them; or in the
 -- line after them; or, where these are all lines, in what comes after them
@@ -42,31 +42,31 @@ pub record BreaksOff {S A R : Type 0} (kind : ScriptKind S A R) (start : S) (rea
 -- lines that it answered, and then what is written after all lines. After a fault of the reader these are all
 -- lines that had ended; out of memory, those before it broke off; after a fault of the writer, a prefix of the
 -- text was written. After a fault of the reader, and out of memory, no line was malformed.
-abbrev pub HasWritten : {S A R : Type 0} → ScriptKind S A R → S → List ℕ → Type 0 → List ℕ
+abbrev pub ScriptHasWritten : {S A R : Type 0} → ScriptKind S A R → S → List ℕ → Type 0 → List ℕ
     → Result Status RunFault → S → Type 0
-HasWritten {S} {A} {R} kind start read at_end written (Ok status) left =
+ScriptHasWritten {S} {A} {R} kind start read at_end written (Ok status) left =
     (lines : List (List ℕ)) × (given : List (Given A R)) × (closing : Closing)
     × Ends kind start read at_end lines given closing left
     × (written ≡ lines_text kind given ++ closing.text) × IsStatusOf kind left lines given closing status
-HasWritten {S} {A} {R} kind start read at_end written (Err Read) left =
+ScriptHasWritten {S} {A} {R} kind start read at_end written (Err Read) left =
     (lines : List (List ℕ)) × (given : List (Given A R)) × (rest : List ℕ)
     × Answers kind start lines given left × BeginsWithLines read lines rest × HasNoEnd rest
     × (written ≡ lines_text kind given) × (list_any is_malformed given ≡ false)
-HasWritten {S} {A} {R} kind start read at_end written (Err Write) left =
+ScriptHasWritten {S} {A} {R} kind start read at_end written (Err Write) left =
     (lines : List (List ℕ)) × (given : List (Given A R)) × (n : ℕ)
     × ((BreaksOff kind start read at_end lines given left × (written ≡ take n (lines_text kind given)))
     ⊎ ((closing : Closing) × Ends kind start read at_end lines given closing left
     × (written ≡ take n (lines_text kind given ++ closing.text))))
-HasWritten {S} {A} {R} kind start read at_end written (Err Memory) left =
+ScriptHasWritten {S} {A} {R} kind start read at_end written (Err Memory) left =
     (lines : List (List ℕ)) × (given : List (Given A R))
     × BreaksOff kind start read at_end lines given left
     × (written ≡ lines_text kind given) × (list_any is_malformed given ≡ false)
 
 -- A run that begins in this state: what it read of the reader's bytes, what it wrote after the writer's, how
 -- it ended, and the state that it left.
-abbrev pub HasRun : {S A R : Type 0} → ScriptKind S A R → S → Option (List ℕ) → Option (List ℕ)
+abbrev pub ScriptHasRun : {S A R : Type 0} → ScriptKind S A R → S → Option (List ℕ) → Option (List ℕ)
     → Option (List ℕ) → Option (List ℕ) → Result Status RunFault → S → Type 0
-HasRun kind start remaining_old remaining_new contents_old contents_new result left =
+ScriptHasRun kind start remaining_old remaining_new contents_old contents_new result left =
     (read : List ℕ) × (written : List ℕ)
     × Consumes remaining_old remaining_new read × Appends contents_old contents_new written
-    × HasWritten kind start read (IsAtEnd remaining_new) written result left
+    × ScriptHasWritten kind start read (IsAtEnd remaining_new) written result left

@@ -4,7 +4,7 @@ ghost use Rattle.std.specs.List.{list_any};
 ghost use Rattle.txc_script.specs.Kinds.{IsFaultOf, IsMalformed};
 ghost use Rattle.txc_script.specs.Lines.{IsTextWord};
 ghost use Rattle.txc_script.specs.Words.{words_of, words_left};
-ghost use Rattle.txc_script.specs.LineFaults.{IsOfKind, AreOfKinds, is_foreign, is_empty, IsHex, IsRun, StopsAt, IsBadWord};
+ghost use Rattle.txc_script.specs.LineFaults.{IsOfKind, AreOfKinds, is_foreign, is_empty, IsHex, AreDigitsOfBytes, StopsAt, IsBadWord};
 
 use crate::excerpt::Excerpt;
 use crate::hex::read_byte;
@@ -18,7 +18,7 @@ use txc_tags::{Key, SetError, TagSet, read_number};
 
 /// Whether the text is digits in pairs.
 fn are_digits(text: &[u8]) -> bool
-    ensures { IsTrue result ↔ IsRun text.now }
+    ensures { IsTrue result ↔ AreDigitsOfBytes text.now }
 {
     let mut rest = text;
     'digits: loop {

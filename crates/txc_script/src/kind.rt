@@ -2,7 +2,7 @@
 ghost use Rattle.std.specs.Prelude.{◌≡◌, false, List, ◌++◌, IfOk, IfErr, OnErr};
 ghost use Rattle.std.specs.List.{list_any};
 ghost use Rattle.txc_script.specs.Kinds.{ScriptKind, Given, is_malformed};
-ghost use Rattle.txc_script.specs.Answers.{IsAnswered, IsUnanswered, IsClosed};
+ghost use Rattle.txc_script.specs.Answers.{LineIsAnswered, IsUnanswered, IsClosed};
 ghost use Rattle.txc_script.specs.LineFaults.{HasWholeWords};
 ghost use Rattle.txc_script.specs.Lines.{IsPlain};
 ghost use Rattle.txc_script.specs.Words.{words_of};
@@ -34,7 +34,7 @@ pub trait Script {
         text: &mut Vec<u8>,
     ) -> Result<bool, Unread>
         requires { IsPlain line.now }
-        ensures answered { IfOk result (IsAnswered (kind self.now) state.old line.now state.new
+        ensures answered { IfOk result (LineIsAnswered (kind self.now) state.old line.now state.new
             text.old.items text.new.items) }
         ensures refused { IfErr result (IsUnanswered (kind self.now) state.old line.now state.new) }
         ensures unchanged { OnErr result (text.new.items ≡ text.old.items) };

@@ -1,8 +1,8 @@
 //! Runs of scripts.
 ghost use Rattle.std.specs.Prelude.{◌≡◌, ◌≢◌, ℕ, ◌+◌, ◌^◌, ◌<◌, ◌≤◌, List, None, Err, ◌++◌, length};
 ghost use Rattle.txc_script.specs.Reads.{IsOver};
-ghost use Rattle.txc_script.specs.Runs.{HasRun};
-ghost use Rattle.txc_script.specs.Progress.{progress_of, EndsFlushed, EndsWith, HasAnswered, TurnsTo};
+ghost use Rattle.txc_script.specs.Runs.{ScriptHasRun};
+ghost use Rattle.txc_script.specs.Progress.{progress_of, EndsFlushed, EndsWith, HasAnsweredLines, TurnsTo};
 
 use crate::fault::{RunFault, Status};
 use crate::kind::Script;
@@ -26,7 +26,7 @@ fn turn<K: Script, W: Write>(
     requires { running.old.lines + length bytes.now < 2 ^ 64 }
     ensures counted { running.new.lines ≤ running.old.lines + length bytes.now }
     ensures turned { (start : K.State) (read written : List ℕ)
-        → HasAnswered (K.kind kind.now) start read written (progress_of state.old running.old)
+        → HasAnsweredLines (K.kind kind.now) start read written (progress_of state.old running.old)
         → TurnsTo (K.kind kind.now) start (read ++ bytes.now) written (progress_of state.new running.new)
         (W.contents writer.old) (W.contents writer.new) result }
     ensures refused { result ≢ Err RunFault.Read }
@@ -51,7 +51,7 @@ fn finish<K: Script, W: Write>(
 ) -> Result<Status, RunFault>
     requires { running.old.lines + 1 < 2 ^ 64 }
     ensures ended { (start : K.State) (read written : List ℕ)
-        → HasAnswered (K.kind kind.now) start read written (progress_of state.old running.old)
+        → HasAnsweredLines (K.kind kind.now) start read written (progress_of state.old running.old)
         → EndsWith (K.kind kind.now) start read (Unit {0}) written
         (W.contents writer.old) (W.contents writer.new) result state.new }
     ensures refused { result ≢ Err RunFault.Read }
@@ -77,7 +77,7 @@ fn answer_script<K: Script, R: Read, W: Write>(
     reads: &mut Reads,
 ) -> Result<Status, RunFault>
     requires { reads.old ≡ record { left = 1048576; failure = None } }
-    ensures after { HasRun (K.kind kind.now) state.old (R.remaining reader.old) (R.remaining reader.new)
+    ensures after { ScriptHasRun (K.kind kind.now) state.old (R.remaining reader.old) (R.remaining reader.new)
         (W.contents writer.old) (W.contents writer.new) result state.new }
     ensures refused { result ≡ Err RunFault.Read → IsOver reads.new }
 {
@@ -121,7 +121,7 @@ pub fn run_script<K: Script, R: Read, W: Write>(
     reader: &mut R,
     writer: &mut W,
 ) -> Result<Status, RunFault>
-    ensures { HasRun (K.kind kind.now) state.old (R.remaining reader.old) (R.remaining reader.new)
+    ensures { ScriptHasRun (K.kind kind.now) state.old (R.remaining reader.old) (R.remaining reader.new)
         (W.contents writer.old) (W.contents writer.new) result state.new }
 {
     let mut reads = Reads::new();

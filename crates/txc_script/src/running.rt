@@ -6,7 +6,7 @@ ghost use Rattle.txc_script.specs.Kinds.{IsMalformed, malformed_text};
 ghost use Rattle.txc_script.specs.Lines.{ArePlain};
 ghost use Rattle.txc_script.specs.Written.{AppendsPrefix};
 ghost use Rattle.txc_script.specs.Flows.{IsStoppedAt, status_after};
-ghost use Rattle.txc_script.specs.Progress.{progress_of, AnswersAs, AnswersLast, AnswersLine, EndsAs, HasAnswered, HasLast, IsKeptBeside, MayBreakOff};
+ghost use Rattle.txc_script.specs.Progress.{progress_of, AnswersAs, AnswersLast, AnswersLine, EndsAs, HasAnsweredLines, HasLast, IsKeptBeside, MayBreakOff};
 
 use crate::fault::{RunFault, Status};
 use crate::finding::find_fault;
@@ -225,7 +225,7 @@ impl Running {
         requires plain { known_plain ≡ true → ArePlain bytes.now }
         ensures counted { self.new.lines ≤ self.old.lines + 1 }
         ensures answered { (start : K.State) (read written : List ℕ)
-            → HasAnswered (K.kind kind.now) start read written (progress_of state.old self.old)
+            → HasAnsweredLines (K.kind kind.now) start read written (progress_of state.old self.old)
             → AnswersAs (K.kind kind.now) start (read ++ (bytes.now ++ 10 ∷ [])) written
             (progress_of state.new self.new) result }
     {
@@ -262,7 +262,7 @@ impl Running {
         requires { self.old.lines + length bytes.now < 2 ^ 64 }
         ensures counted { self.new.lines ≤ self.old.lines + length bytes.now }
         ensures answered { (start : K.State) (read written : List ℕ)
-            → HasAnswered (K.kind kind.now) start read written (progress_of state.old self.old)
+            → HasAnsweredLines (K.kind kind.now) start read written (progress_of state.old self.old)
             → AnswersAs (K.kind kind.now) start (read ++ bytes.now) written
             (progress_of state.new self.new) result }
     {
@@ -290,7 +290,7 @@ impl Running {
     ) -> Result<Flow, AllocError>
         requires { self.old.lines + 1 < 2 ^ 64 }
         ensures { (start : K.State) (read written : List ℕ)
-            → HasAnswered (K.kind kind.now) start read written (progress_of state.old self.old)
+            → HasAnsweredLines (K.kind kind.now) start read written (progress_of state.old self.old)
             → AnswersLast (K.kind kind.now) start read written (progress_of state.new self.new) result }
     {
         if self.line.is_empty() {
@@ -328,7 +328,7 @@ impl Running {
     ) -> Result<Flow, AllocError>
         requires { self.old.lines + 1 < 2 ^ 64 }
         ensures { (start : K.State) (read written : List ℕ)
-            → HasAnswered (K.kind kind.now) start read written (progress_of state.old self.old)
+            → HasAnsweredLines (K.kind kind.now) start read written (progress_of state.old self.old)
             → EndsAs (K.kind kind.now) start read written (progress_of state.new self.new) result }
     {
         match self.answer_last(alloc, kind, state) {

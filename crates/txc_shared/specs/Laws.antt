@@ -7,7 +7,7 @@ use Rattle.txc_node.specs.declared.entry.Entry.{Entry}
 use Rattle.txc_node.specs.declared.hit.Shown.{Shown}
 use Rattle.txc_node.specs.declared.op.Op.{Op}
 use Rattle.txc_node.specs.declared.record.Record.{Record}
-use Rattle.txc_node.specs.Cache.{Cache, empty_cache, entry_after, replayed_entry, answer}
+use Rattle.txc_node.specs.Cache.{Cache, empty_cache, entry_after, replayed_entry, lookup_answer}
 use Rattle.txc_node.specs.Steps.{refusal_of, step_reply, after_step}
 use Rattle.txc_app.specs.Eval.{Next}
 use Rattle.txc_app.specs.Claims.{IsTrueIn}
@@ -76,7 +76,7 @@ BeginningIsLegal = (L : History) (start : Cache) (rs all : List Record)
 -- what a lookup finds in a true cache is true as it is shown
 abbrev pub AnswersAreTrue : Type 0
 AnswersAreTrue = (next : Next) (L : History) (c : Cache) (key : Call) (lo hi : ℕ) (found : Shown)
-    → IsTrueCache next L c → answer c key lo hi ≡ Some found
+    → IsTrueCache next L c → lookup_answer c key lo hi ≡ Some found
     → IsTrueIn next L (record { key = key; value = found.value; reach = found.reach; tags = found.tags })
 
 -- a legal history leaves a cache that took as many events more as its records take

@@ -7,7 +7,7 @@ use Rattle.txc_shared.specs.Passes.{PassValue}
 
 -- what lies under a node's lock: the node's row and the database's are the named ones, and, unless it is
 -- broken, as many events were taken from the feed as it took
-pub record IsNamed (rows : ℕ → List ℕ) (row : List ℕ) (taken : ℕ) (n : NodeValue) : Type 0 where
+pub record LiesUnderLock (rows : ℕ → List ℕ) (row : List ℕ) (taken : ℕ) (n : NodeValue) : Type 0 where
   pub cells : n.cells ≡ rows n.settings.number
   pub events : n.seen.events ≡ row
   pub in_step : n.broken ≡ false → taken ≡ n.cache.processed

@@ -58,14 +58,14 @@ pub record GrowsByOthers (pass : ℕ) (old new : List Record) : Type 0 where
   pub none : records_of pass others ≡ 0
 
 -- what was seen is followed by records of other passes, and then by the next one of its own
-pub record Follows (pass : ℕ) (old new : List Record) (op : Op) (reply : Reply Shown) : Type 0 where
+pub record HasNextRecord (pass : ℕ) (old new : List Record) (op : Op) (reply : Reply Shown) : Type 0 where
   pub others : List Record
   pub is : new ≡ old ++ others ++ next_record pass old op reply ∷ []
   pub none : records_of pass others ≡ 0
 
 -- its own next record is of this step and reply
 abbrev pub HasMade : PassValue → PassValue → Op → Reply Shown → Type 0
-HasMade old new op reply = Follows old.pass old.records new.records op reply
+HasMade old new op reply = HasNextRecord old.pass old.records new.records op reply
 
 -- what a hit showed of the entry
 abbrev pub shown_of_entry : Entry → Shown

@@ -9,21 +9,21 @@ use Rattle.txc_shared.specs.Nodes.{NodeValue}
 use Rattle.txc_shared.specs.Passes.{PassValue, DoAgree}
 
 -- a step can be recorded: the node is whole, and there is room for one record more
-pub record IsOpen (n : NodeValue) : Type 0 where
+pub record CanRecord (n : NodeValue) : Type 0 where
   pub whole : n.broken ≡ false
   pub room : length n.records < length n.cells
 
 -- of a step: broken, or the history is full; and then out of memory, or another record stands in the row
 abbrev pub IsStepRefused : NodeValue → NodeError → Type 0
-IsStepRefused n Broken = (n.broken ≡ true) ⊎ IsOpen n
+IsStepRefused n Broken = (n.broken ≡ true) ⊎ CanRecord n
 IsStepRefused n EmptyRange = ⊥
 IsStepRefused n HistoryFull = (n.broken ≡ false) × (length n.records ≡ length n.cells)
 IsStepRefused n PassesFull = ⊥
-IsStepRefused n Memory = IsOpen n
+IsStepRefused n Memory = CanRecord n
 
 -- of a lookup: the stamps too, before a full history, end before they begin
 abbrev pub IsLookupRefused : NodeValue → ℕ → ℕ → NodeError → Type 0
-IsLookupRefused n lo hi Broken = (n.broken ≡ true) ⊎ (IsOpen n × (lo ≤ hi))
+IsLookupRefused n lo hi Broken = (n.broken ≡ true) ⊎ (CanRecord n × (lo ≤ hi))
 IsLookupRefused n lo hi EmptyRange = (n.broken ≡ false) × (hi < lo)
 IsLookupRefused n lo hi e = IsStepRefused n e × (lo ≤ hi)
 
@@ -36,7 +36,7 @@ IsPassRefused n e = ⊥
 
 -- the call found another record in the row after the node's: nothing that callers were shown has changed,
 -- and each later call is refused; the cache may have made the step
-pub record IsBroken (old new : NodeValue) : Type 0 where
+pub record IsNodeBroken (old new : NodeValue) : Type 0 where
   pub was : old.broken ≡ false
   pub is : new ≡ record old { cache = new.cache; seen = new.seen; broken = true }
   pub events : new.seen.events ≡ old.seen.events
@@ -44,9 +44,9 @@ pub record IsBroken (old new : NodeValue) : Type 0 where
 
 -- what a refusal leaves: the node as it was; and refused as broken, it was broken before, or is so from now
 -- on
-abbrev pub IsLeft : NodeValue → NodeValue → NodeError → Type 0
-IsLeft old new Broken = ((new ≡ old) × (old.broken ≡ true)) ⊎ IsBroken old new
-IsLeft old new e = new ≡ old
+abbrev pub IsNodeLeft : NodeValue → NodeValue → NodeError → Type 0
+IsNodeLeft old new Broken = ((new ≡ old) × (old.broken ≡ true)) ⊎ IsNodeBroken old new
+IsNodeLeft old new e = new ≡ old
 
 -- ---- under the lock
 
@@ -61,5 +61,5 @@ IsNewPassRefused settings n Broken = (n.broken ≡ true) ⊎ (settings ≢ n.set
 IsNewPassRefused settings n e = IsPassRefused n e × (settings ≡ n.settings)
 
 -- some node of a named row refuses so
-abbrev pub MayRefuse : (ℕ → List ℕ) → (NodeValue → NodeError → Type 0) → NodeError → Type 0
-MayRefuse rows refused e = (n : NodeValue) × (n.cells ≡ rows n.settings.number) × refused n e
+abbrev pub NodeMayRefuse : (ℕ → List ℕ) → (NodeValue → NodeError → Type 0) → NodeError → Type 0
+NodeMayRefuse rows refused e = (n : NodeValue) × (n.cells ≡ rows n.settings.number) × refused n e

@@ -19,8 +19,8 @@ abbrev pub call_of_absent : Call
 call_of_absent = record { function = 0; args = 9 ∷ [] }
 
 -- what it asks for is not there, from the first stamp to the newest, and still
-abbrev pub absent : Entry
-absent = record {
+abbrev pub absent_entry : Entry
+absent_entry = record {
   key = call_of_absent;
   value = [];
   reach = record { lo = 0; known = 4; still = true };
@@ -35,13 +35,13 @@ abbrev pub looks_up : Op
 looks_up = Lookup call_of_absent 0 9
 
 abbrev pub shown_absent : Shown
-shown_absent = record { reach = absent.reach; value = []; tags = absent.tags }
+shown_absent = record { reach = absent_entry.reach; value = []; tags = absent_entry.tags }
 
 -- two passes: a miss, an insertion and the first event
 abbrev pub three_steps : List Record
 three_steps =
     by 0 0 looks_up replies.Miss
-    ∷ by 1 0 (Insert absent) (replies.Inserted (Stored absent.reach None))
+    ∷ by 1 0 (Insert absent_entry) (replies.Inserted (Stored absent_entry.reach None))
     ∷ by 1 1 (Event 1 (id_tag 1 7 ∷ group_tag 1 2 ∷ [])) (replies.Closed 0)
     ∷ []
 

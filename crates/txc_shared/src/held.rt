@@ -7,8 +7,8 @@ ghost use Rattle.txc_node.specs.declared.reply.Reply.TheVariants.{Swept};
 ghost use Rattle.txc_app.specs.Claims.{IsTrueIn};
 ghost use Rattle.txc_shared.specs.Nodes.{NodeValue, after_call, seeing, HasAdvanced};
 ghost use Rattle.txc_shared.specs.Passes.{PassValue, HasGrown, HasSeen, DoAgree, HasFound, HasMade, HasInserted, HasTaken, IsPassLeft};
-ghost use Rattle.txc_shared.specs.Refusals.{IsLookupRefused, IsStepRefused, IsLeft, IsRefusedThrough, IsNewPassRefused};
-ghost use Rattle.txc_shared.specs.Locked.{IsAhead, IsAdmitted, IsNamed};
+ghost use Rattle.txc_shared.specs.Refusals.{IsLookupRefused, IsStepRefused, IsNodeLeft, IsRefusedThrough, IsNewPassRefused};
+ghost use Rattle.txc_shared.specs.Locked.{IsAhead, IsAdmitted, LiesUnderLock};
 
 use crate::advanced::Advanced;
 use crate::error::NodeError;
@@ -38,13 +38,13 @@ pub(crate) struct Held<A: App, J: Naming> {
 
 impl<A: App, J: Naming> Model for Held<A, J> {
     ghost use Rattle.txc_shared.specs.Nodes.{NodeValue};
-    ghost use Rattle.txc_shared.specs.Locked.{IsNamed};
+    ghost use Rattle.txc_shared.specs.Locked.{LiesUnderLock};
 
     ghost Value = { NodeValue };
 
     ghost view = { λ h. h.node };
 
-    ghost invariant = { λ h. IsNamed J.node_rows J.database_row h.feed.taken h.node };
+    ghost invariant = { λ h. LiesUnderLock J.node_rows J.database_row h.feed.taken h.node };
 }
 
 impl<A: App, J: Naming> Held<A, J> {
@@ -77,7 +77,7 @@ impl<A: App, J: Naming> Held<A, J> {
         ensures ok { OnOk result (IsAdmitted self.old pass.now) }
         ensures agrees { OnOk result (DoAgree self.old pass.now) }
         ensures unchanged { OnOk result (self.new ≡ self.old) }
-        ensures left { IfErr result (IsLeft self.old self.new) }
+        ensures left { IfErr result (IsNodeLeft self.old self.new) }
         ensures refused { OnErr result ((result ≡ Err NodeError.Broken)
             × ((self.old.broken ≡ true) ⊎ ¬ (DoAgree self.old pass.now))) }
     {
@@ -136,7 +136,7 @@ impl<A: App, J: Naming> Held<A, J> {
         }) }
         ensures after { OnOk result (self.new ≡ record self.old { passes = self.old.passes + 1 }) }
         ensures only_if { OnOk result (self.old.passes < MAX_PASSES) }
-        ensures left { IfErr result (IsLeft self.old self.new) }
+        ensures left { IfErr result (IsNodeLeft self.old self.new) }
         ensures refused { IfErr result (IsNewPassRefused settings self.old) }
     {
         prefix_of_itself::<Event>();
@@ -163,7 +163,7 @@ impl<A: App, J: Naming> Held<A, J> {
     ) -> Result<Option<Finding<A>>, NodeError>
         ensures named { self.old.cells ≡ J.node_rows self.old.settings.number }
         ensures after { OnOk result (self.new ≡ after_call self.old pass.old.pass (Lookup key.now lo hi)) }
-        ensures unchanged { IfErr result (IsLeft self.old self.new) }
+        ensures unchanged { IfErr result (IsNodeLeft self.old self.new) }
         ensures refused { IfErr result (IsRefusedThrough (λ n. IsLookupRefused n lo hi) self.old pass.old) }
         ensures longer { HasGrown pass.old pass.new }
         ensures found { IfOk result (λ found.
@@ -198,7 +198,7 @@ impl<A: App, J: Naming> Held<A, J> {
         ensures after { OnOk result
             (self.new ≡ after_call (seeing self.old self.new.seen) pass.old.pass (Insert entry)) }
         ensures seen { OnOk result (IsPrefix front.now.history self.new.seen.history) }
-        ensures unchanged { IfErr result (IsLeft self.old self.new) }
+        ensures unchanged { IfErr result (IsNodeLeft self.old self.new) }
         ensures refused { IfErr result (IsRefusedThrough IsStepRefused self.old pass.old) }
         ensures longer { HasGrown pass.old pass.new }
         ensures made { IfOk result (HasInserted pass.old pass.new entry) }
@@ -225,7 +225,7 @@ impl<A: App, J: Naming> Held<A, J> {
     ) -> Result<Advanced, NodeError>
         ensures named { self.old.cells ≡ J.node_rows self.old.settings.number }
         ensures after { IfOk result (HasAdvanced (seeing self.old self.new.seen) pass.old.pass self.new) }
-        ensures unchanged { IfErr result (IsLeft self.old self.new) }
+        ensures unchanged { IfErr result (IsNodeLeft self.old self.new) }
         ensures refused { IfErr result (IsRefusedThrough IsStepRefused self.old pass.old) }
         ensures longer { HasGrown pass.old pass.new }
         ensures taken { IfOk result (HasTaken pass.old pass.new) }
@@ -261,7 +261,7 @@ impl<A: App, J: Naming> Held<A, J> {
     ) -> Result<usize, NodeError>
         ensures named { self.old.cells ≡ J.node_rows self.old.settings.number }
         ensures after { OnOk result (self.new ≡ after_call self.old pass.old.pass (Sweep horizon)) }
-        ensures unchanged { IfErr result (IsLeft self.old self.new) }
+        ensures unchanged { IfErr result (IsNodeLeft self.old self.new) }
         ensures refused { IfErr result (IsRefusedThrough IsStepRefused self.old pass.old) }
         ensures longer { HasGrown pass.old pass.new }
         ensures made { IfOk result (λ count. HasMade pass.old pass.new (Sweep horizon) (Swept count)) }

@@ -9,7 +9,7 @@ ghost use Rattle.txc_app.specs.Claims.{IsTrueIn};
 ghost use Rattle.txc_shared.specs.Histories.{IsLegal};
 ghost use Rattle.txc_shared.specs.Nodes.{start_of};
 ghost use Rattle.txc_shared.specs.Passes.{HasGrown, HasFound, HasMade, HasInserted, HasTaken, IsPassLeft};
-ghost use Rattle.txc_shared.specs.Refusals.{IsLookupRefused, IsStepRefused, IsRefusedThrough, IsNewPassRefused, MayRefuse};
+ghost use Rattle.txc_shared.specs.Refusals.{IsLookupRefused, IsStepRefused, IsRefusedThrough, IsNewPassRefused, NodeMayRefuse};
 
 use crate::advanced::Advanced;
 use crate::error::NodeError;
@@ -83,7 +83,7 @@ impl<A: App, J: Naming> SharedNode<A, J> {
         ensures settings { IfOk result (λ pass. pass.settings ≡ self.now) }
         ensures number { IfOk result (λ pass. pass.pass < MAX_PASSES) }
         ensures records { IfOk result (λ pass. pass.records ≡ []) }
-        ensures refused { IfErr result (MayRefuse J.node_rows (IsNewPassRefused self.now)) }
+        ensures refused { IfErr result (NodeMayRefuse J.node_rows (IsNewPassRefused self.now)) }
     {
         self.lock.lock(rt).pass(alloc, self.settings)
     }
@@ -119,7 +119,7 @@ impl<J: Naming> NodePass<J> {
         ensures shown { IfOk result (λ found. IfSome found (λ f. IsPrefix f.front.history self.new.history)) }
         ensures left { IfErr result (IsPassLeft (J.node_rows self.old.settings.number) self.old self.new) }
         ensures refused { IfErr result
-            (MayRefuse J.node_rows (λ n. IsRefusedThrough (λ m. IsLookupRefused m lo hi) n self.old)) }
+            (NodeMayRefuse J.node_rows (λ n. IsRefusedThrough (λ m. IsLookupRefused m lo hi) n self.old)) }
     {
         let found = node.lock.lock(rt).lookup(alloc, self, key, lo, hi);
         self.is_legal();
@@ -143,7 +143,7 @@ impl<J: Naming> NodePass<J> {
         ensures shown { OnOk result (IsPrefix front.now.history self.new.history) }
         ensures left { IfErr result (IsPassLeft (J.node_rows self.old.settings.number) self.old self.new) }
         ensures refused { IfErr result
-            (MayRefuse J.node_rows (λ n. IsRefusedThrough IsStepRefused n self.old)) }
+            (NodeMayRefuse J.node_rows (λ n. IsRefusedThrough IsStepRefused n self.old)) }
     {
         let insertion = node.lock.lock(rt).insert(alloc, self, entry, front);
         self.is_legal();
@@ -163,7 +163,7 @@ impl<J: Naming> NodePass<J> {
         ensures taken { IfOk result (HasTaken self.old self.new) }
         ensures left { IfErr result (IsPassLeft (J.node_rows self.old.settings.number) self.old self.new) }
         ensures refused { IfErr result
-            (MayRefuse J.node_rows (λ n. IsRefusedThrough IsStepRefused n self.old)) }
+            (NodeMayRefuse J.node_rows (λ n. IsRefusedThrough IsStepRefused n self.old)) }
     {
         let advanced = node.lock.lock(rt).advance(alloc, self);
         self.is_legal();
@@ -183,7 +183,7 @@ impl<J: Naming> NodePass<J> {
         ensures made { IfOk result (λ count. HasMade self.old self.new (Sweep horizon) (Swept count)) }
         ensures left { IfErr result (IsPassLeft (J.node_rows self.old.settings.number) self.old self.new) }
         ensures refused { IfErr result
-            (MayRefuse J.node_rows (λ n. IsRefusedThrough IsStepRefused n self.old)) }
+            (NodeMayRefuse J.node_rows (λ n. IsRefusedThrough IsStepRefused n self.old)) }
     {
         let count = node.lock.lock(rt).sweep(alloc, self, horizon);
         self.is_legal();

@@ -1,14 +1,14 @@
 //! The node for one thread, which its lock holds too.
 ghost use Rattle.std.specs.Prelude.{◌≡◌, ◌+◌, ◌<◌, ◌≤◌, ◌⊎◌, ◌↔◌, ◌++◌, ◌∷◌, [], true, false, length, Some, None, Ok, Err, IsOk, IfOk, OnOk, OnErr, IfErr, IfSome, IsTrue};
 ghost use Rattle.std.specs.Option.{option_map};
-ghost use Rattle.txc_node.specs.Cache.{answer, outcome, swept_count};
+ghost use Rattle.txc_node.specs.Cache.{lookup_answer, outcome, swept_count};
 ghost use Rattle.txc_node.specs.Steps.{found_reply};
 ghost use Rattle.txc_node.specs.declared.op.Op.TheVariants.{Insert, Lookup, Sweep};
 ghost use Rattle.txc_app.specs.Claims.{IsTrueIn, entry_shown};
 ghost use Rattle.txc_shared.specs.Nodes.{NodeValue, start_of, after_call, seeing, IsLonger, HasTags, insertion_of, HasAdvanced, HasTakenAll};
 ghost use Rattle.txc_shared.specs.Histories.{records_of};
 ghost use Rattle.txc_shared.specs.Runs.{IsNode};
-ghost use Rattle.txc_shared.specs.Refusals.{IsOpen, IsStepRefused, IsLookupRefused, IsPassRefused, IsLeft};
+ghost use Rattle.txc_shared.specs.Refusals.{CanRecord, IsStepRefused, IsLookupRefused, IsPassRefused, IsNodeLeft};
 
 use crate::advanced::Advanced;
 use crate::error::NodeError;
@@ -225,9 +225,9 @@ impl<A: App> StoredNode<A> {
         requires { lo ≤ hi }
         ensures found { IfOk result (λ both.
             option_map (λ f. f.entry) both.0
-            ≡ option_map (entry_shown key.now) (answer self.now.cache key.now lo hi)) }
+            ≡ option_map (entry_shown key.now) (lookup_answer self.now.cache key.now lo hi)) }
         ensures front { IfOk result (λ both. IfSome both.0 (λ f. f.front ≡ self.now.seen)) }
-        ensures reply { IfOk result (λ both. both.1 ≡ found_reply (answer self.now.cache key.now lo hi)) }
+        ensures reply { IfOk result (λ both. both.1 ≡ found_reply (lookup_answer self.now.cache key.now lo hi)) }
     {
         answers_are_true();
         let Ok(found) = self.core.find(key, lo, hi) else {
@@ -261,10 +261,10 @@ impl<A: App> StoredNode<A> {
         ensures after { OnOk result (self.new ≡ after_call self.old pass (Lookup key.now lo hi)) }
         ensures found { IfOk result (λ found.
             option_map (λ f. f.entry) found
-            ≡ option_map (entry_shown key.now) (answer self.old.cache key.now lo hi)) }
+            ≡ option_map (entry_shown key.now) (lookup_answer self.old.cache key.now lo hi)) }
         ensures front { IfOk result (λ found. IfSome found (λ f. f.front ≡ self.old.seen)) }
-        ensures only_if { OnOk result (IsOpen self.old × (lo ≤ hi)) }
-        ensures left { IfErr result (IsLeft self.old self.new) }
+        ensures only_if { OnOk result (CanRecord self.old × (lo ≤ hi)) }
+        ensures left { IfErr result (IsNodeLeft self.old self.new) }
         ensures refused { IfErr result (IsLookupRefused self.old lo hi) }
     {
         nodes_go_on();
@@ -307,8 +307,8 @@ impl<A: App> StoredNode<A> {
             (self.new ≡ after_call (seeing self.old self.new.seen) pass (Insert entry)) }
         ensures answer { IfOk result (λ insertion.
             insertion ≡ insertion_of (outcome self.old.cache entry)) }
-        ensures only_if { OnOk result (IsOpen self.old) }
-        ensures left { IfErr result (IsLeft self.old self.new) }
+        ensures only_if { OnOk result (CanRecord self.old) }
+        ensures left { IfErr result (IsNodeLeft self.old self.new) }
         ensures refused { IfErr result (IsStepRefused self.old) }
     {
         nodes_go_on();
@@ -361,7 +361,7 @@ impl<A: App> StoredNode<A> {
         ensures seen { OnOk result (IsLonger self.old.seen front.now self.new.seen) }
         ensures after { IfOk result (HasAdvanced (seeing self.old self.new.seen) pass self.new) }
         ensures only_if { OnOk result (self.old.broken ≡ false) }
-        ensures left { IfErr result (IsLeft self.old self.new) }
+        ensures left { IfErr result (IsNodeLeft self.old self.new) }
         ensures refused { IfErr result (IsStepRefused self.old) }
         ensures idle { self.old.broken ≡ false → HasTakenAll self.old front.now.history
             → result ≡ Ok Advanced.Idle }
@@ -399,8 +399,8 @@ impl<A: App> StoredNode<A> {
         requires { pass < self.old.passes }
         ensures after { OnOk result (self.new ≡ after_call self.old pass (Sweep horizon)) }
         ensures answer { IfOk result (λ count. count ≡ swept_count self.old.cache horizon) }
-        ensures only_if { OnOk result (IsOpen self.old) }
-        ensures left { IfErr result (IsLeft self.old self.new) }
+        ensures only_if { OnOk result (CanRecord self.old) }
+        ensures left { IfErr result (IsNodeLeft self.old self.new) }
         ensures refused { IfErr result (IsStepRefused self.old) }
     {
         nodes_go_on();

@@ -6,7 +6,7 @@ use Rattle.txc_client.proofs.Drawn.{none_seen, one_more, settings_of}
 use Rattle.txc_shared.specs.declared.advanced.Advanced.TheVariants as advances
 use Rattle.txc_shared.specs.declared.settings.NodeSettings.{NodeSettings}
 use Rattle.txc_shared.specs.Passes.{PassValue, HasGrown, HasTaken}
-use Rattle.txc_site.specs.Keeping.{HasKeptNode, HasTakenAll, HaveKept}
+use Rattle.txc_site.specs.Keeping.{HasKeptNode, HasTakenEach, HaveKept}
 use Rattle.txc_site.specs.declared.keeper.KeptNode.{KeptNode}
 
 -- a pass that has grown is the same pass
@@ -17,8 +17,8 @@ pub same_pass : (old new : PassValue) → HasGrown old new → new.pass ≡ old.
 same_pass old new grown = ap (λ (p : PassValue). p.pass) grown.is
 
 -- one event more was taken
-pub one_taken_more : (old last new : PassValue) (stamps : List ℕ) (stamp closed : ℕ) → HasTakenAll old stamps last
-    → HasTaken last new (advances.Taken stamp closed) → HasTakenAll old (stamp ∷ stamps) new
+pub one_taken_more : (old last new : PassValue) (stamps : List ℕ) (stamp closed : ℕ) → HasTakenEach old stamps last
+    → HasTaken last new (advances.Taken stamp closed) → HasTakenEach old (stamp ∷ stamps) new
 one_taken_more old last new stamps stamp closed before taken = (last, closed, before, taken)
 
 one_kept_more : (rows : ℕ → List ℕ) (h : Option ℕ) (olds : List PassValue) (all : List KeptNode) (news : List PassValue)

@@ -4,7 +4,7 @@ use Rattle.std.specs.List.{range_with_len}
 use Rattle.std.proofs.lemmas.List.FromFn.{map-range_with_len_more}
 use Rattle.txc_shared.specs.declared.settings.NodeSettings.{NodeSettings}
 use Rattle.txc_site.specs.declared.plan.Plan.{Plan}
-use Rattle.txc_site.specs.Plans.{node_of}
+use Rattle.txc_site.specs.Plans.{settings_of_node}
 use Rattle.txc_site.specs.Rows.{AreRowsOf}
 
 -- so many places later
@@ -28,10 +28,10 @@ one_row_less named n m row rest all before step more =
 
 -- one node more is made
 pub one_node_more : (plan : Plan) (nodes more : List NodeSettings) (node : NodeSettings) (n m : ℕ)
-    → nodes ≡ map (λ k. node_of plan k) (range_with_len 0 n) → node ≡ node_of plan n → more ≡ nodes ++ node ∷ [] → m ≡ n + 1
-    → more ≡ map (λ k. node_of plan k) (range_with_len 0 m)
+    → nodes ≡ map (λ k. settings_of_node plan k) (range_with_len 0 n) → node ≡ settings_of_node plan n → more ≡ nodes ++ node ∷ [] → m ≡ n + 1
+    → more ≡ map (λ k. settings_of_node plan k) (range_with_len 0 m)
 one_node_more plan nodes more node n m before its added next =
-    let made = λ (k : ℕ). node_of plan k in
+    let made = λ (k : ℕ). settings_of_node plan k in
     added
     ∙ ap (λ (xs : List NodeSettings). xs ++ node ∷ []) before
     ∙ ap (λ (x : NodeSettings). map made (range_with_len 0 n) ++ x ∷ []) its

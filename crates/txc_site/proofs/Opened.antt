@@ -6,7 +6,7 @@ use Rattle.txc_rw.specs.Core.{RwValue}
 use Rattle.txc_shared.specs.declared.error.NodeError.{NodeError}
 use Rattle.txc_shared.specs.declared.error.NodeError.TheVariants as refusals
 use Rattle.txc_shared.specs.declared.settings.NodeSettings.{NodeSettings}
-use Rattle.txc_shared.specs.Refusals.{IsNewPassRefused, MayRefuse}
+use Rattle.txc_shared.specs.Refusals.{IsNewPassRefused, NodeMayRefuse}
 use Rattle.txc_site.specs.declared.error.OpenError.{OpenError}
 use Rattle.txc_site.specs.declared.error.OpenError.TheVariants as opens
 use Rattle.txc_site.specs.declared.error.SiteError.{SiteError}
@@ -17,7 +17,7 @@ use Rattle.txc_site.specs.Plans.{IsPlan}
 use Rattle.txc_site.specs.Sites.{IsClientRefused, IsDatabaseRefused, IsNoPass, IsRegistryRefused, IsSiteRefused}
 
 -- a node that refuses a new pass gives none
-pub no_new_pass : (rows : ℕ → List ℕ) (node : NodeSettings) (error : NodeError) → MayRefuse rows (IsNewPassRefused node) error → IsNoPass error
+pub no_new_pass : (rows : ℕ → List ℕ) (node : NodeSettings) (error : NodeError) → NodeMayRefuse rows (IsNewPassRefused node) error → IsNoPass error
 no_new_pass rows node refusals.Broken h = tt
 no_new_pass rows node refusals.EmptyRange (n, named, (never, made)) = absurd never
 no_new_pass rows node refusals.HistoryFull (n, named, (never, made)) = absurd never
@@ -26,7 +26,7 @@ no_new_pass rows node refusals.Memory h = tt
 
 -- and so does a client of some node that refuses one
 pub no_pass : (rows : ℕ → List ℕ) (nodes : List NodeSettings) (error : NodeError)
-    → (error ≡ refusals.Memory) ⊎ Any (λ node. MayRefuse rows (IsNewPassRefused node) error) nodes → IsNoPass error
+    → (error ≡ refusals.Memory) ⊎ Any (λ node. NodeMayRefuse rows (IsNewPassRefused node) error) nodes → IsNoPass error
 no_pass rows nodes refusals.Broken h = tt
 no_pass rows nodes refusals.EmptyRange (inl h) = absurd (cc h)
 no_pass rows nodes refusals.EmptyRange (inr (k, node, within, at, h)) = no_new_pass rows node refusals.EmptyRange h

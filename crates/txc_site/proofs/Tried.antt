@@ -9,7 +9,7 @@ use Rattle.txc_site.specs.declared.error.WriteError.{WriteError}
 use Rattle.txc_site.specs.declared.writing.Attempt.{Attempt}
 use Rattle.txc_site.specs.declared.writing.Attempt.TheVariants as attempts
 use Rattle.txc_site.specs.Attempts.{IsAttempted}
-use Rattle.txc_site.specs.Writes.{IsRefusedCommit, IsWriteRefused}
+use Rattle.txc_site.specs.Writes.{IsRefusedCommit, IsSiteWriteRefused}
 
 module _ {T : Type 0} (next : Next) (row : List ℕ) (makes : RwValue → T → Type 0) (refuses : TxnError → Type 0) (attempt : Attempt T) where
   pub conflict_so : (conflict : Answered ℕ) → IsAttempted next row makes refuses attempt → attempt ≡ attempts.Conflict conflict
@@ -17,7 +17,7 @@ module _ {T : Type 0} (next : Next) (row : List ℕ) (makes : RwValue → T → 
   conflict_so conflict did is = subst (IsAttempted next row makes refuses) is did
 
   pub refused_so : (error : WriteError) → IsAttempted next row makes refuses attempt → attempt ≡ attempts.Refused error
-      → (tries : ℕ) → IsWriteRefused row makes refuses tries error
+      → (tries : ℕ) → IsSiteWriteRefused row makes refuses tries error
   refused_so error did is tries =
       let so = subst (IsAttempted next row makes refuses) is did in
       so.1 tries

@@ -12,7 +12,7 @@ use Rattle.txc_site.specs.declared.error.GenerationError.{GenerationError}
 use Rattle.txc_site.specs.declared.error.GenerationError.TheVariants as generations
 use Rattle.txc_site.specs.declared.plan.Plan.{Plan}
 use Rattle.txc_site.specs.declared.returning.Generation.{Generation}
-use Rattle.txc_site.specs.Generations.{AreInTurn, ComeAfter, ComesAfter, HasEnded, HaveServed, IsEndRefused, IsGeneration, IsGenerationRefused, IsNextRefused, last_state}
+use Rattle.txc_site.specs.Generations.{AreInTurn, ComeAfter, ComesAfter, GenerationsHaveEnded, HaveServed, IsEndRefused, IsGeneration, IsGenerationRefused, IsNextRefused, last_state}
 
 -- of two beginnings the one that is not longer is a beginning of the other
 pub shorter_begins : {X : Type 0} (xs ys : List X) → IsPrefix ys xs ⊎ IsPrefix xs ys → length xs ≤ length ys → IsPrefix xs ys
@@ -101,7 +101,7 @@ module _ {T : Type 0} (plan : Plan) (count : ℕ) (numbers : List ℕ) (gives : 
     outputs = before.outputs;
     each = before.each;
     turns = before.turns;
-    ended = subst (HasEnded {T = T} {U = U} goes plan.events numbers before.generations) (sym is) (before.went_on, refused before.generations);
+    ended = subst (GenerationsHaveEnded {T = T} {U = U} goes plan.events numbers before.generations) (sym is) (before.went_on, refused before.generations);
   }
 
   -- one more came
@@ -131,7 +131,7 @@ module _ {T : Type 0} (plan : Plan) (count : ℕ) (numbers : List ℕ) (gives : 
       each = All-push (IsGeneration plan count gives) before.generations g before.each one;
       turns = turns_more;
       ended =
-          subst (HasEnded {T = T} {U = U} goes plan.events numbers (before.generations ++ g ∷ [])) (sym is)
+          subst (GenerationsHaveEnded {T = T} {U = U} goes plan.events numbers (before.generations ++ g ∷ [])) (sym is)
           (before.generations, g, refl, before.went_on, goes_on);
     }
 
@@ -144,6 +144,6 @@ module _ {T : Type 0} (plan : Plan) (count : ℕ) (numbers : List ℕ) (gives : 
       each = All-push (IsGeneration plan count gives) before.generations g before.each one;
       turns = turns_more;
       ended =
-          subst (HasEnded {T = T} {U = U} goes plan.events numbers (before.generations ++ g ∷ [])) (sym is)
+          subst (GenerationsHaveEnded {T = T} {U = U} goes plan.events numbers (before.generations ++ g ∷ [])) (sym is)
           (All-push (λ g. goes g true) before.generations g before.went_on goes_on, next_so plan.events numbers before.generations g error refused);
     }

@@ -8,7 +8,7 @@ use Rattle.txc_site.specs.declared.error.WriteError.{WriteError}
 use Rattle.txc_site.specs.declared.error.WriteError.TheVariants as writes
 use Rattle.txc_site.specs.declared.writing.Attempt.{Attempt}
 use Rattle.txc_site.specs.declared.writing.Attempt.TheVariants as attempts
-use Rattle.txc_site.specs.Writes.{IsRefusedCommit, IsWriteRefused, IsWritten}
+use Rattle.txc_site.specs.Writes.{IsRefusedCommit, IsSiteWriteRefused, IsWritten}
 
 -- it is no list of conflicts, and no lack of memory for one
 abbrev pub IsOfRun : WriteError → Type 0
@@ -21,4 +21,4 @@ abbrev pub IsAttempted : {T : Type 0} → Next → List ℕ → (RwValue → T �
 IsAttempted next row makes refuses (attempts.Done output committed) = IsWritten next row makes output committed
 IsAttempted next row makes refuses (attempts.Conflict conflict) = IsRefusedCommit row makes (commits.Conflict conflict)
 IsAttempted next row makes refuses (attempts.Refused error) =
-    IsOfRun error × ((tries : ℕ) → IsWriteRefused row makes refuses tries error)
+    IsOfRun error × ((tries : ℕ) → IsSiteWriteRefused row makes refuses tries error)

@@ -73,10 +73,10 @@ IsEndRefused room numbers all generations.Memory = Unit {0}
 IsEndRefused room numbers all error = IsGenerationRefused numbers error
 
 -- The visitors wanted another generation after each but the last, and none after that; or one after each, and there was none.
-abbrev pub HasEnded : {T U : Type 0} → (Generation T → Bool → Type 0) → ℕ → List ℕ → List (Generation T) → Result U GenerationError → Type 0
-HasEnded {T} goes room numbers all (Ok u) = (before : List (Generation T)) × (last : Generation T) × IsLast before last all
+abbrev pub GenerationsHaveEnded : {T U : Type 0} → (Generation T → Bool → Type 0) → ℕ → List ℕ → List (Generation T) → Result U GenerationError → Type 0
+GenerationsHaveEnded {T} goes room numbers all (Ok u) = (before : List (Generation T)) × (last : Generation T) × IsLast before last all
     × All (λ g. goes g true) before × goes last false
-HasEnded goes room numbers all (Err error) = All (λ g. goes g true) all × IsEndRefused room numbers all error
+GenerationsHaveEnded goes room numbers all (Err error) = All (λ g. goes g true) all × IsEndRefused room numbers all error
 
 -- The generations came in turn, from what the opening left on, each over a database of its own with the plan's room. What they came to stands in
 -- their order.
@@ -86,7 +86,7 @@ pub record HaveServed {T U : Type 0} (plan : Plan) (count : ℕ) (numbers : List
   pub outputs : came ≡ map (λ g. g.outputs) generations
   pub each : All (IsGeneration plan count gives) generations
   pub turns : AreInTurn opened generations
-  pub ended : HasEnded goes plan.events numbers generations end
+  pub ended : GenerationsHaveEnded goes plan.events numbers generations end
 
 -- Over a database whose row has room for as many events as the plan says, the opening was written in its first run. The generations came after it.
 pub record IsServed {O T : Type 0} (next : Next) (plan : Plan) (count : ℕ) (numbers : List ℕ) (makes : RwValue → O → Type 0)

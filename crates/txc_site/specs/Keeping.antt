@@ -11,25 +11,25 @@ use Rattle.txc_site.specs.declared.keeper.KeptNode.{KeptNode}
 use Rattle.txc_site.specs.declared.keeper.TheConstants.{MAX_TAKEN}
 
 -- through the pass, the node took one event after the other, of these stamps, the latest first
-abbrev pub HasTakenAll : PassValue → List ℕ → PassValue → Type 0
-HasTakenAll old [] new = new ≡ old
-HasTakenAll old (stamp ∷ earlier) new = (before : PassValue) × (closed : ℕ) × HasTakenAll old earlier before
+abbrev pub HasTakenEach : PassValue → List ℕ → PassValue → Type 0
+HasTakenEach old [] new = new ≡ old
+HasTakenEach old (stamp ∷ earlier) new = (before : PassValue) × (closed : ℕ) × HasTakenEach old earlier before
     × HasTaken before new (advances.Taken stamp closed)
 
 -- after so many events there was none that the node had not taken, or it had taken as many as it may at once, or it
 -- refused the next one
-abbrev pub HasEnded : (ℕ → List ℕ) → PassValue → ℕ → Ended → PassValue → Type 0
-HasEnded rows old taken Idle new = HasTaken old new advances.Idle
-HasEnded rows old taken Paused new = (new ≡ old) × (taken ≡ MAX_TAKEN)
-HasEnded rows old taken (Refused error) new = IsPassLeft (rows old.settings.number) old new error
+abbrev pub HasStoppedTaking : (ℕ → List ℕ) → PassValue → ℕ → Ended → PassValue → Type 0
+HasStoppedTaking rows old taken Idle new = HasTaken old new advances.Idle
+HasStoppedTaking rows old taken Paused new = (new ≡ old) × (taken ≡ MAX_TAKEN)
+HasStoppedTaking rows old taken (Refused error) new = IsPassLeft (rows old.settings.number) old new error
 
 -- so many events were taken, and it ended so
-pub record HasAdvanced (rows : ℕ → List ℕ) (old : PassValue) (taken : ℕ) (ended : Ended) (new : PassValue) : Type 0 where
+pub record HasTakenEvents (rows : ℕ → List ℕ) (old : PassValue) (taken : ℕ) (ended : Ended) (new : PassValue) : Type 0 where
   pub stamps : List ℕ
   pub last : PassValue
-  pub took : HasTakenAll old stamps last
+  pub took : HasTakenEach old stamps last
   pub counted : taken ≡ length stamps
-  pub end : HasEnded rows last taken ended new
+  pub end : HasStoppedTaking rows last taken ended new
 
 -- the node was swept, and dropped so many entries; or refused the sweep; without a horizon it was not swept
 abbrev pub HasSwept : (ℕ → List ℕ) → PassValue → Option ℕ → Option (Result ℕ NodeError) → PassValue → Type 0
@@ -43,7 +43,7 @@ HasSwept rows old horizon swept new = ⊥
 -- has seen
 pub record HasKeptNode (rows : ℕ → List ℕ) (horizon : Option ℕ) (old : PassValue) (kept : KeptNode) (new : PassValue) : Type 0 where
   pub between : PassValue
-  pub advanced : HasAdvanced rows old kept.taken kept.ended between
+  pub advanced : HasTakenEvents rows old kept.taken kept.ended between
   pub swept : HasSwept rows between horizon kept.swept new
   pub settings : new.settings ≡ old.settings
   pub pass : new.pass ≡ old.pass

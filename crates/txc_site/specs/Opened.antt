@@ -10,7 +10,7 @@ use Rattle.txc_site.specs.declared.opening.Visited.{Visited}
 use Rattle.txc_site.specs.declared.plan.Plan.{Plan}
 use Rattle.txc_site.specs.Plans.{IsPlan}
 use Rattle.txc_site.specs.Sites.{HaveCome, IsClientRefused, IsRegistryRefused, IsSiteRefused}
-use Rattle.txc_site.specs.Writes.{IsWritten, IsWriteRefused}
+use Rattle.txc_site.specs.Writes.{IsWritten, IsSiteWriteRefused}
 
 -- Over a database whose row has room for as many events as the plan says, the opening was written in its first run.
 -- There are so many outputs, each of which is what the thread of its number comes to there.
@@ -28,7 +28,7 @@ pub record IsUnopened {T : Type 0} (events : ℕ) (makes : RwValue → T → Typ
     : Type 0 where
   pub row : List ℕ
   pub room : length row ≡ events
-  pub refused : IsWriteRefused row makes refuses 1 error
+  pub refused : IsSiteWriteRefused row makes refuses 1 error
 
 -- of a site: it was not made; or its opening was refused; or there was no memory for the threads
 abbrev pub IsOpenRefused : {T : Type 0} → Plan → List ℕ → (RwValue → T → Type 0) → (TxnError → Type 0) → OpenError → Type 0
@@ -41,7 +41,7 @@ IsOpenRefused plan numbers makes refuses opens.Threads = IsPlan plan
 -- of the opening: as a registry is; or as a change is, in one try
 abbrev pub IsOpeningRefused : {T : Type 0} → List ℕ → List ℕ → (RwValue → T → Type 0) → (TxnError → Type 0) → OpenError → Type 0
 IsOpeningRefused numbers row makes refuses (opens.Site error) = IsRegistryRefused numbers error
-IsOpeningRefused numbers row makes refuses (opens.Opening error) = IsWriteRefused row makes refuses 1 error
+IsOpeningRefused numbers row makes refuses (opens.Opening error) = IsSiteWriteRefused row makes refuses 1 error
 IsOpeningRefused numbers row makes refuses opens.Threads = ⊥
 
 -- of the visit: as a client is; or there was no memory for the threads

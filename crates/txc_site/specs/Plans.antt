@@ -19,9 +19,9 @@ IsPlan p =
     × (1 ≤ p.records) × (p.records ≤ MAX_ROOM)
 
 -- how the node of this number is made
-abbrev pub node_of : Plan → ℕ → NodeSettings
-node_of p number = record { number = number; capacity = p.capacity; recent = p.recent }
+abbrev pub settings_of_node : Plan → ℕ → NodeSettings
+settings_of_node p number = record { number = number; capacity = p.capacity; recent = p.recent }
 
 -- how the nodes are made, in order
 abbrev pub nodes_of : Plan → List NodeSettings
-nodes_of p = map (λ number. node_of p number) (range_with_len 0 p.nodes)
+nodes_of p = map (λ number. settings_of_node p number) (range_with_len 0 p.nodes)

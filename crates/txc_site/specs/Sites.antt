@@ -74,6 +74,6 @@ IsSiteRefused plan numbers (sites.Database cause) = IsPlan plan × IsWant cause
 IsSiteRefused plan numbers error = IsPlan plan × IsClientRefused numbers error
 
 -- of a page: out of memory before it began; or as the page itself is
-abbrev pub IsReadRefused : (TxnError → Type 0) → ReadError → Type 0
-IsReadRefused refuses reads.Memory = Unit {0}
-IsReadRefused refuses (reads.Page cause) = refuses cause
+abbrev pub IsPageRefused : (TxnError → Type 0) → ReadError → Type 0
+IsPageRefused refuses reads.Memory = Unit {0}
+IsPageRefused refuses (reads.Page cause) = refuses cause

@@ -41,10 +41,10 @@ AreConflicts row makes conflicts = All (λ conflict. IsRefusedCommit row makes (
 
 -- there were as many conflicts as tries, or a transaction was not begun, the change was refused, or its commit
 -- was for another reason than a conflict
-abbrev pub IsWriteRefused : {T : Type 0} → List ℕ → (RwValue → T → Type 0) → (TxnError → Type 0) → ℕ → WriteError → Type 0
-IsWriteRefused row makes refuses tries (writes.Conflicts conflicts) =
+abbrev pub IsSiteWriteRefused : {T : Type 0} → List ℕ → (RwValue → T → Type 0) → (TxnError → Type 0) → ℕ → WriteError → Type 0
+IsSiteWriteRefused row makes refuses tries (writes.Conflicts conflicts) =
     (vec_len conflicts ≡ tries) × AreConflicts row makes conflicts.items
-IsWriteRefused row makes refuses tries (writes.Begin cause) = MayRefuse row IsHoldRefused cause
-IsWriteRefused row makes refuses tries (writes.Change cause) = refuses cause
-IsWriteRefused row makes refuses tries (writes.Commit cause) = IsRefusedCommit row makes (commits.Database cause)
-IsWriteRefused row makes refuses tries writes.Memory = Unit {0}
+IsSiteWriteRefused row makes refuses tries (writes.Begin cause) = MayRefuse row IsHoldRefused cause
+IsSiteWriteRefused row makes refuses tries (writes.Change cause) = refuses cause
+IsSiteWriteRefused row makes refuses tries (writes.Commit cause) = IsRefusedCommit row makes (commits.Database cause)
+IsSiteWriteRefused row makes refuses tries writes.Memory = Unit {0}

@@ -3,8 +3,8 @@ ghost use Rattle.std.specs.Prelude.{◌≡◌, ◌+◌, ◌<◌, ◌≤◌, ◌�
 ghost use Rattle.txc_node.specs.Counts.{AreCountsOf};
 ghost use Rattle.txc_registry.specs.Objects.{AllIdle};
 ghost use Rattle.txc_site.specs.Plans.{nodes_of};
-ghost use Rattle.txc_site.specs.Sites.{IsKeeperRefused, IsReadRefused};
-ghost use Rattle.txc_site.specs.Writes.{AreConflicts, IsWritten, IsWriteRefused};
+ghost use Rattle.txc_site.specs.Sites.{IsKeeperRefused, IsPageRefused};
+ghost use Rattle.txc_site.specs.Writes.{AreConflicts, IsWritten, IsSiteWriteRefused};
 ghost use Rattle.txc_txn.specs.Core.{Explains};
 ghost use Rattle.txc_txn.specs.Sessions.{IsAtLeast};
 
@@ -78,7 +78,7 @@ impl<'a, A: App, D: Definition, J: Naming> SiteClient<'a, A, D, J> {
             shown.receipt.pin shown.receipt.answers.items) }
         ensures not_before { IfOk result.0 (λ shown. IsAtLeast bounds.at_least shown.receipt.pin) }
         ensures row { IfOk result.0 (λ shown. shown.receipt.seen.events ≡ J.database_row) }
-        ensures refused { IfErr result.0 (IsReadRefused (P.refuses page.now)) }
+        ensures refused { IfErr result.0 (IsPageRefused (P.refuses page.now)) }
         ensures functions { result.1.reader.objects ≡ self.entry.reader.objects }
         ensures renew_after { result.1.reader.renew_after ≡ self.entry.reader.renew_after }
         ensures plan { result.1.plan ≡ self.entry.plan }
@@ -114,7 +114,7 @@ impl<'a, A: App, D: Definition, J: Naming> SiteClient<'a, A, D, J> {
             AreConflicts J.database_row (C.makes change.now) written.conflicts.items) }
         ensures few { IfOk result.0 (λ written. vec_len written.conflicts + 1 ≤ tries) }
         ensures refused { IfErr result.0
-            (IsWriteRefused J.database_row (C.makes change.now) (C.refuses change.now) tries) }
+            (IsSiteWriteRefused J.database_row (C.makes change.now) (C.refuses change.now) tries) }
         ensures client { result.1 ≡ self.entry }
     {
         let SiteClient {

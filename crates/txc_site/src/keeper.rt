@@ -1,11 +1,11 @@
 //! The keeping of a site.
 ghost use Rattle.std.specs.Prelude.{◌≡◌, ◌+◌, ◌≤◌, ◌⊎◌, [], All, IfErr, IfOk, OnErr, Some, length, map, vec_capacity, vec_len};
 ghost use Rattle.txc_cushion.specs.Cushion.{retired};
-ghost use Rattle.txc_cushion.specs.Shared.{MayAnswer};
+ghost use Rattle.txc_cushion.specs.Shared.{CushionMayAnswer};
 ghost use Rattle.txc_db.specs.Calls.{IsHoldRefused, IsPinRefused, IsVacuumRefused};
 ghost use Rattle.txc_db.specs.History.{event_at, pin_event};
 ghost use Rattle.txc_db.specs.Shared.{MayRefuse};
-ghost use Rattle.txc_site.specs.Keeping.{HasAdvanced, HasKeptNode, HasSwept, HaveKept, ok_of};
+ghost use Rattle.txc_site.specs.Keeping.{HasKeptNode, HasSwept, HasTakenEvents, HaveKept, ok_of};
 ghost use Rattle.txc_site.specs.Plans.{nodes_of};
 ghost use Rattle.txc_site.specs.Sites.{IsKeeperRefused};
 
@@ -87,7 +87,7 @@ fn advance<A: App, J: Naming>(
     node: &SharedNode<A, J>,
     pass: &mut NodePass<J>,
 ) -> (usize, Ended)
-    ensures did { HasAdvanced J.node_rows pass.old result.0 result.1 pass.new }
+    ensures did { HasTakenEvents J.node_rows pass.old result.0 result.1 pass.new }
     ensures settings { pass.new.settings ≡ pass.old.settings }
     ensures pass { pass.new.pass ≡ pass.old.pass }
 {
@@ -208,7 +208,7 @@ pub(crate) fn retire<J: Naming>(
     now: u64,
     age: u64,
 ) -> Result<Vec<Stamp>, AllocError>
-    ensures { IfOk result (MayAnswer J.database_row (λ c stamps. stamps.items ≡ retired c now age)) }
+    ensures { IfOk result (CushionMayAnswer J.database_row (λ c stamps. stamps.items ≡ retired c now age)) }
 {
     let stamps = cushion.retire(rt, alloc, now, age)?;
     for stamp in &stamps {
@@ -299,7 +299,7 @@ impl<'a, A: App, J: Naming> Keeper<'a, A, J> {
         ensures not_pinned { IfOk result.0 (λ kept. IfErr kept.pinned
             (MayRefuse J.database_row (λ d. IsPinRefused d 0))) }
         ensures retired { IfOk result.0 (λ kept. IfOk kept.retired
-            (MayAnswer J.database_row (λ c stamps. stamps.items ≡ retired c now age))) }
+            (CushionMayAnswer J.database_row (λ c stamps. stamps.items ≡ retired c now age))) }
         ensures no_horizon { IfOk result.0 (λ kept. IfErr kept.horizon
             (MayRefuse J.database_row IsVacuumRefused)) }
         ensures nodes { IfOk result.0 (λ kept.

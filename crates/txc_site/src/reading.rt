@@ -1,6 +1,6 @@
 //! The reading of pages.
 ghost use Rattle.std.specs.Prelude.{◌≡◌, IfErr, IfOk};
-ghost use Rattle.txc_site.specs.Sites.{IsReadRefused};
+ghost use Rattle.txc_site.specs.Sites.{IsPageRefused};
 ghost use Rattle.txc_txn.specs.Core.{Explains};
 ghost use Rattle.txc_txn.specs.Sessions.{IsAtLeast};
 
@@ -39,7 +39,7 @@ pub(crate) fn read_page<'a, A: App, D: Definition, J: Naming, P: Page<A, D>, R: 
         shown.receipt.pin shown.receipt.answers.items) }
     ensures not_before { IfOk result.0 (λ shown. IsAtLeast bounds.at_least shown.receipt.pin) }
     ensures row { IfOk result.0 (λ shown. shown.receipt.seen.events ≡ J.database_row) }
-    ensures refused { IfErr result.0 (IsReadRefused (P.refuses page.now)) }
+    ensures refused { IfErr result.0 (IsPageRefused (P.refuses page.now)) }
     ensures functions { result.1.objects ≡ client.entry.objects }
     ensures renew_after { result.1.renew_after ≡ client.entry.renew_after }
 {

@@ -2,7 +2,7 @@
 ghost use Rattle.std.specs.Prelude.{◌≡◌, ◌+◌, ◌≤◌, ◌<◌, IfErr, IfOk, vec_len};
 ghost use Rattle.txc_registry.specs.Objects.{AllIdle};
 ghost use Rattle.txc_site.specs.Attempts.{IsAttempted};
-ghost use Rattle.txc_site.specs.Writes.{AreConflicts, IsWritten, IsWriteRefused};
+ghost use Rattle.txc_site.specs.Writes.{AreConflicts, IsWritten, IsSiteWriteRefused};
 
 use crate::change::Change;
 use crate::error::WriteError;
@@ -81,7 +81,7 @@ pub(crate) fn write_change<A: App, D: Definition, J: Naming, C: Change<A, D>, R:
         AreConflicts J.database_row (C.makes change.now) written.conflicts.items) }
     ensures few { IfOk result.0 (λ written. vec_len written.conflicts < tries) }
     ensures refused { IfErr result.0
-        (IsWriteRefused J.database_row (C.makes change.now) (C.refuses change.now) tries) }
+        (IsSiteWriteRefused J.database_row (C.makes change.now) (C.refuses change.now) tries) }
     ensures registry { result.1 ≡ registry }
 {
     let Ok(mut conflicts) = Vec::with_capacity(alloc, tries as usize) else {

@@ -4,12 +4,12 @@ use Rattle.std.proofs.lemmas.List.{map-set, length-map, length_push, take-set-le
 use Rattle.std.specs.declared.option.Option.{Option}
 use mathlib.Core.List.{IsPrefix}
 use Rattle.once_cell.specs.declared.race.note.Note.{Note}
-use Rattle.txc_stream.specs.Shown.{somes, cells_of, knowns_of}
+use Rattle.txc_stream.specs.Shown.{somes, cells_of_notes, knowns_of}
 use Rattle.once_cell.specs.Once.{Agrees}
 use Rattle.txc_stream.proofs.Somes.{somes_more, map_kept, is_known, agreed, map_read}
 use Rattle.std.proofs.lemmas.Bool.{cases_lt}
 
-pub shows_row : {T : Type 0} (ns : List (Note T)) (i : ℕ) (n : Note T) → n.cell ≡ get_or (cells_of ns) i 0 → cells_of (set ns i n) ≡ cells_of ns
+pub shows_row : {T : Type 0} (ns : List (Note T)) (i : ℕ) (n : Note T) → n.cell ≡ get_or (cells_of_notes ns) i 0 → cells_of_notes (set ns i n) ≡ cells_of_notes ns
 shows_row {T} ns i n is = map_kept (λ (m : Note T). m.cell) ns i n is
 
 pub shows_known : {T : Type 0} (ns : List (Note T)) (i : ℕ) (n : Note T) → knowns_of (set ns i n) ≡ set (knowns_of ns) i n.known

@@ -31,8 +31,8 @@ somes (None ∷ os) = somes os
 somes (Some x ∷ os) = x ∷ somes os
 
 -- the names of the cells that the notes are of
-abbrev pub cells_of : {T : Type 0} → List (Note T) → List ℕ
-cells_of {T} ns = map (λ (n : Note T). n.cell) ns
+abbrev pub cells_of_notes : {T : Type 0} → List (Note T) → List ℕ
+cells_of_notes {T} ns = map (λ (n : Note T). n.cell) ns
 
 -- what each note knows of its cell
 abbrev pub knowns_of : {T : Type 0} → List (Note T) → List (Option T)
@@ -43,8 +43,8 @@ abbrev pub names_of : List (Global × ℕ) → List ℕ
 names_of cs = map cell_name cs
 
 -- what the first len notes of a row show
-abbrev pub shown_of : {T : Type 0} → List (Note T) → ℕ → Shown T
-shown_of ns len = record { row = cells_of ns; list = somes (take len (knowns_of ns)) }
+abbrev pub shown_by_notes : {T : Type 0} → List (Note T) → ℕ → Shown T
+shown_by_notes ns len = record { row = cells_of_notes ns; list = somes (take len (knowns_of ns)) }
 
 -- there is a note for each cell of a row, and the first len of them know a record each
 pub record IsSeen {T : Type 0} (ns : List (Note T)) (len : ℕ) : Type 0 where

@@ -47,13 +47,13 @@ pub struct Front<T> {
 }
 
 impl<T> Model for Front<T> {
-    ghost use Rattle.txc_stream.specs.Shown.{Shown, shown_code, shown_of, IsSeen};
+    ghost use Rattle.txc_stream.specs.Shown.{Shown, shown_code, shown_by_notes, IsSeen};
 
     ghost Value = { Shown T };
 
     ghost coded = { shown_code T.code };
 
-    ghost view = { λ f. shown_of f.notes.items f.len };
+    ghost view = { λ f. shown_by_notes f.notes.items f.len };
 
     ghost invariant = { λ f. IsSeen f.notes.items f.len };
 }

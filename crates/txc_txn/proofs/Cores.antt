@@ -35,11 +35,11 @@ use Rattle.txc_txn.specs.declared.pinning.PinStep.TheVariants.{Asked, Adding, Dr
 use Rattle.txc_txn.specs.declared.pinning.PinStep.{PinStep}
 use Rattle.txc_ports.specs.Answers.{IsFresh, AreConsistent}
 use Rattle.txc_txn.specs.Meaning.{IsMeant, LieWithin}
-use Rattle.txc_txn.specs.Core.{CoreValue, CoreHolds, IsCore, IsFreshPinning, IsFreshStep, IsRight, PinningFits, Explains, begun_core, first_call, least_present, receipt_pin}
-use Rattle.txc_txn.specs.Leading.{NeedLeads, PinLeads, ReplyLeads, StandingLeads, StandsStill}
+use Rattle.txc_txn.specs.Core.{CoreValue, CoreHolds, IsCore, IsFreshPinning, IsFreshStep, IsRightPortReply, PinningFits, Explains, begun_core, first_call, least_present, receipt_pin}
+use Rattle.txc_txn.specs.Leading.{NeedLeads, PresentPinLeads, ReplyLeads, StandingLeads, StandsStill}
 use Rattle.std.specs.Option.{ForSome}
 use Rattle.std.specs.Prelude.{IsNone, IsSome}
-use Rattle.txc_ports.specs.Fronts.{front_of}
+use Rattle.txc_ports.specs.Fronts.{front_of_reply}
 use Rattle.txc_txn.proofs.Longer.{fresh_later, right_later}
 use Rattle.txc_txn.proofs.Meanings.{meaning_stays, fewer_members_mean_the_same, in_unreached, kept_all, no_frames_unreached, no_frames_within, present_joins, value_is_recorded, call_begins, call_goes_on}
 
@@ -290,7 +290,7 @@ still_seen : (c : CoreValue) (seen : FrontValue) (objects : Objects) (new : Core
 still_seen c seen objects new objects' h = record { same_call = h.same_call; same_objects = h.same_objects; none = h.none }
 
 pin_seen : (c : CoreValue) (seen : FrontValue) (objects : Objects) (first : Option Call) (new : CoreValue) (objects' : Objects) (turn : Turn)
-    → PinLeads first (record c { seen = seen }) objects new objects' turn → PinLeads first c objects new objects' turn
+    → PresentPinLeads first (record c { seen = seen }) objects new objects' turn → PresentPinLeads first c objects new objects' turn
 pin_seen c seen objects None new objects' turn h = (still_seen c seen objects new objects' h.0, h.1)
 pin_seen c seen objects (Some k) new objects' turn h = record {
   there = h.there;
@@ -314,7 +314,7 @@ leads_seen next c seen objects ports.Insert new objects' turn h = h
 -- ---- with a registry
 
 -- a reply that shows nothing of the history says nothing of it
-no_front : (next : Next) (need : Option Need) (reply : PortReply) (M : History) → front_of reply ≡ None → IsRight next M need reply
+no_front : (next : Next) (need : Option Need) (reply : PortReply) (M : History) → front_of_reply reply ≡ None → IsRightPortReply next M need reply
 no_front next need (ports.Pin (Ok pinned)) M none = absurd (cc none)
 no_front next need (ports.Pin (Err error)) M none = tt
 no_front next need (ports.AddPin pinned added) M none = tt
@@ -326,10 +326,10 @@ no_front next need (ports.Query (Err error)) M none = tt
 no_front next need ports.Insert M none = tt
 
 -- a reply that is right in the history that it shows is right in what is seen after it
-pub right_seen : StatesStay → (next : Next) (need : Option Need) (reply : PortReply) (M : History) → ForSome (front_of reply) (λ front. IsPrefix front.history M)
-    → ForSome (front_of reply) (λ front. IsRight next front.history need reply) → IsRight next M need reply
-right_seen stay next need reply M shown right = go (front_of reply) refl
+pub right_seen : StatesStay → (next : Next) (need : Option Need) (reply : PortReply) (M : History) → ForSome (front_of_reply reply) (λ front. IsPrefix front.history M)
+    → ForSome (front_of_reply reply) (λ front. IsRightPortReply next front.history need reply) → IsRightPortReply next M need reply
+right_seen stay next need reply M shown right = go (front_of_reply reply) refl
   where
-    go : (o : Option FrontValue) → front_of reply ≡ o → IsRight next M need reply
+    go : (o : Option FrontValue) → front_of_reply reply ≡ o → IsRightPortReply next M need reply
     go None none = no_front next need reply M none
     go (Some front) some = right_later stay front.history M (shown front some) next need reply (right front some)

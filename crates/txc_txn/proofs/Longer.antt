@@ -23,7 +23,7 @@ use Rattle.txc_call.specs.declared.reply.Reply.{Reply}
 use Rattle.txc_call.specs.declared.reply.Reply.TheVariants as replies
 use Rattle.txc_ports.specs.declared.reply.PortReply.{PortReply}
 use Rattle.txc_ports.specs.declared.reply.PortReply.TheVariants as ports
-use Rattle.txc_txn.specs.Core.{IsRight}
+use Rattle.txc_txn.specs.Core.{IsRightPortReply}
 use Rattle.txc_app.specs.Answering.{AreRight, queries_for}
 use Rattle.txc_ports.specs.declared.bounds.Bounds.{Bounds}
 use Rattle.txc_ports.specs.Answers.{IsFresh}
@@ -112,7 +112,7 @@ module _ (stay : StatesStay) (L M : History) (begins : IsPrefix L M) where
   reply_later next (needs.Insert e) reply h = tt
   reply_later next (needs.Value o) reply h = tt
 
-  pub right_later : (next : Next) (need : Option Need) (reply : PortReply) → IsRight next L need reply → IsRight next M need reply
+  pub right_later : (next : Next) (need : Option Need) (reply : PortReply) → IsRightPortReply next L need reply → IsRightPortReply next M need reply
   right_later next need (ports.Pin (Ok pinned)) h = same_moment pinned.stamp pinned.moment h
   right_later next need (ports.Pin (Err error)) h = tt
   right_later next need (ports.AddPin pinned added) h = tt

@@ -23,8 +23,8 @@ use Rattle.txc_ports.specs.declared.reply.PortReply.{PortReply}
 use Rattle.txc_ports.specs.declared.reply.PortReply.TheVariants as replies
 use Rattle.txc_ports.specs.declared.turn.Turn.{Turn}
 use Rattle.txc_ports.specs.declared.turn.Turn.TheVariants as turns
-use Rattle.txc_ports.specs.Fronts.{front_of}
-use Rattle.txc_txn.specs.Core.{CoreValue, AddsOnly, HoldsNewest, IsAnswered, IsAsking, IsNoAdding}
+use Rattle.txc_ports.specs.Fronts.{front_of_reply}
+use Rattle.txc_txn.specs.Core.{CoreValue, AddsOnly, HoldsNewest, IsAnswered, CoreAsks, IsNoAdding}
 use Rattle.txc_txn.specs.Leading.{ReplyLeads}
 use Rattle.txc_txn.specs.Kept.{TxnValue, IsTxn, IsShownRight}
 use Rattle.txc_ports.specs.Asking.{AddsSuch, IsAnsweredRight, IsReplyTo, MayAsk}
@@ -52,7 +52,7 @@ module _ (P : FrontValue → Type 0) where
 
   -- it is the one of the reply
   module _ (next : Next) (old new : TxnValue) (turn : Turn) where
-    pub adds_next : (reply : PortReply) → ForSome (front_of reply) P → AddsOnly reply turn
+    pub adds_next : (reply : PortReply) → ForSome (front_of_reply reply) P → AddsOnly reply turn
         → ReplyLeads next old.core old.objects reply new.core new.objects turn → AddsSuch P turn
     adds_next (replies.Pin (Ok pinned)) of only leads = subst (AddsSuch P) (sym leads) (of pinned.front refl)
     adds_next (replies.Pin (Err error)) of only leads = adds_none turn only
@@ -69,7 +69,7 @@ module _ (next : Next) (row : List ℕ) (t : TxnValue) (kept : IsTxn next t) whe
   node_there key node nodes is same =
       subst (λ (n : ℕ). node < n) same (subst (λ (n : ℕ). n < t.core.nodes) (sym is) (mod_below (key.function + sum key.args) t.core.nodes kept.fits.nodes))
 
-  pub may_ask : (nodes : ℕ) → t.core.nodes ≡ nodes → (request : PortRequest) → IsAsking t.core request
+  pub may_ask : (nodes : ℕ) → t.core.nodes ≡ nodes → (request : PortRequest) → CoreAsks t.core request
       → AddsSuch (λ front. front.events ≡ row) (turns.Ask request) → MayAsk next row nodes t.core.seen.history request
   may_ask nodes same (requests.Pin now at_least) asking adds = tt
   may_ask nodes same (requests.AddPin pinned) asking adds = adds
@@ -94,7 +94,7 @@ chosen now renew_after present (newest ∷ older) stamp reach is around = go (pr
     go false due = let same : At newest.stamp ≡ At stamp = rw due at is in let at : newest.stamp ≡ stamp = cc in subst (Holds reach) (sym at) around
 
 module _ (next : Next) (c : CoreValue) where
-  answered : (x : Exchange) → IsAnsweredRight next x → IsAsking c (request_of x) → IsAnswered c (reply_of x)
+  answered : (x : Exchange) → IsAnsweredRight next x → CoreAsks c (request_of x) → IsAnswered c (reply_of x)
   answered (exchanges.Pin now at_least (Ok pinned)) right asking =
       (asking.0, right.0 ∙ asking.2, subst (λ (n : ℕ). n ≤ pinned.stamp) asking.3 right.1)
   answered (exchanges.Pin now at_least (Err error)) right asking = asking.0
@@ -106,9 +106,9 @@ module _ (next : Next) (c : CoreValue) where
   answered (exchanges.Query query stamp (Err error)) right asking = (query, asking.0)
   answered (exchanges.Insert node entry) right asking = (entry, asking.0)
 
-  pub is_answered : (request : PortRequest) (reply : PortReply) → IsAsking c request → IsReplyTo next request reply → IsAnswered c reply
+  pub is_answered : (request : PortRequest) (reply : PortReply) → CoreAsks c request → IsReplyTo next request reply → IsAnswered c reply
   is_answered request reply asking to =
-      by_exchange (IsAnsweredRight next) (λ (q : PortRequest) (r : PortReply). IsAsking c q → IsAnswered c r) answered request reply to asking
+      by_exchange (IsAnsweredRight next) (λ (q : PortRequest) (r : PortReply). CoreAsks c q → IsAnswered c r) answered request reply to asking
 
 -- ---- it is right in the history that it shows
 
@@ -116,7 +116,7 @@ module _ (next : Next) (t : TxnValue) where
   needs_this : (n m : Need) → t.core.call.need ≡ Some n → t.core.call.need ≡ Some m → n ≡ m
   needs_this n m is at = let same : Some n ≡ Some m = sym is ∙ at in cc
 
-  shown_right : (x : Exchange) → IsAnsweredRight next x → IsAsking t.core (request_of x) → IsShownRight next t (reply_of x)
+  shown_right : (x : Exchange) → IsAnsweredRight next x → CoreAsks t.core (request_of x) → IsShownRight next t (reply_of x)
   shown_right (exchanges.Pin now at_least (Ok pinned)) right asking = λ front is.
       let same : pinned.front ≡ front = cc in
       subst (λ (f : FrontValue). moment_at f.history pinned.stamp ≡ Some pinned.moment) same right.2
@@ -135,6 +135,6 @@ module _ (next : Next) (t : TxnValue) where
   shown_right (exchanges.Query query stamp (Err error)) right asking = λ front is. absurd (cc is)
   shown_right (exchanges.Insert node entry) right asking = λ front is. absurd (cc is)
 
-  pub is_right : (request : PortRequest) (reply : PortReply) → IsAsking t.core request → IsReplyTo next request reply → IsShownRight next t reply
+  pub is_right : (request : PortRequest) (reply : PortReply) → CoreAsks t.core request → IsReplyTo next request reply → IsShownRight next t reply
   is_right request reply asking to =
-      by_exchange (IsAnsweredRight next) (λ (q : PortRequest) (r : PortReply). IsAsking t.core q → IsShownRight next t r) shown_right request reply to asking
+      by_exchange (IsAnsweredRight next) (λ (q : PortRequest) (r : PortReply). CoreAsks t.core q → IsShownRight next t r) shown_right request reply to asking

@@ -11,7 +11,7 @@ use Rattle.txc_cushion.specs.declared.pin.Pin.{Pin}
 use Rattle.txc_cushion.specs.declared.pins.Pins.{Pins}
 use Rattle.txc_cushion.specs.Pinning.{pin_of}
 use Rattle.txc_pinset.specs.declared.choice.Choice.TheVariants.{Present, At}
-use Rattle.txc_pinset.specs.Members.{PinSetValue, IsPinSet, AreBounds, begun, choice_of, kept, narrowed}
+use Rattle.txc_pinset.specs.Members.{PinSetValue, IsPinSet, AreBounds, begun_pin_set, choice_of, kept, narrowed}
 use Rattle.txc_pinset.specs.Members.{with_present}
 use Rattle.txc_app.specs.Eval.{Next}
 use Rattle.txc_registry.specs.Objects.{Objects}
@@ -70,7 +70,7 @@ begun_core nodes renew_after bounds pins call = record {
   bounds = bounds;
   renew_after = renew_after;
   nodes = nodes;
-  pins = begun pins.pins.items;
+  pins = begun_pin_set pins.pins.items;
   taken = map (λ p. p.stamp) pins.pins.items;
   recorded = [];
   call = call;
@@ -140,8 +140,8 @@ pub record CoreHolds (next : Next) (L : History) (objects : Objects) (c : CoreVa
 -- ---- requests
 
 -- the present is being pinned, and has come so far
-abbrev pub IsAt : CoreValue → PinStep → Type 0
-IsAt c step = (first : Option Call) × (c.pinning ≡ Some (record { step = step; first = first }))
+abbrev pub IsPinningAt : CoreValue → PinStep → Type 0
+IsPinningAt c step = (first : Option Call) × (c.pinning ≡ Some (record { step = step; first = first }))
 
 -- no pin is under way, and the call needs this
 abbrev pub IsNeeding : CoreValue → Need → Type 0
@@ -150,22 +150,22 @@ IsNeeding c need = (c.pinning ≡ None) × (c.call.need ≡ Some need)
 -- The core asks this: a pin where it is due, and later than every member; or to add it, or to take its hold
 -- away. Or it asks what the call's node has of it at the stamps from the least to the greatest member; a query at
 -- the newest member; or to keep an entry at its call's node.
-abbrev pub IsAsking : CoreValue → PortRequest → Type 0
-IsAsking c (requests.Pin now at_least) = IsAt c Asked
+abbrev pub CoreAsks : CoreValue → PortRequest → Type 0
+CoreAsks c (requests.Pin now at_least) = IsPinningAt c Asked
     × (choice_of c.bounds.now c.renew_after c.pins ≡ Present)
     × (now ≡ c.bounds.now) × (at_least ≡ least_present c.bounds c.pins.members)
-IsAsking c (requests.AddPin pinned) = IsAt c (Adding (pin_of pinned))
-IsAsking c (requests.Unpin stamp) = (error : TxnError) × IsAt c (Dropping stamp error)
-IsAsking c (requests.Lookup node key lo hi) = IsNeeding c (needs.Lookup key) × (node ≡ node_of c.nodes key)
+CoreAsks c (requests.AddPin pinned) = IsPinningAt c (Adding (pin_of pinned))
+CoreAsks c (requests.Unpin stamp) = (error : TxnError) × IsPinningAt c (Dropping stamp error)
+CoreAsks c (requests.Lookup node key lo hi) = IsNeeding c (needs.Lookup key) × (node ≡ node_of c.nodes key)
     × AreBounds c.pins.members (lo, hi)
-IsAsking c (requests.Query query stamp) = IsNeeding c (needs.Query query)
+CoreAsks c (requests.Query query stamp) = IsNeeding c (needs.Query query)
     × (choice_of c.bounds.now c.renew_after c.pins ≡ At stamp)
-IsAsking c (requests.Insert node entry) = IsNeeding c (needs.Insert entry)
+CoreAsks c (requests.Insert node entry) = IsNeeding c (needs.Insert entry)
     × (node ≡ node_of c.nodes entry.key)
 
 -- the core asks, or its call has ended
 abbrev pub IsTurn : CoreValue → Turn → Type 0
-IsTurn c (Ask request) = IsAsking c request
+IsTurn c (Ask request) = CoreAsks c request
 IsTurn c (Value value) = IsIdle c
 IsTurn c (Refused error) = IsIdle c
 IsTurn c turn = ⊥
@@ -180,11 +180,11 @@ HoldsNewest reach (newest ∷ older) = Holds reach newest.stamp
 -- the reply is one to what the core asks: a pin of its moment that is late enough, the pin that was to be
 -- added, or what was found at the newest member
 abbrev pub IsAnswered : CoreValue → PortReply → Type 0
-IsAnswered c (ports.Pin (Ok pinned)) = IsAt c Asked × (pinned.moment ≡ c.bounds.now)
+IsAnswered c (ports.Pin (Ok pinned)) = IsPinningAt c Asked × (pinned.moment ≡ c.bounds.now)
     × (least_present c.bounds c.pins.members ≤ pinned.stamp)
-IsAnswered c (ports.Pin (Err error)) = IsAt c Asked
-IsAnswered c (ports.AddPin pinned added) = IsAt c (Adding (pin_of pinned))
-IsAnswered c ports.Unpin = (stamp : ℕ) × (error : TxnError) × IsAt c (Dropping stamp error)
+IsAnswered c (ports.Pin (Err error)) = IsPinningAt c Asked
+IsAnswered c (ports.AddPin pinned added) = IsPinningAt c (Adding (pin_of pinned))
+IsAnswered c ports.Unpin = (stamp : ℕ) × (error : TxnError) × IsPinningAt c (Dropping stamp error)
 IsAnswered c (ports.Lookup hit) = (k : Call) × IsNeeding c (needs.Lookup k)
 IsAnswered c (ports.Query (Ok found)) = (query : Query) × IsNeeding c (needs.Query query)
     × HoldsNewest found.answer.reach c.pins.members
@@ -192,13 +192,13 @@ IsAnswered c (ports.Query (Err error)) = (query : Query) × IsNeeding c (needs.Q
 IsAnswered c ports.Insert = (entry : Entry) × IsNeeding c (needs.Insert entry)
 
 -- the reply to what the call needs is right in the history
-abbrev pub IsRight : Next → History → Option Need → PortReply → Type 0
-IsRight next L need (ports.Pin (Ok pinned)) = moment_at L pinned.stamp ≡ Some pinned.moment
-IsRight next L need (ports.Lookup (Some hit)) = (n : Need) → need ≡ Some n
+abbrev pub IsRightPortReply : Next → History → Option Need → PortReply → Type 0
+IsRightPortReply next L need (ports.Pin (Ok pinned)) = moment_at L pinned.stamp ≡ Some pinned.moment
+IsRightPortReply next L need (ports.Lookup (Some hit)) = (n : Need) → need ≡ Some n
     → ReplyHolds next L n (replies.Hit hit.answer)
-IsRight next L need (ports.Query (Ok found)) = (n : Need) → need ≡ Some n
+IsRightPortReply next L need (ports.Query (Ok found)) = (n : Need) → need ≡ Some n
     → ReplyHolds next L n (replies.Found found.answer)
-IsRight next L need reply = Unit {0}
+IsRightPortReply next L need reply = Unit {0}
 
 -- ---- what a reply leaves
 

@@ -8,8 +8,8 @@ use Rattle.txc_app.specs.Eval.{Next}
 use Rattle.txc_registry.specs.Objects.{Objects, numbers_of}
 use Rattle.txc_ports.specs.declared.reply.PortReply.{PortReply}
 use Rattle.txc_ports.specs.declared.turn.Turn.{Turn}
-use Rattle.txc_ports.specs.Fronts.{front_of}
-use Rattle.txc_txn.specs.Core.{CoreValue, CoreHolds, IsCore, IsRight, IsTurn, KeepsSettings, PinsAfter}
+use Rattle.txc_ports.specs.Fronts.{front_of_reply}
+use Rattle.txc_txn.specs.Core.{CoreValue, CoreHolds, IsCore, IsRightPortReply, IsTurn, KeepsSettings, PinsAfter}
 use Rattle.txc_ports.specs.Turns.{IsAsk}
 use Rattle.txc_txn.specs.Core.{left_after, left_pin, open_call, recorded_after, taken_after, AddsOnly, IsNoAdding, IsNoValue, IsOneOf}
 use Rattle.txc_txn.specs.Leading.{ReplyLeads, StartLeads}
@@ -31,7 +31,7 @@ pub record IsTxn (next : Next) (t : TxnValue) : Type 0 where
 -- the reply is right in the history that it shows
 abbrev pub IsShownRight : Next → TxnValue → PortReply → Type 0
 IsShownRight next t reply =
-    ForSome (front_of reply) (λ front. IsRight next front.history t.core.call.need reply)
+    ForSome (front_of_reply reply) (λ front. IsRightPortReply next front.history t.core.call.need reply)
 
 -- What comes of a call that begins: a turn that asks for it under its key, or refuses it. No pin is to be added, and none
 -- is left to be; the functions stay, and so does all but the call and its pin of the present.
@@ -61,8 +61,8 @@ pub record HasGoneOn (next : Next) (old : TxnValue) (reply : PortReply) (new : T
   pub functions : numbers_of new.objects ≡ numbers_of old.objects
   pub events : new.core.seen.events ≡ old.core.seen.events
   pub longer : IsPrefix old.core.seen.history new.core.seen.history
-  pub shown : ForSome (front_of reply) (λ front. IsPrefix front.history new.core.seen.history)
-  pub one : IsOneOf old.core.seen (front_of reply) new.core.seen
+  pub shown : ForSome (front_of_reply reply) (λ front. IsPrefix front.history new.core.seen.history)
+  pub one : IsOneOf old.core.seen (front_of_reply reply) new.core.seen
 
 -- What a step of a core between two requests comes to: it fits its functions, which stay, and the turn is one of its;
 -- no pin is to be added, and none is left to be.
@@ -78,7 +78,7 @@ pub record HasTurned (next : Next) (was : Objects) (new : CoreValue) (is : Objec
 pub record HasAnswered (next : Next) (old : CoreValue) (was : Objects) (reply : PortReply) (new : CoreValue)
     (is : Objects) (turn : Turn) : Type 0 where
   pub fits : IsCore next is new
-  pub holds : (L : History) → IsRight next L old.call.need reply → CoreHolds next L was old
+  pub holds : (L : History) → IsRightPortReply next L old.call.need reply → CoreHolds next L was old
       → CoreHolds next L is new
   pub turn_fits : IsTurn new turn
   pub leads : ReplyLeads next old was reply new is turn

@@ -9,7 +9,7 @@ use Rattle.txc_rows.specs.States.{State}
 use Rattle.txc_db.specs.History.{History, state_at, moment_at}
 use Rattle.txc_cushion.specs.declared.pin.Pin.{Pin}
 use Rattle.txc_cushion.specs.Pinning.{Falls}
-use Rattle.txc_pinset.specs.Members.{PinSetValue, IsPinSet, begun, kept, narrowed, with_present}
+use Rattle.txc_pinset.specs.Members.{PinSetValue, IsPinSet, begun_pin_set, kept, narrowed, with_present}
 use Rattle.txc_app.specs.Eval.{Next}
 use Rattle.txc_app.specs.declared.ask.Answer.{Answer}
 use Rattle.txc_app.specs.declared.ask.Answer.TheVariants as answers
@@ -41,7 +41,7 @@ abbrev pub MeaningBegins : Type 0
 MeaningBegins =
     (next : Next) (L : History) (bounds : Bounds) (pins : List Pin) (objects : Objects) (call : Calling)
     → Falls pins → All (IsFresh L bounds) pins → call.frames ≡ [] → call.need ≡ None
-    → IsMeant next L bounds (begun pins) [] objects call
+    → IsMeant next L bounds (begun_pin_set pins) [] objects call
 
 -- ---- a call goes on
 

@@ -27,7 +27,7 @@ use Rattle.txc_ports.specs.declared.turn.Turn.{Turn}
 use Rattle.txc_ports.specs.declared.turn.Turn.TheVariants.{Ask, Value, Refused}
 use Rattle.txc_ports.specs.Refusals.{refused_call, refused_request, refused_pin}
 use Rattle.txc_txn.specs.declared.pinning.PinStep.TheVariants.{Asked, Dropping}
-use Rattle.txc_txn.specs.Core.{CoreValue, IsAt, first_call, least_present}
+use Rattle.txc_txn.specs.Core.{CoreValue, IsPinningAt, first_call, least_present}
 use Rattle.txc_ports.specs.Turns.{IsAsk}
 
 -- ---- the call goes on
@@ -102,9 +102,9 @@ pub record BeginLeads (old : CoreValue) (objects : Objects) (k : Call) (new : Co
 
 -- what comes of the pin of the present: the call that waited for it begins; or the open one stands as it did,
 -- and asks its query
-abbrev pub PinLeads : Option Call → CoreValue → Objects → CoreValue → Objects → Turn → Type 0
-PinLeads (Some k) old objects new objects' turn = BeginLeads old objects k new objects' turn
-PinLeads None old objects new objects' turn = StandsStill old objects new objects' × IsAsk turn
+abbrev pub PresentPinLeads : Option Call → CoreValue → Objects → CoreValue → Objects → Turn → Type 0
+PresentPinLeads (Some k) old objects new objects' turn = BeginLeads old objects k new objects' turn
+PresentPinLeads None old objects new objects' turn = StandsStill old objects new objects' × IsAsk turn
 
 -- ---- replies
 
@@ -123,11 +123,11 @@ abbrev pub ReplyLeads : Next → CoreValue → Objects → PortReply → CoreVal
 ReplyLeads next old objects (ports.Pin (Ok pinned)) new objects' turn = turn ≡ Ask (requests.AddPin pinned)
 ReplyLeads next old objects (ports.Pin (Err error)) new objects' turn = turn ≡ Refused (refused_request error)
 ReplyLeads next old objects (ports.AddPin pinned (Ok added)) new objects' turn =
-    PinLeads (first_call old.pinning) old objects new objects' turn
+    PresentPinLeads (first_call old.pinning) old objects new objects' turn
 ReplyLeads next old objects (ports.AddPin pinned (Err error)) new objects' turn =
-    (turn ≡ Ask (requests.Unpin pinned.stamp)) × IsAt new (Dropping pinned.stamp (refused_pin error))
+    (turn ≡ Ask (requests.Unpin pinned.stamp)) × IsPinningAt new (Dropping pinned.stamp (refused_pin error))
 ReplyLeads next old objects ports.Unpin new objects' turn =
-    (stamp : ℕ) (error : TxnError) → IsAt old (Dropping stamp error) → turn ≡ Refused error
+    (stamp : ℕ) (error : TxnError) → IsPinningAt old (Dropping stamp error) → turn ≡ Refused error
 ReplyLeads next old objects (ports.Lookup None) new objects' turn =
     (k : Call) → old.call.need ≡ Some (needs.Lookup k)
     → CallLeads next old objects (needs.Lookup k) replies.Miss new objects' turn

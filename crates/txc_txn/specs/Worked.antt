@@ -7,7 +7,7 @@ use Rattle.txc_tags.specs.Keys.{Call}
 use Rattle.txc_rows.specs.declared.query.Query.TheVariants.{ById}
 use Rattle.txc_db.specs.Worked.{worked}
 use Rattle.txc_cushion.specs.declared.pin.Pin.{Pin}
-use Rattle.txc_pinset.specs.Members.{PinSetValue, begun, narrowed}
+use Rattle.txc_pinset.specs.Members.{PinSetValue, begun_pin_set, narrowed}
 use Rattle.txc_app.specs.declared.ask.Answer.TheVariants as answers
 use Rattle.txc_functions.specs.Program.{program, call_of}
 use Rattle.txc_registry.specs.Activity.{running}
@@ -27,7 +27,7 @@ newer_pin = record { stamp = 4; moment = 2000 }
 
 -- both pins, and the present
 abbrev pub both_pins : PinSetValue
-both_pins = begun (newer_pin ∷ older_pin ∷ [])
+both_pins = begun_pin_set (newer_pin ∷ older_pin ∷ [])
 
 -- at 2500, no more than so long ago
 abbrev pub within_ms : ℕ → Bounds

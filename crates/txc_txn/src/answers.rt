@@ -2,7 +2,7 @@
 ghost use Rattle.std.specs.Prelude.{◌≡◌};
 ghost use Rattle.std.specs.Option.{ForSome};
 ghost use mathlib.Core.List.{IsPrefix};
-ghost use Rattle.txc_ports.specs.Fronts.{front_of};
+ghost use Rattle.txc_ports.specs.Fronts.{front_of_reply};
 
 use crate::pinning::{PinStep, Pinning};
 use crate::txn_core::TxnCore;
@@ -23,11 +23,11 @@ impl TxnCore {
 
     // Sees what the reply shows of the history.
     pub(crate) fn see(&mut self, reply: &PortReply)
-        requires { ForSome (front_of reply.now) (λ front. front.events ≡ self.old.seen.events) }
+        requires { ForSome (front_of_reply reply.now) (λ front. front.events ≡ self.old.seen.events) }
         ensures events { self.new.seen.events ≡ self.old.seen.events }
         ensures longer { IsPrefix self.old.seen.history self.new.seen.history }
-        ensures shown { ForSome (front_of reply.now) (λ front. IsPrefix front.history self.new.seen.history) }
-        ensures one { IsOneOf self.old.seen (front_of reply.now) self.new.seen }
+        ensures shown { ForSome (front_of_reply reply.now) (λ front. IsPrefix front.history self.new.seen.history) }
+        ensures one { IsOneOf self.old.seen (front_of_reply reply.now) self.new.seen }
         ensures same { value_of self.new ≡ record (value_of self.old) { seen = self.new.seen } }
     {
         if let Some(front) = reply.front() {

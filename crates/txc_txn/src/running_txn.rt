@@ -2,7 +2,7 @@
 ghost use Rattle.std.specs.Prelude.{◌≡◌};
 ghost use Rattle.std.specs.Option.{ForSome};
 ghost use Rattle.txc_registry.specs.Objects.{numbers_of, AllIdle};
-ghost use Rattle.txc_ports.specs.Fronts.{front_of};
+ghost use Rattle.txc_ports.specs.Fronts.{front_of_reply};
 
 use crate::receipt::{Left, Receipt};
 use crate::txn_core::TxnCore;
@@ -71,7 +71,7 @@ impl<A: App, C: Cacheable> RunningTxn<A, C> {
     /// Goes on with the reply to what it asked, which is right in the history that it shows.
     pub fn next(&mut self, alloc: Global, reply: PortReply) -> Turn
         requires reply { IsAnswered self.old.core reply }
-        requires row { ForSome (front_of reply) (λ front. front.events ≡ self.old.core.seen.events) }
+        requires row { ForSome (front_of_reply reply) (λ front. front.events ≡ self.old.core.seen.events) }
         requires right { IsShownRight A.next self.old reply }
         ensures { HasGoneOn A.next self.old reply self.new result }
     {

@@ -6,7 +6,7 @@ ghost use Rattle.txc_db.specs.History.{History};
 ghost use Rattle.txc_app.specs.Eval.{Next};
 ghost use Rattle.txc_registry.specs.Objects.{numbers_of, AllIdle, Objects};
 ghost use Rattle.txc_ports.specs.Answers.{IsFresh};
-ghost use Rattle.txc_ports.specs.Fronts.{front_of};
+ghost use Rattle.txc_ports.specs.Fronts.{front_of_reply};
 ghost use Rattle.txc_txn.specs.Core.{receipt_pin};
 
 use crate::receipt::{Left, Receipt};
@@ -44,7 +44,7 @@ fn receipt_pin(recorded: &[Recorded], members: &[Pin]) -> Option<Pin>
 
 impl TxnCore {
     ghost use Rattle.txc_txn.specs.Core.{begun_core, left_pin, value_of};
-    ghost use Rattle.txc_txn.specs.Core.{CoreHolds, Explains, IsAnswered, IsCore, IsIdle, IsRight};
+    ghost use Rattle.txc_txn.specs.Core.{CoreHolds, Explains, IsAnswered, IsCore, IsIdle, IsRightPortReply};
     ghost use Rattle.txc_txn.specs.Kept.{txn_value, HasBegunCall, HasGoneOn};
 
     /// Begins with the pins that it was handed for its bounds. Its calls are kept by one of so many nodes,
@@ -118,10 +118,10 @@ impl TxnCore {
     ) -> Turn
         requires fits { IsCore A.next registry.old (value_of self.old) }
         requires reply { IsAnswered (value_of self.old) reply }
-        requires row { ForSome (front_of reply) (λ front. front.events ≡ (value_of self.old).seen.events) }
+        requires row { ForSome (front_of_reply reply) (λ front. front.events ≡ (value_of self.old).seen.events) }
         ensures fits { IsCore A.next registry.new (value_of self.new) }
         ensures holds { (L M : History) → IsPrefix L M → CoreHolds A.next L registry.old (value_of self.old)
-            → IsRight A.next M (value_of self.old).call.need reply
+            → IsRightPortReply A.next M (value_of self.old).call.need reply
             → CoreHolds A.next M registry.new (value_of self.new) }
         ensures gone_on { HasGoneOn A.next (txn_value (value_of self.old) registry.old) reply
             (txn_value (value_of self.new) registry.new) result }

@@ -11,7 +11,7 @@ use Rattle.txc_ports.specs.declared.recorded.Recorded.{Recorded}
 use Rattle.txc_txn.specs.Core.{Explains}
 use Rattle.txc_txn.specs.Kept.{IsTxn}
 use Rattle.txc_txn.specs.declared.receipt.Receipt.{Receipt}
-use Rattle.txc_client.specs.Run.{turn_of, HasRun}
+use Rattle.txc_client.specs.Run.{turn_of_result, HasRun}
 use Rattle.txc_client.specs.Txn.{RoTxnValue}
 use Rattle.txc_work.specs.declared.error.BatchError.{BatchError}
 use Rattle.txc_work.specs.declared.error.BatchError.TheVariants.{Missing, Twice, Memory}
@@ -27,7 +27,7 @@ abbrev pub keys_of : List Recorded → List Call
 keys_of answers = map (λ r. r.key) answers
 
 -- the receipt answers the job's keys, in order, and is explained in a history of the row by the job's bounds
-pub record IsReceiptOf (next : Next) (row : List ℕ) (job : Job) (receipt : Receipt) : Type 0 where
+pub record IsReceiptOfJob (next : Next) (row : List ℕ) (job : Job) (receipt : Receipt) : Type 0 where
   pub keys : keys_of receipt.answers.items ≡ job.keys.items
   pub explained : Explains next receipt.seen.history job.bounds receipt.pin receipt.answers.items
   pub events : receipt.seen.events ≡ row
@@ -47,12 +47,12 @@ pub record IsRefusedAt (next : Next) (row : List ℕ) (node_rows : ℕ → List 
   pub of_functions : numbers_of old.txn.objects ≡ functions
   pub bounded : old.txn.core.bounds ≡ bounds
   pub answered : keys_of old.txn.core.recorded ≡ before
-  pub run : HasRun next row node_rows old key new (turn_of (Err error))
+  pub run : HasRun next row node_rows old key new (turn_of_result (Err error))
 
 -- A receipt is the job's. A refusal is out of memory, or that of the first of the job's calls that was
 -- refused, in a transaction of these functions.
 abbrev pub Meets : Next → List ℕ → (ℕ → List ℕ) → List ℕ → Job → Outcome → Type 0
-Meets next row node_rows functions job (outcomes.Receipt receipt) = IsReceiptOf next row job receipt
+Meets next row node_rows functions job (outcomes.Receipt receipt) = IsReceiptOfJob next row job receipt
 Meets next row node_rows functions job (outcomes.Refused error) =
     (error ≡ refusals.Memory) ⊎ IsRefusedAt next row node_rows functions job.bounds job.keys.items error
 

@@ -25,7 +25,7 @@ use Rattle.txc_world.specs.declared.did.Did.TheVariants as dids
 use Rattle.txc_world.specs.declared.did.RowsFound.{RowsFound}
 use Rattle.txc_world.specs.Parts.{IsPartOf}
 use Rattle.txc_world.specs.Ports.{PortsValue, whole_of, KeepsRow, HasLedNode}
-use Rattle.txc_world.specs.Asks.{did_insert, AddLeads, DoesTell, HasFound, IsAsked, IsToldOf, PinLeads}
+use Rattle.txc_world.specs.Asks.{did_insert, AddLeads, DoesTell, IsAnswerWithFront, IsAsked, IsToldOf, PinLeads}
 use Rattle.txc_world.specs.Told.{did_in}
 use Rattle.txc_world.proofs.PartLemmas.{part_itself, part_then}
 use Rattle.txc_world.proofs.PortsLemmas.{keeps_same, left_history}
@@ -136,7 +136,7 @@ module _ (next : Next) (old new : PortsValue) (keeps : KeepsRow old new) where
 -- ---- queries, which change nothing
 
 module _ (next : Next) (old new : PortsValue) (same : new ≡ old) (query : Query) (stamp : ℕ) where
-  pub asked_rows : (found : Answered Found) (rows : RowsFound) → HasFound query stamp old found → IsToldOf found.answer rows
+  pub asked_rows : (found : Answered Found) (rows : RowsFound) → IsAnswerWithFront query stamp old found → IsToldOf found.answer rows
       → IsAsked next (requests.Query query stamp) old new (record { did = dids.Rows rows; reply = replies.Query (Ok found) })
   asked_rows found rows h told = record {
     reply = h.over;

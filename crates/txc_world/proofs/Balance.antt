@@ -17,7 +17,7 @@ use Rattle.txc_world.specs.declared.reply.Refusal.TheVariants as refusals
 use Rattle.txc_shared.specs.Nodes.{NodeValue}
 use Rattle.txc_world.specs.Ports.{PortsValue, HasLedNode, HasRefused}
 use Rattle.txc_world.specs.Asks.{UnpinLeads}
-use Rattle.txc_world.specs.Keeping.{stamps_of as stamps_of_pins, GiveBackLeads, HasAddedSpare, PinSpareLeads, RetireLeads, WriteLeads}
+use Rattle.txc_world.specs.Keeping.{stamps_of_pins, GiveBackLeads, HasAddedSpare, PinSpareLeads, RetireLeads, WriteLeads}
 use Rattle.txc_world.specs.Books.{books_of, Account, CountRight}
 use Rattle.txc_world.specs.Tidy.{AreBalanced, KeepsBalance, Purse}
 use Rattle.txc_world.specs.Kept.{KeepLeads}

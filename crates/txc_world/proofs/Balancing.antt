@@ -12,10 +12,10 @@ use Rattle.txc_world.specs.declared.reply.Reply.{Reply}
 use Rattle.txc_world.specs.declared.settings.WorldSettings.{WorldSettings}
 use Rattle.txc_world.specs.declared.step.Step.{Step}
 use Rattle.txc_world.specs.Ports.{PortsValue}
-use Rattle.txc_world.specs.Keeping.{stamps_of as stamps_of_pins}
+use Rattle.txc_world.specs.Keeping.{stamps_of_pins}
 use Rattle.txc_world.specs.Books.{account_at, account_of, books_of, nothing, Account, ActCounts, CountRight, HasLost, IsFair}
 use Rattle.txc_world.specs.Tidy.{empty_purse, purse_after, purse_by, AreBalanced, AreTidy, IsTidy, LoseNoSnapshot, LosesNoSnapshot, LosesNothing, Purse}
-use Rattle.txc_world.specs.Worlds.{value_of, IsBalanced, WorldValue}
+use Rattle.txc_world.specs.Worlds.{value_of_world, IsBalanced, WorldValue}
 use Rattle.txc_world.proofs.Losing.{reply_so}
 use Rattle.txc_world.proofs.Times.{sum_at, sum_set}
 use Rattle.txc_world.proofs.Stepping.{set_twice}
@@ -32,7 +32,7 @@ module _ {A C X : Type 0} (start : X → Option (Actor A C)) (starts : (x : X) �
       omega (arith, all, first, rest, none)
 
   pub new_balanced : (settings : WorldSettings) (ports : PortsValue) (floors : List ℕ) (actors : List (Option (Actor A C))) (xs : List X)
-      → ports.database.holds ≡ [] → ports.cushion.entries ≡ [] → ports.spare ≡ [] → actors ≡ map start xs → IsBalanced (value_of settings ports floors actors) empty_purse
+      → ports.database.holds ≡ [] → ports.cushion.entries ≡ [] → ports.spare ≡ [] → actors ≡ map start xs → IsBalanced (value_of_world settings ports floors actors) empty_purse
   new_balanced settings ports floors actors xs holds entries spare is = rw (holds, entries, spare, is) (record {
     held = λ t. let none = none_have (λ (a : Account). times t a.own) refl xs in omega (arith, none);
     used = λ t. let none = none_have (λ (a : Account). times t a.taken) refl xs in omega (arith, none);
@@ -81,7 +81,7 @@ module _ {A C : Type 0} (settings : WorldSettings) (old new : PortsValue) (floor
   pub world_balanced : (actors' : List (Option (Actor A C))) (was now : WorldValue) (reply : Reply) (purse : Purse)
       → actors' ≡ slice_set (slice_set actors place None) place (Some actor') → new.spare ≡ old.spare → CountRight old
       → ActCounts old new (account_of actor) (account_of actor') reply
-      → value_of settings old floors actors ≡ was → value_of settings new floors' actors' ≡ now → IsBalanced was purse → IsBalanced now purse × LosesNothing reply
+      → value_of_world settings old floors actors ≡ was → value_of_world settings new floors' actors' ≡ now → IsBalanced was purse → IsBalanced now purse × LosesNothing reply
   world_balanced actors' was now reply purse put spare right counts shows shows' h =
       let h' = subst (λ (w : WorldValue). IsBalanced w purse) (sym shows) h in
       let b = acts_balanced old new (map account_at actors) place (account_of actor) (account_of actor') account_there (stamps_of_pins old.spare) purse counts.fair h' in (

@@ -4,7 +4,7 @@ use Rattle.std.proofs.lemmas.Option.{slice_get_within}
 use mathlib.Core.List.{IsPrefix}
 use Rattle.txc_stream.proofs.Offered.{prefix_get, prefix_take}
 use Rattle.txc_db.specs.Facts.{EventValue}
-use Rattle.txc_db.specs.History.{History, after_event, moment_at, pinned_moment, state_at}
+use Rattle.txc_db.specs.History.{History, moment_at, pinned_moment, state_after_event, state_at}
 use Rattle.txc_cushion.specs.declared.pin.Pin.{Pin}
 use Rattle.txc_app.specs.Eval.{Next}
 use Rattle.txc_ports.specs.declared.bounds.Bounds.{Bounds}
@@ -30,7 +30,7 @@ moment_within L (suc t) moment is = go (slice_get L t) refl
     go (Some e) some = let below = slice_get_within L t e some in omega (arith, below)
 
 pub state_later : (L M : History) (t : ℕ) → IsPrefix L M → t ≤ length L → state_at M t ≡ state_at L t
-state_later L M t on within = ap (λ (events : History). fold after_event [] events) (prefix_take L M t on within)
+state_later L M t on within = ap (λ (events : History). fold state_after_event [] events) (prefix_take L M t on within)
 
 -- what explains answers in a history explains them in a longer one
 pub explained_later : (next : Next) (L M : History) (bounds : Bounds) (pin : Option Pin) (answers : List Recorded) → IsPrefix L M

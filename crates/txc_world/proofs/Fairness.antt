@@ -35,7 +35,7 @@ use Rattle.txc_ports.specs.declared.request.PortRequest.{PortRequest}
 use Rattle.txc_ports.specs.declared.request.PortRequest.TheVariants as requests
 use Rattle.txc_ports.specs.declared.reply.PortReply.{PortReply}
 use Rattle.txc_ports.specs.declared.reply.PortReply.TheVariants as replies
-use Rattle.txc_txn.specs.Core.{left_after, left_pin, taken_after, CoreValue, IsAsking, IsCore}
+use Rattle.txc_txn.specs.Core.{left_after, left_pin, taken_after, CoreAsks, CoreValue, IsCore}
 use Rattle.txc_world.specs.declared.did.Did.{Did}
 use Rattle.txc_world.specs.declared.did.Did.TheVariants as dids
 use Rattle.txc_world.specs.Ports.{PortsValue, HasLedNode}
@@ -44,7 +44,7 @@ use Rattle.txc_world.specs.Keeping.{GiveBackLeads}
 use Rattle.txc_world.specs.declared.did.RowsFound.{RowsFound}
 use Rattle.txc_world.specs.declared.reply.Reply.{Reply}
 use Rattle.txc_world.specs.Actors.{counted, holds_any}
-use Rattle.txc_world.specs.Books.{account_of_core, gained, handed, listed, nothing, spent, Account, ActCounts, AskCounts, CountRight, HasLost, IsFair, IsGone}
+use Rattle.txc_world.specs.Books.{account_of_core, gained, handed, nothing, spent, stamp_if_any, Account, ActCounts, AskCounts, CountRight, HasLost, IsFair, LosesOnlyUnheld}
 use Rattle.txc_world.specs.Losing.{IfDidLose, IfReplyLost}
 use Rattle.txc_world.proofs.Losing.{did_so}
 use Rattle.txc_world.proofs.Times.{times_append, times_cons, times_off, times_one, times_there, times_without}
@@ -122,16 +122,16 @@ none_held stamp horizon last (h ∷ hs) below all = go (h == stamp) refl (none_h
     go false is none = times_off stamp h hs is ∙ none
 
 module _ (p : PortsValue) (right : CountRight p) where
-  pub gone_query : (query : Query) (stamp : ℕ) (e : DbError) → IsQueryRefused p.database query stamp e → IsGone (requests.Query query stamp) p (dids.Refused e)
+  pub gone_query : (query : Query) (stamp : ℕ) (e : DbError) → IsQueryRefused p.database query stamp e → LosesOnlyUnheld (requests.Query query stamp) p (dids.Refused e)
   gone_query query stamp (errors.SnapshotGone horizon) h =
       none_held stamp p.database.horizon (newest p.database) p.database.holds h.1 (right.sound h.0).held
   gone_query query stamp e h = tt
 
-gone_pin : (p : PortsValue) (now at_least : ℕ) (e : DbError) → IsPinRefused p.database at_least e → IsGone (requests.Pin now at_least) p (dids.Refused e)
+gone_pin : (p : PortsValue) (now at_least : ℕ) (e : DbError) → IsPinRefused p.database at_least e → LosesOnlyUnheld (requests.Pin now at_least) p (dids.Refused e)
 gone_pin p now at_least (errors.SnapshotGone horizon) h = h
 gone_pin p now at_least e h = tt
 
-gone_unpin : (p : PortsValue) (stamp : ℕ) (e : DbError) → IsUnpinRefused p.database stamp e → IsGone (requests.Unpin stamp) p (dids.Refused e)
+gone_unpin : (p : PortsValue) (stamp : ℕ) (e : DbError) → IsUnpinRefused p.database stamp e → LosesOnlyUnheld (requests.Unpin stamp) p (dids.Refused e)
 gone_unpin p stamp (errors.SnapshotGone horizon) h = h
 gone_unpin p stamp e h = tt
 
@@ -189,7 +189,7 @@ module _ (old new : PortsValue) where
   counts_lookup at key lo hi leads (Some hit) did led told = rw told (record { fair = fair_led at leads led; gone = tt })
   counts_lookup at key lo hi leads None did led told = rw told (record { fair = fair_led at leads led; gone = tt })
 
-  not_gone : (at : ℕ) (entry : Entry) (made : Option Insertion) → IsGone (requests.Insert at entry) old (did_insert made)
+  not_gone : (at : ℕ) (entry : Entry) (made : Option Insertion) → LosesOnlyUnheld (requests.Insert at entry) old (did_insert made)
   not_gone at entry (Some (insertions.Stored reach)) = tt
   not_gone at entry (Some insertions.Kept) = tt
   not_gone at entry None = tt
@@ -213,7 +213,7 @@ module _ (old new : PortsValue) (same : new ≡ old) (query : Query) (stamp : �
 -- ---- a transaction goes on
 
 -- what a request spends is all that the transaction has of its own
-spends : (c : CoreValue) (request : PortRequest) → IsAsking c request → spent request ≡ record { taken = []; own = listed (left_pin c.pinning) }
+spends : (c : CoreValue) (request : PortRequest) → CoreAsks c request → spent request ≡ record { taken = []; own = stamp_if_any (left_pin c.pinning) }
 spends c (requests.Pin now at_least) asking = rw asking.0.1 refl
 spends c (requests.AddPin pinned) asking = rw asking.1 refl
 spends c (requests.Unpin stamp) asking = rw asking.1.1 refl
@@ -226,10 +226,10 @@ brings : (t : ℕ) (taken : List ℕ) (reply : PortReply) → times t (taken_aft
 brings t taken (replies.AddPin pinned (Ok added)) = times_append t taken (pinned.stamp ∷ [])
 brings t taken reply = omega arith
 
-pub fair_gone_on : (old new : PortsValue) (c c' : CoreValue) (request : PortRequest) (reply : PortReply) → IsAsking c request → IsFair old new (spent request) (gained reply)
+pub fair_gone_on : (old new : PortsValue) (c c' : CoreValue) (request : PortRequest) (reply : PortReply) → CoreAsks c request → IsFair old new (spent request) (gained reply)
     → c'.taken ≡ taken_after c.taken reply → left_pin c'.pinning ≡ left_after reply → IsFair old new (account_of_core c) (account_of_core c')
 fair_gone_on old new c c' request reply asking fair taken left =
-    let fair' : IsFair old new (record { taken = []; own = listed (left_pin c.pinning) }) (gained reply) = subst (λ (a : Account). IsFair old new a (gained reply)) (spends c request asking) fair in
+    let fair' : IsFair old new (record { taken = []; own = stamp_if_any (left_pin c.pinning) }) (gained reply) = subst (λ (a : Account). IsFair old new a (gained reply)) (spends c request asking) fair in
     rw (taken, left) (record {
       holds = fair'.holds;
       users = λ t. let all = brings t c.taken reply in let less = fair'.users t in omega (arith, all, less);
@@ -249,8 +249,8 @@ newest_taken now renew_after present (newest ∷ older) taken stamp is all = go 
     go false due = let same : At newest.stamp ≡ At stamp = rw due at is in let at : newest.stamp ≡ stamp = cc in subst (λ (s : ℕ). 0 < times s taken) at first
 
 -- what is asked at a stamp that is gone, is asked at one that was taken
-pub loss_did : (next : Next) (objects : Objects) (p : PortsValue) (c : CoreValue) (request : PortRequest) (did : Did) → IsCore next objects c → IsAsking c request
-    → IsGone request p did → IfDidLose did (HasLost p (account_of_core c))
+pub loss_did : (next : Next) (objects : Objects) (p : PortsValue) (c : CoreValue) (request : PortRequest) (did : Did) → IsCore next objects c → CoreAsks c request
+    → LosesOnlyUnheld request p did → IfDidLose did (HasLost p (account_of_core c))
 loss_did next objects p c (requests.Query query stamp) did fits asking gone =
     did_so (times stamp p.database.holds ≡ 0) (HasLost p (account_of_core c))
     (λ none. record {
@@ -274,9 +274,9 @@ loss_counted P members did lost = lost
 
 -- all that was taken is given back; a hold is left, if one was there
 pub fair_ended : {A : Type 0} → (old new : PortsValue) (c : CoreValue) (stamps : List ℕ) (given : Result A UnknownPin) → GiveBackCountsUsers → GiveBackLeads stamps old new given
-    → stamps ≡ c.taken → (rest : List ℕ) → ((t : ℕ) → times t rest ≤ times t (listed (left_pin c.pinning))) → IsFair old new (account_of_core c) (record { taken = []; own = rest })
+    → stamps ≡ c.taken → (rest : List ℕ) → ((t : ℕ) → times t rest ≤ times t (stamp_if_any (left_pin c.pinning))) → IsFair old new (account_of_core c) (record { taken = []; own = rest })
 fair_ended old new c stamps given law leads same rest fewer =
-    fair_give_back old new stamps given law leads c.taken [] (listed (left_pin c.pinning)) rest (λ t. rw same (omega arith)) fewer
+    fair_give_back old new stamps given law leads c.taken [] (stamp_if_any (left_pin c.pinning)) rest (λ t. rw same (omega arith)) fewer
 
 pub loss_unpin : (p : PortsValue) (a : Account) (stamp : ℕ) (e : DbError) → IsUnpinRefused p.database stamp e → IfDidLose (dids.Refused e) (HasLost p a)
 loss_unpin p a stamp e h = did_so ⊥ (HasLost p a) (λ no. absurd no) (dids.Refused e) (gone_unpin p stamp e h)

@@ -15,8 +15,8 @@ use Rattle.txc_world.specs.declared.reply.End.{End}
 use Rattle.txc_world.specs.declared.reply.End.TheVariants as ends
 use Rattle.txc_world.specs.declared.reply.Reply.{Reply}
 use Rattle.txc_world.specs.declared.reply.Reply.TheVariants as replies
-use Rattle.txc_world.specs.Told.{Reading, Story, idle, reading, writing, leaving, Told, act_at, after, after_end, begin_at, floor_at, floor_by, story_after, AreExplained, IsCommitOf, IsExplainedIn, IsReceiptOf, ReplyExplains}
-use Rattle.txc_world.specs.Sessions.{replied, BeganNone, HaveBegunNone, HaveToldAtMost, NobodyGoesBack, ToldAtMost}
+use Rattle.txc_world.specs.Told.{Reading, Story, idle, reading, writing, leaving, Told, act_at, after, after_end, begin_at, floor_at, floor_by, story_after, AreExplained, IsCommitOf, IsExplainedIn, IsReceiptOfStory, ReplyExplains}
+use Rattle.txc_world.specs.Sessions.{replied, BeganNone, HaveBegunNone, HaveToldAtMost, NoActorGoesBack, ToldAtMost}
 use Rattle.txc_world.proofs.Stepping.{set_length}
 
 -- ---- floors
@@ -228,13 +228,13 @@ module _ (next : Next) (L : History) (told : Told) (place : ℕ) where
       → (n : ℕ) × P n × (n ≤ pin.stamp)
   receipt_from P pin h reads = go (slice_get told.actors place) refl h
     where
-      of : (story : Story) → slice_get told.actors place ≡ Some story → IsReceiptOf next L story (Some pin) → (n : ℕ) × P n × (n ≤ pin.stamp)
+      of : (story : Story) → slice_get told.actors place ≡ Some story → IsReceiptOfStory next L story (Some pin) → (n : ℕ) × P n × (n ≤ pin.stamp)
       of idle is x = absurd x
       of (reading r) is x = (r.bounds.at_least, reads (reading r) is, x.1.allowed.late)
       of (writing w) is x = absurd x
       of (leaving stamp) is x = absurd x
 
-      go : (story : Option Story) → slice_get told.actors place ≡ story → MatchOption story ⊥ (λ s. IsReceiptOf next L s (Some pin)) → (n : ℕ) × P n × (n ≤ pin.stamp)
+      go : (story : Option Story) → slice_get told.actors place ≡ story → MatchOption story ⊥ (λ s. IsReceiptOfStory next L s (Some pin)) → (n : ℕ) × P n × (n ≤ pin.stamp)
       go None is x = absurd x
       go (Some story) is x = of story is x
 
@@ -243,7 +243,7 @@ module _ (next : Next) (L : History) (told : Told) (place : ℕ) where
       → Reads (λ n. ⊥) place (after told (Actor at Commit) (replies.Receipt pin))
   receipt_ends at pin same h = go (slice_get told.actors at) refl h
     where
-      go : (story : Option Story) → slice_get told.actors at ≡ story → MatchOption story ⊥ (λ s. IsReceiptOf next L s pin)
+      go : (story : Option Story) → slice_get told.actors at ≡ story → MatchOption story ⊥ (λ s. IsReceiptOfStory next L s pin)
           → Reads (λ n. ⊥) place (act_at at Commit (replies.Receipt pin) told story)
       go None is x = absurd x
       go (Some was) is x = λ story there. subst (ReadsFrom (λ n. ⊥))
@@ -283,7 +283,7 @@ between_low next L told (x ∷ xs) place pin none h receipt =
     )
 
 pub nobody_goes_back : (next : Next) (told : Told) (steps : List Step) (answers : List Reply) → HasSessions told → AreExplained next told steps answers
-    → NobodyGoesBack steps answers
+    → NoActorGoesBack steps answers
 nobody_goes_back next told steps answers has explained place now staleness pin before between more apart none =
     let receipt : Step × Reply = (Actor place Commit, replies.Receipt (Some pin)) in
     let rest : List (Step × Reply) = (BeginIn place now staleness, replies.Begun) ∷ (between ++ (receipt ∷ more)) in
@@ -304,7 +304,7 @@ nobody_goes_back next told steps answers has explained place now staleness pin b
 
 -- at the end of the loop over the steps
 pub loop_back : (next : Next) (start : Told) (steps : List Step) (i : ℕ) (answers : List Reply) → length steps ≤ i → i ≤ length steps
-    → HasSessions start → AreExplained next start (take i steps) answers → NobodyGoesBack steps answers
+    → HasSessions start → AreExplained next start (take i steps) answers → NoActorGoesBack steps answers
 loop_back next start steps i answers past within has explained =
     let at : i ≡ length steps = omega (arith, past, within) in
     let all : take i steps ≡ steps = ap (λ n. take n steps) at ∙ take-length steps in

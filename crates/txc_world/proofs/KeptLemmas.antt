@@ -19,8 +19,8 @@ use Rattle.txc_world.specs.declared.reply.Reply.TheVariants as replies
 use Rattle.txc_world.specs.declared.reply.Reply.TheVariants.{Refused}
 use Rattle.txc_world.specs.declared.reply.Refusal.TheVariants as refusals
 use Rattle.txc_world.specs.Ports.{PortsValue, HasRefused, HasLedNode, KeepsRow}
-use Rattle.txc_world.specs.Keeping.{stamps_of, CommitLeads, HasPinnedSpare, WriteLeads, AddSpareLeads}
-use Rattle.txc_world.specs.Kept.{told_addition, IsKept, KeepLeads}
+use Rattle.txc_world.specs.Keeping.{stamps_of_pins, CommitLeads, HasPinnedSpare, WriteLeads, AddSpareLeads}
+use Rattle.txc_world.specs.Kept.{told_addition, IsKeeperStep, KeepLeads}
 use Rattle.txc_world.specs.Told.{commit_in, keep_in, spare_after, IsDueOr, IsKeepDue, IsNoReceipt}
 use Rattle.txc_shared.specs.Nodes.{NodeValue}
 use Rattle.txc_world.proofs.PortsLemmas.{left_history}
@@ -57,16 +57,16 @@ written old new change stamp leads = commit_told old new (newest old.database) [
 pub refused_history : (old new : PortsValue) (e : DbError) → HasRefused old new e → new.database.history ≡ old.database.history
 refused_history old new e h = left_history old.database new.database e h.left
 
-pub refused_spare : (old new : PortsValue) (e : DbError) → HasRefused old new e → stamps_of new.spare ≡ stamps_of old.spare
-refused_spare old new e h = ap (λ (p : PortsValue). stamps_of p.spare) h.is
+pub refused_spare : (old new : PortsValue) (e : DbError) → HasRefused old new e → stamps_of_pins new.spare ≡ stamps_of_pins old.spare
+refused_spare old new e h = ap (λ (p : PortsValue). stamps_of_pins p.spare) h.is
 
 -- ---- the keeper's pins
 
 pub pinned_spare_stamps : (old new : PortsValue) (now stamp : ℕ) → HasPinnedSpare now old new stamp
-    → stamps_of new.spare ≡ stamps_of old.spare ++ stamp ∷ []
+    → stamps_of_pins new.spare ≡ stamps_of_pins old.spare ++ stamp ∷ []
 pinned_spare_stamps old new now stamp h =
-    ap stamps_of h.spare ∙ (map-append (λ (p : Pinned). p.stamp) old.spare (h.pinned ∷ [])
-    ∙ ap (λ (s : ℕ). stamps_of old.spare ++ s ∷ []) (sym h.stamp_is))
+    ap stamps_of_pins h.spare ∙ (map-append (λ (p : Pinned). p.stamp) old.spare (h.pinned ∷ [])
+    ∙ ap (λ (s : ℕ). stamps_of_pins old.spare ++ s ∷ []) (sym h.stamp_is))
 
 pub pinned_spare_history : (old new : PortsValue) (now stamp : ℕ) → HasPinnedSpare now old new stamp
     → new.database.history ≡ old.database.history ++ pin_event now ∷ []
@@ -100,7 +100,7 @@ due_no_node node nodes Suits above =
 
 -- an addition
 pub kept_addition : (old new : PortsValue) (stamp : ℕ) (added : Option (Result (Unit {0}) AddError)) → AddSpareLeads stamp old new added
-    → KeepsRow old new → IsKept (keeps.Add stamp) old new (told_addition added)
+    → KeepsRow old new → IsKeeperStep (keeps.Add stamp) old new (told_addition added)
 kept_addition old new stamp (Some (Ok added)) leads keeps = record { leads = leads; keeps = keeps }
 kept_addition old new stamp (Some (Err e)) leads keeps = record { leads = leads; keeps = keeps }
 kept_addition old new stamp None leads keeps = record { leads = leads; keeps = keeps }
@@ -108,14 +108,14 @@ kept_addition old new stamp None leads keeps = record { leads = leads; keeps = k
 module _ (old new : PortsValue) where
   -- all else stays
   abbrev pub TellsOf : History → List ℕ → Type 0
-  TellsOf history spare = (new.database.history ≡ history) × (stamps_of new.spare ≡ spare)
+  TellsOf history spare = (new.database.history ≡ history) × (stamps_of_pins new.spare ≡ spare)
 
-  tells_so : (p : PortsValue) → new ≡ p → TellsOf p.database.history (stamps_of p.spare)
-  tells_so p is = (ap (λ (q : PortsValue). q.database.history) is, ap (λ (q : PortsValue). stamps_of q.spare) is)
+  tells_so : (p : PortsValue) → new ≡ p → TellsOf p.database.history (stamps_of_pins p.spare)
+  tells_so p is = (ap (λ (q : PortsValue). q.database.history) is, ap (λ (q : PortsValue). stamps_of_pins q.spare) is)
 
   pub kept_told : (keep : Keep) (reply : Reply) → KeepLeads keep old new reply
-      → TellsOf (keep_in keep reply old.database.history) (spare_after keep reply (stamps_of old.spare))
-  kept_told (keeps.Write change) (replies.At stamp) leads = (written old new change stamp leads, ap (λ (p : PortsValue). stamps_of p.spare) leads.0)
+      → TellsOf (keep_in keep reply old.database.history) (spare_after keep reply (stamps_of_pins old.spare))
+  kept_told (keeps.Write change) (replies.At stamp) leads = (written old new change stamp leads, ap (λ (p : PortsValue). stamps_of_pins p.spare) leads.0)
   kept_told (keeps.Write change) (Refused (refusals.Database e)) leads = (refused_history old new e leads.0, refused_spare old new e leads.0)
   kept_told (keeps.Pin now) (replies.At stamp) leads = (pinned_spare_history old new now stamp leads, pinned_spare_stamps old new now stamp leads)
   kept_told (keeps.Pin now) (Refused (refusals.Database e)) leads = (refused_history old new e leads.0, refused_spare old new e leads.0)
@@ -144,15 +144,15 @@ module _ (old new : PortsValue) where
   led_there : (at : ℕ) (leads : NodeValue → NodeValue → Type 0) → HasLedNode at leads old new → at < length old.nodes
   led_there at leads led = slice_get_within old.nodes at led.before led.there
 
-  pub kept_due : (keep : Keep) (reply : Reply) → KeepLeads keep old new reply → IsKeepDue (length old.nodes) (stamps_of old.spare) keep reply
+  pub kept_due : (keep : Keep) (reply : Reply) → KeepLeads keep old new reply → IsKeepDue (length old.nodes) (stamps_of_pins old.spare) keep reply
   kept_due (keeps.Write change) (replies.At stamp) leads = tt
   kept_due (keeps.Write change) (Refused (refusals.Database e)) leads = tt
   kept_due (keeps.Pin now) (replies.At stamp) leads = tt
   kept_due (keeps.Pin now) (Refused (refusals.Database e)) leads = tt
-  kept_due (keeps.Add stamp) replies.Added leads = due_held (length old.nodes) stamp (stamps_of old.spare) replies.Added _ leads.held tt
+  kept_due (keeps.Add stamp) replies.Added leads = due_held (length old.nodes) stamp (stamps_of_pins old.spare) replies.Added _ leads.held tt
   kept_due (keeps.Add stamp) (Refused (refusals.Pincushion e)) leads =
-      due_held (length old.nodes) stamp (stamps_of old.spare) (Refused (refusals.Pincushion e)) _ leads.held tt
-  kept_due (keeps.Add stamp) (Refused refusals.NoRequest) leads = due_not_held stamp (stamps_of old.spare) _ leads.1
+      due_held (length old.nodes) stamp (stamps_of_pins old.spare) (Refused (refusals.Pincushion e)) _ leads.held tt
+  kept_due (keeps.Add stamp) (Refused refusals.NoRequest) leads = due_not_held stamp (stamps_of_pins old.spare) _ leads.1
   kept_due (keeps.GiveBack stamp) replies.GivenBack leads = tt
   kept_due (keeps.GiveBack stamp) (Refused (refusals.GiveBack unknown)) leads = tt
   kept_due (keeps.Retire now age) (replies.Retired stamps) leads = tt

@@ -32,12 +32,12 @@ use Rattle.txc_ports.specs.Refusals.{refused_call, refused_pin, refused_request}
 use Rattle.txc_txn.specs.declared.pinning.Pinning.{Pinning}
 use Rattle.txc_txn.specs.declared.pinning.PinStep.{PinStep}
 use Rattle.txc_txn.specs.declared.pinning.PinStep.TheVariants.{Adding, Dropping}
-use Rattle.txc_txn.specs.Core.{first_call, left_after, left_pin, CoreValue, IsAnswered, IsAt, IsTurn}
+use Rattle.txc_txn.specs.Core.{first_call, left_after, left_pin, CoreValue, IsAnswered, IsPinningAt, IsTurn}
 use Rattle.txc_ports.specs.Turns.{IsAsk}
 use Rattle.txc_txn.specs.Kept.{TxnValue}
-use Rattle.txc_txn.specs.Leading.{AsksLookup, AsksPin, BeginLeads, CallLeads, HitLeads, IsWanting, PinLeads, ReplyLeads, StandingLeads, StartLeads}
+use Rattle.txc_txn.specs.Leading.{AsksLookup, AsksPin, BeginLeads, CallLeads, HitLeads, IsWanting, PresentPinLeads, ReplyLeads, StandingLeads, StartLeads}
 use Rattle.txc_rw.specs.Core.{RwValue}
-use Rattle.txc_rw.specs.Leading.{standing_of, CallLeads as RwCallLeads, StandingLeads as RwStandingLeads}
+use Rattle.txc_rw.specs.Leading.{standing_of, RwCallLeads, RwStandingLeads}
 use Rattle.txc_world.specs.declared.did.Did.{Did}
 use Rattle.txc_world.specs.declared.did.Did.TheVariants as dids
 use Rattle.txc_world.specs.declared.reply.End.{End}
@@ -171,7 +171,7 @@ module _ (P : Type 0) where
         go (m ∷ ms) some =
             called_not_lost next old before (needs.Lookup k) (calls_replies.Hit hit) (leads.held (λ none. let no : m ∷ ms ≡ [] = sym some ∙ none in absurd (cc no)))
 
-    pinned_not_lost : (first : Option Call) (old : CoreValue) (before : Objects) → PinLeads first old before new objects turn → IfTurnLost turn P
+    pinned_not_lost : (first : Option Call) (old : CoreValue) (before : Objects) → PresentPinLeads first old before new objects turn → IfTurnLost turn P
     pinned_not_lost (Some k) old before leads = begin_not_lost old before k leads
     pinned_not_lost None old before leads = ask_not_lost turn leads.1
 
@@ -221,10 +221,10 @@ reason_of (Some p) = reason_in p.step
 pub none_left : (c : CoreValue) → left_pin c.pinning ≡ None → DropsNone c
 none_left c none = λ stamp error at. let some : Some stamp ≡ None = sym (ap left_pin at.1) ∙ none in absurd (cc some)
 
-adding_drops_none : (c : CoreValue) (pin : Pin) → IsAt c (Adding pin) → DropsNone c
+adding_drops_none : (c : CoreValue) (pin : Pin) → IsPinningAt c (Adding pin) → DropsNone c
 adding_drops_none c pin adding = λ stamp error at. let no : None ≡ Some error = ap reason_of (sym adding.1 ∙ at.1) in absurd (cc no)
 
-dropping_drops_none : (c : CoreValue) (stamp : ℕ) (error : AddError) → IsAt c (Dropping stamp (refused_pin error)) → DropsNone c
+dropping_drops_none : (c : CoreValue) (stamp : ℕ) (error : AddError) → IsPinningAt c (Dropping stamp (refused_pin error)) → DropsNone c
 dropping_drops_none c stamp error dropping = λ at_stamp why at.
     let both : Some (refused_pin error) ≡ Some why = ap reason_of (sym dropping.1 ∙ at.1) in
     let same : refused_pin error ≡ why = cc both in

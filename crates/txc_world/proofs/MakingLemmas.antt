@@ -5,7 +5,7 @@ use Rattle.txc_db.specs.declared.pinned.Pinned.{Pinned}
 use Rattle.txc_db.specs.DatabaseValue.{DatabaseValue, front_of}
 use Rattle.txc_db.specs.Seen.{FrontValue}
 use Rattle.txc_cushion.specs.Cushion.{CushionValue, empty_cushion}
-use Rattle.txc_cushion.specs.Cushion.{front_of as cushion_front}
+use Rattle.txc_cushion.specs.Cushion.{cushion_front}
 use Rattle.txc_shared.specs.Nodes.{NodeValue}
 use Rattle.txc_shared.specs.declared.settings.NodeSettings.{NodeSettings}
 use Rattle.txc_world.specs.declared.settings.WorldSettings.{WorldSettings}

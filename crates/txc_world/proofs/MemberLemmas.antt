@@ -16,7 +16,7 @@ use Rattle.txc_world.specs.declared.actor.Actor.TheVariants as actors
 use Rattle.txc_world.specs.declared.settings.WorldSettings.{WorldSettings}
 use Rattle.txc_world.specs.Told.{Reading, reading, Told}
 use Rattle.txc_world.specs.Ports.{PortsValue, whole_of}
-use Rattle.txc_world.specs.Actors.{story_of, IsThere}
+use Rattle.txc_world.specs.Actors.{story_of, IsActorThere}
 use Rattle.txc_world.specs.Worlds.{told_of, AreMembersOf, IsWorld}
 use Rattle.txc_world.proofs.Explaining.{moment_later, moment_within, state_later}
 use Rattle.txc_world.proofs.Stepping.{story_there}
@@ -69,8 +69,8 @@ pub members_there : {A C : Type 0} (next : Next) (settings : WorldSettings) (por
     → slice_get cast place ≡ Some (Some (actors.Reading o)) → told_of settings ports floors cast ≡ now → slice_get now.actors place ≡ Some (reading r)
     → AreMembersOf next now.history r o.txn.core.pins.has_present o.txn.core.pins.members
 members_there next settings ports floors cast place o now r kept world is shows at =
-    let open_there : IsThere next (whole_of ports) settings.nodes (Some (actors.Reading o)) =
-    all_get (IsThere next (whole_of ports) settings.nodes) cast place (Some (actors.Reading o)) world.there is in
+    let open_there : IsActorThere next (whole_of ports) settings.nodes (Some (actors.Reading o)) =
+    all_get (IsActorThere next (whole_of ports) settings.nodes) cast place (Some (actors.Reading o)) world.there is in
     let there : slice_get (told_of settings ports floors cast).actors place ≡ Some (story_of (actors.Reading o)) =
     story_there settings ports floors cast place (actors.Reading o) is in
     let same : told_reading o ≡ r =

@@ -14,7 +14,7 @@ use Rattle.txc_shared.specs.declared.error.NodeError.{NodeError}
 use Rattle.txc_shared.specs.declared.error.NodeError.TheVariants as errors
 use Rattle.txc_shared.specs.declared.insertion.Insertion.{Insertion}
 use Rattle.txc_shared.specs.Nodes.{NodeValue, after_call, seeing, IsLonger}
-use Rattle.txc_shared.specs.Refusals.{IsLeft, IsBroken}
+use Rattle.txc_shared.specs.Refusals.{IsNodeLeft, IsNodeBroken}
 use Rattle.txc_stream.proofs.Offered.{longer_is}
 use Rattle.txc_world.specs.Parts.{IsPartOf}
 use Rattle.txc_world.specs.NodeSteps.{LookupLeads, InsertLeads, AdvanceLeads, SweepLeads}
@@ -52,7 +52,7 @@ module _ (whole : FrontValue) where
       subst (λ (n : NodeValue). StaysNode whole old n) (sym is) (record { settings = refl; row = λ h. h; passes = refl; seen = λ h. h })
 
   -- what was broken stays so, whatever it has seen
-  stays_broken : (old new : NodeValue) → IsBroken old new → StaysNode whole old new
+  stays_broken : (old new : NodeValue) → IsNodeBroken old new → StaysNode whole old new
   stays_broken old new broke = record {
     settings = ap (λ (n : NodeValue). n.settings) broke.is;
     row = λ h. broke.events ∙ h;
@@ -60,7 +60,7 @@ module _ (whole : FrontValue) where
     seen = λ h whole_new. let no : true ≡ false = sym (ap (λ (n : NodeValue). n.broken) broke.is) ∙ whole_new in absurd (cc no);
   }
 
-  pub stays_left : (old new : NodeValue) (e : NodeError) → IsLeft old new e → StaysNode whole old new
+  pub stays_left : (old new : NodeValue) (e : NodeError) → IsNodeLeft old new e → StaysNode whole old new
   stays_left old new errors.Broken (inl same) = stays_same old new same.0
   stays_left old new errors.Broken (inr broke) = stays_broken old new broke
   stays_left old new errors.EmptyRange same = stays_same old new same

@@ -16,7 +16,7 @@ use Rattle.txc_db.specs.History.{commit_event, moment_at, pin_event}
 use Rattle.txc_db.specs.Calls.{IsLeft, IsPinnable}
 use Rattle.std.specs.List.{AllByRecursion}
 use Rattle.txc_cushion.specs.declared.error.AddError.{AddError}
-use Rattle.txc_cushion.specs.Cushion.{front_of as cushion_front}
+use Rattle.txc_cushion.specs.Cushion.{cushion_front}
 use Rattle.txc_shared.specs.Nodes.{NodeValue}
 use Rattle.txc_shared.specs.declared.advanced.Advanced.{Advanced}
 use Rattle.txc_shared.specs.declared.error.NodeError.{NodeError}
@@ -24,7 +24,7 @@ use Rattle.txc_world.specs.NodeSteps.{AdvanceLeads}
 use Rattle.txc_world.specs.Parts.{IsPartOf}
 use Rattle.txc_world.specs.Ports.{PortsValue, whole_of, IsNodeOf, ArePorts, KeepsRow, HasLedNode}
 use Rattle.txc_world.specs.Asks.{AddLeads}
-use Rattle.txc_world.specs.Keeping.{stamps_of, HasAddedSpare, HasPinnedSpare}
+use Rattle.txc_world.specs.Keeping.{stamps_of_pins, HasAddedSpare, HasPinnedSpare}
 use Rattle.txc_world.proofs.PartLemmas.{part_itself, part_then}
 use Rattle.txc_world.proofs.NodeLemmas.{StaysNode, node_stays}
 
@@ -198,42 +198,42 @@ pinned_spare p q same d spare now pinned after only_if stamp moment front shown 
 -- ---- the keeper's pins
 
 -- the first pin of a stamp, taken out, leaves the stamps without one of it
-pub without_first : (stamp : ℕ) (spare : List Pinned) (i : ℕ) → i < length spare → ((k : ℕ) → k < i → get_or (stamps_of spare) k 0 ≡ stamp → ⊥)
-    → get_or (stamps_of spare) i 0 ≡ stamp → stamps_of (remove spare i) ≡ without stamp (stamps_of spare)
+pub without_first : (stamp : ℕ) (spare : List Pinned) (i : ℕ) → i < length spare → ((k : ℕ) → k < i → get_or (stamps_of_pins spare) k 0 ≡ stamp → ⊥)
+    → get_or (stamps_of_pins spare) i 0 ≡ stamp → stamps_of_pins (remove spare i) ≡ without stamp (stamps_of_pins spare)
 without_first stamp [] i within before here = absurd (omega (arith, within))
 without_first stamp (s ∷ ss) zero within before here = rw (eq-eqb s.stamp stamp here) refl
 without_first stamp (s ∷ ss) (suc i) within before here =
     let other : (s.stamp == stamp) ≡ false = ne_eqb s.stamp stamp (before 0 (omega arith)) in
     rw other (ap (λ (l : List ℕ). s.stamp ∷ l) (without_first stamp ss i (omega (arith, within)) (λ k below. before (suc k) (omega (arith, below))) here))
 
-pub first_is_held : (stamp : ℕ) (spare : List Pinned) (i : ℕ) → i < length spare → get_or (stamps_of spare) i 0 ≡ stamp
-    → is_held stamp (stamps_of spare) ≡ true
+pub first_is_held : (stamp : ℕ) (spare : List Pinned) (i : ℕ) → i < length spare → get_or (stamps_of_pins spare) i 0 ≡ stamp
+    → is_held stamp (stamps_of_pins spare) ≡ true
 first_is_held stamp [] i within here = absurd (omega (arith, within))
 first_is_held stamp (s ∷ ss) zero within here = rw (eq-eqb s.stamp stamp here) refl
 first_is_held stamp (s ∷ ss) (suc i) within here = go (s.stamp == stamp) (first_is_held stamp ss i (omega (arith, within)) here)
   where
-    go : (b : Bool) → is_held stamp (stamps_of ss) ≡ true → (b || is_held stamp (stamps_of ss)) ≡ true
+    go : (b : Bool) → is_held stamp (stamps_of_pins ss) ≡ true → (b || is_held stamp (stamps_of_pins ss)) ≡ true
     go true rest = refl
     go false rest = rest
 
-pub none_is_held : (stamp : ℕ) (spare : List Pinned) → ((k : ℕ) → k < length spare → get_or (stamps_of spare) k 0 ≡ stamp → ⊥)
-    → is_held stamp (stamps_of spare) ≡ false
+pub none_is_held : (stamp : ℕ) (spare : List Pinned) → ((k : ℕ) → k < length spare → get_or (stamps_of_pins spare) k 0 ≡ stamp → ⊥)
+    → is_held stamp (stamps_of_pins spare) ≡ false
 none_is_held stamp [] none = refl
 none_is_held stamp (s ∷ ss) none =
     let other : (s.stamp == stamp) ≡ false = ne_eqb s.stamp stamp (none 0 (omega arith)) in
     rw other (none_is_held stamp ss (λ k below. none (suc k) (omega (arith, below))))
 
 pub stamp_at : (spare : List Pinned) (i : ℕ) (pinned : Pinned) → i < length spare → pinned ≡ get_or spare i pinned
-    → get_or (stamps_of spare) i 0 ≡ pinned.stamp
+    → get_or (stamps_of_pins spare) i 0 ≡ pinned.stamp
 stamp_at [] i pinned within is = absurd (omega (arith, within))
 stamp_at (s ∷ ss) zero pinned within is = sym (ap (λ (q : Pinned). q.stamp) is)
 stamp_at (s ∷ ss) (suc i) pinned within is = stamp_at ss i pinned (omega (arith, within)) is
 
-pub none_more : (stamp : ℕ) (spare : List Pinned) (at : ℕ) → ((k : ℕ) → k < at → get_or (stamps_of spare) k 0 ≡ stamp → ⊥)
-    → (get_or (stamps_of spare) at 0 ≡ stamp → ⊥) → (k : ℕ) → k < at + 1 → get_or (stamps_of spare) k 0 ≡ stamp → ⊥
+pub none_more : (stamp : ℕ) (spare : List Pinned) (at : ℕ) → ((k : ℕ) → k < at → get_or (stamps_of_pins spare) k 0 ≡ stamp → ⊥)
+    → (get_or (stamps_of_pins spare) at 0 ≡ stamp → ⊥) → (k : ℕ) → k < at + 1 → get_or (stamps_of_pins spare) k 0 ≡ stamp → ⊥
 none_more stamp spare at before here k below is = elim (split k at below) [
   | inl less ↦ before k less is
-  | inr same ↦ here (ap (λ (i : ℕ). get_or (stamps_of spare) i 0) (sym same) ∙ is)
+  | inr same ↦ here (ap (λ (i : ℕ). get_or (stamps_of_pins spare) i 0) (sym same) ∙ is)
 ]
   where
     split : (k at : ℕ) → k < at + 1 → (k < at) ⊎ (k ≡ at)
@@ -284,8 +284,8 @@ keeps_without_spare p q new spare same k = subst (λ (v : PortsValue). KeepsRow 
 
 -- a pin of the keeper's was added
 pub added_spare : {A : Type 0} (p q : PortsValue) (same : p ≡ q) (stamp i : ℕ) (pinned : Pinned) (spare : List Pinned) (new : PortsValue)
-    (reply : Result A AddError) → i < length p.spare → pinned ≡ get_or p.spare i pinned → get_or (stamps_of p.spare) i 0 ≡ stamp
-    → is_held stamp (stamps_of p.spare) ≡ true → stamps_of (remove p.spare i) ≡ without stamp (stamps_of p.spare) → spare ≡ remove p.spare i
+    (reply : Result A AddError) → i < length p.spare → pinned ≡ get_or p.spare i pinned → get_or (stamps_of_pins p.spare) i 0 ≡ stamp
+    → is_held stamp (stamps_of_pins p.spare) ≡ true → stamps_of_pins (remove p.spare i) ≡ without stamp (stamps_of_pins p.spare) → spare ≡ remove p.spare i
     → AddLeads pinned (record p { spare = spare }) new reply → HasAddedSpare stamp q new reply
 added_spare {A = A} p q same stamp i pinned spare new reply within is there held place out leads =
     subst (λ (v : PortsValue). HasAddedSpare stamp v new reply) same (record {
@@ -298,6 +298,6 @@ added_spare {A = A} p q same stamp i pinned spare new reply within is there held
       added = subst (λ (l : List Pinned). AddLeads pinned (record p { spare = l }) new reply) out leads;
     })
   where
-    kept : (r : Result A AddError) → AddLeads pinned (record p { spare = spare }) new r → stamps_of new.spare ≡ stamps_of (remove p.spare i)
-    kept (Ok a) l = ap (λ (v : PortsValue). stamps_of v.spare) l.0 ∙ ap stamps_of out
-    kept (Err e) l = ap (λ (v : PortsValue). stamps_of v.spare) l.0 ∙ ap stamps_of out
+    kept : (r : Result A AddError) → AddLeads pinned (record p { spare = spare }) new r → stamps_of_pins new.spare ≡ stamps_of_pins (remove p.spare i)
+    kept (Ok a) l = ap (λ (v : PortsValue). stamps_of_pins v.spare) l.0 ∙ ap stamps_of_pins out
+    kept (Err e) l = ap (λ (v : PortsValue). stamps_of_pins v.spare) l.0 ∙ ap stamps_of_pins out

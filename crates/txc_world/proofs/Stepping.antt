@@ -18,7 +18,7 @@ use Rattle.txc_world.specs.declared.step.Step.TheVariants as steps
 use Rattle.txc_world.specs.Told.{Told, act_in, after, floor_at, floor_by, story_after, IsActDue, IsDue, IsExplainedIn, ReplyExplains}
 use Rattle.txc_world.specs.Parts.{IsPartOf}
 use Rattle.txc_world.specs.Ports.{PortsValue, whole_of, KeepsRow}
-use Rattle.txc_world.specs.Actors.{story_at, story_of, HasCall, IsActor, IsThere}
+use Rattle.txc_world.specs.Actors.{story_at, story_of, HasCall, IsActor, IsActorThere}
 use Rattle.txc_world.specs.Worlds.{told_of, IsWorld}
 use Rattle.txc_world.proofs.Whole.{part_kept}
 
@@ -57,16 +57,16 @@ module _ (old new : PortsValue) (keeps : KeepsRow old new) where
     }
     actor_later (Leaving objects stamp) h = h
 
-    pub there_later : (slot : Option (Actor A C)) → IsThere next (whole_of old) count slot → IsThere next (whole_of new) count slot
+    pub there_later : (slot : Option (Actor A C)) → IsActorThere next (whole_of old) count slot → IsActorThere next (whole_of new) count slot
     there_later None h = h
     there_later (Some actor) h = actor_later actor h
 
 -- ---- a step
 
 module _ {A C : Type 0} (longer : HoldsInLonger) (next : Next) (settings : WorldSettings) (ports new : PortsValue) (floors : List ℕ) (actors : List (Option (Actor A C))) where
-  still_there : IsWorld next settings ports floors actors → KeepsRow ports new → All (IsThere next (whole_of new) settings.nodes) actors
+  still_there : IsWorld next settings ports floors actors → KeepsRow ports new → All (IsActorThere next (whole_of new) settings.nodes) actors
   still_there h keeps =
-      All-weaker (IsThere next (whole_of ports) settings.nodes) (IsThere next (whole_of new) settings.nodes) (there_later ports new keeps longer next settings.nodes) actors h.there
+      All-weaker (IsActorThere next (whole_of ports) settings.nodes) (IsActorThere next (whole_of new) settings.nodes) (there_later ports new keeps longer next settings.nodes) actors h.there
 
   -- the keeper steps
   pub world_keeps : IsWorld next settings ports floors actors → KeepsRow ports new → IsWorld next settings new floors actors
@@ -88,7 +88,7 @@ module _ {A C : Type 0} (longer : HoldsInLonger) (next : Next) (settings : World
         some = h.some;
         passes = set_length actors place (Some actor') ∙ h.passes ∙ sym keeps.actors;
         sessions = set_length floors place floor ∙ h.sessions ∙ sym (set_length actors place (Some actor'));
-        there = All-set (IsThere next (whole_of new) settings.nodes) actors place (Some actor') (subst (λ (n : ℕ). IsActor next (whole_of new) n actor') same kept)
+        there = All-set (IsActorThere next (whole_of new) settings.nodes) actors place (Some actor') (subst (λ (n : ℕ). IsActor next (whole_of new) n actor') same kept)
             (still_there h keeps);
       })
 

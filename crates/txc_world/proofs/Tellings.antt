@@ -20,7 +20,7 @@ use Rattle.txc_world.specs.declared.did.Did.{Did}
 use Rattle.txc_world.specs.declared.did.Did.TheVariants as dids
 use Rattle.txc_world.specs.declared.reply.Reply.{Reply}
 use Rattle.txc_world.specs.declared.reply.Reply.TheVariants as replies
-use Rattle.txc_world.specs.Told.{Writing, Story, reading, writing, Told, act_in, act_at, after, begin_at, commit_in, floor_at, did_in, keep_in, told_by, AreDue, AreExplained, AreExplainedIn, CommitExplains, CommitMakes, IsCommitOf, IsDue, IsExplainedIn, IsNoCommit, IsReceiptOf, ReplyExplains}
+use Rattle.txc_world.specs.Told.{Writing, Story, reading, writing, Told, act_in, act_at, after, begin_at, commit_in, floor_at, did_in, keep_in, told_by, AreDue, AreExplained, AreExplainedIn, CommitExplains, CommitMakes, IsCommitOf, IsDue, IsExplainedIn, IsNoCommit, IsReceiptOfStory, ReplyExplains}
 use Rattle.txc_stream.proofs.Offered.{prefix_self, prefix_take, prefix_trans}
 use Rattle.txc_world.proofs.Explaining.{explained_later, state_later}
 
@@ -103,7 +103,7 @@ told_goes_on told (s ∷ steps) (r ∷ replies) =
 -- ---- what is explained stays explained
 
 module _ (next : Next) (L M : History) (on : IsPrefix L M) where
-  receipt_later : (story : Story) (pin : Option Pin) → IsReceiptOf next L story pin → IsReceiptOf next M story pin
+  receipt_later : (story : Story) (pin : Option Pin) → IsReceiptOfStory next L story pin → IsReceiptOfStory next M story pin
   receipt_later (reading r) pin h = explained_later next L M r.bounds pin r.answers on h
   receipt_later story pin h = h
 

@@ -7,7 +7,7 @@ use Rattle.txc_db.specs.History.{History}
 use Rattle.txc_db.specs.Seen.{FrontValue}
 use Rattle.txc_ports.specs.declared.request.PortRequest.{PortRequest}
 use Rattle.txc_ports.specs.declared.request.PortRequest.TheVariants as requests
-use Rattle.txc_txn.specs.Core.{CoreValue, IsAsking, IsOneOf}
+use Rattle.txc_txn.specs.Core.{CoreAsks, CoreValue, IsOneOf}
 use Rattle.txc_world.specs.Parts.{IsPartOf}
 use Rattle.txc_world.specs.Ports.{PortsValue, whole_of, KeepsRow}
 use Rattle.txc_world.specs.Asks.{IsAskedAt}
@@ -20,7 +20,7 @@ use Rattle.txc_world.proofs.Whole.{part_kept}
 -- ---- what is asked
 
 -- a pin is asked for at the moment of the bounds
-pub asked_at : (c : CoreValue) (request : PortRequest) → IsAsking c request → IsAskedAt c.bounds.now request
+pub asked_at : (c : CoreValue) (request : PortRequest) → CoreAsks c request → IsAskedAt c.bounds.now request
 asked_at c (requests.Pin now at_least) asking = asking.2
 asked_at c request asking = tt
 

@@ -16,15 +16,15 @@ use Rattle.txc_ports.specs.declared.turn.Turn.TheVariants as turns
 use Rattle.txc_ports.specs.Refusals.{refused_request}
 use Rattle.txc_app.specs.Eval.{Next}
 use Rattle.txc_registry.specs.Objects.{Objects}
-use Rattle.txc_rw.specs.Core.{IsAsked, IsWriteRefused, RwValue}
+use Rattle.txc_rw.specs.Core.{AsksQueryAt, IsWriteRefused, RwValue}
 use Rattle.txc_rw.specs.Leading.{RowsLead}
 use Rattle.txc_world.specs.declared.did.Did.{Did}
 use Rattle.txc_world.specs.declared.did.Did.TheVariants as dids
 use Rattle.txc_world.specs.declared.reply.Reply.{Reply}
 use Rattle.txc_world.specs.declared.reply.Reply.TheVariants as replies
 use Rattle.txc_world.specs.Ports.{PortsValue}
-use Rattle.txc_world.specs.Asks.{AnswerLeads, DoesTellFound, HoldLeads}
-use Rattle.txc_world.specs.Books.{nothing, Account, ActCounts, CountRight, HasLost, IsFair, IsGone}
+use Rattle.txc_world.specs.Asks.{DoesTellFound, HoldLeads, QueryLeads}
+use Rattle.txc_world.specs.Books.{nothing, Account, ActCounts, CountRight, HasLost, IsFair, LosesOnlyUnheld}
 use Rattle.txc_world.specs.Losing.{IfDidLose, IfGone, IfLost, IfReplyLost, IfTurnLost}
 use Rattle.txc_world.specs.Keeping.{CommitLeads}
 use Rattle.txc_world.specs.Writing.{HasAskedRw}
@@ -47,17 +47,17 @@ base_lost p base gone = record {
 }
 
 module _ (p : PortsValue) (base : ℕ) where
-  gone_lost : (query : Query) (e : DbError) → IsGone (requests.Query query base) p (dids.Refused e) → IfGone e (HasLost p (based base))
+  gone_lost : (query : Query) (e : DbError) → LosesOnlyUnheld (requests.Query query base) p (dids.Refused e) → IfGone e (HasLost p (based base))
   gone_lost query e gone = gone_so (times base p.database.holds ≡ 0) (HasLost p (based base)) (base_lost p base) e gone
 
   -- of a query of the open call
-  pub loss_told : (query : Query) (found : Result Found DbError) (did : Did) → CountRight p → AnswerLeads query base p found → DoesTellFound found did
+  pub loss_told : (query : Query) (found : Result Found DbError) (did : Did) → CountRight p → QueryLeads query base p found → DoesTellFound found did
       → IfDidLose did (HasLost p (based base))
   loss_told query (Ok found) did right leads told = rw told.1 tt
   loss_told query (Err e) did right leads told = rw told (gone_lost query e (gone_query p right query base e leads))
 
   -- of a query of its own
-  pub loss_asked : (a : Account) (query : Query) (stamp : ℕ) (turn : Turn) → IsAsked query stamp turn → IfTurnLost turn (HasLost p a)
+  pub loss_asked : (a : Account) (query : Query) (stamp : ℕ) (turn : Turn) → AsksQueryAt query stamp turn → IfTurnLost turn (HasLost p a)
   loss_asked a query stamp (turns.Ask request) asked = tt
   loss_asked a query stamp (turns.Refused error) asked = rw asked tt
   loss_asked a query stamp (turns.Value value) asked = tt
@@ -69,7 +69,7 @@ module _ (p : PortsValue) (base : ℕ) where
   found_lost found (turns.Value value) leads = tt
   found_lost found (turns.Rows rows) leads = tt
 
-  pub loss_found : (query : Query) (answer : Result Found DbError) (turn : Turn) → CountRight p → AnswerLeads query base p answer
+  pub loss_found : (query : Query) (answer : Result Found DbError) (turn : Turn) → CountRight p → QueryLeads query base p answer
       → ((found : Found) → answer ≡ Ok found → RowsLead found.rows.items turn) → ((e : DbError) → answer ≡ Err e → turn ≡ turns.Refused (refused_request e))
       → IfTurnLost turn (HasLost p (based base))
   loss_found query (Ok found) turn right leads rows refused = found_lost found turn (rows found refl)

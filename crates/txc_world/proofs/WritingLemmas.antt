@@ -20,7 +20,7 @@ use Rattle.txc_ports.specs.declared.turn.Turn.{Turn}
 use Rattle.txc_ports.specs.declared.turn.Turn.TheVariants as turns
 use Rattle.txc_rw.specs.declared.given.Given.{Given}
 use Rattle.txc_rw.specs.declared.given.Given.TheVariants as given
-use Rattle.txc_rw.specs.Core.{answers_after, queried_after, IsAsked, IsIdle, IsOfCall, IsOfNeed, IsOfQuery, IsRightReply, IsRw, IsTurn, ReadingFits, RwHolds, RwValue}
+use Rattle.txc_rw.specs.Core.{answers_after, queried_after, AsksQueryAt, IsOfCall, IsOfNeed, IsOfQuery, IsRightReply, IsRw, IsRwIdle, IsRwTurn, ReadingFits, RwHolds, RwValue}
 use Rattle.txc_ports.specs.Turns.{IsAsk}
 use Rattle.txc_rw.specs.Leading.{RowsLead}
 use Rattle.txc_ports.specs.Refusals.{refused_request}
@@ -28,7 +28,7 @@ use Rattle.txc_world.specs.Writing.{FindLeadsRw, IsRead}
 use Rattle.txc_world.specs.declared.actor.OpenCall.{OpenCall}
 use Rattle.txc_world.specs.Told.{writing}
 use Rattle.txc_world.specs.Ports.{PortsValue}
-use Rattle.txc_world.specs.Asks.{AnswerLeads}
+use Rattle.txc_world.specs.Asks.{QueryLeads}
 use Rattle.txc_world.specs.Actors.{asked_query, told_by_turn, HasRwCall}
 
 pub writing_same : (b b' : ℕ) (k k' : Option Call) (a a' : List Given) (c c' : List Change) → b ≡ b' → k ≡ k' → a ≡ a' → c ≡ c'
@@ -58,7 +58,7 @@ answers_at_start told now key key' turn kind same is =
 -- ---- what is asked
 
 -- a turn of a call that asks, asks the query that the core waits for
-pub asks_query : (c : RwValue) (turn : Turn) (q : Query) → IsTurn c turn → asked_query turn ≡ Some q → (request : PortRequest) × (turn ≡ turns.Ask request) × (c.reading ≡ Some q)
+pub asks_query : (c : RwValue) (turn : Turn) (q : Query) → IsRwTurn c turn → asked_query turn ≡ Some q → (request : PortRequest) × (turn ≡ turns.Ask request) × (c.reading ≡ Some q)
 asks_query c (turns.Ask request) q is asks =
     (request, refl, is.1 ∙ sym (ap (λ (r : PortRequest). asked_query (turns.Ask r)) is.2) ∙ asks)
 asks_query c (turns.Value value) q is asks = absurd (cc asks)
@@ -66,7 +66,7 @@ asks_query c (turns.Rows rows) q is asks = absurd (cc asks)
 asks_query c (turns.Refused error) q is asks = absurd (cc asks)
 
 -- the database's answer at the base is right
-pub right_answer : (p : PortsValue) (c : RwValue) (query : Query) (base : ℕ) (found : Result Found DbError) → AnswerLeads query base p found → base ≡ c.base
+pub right_answer : (p : PortsValue) (c : RwValue) (query : Query) (base : ℕ) (found : Result Found DbError) → QueryLeads query base p found → base ≡ c.base
     → c.reading ≡ Some query → IsRightReply p.database.history c found
 right_answer p c query base (Ok found) leads at asked = λ q is.
     let same : query ≡ q = (let both : Some query ≡ Some q = sym asked ∙ is in cc both) in
@@ -85,7 +85,7 @@ pub of_query : (need : Option Need) (turn : Turn) → need ≡ None → IsOfNeed
 of_query need turn none kind = subst (λ (n : Option Need). IsOfNeed n turn) none kind
 
 -- once it has ended nothing is open
-pub idle_after : (c : RwValue) (turn : Turn) → IsTurn c turn → IsOfQuery turn → IsIdle c
+pub idle_after : (c : RwValue) (turn : Turn) → IsRwTurn c turn → IsOfQuery turn → IsRwIdle c
 idle_after c (turns.Rows rows) is kind = is
 idle_after c (turns.Refused error) is kind = is
 idle_after c turn is kind = absurd kind
@@ -101,8 +101,8 @@ holds_with next L os c c' changes is h = subst (λ (v : RwValue). RwHolds next L
 
 pub still_open : (c c' : RwValue) (changes : List Change) (call : Option OpenCall) → call ≡ None → c' ≡ record c { changes = changes } → HasRwCall c call → HasRwCall c' call
 still_open c c' changes call none is h =
-    let idle : IsIdle c = subst (λ (o : Option OpenCall). HasRwCall c o) none h in
-    let idle' : IsIdle c' = subst (λ (v : RwValue). IsIdle v) (sym is) idle in
+    let idle : IsRwIdle c = subst (λ (o : Option OpenCall). HasRwCall c o) none h in
+    let idle' : IsRwIdle c' = subst (λ (v : RwValue). IsRwIdle v) (sym is) idle in
     subst (λ (o : Option OpenCall). HasRwCall c' o) (sym none) idle'
 
 -- ---- what comes of each step
@@ -115,19 +115,19 @@ needs_query (Some p) (Some need) q fits is some =
     let same : p ≡ q = cc is in
     ap (λ (n : Need). Some n) (fits ∙ ap (λ (x : Query). needs.Query x) same)
 
-pub answered_at : (query : Query) (stamp base : ℕ) (p : PortsValue) (found : Result Found DbError) → stamp ≡ base → AnswerLeads query stamp p found → AnswerLeads query base p found
-answered_at query stamp base p found same leads = subst (λ (n : ℕ). AnswerLeads query n p found) same leads
+pub answered_at : (query : Query) (stamp base : ℕ) (p : PortsValue) (found : Result Found DbError) → stamp ≡ base → QueryLeads query stamp p found → QueryLeads query base p found
+answered_at query stamp base p found same leads = subst (λ (n : ℕ). QueryLeads query n p found) same leads
 
-pub answered_rows : (query : Query) (base : ℕ) (p : PortsValue) (found : Result Found DbError) (f : Found) → AnswerLeads query base p found → found ≡ Ok f
+pub answered_rows : (query : Query) (base : ℕ) (p : PortsValue) (found : Result Found DbError) (f : Found) → QueryLeads query base p found → found ≡ Ok f
     → f.rows.items ≡ answer query (state_at p.database.history base)
-answered_rows query base p found f leads is = (subst (λ (r : Result Found DbError). AnswerLeads query base p r) is leads).0.answer.rows
+answered_rows query base p found f leads is = (subst (λ (r : Result Found DbError). QueryLeads query base p r) is leads).0.answer.rows
 
 pub queried_so : (queried : List Query) (reading : Option Query) (q : Query) (found : Result Found DbError) (now : List Query) → reading ≡ Some q
     → now ≡ queried_after queried reading found → now ≡ queried_after queried (Some q) found
 queried_so queried reading q found now is h = subst (λ (r : Option Query). now ≡ queried_after queried r found) is h
 
 -- a query of its own
-pub found_leads : (query : Query) (base : ℕ) (p : PortsValue) (found : Result Found DbError) (turn : Turn) → AnswerLeads query base p found
+pub found_leads : (query : Query) (base : ℕ) (p : PortsValue) (found : Result Found DbError) (turn : Turn) → QueryLeads query base p found
     → ((f : Found) → found ≡ Ok f → RowsLead f.rows.items turn) → ((e : DbError) → found ≡ Err e → turn ≡ turns.Refused (refused_request e)) → FindLeadsRw query base p turn
 found_leads query base p (Ok f) (turns.Rows rows) leads on off = (f, leads, on f refl)
 found_leads query base p (Ok f) (turns.Refused e) leads on off = inl (on f refl)
@@ -136,7 +136,7 @@ found_leads query base p (Ok f) (turns.Value value) leads on off = absurd (on f 
 found_leads query base p (Err e) turn leads on off = subst (λ (t : Turn). FindLeadsRw query base p t) (sym (off e refl)) (inr (e, leads, refl))
 
 -- the query that is asked is the one
-pub asks_it : (query q : Query) (stamp : ℕ) (turn : Turn) → IsAsked query stamp turn → asked_query turn ≡ Some q → query ≡ q
+pub asks_it : (query q : Query) (stamp : ℕ) (turn : Turn) → AsksQueryAt query stamp turn → asked_query turn ≡ Some q → query ≡ q
 asks_it query q stamp (turns.Ask request) asked is =
     let some : asked_query (turns.Ask request) ≡ Some query = ap (λ (r : PortRequest). asked_query (turns.Ask r)) asked in
     let both : Some query ≡ Some q = sym some ∙ is in cc both

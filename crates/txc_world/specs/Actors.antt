@@ -26,10 +26,10 @@ use Rattle.txc_world.specs.declared.did.Did.TheVariants.{Hit, Miss}
 use Rattle.txc_world.specs.declared.reply.End.{End}
 use Rattle.txc_world.specs.declared.reply.End.TheVariants as ends
 use Rattle.txc_txn.specs.declared.pinning.PinStep.TheVariants.{Dropping}
-use Rattle.txc_txn.specs.Core.{CoreValue, begun_core, open_call, IsAt, IsIdle, IsNoValue, IsTurn}
+use Rattle.txc_txn.specs.Core.{CoreValue, begun_core, open_call, IsPinningAt, IsIdle, IsNoValue, IsTurn}
 use Rattle.txc_rw.specs.declared.given.Given.{Given}
 use Rattle.txc_rw.specs.Core.{answers_after, IsOfCall, RwHolds, RwValue}
-use Rattle.txc_rw.specs.Core.{IsIdle as IsRwIdle, IsRw, IsTurn as IsRwTurn}
+use Rattle.txc_rw.specs.Core.{IsRw, IsRwIdle, IsRwTurn}
 use Rattle.txc_ports.specs.Turns.{IsAsk}
 use Rattle.txc_world.specs.declared.actor.OpenCall.{OpenCall}
 use Rattle.txc_world.specs.declared.actor.OpenTxn.{OpenTxn}
@@ -43,8 +43,8 @@ use Rattle.txc_world.specs.declared.reply.Refusal.TheVariants.{Memory, Transacti
 use Rattle.txc_world.specs.Parts.{IsPartOf}
 use Rattle.txc_world.specs.Ports.{PortsValue}
 use Rattle.txc_ports.specs.Asking.{AddsSuch, IsReplyTo}
-use Rattle.txc_world.specs.Asks.{AskLeads, DoesTell, FreshLeads}
-use Rattle.txc_world.specs.Cast.{called, ActorValue, CallValue, reads, resting, leaves}
+use Rattle.txc_world.specs.Asks.{DoesTell, FreshLeads, PortRequestLeads}
+use Rattle.txc_world.specs.Cast.{call_at_turn, ActorValue, CallValue, reads, resting, leaves}
 use Rattle.txc_world.specs.Keeping.{GiveBackLeads}
 use Rattle.txc_world.specs.Losing.{IfLost, IfTurnLost}
 use Rattle.txc_world.specs.Told.{Story, idle, reading, writing, leaving}
@@ -55,7 +55,7 @@ AddsPart whole turn = AddsSuch (IsPartOf whole) turn
 
 -- the reason that waits for the hold of a pin to be taken away is of no snapshot that is gone
 abbrev pub DropsNone : CoreValue → Type 0
-DropsNone c = (stamp : ℕ) (error : TxnError) → IsAt c (Dropping stamp error) → IfLost error ⊥
+DropsNone c = (stamp : ℕ) (error : TxnError) → IsPinningAt c (Dropping stamp error) → IfLost error ⊥
 
 -- the call's next turn is one of the core's, which has it open under its key while it asks; it is no value,
 -- asks to add only what the whole shows, and has lost no snapshot
@@ -79,7 +79,7 @@ pub record IsOpenTxn {A C : Type 0} (whole : FrontValue) (count : ℕ) (o : Open
   pub call : HasCall whole o.txn.core o.call
 
 -- a core that has begun within the bounds
-pub record IsBegun (whole : FrontValue) (count : ℕ) (bounds : Bounds) (c : CoreValue) : Type 0 where
+pub record HasBegunWithin (whole : FrontValue) (count : ℕ) (bounds : Bounds) (c : CoreValue) : Type 0 where
   pub seen : IsPartOf whole c.seen
   pub nodes : c.nodes ≡ count
   pub is_idle : IsIdle c
@@ -128,9 +128,9 @@ IsActor next whole count (Writing o) = IsOpenRw next whole.history o
 IsActor next whole count (Leaving objects stamp) = AllIdle objects
 
 -- nobody is in the middle of a step
-abbrev pub IsThere : {A C : Type 0} → Next → FrontValue → ℕ → Option (Actor A C) → Type 0
-IsThere next whole count None = ⊥
-IsThere next whole count (Some actor) = IsActor next whole count actor
+abbrev pub IsActorThere : {A C : Type 0} → Next → FrontValue → ℕ → Option (Actor A C) → Type 0
+IsActorThere next whole count None = ⊥
+IsActorThere next whole count (Some actor) = IsActor next whole count actor
 
 -- ---- turns of a call
 
@@ -170,26 +170,26 @@ counted members did = did
 -- ---- what comes of a step
 
 -- a core began with the pins that the pincushion handed out for the bounds
-pub record HasBegun (renew_after : ℕ) (bounds : Bounds) (old new : PortsValue) (c : CoreValue) : Type 0 where
+pub record CoreHasBegun (renew_after : ℕ) (bounds : Bounds) (old new : PortsValue) (c : CoreValue) : Type 0 where
   pub pins : Pins
   pub fresh : FreshLeads {A = Unit {0}} bounds.now bounds.staleness bounds.at_least old new (Ok pins)
   pub core : c ≡ begun_core (length old.nodes) renew_after bounds pins c.call
 
 -- a transaction began, with no call and with the functions as they are; or the actor has nothing open, and all is
 -- as it was
-abbrev pub BeginLeads : ℕ → Bounds → PortsValue → PortsValue → Objects → ActorValue → Reply → Type 0
-BeginLeads renew_after bounds old new objects (reads r) reply =
-    HasBegun renew_after bounds old new r.txn.core × (r.txn.objects ≡ objects) × (r.call ≡ None)
+abbrev pub TxnBeginLeads : ℕ → Bounds → PortsValue → PortsValue → Objects → ActorValue → Reply → Type 0
+TxnBeginLeads renew_after bounds old new objects (reads r) reply =
+    CoreHasBegun renew_after bounds old new r.txn.core × (r.txn.objects ≡ objects) × (r.call ≡ None)
     × (reply ≡ Begun)
-BeginLeads renew_after bounds old new objects (resting left) reply = (reply ≡ replies.Refused Memory)
+TxnBeginLeads renew_after bounds old new objects (resting left) reply = (reply ≡ replies.Refused Memory)
     × (new ≡ old) × (left ≡ objects)
-BeginLeads renew_after bounds old new objects actor reply = ⊥
+TxnBeginLeads renew_after bounds old new objects actor reply = ⊥
 
 -- a call is open, with the turn that its start came to
 pub record HasStarted (key : Call) (before : TxnValue) (actor : ActorValue) : Type 0 where
   pub txn : TxnValue
   pub turn : Turn
-  pub actor_is : actor ≡ reads (record { txn = txn; call = Some (called key turn) })
+  pub actor_is : actor ≡ reads (record { txn = txn; call = Some (call_at_turn key turn) })
   pub leads : StartLeads before.core before.objects key txn.core txn.objects turn
   pub same : txn.core ≡ record before.core { call = txn.core.call; pinning = txn.core.pinning }
 
@@ -201,7 +201,7 @@ pub record HasAsked (next : Next) (pass : ℕ) (request : PortRequest) (old new 
   pub port : Did
   pub right : IsReplyTo next request reply
   pub tells : DoesTell reply port
-  pub leads : AskLeads pass before.core.seen request old new port reply
+  pub leads : PortRequestLeads pass before.core.seen request old new port reply
   pub counts : did ≡ counted before.core.pins.members port
   pub went : HasGoneOn next before reply after turn
 
@@ -216,7 +216,7 @@ pub record HasRequested (next : Next) (pass : ℕ) (key : Call) (request : PortR
   pub actor_is : actor ≡ reads (record { txn = txn; call = call })
   pub reply_is : reply ≡ Asked did end
   pub asks : HasAsked next pass request old new before txn did turn
-  pub noted : IsNoted (called key) turn call end
+  pub noted : IsNoted (call_at_turn key) turn call end
 
 -- a request at a turn of the open call: it is made; or the call had ended, which is told, and no port was
 -- asked

@@ -14,7 +14,7 @@ use Rattle.txc_world.specs.Ports.{PortsValue}
 use Rattle.txc_world.specs.Asks.{UnpinTold}
 use Rattle.txc_world.specs.Kept.{KeepLeads}
 use Rattle.txc_world.specs.Cast.{ActorValue, ReadingValue, WritingValue, resting, reads, writes, leaves}
-use Rattle.txc_world.specs.Actors.{BeginLeads, HasGivenBack, HasStarted, IsGivenUp, RequestLeads}
+use Rattle.txc_world.specs.Actors.{HasGivenBack, HasStarted, IsGivenUp, RequestLeads, TxnBeginLeads}
 use Rattle.txc_world.specs.Writing.{BeginRwLeads, CommitLeadsRw, HasFoundRw, HasStartedRw, RequestLeadsRw, WriteLeadsRw}
 use Rattle.txc_world.specs.Told.{after, begin_at, floor_at}
 use Rattle.txc_world.specs.Worlds.{IsTrueWorld, WorldValue}
@@ -28,7 +28,7 @@ NothingDone old new before after = (new ≡ old) × (after ≡ before)
 -- with nothing open it begins a transaction, or does nothing
 abbrev pub RestingLeads : ℕ → Act → PortsValue → PortsValue → Objects → ActorValue → Reply → Type 0
 RestingLeads renew_after (BeginRo bounds) old new objects actor reply =
-    BeginLeads renew_after bounds old new objects actor reply
+    TxnBeginLeads renew_after bounds old new objects actor reply
 RestingLeads renew_after BeginRw old new objects actor reply = BeginRwLeads old new objects actor reply
 RestingLeads renew_after act old new objects actor reply = NothingDone old new (resting objects) actor
 

@@ -24,7 +24,7 @@ use Rattle.txc_ports.specs.declared.request.PortRequest.TheVariants as requests
 use Rattle.txc_ports.specs.declared.reply.PortReply.{PortReply}
 use Rattle.txc_ports.specs.declared.reply.PortReply.TheVariants as replies
 use Rattle.txc_ports.specs.Asking.{IsFoundOver, IsOfRow, IsReplyTo}
-use Rattle.txc_ports.specs.Fronts.{front_of as shown_by}
+use Rattle.txc_ports.specs.Fronts.{front_of_reply as shown_by}
 use Rattle.txc_world.specs.declared.did.RowsFound.{RowsFound}
 use Rattle.txc_world.specs.declared.did.Did.{Did}
 use Rattle.txc_world.specs.declared.did.Did.TheVariants as dids
@@ -84,12 +84,12 @@ pub record IsAnswerOf (query : Query) (stamp : ℕ) (p : PortsValue) (found : Fo
   pub answer : IsAnswer (state_at p.database.history) query stamp p.database.horizon (newest p.database) found
   pub tag : found.tags ≡ query_tag query ∷ []
 
-abbrev pub AnswerLeads : Query → ℕ → PortsValue → Result Found DbError → Type 0
-AnswerLeads query stamp p (Ok found) = IsAnswerOf query stamp p found × IsAnswerable p.database stamp
-AnswerLeads query stamp p (Err e) = IsQueryRefused p.database query stamp e
+abbrev pub QueryLeads : Query → ℕ → PortsValue → Result Found DbError → Type 0
+QueryLeads query stamp p (Ok found) = IsAnswerOf query stamp p found × IsAnswerable p.database stamp
+QueryLeads query stamp p (Err e) = IsQueryRefused p.database query stamp e
 
 -- the answer of the query at the stamp, with its validity and its tag, and a front of the whole history
-pub record HasFound (query : Query) (stamp : ℕ) (p : PortsValue) (found : Answered Found) : Type 0 where
+pub record IsAnswerWithFront (query : Query) (stamp : ℕ) (p : PortsValue) (found : Answered Found) : Type 0 where
   pub answer : IsAnswer (state_at p.database.history) query stamp p.database.horizon (newest p.database)
       found.answer
   pub tag : found.answer.tags ≡ query_tag query ∷ []
@@ -97,7 +97,7 @@ pub record HasFound (query : Query) (stamp : ℕ) (p : PortsValue) (found : Answ
   pub over : IsFoundOver found.front.history query stamp found.answer
 
 abbrev pub FindLeads : Query → ℕ → PortsValue → Result (Answered Found) DbError → Type 0
-FindLeads query stamp p (Ok found) = HasFound query stamp p found × IsAnswerable p.database stamp
+FindLeads query stamp p (Ok found) = IsAnswerWithFront query stamp p found × IsAnswerable p.database stamp
 FindLeads query stamp p (Err e) = IsQueryRefused p.database query stamp e
 
 -- what is told of the rows found: their ids, in order, with their reach and tags
@@ -142,20 +142,20 @@ UnpinTold stamp old new did = ⊥
 
 -- What comes of a request: a pin, or the hold of one taken away; a pin added; a lookup or an insertion at
 -- the node of its number, as a step of the pass; or a query, which changes nothing.
-abbrev pub AskLeads : ℕ → FrontValue → PortRequest → PortsValue → PortsValue → Did → PortReply → Type 0
-AskLeads pass seen (requests.Pin now at_least) old new did (replies.Pin pinned) =
+abbrev pub PortRequestLeads : ℕ → FrontValue → PortRequest → PortsValue → PortsValue → Did → PortReply → Type 0
+PortRequestLeads pass seen (requests.Pin now at_least) old new did (replies.Pin pinned) =
     PinLeads now at_least old new pinned
-AskLeads pass seen (requests.AddPin pinned) old new did (replies.AddPin given added) =
+PortRequestLeads pass seen (requests.AddPin pinned) old new did (replies.AddPin given added) =
     AddLeads pinned old new added
-AskLeads pass seen (requests.Unpin stamp) old new did replies.Unpin = UnpinTold stamp old new did
-AskLeads pass seen (requests.Lookup node key lo hi) old new did (replies.Lookup hit) =
+PortRequestLeads pass seen (requests.Unpin stamp) old new did replies.Unpin = UnpinTold stamp old new did
+PortRequestLeads pass seen (requests.Lookup node key lo hi) old new did (replies.Lookup hit) =
     HasLedNode node (λ was is. LookupLeads pass key lo hi was is (option_map (λ h. h.answer) hit)) old new
-AskLeads pass seen (requests.Query query stamp) old new did (replies.Query found) =
+PortRequestLeads pass seen (requests.Query query stamp) old new did (replies.Query found) =
     (new ≡ old) × FindLeads query stamp old found
-AskLeads pass seen (requests.Insert node entry) old new did replies.Insert = (made : Option Insertion)
+PortRequestLeads pass seen (requests.Insert node entry) old new did replies.Insert = (made : Option Insertion)
     × (did ≡ did_insert made)
     × HasLedNode node (λ was is. InsertLeads pass seen entry was is made) old new
-AskLeads pass seen request old new did reply = ⊥
+PortRequestLeads pass seen request old new did reply = ⊥
 
 -- the request asks for this moment, where it asks for a pin
 abbrev pub IsAskedAt : ℕ → PortRequest → Type 0

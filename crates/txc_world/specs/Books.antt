@@ -33,14 +33,14 @@ abbrev pub handed : List Pin → Account
 handed pins = record { taken = map (λ p. p.stamp) pins; own = [] }
 
 -- the stamp, if there is one
-abbrev pub listed : Option ℕ → List ℕ
-listed None = []
-listed (Some stamp) = stamp ∷ []
+abbrev pub stamp_if_any : Option ℕ → List ℕ
+stamp_if_any None = []
+stamp_if_any (Some stamp) = stamp ∷ []
 
 -- a read-only transaction has what it took, and the hold of a pin that is not added yet; a read-write one has
 -- that of its base; and one that has ended has the hold that is left
 abbrev pub account_of_core : CoreValue → Account
-account_of_core c = record { taken = c.taken; own = listed (left_pin c.pinning) }
+account_of_core c = record { taken = c.taken; own = stamp_if_any (left_pin c.pinning) }
 
 abbrev pub account_of : {A C : Type 0} → Actor A C → Account
 account_of (Idle objects) = nothing
@@ -104,12 +104,12 @@ spent request = nothing
 
 -- what a reply brings: a user of a pin that was added, or the hold of one that is not
 abbrev pub gained : PortReply → Account
-gained reply = record { taken = taken_after [] reply; own = listed (left_after reply) }
+gained reply = record { taken = taken_after [] reply; own = stamp_if_any (left_after reply) }
 
 -- what is asked at the stamp is gone only where it is held no more; and nothing else is refused so
-abbrev pub IsGone : PortRequest → PortsValue → Did → Type 0
-IsGone (requests.Query query stamp) p did = IfDidLose did (times stamp p.database.holds ≡ 0)
-IsGone request p did = IfDidLose did ⊥
+abbrev pub LosesOnlyUnheld : PortRequest → PortsValue → Did → Type 0
+LosesOnlyUnheld (requests.Query query stamp) p did = IfDidLose did (times stamp p.database.holds ≡ 0)
+LosesOnlyUnheld request p did = IfDidLose did ⊥
 
 -- a stamp of the account is held no more
 pub record HasLost (p : PortsValue) (account : Account) : Type 0 where
@@ -121,7 +121,7 @@ pub record HasLost (p : PortsValue) (account : Account) : Type 0 where
 pub record AskCounts (request : PortRequest) (old new : PortsValue) (did : Did) (reply : PortReply)
     : Type 0 where
   pub fair : IsFair old new (spent request) (gained reply)
-  pub gone : IsGone request old did
+  pub gone : LosesOnlyUnheld request old did
 
 -- one step of an actor: it is fair, and is refused for a snapshot that is gone only where one of its own is
 pub record ActCounts (old new : PortsValue) (before after : Account) (reply : Reply) : Type 0 where

@@ -37,8 +37,8 @@ pub data ActorValue : Type 0 where
   leaves : Objects → ℕ → ActorValue
 
 -- a call of this key, by its turn
-abbrev pub called : Call → Turn → CallValue
-called key turn = record { key = key; turn = turn }
+abbrev pub call_at_turn : Call → Turn → CallValue
+call_at_turn key turn = record { key = key; turn = turn }
 
 -- ---- what they are made from
 
@@ -47,7 +47,7 @@ abbrev pub opened : Call → Turn → OpenCall
 opened key turn = record { key = key; turn = turn }
 
 abbrev pub call_value : OpenCall → CallValue
-call_value call = called call.key call.turn
+call_value call = call_at_turn call.key call.turn
 
 abbrev pub reading_value : {A C : Type 0} → OpenTxn A C → ReadingValue
 reading_value o = record { txn = o.txn; call = option_map call_value o.call }

@@ -53,8 +53,8 @@ IsToldAnswer query stamp p rows = (found : Found)
 -- ---- the keeper's pins
 
 -- the stamps of the pins that the keeper has
-abbrev pub stamps_of : List Pinned → List ℕ
-stamps_of spare = map (λ pinned. pinned.stamp) spare
+abbrev pub stamps_of_pins : List Pinned → List ℕ
+stamps_of_pins spare = map (λ pinned. pinned.stamp) spare
 
 -- the keeper has a pin more, which it has just made
 pub record HasPinnedSpare (now : ℕ) (old new : PortsValue) (stamp : ℕ) : Type 0 where
@@ -75,15 +75,15 @@ pub record HasAddedSpare {A : Type 0} (stamp : ℕ) (old new : PortsValue) (repl
   pub pinned : Pinned
   pub there : slice_get old.spare at ≡ Some pinned
   pub stamp_is : pinned.stamp ≡ stamp
-  pub held : is_held stamp (stamps_of old.spare) ≡ true
-  pub spare : stamps_of new.spare ≡ without stamp (stamps_of old.spare)
+  pub held : is_held stamp (stamps_of_pins old.spare) ≡ true
+  pub spare : stamps_of_pins new.spare ≡ without stamp (stamps_of_pins old.spare)
   pub added : AddLeads pinned (record old { spare = remove old.spare at }) new reply
 
 -- of adding a pin of the keeper's: it had it, and adds it; or it has none of the stamp, and nothing has
 -- changed
 abbrev pub AddSpareLeads : {A : Type 0} → ℕ → PortsValue → PortsValue → Option (Result A AddError) → Type 0
 AddSpareLeads stamp old new (Some added) = HasAddedSpare stamp old new added
-AddSpareLeads stamp old new None = (new ≡ old) × (is_held stamp (stamps_of old.spare) ≡ false)
+AddSpareLeads stamp old new None = (new ≡ old) × (is_held stamp (stamps_of_pins old.spare) ≡ false)
 
 -- ---- the pincushion
 

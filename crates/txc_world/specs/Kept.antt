@@ -60,6 +60,6 @@ told_addition (Some (Err e)) = Refused (refusals.Pincushion e)
 told_addition None = Refused refusals.NoRequest
 
 -- the step left the ports so, and kept their row
-pub record IsKept (keep : Keep) (old new : PortsValue) (reply : Reply) : Type 0 where
+pub record IsKeeperStep (keep : Keep) (old new : PortsValue) (reply : Reply) : Type 0 where
   pub leads : KeepLeads keep old new reply
   pub keeps : KeepsRow old new

@@ -5,29 +5,29 @@ use Rattle.txc_db.specs.Seen.{FrontValue}
 use Rattle.txc_node.specs.declared.entry.Entry.{Entry}
 use Rattle.txc_node.specs.declared.hit.Shown.{Shown}
 use Rattle.txc_node.specs.declared.op.Op.TheVariants.{Insert, Lookup, Sweep}
-use Rattle.txc_node.specs.Cache.{answer, outcome, swept_count}
+use Rattle.txc_node.specs.Cache.{lookup_answer, outcome, swept_count}
 use Rattle.txc_shared.specs.declared.advanced.Advanced.{Advanced}
 use Rattle.txc_shared.specs.declared.error.NodeError.{NodeError}
 use Rattle.txc_shared.specs.declared.error.NodeError.TheVariants.{Memory}
 use Rattle.txc_shared.specs.declared.insertion.Insertion.{Insertion}
 use Rattle.txc_shared.specs.Nodes.{NodeValue, after_call, seeing, insertion_of, HasAdvanced, IsLonger}
-use Rattle.txc_shared.specs.Refusals.{IsLeft, IsLookupRefused, IsOpen, IsStepRefused}
+use Rattle.txc_shared.specs.Refusals.{CanRecord, IsLookupRefused, IsNodeLeft, IsStepRefused}
 
 -- the node refused the lookup
 abbrev pub HasRefusedLookup : NodeValue → ℕ → ℕ → NodeValue → Type 0
-HasRefusedLookup old lo hi new = (e : NodeError) × IsLookupRefused old lo hi e × IsLeft old new e
+HasRefusedLookup old lo hi new = (e : NodeError) × IsLookupRefused old lo hi e × IsNodeLeft old new e
 
 -- Of a lookup: the node made the step, and shows what it has of the call, or has nothing; or it refused,
 -- which is a miss.
 abbrev pub LookupLeads : ℕ → Call → ℕ → ℕ → NodeValue → NodeValue → Option Shown → Type 0
 LookupLeads pass key lo hi old new (Some shown) = (new ≡ after_call old pass (Lookup key lo hi))
-    × (answer old.cache key lo hi ≡ Some shown)
+    × (lookup_answer old.cache key lo hi ≡ Some shown)
 LookupLeads pass key lo hi old new None =
-    ((new ≡ after_call old pass (Lookup key lo hi)) × (answer old.cache key lo hi ≡ None))
+    ((new ≡ after_call old pass (Lookup key lo hi)) × (lookup_answer old.cache key lo hi ≡ None))
     ⊎ HasRefusedLookup old lo hi new
 
 -- the node has seen what the front shows, and then made the step of the insertion
-pub record HasInserted (pass : ℕ) (seen : FrontValue) (entry : Entry) (old new : NodeValue)
+pub record NodeHasInserted (pass : ℕ) (seen : FrontValue) (entry : Entry) (old new : NodeValue)
     (insertion : Insertion) : Type 0 where
   pub longer : IsLonger old.seen seen new.seen
   pub after : new ≡ after_call (seeing old new.seen) pass (Insert entry)
@@ -35,11 +35,11 @@ pub record HasInserted (pass : ℕ) (seen : FrontValue) (entry : Entry) (old new
 
 -- the node refused the step
 abbrev pub HasRefusedStep : NodeValue → NodeValue → Type 0
-HasRefusedStep old new = (e : NodeError) × IsStepRefused old e × IsLeft old new e
+HasRefusedStep old new = (e : NodeError) × IsStepRefused old e × IsNodeLeft old new e
 
 -- Of an insertion: the node made the step; or it refused, and keeps nothing.
 abbrev pub InsertLeads : ℕ → FrontValue → Entry → NodeValue → NodeValue → Option Insertion → Type 0
-InsertLeads pass seen entry old new (Some insertion) = HasInserted pass seen entry old new insertion
+InsertLeads pass seen entry old new (Some insertion) = NodeHasInserted pass seen entry old new insertion
 InsertLeads pass seen entry old new None = HasRefusedStep old new
 
 -- ---- steps of the keeper
@@ -54,10 +54,10 @@ IsAdvanceRefused n e = IsStepRefused n e
 abbrev pub AdvanceLeads : ℕ → FrontValue → NodeValue → NodeValue → Result Advanced NodeError → Type 0
 AdvanceLeads pass whole old new (Ok advanced) = (old.broken ≡ false)
     × HasAdvanced (seeing old whole) pass new advanced
-AdvanceLeads pass whole old new (Err e) = IsLeft old new e × IsAdvanceRefused old e
+AdvanceLeads pass whole old new (Err e) = IsNodeLeft old new e × IsAdvanceRefused old e
 
 -- of a sweep: the node made the step, and answers how many entries it dropped; or it refused
 abbrev pub SweepLeads : ℕ → ℕ → NodeValue → NodeValue → Result ℕ NodeError → Type 0
-SweepLeads pass horizon old new (Ok count) = IsOpen old × (new ≡ after_call old pass (Sweep horizon))
+SweepLeads pass horizon old new (Ok count) = CanRecord old × (new ≡ after_call old pass (Sweep horizon))
     × (count ≡ swept_count old.cache horizon)
-SweepLeads pass horizon old new (Err e) = IsLeft old new e × IsStepRefused old e
+SweepLeads pass horizon old new (Err e) = IsNodeLeft old new e × IsStepRefused old e

@@ -7,7 +7,7 @@ use Rattle.txc_db.specs.Seen.{FrontValue}
 use Rattle.txc_db.specs.DatabaseValue.{DatabaseValue, front_of}
 use Rattle.txc_db.specs.Calls.{IsLeft}
 use Rattle.txc_cushion.specs.Cushion.{CushionValue}
-use Rattle.txc_cushion.specs.Cushion.{front_of as cushion_front}
+use Rattle.txc_cushion.specs.Cushion.{cushion_front}
 use Rattle.txc_shared.specs.Nodes.{NodeValue}
 use Rattle.txc_world.specs.Parts.{IsPartOf}
 

@@ -36,8 +36,8 @@ HaveToldAtMost place most happened = AllByRecursion (λ x. ToldAtMost place most
 -- Nobody goes back, where an actor began a transaction in its session, and committed it, with no other begun in
 -- between. The stamp of its receipt is not below any that the actor was told before, of a receipt or of
 -- the commit of a read-write transaction, begun in the session or not.
-abbrev pub NobodyGoesBack : List Step → List Reply → Type 0
-NobodyGoesBack steps replies =
+abbrev pub NoActorGoesBack : List Step → List Reply → Type 0
+NoActorGoesBack steps replies =
     (place now staleness : ℕ) (pin : Pin) (before between after : List (Step × Reply))
     → replied steps replies ≡ before ++ ((BeginIn place now staleness, Begun) ∷ (between
     ++ ((Actor place Commit, Receipt (Some pin)) ∷ after)))

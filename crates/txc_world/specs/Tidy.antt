@@ -11,7 +11,7 @@ use Rattle.txc_world.specs.declared.reply.Reply.TheVariants as replies
 use Rattle.txc_world.specs.declared.reply.Reply.TheVariants.{Refused}
 use Rattle.txc_world.specs.declared.reply.Refusal.TheVariants as refusals
 use Rattle.txc_world.specs.Books.{books_of, times_own, times_taken, Account, Books}
-use Rattle.txc_world.specs.Keeping.{stamps_of as stamps_of_pins}
+use Rattle.txc_world.specs.Keeping.{stamps_of_pins}
 use Rattle.txc_world.specs.Losing.{IfReplyLost}
 use Rattle.txc_world.specs.Ports.{PortsValue}
 

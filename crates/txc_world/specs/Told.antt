@@ -69,14 +69,14 @@ pub record Told : Type 0 where
 -- ---- what an actor's step tells
 
 -- the answered call stands after those before it
-abbrev pub answered : Option Call → List ℕ → List Recorded → List Recorded
-answered None value answers = answers
-answered (Some key) value answers = answers ++ record { key = key; value = value } ∷ []
+abbrev pub with_answered_call : Option Call → List ℕ → List Recorded → List Recorded
+with_answered_call None value answers = answers
+with_answered_call (Some key) value answers = answers ++ record { key = key; value = value } ∷ []
 
 -- the call has ended so, or goes on
 abbrev pub after_end : Option End → Reading → Reading
 after_end None r = r
-after_end (Some (ends.Value value)) r = record r { call = None; answers = answered r.call value r.answers }
+after_end (Some (ends.Value value)) r = record r { call = None; answers = with_answered_call r.call value r.answers }
 after_end (Some (ends.Refused error)) r = record r { call = None }
 
 -- the same of a read-write transaction
@@ -200,9 +200,9 @@ IsNoCommit (At stamp) = ⊥
 IsNoCommit reply = Unit {0}
 
 -- the receipt explains the answers of the actor's transaction within its bounds
-abbrev pub IsReceiptOf : Next → History → Story → Option Pin → Type 0
-IsReceiptOf next L (reading r) pin = Explains next L r.bounds pin r.answers
-IsReceiptOf next L story pin = ⊥
+abbrev pub IsReceiptOfStory : Next → History → Story → Option Pin → Type 0
+IsReceiptOfStory next L (reading r) pin = Explains next L r.bounds pin r.answers
+IsReceiptOfStory next L story pin = ⊥
 
 -- What a commit that was replied this stamp made of a history of so many events, up to the stamp. No event
 -- was added, nothing changes in the newest state, and each answer is right there; or the event of the net
@@ -224,7 +224,7 @@ IsCommitOf next L count story stamp = ⊥
 
 -- what is replied explains what was told of the actor, when the history had so many events
 abbrev pub ReplyExplains : Next → History → ℕ → Story → Reply → Type 0
-ReplyExplains next L count story (Receipt pin) = IsReceiptOf next L story pin
+ReplyExplains next L count story (Receipt pin) = IsReceiptOfStory next L story pin
 ReplyExplains next L count story (At stamp) = IsCommitOf next L count story stamp
 ReplyExplains next L count story reply = Unit {0}
 

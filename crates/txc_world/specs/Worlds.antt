@@ -13,9 +13,9 @@ use Rattle.txc_world.specs.declared.reply.Refusal.{Refusal}
 use Rattle.txc_world.specs.declared.reply.Refusal.TheVariants.{NoActor, NotOpen}
 use Rattle.txc_world.specs.Told.{Reading, Story, idle, reading, writing, leaving, Told}
 use Rattle.txc_world.specs.Ports.{PortsValue, whole_of}
-use Rattle.txc_world.specs.Keeping.{stamps_of}
+use Rattle.txc_world.specs.Keeping.{stamps_of_pins}
 use Rattle.txc_world.specs.Cast.{actor_at, ActorValue}
-use Rattle.txc_world.specs.Actors.{story_at, IsThere}
+use Rattle.txc_world.specs.Actors.{story_at, IsActorThere}
 use Rattle.txc_world.specs.Books.{account_at, books_of, Books}
 use Rattle.txc_world.specs.Tidy.{AreBalanced, Purse}
 
@@ -37,8 +37,8 @@ pub record WorldValue : Type 0 where
   pub ports : PortsValue
   pub actors : List ActorValue
 
-abbrev pub value_of : {A C : Type 0} → WorldSettings → PortsValue → List ℕ → List (Option (Actor A C)) → WorldValue
-value_of settings ports floors actors = record {
+abbrev pub value_of_world : {A C : Type 0} → WorldSettings → PortsValue → List ℕ → List (Option (Actor A C)) → WorldValue
+value_of_world settings ports floors actors = record {
   told = told_of settings ports floors actors;
   books = books_of ports (map account_at actors);
   ports = ports;
@@ -57,7 +57,7 @@ pub record IsWorld {A C : Type 0} (next : Next) (settings : WorldSettings) (port
   pub some : 1 ≤ settings.nodes
   pub passes : length actors ≡ ports.actors
   pub sessions : length floors ≡ length actors
-  pub there : All (IsThere next (whole_of ports) settings.nodes) actors
+  pub there : All (IsActorThere next (whole_of ports) settings.nodes) actors
 
 -- ---- between two steps
 
@@ -73,7 +73,7 @@ pub record IsTrueNode (next : Next) (whole : FrontValue) (n : NodeValue) : Type 
 -- are those that its keeper has. It has the nodes of its settings, each of which is true.
 pub record IsTrueWorld (next : Next) (w : WorldValue) : Type 0 where
   pub history : w.told.history ≡ w.ports.database.history
-  pub spare : w.told.spare ≡ stamps_of w.ports.spare
+  pub spare : w.told.spare ≡ stamps_of_pins w.ports.spare
   pub count : length w.ports.nodes ≡ w.told.settings.nodes
   pub nodes : All (IsTrueNode next (whole_of w.ports)) w.ports.nodes
 

@@ -16,16 +16,16 @@ use Rattle.txc_ports.specs.declared.turn.Turn.{Turn}
 use Rattle.txc_ports.specs.declared.turn.Turn.TheVariants as turns
 use Rattle.txc_ports.specs.Refusals.{refused_request}
 use Rattle.txc_rw.specs.Core.{queried_after, tags_read, IsBegun, RwValue}
-use Rattle.txc_rw.specs.Leading.{standing_of, CallLeads}
+use Rattle.txc_rw.specs.Leading.{standing_of, RwCallLeads}
 use Rattle.txc_world.specs.declared.did.Did.{Did}
 use Rattle.txc_world.specs.declared.reply.End.{End}
 use Rattle.txc_world.specs.declared.reply.Reply.{Reply}
 use Rattle.txc_world.specs.declared.reply.Reply.TheVariants.{Asked, At, Based, Ended, Kept, Refused}
 use Rattle.txc_world.specs.declared.reply.Refusal.TheVariants.{Database}
 use Rattle.txc_world.specs.Ports.{PortsValue}
-use Rattle.txc_world.specs.Asks.{AnswerLeads, DoesTellFound, HoldLeads}
+use Rattle.txc_world.specs.Asks.{DoesTellFound, HoldLeads, QueryLeads}
 use Rattle.txc_world.specs.Keeping.{CommitLeads}
-use Rattle.txc_world.specs.Cast.{called, ActorValue, CallValue, WritingValue, resting, writes}
+use Rattle.txc_world.specs.Cast.{call_at_turn, ActorValue, CallValue, WritingValue, resting, writes}
 use Rattle.txc_world.specs.Actors.{asked_query, IsEndOf, IsGivenUp, IsNoted, IsToldQuery}
 
 -- a transaction began at the newest stamp, which is held, with the functions as they are; or the database
@@ -43,9 +43,9 @@ pub record HasStartedRw (next : Next) (key : Call) (before : WritingValue) (acto
   pub core : RwValue
   pub objects : Objects
   pub turn : Turn
-  pub actor_is : actor ≡ writes (record { core = core; objects = objects; call = Some (called key turn) })
+  pub actor_is : actor ≡ writes (record { core = core; objects = objects; call = Some (call_at_turn key turn) })
   pub leads : IsSome (activity_of before.objects key.function)
-      → (s : State) → CallLeads next s (standing_of (started key) before.objects) [] core objects turn
+      → (s : State) → RwCallLeads next s (standing_of (started key) before.objects) [] core objects turn
   pub missing : IsNone (activity_of before.objects key.function)
       → turn ≡ turns.Refused (CallRefused (NoFunction key.function))
   pub same : core ≡ record before.core { answers = core.answers; call = core.call; reading = core.reading }
@@ -55,11 +55,11 @@ pub record HasStartedRw (next : Next) (key : Call) (before : WritingValue) (acto
 pub record HasAskedRw (next : Next) (query : Query) (p : PortsValue) (before after : RwValue)
     (was is : Objects) (did : Did) (turn : Turn) : Type 0 where
   pub found : Result Found DbError
-  pub answer : AnswerLeads query before.base p found
+  pub answer : QueryLeads query before.base p found
   pub tells : DoesTellFound found did
   pub queried : after.queried ≡ queried_after before.queried (Some query) found
   pub leads : (f : Found) → found ≡ Ok f
-      → CallLeads next (state_at p.database.history before.base) (standing_of before.call was) (query ∷ [])
+      → RwCallLeads next (state_at p.database.history before.base) (standing_of before.call was) (query ∷ [])
       after is turn
   pub refused : (e : DbError) → found ≡ Err e → turn ≡ turns.Refused (refused_request e)
   pub same : after ≡ record before {
@@ -81,7 +81,7 @@ pub record HasRequestedRw (next : Next) (key : Call) (query : Query) (p : PortsV
   pub actor_is : actor ≡ writes (record { core = core; objects = objects; call = call })
   pub reply_is : reply ≡ Asked did end
   pub asks : HasAskedRw next query p before.core core before.objects objects did turn
-  pub noted : IsNoted (called key) turn call end
+  pub noted : IsNoted (call_at_turn key) turn call end
 
 -- the call had ended so before any request, which is told, and nothing else has changed
 pub record HasEndedRw (turn : Turn) (before : WritingValue) (actor : ActorValue) (reply : Reply) : Type 0 where
@@ -99,10 +99,10 @@ RequestLeadsRw next key turn p before actor reply = MatchOption (asked_query tur
 -- a query of its own: its rows are those that were found at the base; or it is refused as the database
 -- refused, or as out of memory
 abbrev pub FindLeadsRw : Query → ℕ → PortsValue → Turn → Type 0
-FindLeadsRw query base p (turns.Rows rows) = (found : Found) × AnswerLeads query base p (Ok found)
+FindLeadsRw query base p (turns.Rows rows) = (found : Found) × QueryLeads query base p (Ok found)
     × (rows.items ≡ found.rows.items)
 FindLeadsRw query base p (turns.Refused e) = (e ≡ Memory)
-    ⊎ ((cause : DbError) × AnswerLeads query base p (Err cause) × (e ≡ refused_request cause))
+    ⊎ ((cause : DbError) × QueryLeads query base p (Err cause) × (e ≡ refused_request cause))
 FindLeadsRw query base p turn = ⊥
 
 -- a query whose rows are the turn's was read, beside those before it; one that is refused may have been

@@ -3,10 +3,10 @@ ghost use Rattle.std.specs.Prelude.{◌≡◌, ℕ, ◌≤◌, ◌<◌, All, IfO
 ghost use Rattle.txc_registry.specs.Objects.{AllIdle, Objects};
 ghost use Rattle.txc_app.specs.Eval.{Next};
 ghost use Rattle.txc_rw.specs.Core.{IsOfCall};
-ghost use Rattle.txc_txn.specs.Core.{open_call, recorded_after, value_of, CoreHolds, IsAsking, IsCore, IsTurn};
+ghost use Rattle.txc_txn.specs.Core.{open_call, recorded_after, value_of, CoreAsks, CoreHolds, IsCore, IsTurn};
 ghost use Rattle.txc_ports.specs.Turns.{IsAsk};
 ghost use Rattle.txc_world.specs.Acted.{IsActed};
-ghost use Rattle.txc_world.specs.Actors.{counted, holds_any, AddsPart, DropsNone, HasAsked, HasBegun, IsActor, IsBegun, IsNoted, IsOpenTxn};
+ghost use Rattle.txc_world.specs.Actors.{counted, holds_any, AddsPart, CoreHasBegun, DropsNone, HasAsked, HasBegunWithin, IsActor, IsNoted, IsOpenTxn};
 ghost use Rattle.txc_world.specs.Acts.{ActLeads, LeavingLeads, ReadingLeads, RestingLeads};
 ghost use Rattle.txc_world.specs.Cast.{actor_value, opened, reading_value};
 ghost use Rattle.txc_world.specs.Books.{account_of_core, nothing, HasLost, IsFair};
@@ -44,9 +44,9 @@ fn begun<A: App>(
         → IsCore next objects (value_of core)) }
     ensures holds { IfOk result (λ core. (next : Next) (objects : Objects)
         → CoreHolds next (value_of core).seen.history objects (value_of core)) }
-    ensures core { IfOk result (λ core. IsBegun (whole_of ports.new) (length ports.new.nodes) bounds
+    ensures core { IfOk result (λ core. HasBegunWithin (whole_of ports.new) (length ports.new.nodes) bounds
         (value_of core)) }
-    ensures begins { IfOk result (λ core. HasBegun renew_after bounds ports.old ports.new (value_of core)) }
+    ensures begins { IfOk result (λ core. CoreHasBegun renew_after bounds ports.old ports.new (value_of core)) }
     ensures fair { IfOk result (λ core. IsFair ports.old ports.new nothing (account_of_core (value_of core))) }
     ensures fair_again { OnErr result (IsFair ports.old ports.new nothing nothing) }
     ensures unchanged { OnErr result (ports.new ≡ ports.old) }
@@ -135,7 +135,7 @@ fn go_on<A: App, C: Cacheable>(
     request: PortRequest,
 ) -> Went
     requires own { pass < ports.old.actors }
-    requires asks { IsAsking txn.old.core request }
+    requires asks { CoreAsks txn.old.core request }
     requires seen { IsPartOf (whole_of ports.old) txn.old.core.seen }
     requires nodes { txn.old.core.nodes ≡ length ports.old.nodes }
     requires adds { AddsPart (whole_of ports.old) (Turn.Ask request) }

@@ -3,7 +3,7 @@ ghost use Rattle.std.specs.Prelude.{◌≡◌, ◌<◌, ℕ, length, map, Err, I
 ghost use Rattle.std.specs.Option.{ForSome};
 ghost use Rattle.txc_app.specs.Claims.{IsTrueIn};
 ghost use Rattle.txc_db.specs.declared.pinned.Pinned.{Pinned};
-ghost use Rattle.txc_ports.specs.Fronts.{front_of};
+ghost use Rattle.txc_ports.specs.Fronts.{front_of_reply};
 ghost use Rattle.txc_world.specs.Asks.{did_insert, DoesTell, IsToldOf};
 
 use crate::asked::Asked;
@@ -117,7 +117,7 @@ impl<A: App> Ports<A> {
     ghost use Rattle.txc_ports.specs.declared.turn.Turn.TheVariants.{Ask};
     ghost use Rattle.txc_ports.specs.Asking.{AddsSuch, IsOfRow, IsReplyTo, MayAsk};
     ghost use Rattle.txc_db.specs.Calls.{IsAnswerable, IsQueryRefused};
-    ghost use Rattle.txc_world.specs.Asks.{AskLeads, HasFound, IsAsked, IsAskedAt};
+    ghost use Rattle.txc_world.specs.Asks.{IsAnswerWithFront, IsAsked, IsAskedAt, PortRequestLeads};
     ghost use Rattle.txc_world.specs.Books.{AskCounts};
     ghost use Rattle.txc_world.specs.Parts.{IsPartOf};
     ghost use Rattle.txc_world.specs.Ports.{whole_of, KeepsRow};
@@ -125,7 +125,7 @@ impl<A: App> Ports<A> {
 
     fn ask_pin(&mut self, alloc: Global, pass: usize, now: u64, at_least: Stamp) -> Asked
         ensures asked { IsAsked A.next (PortRequest.Pin now at_least) self.old self.new result }
-        ensures leads { (seen : FrontValue) → AskLeads pass seen (PortRequest.Pin now at_least)
+        ensures leads { (seen : FrontValue) → PortRequestLeads pass seen (PortRequest.Pin now at_least)
             self.old self.new result.did result.reply }
         ensures counts { AskCounts (PortRequest.Pin now at_least) self.old self.new result.did result.reply }
     {
@@ -138,7 +138,7 @@ impl<A: App> Ports<A> {
     fn ask_add(&mut self, pass: usize, pinned: Pinned) -> Asked
         requires { IsPartOf (whole_of self.old) pinned.front }
         ensures asked { IsAsked A.next (PortRequest.AddPin pinned) self.old self.new result }
-        ensures leads { (seen : FrontValue) → AskLeads pass seen (PortRequest.AddPin pinned)
+        ensures leads { (seen : FrontValue) → PortRequestLeads pass seen (PortRequest.AddPin pinned)
             self.old self.new result.did result.reply }
         ensures counts { AskCounts (PortRequest.AddPin pinned) self.old self.new result.did result.reply }
     {
@@ -151,7 +151,7 @@ impl<A: App> Ports<A> {
 
     fn ask_unpin(&mut self, pass: usize, stamp: Stamp) -> Asked
         ensures asked { IsAsked A.next (PortRequest.Unpin stamp) self.old self.new result }
-        ensures leads { (seen : FrontValue) → AskLeads pass seen (PortRequest.Unpin stamp)
+        ensures leads { (seen : FrontValue) → PortRequestLeads pass seen (PortRequest.Unpin stamp)
             self.old self.new result.did result.reply }
         ensures counts { AskCounts (PortRequest.Unpin stamp) self.old self.new result.did result.reply }
     {
@@ -180,7 +180,7 @@ impl<A: App> Ports<A> {
         requires own { pass < self.old.actors }
         requires node { node < length self.old.nodes }
         ensures asked { IsAsked A.next (PortRequest.Lookup node key.now lo hi) self.old self.new result }
-        ensures leads { (seen : FrontValue) → AskLeads pass seen (PortRequest.Lookup node key.now lo hi)
+        ensures leads { (seen : FrontValue) → PortRequestLeads pass seen (PortRequest.Lookup node key.now lo hi)
             self.old self.new result.did result.reply }
         ensures counts { AskCounts (PortRequest.Lookup node key.now lo hi) self.old self.new result.did result.reply }
     {
@@ -198,7 +198,7 @@ impl<A: App> Ports<A> {
         stamp: Stamp,
     ) -> Result<(Answered<Found>, RowsFound), DbError>
         ensures same { self.new ≡ self.old }
-        ensures found { IfOk result (λ both. HasFound query.now stamp self.old both.0) }
+        ensures found { IfOk result (λ both. IsAnswerWithFront query.now stamp self.old both.0) }
         ensures rows { IfOk result (λ both. IsToldOf both.0.answer both.1) }
         ensures only_if { IfOk result (λ both. IsAnswerable self.old.database stamp) }
         ensures refused { IfErr result (IsQueryRefused self.old.database query.now stamp) }
@@ -210,7 +210,7 @@ impl<A: App> Ports<A> {
 
     fn ask_query(&mut self, alloc: Global, pass: usize, query: &Query, stamp: Stamp) -> Asked
         ensures asked { IsAsked A.next (PortRequest.Query query.now stamp) self.old self.new result }
-        ensures leads { (seen : FrontValue) → AskLeads pass seen (PortRequest.Query query.now stamp)
+        ensures leads { (seen : FrontValue) → PortRequestLeads pass seen (PortRequest.Query query.now stamp)
             self.old self.new result.did result.reply }
         ensures counts { AskCounts (PortRequest.Query query.now stamp) self.old self.new result.did result.reply }
     {
@@ -234,7 +234,7 @@ impl<A: App> Ports<A> {
         requires seen { IsPartOf (whole_of self.old) seen.now }
         requires is_true { IsTrueIn A.next seen.now.history entry }
         ensures asked { IsAsked A.next (PortRequest.Insert node entry) self.old self.new result }
-        ensures leads { AskLeads pass seen.now (PortRequest.Insert node entry)
+        ensures leads { PortRequestLeads pass seen.now (PortRequest.Insert node entry)
             self.old self.new result.did result.reply }
         ensures counts { AskCounts (PortRequest.Insert node entry) self.old self.new result.did result.reply }
     {
@@ -260,9 +260,9 @@ impl<A: App> Ports<A> {
         requires shown { AddsSuch (IsPartOf (whole_of self.old)) (Ask request) }
         ensures reply { IsReplyTo A.next request result.reply }
         ensures row { IsOfRow self.old.database.events result.reply }
-        ensures shown { ForSome (front_of result.reply) (λ front. IsPartOf (whole_of self.new) front) }
+        ensures shown { ForSome (front_of_reply result.reply) (λ front. IsPartOf (whole_of self.new) front) }
         ensures tells { DoesTell result.reply result.did }
-        ensures leads { AskLeads pass seen.now request self.old self.new result.did result.reply }
+        ensures leads { PortRequestLeads pass seen.now request self.old self.new result.did result.reply }
         ensures history { (now : ℕ) → IsAskedAt now request
             → self.new.database.history ≡ did_in result.did now self.old.database.history }
         ensures keeps { KeepsRow self.old self.new }

@@ -2,7 +2,7 @@
 ghost use Rattle.std.specs.Prelude.{◌≡◌, ◌<◌, Err, false, true, length, slice_index, IfErr, IfNone, IfOk, IfSome};
 ghost use Rattle.std.specs.List.{remove};
 ghost use Rattle.txc_db.specs.DatabaseValue.{is_held, without};
-ghost use Rattle.txc_world.specs.Keeping.{stamps_of};
+ghost use Rattle.txc_world.specs.Keeping.{stamps_of_pins};
 
 use crate::asking::rows_found;
 use crate::did::{Did, RowsFound};
@@ -22,11 +22,11 @@ use txc_validity::Found;
 // The place of the first pin of the stamp.
 fn place_of(spare: &[Pinned], stamp: Stamp) -> Option<usize>
     ensures within { IfSome result (λ at. at < length spare.now) }
-    ensures held { IfSome result (λ at. is_held stamp (stamps_of spare.now) ≡ true) }
-    ensures there { IfSome result (λ at. slice_index (stamps_of spare.now) at ≡ stamp) }
+    ensures held { IfSome result (λ at. is_held stamp (stamps_of_pins spare.now) ≡ true) }
+    ensures there { IfSome result (λ at. slice_index (stamps_of_pins spare.now) at ≡ stamp) }
     ensures place { IfSome result (λ at.
-        stamps_of (remove spare.now at) ≡ without stamp (stamps_of spare.now)) }
-    ensures none { IfNone result (is_held stamp (stamps_of spare.now) ≡ false) }
+        stamps_of_pins (remove spare.now at) ≡ without stamp (stamps_of_pins spare.now)) }
+    ensures none { IfNone result (is_held stamp (stamps_of_pins spare.now) ≡ false) }
 {
     for (at, pinned) in spare.iter().enumerate() {
         if pinned.stamp == stamp {
@@ -46,7 +46,7 @@ fn told_refusal(refusal: &DbError) -> (Did, Result<Found, DbError>)
 
 impl<A: App> Ports<A> {
     ghost use Rattle.txc_db.specs.Calls.{IsAnswerable, IsQueryRefused};
-    ghost use Rattle.txc_world.specs.Asks.{AnswerLeads, DoesTellFound, IsAnswerOf, IsToldOf};
+    ghost use Rattle.txc_world.specs.Asks.{DoesTellFound, IsAnswerOf, IsToldOf, QueryLeads};
     ghost use Rattle.txc_world.specs.Keeping.{AddSpareLeads, CommitLeads, GiveBackLeads, IsToldAnswer, PinSpareLeads};
     ghost use Rattle.txc_world.specs.Keeping.{RetireLeads, VacuumLeads, WriteLeads};
     ghost use Rattle.txc_world.specs.NodeSteps.{AdvanceLeads, SweepLeads};
@@ -145,7 +145,7 @@ impl<A: App> Ports<A> {
         stamp: Stamp,
     ) -> Result<Found, DbError>
         ensures same { self.new ≡ self.old }
-        ensures leads { AnswerLeads query.now stamp self.old result }
+        ensures leads { QueryLeads query.now stamp self.old result }
     {
         match self.database.query(alloc, query, stamp) {
             Ok(found) => Ok(found),
@@ -161,7 +161,7 @@ impl<A: App> Ports<A> {
         stamp: Stamp,
     ) -> (Did, Result<Found, DbError>)
         ensures same { self.new ≡ self.old }
-        ensures leads { AnswerLeads query.now stamp self.old result.1 }
+        ensures leads { QueryLeads query.now stamp self.old result.1 }
         ensures tells { DoesTellFound result.1 result.0 }
     {
         match self.found_told(alloc, query, stamp) {

@@ -1,7 +1,7 @@
 //! The keeper's steps, each with its reply.
 ghost use Rattle.std.specs.Prelude.{◌≡◌, length};
-ghost use Rattle.txc_world.specs.Keeping.{stamps_of};
-ghost use Rattle.txc_world.specs.Kept.{told_addition, IsKept, KeepLeads};
+ghost use Rattle.txc_world.specs.Keeping.{stamps_of_pins};
+ghost use Rattle.txc_world.specs.Kept.{told_addition, IsKeeperStep, KeepLeads};
 ghost use Rattle.txc_world.specs.Ports.{KeepsRow};
 ghost use Rattle.txc_world.specs.Tidy.{KeepsBalance};
 ghost use Rattle.txc_world.specs.Told.{keep_in, spare_after, IsKeepDue, IsNoReceipt};
@@ -16,7 +16,7 @@ use txc_rows::{Change, Query};
 use txc_stamp::Stamp;
 
 fn write<A: App>(alloc: Global, ports: &mut Ports<A>, change: &Change) -> Reply
-    ensures { IsKept (Keep.Write change.now) ports.old ports.new result }
+    ensures { IsKeeperStep (Keep.Write change.now) ports.old ports.new result }
 {
     match ports.write(alloc, change) {
         Ok(stamp) => Reply::At(stamp),
@@ -25,7 +25,7 @@ fn write<A: App>(alloc: Global, ports: &mut Ports<A>, change: &Change) -> Reply
 }
 
 fn pin<A: App>(alloc: Global, ports: &mut Ports<A>, now: u64) -> Reply
-    ensures { IsKept (Keep.Pin now) ports.old ports.new result }
+    ensures { IsKeeperStep (Keep.Pin now) ports.old ports.new result }
 {
     match ports.pin_spare(alloc, now) {
         Ok(stamp) => Reply::At(stamp),
@@ -45,14 +45,14 @@ fn told_addition(added: Option<Result<(), AddError>>) -> Reply
 }
 
 fn add<A: App>(ports: &mut Ports<A>, stamp: Stamp) -> Reply
-    ensures { IsKept (Keep.Add stamp) ports.old ports.new result }
+    ensures { IsKeeperStep (Keep.Add stamp) ports.old ports.new result }
 {
     let added = ports.add_spare(stamp);
     told_addition(added)
 }
 
 fn give_back<A: App>(ports: &mut Ports<A>, stamp: Stamp) -> Reply
-    ensures { IsKept (Keep.GiveBack stamp) ports.old ports.new result }
+    ensures { IsKeeperStep (Keep.GiveBack stamp) ports.old ports.new result }
 {
     match ports.give_back(&[stamp]) {
         Ok(()) => Reply::GivenBack,
@@ -61,7 +61,7 @@ fn give_back<A: App>(ports: &mut Ports<A>, stamp: Stamp) -> Reply
 }
 
 fn retire<A: App>(alloc: Global, ports: &mut Ports<A>, now: u64, age: u64) -> Reply
-    ensures { IsKept (Keep.Retire now age) ports.old ports.new result }
+    ensures { IsKeeperStep (Keep.Retire now age) ports.old ports.new result }
 {
     match ports.retire(alloc, now, age) {
         Ok(stamps) => Reply::Retired(stamps),
@@ -70,7 +70,7 @@ fn retire<A: App>(alloc: Global, ports: &mut Ports<A>, now: u64, age: u64) -> Re
 }
 
 fn unpin<A: App>(ports: &mut Ports<A>, stamp: Stamp) -> Reply
-    ensures { IsKept (Keep.Unpin stamp) ports.old ports.new result }
+    ensures { IsKeeperStep (Keep.Unpin stamp) ports.old ports.new result }
 {
     match ports.unpin(stamp) {
         Ok(()) => Reply::Unpinned,
@@ -79,7 +79,7 @@ fn unpin<A: App>(ports: &mut Ports<A>, stamp: Stamp) -> Reply
 }
 
 fn vacuum<A: App>(ports: &mut Ports<A>) -> Reply
-    ensures { IsKept Keep.Vacuum ports.old ports.new result }
+    ensures { IsKeeperStep Keep.Vacuum ports.old ports.new result }
 {
     match ports.vacuum() {
         Ok(horizon) => Reply::Vacuumed(horizon),
@@ -88,7 +88,7 @@ fn vacuum<A: App>(ports: &mut Ports<A>) -> Reply
 }
 
 fn query<A: App>(alloc: Global, ports: &mut Ports<A>, stamp: Stamp, query: &Query) -> Reply
-    ensures { IsKept (Keep.Query stamp query.now) ports.old ports.new result }
+    ensures { IsKeeperStep (Keep.Query stamp query.now) ports.old ports.new result }
 {
     match ports.query(alloc, query, stamp) {
         Ok(rows) => Reply::Rows(rows),
@@ -97,7 +97,7 @@ fn query<A: App>(alloc: Global, ports: &mut Ports<A>, stamp: Stamp, query: &Quer
 }
 
 fn advance<A: App>(alloc: Global, ports: &mut Ports<A>, node: usize) -> Reply
-    ensures { IsKept (Keep.Advance node) ports.old ports.new result }
+    ensures { IsKeeperStep (Keep.Advance node) ports.old ports.new result }
 {
     if node >= ports.len() {
         return Reply::Refused(Refusal::NoNode);
@@ -109,7 +109,7 @@ fn advance<A: App>(alloc: Global, ports: &mut Ports<A>, node: usize) -> Reply
 }
 
 fn sweep<A: App>(alloc: Global, ports: &mut Ports<A>, node: usize, horizon: Stamp) -> Reply
-    ensures { IsKept (Keep.Sweep node horizon) ports.old ports.new result }
+    ensures { IsKeeperStep (Keep.Sweep node horizon) ports.old ports.new result }
 {
     if node >= ports.len() {
         return Reply::Refused(Refusal::NoNode);
@@ -122,7 +122,7 @@ fn sweep<A: App>(alloc: Global, ports: &mut Ports<A>, node: usize, horizon: Stam
 
 // A step of the keeper at the ports.
 fn make<A: App>(alloc: Global, ports: &mut Ports<A>, keep: &Keep) -> Reply
-    ensures { IsKept keep.now ports.old ports.new result }
+    ensures { IsKeeperStep keep.now ports.old ports.new result }
 {
     match keep {
         Keep::Write(change) => write(alloc, ports, change),
@@ -142,8 +142,8 @@ fn make<A: App>(alloc: Global, ports: &mut Ports<A>, keep: &Keep) -> Reply
 pub(crate) fn keep<A: App>(alloc: Global, ports: &mut Ports<A>, keep: &Keep) -> Reply
     ensures leads { KeepLeads keep.now ports.old ports.new result }
     ensures history { ports.new.database.history ≡ keep_in keep.now result ports.old.database.history }
-    ensures spare { stamps_of ports.new.spare ≡ spare_after keep.now result (stamps_of ports.old.spare) }
-    ensures due { IsKeepDue (length ports.old.nodes) (stamps_of ports.old.spare) keep.now result }
+    ensures spare { stamps_of_pins ports.new.spare ≡ spare_after keep.now result (stamps_of_pins ports.old.spare) }
+    ensures due { IsKeepDue (length ports.old.nodes) (stamps_of_pins ports.old.spare) keep.now result }
     ensures no_receipt { IsNoReceipt result }
     ensures keeps { KeepsRow ports.old ports.new }
     ensures balance { KeepsBalance keep.now ports.old ports.new result }

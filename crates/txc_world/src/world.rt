@@ -11,7 +11,7 @@ ghost use Rattle.txc_world.specs.Acts.{AreLed, StepLeads};
 ghost use Rattle.txc_world.specs.Worlds.{due_of_pins, AreMembersOf, IsBalanced, IsTrueWorld};
 ghost use Rattle.txc_world.specs.Cast.{reads, resting, ReadingValue};
 ghost use Rattle.txc_world.specs.Making.{AreNewPorts};
-ghost use Rattle.txc_world.specs.Sessions.{NobodyGoesBack};
+ghost use Rattle.txc_world.specs.Sessions.{NoActorGoesBack};
 ghost use Rattle.txc_db.specs.Refusals.{IsWant};
 ghost use Rattle.txc_world.specs.Tidy.{empty_purse, purse_after, purse_by, AreTidy, IsTidy, LoseNoSnapshot, LosesNoSnapshot, LosesNothing, Purse};
 ghost use Rattle.txc_world.specs.Told.{after, idle, reading, told_by, AreDue, AreExplained, AreExplainedIn, IsDue, IsExplainedIn, Reading};
@@ -64,11 +64,11 @@ pub struct World<A: App, C: Cacheable> {
 }
 
 impl<A: App, C: Cacheable> Model for World<A, C> {
-    ghost use Rattle.txc_world.specs.Worlds.{value_of, IsWorld, WorldValue};
+    ghost use Rattle.txc_world.specs.Worlds.{value_of_world, IsWorld, WorldValue};
 
     ghost Value = { WorldValue };
 
-    ghost view = { λ w. value_of w.settings w.ports w.sessions.items w.actors.items };
+    ghost view = { λ w. value_of_world w.settings w.ports w.sessions.items w.actors.items };
 
     ghost invariant = { λ w. IsWorld A.next w.settings w.ports w.sessions.items w.actors.items };
 }
@@ -291,7 +291,7 @@ impl<A: App, C: Cacheable> World<A, C> {
         ensures explained_in_the_end { IfOk result (λ replies.
             AreExplainedIn A.next self.new.told.history self.old.told steps.now replies.items) }
         ensures due { IfOk result (λ replies. AreDue self.old.told steps.now replies.items) }
-        ensures sessions { IfOk result (λ replies. NobodyGoesBack steps.now replies.items) }
+        ensures sessions { IfOk result (λ replies. NoActorGoesBack steps.now replies.items) }
         ensures balanced { IfOk result (λ replies. (purse : Purse) → IsBalanced self.old purse
             → AreTidy purse steps.now replies.items
             → IsBalanced self.new (purse_by purse steps.now replies.items)) }

@@ -3,7 +3,7 @@ ghost use Rattle.std.specs.Prelude.{◌≡◌, ℕ, ◌++◌, ◌∷◌, ◌<◌
 ghost use Rattle.txc_rows.specs.declared.query.Change.{Change};
 ghost use Rattle.txc_registry.specs.Objects.{AllIdle};
 ghost use Rattle.txc_rw.specs.declared.rw_core.TheConstants.{MAX_CHANGES};
-ghost use Rattle.txc_rw.specs.Core.{answers_after, IsIdle, IsOfCall, IsOfQuery, IsRw, IsTurn, IsWriteRefused, RwHolds};
+ghost use Rattle.txc_rw.specs.Core.{answers_after, IsOfCall, IsOfQuery, IsRw, IsRwIdle, IsRwTurn, IsWriteRefused, RwHolds};
 ghost use Rattle.txc_ports.specs.Turns.{IsAsk, IsCallEnd};
 ghost use Rattle.txc_world.specs.Acted.{IsActed};
 ghost use Rattle.txc_world.specs.Actors.{asked_query, IsEndOf, IsOpenRw, IsToldQuery};
@@ -117,7 +117,7 @@ fn go_on<A: App, C: Cacheable>(
     ensures same_ports { ports.new ≡ ports.old }
     ensures fits { IsRw A.next registry.new core.new }
     ensures holds { RwHolds A.next ports.old.database.history registry.new core.new }
-    ensures turn { IsTurn core.new result.turn }
+    ensures turn { IsRwTurn core.new result.turn }
     ensures kind { IsOfCall result.turn }
     ensures goes_on { IsAsk result.turn → core.new.call.top ≡ core.old.call.top }
     ensures open { IsAsk result.turn → IsSome core.new.call.need }
@@ -202,11 +202,11 @@ fn find<A: App, C: Cacheable>(
 ) -> Turn
     requires fits { IsRw A.next registry.old core.old }
     requires holds { RwHolds A.next ports.old.database.history registry.old core.old }
-    requires idle { IsIdle core.old }
+    requires idle { IsRwIdle core.old }
     ensures same_ports { ports.new ≡ ports.old }
     ensures fits { IsRw A.next registry.new core.new }
     ensures holds { RwHolds A.next ports.old.database.history registry.new core.new }
-    ensures idle { IsIdle core.new }
+    ensures idle { IsRwIdle core.new }
     ensures kind { IsOfQuery result }
     ensures answers { core.new.answers
         ≡ answers_after core.old.answers core.old.call.top (Some query.now) result }

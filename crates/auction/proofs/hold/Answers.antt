@@ -1,4 +1,4 @@
-use Rattle.std.proofs.Common.{◌≡◌, ◌∙◌}
+use Rattle.std.proofs.Common.{◌∙◌}
 use Rattle.auction.proofs.Returns.{asked_in_generations, few_in_generations, torn_in_generations}
 use Rattle.auction.proofs.hold.Goals as goal
 

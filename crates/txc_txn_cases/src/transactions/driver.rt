@@ -2,7 +2,7 @@
 ghost use Rattle.std.specs.Prelude.{◌≡◌, Ok};
 ghost use Rattle.std.specs.Option.{ForSome};
 ghost use Rattle.txc_registry.specs.Objects.{AllIdle};
-ghost use Rattle.txc_ports.specs.Fronts.{front_of};
+ghost use Rattle.txc_ports.specs.Fronts.{front_of_reply};
 ghost use Rattle.txc_ports.specs.declared.reply.PortReply.TheVariants as ports;
 ghost use Rattle.txc_txn.specs.Core.{IsAnswered};
 
@@ -135,7 +135,7 @@ impl<A: App, C: Cacheable> Driver<A, C> {
 
     fn give(&mut self, alloc: Global, reply: PortReply, answer: &mut String)
         requires reply { IsAnswered self.old reply }
-        requires row { ForSome (front_of reply) (λ front. front.events ≡ self.old.seen.events) }
+        requires row { ForSome (front_of_reply reply) (λ front. front.events ≡ self.old.seen.events) }
     {
         let turn = self.core.next(alloc, &mut self.registry, reply);
         self.asks = say_turn(answer, turn);

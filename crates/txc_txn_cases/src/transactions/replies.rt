@@ -1,6 +1,6 @@
 //! What a transaction asks, and how its call ends.
 ghost use Rattle.txc_txn.specs.Core.{CoreValue, IsTurn};
-ghost use Rattle.txc_txn_cases.specs.Driven.{Asks};
+ghost use Rattle.txc_txn_cases.specs.Driven.{AsksOrIdle};
 
 use txc_ports::{PortRequest, Recorded, Turn};
 use txc_stamp::Stamp;
@@ -56,7 +56,7 @@ fn say_request(answer: &mut String, request: &PortRequest) {
 
 /// Says the turn, and returns what is asked, if something is.
 pub(super) fn say_turn(answer: &mut String, turn: Turn) -> Option<PortRequest>
-    ensures { (c : CoreValue) → IsTurn c turn → Asks c result }
+    ensures { (c : CoreValue) → IsTurn c turn → AsksOrIdle c result }
 {
     match turn {
         Turn::Ask(request) => {

@@ -1,6 +1,6 @@
 //! Read-write transactions, each answer of the database given by hand: one is a refusal.
 ghost use Rattle.std.specs.Prelude.{◌≡◌, None};
-ghost use Rattle.txc_rw.specs.Core.{IsIdle, IsRw};
+ghost use Rattle.txc_rw.specs.Core.{IsRw, IsRwIdle};
 
 use super::driver::{QUERY_REFUSALS, QUERY_TEXTS};
 use super::functions;
@@ -51,9 +51,9 @@ fn call<A: App, C: Cacheable>(
     error: &DbError,
 ) -> Turn
     requires fits { IsRw A.next registry.old core.old }
-    requires idle { IsIdle core.old }
+    requires idle { IsRwIdle core.old }
     ensures fits { IsRw A.next registry.new core.new }
-    ensures idle { IsIdle core.new }
+    ensures idle { IsRwIdle core.new }
 {
     let Ok(key) = Key::new(function, &[]) else {
         return Turn::Refused(TxnError::Memory);
@@ -79,9 +79,9 @@ fn ask<A: App, C: Cacheable>(
     error: &DbError,
 ) -> Turn
     requires fits { IsRw A.next registry.old core.old }
-    requires idle { IsIdle core.old }
+    requires idle { IsRwIdle core.old }
     ensures fits { IsRw A.next registry.new core.new }
-    ensures idle { IsIdle core.new }
+    ensures idle { IsRwIdle core.new }
 {
     let turn = core.ask(alloc, registry, query);
     if let Turn::Ask(_) = &turn {
@@ -106,7 +106,7 @@ fn refuse_in<A: App, C: Cacheable>(
     answer: &mut String,
 )
     requires fits { IsRw A.next registry.old core.old }
-    requires idle { IsIdle core.old }
+    requires idle { IsRwIdle core.old }
     ensures fits { IsRw A.next registry.new core.new }
 {
     let Some(table) = Table::new(1) else {

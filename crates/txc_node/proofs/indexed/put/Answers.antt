@@ -2,7 +2,7 @@ use Rattle.std.proofs.Common.{◌≤◌, List, length, sym, subst, ◌∙◌, ar
 use Rattle.std.proofs.lemmas.List.{take_all}
 use Rattle.std.proofs.lemmas.Option.{slice_get_past}
 use Rattle.txc_node.specs.declared.entry.Entry.{Entry}
-use Rattle.txc_node.specs.Indexed.{Held, IndexesTags, entry_of, with_first}
+use Rattle.txc_node.specs.Indexed.{HeldEntries, IndexesTags, entry_of, with_first}
 use Rattle.txc_node.proofs.Apart.{first_apart}
 use Rattle.txc_node.proofs.Listed.{evicted_listed, first_listed, listed_more, no_more}
 use Rattle.txc_node.proofs.indexed.put.Goals as goal
@@ -28,7 +28,7 @@ pub returns-in-Err-clause-indexed : goal.returns-in-Err-clause-indexed
 returns-in-Err-clause-indexed c =
     let a = c.args in
     let mid = c.list_still.new.index.tables.items in
-    c.unlist_left-in-Err.ensures (subst (λ (h : Held). IndexesTags mid h.entries) (sym c.in-Err.ensures.unchanged) (listed_more a.index.now.tables.items mid a.entries.now.entries c.list_still.ensures.kept c.requires.indexed))
+    c.unlist_left-in-Err.ensures (subst (λ (h : HeldEntries). IndexesTags mid h.entries) (sym c.in-Err.ensures.unchanged) (listed_more a.index.now.tables.items mid a.entries.now.entries c.list_still.ensures.kept c.requires.indexed))
 
 pub returns-in-Some-clause-indexed : goal.returns-in-Some-clause-indexed
 returns-in-Some-clause-indexed c =

@@ -1,7 +1,7 @@
 use Rattle.std.proofs.Common.{ℕ, List, ◌∷◌, refl, sym, ap, ◌∙◌}
 use Rattle.std.specs.Fmt.{decimal}
 use Rattle.txc_script.specs.Words.{words_of}
-use Rattle.txc_play.specs.Tasks.{Says}
+use Rattle.txc_play.specs.Tasks.{LineAsksFor}
 use Rattle.txc_script.specs.declared.line_name.LineName.TheVariants as names
 use Rattle.txc_play.specs.declared.task.Task.{Task}
 use Rattle.txc_script.proofs.Offered.{words_alone, words_cut}
@@ -14,12 +14,12 @@ returns-in_default-clause-refused c task h = query_alone _ c.args.text.now (deci
 pub returns-in_err-stamp-clause-refused : goal.returns-in_err-stamp-clause-refused
 returns-in_err-stamp-clause-refused c =
     let cut = words_cut c.args.text.now c.in-Some.stamp.now c.in-Some.text.now c.in-Some.ensures.answer.0 c.in-Some.ensures.answer.1 in
-    refused_anyhow _ ((task : Task) → Says names.Query (words_of c.args.text.now) task → ⊥) (λ task h. c.in_err-stamp.ensures.refused h.0 (h.3, first_is _ _ _ _ (sym cut ∙ h.2)))
+    refused_anyhow _ ((task : Task) → LineAsksFor names.Query (words_of c.args.text.now) task → ⊥) (λ task h. c.in_err-stamp.ensures.refused h.0 (h.3, first_is _ _ _ _ (sym cut ∙ h.2)))
 
 pub returns-in_err-query-clause-refused : goal.returns-in_err-query-clause-refused
 returns-in_err-query-clause-refused c =
     let cut = words_cut c.args.text.now c.in-Some.stamp.now c.in-Some.text.now c.in-Some.ensures.answer.0 c.in-Some.ensures.answer.1 in
-    refused_anyhow _ ((task : Task) → Says names.Query (words_of c.args.text.now) task → ⊥) (λ task h. c.in_err-query.ensures.refused h.1 (others_are _ _ _ _ (sym cut ∙ h.2), h.4))
+    refused_anyhow _ ((task : Task) → LineAsksFor names.Query (words_of c.args.text.now) task → ⊥) (λ task h. c.in_err-query.ensures.refused h.1 (others_are _ _ _ _ (sym cut ∙ h.2), h.4))
 
 pub returns-clause-answer : goal.returns-clause-answer
 returns-clause-answer c =

@@ -5,7 +5,7 @@ use Rattle.txc_call.specs.declared.error.CallError.TheVariants.{NoFunction}
 use Rattle.txc_call.specs.Calling.{started}
 use Rattle.txc_ports.specs.declared.error.TxnError.TheVariants as errors
 use Rattle.txc_ports.specs.declared.turn.Turn.TheVariants.{Refused}
-use Rattle.txc_rw.specs.Core.{answers_after, IsOfCall, IsRw, IsTurn, RwHolds}
+use Rattle.txc_rw.specs.Core.{answers_after, IsOfCall, IsRw, IsRwTurn, RwHolds}
 use Rattle.txc_ports.specs.Turns.{IsAsk}
 use Rattle.txc_rw.specs.Leading.{standing_of}
 use Rattle.txc_rw.proofs.Running.{IsRunSo}
@@ -15,7 +15,7 @@ use Rattle.txc_rw.proofs.calling.call_at.Given as goal
 abbrev pub invariant-loop-query : goal.invariant-loop-query
 invariant-loop-query g l = record {
   fits : IsRw g.A.App.next l.registry l.core;
-  turn : IsTurn l.core l.turn;
+  turn : IsRwTurn l.core l.turn;
   kind : IsOfCall l.turn;
   holds : RwHolds g.A.App.next l.seen.history l.fn.registry l.fn.core → RwHolds g.A.App.next l.seen.history l.registry l.core;
   answers : l.core.answers ≡ answers_after l.fn.core.answers l.fn.key None l.turn;

@@ -1,11 +1,11 @@
 use Rattle.std.proofs.Common.{length}
-use Rattle.txc_script.specs.LineFaults.{IsRun}
+use Rattle.txc_script.specs.LineFaults.{AreDigitsOfBytes}
 use Rattle.txc_script.proofs.finding.are_digits.Given as goal
 
 abbrev pub invariant-digits : goal.invariant-digits
 invariant-digits l = record {
-  there : IsRun l.rest → IsRun l.fn.text;
-  back : IsRun l.fn.text → IsRun l.rest;
+  there : AreDigitsOfBytes l.rest → AreDigitsOfBytes l.fn.text;
+  back : AreDigitsOfBytes l.fn.text → AreDigitsOfBytes l.rest;
 }
 
 abbrev pub decreases-digits : goal.decreases-digits

@@ -1,6 +1,6 @@
 use Rattle.std.proofs.Common.{◌≡◌, ◌+◌, ◌*◌, ◌≤◌, List, ℕ, []}
 use Rattle.std.specs.Io.KnownBytes.{Appends, Consumes}
-use Rattle.txc_script.specs.Progress.{progress_of, HasAnswered}
+use Rattle.txc_script.specs.Progress.{progress_of, HasAnsweredLines}
 use Rattle.txc_script.proofs.run.answer_script.Given as goal
 
 abbrev pub invariant-reads : goal.invariant-reads
@@ -10,7 +10,7 @@ invariant-reads g l = record {
   written : List ℕ;
   consumed : Consumes (g.R.Read.remaining l.fn.reader) (g.R.Read.remaining l.reader) read;
   appended : Appends (g.W.Write.contents l.fn.writer) (g.W.Write.contents l.writer) written;
-  answered : HasAnswered (g.K.Script.kind l.fn.kind) l.fn.state read written (progress_of l.state l.running);
+  answered : HasAnsweredLines (g.K.Script.kind l.fn.kind) l.fn.state read written (progress_of l.state l.running);
   none : l.running.replies.text.items ≡ [];
 }
 

@@ -1,5 +1,5 @@
 use Rattle.std.proofs.Common.{sym, ◌∙◌}
-use Rattle.txc_ports.specs.Fronts.{front_of}
+use Rattle.txc_ports.specs.Fronts.{front_of_reply}
 use Rattle.txc_txn.proofs.Offered.{adds_next, is_answered, is_right}
 use Rattle.txc_world.proofs.Turning.{asked_at, counted_in, seen_next}
 use Rattle.txc_world.specs.Parts.{IsPartOf}
@@ -15,7 +15,7 @@ next-turn-requires-clause-reply g c =
 
 pub returns-clause-seen : goal.returns-clause-seen
 returns-clause-seen g c =
-    seen_next c.args.ports.now c.ask-did.new.self c.args.txn.now.core.seen c.next-turn.new.self.core.seen (front_of c.ask-did.result.reply)
+    seen_next c.args.ports.now c.ask-did.new.self c.args.txn.now.core.seen c.next-turn.new.self.core.seen (front_of_reply c.ask-did.result.reply)
     c.ask-did.ensures.keeps c.requires.seen c.ask-did.ensures.shown c.next-turn.ensures.one
 
 pub returns-clause-adds : goal.returns-clause-adds

@@ -1,7 +1,7 @@
 use Rattle.std.proofs.Common.{Some, refl, ap, sym, subst, ◌∙◌, rules}
 use Rattle.txc_tags.specs.Keys.{Call}
 use Rattle.txc_txn.specs.Leading.{StartLeads}
-use Rattle.txc_world.specs.Cast.{called, opened, reads}
+use Rattle.txc_world.specs.Cast.{call_at_turn, opened, reads}
 use Rattle.txc_world.specs.Actors.{IsOpenCall}
 use Rattle.txc_db.specs.Seen.{FrontValue}
 use Rattle.txc_txn.specs.Core.{CoreValue}
@@ -18,7 +18,7 @@ returns-clause-leads g c = λ next pass. rw c.requires.no_call (
   record {
     txn = c.start-turn.new.self;
     turn = c.start-turn.result;
-    actor_is = ap (λ (k : Call). reads (record { txn = c.start-turn.new.self; call = Some (called k c.start-turn.result) })) c.copy-2.ensures;
+    actor_is = ap (λ (k : Call). reads (record { txn = c.start-turn.new.self; call = Some (call_at_turn k c.start-turn.result) })) c.copy-2.ensures;
     leads = subst (λ (k : Call). StartLeads c.args.current.txn.core c.args.current.txn.objects k c.start-turn.new.self.core c.start-turn.new.self.objects c.start-turn.result) c.copy.ensures c.start-turn.ensures.leads;
     same = c.start-turn.ensures.same;
   },

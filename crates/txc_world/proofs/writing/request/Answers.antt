@@ -1,7 +1,7 @@
 use Rattle.std.proofs.Common.{Option, refl, ap, sym, ◌∙◌, rules}
 use Rattle.std.specs.Option.{option_map}
 use Rattle.txc_world.specs.declared.actor.OpenCall.{OpenCall}
-use Rattle.txc_world.specs.Cast.{call_value, called, opened}
+use Rattle.txc_world.specs.Cast.{call_at_turn, call_value, opened}
 use Rattle.txc_world.proofs.Leading.{noted_seen, some_there}
 use Rattle.txc_world.specs.Books.{HasLost}
 use Rattle.txc_world.proofs.Losing.{noted_lost}
@@ -12,7 +12,7 @@ use Rattle.txc_world.proofs.writing.request.Goals as goal
 
 pub returns-clause-leads : goal.returns-clause-leads
 returns-clause-leads g c =
-    some_there _ _ (option_map call_value c.args.current.call) (called c.in-Some.field-0.key c.in-Some.field-0.turn) (ap (λ (o : Option OpenCall). option_map call_value o) c.in-Some.is) (
+    some_there _ _ (option_map call_value c.args.current.call) (call_at_turn c.in-Some.field-0.key c.in-Some.field-0.turn) (ap (λ (o : Option OpenCall). option_map call_value o) c.in-Some.is) (
       c.go_on-did.ensures.same_ports,
       some_there _ _ _ c.in-Some-asked.query (sym c.asked.ensures ∙ c.in-Some-asked.is) (record {
         core = c.go_on-did.new.core;

@@ -1,8 +1,8 @@
 use Rattle.std.proofs.Common.{◌≡◌, ◌∙◌, Some, IfOk, sym, subst}
 use Rattle.txc_ports.specs.declared.turn.Turn.{Turn}
 use Rattle.txc_txn.specs.Core.{recorded_after}
-use Rattle.txc_client.specs.Run.{turn_of, HasRun}
-use Rattle.txc_client.specs.Txn.{IsValueOf, RoTxnValue}
+use Rattle.txc_client.specs.Run.{turn_of_result, HasRun}
+use Rattle.txc_client.specs.Txn.{IsValueAtMembers, RoTxnValue}
 use Rattle.txc_client.proofs.Grown.{as_many}
 use Rattle.txc_client.proofs.Idle.{all_idle, objects_stay}
 use Rattle.txc_client.proofs.Values.{value_of_last}
@@ -24,10 +24,10 @@ invariant_of-self g c =
 pub returns-clause-answer : goal.returns-clause-answer
 returns-clause-answer g c = elim c.match-turn.branch [
   | in-Value w ↦
-      subst (λ r. IfOk r (IsValueOf g.A.App.next c.call_at-turn.new.txn.core c.args.key)) (sym w.result-is)
+      subst (λ r. IfOk r (IsValueAtMembers g.A.App.next c.call_at-turn.new.txn.core c.args.key)) (sym w.result-is)
       (value_of_last g.A.App.next c.call_at-turn.new.txn.core c.self.inside.txn.core.recorded c.args.key w.in-Value.value c.is_kept-2.ensures.holds.meant.consistent
       (subst (λ (t : Turn). c.call_at-turn.new.txn.core.recorded ≡ recorded_after c.self.inside.txn.core.recorded t (Some c.args.key)) w.in-Value.is c.call_at-turn.ensures.recorded))
-  | in-Refused w ↦ subst (λ r. IfOk r (IsValueOf g.A.App.next c.call_at-turn.new.txn.core c.args.key)) (sym w.result-is) tt
+  | in-Refused w ↦ subst (λ r. IfOk r (IsValueAtMembers g.A.App.next c.call_at-turn.new.txn.core c.args.key)) (sym w.result-is) tt
 ]
 
 -- the last turn is that of the result
@@ -36,10 +36,10 @@ returns-clause-run g c =
     let after : RoTxnValue = record { txn = c.call_at-turn.new.txn; passes = c.call_at-turn.new.ports } in
     let before : RoTxnValue = record { txn = c.self.inside.txn; passes = c.self.inside.ports } in
     let ran = λ (t : Turn). HasRun g.A.App.next g.J.Naming.database_row g.J.Naming.node_rows before c.args.key after t in
-    subst (λ (v : RoTxnValue). HasRun g.A.App.next g.J.Naming.database_row g.J.Naming.node_rows v c.args.key after (turn_of c.match-turn.result)) c.self.view_is
+    subst (λ (v : RoTxnValue). HasRun g.A.App.next g.J.Naming.database_row g.J.Naming.node_rows v c.args.key after (turn_of_result c.match-turn.result)) c.self.view_is
     (elim c.match-turn.branch [
-      | in-Value w ↦ subst (λ r. ran (turn_of r)) (sym w.result-is) (subst ran w.in-Value.is c.call_at-turn.ensures.run)
-      | in-Refused w ↦ subst (λ r. ran (turn_of r)) (sym w.result-is) (subst ran w.in-Refused.is c.call_at-turn.ensures.run)
+      | in-Value w ↦ subst (λ r. ran (turn_of_result r)) (sym w.result-is) (subst ran w.in-Value.is c.call_at-turn.ensures.run)
+      | in-Refused w ↦ subst (λ r. ran (turn_of_result r)) (sym w.result-is) (subst ran w.in-Refused.is c.call_at-turn.ensures.run)
     ])
 
 pub returns-clause-functions : goal.returns-clause-functions

@@ -6,7 +6,7 @@ use Rattle.txc_rows.specs.Net.{IsNet}
 use Rattle.txc_rows.specs.Keeping.{KeepsWritten}
 use Rattle.txc_db.specs.Facts.{EventValue, commit, net_of}
 use Rattle.txc_db.specs.Seen.{FrontValue}
-use Rattle.txc_db.specs.History.{state_at, after_event}
+use Rattle.txc_db.specs.History.{state_at, state_after_event}
 use Rattle.txc_db.specs.DatabaseValue.{DatabaseValue, newest_state}
 use Rattle.txc_db.proofs.Sound.{commit_sound}
 use Rattle.txc_db.proofs.db_core.DbCore.append_commit.Goals as goal
@@ -15,7 +15,7 @@ pub append-requires-clause-tagged : goal.append-requires-clause-tagged
 append-requires-clause-tagged c =
     let before = state_at c.self.inside.front.history (length c.self.inside.front.history) in
     let tags = subst (λ (v : DatabaseValue). c.args.net.tags ≡ tags_between (newest_state v) (after_changes c.args.net.changes.items (newest_state v))) (sym c.self.view_is) c.requires.tags in
-    subst (λ (e : EventValue). e.tags ≡ tags_between before (after_event before e)) (sym c.in_ok-event.ensures) tags
+    subst (λ (e : EventValue). e.tags ≡ tags_between before (state_after_event before e)) (sym c.in_ok-event.ensures) tags
 
 pub invariant_of-self-in-Ok : goal.invariant_of-self-in-Ok
 invariant_of-self-in-Ok c = λ whole.

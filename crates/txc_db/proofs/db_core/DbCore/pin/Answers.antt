@@ -4,14 +4,14 @@ use Rattle.txc_stream.proofs.Offered.{prefix_push}
 use Rattle.txc_rows.specs.RowTags.{tags_between}
 use Rattle.txc_db.specs.Facts.{EventValue}
 use Rattle.txc_db.specs.Seen.{FrontValue}
-use Rattle.txc_db.specs.History.{History, pin_event, state_at, after_event}
+use Rattle.txc_db.specs.History.{History, pin_event, state_at, state_after_event}
 use Rattle.txc_db.proofs.Sound.{pin_sound}
 use Rattle.txc_db.proofs.db_core.DbCore.pin.Goals as goal
 
 pub append-requires-clause-tagged : goal.append-requires-clause-tagged
 append-requires-clause-tagged c =
     let before = state_at c.self.inside.front.history (length c.self.inside.front.history) in
-    subst (λ (e : EventValue). e.tags ≡ tags_between before (after_event before e)) (sym c.in_ok-event.ensures) (sym (c.tags_are_sound.ensures.none before))
+    subst (λ (e : EventValue). e.tags ≡ tags_between before (state_after_event before e)) (sym c.in_ok-event.ensures) (sym (c.tags_are_sound.ensures.none before))
 
 pub invariant_of-self-in-Ok : goal.invariant_of-self-in-Ok
 invariant_of-self-in-Ok c = λ whole.

@@ -1,7 +1,7 @@
 use Rattle.std.proofs.Common.{map, ap, ◌∙◌}
 use Rattle.std.specs.List.{count_by}
 use Rattle.txc_node.specs.Cache.{entry_after, is_invalidated}
-use Rattle.txc_node.specs.Indexed.{Held}
+use Rattle.txc_node.specs.Indexed.{HeldEntries}
 use Rattle.txc_node.proofs.Invalidated.{none_left, all_closed, indexed_after}
 use Rattle.txc_node.proofs.indexed.IndexedEntries.invalidate.Goals as goal
 
@@ -22,7 +22,7 @@ returns-clause-entries c =
     let all = c.by_tags-count in
     let spared = none_left a.stamp a.tags.now i.tags.tables.items i.entries all.new.entries all.result c.self.invariant all.ensures.spared all.ensures.closes in
     let both = all_closed a.stamp a.tags.now i.entries all.new.entries all.result c.len-len.ensures.apart.apart all.ensures.closes spared in
-    both.0 ∙ ap (λ (m : Held). map (entry_after a.stamp a.tags.now) m.entries) c.self.view_is
+    both.0 ∙ ap (λ (m : HeldEntries). map (entry_after a.stamp a.tags.now) m.entries) c.self.view_is
 
 pub returns-clause-count : goal.returns-clause-count
 returns-clause-count c =
@@ -31,4 +31,4 @@ returns-clause-count c =
     let all = c.by_tags-count in
     let spared = none_left a.stamp a.tags.now i.tags.tables.items i.entries all.new.entries all.result c.self.invariant all.ensures.spared all.ensures.closes in
     let both = all_closed a.stamp a.tags.now i.entries all.new.entries all.result c.len-len.ensures.apart.apart all.ensures.closes spared in
-    both.1 ∙ ap (λ (m : Held). count_by (is_invalidated a.stamp a.tags.now) m.entries) c.self.view_is
+    both.1 ∙ ap (λ (m : HeldEntries). count_by (is_invalidated a.stamp a.tags.now) m.entries) c.self.view_is

@@ -2,7 +2,7 @@ use Rattle.std.proofs.Common.{List, ◌∷◌, ap, ◌∙◌}
 use Rattle.std.specs.Prelude.{slice_get}
 use Rattle.txc_node.specs.declared.entry.Entry.{Entry}
 use Rattle.txc_node.specs.Entries.{others}
-use Rattle.txc_node.specs.Indexed.{Held, entry_of}
+use Rattle.txc_node.specs.Indexed.{HeldEntries, entry_of}
 use Rattle.txc_node.proofs.Puts.{first_is}
 use Rattle.txc_node.proofs.indexed.IndexedEntries.put.Goals as goal
 use Rattle.txc_node.proofs.indexed.IndexedEntries.put.Goals.{in-Ok, in-Err}
@@ -17,7 +17,7 @@ returns-clause-evicted c =
       | in-Ok w ↦ rw w.result-is (
           w.in-Ok.ensures.evicted
           ∙ ap (λ (xs : List Entry). slice_get xs i.entries.capacity) (first_is a.entry f a.reach c.requires.lo c.split-place.ensures.entry i.entries.entries)
-          ∙ ap (λ (m : Held). slice_get (g ∷ others a.entry m.entries) m.capacity) c.self.view_is
+          ∙ ap (λ (m : HeldEntries). slice_get (g ∷ others a.entry m.entries) m.capacity) c.self.view_is
           )
       | in-Err w ↦ rw w.result-is tt
     ]

@@ -7,7 +7,7 @@ use Rattle.txc_node.specs.declared.entry.Entry.{Entry}
 use Rattle.txc_node.specs.declared.place.Place.{Place}
 use Rattle.txc_node.specs.declared.stored.Stored.{Stored}
 use Rattle.txc_node.specs.Entries.{same_place}
-use Rattle.txc_node.specs.Indexed.{Held, entry_of, entries_of, listed, Relists, with_first}
+use Rattle.txc_node.specs.Indexed.{HeldEntries, entry_of, entries_of, listed, Relists, with_first}
 use Rattle.txc_node.proofs.KeyLists.{relisted_here}
 use Rattle.txc_node.proofs.Puts.{absent_entries, absent_put, evicted_is, pushed_out, put_tied, relists_over, same_keys, take_past, within_pairs}
 use Rattle.txc_node.proofs.keyed.KeyedEntries.add.Goals as goal
@@ -43,7 +43,7 @@ invariant_of-self-in-Ok-None c =
     let a = c.args in
     let i = c.self.inside in
     let ps = i.cache.entries in
-    let absent = subst (λ (m : Held). find (λ o. same_place o (entry_of (a.place, a.stored))) m.entries ≡ None) (sym c.self.view_is) c.requires.absent in
+    let absent = subst (λ (m : HeldEntries). find (λ o. same_place o (entry_of (a.place, a.stored))) m.entries ≡ None) (sym c.self.view_is) c.requires.absent in
     let put = absent_put i.cache a.place a.stored c.requires.placed absent c.self.invariant.placed in
     let none : slice_get ps (i.cache.cap - 1) ≡ None = sym put.1 ∙ sym c.in-Ok-None.ensures.old ∙ c.in-Ok-None.field-0-is in
     let new : c.push.new.self.entries ≡ (a.place, a.stored) ∷ ps =
@@ -57,7 +57,7 @@ invariant_of-self-in-Ok-Some c =
     let ps = i.cache.entries in
     let x : Place × Stored = (c.in-Ok-Some.place, c.in-Ok-Some.stored) in
     let p : Place × Stored = (a.place, a.stored) in
-    let absent = subst (λ (m : Held). find (λ o. same_place o (entry_of (a.place, a.stored))) m.entries ≡ None) (sym c.self.view_is) c.requires.absent in
+    let absent = subst (λ (m : HeldEntries). find (λ o. same_place o (entry_of (a.place, a.stored))) m.entries ≡ None) (sym c.self.view_is) c.requires.absent in
     let put = absent_put i.cache a.place a.stored c.requires.placed absent c.self.invariant.placed in
     let last : slice_get ps (i.cache.cap - 1) ≡ Some x = sym put.1 ∙ sym c.in-Ok-Some.ensures.old ∙ c.in-Ok-Some.field-0-is in
     let new : c.push.new.self.entries ≡ p ∷ take (i.cache.cap - 1) ps = ap (λ (m : LruCache Place Stored). m.entries) c.in-Ok-Some.ensures.entries ∙ put.0 in
@@ -68,30 +68,30 @@ invariant_of-self-in-Ok-Some c =
 pub returns-in-Ok-None-clause-entries : goal.returns-in-Ok-None-clause-entries
 returns-in-Ok-None-clause-entries c =
     let a = c.args in
-    let absent = subst (λ (m : Held). find (λ o. same_place o (entry_of (a.place, a.stored))) m.entries ≡ None) (sym c.self.view_is) c.requires.absent in
+    let absent = subst (λ (m : HeldEntries). find (λ o. same_place o (entry_of (a.place, a.stored))) m.entries ≡ None) (sym c.self.view_is) c.requires.absent in
     rw (← c.self.view_is) (ap (λ (m : LruCache Place Stored). entries_of m.entries) c.in-Ok-None.ensures.entries ∙ absent_entries c.self.inside.cache a.place a.stored c.requires.placed absent c.self.invariant.placed c.len-len.ensures.valid.2)
 
 pub returns-in-Ok-Some-clause-entries : goal.returns-in-Ok-Some-clause-entries
 returns-in-Ok-Some-clause-entries c =
     let a = c.args in
-    let absent = subst (λ (m : Held). find (λ o. same_place o (entry_of (a.place, a.stored))) m.entries ≡ None) (sym c.self.view_is) c.requires.absent in
+    let absent = subst (λ (m : HeldEntries). find (λ o. same_place o (entry_of (a.place, a.stored))) m.entries ≡ None) (sym c.self.view_is) c.requires.absent in
     rw (← c.self.view_is) (ap (λ (m : LruCache Place Stored). entries_of m.entries) c.in-Ok-Some.ensures.entries ∙ absent_entries c.self.inside.cache a.place a.stored c.requires.placed absent c.self.invariant.placed c.len-len.ensures.valid.2)
 
 pub returns-in-Ok-None-clause-evicted : goal.returns-in-Ok-None-clause-evicted
 returns-in-Ok-None-clause-evicted c =
     let a = c.args in
     let i = c.self.inside in
-    let absent = subst (λ (m : Held). find (λ o. same_place o (entry_of (a.place, a.stored))) m.entries ≡ None) (sym c.self.view_is) c.requires.absent in
+    let absent = subst (λ (m : HeldEntries). find (λ o. same_place o (entry_of (a.place, a.stored))) m.entries ≡ None) (sym c.self.view_is) c.requires.absent in
     let put = absent_put i.cache a.place a.stored c.requires.placed absent c.self.invariant.placed in
     evicted_is i.cache.cap i.cache.entries (entry_of (a.place, a.stored)) None c.len-len.ensures.valid.2 absent (sym c.in-Ok-None.field-0-is ∙ c.in-Ok-None.ensures.old ∙ put.1)
-    ∙ ap (λ (m : Held). slice_get (with_first (entry_of (a.place, a.stored)) m.entries) m.capacity) c.self.view_is
+    ∙ ap (λ (m : HeldEntries). slice_get (with_first (entry_of (a.place, a.stored)) m.entries) m.capacity) c.self.view_is
 
 pub returns-in-Ok-Some-clause-evicted : goal.returns-in-Ok-Some-clause-evicted
 returns-in-Ok-Some-clause-evicted c =
     let a = c.args in
     let i = c.self.inside in
     let x : Place × Stored = (c.in-Ok-Some.place, c.in-Ok-Some.stored) in
-    let absent = subst (λ (m : Held). find (λ o. same_place o (entry_of (a.place, a.stored))) m.entries ≡ None) (sym c.self.view_is) c.requires.absent in
+    let absent = subst (λ (m : HeldEntries). find (λ o. same_place o (entry_of (a.place, a.stored))) m.entries ≡ None) (sym c.self.view_is) c.requires.absent in
     let put = absent_put i.cache a.place a.stored c.requires.placed absent c.self.invariant.placed in
     ap (λ (e : Entry). Some e) c.join.ensures ∙ evicted_is i.cache.cap i.cache.entries (entry_of (a.place, a.stored)) (Some x) c.len-len.ensures.valid.2 absent (sym c.in-Ok-Some.field-0-is ∙ c.in-Ok-Some.ensures.old ∙ put.1)
-    ∙ ap (λ (m : Held). slice_get (with_first (entry_of (a.place, a.stored)) m.entries) m.capacity) c.self.view_is
+    ∙ ap (λ (m : HeldEntries). slice_get (with_first (entry_of (a.place, a.stored)) m.entries) m.capacity) c.self.view_is

@@ -7,7 +7,7 @@ use Rattle.txc_node.specs.declared.place.Place.{Place}
 use Rattle.txc_node.specs.declared.stored.Stored.{Stored}
 use Rattle.txc_node.specs.Places.{place_at, equal_places}
 use Rattle.txc_node.specs.Entries.{others}
-use Rattle.txc_node.specs.Indexed.{Held, entries_of, entries_under, reaches_under}
+use Rattle.txc_node.specs.Indexed.{HeldEntries, entries_of, entries_under, reaches_under}
 use Rattle.txc_node.proofs.Fronts.{brought_entries, brought_tied}
 use Rattle.txc_node.proofs.keyed.KeyedEntries.bring_first.Goals as goal
 
@@ -15,13 +15,13 @@ pub bring_found-requires : goal.bring_found-requires
 bring_found-requires c =
     let a = c.args in
     ap (λ (rs : List Interval). slice_get rs a.found.at) (c.self.invariant.keys a.key.now)
-    ∙ subst (λ (m : Held). slice_get (reaches_under a.key.now m.entries) a.found.at ≡ Some a.found.reach) (sym c.self.view_is) c.requires
+    ∙ subst (λ (m : HeldEntries). slice_get (reaches_under a.key.now m.entries) a.found.at ≡ Some a.found.reach) (sym c.self.view_is) c.requires
 
 pub invariant_of-self : goal.invariant_of-self
 invariant_of-self c =
     let a = c.args in
     let i = c.self.inside in
-    let is = subst (λ (m : Held). slice_get (reaches_under a.key.now m.entries) a.found.at ≡ Some a.found.reach) (sym c.self.view_is) c.requires in
+    let is = subst (λ (m : HeldEntries). slice_get (reaches_under a.key.now m.entries) a.found.at ≡ Some a.found.reach) (sym c.self.view_is) c.requires in
     let moved : c.promote.new.self.entries ≡ promoted (equal_places (place_at a.key.now a.found.reach.lo)) i.cache.entries =
     ap (λ (m : LruCache Place Stored). m.entries) c.promote.ensures.entries ∙ ap (λ (q : Place). promoted (equal_places q) i.cache.entries) (c.new-place.ensures ∙ ap (place_at a.key.now) c.lo.ensures) in
     rw moved (brought_tied i.cache.entries i.keys.versions.entries c.bring_found.new.keys.versions.entries a.key.now a.found.at a.found.reach c.self.invariant is c.bring_found.ensures)
@@ -32,4 +32,4 @@ returns-clause-entries c =
     let i = c.self.inside in
     let moved : c.promote.new.self.entries ≡ promoted (equal_places (place_at a.key.now a.found.reach.lo)) i.cache.entries =
     ap (λ (m : LruCache Place Stored). m.entries) c.promote.ensures.entries ∙ ap (λ (q : Place). promoted (equal_places q) i.cache.entries) (c.new-place.ensures ∙ ap (place_at a.key.now) c.lo.ensures) in
-    rw moved (subst (λ (m : Held). slice_get (reaches_under a.key.now m.entries) a.found.at ≡ Some a.found.reach → (e : Entry) → slice_get (entries_under a.key.now m.entries) a.found.at ≡ Some e → entries_of (promoted (equal_places (place_at a.key.now a.found.reach.lo)) i.cache.entries) ≡ e ∷ others e m.entries) c.self.view_is (λ is e at. brought_entries i.cache.entries a.key.now a.found.at a.found.reach e c.self.invariant.placed c.self.invariant.apart is at) c.requires)
+    rw moved (subst (λ (m : HeldEntries). slice_get (reaches_under a.key.now m.entries) a.found.at ≡ Some a.found.reach → (e : Entry) → slice_get (entries_under a.key.now m.entries) a.found.at ≡ Some e → entries_of (promoted (equal_places (place_at a.key.now a.found.reach.lo)) i.cache.entries) ≡ e ∷ others e m.entries) c.self.view_is (λ is e at. brought_entries i.cache.entries a.key.now a.found.at a.found.reach e c.self.invariant.placed c.self.invariant.apart is at) c.requires)

@@ -1,5 +1,5 @@
 use Rattle.std.proofs.Common.{sym, subst}
-use Rattle.txc_node.specs.Indexed.{Held, IndexesTags, entries_of}
+use Rattle.txc_node.specs.Indexed.{HeldEntries, IndexesTags, entries_of}
 use Rattle.txc_node.proofs.Sweepings.{all_left, listed_have, swept_tied}
 use Rattle.txc_node.proofs.keyed.KeyedEntries.drop_ended.Goals as goal
 
@@ -9,7 +9,7 @@ at_all-requires-clause-stored c =
     record {
       placed = tied.placed;
       apart = tied.apart;
-      listed = subst (λ (m : Held). IndexesTags c.args.index.now.tables.items m.entries) (sym c.self.view_is) c.requires;
+      listed = subst (λ (m : HeldEntries). IndexesTags c.args.index.now.tables.items m.entries) (sym c.self.view_is) c.requires;
     }
 
 pub at_all-requires-clause-reaches : goal.at_all-requires-clause-reaches

@@ -5,7 +5,7 @@ use Rattle.txc_node.specs.declared.entry.Entry.{Entry}
 use Rattle.txc_node.specs.declared.place.Place.{Place}
 use Rattle.txc_node.specs.Places.{place_of, place_at, equal_places}
 use Rattle.txc_node.specs.Indexed.{stored_of, shown_as}
-use Rattle.txc_node.specs.Cache.{Cache, answer, shown_of}
+use Rattle.txc_node.specs.Cache.{Cache, lookup_answer, shown_of}
 use Rattle.txc_node.proofs.Fronts.{found_again}
 use Rattle.txc_node.proofs.node.NodeCore.find.Goals as goal
 
@@ -19,4 +19,4 @@ returns-clause-answer c =
     (rw c.keyed-entries.ensures at c.get.ensures)
     ∙ ap (λ (q : Place). option_map stored_of (find (λ (o : Entry). equal_places q (place_of o)) es)) (c.new-place.ensures ∙ ap (place_at a.key.now) c.lo.ensures)
     ∙ ap (option_map stored_of) (found_again a.key.now es c.in-Some.found.at h.0 c.in-Some.found.reach c.self.invariant.apart h.2 h.3)
-    ) ∙ sym (ap (option_map (shown_of i.processed)) h.1) ∙ ap (λ (m : Cache). answer m a.key.now a.lo a.hi) c.self.view_is
+    ) ∙ sym (ap (option_map (shown_of i.processed)) h.1) ∙ ap (λ (m : Cache). lookup_answer m a.key.now a.lo a.hi) c.self.view_is

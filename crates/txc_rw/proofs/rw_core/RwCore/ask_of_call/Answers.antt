@@ -1,12 +1,12 @@
 use Rattle.std.proofs.Common.{◌≡◌, Some, sym, subst, ap, ◌∙◌}
 use Rattle.txc_ports.specs.declared.request.PortRequest.TheVariants as requests
-use Rattle.txc_rw.specs.Core.{asked_query, RwHolds, RwValue}
+use Rattle.txc_rw.specs.Core.{query_of_reading, RwHolds, RwValue}
 use Rattle.txc_rw.proofs.Holding.{given_up, holds_moved}
 use Rattle.txc_rw.proofs.rw_core.RwCore.ask_of_call.Goals as goal
 
 pub returns-in_default-clause-holds : goal.returns-in_default-clause-holds
 returns-in_default-clause-holds g c = λ L h.
-    let was : RwValue = record { base = c.self.inside.base; queried = c.self.inside.queried.items; answers = c.self.inside.answers.items; changes = c.self.inside.changes.items; call = c.self.inside.machine; reading = asked_query c.self.inside.reading } in
+    let was : RwValue = record { base = c.self.inside.base; queried = c.self.inside.queried.items; answers = c.self.inside.answers.items; changes = c.self.inside.changes.items; call = c.self.inside.machine; reading = query_of_reading c.self.inside.reading } in
     let same : c.args.self.now ≡ was = sym (c.self.view_is ∙ c.in_default.ensures.unchanged) in
     given_up g.A.App.next L c.args.registry.now was (subst (λ (w : RwValue). RwHolds g.A.App.next L c.args.registry.now w) same h)
     c.cancel.new.registry c.cancel.new.self was.reading c.cancel.ensures.rest.0 c.cancel.ensures.need

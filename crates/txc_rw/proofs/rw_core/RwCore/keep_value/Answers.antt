@@ -1,12 +1,12 @@
 use Rattle.std.proofs.Common.{◌≡◌, sym, subst, ap, ◌∙◌}
 use Rattle.txc_call.specs.Calling.{InCall, IsCalling}
-use Rattle.txc_rw.specs.Core.{asked_query, RwHolds, RwValue}
+use Rattle.txc_rw.specs.Core.{query_of_reading, RwHolds, RwValue}
 use Rattle.txc_rw.proofs.Holding.{dropped, ended, recorded}
 use Rattle.txc_rw.proofs.rw_core.RwCore.keep_value.Goals as goal
 
 pub returns-in_default-copy-clause-holds : goal.returns-in_default-copy-clause-holds
 returns-in_default-copy-clause-holds c = λ next objects L calling inside h.
-    let was : RwValue = record { base = c.self.inside.base; queried = c.self.inside.queried.items; answers = c.self.inside.answers.items; changes = c.self.inside.changes.items; call = c.self.inside.machine; reading = asked_query c.self.inside.reading } in
+    let was : RwValue = record { base = c.self.inside.base; queried = c.self.inside.queried.items; answers = c.self.inside.answers.items; changes = c.self.inside.changes.items; call = c.self.inside.machine; reading = query_of_reading c.self.inside.reading } in
     let same : c.args.self.now ≡ was = sym c.self.view_is in
     let calling' = subst (λ (w : RwValue). IsCalling next objects w.call) same calling in
     let inside' = subst (λ (w : RwValue). InCall 1 w.call) same inside in
@@ -14,7 +14,7 @@ returns-in_default-copy-clause-holds c = λ next objects L calling inside h.
 
 pub returns-in_default-push-clause-holds : goal.returns-in_default-push-clause-holds
 returns-in_default-push-clause-holds c = λ next objects L calling inside h.
-    let was : RwValue = record { base = c.self.inside.base; queried = c.self.inside.queried.items; answers = c.self.inside.answers.items; changes = c.self.inside.changes.items; call = c.self.inside.machine; reading = asked_query c.self.inside.reading } in
+    let was : RwValue = record { base = c.self.inside.base; queried = c.self.inside.queried.items; answers = c.self.inside.answers.items; changes = c.self.inside.changes.items; call = c.self.inside.machine; reading = query_of_reading c.self.inside.reading } in
     let same : c.args.self.now ≡ was = sym c.self.view_is in
     let calling' = subst (λ (w : RwValue). IsCalling next objects w.call) same calling in
     let inside' = subst (λ (w : RwValue). InCall 1 w.call) same inside in
@@ -22,7 +22,7 @@ returns-in_default-push-clause-holds c = λ next objects L calling inside h.
 
 pub returns-clause-holds : goal.returns-clause-holds
 returns-clause-holds c = λ next objects L calling inside h.
-    let was : RwValue = record { base = c.self.inside.base; queried = c.self.inside.queried.items; answers = c.self.inside.answers.items; changes = c.self.inside.changes.items; call = c.self.inside.machine; reading = asked_query c.self.inside.reading } in
+    let was : RwValue = record { base = c.self.inside.base; queried = c.self.inside.queried.items; answers = c.self.inside.answers.items; changes = c.self.inside.changes.items; call = c.self.inside.machine; reading = query_of_reading c.self.inside.reading } in
     let same : c.args.self.now ≡ was = sym c.self.view_is in
     let calling' = subst (λ (w : RwValue). IsCalling next objects w.call) same calling in
     let inside' = subst (λ (w : RwValue). InCall 1 w.call) same inside in
@@ -30,7 +30,7 @@ returns-clause-holds c = λ next objects L calling inside h.
 
 pub returns-in_default-push-clause-fits : goal.returns-in_default-push-clause-fits
 returns-in_default-push-clause-fits c = λ next objects calling inside.
-    let was : RwValue = record { base = c.self.inside.base; queried = c.self.inside.queried.items; answers = c.self.inside.answers.items; changes = c.self.inside.changes.items; call = c.self.inside.machine; reading = asked_query c.self.inside.reading } in
+    let was : RwValue = record { base = c.self.inside.base; queried = c.self.inside.queried.items; answers = c.self.inside.answers.items; changes = c.self.inside.changes.items; call = c.self.inside.machine; reading = query_of_reading c.self.inside.reading } in
     let same : c.args.self.now ≡ was = sym c.self.view_is in
     let calling' = subst (λ (w : RwValue). IsCalling next objects w.call) same calling in
     let inside' = subst (λ (w : RwValue). InCall 1 w.call) same inside in
@@ -38,7 +38,7 @@ returns-in_default-push-clause-fits c = λ next objects calling inside.
 
 pub returns-clause-fits : goal.returns-clause-fits
 returns-clause-fits c = λ next objects calling inside.
-    let was : RwValue = record { base = c.self.inside.base; queried = c.self.inside.queried.items; answers = c.self.inside.answers.items; changes = c.self.inside.changes.items; call = c.self.inside.machine; reading = asked_query c.self.inside.reading } in
+    let was : RwValue = record { base = c.self.inside.base; queried = c.self.inside.queried.items; answers = c.self.inside.answers.items; changes = c.self.inside.changes.items; call = c.self.inside.machine; reading = query_of_reading c.self.inside.reading } in
     let same : c.args.self.now ≡ was = sym c.self.view_is in
     let calling' = subst (λ (w : RwValue). IsCalling next objects w.call) same calling in
     let inside' = subst (λ (w : RwValue). InCall 1 w.call) same inside in

@@ -10,7 +10,7 @@ use Rattle.txc_call.specs.Turns.{Turn as CallTurn}
 use Rattle.txc_call.specs.Calling.{Calling, InCall}
 use Rattle.txc_rw.specs.declared.reading.Reading.{Reading}
 use Rattle.txc_rw.specs.Answers.{committed}
-use Rattle.txc_rw.specs.Core.{asked_query, IsFoundAt, IsRightReply, ReadingFits, RwHolds, RwValue}
+use Rattle.txc_rw.specs.Core.{IsFoundAt, IsRightReply, query_of_reading, ReadingFits, RwHolds, RwValue}
 use Rattle.txc_rw.specs.Leading.{standing_of}
 use Rattle.txc_rw.proofs.Running.{led_both, led_by_found, same_found}
 use Rattle.txc_rw.proofs.Counting.{counted_ask}
@@ -19,13 +19,13 @@ use Rattle.txc_rw.proofs.rw_core.RwCore.reply.Goals as goal
 
 pub returns-in-Err-clause-holds : goal.returns-in-Err-clause-holds
 returns-in-Err-clause-holds g c = λ L right h.
-    let was : RwValue = record { base = c.self.inside.base; queried = c.self.inside.queried.items; answers = c.self.inside.answers.items; changes = c.self.inside.changes.items; call = c.self.inside.machine; reading = asked_query c.self.inside.reading } in
+    let was : RwValue = record { base = c.self.inside.base; queried = c.self.inside.queried.items; answers = c.self.inside.answers.items; changes = c.self.inside.changes.items; call = c.self.inside.machine; reading = query_of_reading c.self.inside.reading } in
     let q : Query = c.in-Some.field-0.query in
     let same : c.args.self.now ≡ was = sym c.self.view_is in
-    let asked : was.reading ≡ Some q = ap (λ (r : Option Reading). asked_query r) (sym c.replace.ensures.value ∙ c.in-Some.is) in
+    let asked : was.reading ≡ Some q = ap (λ (r : Option Reading). query_of_reading r) (sym c.replace.ensures.value ∙ c.in-Some.is) in
     let h' : RwHolds g.A.App.next L c.args.registry.now was = subst (λ (w : RwValue). RwHolds g.A.App.next L c.args.registry.now w) same h in
-    let none : asked_query c.replace.new.dest ≡ None = ap (λ (r : Option Reading). asked_query r) c.replace.ensures.after in
-    given_up g.A.App.next L c.args.registry.now was h' c.give_up.new.registry c.give_up.new.machine (asked_query c.replace.new.dest) c.give_up.ensures.rest.0 c.give_up.ensures.need
+    let none : query_of_reading c.replace.new.dest ≡ None = ap (λ (r : Option Reading). query_of_reading r) c.replace.ensures.after in
+    given_up g.A.App.next L c.args.registry.now was h' c.give_up.new.registry c.give_up.new.machine (query_of_reading c.replace.new.dest) c.give_up.ensures.rest.0 c.give_up.ensures.need
 
 pub invariant_of-self-then-is_none : goal.invariant_of-self-then-is_none
 invariant_of-self-then-is_none g c =
@@ -44,17 +44,17 @@ invariant_of-self-in-Err-reply g c =
 
 pub returns-then-is_none-clause-holds : goal.returns-then-is_none-clause-holds
 returns-then-is_none-clause-holds g c = λ L right h.
-    let was : RwValue = record { base = c.self.inside.base; queried = c.self.inside.queried.items; answers = c.self.inside.answers.items; changes = c.self.inside.changes.items; call = c.self.inside.machine; reading = asked_query c.self.inside.reading } in
+    let was : RwValue = record { base = c.self.inside.base; queried = c.self.inside.queried.items; answers = c.self.inside.answers.items; changes = c.self.inside.changes.items; call = c.self.inside.machine; reading = query_of_reading c.self.inside.reading } in
     let q : Query = c.in-Some.field-0.query in
     let same : c.args.self.now ≡ was = sym c.self.view_is in
-    let asked : was.reading ≡ Some q = ap (λ (r : Option Reading). asked_query r) (sym c.replace.ensures.value ∙ c.in-Some.is) in
+    let asked : was.reading ≡ Some q = ap (λ (r : Option Reading). query_of_reading r) (sym c.replace.ensures.value ∙ c.in-Some.is) in
     let h' : RwHolds g.A.App.next L c.args.registry.now was = subst (λ (w : RwValue). RwHolds g.A.App.next L c.args.registry.now w) same h in
-    let none : asked_query c.replace.new.dest ≡ None = ap (λ (r : Option Reading). asked_query r) c.replace.ensures.after in
+    let none : query_of_reading c.replace.new.dest ≡ None = ap (λ (r : Option Reading). query_of_reading r) c.replace.ensures.after in
     let found : IsFoundAt L was.base q c.in-Ok.found = reply_found L was c.args.reply c.in-Ok.found q c.in-Ok.is asked (subst (λ (w : RwValue). IsRightReply L w c.args.reply) same right) in
-    let after : RwValue = record was { queried = c.push_reserved.new.self.items; reading = asked_query c.replace.new.dest } in
+    let after : RwValue = record was { queried = c.push_reserved.new.self.items; reading = query_of_reading c.replace.new.dest } in
     rows_given g.A.App.next L c.args.registry.now after c.keep_rows.new.self q c.in-Ok.found.rows.items
     (subst (λ (qs : List Query). Contains qs q) (sym c.push_reserved.ensures.items) (Contains-push was.queried q)) found.rows c.keep_rows.ensures.kept c.keep_rows.ensures.same
-    (holds_queried g.A.App.next L c.args.registry.now was h' q c.args.registry.now was.call c.push_reserved.new.self.items (asked_query c.replace.new.dest) c.push_reserved.ensures.items none (λ changes agree hold. hold))
+    (holds_queried g.A.App.next L c.args.registry.now was h' q c.args.registry.now was.call c.push_reserved.new.self.items (query_of_reading c.replace.new.dest) c.push_reserved.ensures.items none (λ changes agree hold. hold))
 
 pub reply-requires-clause-common : goal.reply-requires-clause-common
 reply-requires-clause-common g c = (
@@ -70,12 +70,12 @@ go_on-requires-clause-at_one g c =
 
 pub returns-in-Ok-reply-clause-holds : goal.returns-in-Ok-reply-clause-holds
 returns-in-Ok-reply-clause-holds g c = λ L right h.
-    let was : RwValue = record { base = c.self.inside.base; queried = c.self.inside.queried.items; answers = c.self.inside.answers.items; changes = c.self.inside.changes.items; call = c.self.inside.machine; reading = asked_query c.self.inside.reading } in
+    let was : RwValue = record { base = c.self.inside.base; queried = c.self.inside.queried.items; answers = c.self.inside.answers.items; changes = c.self.inside.changes.items; call = c.self.inside.machine; reading = query_of_reading c.self.inside.reading } in
     let q : Query = c.in-Some.field-0.query in
     let same : c.args.self.now ≡ was = sym c.self.view_is in
-    let asked : was.reading ≡ Some q = ap (λ (r : Option Reading). asked_query r) (sym c.replace.ensures.value ∙ c.in-Some.is) in
+    let asked : was.reading ≡ Some q = ap (λ (r : Option Reading). query_of_reading r) (sym c.replace.ensures.value ∙ c.in-Some.is) in
     let h' : RwHolds g.A.App.next L c.args.registry.now was = subst (λ (w : RwValue). RwHolds g.A.App.next L c.args.registry.now w) same h in
-    let none : asked_query c.replace.new.dest ≡ None = ap (λ (r : Option Reading). asked_query r) c.replace.ensures.after in
+    let none : query_of_reading c.replace.new.dest ≡ None = ap (λ (r : Option Reading). query_of_reading r) c.replace.ensures.after in
     let found : IsFoundAt L was.base q c.in-Ok.found = reply_found L was c.args.reply c.in-Ok.found q c.in-Ok.is asked (subst (λ (w : RwValue). IsRightReply L w c.args.reply) same right) in
     let some : was.call.need ≢ None = λ gone.
     let one = some_by_test _ _ _ c.need.ensures (c.is_none.ensures ∙ ap (λ (b : Bool). not b) c.if-is_none.false) in
@@ -83,20 +83,20 @@ returns-in-Ok-reply-clause-holds g c = λ L right h.
     absurd (cc no) in
     let is : was.call.need ≡ Some (needs.Query q) = need_of_call was.reading was.call.need q (subst (λ (w : RwValue). ReadingFits w.reading w.call.need) same c.requires.fits.reading) asked some in
     c.go_on.ensures.holds L
-    (holds_queried g.A.App.next L c.args.registry.now was h' q c.reply.new.registry c.reply.new.self c.push_reserved.new.self.items (asked_query c.replace.new.dest) c.push_reserved.ensures.items none
+    (holds_queried g.A.App.next L c.args.registry.now was h' q c.reply.new.registry c.reply.new.self c.push_reserved.new.self.items (query_of_reading c.replace.new.dest) c.push_reserved.ensures.items none
     (λ changes agree hold.
     c.in-Ok-reply.ensures.holds (committed changes) (needs.Query q) is
     (found_at_one L was.base changes q c.in-Ok.found c.at_one.result c.at_one.ensures.rows c.at_one.ensures.reach found agree) hold))
 
 pub returns-in-Err-reply-clause-holds : goal.returns-in-Err-reply-clause-holds
 returns-in-Err-reply-clause-holds g c = λ L right h.
-    let was : RwValue = record { base = c.self.inside.base; queried = c.self.inside.queried.items; answers = c.self.inside.answers.items; changes = c.self.inside.changes.items; call = c.self.inside.machine; reading = asked_query c.self.inside.reading } in
+    let was : RwValue = record { base = c.self.inside.base; queried = c.self.inside.queried.items; answers = c.self.inside.answers.items; changes = c.self.inside.changes.items; call = c.self.inside.machine; reading = query_of_reading c.self.inside.reading } in
     let q : Query = c.in-Some.field-0.query in
     let same : c.args.self.now ≡ was = sym c.self.view_is in
-    let asked : was.reading ≡ Some q = ap (λ (r : Option Reading). asked_query r) (sym c.replace.ensures.value ∙ c.in-Some.is) in
+    let asked : was.reading ≡ Some q = ap (λ (r : Option Reading). query_of_reading r) (sym c.replace.ensures.value ∙ c.in-Some.is) in
     let h' : RwHolds g.A.App.next L c.args.registry.now was = subst (λ (w : RwValue). RwHolds g.A.App.next L c.args.registry.now w) same h in
-    let none : asked_query c.replace.new.dest ≡ None = ap (λ (r : Option Reading). asked_query r) c.replace.ensures.after in
-    holds_queried g.A.App.next L c.args.registry.now was h' q c.reply.new.registry c.reply.new.self c.push_reserved.new.self.items (asked_query c.replace.new.dest) c.push_reserved.ensures.items none
+    let none : query_of_reading c.replace.new.dest ≡ None = ap (λ (r : Option Reading). query_of_reading r) c.replace.ensures.after in
+    holds_queried g.A.App.next L c.args.registry.now was h' q c.reply.new.registry c.reply.new.self c.push_reserved.new.self.items (query_of_reading c.replace.new.dest) c.push_reserved.ensures.items none
     (λ changes agree hold. at_rest_holds g.A.App.next (committed changes) c.reply.new.registry c.reply.new.self c.in-Err-reply.ensures.rest.1.0 c.in-Err-reply.ensures.rest.0)
 
 pub returns-in-Ok-reply-clause-counted : goal.returns-in-Ok-reply-clause-counted

@@ -1,13 +1,13 @@
 use Rattle.std.proofs.Common.{[], sym, subst}
 use Rattle.txc_call.specs.Calling.{Calling, CallHolds}
-use Rattle.txc_rw.specs.Core.{asked_query, RwHolds, RwValue}
-use Rattle.txc_rw.specs.Leading.{standing_of, CallLeads}
+use Rattle.txc_rw.specs.Core.{query_of_reading, RwHolds, RwValue}
+use Rattle.txc_rw.specs.Leading.{standing_of, RwCallLeads}
 use Rattle.txc_rw.proofs.Holding.{holds_moved}
 use Rattle.txc_rw.proofs.rw_core.RwCore.start.Goals as goal
 
 pub returns-in-Ok-clause-holds : goal.returns-in-Ok-clause-holds
 returns-in-Ok-clause-holds g c = λ L h.
-    let was : RwValue = record { base = c.self.inside.base; queried = c.self.inside.queried.items; answers = c.self.inside.answers.items; changes = c.self.inside.changes.items; call = c.self.inside.machine; reading = asked_query c.self.inside.reading } in
+    let was : RwValue = record { base = c.self.inside.base; queried = c.self.inside.queried.items; answers = c.self.inside.answers.items; changes = c.self.inside.changes.items; call = c.self.inside.machine; reading = query_of_reading c.self.inside.reading } in
     c.go_on.ensures.holds L
     (holds_moved g.A.App.next L c.args.registry.now was (subst (λ (w : RwValue). RwHolds g.A.App.next L c.args.registry.now w) (sym c.self.view_is) h)
     c.args.registry.now c.start.new.self was.reading
@@ -15,5 +15,5 @@ returns-in-Ok-clause-holds g c = λ L h.
 
 pub returns-in-Ok-clause-leads : goal.returns-in-Ok-clause-leads
 returns-in-Ok-clause-leads g c = λ there s.
-    subst (λ (w : Calling). CallLeads g.A.App.next s (standing_of w c.args.registry.now) [] c.go_on.new.self c.go_on.new.registry c.go_on.result) c.in-Ok.ensures.after
+    subst (λ (w : Calling). RwCallLeads g.A.App.next s (standing_of w c.args.registry.now) [] c.go_on.new.self c.go_on.new.registry c.go_on.result) c.in-Ok.ensures.after
     (c.go_on.ensures.leads s)

@@ -3,7 +3,7 @@ use Rattle.std.specs.Prelude.{IfOk}
 use Rattle.txc_db.specs.History.{History}
 use Rattle.txc_rw.specs.declared.given.Given.TheVariants as given
 use Rattle.txc_rw.specs.Core.{RwValue}
-use Rattle.txc_rw.specs.Txn.{TxnValue}
+use Rattle.txc_rw.specs.Txn.{RwTxnValue}
 use Rattle.txc_db.specs.History.{state_at}
 use Rattle.txc_app.specs.Eval.{eval}
 use Rattle.txc_registry.proofs.Offered.{idle_same}
@@ -28,7 +28,7 @@ returns-clause-answer g c =
     let right = c.answers_are_right.ensures.base g.A.App.next L c.call_at.new.registry core' (holds_by g.A.App.next c.front.result.now.history c.self.inside.held c.self.inside.registry c.call_at.new.registry c.self.inside.core c.call_at.new.core c.front.ensures.history
     c.call_at.ensures.holds (c.self.invariant.1.holds c.self.inside.registry)) in
     let base : core'.base ≡ c.self.inside.core.base = ap (λ (w : RwValue). w.base) c.call_at.ensures.same in
-    subst (λ (t : TxnValue). IfOk c.call_at.result (λ v. eval g.A.App.next c.args.key (state_at t.history t.core.base) ≡ Some v)) c.self.view_is
+    subst (λ (t : RwTxnValue). IfOk c.call_at.result (λ v. eval g.A.App.next c.args.key (state_at t.history t.core.base) ≡ Some v)) c.self.view_is
     (if_ok (λ (v : List ℕ). core'.answers ≡ c.self.inside.core.answers ++ given.Value c.args.key v ∷ []) (λ (v : List ℕ). eval g.A.App.next c.args.key (state_at L c.self.inside.core.base) ≡ Some v) c.call_at.result
     (λ v is.
     subst (λ (n : ℕ). eval g.A.App.next c.args.key (state_at L n) ≡ Some v) base
@@ -43,6 +43,6 @@ returns-clause-same g c =
     c.call_at.ensures.holds (c.self.invariant.1.holds c.self.inside.registry)) in
     let objects : c.call_at.new.registry ≡ c.self.inside.registry = idle_same c.call_at.new.registry c.self.inside.registry two.0 c.self.invariant.0 c.call_at.ensures.functions in
     let core' : RwValue = c.call_at.new.core in
-    let now : TxnValue = record { core = core'; history = c.self.inside.held; objects = c.call_at.new.registry } in
-    subst (λ (t : TxnValue). now ≡ record t { core = record t.core { queried = core'.queried; answers = core'.answers; call = core'.call } }) c.self.view_is
+    let now : RwTxnValue = record { core = core'; history = c.self.inside.held; objects = c.call_at.new.registry } in
+    subst (λ (t : RwTxnValue). now ≡ record t { core = record t.core { queried = core'.queried; answers = core'.answers; call = core'.call } }) c.self.view_is
     (called c.self.inside.core core' c.self.inside.held c.self.inside.registry c.call_at.new.registry c.call_at.ensures.same c.self.invariant.1.reading objects)

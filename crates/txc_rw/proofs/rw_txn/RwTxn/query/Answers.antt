@@ -5,7 +5,7 @@ use Rattle.txc_rows.specs.States.{RowValue}
 use Rattle.txc_db.specs.History.{History}
 use Rattle.txc_rw.specs.declared.given.Given.TheVariants as given
 use Rattle.txc_rw.specs.Core.{RwValue}
-use Rattle.txc_rw.specs.Txn.{TxnValue}
+use Rattle.txc_rw.specs.Txn.{RwTxnValue}
 use Rattle.txc_rows.specs.States.{answer}
 use Rattle.txc_db.specs.History.{state_at}
 use Rattle.txc_rw.proofs.Resting.{holds_by, if_ok, last_right, rested}
@@ -29,7 +29,7 @@ returns-clause-answer g c =
     let L : History = c.self.inside.held in
     let right = c.answers_are_right.ensures.base g.A.App.next L c.query_at.new.registry core' (holds_by g.A.App.next c.front.result.now.history c.self.inside.held c.self.inside.registry c.query_at.new.registry c.self.inside.core c.query_at.new.core c.front.ensures.history
     c.query_at.ensures.holds (c.self.invariant.1.holds c.self.inside.registry)) in
-    subst (λ (t : TxnValue). IfOk c.query_at.result (λ v. v.items ≡ answer c.args.query (state_at t.history t.core.base))) c.self.view_is
+    subst (λ (t : RwTxnValue). IfOk c.query_at.result (λ v. v.items ≡ answer c.args.query (state_at t.history t.core.base))) c.self.view_is
     (if_ok (λ (v : Vec RowValue Global). core' ≡ record core { queried = core.queried ++ c.args.query ∷ []; answers = core.answers ++ given.Rows c.args.query v.items ∷ [] })
     (λ (v : Vec RowValue Global). v.items ≡ answer c.args.query (state_at L core.base)) c.query_at.result
     (λ v is.

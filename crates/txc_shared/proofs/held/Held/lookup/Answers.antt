@@ -1,7 +1,7 @@
 use Rattle.std.proofs.Common.{◌≡◌, refl, ap, sym, subst, ◌∙◌}
 use Rattle.std.specs.Option.{option_map}
 use Rattle.txc_node.specs.declared.op.Op.TheVariants.{Lookup}
-use Rattle.txc_node.specs.Cache.{answer}
+use Rattle.txc_node.specs.Cache.{lookup_answer}
 use Rattle.txc_node.specs.Steps.{found_reply}
 use Rattle.txc_shared.specs.Nodes.{NodeValue, after_call}
 use Rattle.txc_shared.specs.Passes.{PassValue}
@@ -17,7 +17,7 @@ returns-in-Ok-clause-found g c =
     let admitted : IsAdmitted c.self.inside.node p = subst (λ (n : NodeValue). IsAdmitted n p) (sym same) c.in_ok-admit.ensures.ok in
     let n = c.self.inside.node in
     let op = Lookup c.args.key.now c.args.lo c.args.hi in
-    let shown = answer n.cache c.args.key.now c.args.lo c.args.hi in
+    let shown = lookup_answer n.cache c.args.key.now c.args.lo c.args.hi in
     let m = c.lookup.new.self in
     let is : m ≡ after_call n p.pass op = subst (λ k. m ≡ after_call n k op) own c.in-Ok.ensures.after in
     let made = then_own n m p c.show.new.pass n.seen op (found_reply shown) admitted is c.show.ensures.records refl in

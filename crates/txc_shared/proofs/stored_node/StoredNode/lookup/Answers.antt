@@ -1,6 +1,6 @@
 use Rattle.std.proofs.Common.{◌≡◌, refl, ap, sym, ◌∙◌, false, rules}
 use Rattle.txc_node.specs.declared.op.Op.TheVariants.{Lookup}
-use Rattle.txc_node.specs.Cache.{answer, after_lookup}
+use Rattle.txc_node.specs.Cache.{lookup_answer, after_lookup}
 use Rattle.txc_node.specs.Steps.{found_reply}
 use Rattle.txc_shared.specs.Histories.{next_record}
 use Rattle.txc_shared.specs.Nodes.{start_of, NodeValue, LogValue}
@@ -21,9 +21,9 @@ invariant_of-self-else-not-append g c =
     let op = Lookup key c.args.lo c.args.hi in
     let next : c.lookup.follows.lender-at-none ≡ after_lookup c.self.inside.core key c.args.lo c.args.hi = search rules in
     let whole : c.self.inside.broken ≡ false = ap (λ (n : NodeValue). n.broken) c.self.view_is ∙ c.in_ok-check_whole.ensures.only_if in
-    let reply : c.in_ok-finding.reply ≡ found_reply (answer c.self.inside.core key c.args.lo c.args.hi) =
-    c.in_ok-finding.ensures.reply ∙ ap (λ (n : NodeValue). found_reply (answer n.cache key c.args.lo c.args.hi)) (sym c.self.view_is) in
-    let record_is : c.in_ok-next.next.value ≡ next_record c.args.pass rs op (found_reply (answer c.self.inside.core key c.args.lo c.args.hi)) =
+    let reply : c.in_ok-finding.reply ≡ found_reply (lookup_answer c.self.inside.core key c.args.lo c.args.hi) =
+    c.in_ok-finding.ensures.reply ∙ ap (λ (n : NodeValue). found_reply (lookup_answer n.cache key c.args.lo c.args.hi)) (sym c.self.view_is) in
+    let record_is : c.in_ok-next.next.value ≡ next_record c.args.pass rs op (found_reply (lookup_answer c.self.inside.core key c.args.lo c.args.hi)) =
     c.in_ok-next.ensures.ok ∙ (c.next_record.ensures ∙ (λ i. next_record c.args.pass rs (Lookup (c.copy.ensures i) c.args.lo c.args.hi) (reply i))) in
     stepped g.A.App.next c.self.inside.seen.history (start_of c.self.inside.settings) c.nodes_go_on.ensures.step rs c.append.new.self.records c.self.inside.core c.lookup.follows.lender-at-none c.self.inside.broken
     c.args.pass op c.in_ok-next.next.value c.self.invariant whole (may_look_up g.A.App.next c.self.inside.seen.history c.self.inside.core key c.args.lo c.args.hi c.in-Ok.ensures.only_if)

@@ -1,7 +1,7 @@
 use Rattle.std.proofs.Common.{◌≡◌, ◌<◌, length, sym, ap, ◌∙◌, arith, slice_get, IfSome, subst}
 use Rattle.once_cell.specs.declared.race.note.Note.{Note}
 use Rattle.once_cell.specs.Once.{cell_name}
-use Rattle.txc_stream.specs.Shown.{cells_of, knowns_of, names_of}
+use Rattle.txc_stream.specs.Shown.{cells_of_notes, knowns_of, names_of}
 use Rattle.txc_stream.proofs.Somes.{read_alike, slice_get-somes}
 use Rattle.txc_stream.proofs.Notes.{known_at, is_known_at, not_none, found}
 use Rattle.txc_stream.proofs.row.EventRow.get.Goals as goal
@@ -9,7 +9,7 @@ use Rattle.txc_stream.proofs.row.EventRow.get.Goals as goal
 pub pass_on-requires : goal.pass_on-requires
 pass_on-requires g c =
     let ns = c.front.inside.notes.items in
-    let rows : cells_of ns ≡ names_of c.self.inside.cells.items = ap (λ s. s.row) c.front.view_is ∙ (c.requires.row ∙ sym c.self.view_is) in
+    let rows : cells_of_notes ns ≡ names_of c.self.inside.cells.items = ap (λ s. s.row) c.front.view_is ∙ (c.requires.row ∙ sym c.self.view_is) in
     let shown : length c.args.front.now.list ≡ c.front.inside.len = ap (λ s. length s.list) (sym c.front.view_is) ∙ c.front.invariant.known in
     let below : c.args.at < length ns = omega (arith, c.requires.shown, c.front.invariant.within) in
     read_alike (λ (n : Note g.row.T.Denot). n.cell) cell_name ns c.self.inside.cells.items c.args.at _ _ below rows c.index.ensures c.index-cell.ensures ∙ sym c.note-note.ensures.0

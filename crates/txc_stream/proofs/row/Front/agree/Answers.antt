@@ -1,6 +1,6 @@
 use Rattle.std.proofs.Common.{◌≡◌, ◌<◌, ◌≤◌, length, sym, ap, ◌∙◌, arith}
 use Rattle.once_cell.specs.declared.race.note.Note.{Note}
-use Rattle.txc_stream.specs.Shown.{cells_of}
+use Rattle.txc_stream.specs.Shown.{cells_of_notes}
 use Rattle.txc_stream.proofs.Somes.{read_alike}
 use Rattle.txc_stream.proofs.Notes.{is_known_at, same_known, agree_more, fork}
 use Rattle.txc_stream.proofs.row.Front.agree.Goals as goal
@@ -9,7 +9,7 @@ pub same-requires : goal.same-requires
 same-requires g c =
     let ns = c.self.inside.notes.items in
     let ms = c.other.inside.notes.items in
-    let rows : cells_of ns ≡ cells_of ms = ap (λ s. s.row) c.self.view_is ∙ (c.requires ∙ sym (ap (λ s. s.row) c.other.view_is)) in
+    let rows : cells_of_notes ns ≡ cells_of_notes ms = ap (λ s. s.row) c.self.view_is ∙ (c.requires ∙ sym (ap (λ s. s.row) c.other.view_is)) in
     let below : c.loop-at.at < length ns = omega (arith, c.loop-at-test.true, c.min-most.ensures, c.self.invariant.within) in
     read_alike (λ (n : Note g.row.T.Denot). n.cell) (λ (n : Note g.row.T.Denot). n.cell) ns ms c.loop-at.at _ _ below rows c.index.ensures c.index-in-loop-at.ensures
 

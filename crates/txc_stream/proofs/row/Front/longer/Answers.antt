@@ -2,7 +2,7 @@ use Rattle.std.proofs.Common.{◌≡◌, ◌<◌, ◌≤◌, length, sym, ap, �
 use mathlib.Core.List.{IsPrefix}
 use Rattle.std.proofs.lemmas.List.{length-map}
 use Rattle.once_cell.specs.declared.race.note.Note.{Note}
-use Rattle.txc_stream.specs.Shown.{somes, cells_of, knowns_of}
+use Rattle.txc_stream.specs.Shown.{somes, cells_of_notes, knowns_of}
 use Rattle.txc_stream.proofs.Somes.{read_alike, somes_prefix, map_read}
 use Rattle.txc_stream.proofs.Notes.{is_known_at, same_known, agree_more, takes_more, takes_kept, shows_row}
 use Rattle.txc_stream.proofs.row.Front.longer.Goals.{then-at-self, else-at-self}
@@ -12,7 +12,7 @@ pub same-requires : goal.same-requires
 same-requires g c =
     let ns = c.loop-at.self-inside.notes.items in
     let ms = c.other.inside.notes.items in
-    let rows : cells_of ms ≡ cells_of ns = ap (λ s. s.row) c.other.view_is ∙ (c.requires ∙ (sym (ap (λ s. s.row) c.self.view_is) ∙ sym c.loop-at.invariant.cells)) in
+    let rows : cells_of_notes ms ≡ cells_of_notes ns = ap (λ s. s.row) c.other.view_is ∙ (c.requires ∙ (sym (ap (λ s. s.row) c.self.view_is) ∙ sym c.loop-at.invariant.cells)) in
     let below : c.loop-at.at < length ms = omega (arith, c.loop-at-test.true, c.other.invariant.within) in
     sym (read_alike (λ (n : Note g.row.T.Denot). n.cell) (λ (n : Note g.row.T.Denot). n.cell) ms ns c.loop-at.at _ _ below rows c.index-then-at-self.ensures c.index.ensures)
 
@@ -20,7 +20,7 @@ pub pass_on-requires : goal.pass_on-requires
 pass_on-requires g c =
     let ns = c.loop-at.self-inside.notes.items in
     let ms = c.other.inside.notes.items in
-    let rows : cells_of ms ≡ cells_of ns = ap (λ s. s.row) c.other.view_is ∙ (c.requires ∙ (sym (ap (λ s. s.row) c.self.view_is) ∙ sym c.loop-at.invariant.cells)) in
+    let rows : cells_of_notes ms ≡ cells_of_notes ns = ap (λ s. s.row) c.other.view_is ∙ (c.requires ∙ (sym (ap (λ s. s.row) c.self.view_is) ∙ sym c.loop-at.invariant.cells)) in
     let below : c.loop-at.at < length ms = omega (arith, c.loop-at-test.true, c.other.invariant.within) in
     read_alike (λ (n : Note g.row.T.Denot). n.cell) (λ (n : Note g.row.T.Denot). n.cell) ms ns c.loop-at.at _ _ below rows c.index-else-at-self.ensures c.index_mut.ensures.value
 
@@ -30,7 +30,7 @@ loop-at-preserved g c =
     let ns = c.loop-at.self-inside.notes.items in
     let ms = c.other.inside.notes.items in
     let inv = c.loop-at.invariant in
-    let rows : cells_of ms ≡ cells_of ns = ap (λ s. s.row) c.other.view_is ∙ (c.requires ∙ (sym (ap (λ s. s.row) c.self.view_is) ∙ sym inv.cells)) in
+    let rows : cells_of_notes ms ≡ cells_of_notes ns = ap (λ s. s.row) c.other.view_is ∙ (c.requires ∙ (sym (ap (λ s. s.row) c.self.view_is) ∙ sym inv.cells)) in
     let other : i < c.other.inside.len = omega (arith, c.loop-at-test.true) in
     let other' : i < length ms = omega (arith, c.other.invariant.within) in
     let mine' : i < length ns = omega (arith, sym (length-map ms (λ (n : Note g.row.T.Denot). n.cell)) ∙ (ap length rows ∙ length-map ns (λ (n : Note g.row.T.Denot). n.cell))) in

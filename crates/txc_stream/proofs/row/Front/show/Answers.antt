@@ -1,7 +1,7 @@
 use Rattle.std.proofs.Common.{◌≡◌, ◌<◌, length, get_or, sym, ap, ◌∙◌, arith, refl, length-set, subst}
 use Rattle.std.proofs.lemmas.List.{length-map}
 use Rattle.once_cell.specs.declared.race.note.Note.{Note}
-use Rattle.txc_stream.specs.Shown.{cells_of, IsCapacity}
+use Rattle.txc_stream.specs.Shown.{cells_of_notes, IsCapacity}
 use Rattle.txc_stream.proofs.Notes.{shows_row, shows_list, shows_length}
 use Rattle.txc_stream.proofs.row.Front.show.Goals as goal
 
@@ -23,7 +23,7 @@ returns-clause-row g c =
     let ns = c.self.inside.notes.items in
     let i = c.self.inside.len in
     let shown : length c.args.self.now.list ≡ i = ap (λ s. length s.list) (sym c.self.view_is) ∙ c.self.invariant.known in
-    let rows : cells_of ns ≡ c.args.self.now.row = ap (λ s. s.row) c.self.view_is in
+    let rows : cells_of_notes ns ≡ c.args.self.now.row = ap (λ s. s.row) c.self.view_is in
     shows_row ns i c.args.note (c.requires.cell ∙ (ap (λ k. get_or c.args.self.now.row k 0) shown ∙ ap (λ r. get_or r i 0) (sym rows))) ∙ rows
 
 pub returns-clause-list : goal.returns-clause-list

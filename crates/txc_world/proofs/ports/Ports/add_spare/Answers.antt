@@ -2,7 +2,7 @@ use Rattle.std.proofs.Common.{◌≡◌, ◌<◌, List, length, get_or, remove, 
 use Rattle.txc_db.specs.declared.pinned.Pinned.{Pinned}
 use Rattle.txc_db.specs.DatabaseValue.{is_held, without}
 use Rattle.txc_world.specs.Ports.{PortsValue}
-use Rattle.txc_world.specs.Keeping.{stamps_of}
+use Rattle.txc_world.specs.Keeping.{stamps_of_pins}
 use Rattle.txc_world.proofs.PortsLemmas.{added_spare, keeps_without_spare, ports_without_spare, spare_is_part}
 use Rattle.txc_world.proofs.ports.Ports.add_spare.Goals as goal
 
@@ -26,9 +26,9 @@ returns-clause-leads g c =
     let within : at < length p.spare = subst (λ (l : List Pinned). at < length l) c.deref.ensures.value c.in_ok-at.ensures.within in
     let is : c.remove-pinned.result ≡ get_or p.spare at c.remove-pinned.result = c.remove-pinned.ensures.value in
     added_spare p c.args.self.now c.self.view_is stamp at c.remove-pinned.result c.remove-pinned.new.self.items c.add.new.self c.add.result within is
-    (subst (λ (l : List Pinned). get_or (stamps_of l) at 0 ≡ stamp) c.deref.ensures.value c.in_ok-at.ensures.there)
-    (subst (λ (l : List Pinned). is_held stamp (stamps_of l) ≡ true) c.deref.ensures.value c.in_ok-at.ensures.held)
-    (subst (λ (l : List Pinned). stamps_of (remove l at) ≡ without stamp (stamps_of l)) c.deref.ensures.value c.in_ok-at.ensures.place)
+    (subst (λ (l : List Pinned). get_or (stamps_of_pins l) at 0 ≡ stamp) c.deref.ensures.value c.in_ok-at.ensures.there)
+    (subst (λ (l : List Pinned). is_held stamp (stamps_of_pins l) ≡ true) c.deref.ensures.value c.in_ok-at.ensures.held)
+    (subst (λ (l : List Pinned). stamps_of_pins (remove l at) ≡ without stamp (stamps_of_pins l)) c.deref.ensures.value c.in_ok-at.ensures.place)
     c.remove-pinned.ensures.items c.add.ensures.leads
 
 pub returns-clause-keeps : goal.returns-clause-keeps

@@ -1,7 +1,7 @@
 use Rattle.std.proofs.Common.{sym, subst}
 use Rattle.txc_ports.specs.declared.request.PortRequest.TheVariants as requests
 use Rattle.txc_world.specs.declared.asked.Asked.{Asked}
-use Rattle.txc_world.specs.Asks.{AskLeads, IsAsked}
+use Rattle.txc_world.specs.Asks.{IsAsked, PortRequestLeads}
 use Rattle.txc_world.proofs.AskLemmas.{asked_refusal, asked_rows}
 use Rattle.txc_world.specs.Books.{AskCounts}
 use Rattle.txc_world.proofs.Fairness.{counts_refusal, counts_rows}
@@ -14,7 +14,7 @@ returns-in-Ok-clause-asked g c =
 
 pub returns-in-Ok-clause-leads : goal.returns-in-Ok-clause-leads
 returns-in-Ok-clause-leads g c = λ seen.
-    subst (λ (a : Asked). AskLeads c.args.pass seen (requests.Query c.args.query.now c.args.stamp) c.args.self.now c.find_told.new.self a.did a.reply) (sym c.asked_rows.ensures)
+    subst (λ (a : Asked). PortRequestLeads c.args.pass seen (requests.Query c.args.query.now c.args.stamp) c.args.self.now c.find_told.new.self a.did a.reply) (sym c.asked_rows.ensures)
     (c.find_told.ensures.same, (c.in-Ok.ensures.found, c.in-Ok.ensures.only_if))
 
 pub returns-in-Err-clause-asked : goal.returns-in-Err-clause-asked
@@ -24,7 +24,7 @@ returns-in-Err-clause-asked g c =
 
 pub returns-in-Err-clause-leads : goal.returns-in-Err-clause-leads
 returns-in-Err-clause-leads g c = λ seen.
-    subst (λ (a : Asked). AskLeads c.args.pass seen (requests.Query c.args.query.now c.args.stamp) c.args.self.now c.find_told.new.self a.did a.reply) (sym c.asked_refusal.ensures)
+    subst (λ (a : Asked). PortRequestLeads c.args.pass seen (requests.Query c.args.query.now c.args.stamp) c.args.self.now c.find_told.new.self a.did a.reply) (sym c.asked_refusal.ensures)
     (c.find_told.ensures.same, c.in-Err.ensures.refused)
 
 pub returns-in-Ok-clause-counts : goal.returns-in-Ok-clause-counts

@@ -4,7 +4,7 @@ use Rattle.std.proofs.lemmas.Simd.{map-map}
 use Rattle.std.proofs.lemmas.List.Elements.{All-map}
 use Rattle.txc_world.specs.declared.actor.Actor.TheVariants.{Idle}
 use Rattle.txc_world.specs.Ports.{whole_of}
-use Rattle.txc_world.specs.Actors.{story_at, IsThere}
+use Rattle.txc_world.specs.Actors.{story_at, IsActorThere}
 use Rattle.txc_world.specs.Cast.{actor_at}
 use Rattle.txc_world.proofs.Balancing.{new_balanced}
 use Rattle.txc_world.proofs.world.World.new.Goals as goal
@@ -16,7 +16,7 @@ invariant_of-result g c = record {
   passes = ap length c.in_ok-actors.ensures ∙ length-map c.args.registries.items (λ r. Some (Idle r)) ∙ sym (c.len.ensures ∙ c.args.registries.ok.0) ∙ sym c.in_ok-ports.ensures.new.actors_are;
   sessions = ap length c.in_ok-sessions.ensures ∙ length-map {B = ℕ} c.deref.result.now (λ r. 0) ∙ ap length c.deref.ensures.value
       ∙ sym (ap length c.in_ok-actors.ensures ∙ length-map c.args.registries.items (λ r. Some (Idle r)));
-  there = rw c.in_ok-actors.ensures (All-map (IsThere g.A.App.next (whole_of c.in_ok-ports.ports) c.args.settings.nodes) (λ r. Some (Idle r)) c.args.registries.items c.requires.all_idle);
+  there = rw c.in_ok-actors.ensures (All-map (IsActorThere g.A.App.next (whole_of c.in_ok-ports.ports) c.args.settings.nodes) (λ r. Some (Idle r)) c.args.registries.items c.requires.all_idle);
 }
 
 pub returns-clause-actors : goal.returns-clause-actors
