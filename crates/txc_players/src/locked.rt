@@ -23,7 +23,7 @@ pub struct Shared<'a, J: Naming, R: Wait> {
     feed: Feed<J>,
     /// The holds that were not released yet.
     held: Vec<Held<J>>,
-    /// Whether no other thread calls it.
+    /// Whether a database alone shows what this one does: no other thread calls it, and no mark was appended.
     is_alone: bool,
 }
 
@@ -183,7 +183,10 @@ impl<J: Naming, R: Wait> Calls for Shared<'_, J, R> {
     fn other_call(&mut self, alloc: Global, command: &str, answer: &mut String) {
         let front = match command {
             "next" => return self.say_next(alloc, answer),
-            "mark" => return say_done(answer, self.append_mark(alloc)),
+            "mark" => {
+                self.is_alone = false;
+                return say_done(answer, self.append_mark(alloc));
+            }
             "reader" => self.database.reader(alloc),
             "front" => self.seen(alloc),
             "fed" => self.fed(alloc),
