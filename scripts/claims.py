@@ -261,10 +261,25 @@ def names():
                 yield document, f"names `{said}`, which is not there"
 
 
+def meanings():
+    """A definition's name has one meaning: where two crates have it, both say the same."""
+    found = {}
+    for crate in sources.crates():
+        for path in sorted((ROOT / "crates" / crate / "specs").glob("*.antt")):
+            for word in sources.spec_file(crate, path.stem).values():
+                if word.crate == crate and path.stem != "Lib":
+                    said = found.setdefault(word.name, {})
+                    said.setdefault(" ".join(word.text.split()), path)
+    for name, said in found.items():
+        for path in [*said.values()][1:]:
+            yield path, f"defines {name} in another meaning than {[*said.values()][0].relative_to(ROOT)}"
+
+
 def faults():
     """What the documents claim that is not so, each as a line of text."""
     found = []
-    checks = (links, paths, counted, words, long_sentences, crate_tables, promised, help_shown, settings, sessions, commands, toolchain, version, names)
+    checks = (links, paths, counted, words, long_sentences, crate_tables, promised, help_shown, settings, sessions, commands, toolchain, version, names,
+              meanings)
     for check in checks:
         found += [f"{document.relative_to(ROOT)} {said}" for document, said in check()]
     return found
