@@ -226,14 +226,15 @@ fn run<R: Threads + Wait + Sync>(
     run_over::<Brand, R>(rt, alloc, (core, one, other), case, answer)
 }
 
-/// Whether all is as wanted: anew where memory may have been refused.
+/// Whether all is as wanted: anew where memory may have been refused, or where by chance all receipts are of one
+/// stamp.
 fn is_answered<R: Threads + Wait + Sync>(
     rt: &R,
     alloc: Global,
     case: &Case<'_>,
     answer: &mut String,
 ) -> bool {
-    for _ in 0..2u32 {
+    for _ in 0..4u32 {
         answer.clear();
         match run(rt, alloc, case, answer) {
             Some(Verdict::Wanted) => return true,
