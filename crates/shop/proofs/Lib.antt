@@ -1,3 +1,0 @@
-mod Bodies
-mod Numbers
-mod Purchases

@@ -1,3 +1,2 @@
-pub mod Objects
-pub mod Purchases
 pub mod Shop
+pub mod Trade

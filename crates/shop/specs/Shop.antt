@@ -1,83 +1,60 @@
--- The functions of the shop: what each asks, and gives, by its arguments and the answers so far.
-use Rattle.std.specs.Prelude.{ℕ, ◌==◌, if◌then◌else◌, List, [], ◌∷◌, ◌++◌, Option, Some, None}
+-- The functions of the shop: what each asks, in turn, and the list that it gives.
+use Rattle.std.specs.Prelude.{ℕ, ◌==◌, if◌then◌else◌, List, [], ◌∷◌, ◌++◌, None}
 use Rattle.txc_tags.specs.Keys.{Call as CallValue}
 use Rattle.txc_rows.specs.Values.{RowValue}
-use Rattle.txc_rows.specs.declared.query.Query.TheVariants.{ById, ByGroup}
+use Rattle.txc_rows.specs.declared.query.Query.TheVariants.{All, ByGroup}
 use Rattle.txc_app.specs.declared.ask.Ask.{Ask}
-use Rattle.txc_app.specs.declared.ask.Ask.TheVariants.{Query, Call, Done}
+use Rattle.txc_app.specs.declared.ask.Ask.TheVariants.{Query, Call}
 use Rattle.txc_app.specs.declared.ask.Answer.{Answer}
 use Rattle.txc_app.specs.declared.ask.Answer.TheVariants.{Rows, Value}
 use Rattle.txc_app.specs.Eval.{Next}
+use Rattle.txc_definition.specs.Straight.{in_turn}
+use Rattle.txc_registry.specs.Activity.{Says}
+use Rattle.shop.specs.declared.Shop.{Shop}
+use Rattle.shop.specs.declared.Shop.TheVariants.{Stock, ProductPage}
+use Rattle.shop.specs.declared.TheConstants.{STOCK, ORDERS}
 
--- a product is a row with its title and its price, in the group of its category
-abbrev pub PRODUCTS : ℕ
-PRODUCTS = 1
+-- a piece is a row of one of the tables, in the group of its product; its body is a star
+abbrev pub piece_row : ℕ → ℕ → ℕ → RowValue
+piece_row table id product = record { table = table; id = id; group = product; body = 42 ∷ [] }
 
--- how many of a product are left is the row of its id, in the group 0: a number in decimal
-abbrev pub STOCKS : ℕ
-STOCKS = 2
+abbrev pub shop_number : Shop → ℕ
+shop_number Stock = 0
+shop_number ProductPage = 1
 
--- an order is a row with who gave it, in the group of the product
-abbrev pub ORDERS : ℕ
-ORDERS = 3
+abbrev pub shop_call : Shop → List ℕ → CallValue
+shop_call function args = record { function = shop_number function; args = args }
 
--- the rows of an answer
-abbrev pub rows_in : Answer → List RowValue
-rows_in (Rows rows) = rows
-rows_in (Value bytes) = []
+-- what a function asks, in turn: the pieces in stock, of all products or of one; these, by a call, and those that are ordered
+abbrev pub shop_asks : Shop → List ℕ → List Ask
+shop_asks Stock [] = Query (All STOCK) ∷ []
+shop_asks Stock (product ∷ []) = Query (ByGroup STOCK product) ∷ []
+shop_asks ProductPage (product ∷ []) = Call (shop_call Stock (product ∷ [])) ∷ Query (ByGroup ORDERS product) ∷ []
+shop_asks function args = []
 
--- the first row's body, or no byte
-abbrev pub body_of : List RowValue → List ℕ
-body_of [] = []
-body_of (r ∷ rows) = r.body
+-- the bodies, one after the other
+abbrev pub joined_bodies : List RowValue → List ℕ
+joined_bodies [] = []
+joined_bodies (row ∷ rows) = row.body ++ joined_bodies rows
 
--- the text of an answer: its bytes, or the body of its first row
-abbrev pub text_in : Answer → List ℕ
-text_in (Rows rows) = body_of rows
-text_in (Value bytes) = bytes
+abbrev pub bodies_in : Answer → List ℕ
+bodies_in (Rows rows) = joined_bodies rows
+bodies_in (Value value) = []
 
--- the bodies, with a semicolon after each
-abbrev pub bodies_of : List RowValue → List ℕ
-bodies_of [] = []
-bodies_of (r ∷ rows) = r.body ++ 59 ∷ bodies_of rows
+-- what a function gives by its answers: the bodies of the rows; after a value and a bar, where it called
+abbrev pub piece_list : List Answer → List ℕ
+piece_list (Value stock ∷ last ∷ []) = stock ++ 124 ∷ bodies_in last
+piece_list (Rows rows ∷ last ∷ []) = bodies_in last
+piece_list (last ∷ []) = bodies_in last
+piece_list answers = []
 
--- a call of a function with one argument
-abbrev pub call_of : ℕ → ℕ → CallValue
-call_of function arg = record { function = function; args = arg ∷ [] }
-
--- 0: how many of a product are left
-abbrev pub stock : List ℕ → List Answer → Option Ask
-stock (product ∷ []) [] = Some (Query (ById STOCKS product))
-stock (product ∷ []) (row ∷ more) = Some (Done (text_in row))
-stock args given = None
-
--- 1: the page of a product: its title and price, how many are left, and who ordered it
-abbrev pub product_page : List ℕ → List Answer → Option Ask
-product_page (product ∷ []) [] = Some (Call (call_of 0 product))
-product_page (product ∷ []) (left ∷ []) = Some (Query (ById PRODUCTS product))
-product_page (product ∷ []) (left ∷ row ∷ []) = Some (Query (ByGroup ORDERS product))
-product_page (product ∷ []) (left ∷ row ∷ orders ∷ more) =
-    Some (Done (text_in row ++ 124 ∷ text_in left ++ 124 ∷ bodies_of (rows_in orders)))
-product_page args given = None
-
--- 2: the titles and prices of a category's products
-abbrev pub category_list : List ℕ → List Answer → Option Ask
-category_list (category ∷ []) [] = Some (Query (ByGroup PRODUCTS category))
-category_list (category ∷ []) (rows ∷ more) = Some (Done (bodies_of (rows_in rows)))
-category_list args given = None
-
--- 3: the stocks of all products of a group, which is 0
-abbrev pub stock_list : List ℕ → List Answer → Option Ask
-stock_list (group ∷ []) [] = Some (Query (ByGroup STOCKS group))
-stock_list (group ∷ []) (rows ∷ more) = Some (Done (bodies_of (rows_in rows)))
-stock_list args given = None
+abbrev pub shop_says : Shop → Says
+shop_says function = in_turn (shop_asks function) (λ args. piece_list)
 
 -- no function has this number
-abbrev pub refuses : List ℕ → List Answer → Option Ask
-refuses args given = None
+abbrev pub no_function : Says
+no_function args answers = None
 
 -- the functions, by their numbers
 abbrev pub shop : Next
-shop f =
-    if f == 0 then stock
-    else (if f == 1 then product_page else (if f == 2 then category_list else (if f == 3 then stock_list else refuses)))
+shop f = if f == 0 then shop_says Stock else (if f == 1 then shop_says ProductPage else no_function)
