@@ -81,12 +81,9 @@ impl Straight for Shop {
 
     fn ask(&self, _alloc: Global, args: &[u32], at: usize) -> Result<Ask, AllocError> {
         Ok(match (self, args) {
-            (Shop::Stock, [product]) => Ask::Query(Query::ByGroup(table(STOCK), *product)),
+            (Shop::Stock, [id]) => Ask::Query(Query::ByGroup(table(STOCK), *id)),
             (Shop::Stock, _) => Ask::Query(Query::All(table(STOCK))),
-            (Shop::ProductPage, [product]) if at > 0 => Ask::Query(Query::ByGroup(
-                table(ORDERS),
-                *product,
-            )),
+            (Shop::ProductPage, [id]) if at > 0 => Ask::Query(Query::ByGroup(table(ORDERS), *id)),
             (Shop::ProductPage, _) => Ask::Call(key(Shop::Stock, args)),
         })
     }
@@ -243,9 +240,7 @@ fn main(rt: HostRuntime) -> anyhow::Result<()> {
         left = left.min(*its_left);
     }
     println!(rt; "{threads} visitors, {pages} pages each, {torn} torn")?;
-    println!(rt;
-        "{} pieces at first, {left} in the end and {bought} bought",
-        PRODUCTS * PIECES
-    )?;
+    let all = PRODUCTS * PIECES;
+    println!(rt; "{all} pieces at first, {left} in the end and {bought} bought")?;
     Ok(())
 }
