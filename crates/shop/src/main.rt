@@ -200,7 +200,7 @@ impl Visitor<Shop, InTurn<Shop>> for Visitors {
         for round in 0..self.0 {
             let product = ((round as usize).wrapping_add(number) % PRODUCTS as usize) as u32;
             let (written, next) = client.write(rt, alloc, 64, &Trade::Purchase(product));
-            if let Ok(written) = written {
+            if let Ok(written) = &written {
                 bought += u32::from(written.output);
                 at_least = written.committed.stamp;
             }
@@ -211,7 +211,7 @@ impl Visitor<Shop, InTurn<Shop>> for Visitors {
             };
             let (shown, next) = next.read(rt, alloc, bounds, &Look(product));
             client = next;
-            match shown {
+            match &shown {
                 Ok(shown) if shown.output.0 == PIECES as usize + 1 => left = shown.output.1,
                 _ => torn += 1,
             }
