@@ -37,15 +37,15 @@ abbrev pub joined_bodies : List RowValue → List ℕ
 joined_bodies [] = []
 joined_bodies (row ∷ rows) = row.body ++ joined_bodies rows
 
-abbrev pub bodies_in : Answer → List ℕ
-bodies_in (Rows rows) = joined_bodies rows
-bodies_in (Value value) = []
+abbrev pub bodies_of_answer : Answer → List ℕ
+bodies_of_answer (Rows rows) = joined_bodies rows
+bodies_of_answer (Value value) = []
 
 -- what a function gives by its answers: the bodies of the rows; after a value and a bar, where it called
 abbrev pub piece_list : List Answer → List ℕ
-piece_list (Value stock ∷ last ∷ []) = stock ++ 124 ∷ bodies_in last
-piece_list (Rows rows ∷ last ∷ []) = bodies_in last
-piece_list (last ∷ []) = bodies_in last
+piece_list (Value stock ∷ last ∷ []) = stock ++ 124 ∷ bodies_of_answer last
+piece_list (Rows rows ∷ last ∷ []) = bodies_of_answer last
+piece_list (last ∷ []) = bodies_of_answer last
 piece_list answers = []
 
 abbrev pub shop_says : Shop → Says
