@@ -132,7 +132,7 @@ def comments(path):
 def crate_tables():
     """Each crate has a row in ARCHITECTURE, which names some of the libraries that it uses and no other."""
     document = ROOT / "docs/ARCHITECTURE.md"
-    rows = dict(re.findall(r"^\| `(tx\w+|auction)` \|[^|]*\|([^|]*)\|$", document.read_text(), re.M))
+    rows = dict(re.findall(r"^\| `(tx\w+|auction|shop)` \|[^|]*\|([^|]*)\|$", document.read_text(), re.M))
     lines = [line.split("#")[0] for line in (ROOT / "crates.txt").read_text().split("\n")]
     uses = {line.split(":")[0].strip(): line.split(":")[1].split() for line in lines if ":" in line}
     for crate in uses.keys() - rows.keys():

@@ -1,0 +1,2 @@
+pub mod Shop
+pub mod Trade

@@ -1,0 +1,54 @@
+-- What a page shows, what is written, and what a visitor comes to.
+use Rattle.std.specs.Prelude.{◌≡◌, ℕ, zero, suc, ◌*◌, ◌%◌, ◌≤◌, Bool, true, false, List, [], ◌∷◌, ◌++◌, length}
+use Rattle.txc_rows.specs.Values.{RowValue}
+use Rattle.txc_rows.specs.declared.query.Change.{Change}
+use Rattle.txc_rows.specs.declared.query.Change.TheVariants.{Put, Remove}
+use Rattle.txc_rows.specs.declared.query.Query.TheVariants.{ByGroup}
+use Rattle.txc_ports.specs.declared.recorded.Recorded.{Recorded}
+use Rattle.txc_rw.specs.Core.{RwValue}
+use Rattle.txc_rw.specs.declared.given.Given.TheVariants.{Rows}
+use Rattle.shop.specs.Shop.{piece_row, shop_call}
+use Rattle.shop.specs.declared.Look.{Look}
+use Rattle.shop.specs.declared.Shop.TheVariants.{ProductPage, Stock}
+use Rattle.shop.specs.declared.Trade.{Trade}
+use Rattle.shop.specs.declared.Trade.TheVariants.{Opening, Purchase}
+use Rattle.shop.specs.declared.TheConstants.{ORDERS, PIECES, PRODUCTS, STOCK}
+
+-- the page of the product was called, and then the list of all that is in stock; these are their lengths
+pub record ShowsPage (look : Look) (calls : List Recorded) (lengths : ℕ × ℕ) : Type 0 where
+  pub page : List ℕ
+  pub stock : List ℕ
+  pub called : calls
+      ≡ record { key = shop_call ProductPage (look.0 ∷ []); value = page } ∷ record { key = shop_call Stock []; value = stock } ∷ []
+  pub of_page : lengths.0 ≡ length page
+  pub of_stock : lengths.1 ≡ length stock
+
+-- the first pieces are put in stock, so many of them, one of each product in turn
+unfoldable pub first_pieces : ℕ → List Change
+first_pieces zero = []
+first_pieces (suc id) = first_pieces id ++ Put (piece_row STOCK id (id % PRODUCTS)) ∷ []
+
+-- the first of these pieces of the product leaves the stock, and is ordered; where there is none, nothing is written
+abbrev pub purchase_of : ℕ → List RowValue → List Change
+purchase_of product [] = []
+purchase_of product (piece ∷ others) = Remove STOCK piece.id ∷ Put (piece_row ORDERS piece.id product) ∷ []
+
+abbrev pub has_piece : List RowValue → Bool
+has_piece [] = false
+has_piece (piece ∷ others) = true
+
+-- the stock of the product was asked for, and one piece of it was bought, where there was one
+pub record WritesPurchase (product : ℕ) (core : RwValue) (bought : Bool) : Type 0 where
+  pub stock : List RowValue
+  pub asked : core.answers ≡ Rows (ByGroup STOCK product) stock ∷ []
+  pub written : core.changes ≡ purchase_of product stock
+  pub sold : bought ≡ has_piece stock
+
+abbrev pub WritesTrade : Trade → RwValue → Bool → Type 0
+WritesTrade Opening core bought = core.changes ≡ first_pieces (PRODUCTS * PIECES)
+WritesTrade (Purchase product) core bought = WritesPurchase product core bought
+
+-- no more pages were torn, and no more pieces were bought, than so many
+pub record HasVisited (pages : ℕ) (came : ℕ × ℕ × ℕ) : Type 0 where
+  pub torn : came.0 ≤ pages
+  pub bought : came.1 ≤ pages
