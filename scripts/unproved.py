@@ -1,4 +1,7 @@
-"""Builds the tests of a crate with no proof, as `rt try --test` compiles them, into a program that can be run by itself.
+"""Builds the tests of a crate with no proof, as `rt try --test` compiles them, into a program that can be run by itself; or,
+with --main, the crate's own program, as `rt try` compiles it.
+
+usage: python3 scripts/unproved.py CRATE PROGRAM [--main]
 
 `rt try` compiles the tests, runs them and keeps nothing. So it is run from a copy of the toolchain's folder, of links, in
 which the compiler's last step, clang, is a script that keeps what it was given. That is then compiled and linked as the
@@ -55,13 +58,14 @@ def copy_of_kit(real, folder, module):
     os.chmod(f"{folder}/toolchain/bin/clang", 0o755)
 
 
-def build(crate, program):
-    """Builds the tests of the crate's folder into the program, and returns what was said where they do not compile."""
+def build(crate, program, words=("--test",)):
+    """Builds the tests of the crate's folder into the program, and returns what was said where they do not compile. Other words
+    for `rt try` build what it runs with them."""
     real, room = kit(), f"{program}.made"
     module = f"{room}/module.bc"
     shutil.rmtree(room, ignore_errors=True)
     copy_of_kit(real, f"{room}/kit", module)
-    tried = subprocess.run([f"{room}/kit/bin/rt", "try", "--test"], cwd=crate, capture_output=True, text=True, errors="replace")
+    tried = subprocess.run([f"{room}/kit/bin/rt", "try", *words], cwd=crate, capture_output=True, text=True, errors="replace")
     if not os.path.exists(module):
         return tried.stdout + tried.stderr
     toolchain = f"{real}/toolchain"
@@ -78,4 +82,5 @@ def build(crate, program):
 
 
 if __name__ == "__main__":
-    sys.exit(build(*map(os.path.abspath, sys.argv[1:3])) or 0)
+    is_main = sys.argv[3:] == ["--main"]
+    sys.exit(build(*map(os.path.abspath, sys.argv[1:3]), ["--steps", "1"] if is_main else ["--test"]) or 0)
