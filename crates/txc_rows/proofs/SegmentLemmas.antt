@@ -1,5 +1,5 @@
 -- The versions in the segments, where one table is written.
-use Rattle.std.proofs.Common.{◌≡◌, ◌≢◌, ℕ, ◌==◌, List, [], ◌∷◌, ◌++◌, length, filter, Bool, true, false, cond, true≢false, refl, sym, ap, subst, ◌∙◌, append_assoc, arith}
+use Rattle.std.proofs.Common.{◌≡◌, ◌≢◌, ℕ, suc, ◌==◌, List, [], ◌∷◌, ◌++◌, length, filter, Bool, true, false, cond, true≢false, refl, sym, ap, subst, ◌∙◌, append_assoc, arith}
 use borrow.Author.Tests.{eqb-true, eq-eqb}
 use Rattle.std.specs.List.{AllByRecursion}
 use Rattle.std.specs.List.Sorted.{IsPermutation}
@@ -51,11 +51,11 @@ at_segment P all First = all.1.1.1.1.1.1.0
 
 first_empty : (rows : List Row) (more : List Placed) → length (placed_all rows ++ more) ≡ 0 → rows ≡ []
 first_empty [] more none = refl
-first_empty (r ∷ rows) more none = absurd (omega (arith, none))
+first_empty (r ∷ rows) more none = let some : suc (length (placed_all rows ++ more)) ≡ 0 = none in absurd (omega (arith, some))
 
 none_more : (rows : List Row) (more : List Placed) → length (placed_all rows ++ more) ≡ 0 → length more ≡ 0
 none_more [] more none = none
-none_more (r ∷ rows) more none = absurd (omega (arith, none))
+none_more (r ∷ rows) more none = let some : suc (length (placed_all rows ++ more)) ≡ 0 = none in absurd (omega (arith, some))
 
 each_empty : (trees : Trees) (ss : List Segment) → length (dead_among trees ss) ≡ 0 → AllByRecursion (λ s. trees (tree_of s) ≡ []) ss
 each_empty trees [] none = tt

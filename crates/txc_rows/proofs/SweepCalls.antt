@@ -129,7 +129,7 @@ rest_kept mid end (Err e) tables apart idle ok empty = tt
 count_kept : (latest xs : List Placed) (mid end : Held MemStore) (r : Result (Unit {0}) Error) → HasVersions latest xs mid → AreWellPlaced (latest_in mid) (dead_in mid) → end.in_transaction ≡ false → OnOk r (Commits mid end)
     → OnOk r (length xs ≡ length (dead_in end))
 count_kept latest xs mid end (Ok x) has apart idle ok =
-    length_permutation xs (dead_in mid) has.dead_are ∙ sym (ap (λ (t : Trees). length (dead_among t segments)) (committed_kept mid end has.tables apart idle ok.1).trees)
+    sym (ap (λ (t : Trees). length (dead_among t segments)) (committed_kept mid end has.tables apart idle ok.1).trees ∙ length_permutation xs (dead_in mid) has.dead_are)
 count_kept latest xs mid end (Err e) has apart idle ok = tt
 
 -- ---- what is read of one segment more
