@@ -58,7 +58,7 @@ still_empty n old new same empty s low = ap (λ (t : Trees). t (tree_of s)) same
 
 -- where so many versions stand in the first one and none elsewhere, it is in use where there are any
 pub first_alone : (n kept : ℕ) (h : Held MemStore) → n ≡ min kept 1 → kept ≡ length (dead_in h) → OthersAreEmpty First h → AreEmptyBefore n h
-first_alone n zero h used count rest = none_used n h (sym count)
+first_alone n zero h used count rest s low = none_used n h (sym count) s low
 first_alone n (suc k) h used count rest s low = rest s (λ same. omega (arith, used, low, same))
 
 pub fewer_empty : (n m : ℕ) (h : Held MemStore) → n ≤ m → AreEmptyBefore n h → AreEmptyBefore m h

@@ -122,4 +122,5 @@ returns-clause-count c =
     let same : end ≡ c.conn-2-1.given.0 = search rules in
     let done : length left ≡ length (dead_in end) = subst (λ r. OnOk r (length left ≡ length (dead_in end))) c.in_ok-commit.was count in
     let all : length rows ≡ length (dead_in end) = sym (length-map rows placed_from) ∙ done in
-    subst (λ h. length rows ≡ length (dead_in h)) same all
+    let counted : c.len-2.result ≡ length rows = search rules in
+    subst (λ h. c.len-2.result ≡ length (dead_in h)) same (counted ∙ all)

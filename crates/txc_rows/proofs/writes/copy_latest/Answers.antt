@@ -28,9 +28,9 @@ counts j t i g old new (Ok count) has own h = (copies j (state over_memory old) 
 stays : (j : Segment) (t i g : ℕ) (old new : Held MemStore) (r : Result ℕ Error) → HasTables old → HaveOwnKeys (latest_in old) → ExecutesInside 0 (copy_text j) (number t ∷ number i ∷ number g ∷ []) (state over_memory old) (state over_memory new) r
     → IfOk r (λ n. n ≡ 0 → OthersStay 0 old new)
 stays j t i g old new (Err e) has own h = tt
-stays j t i g old new (Ok count) has own h zero s off =
+stays j t i g old new (Ok count) has own h =
     let it = copies j (state over_memory old) (state over_memory new) t i g count has.schema has.latest has.dead (few_keys t i g (latest_in old) own) h.0 in
-    all_same j (state over_memory old).now.trees (state over_memory new).now.trees it.0.others (it.2 (sym it.1 ∙ zero)) s
+    λ zero s off. all_same j (state over_memory old).now.trees (state over_memory new).now.trees it.0.others (it.2 (sym it.1 ∙ zero)) s
 
 pub returns-clause-step : goal.returns-clause-step
 returns-clause-step c =

@@ -81,7 +81,7 @@ loop-change-preserved c =
       rest = ap (after_net c.args.stamp (drop (at + 1) net)) left.written.versions_are ∙ next ∙ i.rest;
       same = c.in_ok-one.ensures.same_reference ∙ i.same;
       others = λ s off. c.in_ok-one.ensures.others s off ∙ i.others s off;
-      none = λ zero s off. c.in_ok-one.ensures.none (c.and.ensures.next zero) s off ∙ i.none (c.and.ensures.first zero) s off;
+      none = λ zero s off. c.in_ok-one.ensures.none (c.and-written.ensures.next zero) s off ∙ i.none (c.and-written.ensures.first zero) s off;
     }
 
 pub returns-clause-others : goal.returns-clause-others
