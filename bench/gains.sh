@@ -1,0 +1,41 @@
+#!/usr/bin/env bash
+# Measures what the cache gains and what consistency costs: pages of functions of 1, 10 and 60 queries under a fixed stream
+# of writes, with no cache, with the cache at a staleness of 0, 1, 5 and 30 seconds, and with a plain cache at the same
+# nodes, which may show torn pages. The program's source lies in bench/gains_bench; it is proved and built in a temporary
+# folder, over what is committed.
+#
+# usage: bench/gains.sh [--svg FILE] [--no-instructions] [--sizes QUERIES..]
+#
+# It prints plain lines of what each run came to, and then the tables in markdown; FILE gets a picture of them.
+# bench/gains_bench/gains.py says what the columns mean. On a quiet machine it takes some ten minutes where the libraries are
+# kept, half of them for the proof.
+set -euo pipefail
+cd "$(dirname "$0")/.."
+
+room=$(mktemp -d)
+trap 'rm -rf "$room"' EXIT
+trap 'exit 130' INT TERM
+
+git clone --quiet . "$room/repository"
+source=$PWD/bench/gains_bench
+bench=$room/repository/crates/gains_bench
+libraries='txc_stamp txc_tags txc_node txc_rows txc_validity txc_stream txc_db txc_permits txc_cushion txc_pinset txc_app
+    txc_shared txc_registry txc_definition txc_call txc_ports txc_txn txc_client'
+used='txc_stamp txc_tags txc_node txc_rows txc_stream txc_db txc_permits txc_cushion txc_app txc_shared txc_registry
+    txc_definition txc_ports txc_txn txc_client'
+mkdir -p "$bench"
+(cd "$source" && find src specs proofs -type f) | while read -r file; do
+    mkdir -p "$bench/$(dirname "$file")"
+    cp "$source/$file" "$bench/${file%.in}"
+done
+echo "gains_bench: anyhow thiserror $(echo $used)" >>"$room/repository/crates.txt"
+# what earlier runs kept of the libraries spares their proofs
+for crate in $libraries; do
+    if [ -d "crates/$crate/out" ]; then cp -aL "crates/$crate/out" "$room/repository/crates/$crate/"; fi
+done
+(cd "$bench" && rt run -- idle 1 0 1000 16 4096) >"$room/said" 2>&1 </dev/null || {
+    cat "$room/said" >&2
+    echo 'gains.sh: the program was not proved or not run' >&2
+    exit 1
+}
+python3 "$source/gains.py" "$bench/out/gains_bench" "$@"

@@ -1,0 +1,379 @@
+#!/usr/bin/env python3
+"""Measures what the cache gains and what consistency costs, from outside of the program gains_bench. bench/gains.sh runs it.
+
+usage: gains.py PROGRAM [--svg FILE] [--no-instructions] [--sizes QUERIES..] [--pages N] [--misses N] [--capacities N..]
+
+The program's own time passes by a millisecond a page, so what it shows is the same on every machine: only times are of the
+machine. A page is two calls of functions of so many queries; every second page is of two functions at one item, and shows by
+its own bytes whether it is torn. An item is written every other millisecond.
+
+  queries        the page's queries at the newest stamp, with no cache
+  transactions   the page's calls in one transaction, which shows a state that is not older than the staleness
+  plain          each call by itself: what the node has of it, from the oldest pin that is fresh to the newest stamp, or else
+                 what it comes to at the newest stamp
+
+First comes a line of each run: the mode, the staleness, the queries of a function, and of the pages that were counted how
+many there were, and how many hits, misses, torn pages and refused pages. They are counted once a run is past its beginning,
+which takes the staleness and two seconds more of the program's time. Then come tables in markdown.
+
+The cost of a page is by instructions (callgrind, where valgrind is there) and by processor time. Of each, a run with the same
+writes and the same keeping and no page is taken off. Instructions are of as many pages as have so many misses (400), 200 at
+least: each beside hits and misses of its own.
+"""
+
+import argparse
+import glob
+import os
+import re
+import shutil
+import subprocess
+import sys
+import tempfile
+import time
+from typing import NamedTuple
+
+ROOM = 1 << 19
+EVERY_MOMENT, EVERY_SECOND = 1, 1000
+BEGINNING = 2_000
+
+
+class Setting(NamedTuple):
+    """How pages are made, and how often the node is kept, in milliseconds."""
+
+    mode: str
+    staleness: int
+    keep: int
+    capacity: int = 65_536
+
+    def words(self, queries):
+        return [self.mode, *map(str, (queries, self.staleness, self.keep, self.capacity, ROOM))]
+
+    def idle(self):
+        """The same writes and the same keeping, with no page."""
+        return self._replace(mode="idle")
+
+    def shown(self):
+        if self.mode == "queries":
+            return "no cache"
+        name = {"transactions": "the cache", "plain": "a plain cache"}[self.mode]
+        kept = ", kept each millisecond" if self.keep == EVERY_MOMENT else ""
+        return f"{name}, {self.staleness / 1000:g} s{kept}"
+
+
+SETTINGS = [
+    Setting("queries", 0, EVERY_SECOND),
+    Setting("transactions", 0, EVERY_SECOND),
+    Setting("transactions", 0, EVERY_MOMENT),
+    *(Setting("transactions", staleness, EVERY_SECOND) for staleness in (1_000, 5_000, 30_000)),
+    Setting("plain", 0, EVERY_MOMENT),
+    *(Setting("plain", staleness, EVERY_SECOND) for staleness in (1_000, 5_000, 30_000)),
+]
+
+
+class Counts(NamedTuple):
+    pages: int
+    hits: int
+    misses: int
+    torn: int
+    refused: int
+
+    def since(self, before):
+        return Counts(*(now - then for now, then in zip(self, before)))
+
+    def hit_rate(self):
+        return self.hits / max(1, self.hits + self.misses)
+
+
+class Run:
+    """The program at work, one line at a time."""
+
+    def __init__(self, words):
+        self.process = subprocess.Popen(words, stdin=subprocess.PIPE, stdout=subprocess.PIPE, text=True)
+
+    def obey(self, line):
+        self.process.stdin.write(f"{line}\n")
+        self.process.stdin.flush()
+        answer = self.process.stdout.readline()
+        if not answer:
+            sys.exit(f"gains.py: {line}: no answer")
+        return answer.split()
+
+    def counts(self):
+        return Counts(*map(int, self.obey("counts")[3:]))
+
+    def spent(self):
+        """The processor time of the process, in nanoseconds."""
+        return time.clock_gettime_ns((~self.process.pid << 3) | 2)
+
+    def close(self):
+        self.process.stdin.close()
+        self.process.wait()
+
+
+class Traced(Run):
+    """The same under callgrind, which counts nothing before `count`."""
+
+    def __init__(self, words, room):
+        self.room = tempfile.mkdtemp(dir=room)
+        self.dumps = 0
+        out = f"--callgrind-out-file={self.room}/out"
+        super().__init__(["valgrind", "--quiet", "--tool=callgrind", "--instr-atstart=no", out, *words])
+
+    def control(self, *words):
+        subprocess.run(["callgrind_control", *words, str(self.process.pid)], check=True, capture_output=True)
+
+    def count(self):
+        self.control("-i", "on")
+        self.dumped()
+
+    def dumped(self):
+        """The instructions since the last dump."""
+        self.dumps += 1
+        self.control(f"--dump={self.dumps}")
+        newest = max(glob.glob(f"{self.room}/out.*"), key=os.path.getmtime)
+        with open(newest, encoding="utf-8") as file:
+            return int(re.search(r"^(?:summary|totals): (\d+)", file.read(), re.M)[1])
+
+
+class Found(NamedTuple):
+    counts: Counts
+    # of a page
+    nanoseconds: float
+    instructions: float | None
+
+
+def warmed(run, setting):
+    for _ in range(2):
+        run.obey((setting.staleness + BEGINNING) // 2)
+    return run
+
+
+def timed(program, setting, queries, pages):
+    """What the pages came to, and the processor time of each."""
+    run = warmed(Run([program, *setting.words(queries)]), setting)
+    before, start = run.counts(), run.spent()
+    run.obey(pages)
+    spent = run.spent() - start
+    counts = run.counts().since(before)
+    run.close()
+    return counts, spent / pages
+
+
+def traced(program, setting, queries, pages, room):
+    """The instructions of each page."""
+    run = warmed(Traced([program, *setting.words(queries)], room), setting)
+    run.count()
+    run.obey(0)
+    nothing = run.dumped()
+    run.obey(pages)
+    spent = run.dumped()
+    run.close()
+    return (spent - nothing) / pages
+
+
+class Measuring:
+    def __init__(self, program, options, room):
+        self.program, self.options, self.room = program, options, room
+        self.idle = {}
+
+    def pages_to_trace(self, counts):
+        misses = counts.misses if counts.hits + counts.misses else 2 * counts.pages
+        each = max(misses / counts.pages, 0.01)
+        return min(counts.pages, max(200, round(self.options.misses / each)))
+
+    def pages_to_time(self, setting):
+        # every page of these takes all its queries
+        is_slow = setting.mode == "queries" or setting.keep > setting.staleness
+        return max(1, self.options.pages // 8) if is_slow else self.options.pages
+
+    def cost(self, setting, queries, pages, kind):
+        if kind == "ns":
+            return timed(self.program, setting, queries, pages)[1]
+        return traced(self.program, setting, queries, pages, self.room)
+
+    def cost_of_idle(self, setting, pages, kind):
+        key = setting.idle(), pages, kind
+        if key not in self.idle:
+            self.idle[key] = self.cost(setting.idle(), 1, pages, kind)
+        return self.idle[key]
+
+    def of(self, setting, queries):
+        pages = self.pages_to_time(setting)
+        counts, nanoseconds = timed(self.program, setting, queries, pages)
+        if setting.mode == "queries":
+            counts = counts._replace(hits=0, misses=2 * counts.pages)
+        print(setting.mode, setting.staleness, setting.keep, setting.capacity, queries, *counts, flush=True)
+        nanoseconds -= self.cost_of_idle(setting, pages, "ns")
+        instructions = None
+        if self.options.instructions:
+            few = self.pages_to_trace(counts)
+            instructions = self.cost(setting, queries, few, "instructions")
+            instructions -= self.cost_of_idle(setting, few, "instructions")
+        return Found(counts, nanoseconds, instructions)
+
+
+def percent(part, whole):
+    return f"{100 * part / max(1, whole):.1f} %"
+
+
+def table_of_costs(found, sizes, unit):
+    """A row of each setting: hits, torn pages, and what a page costs at each size."""
+    print(f"\n| Pages, and how old they may be | Hits | Torn | {' | '.join(f'{size} queries' for size in sizes)} |")
+    print("|---" * (3 + len(sizes)) + "|")
+    for setting in SETTINGS:
+        counts = found[setting, sizes[0]].counts
+        costs = [shown_cost(found[setting, size], unit) for size in sizes]
+        hits = "" if setting.mode == "queries" else percent(counts.hits, counts.hits + counts.misses)
+        # half of the pages are of two functions at one item
+        torn = percent(counts.torn, counts.pages / 2)
+        print(f"| {setting.shown()} | {hits} | {torn} | {' | '.join(costs)} |", flush=True)
+
+
+def shown_cost(found, unit):
+    if unit == "ns":
+        return f"{found.nanoseconds / 1000:,.1f}"
+    return f"{found.instructions:,.0f}"
+
+
+def table_of_capacities(measuring, capacities, queries, staleness):
+    """A row of each size of the node: hits and torn pages, at one staleness."""
+    print(f"\n| Entries | The cache, {staleness // 1000} s: hits | A plain cache: hits | Torn |")
+    print("|---" * 4 + "|")
+    rows = []
+    for capacity in capacities:
+        pair = []
+        for mode in ("transactions", "plain"):
+            setting = Setting(mode, staleness, EVERY_SECOND, capacity)
+            pair.append(timed(measuring.program, setting, queries, measuring.options.pages)[0])
+        cache, plain = pair
+        shown = [percent(it.hits, it.hits + it.misses) for it in pair]
+        print(f"| {capacity:,} | {shown[0]} | {shown[1]} | {percent(plain.torn, plain.pages / 2)} |", flush=True)
+        rows.append((capacity, cache.hit_rate(), plain.hit_rate()))
+    return rows
+
+
+# ---- the picture
+
+COLOURS = {"queries": "#888888", "transactions": "#1f5fa8", "plain": "#c4572a"}
+STALENESSES = (0, 1_000, 5_000, 30_000)
+
+
+class Panel:
+    """A part of the picture, with a scale of its own."""
+
+    def __init__(self, left, title, most, lines):
+        self.left, self.title, self.most, self.lines = left, title, most, lines
+
+    def x(self, place, places):
+        return self.left + 40 + place * 250 / max(1, places - 1)
+
+    def y(self, height):
+        return 290 - 220 * height / self.most
+
+    def text(self, x, y, said, more=""):
+        return f'<text x="{x:.0f}" y="{y:.0f}" font-size="12" {more}>{said}</text>'
+
+    def frame(self, names, ticks):
+        parts = [self.text(self.left + 40, 30, self.title, 'font-weight="bold"')]
+        for height, said in ticks:
+            y = self.y(height)
+            parts.append(f'<line x1="{self.left + 40}" x2="{self.left + 290}" y1="{y:.1f}" y2="{y:.1f}" stroke="#dddddd"/>')
+            parts.append(self.text(self.left + 36, y + 4, said, 'text-anchor="end"'))
+        for place, name in enumerate(names):
+            parts.append(self.text(self.x(place, len(names)), 310, name, 'text-anchor="middle"'))
+        return parts
+
+    def drawn(self, places):
+        parts = []
+        for colour, dashes, heights in self.lines:
+            points = [(self.x(place, places), self.y(height)) for place, height in enumerate(heights) if height is not None]
+            joined = " ".join(f"{x:.1f},{y:.1f}" for x, y in points)
+            parts.append(f'<polyline points="{joined}" fill="none" stroke="{colour}" stroke-width="2" stroke-dasharray="{dashes}"/>')
+            parts += [f'<circle cx="{x:.1f}" cy="{y:.1f}" r="3" fill="{colour}"/>' for x, y in points]
+        return parts
+
+
+def setting_at(mode, staleness):
+    """The setting of a mode at a staleness: at none, the one that is kept each millisecond."""
+    return Setting(mode, staleness, EVERY_SECOND if staleness else EVERY_MOMENT)
+
+
+def hits_panel(found, size):
+    lines = []
+    for mode in ("transactions", "plain"):
+        rates = [found[setting_at(mode, it), size].counts.hit_rate() for it in STALENESSES]
+        lines.append((COLOURS[mode], "", rates))
+    return Panel(0, "hits, of all calls", 1, lines)
+
+
+def cost_panel(found, left, size, unit):
+    cost = lambda setting: getattr(found[setting, size], unit)
+    none = cost(SETTINGS[0])
+    lines = [(COLOURS["queries"], "6 4", [none] * len(STALENESSES))]
+    for mode in ("transactions", "plain"):
+        lines.append((COLOURS[mode], "", [cost(setting_at(mode, it)) for it in STALENESSES]))
+    name = "instructions" if unit == "instructions" else "ns"
+    return Panel(left, f"{name} a page, {size} queries a call", max(max(it[2]) for it in lines) or 1, lines)
+
+
+def short(number):
+    for size, name in ((1_000_000, "M"), (1_000, "k")):
+        if number >= size:
+            return f"{number / size:.3g}{name}"
+    return f"{number:.3g}"
+
+
+def legend():
+    parts = []
+    for place, (mode, said) in enumerate([("queries", "no cache"), ("transactions", "the cache"), ("plain", "a plain cache")]):
+        x = 40 + 150 * place
+        parts.append(f'<line x1="{x}" x2="{x + 24}" y1="345" y2="345" stroke="{COLOURS[mode]}" stroke-width="2"/>')
+        parts.append(f'<text x="{x + 30}" y="349" font-size="12">{said}</text>')
+    return parts
+
+
+def picture(found, sizes, unit, name):
+    panels = [hits_panel(found, sizes[0])]
+    panels += [cost_panel(found, 330 * (at + 1), size, unit) for at, size in enumerate(sizes)]
+    names = [f"{it // 1000} s" for it in STALENESSES]
+    parts = legend()
+    for panel in panels:
+        ticks = [(panel.most * part / 4, f"{25 * part} %" if panel.most == 1 else short(panel.most * part / 4)) for part in range(5)]
+        parts += panel.frame(names, ticks) + panel.drawn(len(names))
+    width = 330 * len(panels) + 10
+    head = f'<svg xmlns="http://www.w3.org/2000/svg" width="{width}" height="365" font-family="sans-serif">'
+    with open(name, "w", encoding="utf-8") as file:
+        file.write("\n".join([head, f'<rect width="{width}" height="365" fill="white"/>', *parts, "</svg>\n"]))
+
+
+def words():
+    all_words = argparse.ArgumentParser(usage=__doc__.partition("usage: ")[2].partition("\n")[0])
+    all_words.add_argument("program")
+    all_words.add_argument("--svg")
+    all_words.add_argument("--no-instructions", dest="instructions", action="store_false")
+    all_words.add_argument("--sizes", nargs="+", type=int, default=[1, 10, 60])
+    all_words.add_argument("--pages", type=int, default=8_000)
+    all_words.add_argument("--misses", type=int, default=400)
+    all_words.add_argument("--capacities", nargs="*", type=int, default=[256, 512, 1_024, 2_048, 4_096, 65_536])
+    return all_words.parse_args()
+
+
+def main():
+    options = words()
+    options.instructions = options.instructions and bool(shutil.which("valgrind"))
+    with tempfile.TemporaryDirectory() as room, open("/proc/loadavg", encoding="utf-8") as load:
+        print("load", load.read().split()[0], flush=True)
+        measuring = Measuring(os.path.abspath(options.program), options, room)
+        found = {(it, size): measuring.of(it, size) for size in options.sizes for it in SETTINGS}
+        units = ["instructions", "ns"] if options.instructions else ["ns"]
+        for unit in units:
+            print(f"\nA page, in {'instructions' if unit == 'instructions' else 'microseconds of processor time'}:")
+            table_of_costs(found, options.sizes, unit)
+        if options.capacities:
+            table_of_capacities(measuring, options.capacities, options.sizes[0], 5_000)
+    if options.svg:
+        picture(found, options.sizes, "instructions" if options.instructions else "nanoseconds", options.svg)
+
+
+if __name__ == "__main__":
+    main()
