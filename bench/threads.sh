@@ -70,6 +70,7 @@ for count in 1 2 4; do
     done
     awk -v count="$count" -v asked="$((count * pages * (many - few)))" -v threads="$((long_threads - short_threads))" \
         -v processes="$((long_processes - short_processes))" -v before="$before" -v after="$(load)" 'BEGIN {
+        if (threads <= 0 || processes <= 0) { print count ": the runs are too short"; exit }
         printf "%d: threads %8.0f pages/s, processes %8.0f pages/s, %5.2f times; load %s to %s\n",
             count, asked * 1e9 / threads, asked * 1e9 / processes, processes / threads, before, after
     }'

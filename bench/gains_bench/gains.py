@@ -17,8 +17,8 @@ many there were, and how many hits, misses, torn pages and refused pages. They a
 which takes the staleness and two seconds more of the program's time. Then come tables in markdown.
 
 The cost of a page is by instructions (callgrind, where valgrind is there) and by processor time. Of each, a run with the same
-writes and the same keeping and no page is taken off. Instructions are of as many pages as have so many misses (400), 200 at
-least: each beside hits and misses of its own.
+writes and the same keeping and no page is taken off. Instructions are of as many seconds as have so many misses (400), one
+second at least.
 """
 
 import argparse
@@ -35,6 +35,8 @@ from typing import NamedTuple
 ROOM = 1 << 19
 EVERY_MOMENT, EVERY_SECOND = 1, 1000
 BEGINNING = 2_000
+# what is counted by instructions is a number of whole seconds, so that the keeping is in all alike
+SECOND = 1_000
 
 
 class Setting(NamedTuple):
@@ -179,21 +181,23 @@ class Measuring:
     def pages_to_trace(self, counts):
         misses = counts.misses if counts.hits + counts.misses else 2 * counts.pages
         each = max(misses / counts.pages, 0.01)
-        return min(counts.pages, max(200, round(self.options.misses / each)))
+        seconds = round(self.options.misses / each / SECOND)
+        return SECOND * max(1, min(seconds, self.options.pages // SECOND))
 
     def pages_to_time(self, setting):
         # every page of these takes all its queries
-        is_slow = setting.mode == "queries" or setting.keep > setting.staleness
-        return max(1, self.options.pages // 8) if is_slow else self.options.pages
+        is_slow = setting.mode == "queries" or setting.keep > max(setting.staleness, EVERY_MOMENT)
+        return SECOND if is_slow else self.options.pages
 
     def cost(self, setting, queries, pages, kind):
         if kind == "ns":
             return timed(self.program, setting, queries, pages)[1]
         return traced(self.program, setting, queries, pages, self.room)
 
-    def cost_of_idle(self, setting, pages, kind):
-        key = setting.idle(), pages, kind
+    def cost_of_idle(self, setting, kind):
+        key = setting.idle(), kind
         if key not in self.idle:
+            pages = self.options.pages if kind == "ns" else SECOND
             self.idle[key] = self.cost(setting.idle(), 1, pages, kind)
         return self.idle[key]
 
@@ -203,12 +207,12 @@ class Measuring:
         if setting.mode == "queries":
             counts = counts._replace(hits=0, misses=2 * counts.pages)
         print(setting.mode, setting.staleness, setting.keep, setting.capacity, queries, *counts, flush=True)
-        nanoseconds -= self.cost_of_idle(setting, pages, "ns")
+        nanoseconds -= self.cost_of_idle(setting, "ns")
         instructions = None
         if self.options.instructions:
             few = self.pages_to_trace(counts)
             instructions = self.cost(setting, queries, few, "instructions")
-            instructions -= self.cost_of_idle(setting, few, "instructions")
+            instructions -= self.cost_of_idle(setting, "instructions")
         return Found(counts, nanoseconds, instructions)
 
 
