@@ -134,7 +134,8 @@ class Costs:
         for line in said.stdout.splitlines():
             found = re.match(r"\s*([\d,]+)\s+\S*?:(\S.*?)(?: \[.*\])?$", line)
             if found:
-                functions[found[2]] += int(found[1].replace(",", ""))
+                name = re.sub(r"(::<#\w+>)?('\d+)?$", "", found[2])
+                functions[name] += int(found[1].replace(",", ""))
         return functions
 
     def blocks(self, script):
@@ -180,7 +181,7 @@ def main():
     words.add_argument("--times", type=int, default=1_000)
     words.add_argument("--top", type=int, default=25)
     words.add_argument("kind", nargs="*")
-    options = words.parse_args()
+    options = words.parse_intermixed_args()
     here = os.path.dirname(os.path.abspath(__file__))
     with tempfile.TemporaryDirectory() as room:
         refuse = f"{room}/refuse.so"
