@@ -216,13 +216,17 @@ class Measuring:
         return Found(counts, nanoseconds, instructions)
 
 
+def named(size):
+    return "1 query" if size == 1 else f"{size} queries"
+
+
 def percent(part, whole):
     return f"{100 * part / max(1, whole):.1f} %"
 
 
 def table_of_costs(found, sizes, unit):
     """A row of each setting: hits, torn pages, and what a page costs at each size."""
-    print(f"\n| Pages, and how old they may be | Hits | Torn | {' | '.join(f'{size} queries' for size in sizes)} |")
+    print(f"\n| Pages, and how old they may be | Hits | Torn | {' | '.join(map(named, sizes))} |")
     print("|---" * (3 + len(sizes)) + "|")
     for setting in SETTINGS:
         counts = found[setting, sizes[0]].counts
@@ -317,7 +321,7 @@ def cost_panel(found, left, size, unit):
     for mode in ("transactions", "plain"):
         lines.append((COLOURS[mode], "", [cost(setting_at(mode, it)) for it in STALENESSES]))
     name = "instructions" if unit == "instructions" else "ns"
-    return Panel(left, f"{name} a page, {size} queries a call", max(max(it[2]) for it in lines) or 1, lines)
+    return Panel(left, f"{name} a page, {named(size)} a call", max(max(it[2]) for it in lines) or 1, lines)
 
 
 def short(number):
