@@ -7,8 +7,8 @@
 # usage: bench/gains.sh [--svg FILE] [--no-instructions] [--sizes QUERIES..]
 #
 # It prints plain lines of what each run came to, and then the tables in markdown; FILE gets a picture of them.
-# bench/gains_bench/gains.py says what the columns mean. On a quiet machine it takes some ten minutes where the libraries are
-# kept, half of them for the proof.
+# bench/gains_bench/gains.py says what the columns mean. How long it takes on a quiet machine is not known yet: half an hour or
+# more, most of it for the counting of instructions (--no-instructions leaves that out).
 set -euo pipefail
 cd "$(dirname "$0")/.."
 

@@ -1,7 +1,7 @@
 #!/usr/bin/env python3
 """Measures what the cache gains and what consistency costs, from outside of the program gains_bench. bench/gains.sh runs it.
 
-usage: gains.py PROGRAM [--svg FILE] [--no-instructions] [--sizes QUERIES..] [--pages N] [--misses N] [--capacities N..]
+usage: gains.py PROGRAM [--svg FILE] [--no-instructions] [--sizes QUERIES..] [--pages N] [--capacities N..]
 
 The program's own time passes by a millisecond a page, so what it shows is the same on every machine: only times are of the
 machine. A page is two calls of functions of so many queries; every second page is of two functions at one item, and shows by
@@ -12,13 +12,13 @@ its own bytes whether it is torn. An item is written every other millisecond.
   plain          each call by itself: what the node has of it, from the oldest pin that is fresh to the newest stamp, or else
                  what it comes to at the newest stamp
 
-First comes a line of each run: the mode, the staleness, the queries of a function, and of the pages that were counted how
-many there were, and how many hits, misses, torn pages and refused pages. They are counted once a run is past its beginning,
-which takes the staleness and two seconds more of the program's time. Then come tables in markdown.
+First comes a line of each run: the mode, the staleness, how often the node is kept, its entries, the queries of a function,
+and of the pages that were counted how many there were, and how many hits, misses, torn pages and refused pages. They are
+counted once a run is past its beginning, which takes the staleness and two seconds more of the program's time, and over the
+staleness or a multiple of it: what was computed at first is too old all at once. Then come tables in markdown.
 
 The cost of a page is by instructions (callgrind, where valgrind is there) and by processor time. Of each, a run with the same
-writes and the same keeping and no page is taken off. Instructions are of as many seconds as have so many misses (400), one
-second at least.
+writes and the same keeping and no page is taken off. Instructions are of as many seconds as the staleness, one at least.
 """
 
 import argparse
@@ -178,16 +178,15 @@ class Measuring:
         self.program, self.options, self.room = program, options, room
         self.idle = {}
 
-    def pages_to_trace(self, counts):
-        misses = counts.misses if counts.hits + counts.misses else 2 * counts.pages
-        each = max(misses / counts.pages, 0.01)
-        seconds = round(self.options.misses / each / SECOND)
-        return SECOND * max(1, min(seconds, self.options.pages // SECOND))
+    def pages_to_trace(self, setting):
+        return max(SECOND, setting.staleness)
 
     def pages_to_time(self, setting):
         # every page of these takes all its queries
-        is_slow = setting.mode == "queries" or setting.keep > max(setting.staleness, EVERY_MOMENT)
-        return SECOND if is_slow else self.options.pages
+        if setting.mode == "queries" or setting.keep > max(setting.staleness, EVERY_MOMENT):
+            return SECOND
+        period = max(SECOND, setting.staleness)
+        return period * -(-self.options.pages // period)
 
     def cost(self, setting, queries, pages, kind):
         if kind == "ns":
@@ -210,8 +209,7 @@ class Measuring:
         nanoseconds -= self.cost_of_idle(setting, "ns")
         instructions = None
         if self.options.instructions:
-            few = self.pages_to_trace(counts)
-            instructions = self.cost(setting, queries, few, "instructions")
+            instructions = self.cost(setting, queries, self.pages_to_trace(setting), "instructions")
             instructions -= self.cost_of_idle(setting, "instructions")
         return Found(counts, nanoseconds, instructions)
 
@@ -252,7 +250,7 @@ def table_of_capacities(measuring, capacities, queries, staleness):
         pair = []
         for mode in ("transactions", "plain"):
             setting = Setting(mode, staleness, EVERY_SECOND, capacity)
-            pair.append(timed(measuring.program, setting, queries, measuring.options.pages)[0])
+            pair.append(timed(measuring.program, setting, queries, measuring.pages_to_time(setting))[0])
         cache, plain = pair
         shown = [percent(it.hits, it.hits + it.misses) for it in pair]
         print(f"| {capacity:,} | {shown[0]} | {shown[1]} | {percent(plain.torn, plain.pages / 2)} |", flush=True)
@@ -361,7 +359,6 @@ def words():
     all_words.add_argument("--no-instructions", dest="instructions", action="store_false")
     all_words.add_argument("--sizes", nargs="+", type=int, default=[1, 10, 60])
     all_words.add_argument("--pages", type=int, default=8_000)
-    all_words.add_argument("--misses", type=int, default=400)
     all_words.add_argument("--capacities", nargs="*", type=int, default=[256, 512, 1_024, 2_048, 4_096, 65_536])
     return all_words.parse_args()
 
