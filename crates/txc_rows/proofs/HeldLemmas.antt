@@ -1,5 +1,5 @@
 -- What the statements do to a connection over the tables.
-use Rattle.std.proofs.Common.{◌≡◌, inl, inr, ℕ, ℤ, List, [], ◌∷◌, ◌++◌, filter, length, Bool, true, false, cond, Some, Ok, Err, Result, OnOk, IfErr, IfOk, refl, sym, ap, subst, ◌∙◌, arith, IsTrue}
+use Rattle.std.proofs.Common.{◌≡◌, ◌≢◌, inl, inr, ℕ, ℤ, List, [], ◌∷◌, ◌++◌, filter, length, Bool, true, false, cond, Some, Ok, Err, Result, OnOk, IfErr, IfOk, refl, sym, ap, subst, ◌∙◌, arith, IsTrue}
 use Rattle.std.specs.List.{AllByRecursion, list_all}
 use Rattle.sqlite.specs.Order.{Row}
 use Rattle.sqlite.specs.Term.{Term, holds, eval}
@@ -62,7 +62,7 @@ has_left latest dead h it = record {
 pub others_stay : (sql : List ℕ) (params : Row) (tree : ℕ) (old new : Held MemStore) (r : Result ℕ Error) → ExecutesInside 0 sql params (state over_memory old) (state over_memory new) r
     → ((count : ℕ) → Executes sql params (state over_memory old) (state over_memory new) (Ok count) → AreSame tree (state over_memory old).now.trees (state over_memory new).now.trees segments) → OnOk r (OthersStay tree old new)
 others_stay sql params tree old new (Err e) h same = tt
-others_stay sql params tree old new (Ok count) h same = at_segment tree (state over_memory old).now.trees (state over_memory new).now.trees (same count h.0)
+others_stay sql params tree old new (Ok count) h same = at_segment (λ s. tree_of s ≢ tree → (state over_memory new).now.trees (tree_of s) ≡ (state over_memory old).now.trees (tree_of s)) (same count h.0)
 
 -- ---- calls on a connection
 

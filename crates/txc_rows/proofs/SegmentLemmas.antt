@@ -1,9 +1,10 @@
 -- The versions in the segments, where one table is written.
-use Rattle.std.proofs.Common.{◌≡◌, ◌≢◌, ℕ, ◌==◌, List, [], ◌∷◌, ◌++◌, length, filter, Bool, true, false, cond, true≢false, refl, sym, ap, subst, ◌∙◌, append_assoc, arith}
+use Rattle.std.proofs.Common.{◌≡◌, ◌≢◌, ℕ, suc, ◌==◌, List, [], ◌∷◌, ◌++◌, length, filter, Bool, true, false, cond, true≢false, refl, sym, ap, subst, ◌∙◌, append_assoc, arith}
 use borrow.Author.Tests.{eqb-true, eq-eqb}
 use Rattle.std.specs.List.{AllByRecursion}
 use Rattle.std.specs.List.Sorted.{IsPermutation}
 use Rattle.std.proofs.lemmas.List.Sorted.{IsPermutation-append_right, IsPermutation-append_comm}
+use Rattle.sqlite.specs.Order.{Row}
 use Rattle.sqlite.specs.Tree.{Trees}
 use Rattle.txc_rows.specs.declared.texts.Segment.{Segment}
 use Rattle.txc_rows.specs.declared.texts.Segment.TheVariants.{First, Second, Third, Fourth, Fifth, Sixth, Seventh}
@@ -37,14 +38,41 @@ once Fifth = refl
 once Sixth = refl
 once Seventh = refl
 
-pub at_segment : (tree : ℕ) (old new : Trees) → AreSame tree old new segments → (s : Segment) → tree_of s ≢ tree → new (tree_of s) ≡ old (tree_of s)
-at_segment tree old new same Seventh off = same.0 off
-at_segment tree old new same Sixth off = same.1.0 off
-at_segment tree old new same Fifth off = same.1.1.0 off
-at_segment tree old new same Fourth off = same.1.1.1.0 off
-at_segment tree old new same Third off = same.1.1.1.1.0 off
-at_segment tree old new same Second off = same.1.1.1.1.1.0 off
-at_segment tree old new same First off = same.1.1.1.1.1.1.0 off
+pub at_segment : (P : Segment → Type 0) → AllByRecursion P segments → (s : Segment) → P s
+at_segment P all Seventh = all.0
+at_segment P all Sixth = all.1.0
+at_segment P all Fifth = all.1.1.0
+at_segment P all Fourth = all.1.1.1.0
+at_segment P all Third = all.1.1.1.1.0
+at_segment P all Second = all.1.1.1.1.1.0
+at_segment P all First = all.1.1.1.1.1.1.0
+
+-- ---- where they have no version, each is empty
+
+first_empty : (rows : List Row) (more : List Placed) → length (placed_all rows ++ more) ≡ 0 → rows ≡ []
+first_empty [] more none = refl
+first_empty (r ∷ rows) more none = let some : suc (length (placed_all rows ++ more)) ≡ 0 = none in absurd (omega (arith, some))
+
+none_more : (rows : List Row) (more : List Placed) → length (placed_all rows ++ more) ≡ 0 → length more ≡ 0
+none_more [] more none = none
+none_more (r ∷ rows) more none = let some : suc (length (placed_all rows ++ more)) ≡ 0 = none in absurd (omega (arith, some))
+
+each_empty : (trees : Trees) (ss : List Segment) → length (dead_among trees ss) ≡ 0 → AllByRecursion (λ s. trees (tree_of s) ≡ []) ss
+each_empty trees [] none = tt
+each_empty trees (s ∷ ss) none = (first_empty (trees (tree_of s)) (dead_among trees ss) none, each_empty trees ss (none_more (trees (tree_of s)) (dead_among trees ss) none))
+
+pub all_empty : (trees : Trees) → length (dead_among trees segments) ≡ 0 → (s : Segment) → trees (tree_of s) ≡ []
+all_empty trees none = at_segment (λ s. trees (tree_of s) ≡ []) (each_empty trees segments none)
+
+-- ---- where one of them is written
+
+-- where that one is as it was, each is
+pub all_same : (j : Segment) (old new : Trees) → AreSame (tree_of j) old new segments → new (tree_of j) ≡ old (tree_of j) → (s : Segment) → new (tree_of s) ≡ old (tree_of s)
+all_same j old new same own s = go (is_tree j s) refl
+  where
+    go : (b : Bool) → is_tree j s ≡ b → new (tree_of s) ≡ old (tree_of s)
+    go true e = subst (λ t. new t ≡ old t) (sym (eqb-true (tree_of s) (tree_of j) e)) own
+    go false e = at_segment (λ x. tree_of x ≢ tree_of j → new (tree_of x) ≡ old (tree_of x)) same s (λ at. true≢false (sym (eq-eqb (tree_of s) (tree_of j) at) ∙ e))
 
 -- none of them is written
 pub none_written : (tree : ℕ) (old new : Trees) (ss : List Segment) → AllByRecursion (λ s. tree_of s ≢ tree) ss → AreSame tree old new ss → dead_among new ss ≡ dead_among old ss

@@ -1,5 +1,5 @@
 -- What the calls of a store leave of its versions.
-use Rattle.std.proofs.Common.{◌≡◌, ℕ, ◌+◌, ◌≤◌, max, List, [], length, Ok, Err, sym, ap, subst, ◌∙◌, arith}
+use Rattle.std.proofs.Common.{◌≡◌, ◌≢◌, ℕ, zero, suc, ◌+◌, ◌-◌, ◌≤◌, min, max, List, [], length, length-append, Ok, Err, refl, sym, ap, subst, ◌∙◌, arith}
 use Rattle.std.specs.List.{AllByRecursion}
 use Rattle.std.specs.List.Sorted.{IsPermutation}
 use Rattle.std.proofs.lemmas.List.Sorted.{IsPermutation-refl}
@@ -16,20 +16,25 @@ use Rattle.sqlite.specs.Tree.{Trees}
 use Rattle.txc_rows.specs.declared.texts.Segment.{Segment}
 use Rattle.txc_rows.specs.declared.texts.Segment.TheVariants.{First}
 use Rattle.txc_rows.specs.declared.tally.Tally.{Tally}
+use Rattle.txc_rows.specs.declared.writes.Written.{Written}
 use Rattle.txc_rows.specs.Texts.{segment_place, tree_of}
-use Rattle.txc_rows.specs.Kept.{placed_of, versions_of, newest_of, AreEmptyBefore, OthersAreEmpty, OthersStay, IsKept, IsCall, IsSame, IsRoom, IsStore}
+use Rattle.txc_rows.specs.Kept.{latest_in, dead_in, placed_of, versions_of, used_of, AreEmptyBefore, OthersAreEmpty, OthersStay, IsKept, IsCall, IsSame, IsRoom, IsStore}
+use Rattle.txc_rows.proofs.SegmentLemmas.{not_latest, all_empty}
 use Rattle.txc_rows.proofs.HeldLemmas.{placed_by, placed_same}
 use Rattle.txc_rows.proofs.SweepLemmas.{swept_same, left_is_swept, left_alone, none_hidden}
 use Rattle.txc_rows.proofs.ViewLemmas.{written_view, purged_view, view_each}
 
 -- ---- a new store
 
--- none is in use beside the first
-pub first_alone : (n : ℕ) (h : Held MemStore) → n ≡ 0 → OthersAreEmpty First h → AreEmptyBefore n h
-first_alone n h none empty s low = empty s (λ same. omega (arith, none, low, same))
+-- none is in use
+none_used : (n : ℕ) (h : Held MemStore) → length (dead_in h) ≡ 0 → AreEmptyBefore n h
+none_used n h none s low = all_empty (state over_memory h).now.trees none s
 
-pub new_store : (t : Tally) (h : Held MemStore) → newest_of t ≡ 0 → IsKept h → placed_of h ≡ [] → OthersAreEmpty First h → IsStore 0 t h
-new_store t h none kept empty unused = record { kept = kept; below = subst (AreBelow 0) (sym empty) tt; empty = first_alone (newest_of t) h none unused }
+no_dead : (h : Held MemStore) → length (placed_of h) ≡ 0 → length (dead_in h) ≡ 0
+no_dead h none = omega (arith, none, length-append (latest_in h) (dead_in h))
+
+pub new_store : (t : Tally) (h : Held MemStore) → IsKept h → placed_of h ≡ [] → IsStore 0 t h
+new_store t h kept empty = record { kept = kept; below = subst (AreBelow 0) (sym empty) tt; empty = none_used (used_of t) h (no_dead h (ap length empty)) }
 
 pub new_view : (h : Held MemStore) → placed_of h ≡ [] → left_from 0 (versions_of h) ≡ []
 new_view h empty = ap (λ xs. left_from 0 (versions_by_place xs)) empty
@@ -51,12 +56,21 @@ all_swept from old new x y call = record { kept = call.kept; leaves = left_is_sw
 pub still_empty : (n : ℕ) (old new : Held MemStore) → (state over_memory new).now.trees ≡ (state over_memory old).now.trees → AreEmptyBefore n old → AreEmptyBefore n new
 still_empty n old new same empty s low = ap (λ (t : Trees). t (tree_of s)) same ∙ empty s low
 
+-- where so many versions stand in the first one and none elsewhere, it is in use where there are any
+pub first_alone : (n kept : ℕ) (h : Held MemStore) → n ≡ min kept 1 → kept ≡ length (dead_in h) → OthersAreEmpty First h → AreEmptyBefore n h
+first_alone n zero h used count rest s low = none_used n h (sym count) s low
+first_alone n (suc k) h used count rest s low = rest s (λ same. omega (arith, used, low, same))
+
 pub fewer_empty : (n m : ℕ) (h : Held MemStore) → n ≤ m → AreEmptyBefore n h → AreEmptyBefore m h
 fewer_empty n m h low empty s below = empty s (omega (arith, low, below))
 
--- where the newest one is written
-pub written_empty : (j : Segment) (n : ℕ) (old new : Held MemStore) → segment_place j + n ≡ 7 → OthersStay (tree_of j) old new → AreEmptyBefore n old → AreEmptyBefore n new
-written_empty j n old new newest stay empty s low = stay s (λ same. omega (arith, newest, low, same)) ∙ empty s low
+-- where so many versions are copied to the newest one, it is in use afterwards if there were any
+pub written_empty : (j : Segment) (n m copied : ℕ) (old new : Held MemStore) → segment_place j + (n - 1) ≡ 7 → n ≤ m → (copied ≢ 0 → 1 ≤ m) → OthersStay (tree_of j) old new → (copied ≡ 0 → OthersStay 0 old new)
+    → AreEmptyBefore n old → AreEmptyBefore m new
+written_empty j n m zero old new newest more used stay none empty s low = none refl s (not_latest s) ∙ empty s (omega (arith, more, low))
+written_empty j n m (suc k) old new newest more used stay none empty s low =
+    let some : 1 ≤ m = used (λ e. omega (arith, e)) in
+    stay s (λ same. omega (arith, newest, more, some, low, same)) ∙ empty s (omega (arith, more, low))
 
 -- ---- nothing is written
 
@@ -64,7 +78,7 @@ pub same_store : (next : ℕ) (t : Tally) (old new : Held MemStore) → IsStore 
 same_store next t old new store same = record {
   kept = same.kept;
   below = subst (AreBelow next) (sym (placed_same old new same)) store.below;
-  empty = still_empty (newest_of t) old new same.trees store.empty;
+  empty = still_empty (used_of t) old new same.trees store.empty;
 }
 
 pub same_view : (from : ℕ) (old new : Held MemStore) → IsSame old new → left_from from (versions_of new) ≡ left_from from (versions_of old)
@@ -105,14 +119,14 @@ room_itself from stamp h kept low = room_dead from stamp h h kept tt low (call_i
 
 -- ---- a purge
 
-pub purged_store : {X : Type 0} (from h next : ℕ) (t u : Tally) (old new : Held MemStore) (x : X) → IsStore next t old → AreEmptyBefore (newest_of u) new → IsCall (AreSwept (max from (h + 1)) (placed_of old)) old new (Ok x)
+pub purged_store : {X : Type 0} (from h next : ℕ) (t u : Tally) (old new : Held MemStore) (x : X) → IsStore next t old → AreEmptyBefore (used_of u) new → IsCall (AreSwept (max from (h + 1)) (placed_of old)) old new (Ok x)
     → IsStore next u new × (left_from (max from (h + 1)) (versions_of new) ≡ purged h (left_from from (versions_of old)))
 purged_store from h next t u old new x store empty call = (
   record { kept = call.kept; below = call.leaves.below next store.below; empty = empty },
   purged_view from h (placed_of old) (placed_of new) store.kept.apart.places call.leaves,
 )
 
-pub refused_store : {X : Type 0} (L : List Placed → Type 0) (from next : ℕ) (t u : Tally) (old new : Held MemStore) (e : Error) → IsStore next t old → AreEmptyBefore (newest_of u) new → IsCall {X = X} L old new (Err e)
+pub refused_store : {X : Type 0} (L : List Placed → Type 0) (from next : ℕ) (t u : Tally) (old new : Held MemStore) (e : Error) → IsStore next t old → AreEmptyBefore (used_of u) new → IsCall {X = X} L old new (Err e)
     → IsStore next u new × (left_from from (versions_of new) ≡ left_from from (versions_of old))
 refused_store L from next t u old new e store empty call =
     let same = placed_by old new call.unchanged in (
@@ -122,19 +136,20 @@ refused_store L from next t u old new e store empty call =
 
 -- ---- a write
 
-pub no_room_store : (from stamp next : ℕ) (t u : Tally) (old mid : Held MemStore) (e : Error) → IsStore next t old → AreEmptyBefore (newest_of u) mid → IsRoom from stamp old mid (Err e)
+pub no_room_store : (from stamp next : ℕ) (t u : Tally) (old mid : Held MemStore) (e : Error) → IsStore next t old → AreEmptyBefore (used_of u) mid → IsRoom from stamp old mid (Err e)
     → IsStore next u mid × (left_from from (versions_of mid) ≡ left_from from (versions_of old))
 no_room_store from stamp next t u old mid e store empty room = (record { kept = room.kept; below = room.below next store.below; empty = empty }, room.unchanged)
 
-module _ (from first number stamp next : ℕ) (net : List Change) (t u : Tally) (old mid : Held MemStore) (same_stamp : number ≡ stamp) (store : IsStore next t old) (room : IsRoom from number old mid (Ok first)) (empty : AreEmptyBefore (newest_of u) mid) where
+module _ (from first number stamp next : ℕ) (net : List Change) (t u : Tally) (old mid : Held MemStore) (same_stamp : number ≡ stamp) (store : IsStore next t old) (room : IsRoom from number old mid (Ok first)) (empty : AreEmptyBefore (used_of u) mid) where
   pub room_store : IsStore next u mid
   room_store = record { kept = room.kept; below = room.below next store.below; empty = empty }
 
-  pub written_store : {X : Type 0} (j : Segment) (v : Tally) (new : Held MemStore) (x : X) → segment_place j + newest_of u ≡ 7 → newest_of v ≡ newest_of u → OthersStay (tree_of j) mid new → IsCall (AreWritten (after_net stamp net (versions_of mid)) (next + length net)) mid new (Ok x)
+  pub written_store : (j : Segment) (v : Tally) (new : Held MemStore) (x : Written) → segment_place j + (used_of u - 1) ≡ 7 → used_of u ≤ used_of v → (x.copied ≢ 0 → 1 ≤ used_of v) → OthersStay (tree_of j) mid new → (x.copied ≡ 0 → OthersStay 0 mid new)
+      → IsCall (AreWritten (after_net stamp net (versions_of mid)) (next + length net)) mid new (Ok x)
       → IsStore (next + length net) v new × (left_from first (versions_of new) ≡ after_net stamp net (left_from from (versions_of old))) × AllByRecursion IsStorable (after_net stamp net (left_from from (versions_of old)))
-  written_store j v new x newest same stay call =
+  written_store j v new x newest more used stay none call =
       let is = written_view first stamp (subst (λ n. first ≤ n) same_stamp room.low) net (placed_of mid) (placed_of new) (next + length net) call.leaves ∙ ap (after_net stamp net) room.shown in (
-        record { kept = call.kept; below = call.leaves.below; empty = written_empty j (newest_of v) mid new (ap (λ n. segment_place j + n) same ∙ newest) stay (subst (λ n. AreEmptyBefore n mid) (sym same) empty) },
+        record { kept = call.kept; below = call.leaves.below; empty = written_empty j (used_of u) (used_of v) x.copied mid new newest more used stay none empty },
         is,
         subst (AllByRecursion IsStorable) is (view_each first (placed_of new) call.kept.apart.each),
       )
@@ -142,5 +157,5 @@ module _ (from first number stamp next : ℕ) (net : List Change) (t u : Tally) 
   pub unwritten_store : {X : Type 0} (L : List Placed → Type 0) (new : Held MemStore) (e : Error) → IsCall {X = X} L mid new (Err e)
       → IsStore next u new × (left_from first (versions_of new) ≡ left_from from (versions_of old))
   unwritten_store L new e call =
-      let same = refused_store L first next u u mid new e room_store (still_empty (newest_of u) mid new call.unchanged empty) call in
+      let same = refused_store L first next u u mid new e room_store (still_empty (used_of u) mid new call.unchanged empty) call in
       (same.0, same.1 ∙ room.shown)

@@ -125,8 +125,12 @@ pub rest_kept : (mid end : Held MemStore) (r : Result (Unit {0}) Error) → HasT
 rest_kept mid end (Ok x) tables apart idle ok empty = λ s off. ap (λ (t : Trees). t (tree_of s)) (committed_kept mid end tables apart idle ok.1).trees ∙ empty s off
 rest_kept mid end (Err e) tables apart idle ok empty = tt
 
-pub made_rest : (mid end : Held MemStore) (r : Result (Unit {0}) Error) → HasVersions [] [] mid → end.in_transaction ≡ false → OnOk r (Commits mid end) → OthersAreEmpty First mid → OnOk r (OthersAreEmpty First end)
-made_rest mid end r has idle ok = rest_kept mid end r has.tables (rw (has.latest_are, no_more (dead_in mid) has.dead_are) none_apart) idle ok
+-- as many versions are in the segments as were given
+count_kept : (latest xs : List Placed) (mid end : Held MemStore) (r : Result (Unit {0}) Error) → HasVersions latest xs mid → AreWellPlaced (latest_in mid) (dead_in mid) → end.in_transaction ≡ false → OnOk r (Commits mid end)
+    → OnOk r (length xs ≡ length (dead_in end))
+count_kept latest xs mid end (Ok x) has apart idle ok =
+    sym (ap (λ (t : Trees). length (dead_among t segments)) (committed_kept mid end has.tables apart idle ok.1).trees ∙ length_permutation xs (dead_in mid) has.dead_are)
+count_kept latest xs mid end (Err e) has apart idle ok = tt
 
 -- ---- what is read of one segment more
 
@@ -166,6 +170,9 @@ module _ (from : ℕ) (old first mid : Held MemStore) (same : IsSame old first) 
     pub dead_rest : (end : Held MemStore) (r : Result (Unit {0}) Error) → end.in_transaction ≡ false → OnOk r (Commits mid end) → OthersAreEmpty First mid → OnOk r (OthersAreEmpty First end)
     dead_rest end r idle ok = rest_kept mid end r has.tables apart idle ok
 
+    pub dead_count : (end : Held MemStore) (r : Result (Unit {0}) Error) → end.in_transaction ≡ false → OnOk r (Commits mid end) → OnOk r (length left ≡ length (dead_in end))
+    dead_count end r idle ok = count_kept (latest_in first) left mid end r has apart idle ok
+
   module _ (last : List Placed) (one : IsPermutation (placed_left from (latest_in old)) last) (has : HasVersions last left mid) where
     before : IsPermutation (placed_left from (dead_in old)) (dead_in mid)
     before = IsPermutation-trans _ _ _ two has.dead_are
@@ -181,3 +188,6 @@ module _ (from : ℕ) (old first mid : Held MemStore) (same : IsSame old first) 
 
     pub all_rest : (end : Held MemStore) (r : Result (Unit {0}) Error) → end.in_transaction ≡ false → OnOk r (Commits mid end) → OthersAreEmpty First mid → OnOk r (OthersAreEmpty First end)
     all_rest end r idle ok = rest_kept mid end r has.tables both idle ok
+
+    pub all_count : (end : Held MemStore) (r : Result (Unit {0}) Error) → end.in_transaction ≡ false → OnOk r (Commits mid end) → OnOk r (length left ≡ length (dead_in end))
+    all_count end r idle ok = count_kept last left mid end r has both idle ok

@@ -1,5 +1,5 @@
 -- What a connection over the tables of versions keeps: words that only this crate's private functions promise.
-use Rattle.std.specs.Prelude.{◌≡◌, ◌≢◌, ◌+◌, ◌-◌, ◌<◌, min, ◌≤◌, ℕ, true, false, List, [], ◌∷◌, ◌++◌, map, filter, length, take, Result, Vec, OnOk, OnErr, IfOk}
+use Rattle.std.specs.Prelude.{◌≡◌, ◌≢◌, ◌+◌, ◌<◌, min, ◌≤◌, ℕ, true, false, List, [], ◌∷◌, ◌++◌, map, filter, length, take, Result, Vec, OnOk, OnErr, IfOk}
 use Rattle.std.specs.declared.alloc.Global.{Global}
 use Rattle.sqlite.specs.declared.error.Error.{Error}
 use Rattle.std.specs.List.{AllByRecursion}
@@ -119,7 +119,7 @@ pub record IsReading (q : Query) (from : ℕ) (s : Source) (old new : Held MemSt
 
 -- ---- segments that are not written
 
--- each segment whose rows stand in another tree has the rows that it had
+-- each segment whose rows stand in another tree has the rows that it had: at tree 0, that of the last versions, each segment
 abbrev pub OthersStay : ℕ → Held MemStore → Held MemStore → Type 0
 OthersStay tree old new = (s : Segment) → tree_of s ≢ tree → (state over_memory new).now.trees (tree_of s) ≡ (state over_memory old).now.trees (tree_of s)
 
@@ -127,13 +127,13 @@ OthersStay tree old new = (s : Segment) → tree_of s ≢ tree → (state over_m
 abbrev pub OthersAreEmpty : Segment → Held MemStore → Type 0
 OthersAreEmpty j h = (s : Segment) → tree_of s ≢ tree_of j → (state over_memory h).now.trees (tree_of s) ≡ []
 
--- so many segments are in use beside the first
-abbrev pub newest_of : Tally → ℕ
-newest_of t = min t.segments.used 7 - 1
+-- so many segments are in use, the first one first: none where no version went to one since they were made
+abbrev pub used_of : Tally → ℕ
+used_of t = min t.segments.used 7
 
--- where so many are in use beside the first, those that are made before them are empty
+-- where so many are in use, the first one first, those that are made before them are empty: where none is, all are
 abbrev pub AreEmptyBefore : ℕ → Held MemStore → Type 0
-AreEmptyBefore n h = (s : Segment) → segment_place s + n < 7 → (state over_memory h).now.trees (tree_of s) ≡ []
+AreEmptyBefore n h = (s : Segment) → segment_place s + n < 8 → (state over_memory h).now.trees (tree_of s) ≡ []
 
 -- ---- tables that come and go
 
@@ -183,4 +183,4 @@ pub record IsFinding (q : Query) (from : ℕ) (placed : List Placed) (old new : 
 pub record IsStore (next : ℕ) (tally : Tally) (h : Held MemStore) : Type 0 where
   pub kept : IsKept h
   pub below : AreBelow next (placed_of h)
-  pub empty : AreEmptyBefore (newest_of tally) h
+  pub empty : AreEmptyBefore (used_of tally) h

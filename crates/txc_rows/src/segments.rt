@@ -1,6 +1,6 @@
 //! Which segments are in use, and how many versions they have.
 
-ghost use Rattle.std.specs.Prelude.{◌≡◌, ◌≤◌, ◌+◌, ◌-◌, min};
+ghost use Rattle.std.specs.Prelude.{◌≡◌, ◌≢◌, ◌≤◌, ◌+◌, ◌-◌, min};
 ghost use Rattle.txc_rows.specs.Texts.{segment_place};
 
 use crate::texts::Segment;
@@ -11,6 +11,7 @@ const LEAST_ROOM: usize = 1024;
 /// Which segments are in use, the others being empty, and what they hold.
 #[derive(Clone, Copy)]
 pub(crate) struct Segments {
+    /// How many are in use, the first one first.
     used: usize,
     /// How many versions each has.
     counts: [usize; 7],
@@ -21,16 +22,16 @@ pub(crate) struct Segments {
 }
 
 impl Segments {
-    /// The first segment is in use. It has so many versions, and none died after the stamp.
+    /// The first segment has so many versions, and none died after the stamp. It is in use where it has any.
     pub(crate) fn with(count: usize, last: u32) -> Segments
-        ensures { result.used ≡ 1 }
+        ensures { result.used ≡ min count 1 }
     {
         let mut counts = [0usize; 7];
         let mut lasts = [0u32; 7];
         counts[0] = count;
         lasts[0] = last;
         Segments {
-            used: 1,
+            used: count.min(1),
             counts,
             lasts,
             room: LEAST_ROOM.max(count / 6),
@@ -38,16 +39,23 @@ impl Segments {
     }
 
     pub(crate) fn empty() -> Segments
-        ensures { result.used ≡ 1 }
+        ensures { result.used ≡ 0 }
     {
         Segments::with(0, 0)
+    }
+
+    /// How many are in use, the first one first.
+    pub(crate) fn in_use(&self) -> usize
+        ensures { result ≡ min self.now.used 7 }
+    {
+        self.used.min(7)
     }
 
     /// How many are in use beside the first.
     pub(crate) fn newest_at(&self) -> usize
         ensures { result ≡ min self.now.used 7 - 1 }
     {
-        self.used.min(7).saturating_sub(1)
+        self.in_use().saturating_sub(1)
     }
 
     /// The segment to which the next versions go.
@@ -65,10 +73,13 @@ impl Segments {
         }
     }
 
-    /// So many versions, of which none died after the stamp, were copied to the newest segment.
+    /// So many versions, of which none died after the stamp, were copied to the newest segment. It is in use where
+    /// there were any.
     pub(crate) fn note(&mut self, copied: usize, last: u32)
-        ensures { self.new.used ≡ self.old.used }
+        ensures more { self.old.used ≤ self.new.used }
+        ensures used { copied ≢ 0 → 1 ≤ self.new.used }
     {
+        self.used = self.used.max(copied.min(1));
         let at = self.newest_at();
         self.counts[at] = self.counts[at].wrapping_add(copied);
         self.lasts[at] = self.lasts[at].max(last);
@@ -112,7 +123,7 @@ impl Segments {
 
     /// All in the first segment, of which so many are left.
     pub(crate) fn joined(&self, count: usize) -> Segments
-        ensures { result.used ≡ 1 }
+        ensures { result.used ≡ min count 1 }
     {
         if count == 0 {
             return Segments::empty();

@@ -1,6 +1,6 @@
 //! The statements that make and drop tables, and leave out what died.
 
-ghost use Rattle.std.specs.Prelude.{◌≡◌, ◌++◌, ◌∷◌, [], true, map, OnOk, IfOk};
+ghost use Rattle.std.specs.Prelude.{◌≡◌, ◌++◌, ◌∷◌, [], true, map, length, OnOk, IfOk};
 ghost use Rattle.std.specs.List.Sorted.{IsPermutation};
 ghost use Rattle.std.specs.List.{AllByRecursion};
 ghost use Rattle.sqlite.specs.Held.{state};
@@ -94,7 +94,6 @@ pub(crate) fn create(conn: &mut Connection<MemStore>) -> Result<(), Error>
     requires { IsEmpty (state over_memory conn.old) }
     ensures kept { OnOk result (IsKept conn.new) }
     ensures empty { OnOk result (placed_of conn.new ≡ []) }
-    ensures unused { OnOk result (OthersAreEmpty First conn.new) }
 {
     let mut tx = conn.transaction();
     make_latest(&mut tx)?;
@@ -281,6 +280,7 @@ pub(crate) fn sweep_dead(
     requires { IsKept conn.old }
     ensures call { IsCall (AreSwept from (placed_of conn.old)) conn.old conn.new result }
     ensures rest { OnOk result (OthersAreEmpty First conn.new) }
+    ensures count { IfOk result (λ kept. kept ≡ length (dead_in conn.new)) }
 {
     let left = read_all_left(conn, alloc, from)?;
     let mut tx = conn.transaction();
@@ -298,6 +298,7 @@ pub(crate) fn sweep_all(
     requires { IsKept conn.old }
     ensures call { IsCall (AreLeft from (placed_of conn.old)) conn.old conn.new result }
     ensures rest { OnOk result (OthersAreEmpty First conn.new) }
+    ensures count { IfOk result (λ counts. counts.1 ≡ length (dead_in conn.new)) }
 {
     let latest = read_left(conn, Source::Latest, from)?;
     let left = read_all_left(conn, alloc, from)?;

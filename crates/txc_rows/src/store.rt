@@ -3,10 +3,9 @@
 ghost use Rattle.std.specs.Prelude.{◌≡◌, ℕ, ◌+◌, ◌^◌, ◌<◌, ◌≤◌, [], Ok, IfOk, IfErr, OnOk, OnErr, length, filter, map};
 ghost use Rattle.std.specs.List.Sorted.{IsPermutation, IsSorted};
 ghost use Rattle.txc_rows.specs.Versions.{suits, purged, after_net, version_cmp};
-ghost use Rattle.txc_rows.specs.declared.texts.Segment.TheVariants.{First};
 ghost use Rattle.txc_rows.specs.declared.texts.Source.TheVariants.{Dead};
 ghost use Rattle.txc_rows.specs.Placed.{version_of, left_from, AreSwept};
-ghost use Rattle.txc_rows.specs.Kept.{placed_of, placed_read, versions_of, newest_of, AreEmptyBefore, OthersAreEmpty, IsKept, IsCall, IsSame, IsRoom, IsFinding};
+ghost use Rattle.txc_rows.specs.Kept.{placed_of, placed_read, versions_of, used_of, AreEmptyBefore, IsKept, IsCall, IsSame, IsRoom, IsFinding};
 ghost use Rattle.txc_rows.specs.States.{State};
 ghost use Rattle.txc_rows.specs.Found.{Finds};
 ghost use Rattle.txc_rows.specs.Keeping.{KeepsStates, KeepsWritten, KeepsPurged, AnswersStates};
@@ -56,7 +55,6 @@ impl Model for VersionRows {
 fn open_tables(alloc: Global) -> Result<Connection<MemStore>, sqlite::Error>
     ensures kept { IfOk result IsKept }
     ensures empty { IfOk result (λ conn. placed_of conn ≡ []) }
-    ensures unused { IfOk result (OthersAreEmpty First) }
 {
     let mut conn = Connection::open_in_memory(alloc)?;
     create(&mut conn)?;
@@ -83,7 +81,7 @@ fn sweep(
 ) -> Result<(), sqlite::Error>
     requires { IsKept conn.old }
     ensures call { IsCall (AreSwept from (placed_of conn.old)) conn.old conn.new result }
-    ensures empty { AreEmptyBefore (newest_of tally.old) conn.old → AreEmptyBefore (newest_of tally.new) conn.new }
+    ensures empty { AreEmptyBefore (used_of tally.old) conn.old → AreEmptyBefore (used_of tally.new) conn.new }
 {
     if tally.is_mostly_ended(from) {
         let (rows, kept) = sweep_all(conn, alloc, from)?;
@@ -106,7 +104,7 @@ fn make_room(
 ) -> Result<u32, sqlite::Error>
     requires { IsKept conn.old }
     ensures room { IsRoom kept_from stamp conn.old conn.new result }
-    ensures empty { AreEmptyBefore (newest_of tally.old) conn.old → AreEmptyBefore (newest_of tally.new) conn.new }
+    ensures empty { AreEmptyBefore (used_of tally.old) conn.old → AreEmptyBefore (used_of tally.new) conn.new }
 {
     if stamp < kept_from {
         let (rows, kept) = sweep_all(conn, alloc, kept_from)?;
@@ -157,7 +155,7 @@ fn find_dead(
 ) -> Result<(), StoreError>
     requires kept { IsKept conn.old }
     requires few { length found.old.items ≤ MAX_MATCHING }
-    requires empty { AreEmptyBefore (newest_of tally.now) conn.old }
+    requires empty { AreEmptyBefore (used_of tally.now) conn.old }
     ensures same { IsSame conn.old conn.new }
     ensures finds { OnOk result (IsFinding query.now from (placed_read (Dead segment) conn.old) found.old.items found.new.items) }
     ensures refused { result ≡ Err StoreError.TooManyRows
@@ -188,7 +186,7 @@ fn find_all(
     tally: &Tally,
 ) -> Result<Vec<Versioned>, StoreError>
     requires kept { IsKept conn.old }
-    requires empty { AreEmptyBefore (newest_of tally.now) conn.old }
+    requires empty { AreEmptyBefore (used_of tally.now) conn.old }
     ensures same { IsSame conn.old conn.new }
     ensures finds { IfOk result (λ found. Finds query.now (left_from from (versions_of conn.old)) found.items) }
     ensures bound { IfOk result (λ found. length found.items ≤ MAX_MATCHING) }

@@ -1,8 +1,8 @@
 //! What is known of the tables without looking into them.
 
-ghost use Rattle.std.specs.Prelude.{◌≡◌, ◌≤◌, ◌+◌, ◌↔◌, IsTrue};
+ghost use Rattle.std.specs.Prelude.{◌≡◌, ◌≢◌, ◌≤◌, ◌+◌, ◌-◌, ◌↔◌, min, IsTrue};
 ghost use Rattle.txc_rows.specs.Texts.{segment_place};
-ghost use Rattle.txc_rows.specs.Kept.{newest_of};
+ghost use Rattle.txc_rows.specs.Kept.{used_of};
 
 use crate::segments::Segments;
 use crate::texts::Segment;
@@ -30,7 +30,7 @@ pub(crate) struct Tally {
 
 impl Tally {
     pub(crate) fn empty() -> Tally
-        ensures { newest_of result ≡ 0 }
+        ensures { used_of result ≡ 0 }
     {
         Tally {
             segments: Segments::empty(),
@@ -44,21 +44,21 @@ impl Tally {
 
     /// The segment to which the next versions go.
     pub(crate) fn segment(&self) -> Segment
-        ensures { segment_place result + newest_of self.now ≡ 7 }
+        ensures { segment_place result + (used_of self.now - 1) ≡ 7 }
     {
         self.segments.newest()
     }
 
     /// Whether a segment is in use.
     pub(crate) fn uses(&self, segment: Segment) -> bool
-        ensures { IsTrue result ↔ (7 ≤ segment_place segment + newest_of self.now) }
+        ensures { IsTrue result ↔ (8 ≤ segment_place segment + used_of self.now) }
     {
-        segment.place() + self.segments.newest_at() >= 7
+        segment.place() + self.segments.in_use() >= 8
     }
 
     /// Whether a write finds room in a segment, perhaps in the next one.
     pub(crate) fn has_room(&mut self) -> bool
-        ensures { newest_of self.old ≤ newest_of self.new }
+        ensures { used_of self.old ≤ used_of self.new }
     {
         !self.segments.is_full() || self.segments.advance()
     }
@@ -77,7 +77,8 @@ impl Tally {
 
     /// A commit was written.
     pub(crate) fn note(&mut self, written: Written, stamp: u32)
-        ensures { newest_of self.new ≡ newest_of self.old }
+        ensures more { used_of self.old ≤ used_of self.new }
+        ensures used { written.copied ≢ 0 → 1 ≤ used_of self.new }
     {
         self.newest = self.newest.max(stamp);
         self.segments.note(written.copied, self.newest);
@@ -88,7 +89,7 @@ impl Tally {
 
     /// What died before the stamp is hidden.
     pub(crate) fn mark(&mut self, from: u32)
-        ensures { newest_of self.new ≡ newest_of self.old }
+        ensures { used_of self.new ≡ used_of self.old }
     {
         if self.marked_at < from {
             self.marked_ended = self.ended;
@@ -98,14 +99,14 @@ impl Tally {
 
     /// The segments were made anew, with so many versions.
     pub(crate) fn sweep_dead(&mut self, kept: usize)
-        ensures { newest_of self.new ≡ 0 }
+        ensures { used_of self.new ≡ min kept 1 }
     {
         self.segments = self.segments.joined(kept);
     }
 
     /// All tables were made anew, with so many last versions and so many others.
     pub(crate) fn sweep_all(&mut self, rows: usize, kept: usize)
-        ensures { newest_of self.new ≡ 0 }
+        ensures { used_of self.new ≡ min kept 1 }
     {
         self.segments = self.segments.joined(kept);
         self.rows = rows;

@@ -30,10 +30,14 @@ impl Written {
         added: 0,
     };
 
-    fn and(self, other: Written) -> Written {
+    fn and(self, other: Written) -> Written
+        ensures first { result.copied ≡ 0 → self.copied ≡ 0 }
+        ensures next { result.copied ≡ 0 → other.copied ≡ 0 }
+    {
         Written {
             ended: self.ended.wrapping_add(other.ended),
-            copied: self.copied.wrapping_add(other.copied),
+            // a count that wraps could say that none was copied
+            copied: self.copied.saturating_add(other.copied),
             added: self.added.wrapping_add(other.added),
         }
     }
@@ -111,6 +115,7 @@ fn copy_latest(
         (dead_in tx.old.conn.now ++ filter (has_key table id group) (latest_in tx.old.conn.now)))
         tx.old.conn.now tx.new.conn.now result }
     ensures others { OnOk result (OthersStay (tree_of segment) tx.old.conn.now tx.new.conn.now) }
+    ensures none { IfOk result (λ n. n ≡ 0 → OthersStay 0 tx.old.conn.now tx.new.conn.now) }
 {
     tx.execute(
         copy_text(segment),
@@ -167,6 +172,7 @@ fn put_version(
         (put_dead row.now (latest_in tx.old.conn.now) (dead_in tx.old.conn.now)))
         tx.old.conn.now tx.new.conn.now result }
     ensures others { OnOk result (OthersStay (tree_of segment) tx.old.conn.now tx.new.conn.now) }
+    ensures none { IfOk result (λ n. n ≡ 0 → OthersStay 0 tx.old.conn.now tx.new.conn.now) }
 {
     let copied = copy_latest(tx, row.table(), row.id(), row.group(), segment)?;
     if copied == 0 {
@@ -193,6 +199,7 @@ fn write_put(
         (HasWritten (put row.now stamp (versions_of tx.old.conn.now)) (place + 1))
         tx.old.conn.now tx.new.conn.now result }
     ensures others { OnOk result (OthersStay (tree_of segment) tx.old.conn.now tx.new.conn.now) }
+    ensures none { IfOk result (λ w. w.copied ≡ 0 → OthersStay 0 tx.old.conn.now tx.new.conn.now) }
 {
     let ended = end_version(tx, row.table(), row.id(), stamp)?;
     let copied = put_version(tx, place, row, stamp, segment)?;
@@ -219,6 +226,7 @@ fn write_change(
         (HasWritten (after_write stamp change.now (versions_of tx.old.conn.now)) (place + 1))
         tx.old.conn.now tx.new.conn.now result }
     ensures others { OnOk result (OthersStay (tree_of segment) tx.old.conn.now tx.new.conn.now) }
+    ensures none { IfOk result (λ w. w.copied ≡ 0 → OthersStay 0 tx.old.conn.now tx.new.conn.now) }
 {
     match change {
         Change::Put(row) => write_put(tx, row, stamp, place, segment),
@@ -248,6 +256,7 @@ pub(crate) fn write_all(
         (AreWritten (after_net stamp net.now (versions_of conn.old)) (place + length net.now))
         conn.old conn.new result }
     ensures others { OnOk result (OthersStay (tree_of segment) conn.old conn.new) }
+    ensures none { IfOk result (λ w. w.copied ≡ 0 → OthersStay 0 conn.old conn.new) }
 {
     let mut tx = conn.transaction();
     let mut written = Written::NOTHING;

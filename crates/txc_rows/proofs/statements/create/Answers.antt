@@ -1,8 +1,7 @@
 use Rattle.std.proofs.Common.{◌≡◌, [], OnOk, subst, rules}
 use Rattle.sqlite.proofs.Callers.{memory_is_clean}
-use Rattle.txc_rows.specs.declared.texts.Segment.TheVariants.{First}
-use Rattle.txc_rows.specs.Kept.{placed_of, IsKept, OthersAreEmpty}
-use Rattle.txc_rows.proofs.SweepCalls.{made_of, made_kept, made_empty, made_rest}
+use Rattle.txc_rows.specs.Kept.{placed_of, IsKept}
+use Rattle.txc_rows.proofs.SweepCalls.{made_of, made_kept, made_empty}
 use Rattle.txc_rows.proofs.statements.create.Goals as goal
 
 pub returns-clause-kept : goal.returns-clause-kept
@@ -20,12 +19,3 @@ returns-clause-empty c =
     let same : end ≡ c.conn-2-1.given.0 = search rules in
     let made = made_of c.make_latest.new.tx.conn.now mid c.in_ok-make_latest.ensures.step.leaves.latest_are c.in_ok-make_segments.ensures.step.leaves in
     subst (λ h. OnOk c.commit.result (placed_of h ≡ [])) same (made_empty mid end c.commit.result made c.commit.ensures.ended (c.commit.ensures.ok (memory_is_clean end)))
-
-pub returns-clause-unused : goal.returns-clause-unused
-returns-clause-unused c =
-    let mid = c.make_segments.new.tx.conn.now in
-    let end = c.commit.new.self.0 in
-    let same : end ≡ c.conn-2-1.given.0 = search rules in
-    let made = made_of c.make_latest.new.tx.conn.now mid c.in_ok-make_latest.ensures.step.leaves.latest_are c.in_ok-make_segments.ensures.step.leaves in
-    subst (λ h. OnOk c.commit.result (OthersAreEmpty First h)) same
-    (made_rest mid end c.commit.result made c.commit.ensures.ended (c.commit.ensures.ok (memory_is_clean end)) (λ s off. c.in_ok-make_segments.ensures.empty s))

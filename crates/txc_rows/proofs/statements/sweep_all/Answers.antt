@@ -1,4 +1,5 @@
-use Rattle.std.proofs.Common.{◌≡◌, map, Ok, Err, OnOk, subst, ◌∙◌, rules}
+use Rattle.std.proofs.Common.{◌≡◌, map, length, Ok, Err, OnOk, sym, subst, ◌∙◌, rules}
+use Rattle.std.proofs.lemmas.List.{length-map}
 use Rattle.std.proofs.lemmas.Result.{err_from_is_err_and}
 use Rattle.std.specs.List.Sorted.{IsPermutation}
 use Rattle.sqlite.specs.Held.{state}
@@ -10,7 +11,7 @@ use Rattle.txc_rows.specs.Texts.{segments}
 use Rattle.txc_rows.specs.Stored.{placed_from}
 use Rattle.txc_rows.specs.Kept.{dead_among, dead_in, placed_of, HasVersions, IsCall, OthersAreEmpty}
 use Rattle.txc_rows.proofs.HeldLemmas.{refused_call, recast_ok, recast_err}
-use Rattle.txc_rows.proofs.SweepCalls.{same_then, undone_since, begun_base, all_call, all_rest}
+use Rattle.txc_rows.proofs.SweepCalls.{same_then, undone_since, begun_base, all_call, all_rest, all_count}
 use Rattle.txc_rows.proofs.statements.sweep_all.Goals as goal
 
 pub returns-in_err-latest-clause-call : goal.returns-in_err-latest-clause-call
@@ -101,3 +102,25 @@ returns-clause-rest c =
     let same : end ≡ c.conn-2-1.given.0 = search rules in
     let done : OthersAreEmpty First end = subst (λ r. OnOk r (OthersAreEmpty First end)) c.in_ok-commit.was rest in
     subst (OthersAreEmpty First) same done
+
+pub returns-clause-count : goal.returns-clause-count
+returns-clause-count c =
+    let old = c.args.conn.now in
+    let first = c.read_all_left.new.conn in
+    let mid = c.refill_all.new.tx.conn.now in
+    let end = c.commit.new.self.0 in
+    let step = c.in_ok-refill_all.ensures.step in
+    let last = map placed_from c.in_ok-latest.latest.items in
+    let rows = c.in_ok-left.left.items in
+    let left = map placed_from rows in
+    let here = same_then old c.read_left.new.conn first c.in_ok-latest.ensures.same c.in_ok-left.ensures.same in
+    let two : IsPermutation (placed_left c.args.from (dead_in old)) left
+    = subst (λ (t : Trees). IsPermutation (placed_left c.args.from (dead_among t segments)) left) c.in_ok-latest.ensures.same.trees c.in_ok-left.ensures.left in
+    let has : HasVersions last left mid = rw (c.deref.ensures.value, c.deref-2.ensures.value) at step.leaves in
+    let count : OnOk c.commit.result (length left ≡ length (dead_in end))
+    = all_count c.args.from old first mid here left two c.requires last c.in_ok-latest.ensures.left has end c.commit.result c.commit.ensures.ended (c.commit.ensures.ok (memory_is_clean end)) in
+    let same : end ≡ c.conn-2-1.given.0 = search rules in
+    let done : length left ≡ length (dead_in end) = subst (λ r. OnOk r (length left ≡ length (dead_in end))) c.in_ok-commit.was count in
+    let all : length rows ≡ length (dead_in end) = sym (length-map rows placed_from) ∙ done in
+    let counted : c.len-2.result ≡ length rows = search rules in
+    subst (λ h. c.len-2.result ≡ length (dead_in h)) same (counted ∙ all)

@@ -1,13 +1,14 @@
-use Rattle.std.proofs.Common.{◌≡◌, map, Ok, Err, OnOk, subst, ◌∙◌, rules}
+use Rattle.std.proofs.Common.{◌≡◌, map, length, Ok, Err, OnOk, sym, subst, ◌∙◌, rules}
+use Rattle.std.proofs.lemmas.List.{length-map}
 use Rattle.std.proofs.lemmas.Result.{err_from_is_err_and}
 use Rattle.sqlite.specs.Held.{state}
 use Rattle.sqlite.proofs.Callers.{memory_is_clean}
 use Rattle.txc_rows.specs.declared.texts.Segment.TheVariants.{First}
 use Rattle.txc_rows.specs.Placed.{AreSwept}
 use Rattle.txc_rows.specs.Stored.{placed_from}
-use Rattle.txc_rows.specs.Kept.{latest_in, placed_of, HasVersions, IsCall, OthersAreEmpty}
+use Rattle.txc_rows.specs.Kept.{latest_in, dead_in, placed_of, HasVersions, IsCall, OthersAreEmpty}
 use Rattle.txc_rows.proofs.HeldLemmas.{refused_call, recast_ok, recast_err}
-use Rattle.txc_rows.proofs.SweepCalls.{undone_since, begun_base, begun_latest, dead_call, dead_rest}
+use Rattle.txc_rows.proofs.SweepCalls.{undone_since, begun_base, begun_latest, dead_call, dead_rest, dead_count}
 use Rattle.txc_rows.proofs.statements.sweep_dead.Goals as goal
 
 pub returns-in_err-left-clause-call : goal.returns-in_err-left-clause-call
@@ -82,3 +83,22 @@ returns-clause-rest c =
     let same : end ≡ c.conn-2-1.given.0 = search rules in
     let done : OthersAreEmpty First end = subst (λ r. OnOk r (OthersAreEmpty First end)) c.in_ok-commit.was rest in
     subst (OthersAreEmpty First) same done
+
+pub returns-clause-count : goal.returns-clause-count
+returns-clause-count c =
+    let old = c.args.conn.now in
+    let first = c.read_all_left.new.conn in
+    let begun = c.transaction-tx.result.conn.now in
+    let mid = c.refill_dead.new.tx.conn.now in
+    let end = c.commit.new.self.0 in
+    let rows = c.in_ok-left.left.items in
+    let left = map placed_from rows in
+    let here : HasVersions (latest_in begun) left mid = rw c.deref.ensures.value at c.in_ok-refill_dead.ensures.step.leaves in
+    let has : HasVersions (latest_in first) left mid = subst (λ latest. HasVersions latest left mid) (begun_latest first begun c.transaction-tx.ensures.begun) here in
+    let count : OnOk c.commit.result (length left ≡ length (dead_in end))
+    = dead_count c.args.from old first mid c.in_ok-left.ensures.same left c.in_ok-left.ensures.left c.requires has end c.commit.result c.commit.ensures.ended (c.commit.ensures.ok (memory_is_clean end)) in
+    let same : end ≡ c.conn-2-1.given.0 = search rules in
+    let done : length left ≡ length (dead_in end) = subst (λ r. OnOk r (length left ≡ length (dead_in end))) c.in_ok-commit.was count in
+    let all : length rows ≡ length (dead_in end) = sym (length-map rows placed_from) ∙ done in
+    let counted : c.len.result ≡ length rows = search rules in
+    subst (λ h. c.len.result ≡ length (dead_in h)) same (counted ∙ all)

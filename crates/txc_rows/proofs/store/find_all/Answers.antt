@@ -6,7 +6,7 @@ use Rattle.sqlite.specs.Held.{state}
 use Rattle.sqlite.specs.Steps.{over_memory}
 use Rattle.txc_rows.specs.declared.store_error.StoreError.TheVariants.{TooManyRows}
 use Rattle.txc_rows.specs.Texts.{segments}
-use Rattle.txc_rows.specs.Kept.{dead_among, newest_of}
+use Rattle.txc_rows.specs.Kept.{dead_among, used_of}
 use Rattle.txc_rows.proofs.FindLemmas.{asked, of_all, found_latest, latest_many, found_dead, dead_many, found_all, passed_error}
 use Rattle.txc_rows.proofs.SweepCalls.{same_then}
 use Rattle.txc_rows.proofs.StoreLemmas.{still_empty}
@@ -23,7 +23,7 @@ loop-segment-init c =
     record { same = c.in_ok-find.ensures.same; few = finding.few; so_far = found_latest c.args.query.now c.args.from c.args.conn.now c.new-found.result.items _ c.new-found.ensures.items finding }
 
 pub find_dead-requires-clause-empty : goal.find_dead-requires-clause-empty
-find_dead-requires-clause-empty c = still_empty (newest_of c.args.tally.now) c.args.conn.now c.loop-segment.conn c.loop-segment.invariant.same.trees c.requires.empty
+find_dead-requires-clause-empty c = still_empty (used_of c.args.tally.now) c.args.conn.now c.loop-segment.conn c.loop-segment.invariant.same.trees c.requires.empty
 
 pub returns-in_err-find_dead-clause-refused : goal.returns-in_err-find_dead-clause-refused
 returns-in_err-find_dead-clause-refused c = λ many.

@@ -1,8 +1,8 @@
-use Rattle.std.proofs.Common.{◌≤◌, arith}
+use Rattle.std.proofs.Common.{◌≤◌, arith, rules}
 use Rattle.std.proofs.lemmas.Result.{err_from_is_err_and}
 use Rattle.txc_rows.specs.Placed.{AreSwept, AreLeft}
-use Rattle.txc_rows.specs.Kept.{placed_of, newest_of}
-use Rattle.txc_rows.proofs.StoreLemmas.{still_empty, fewer_empty, room_refused, room_all, room_dead}
+use Rattle.txc_rows.specs.Kept.{placed_of, used_of}
+use Rattle.txc_rows.proofs.StoreLemmas.{still_empty, fewer_empty, first_alone, room_refused, room_all, room_dead}
 use Rattle.txc_rows.proofs.store.make_room.Goals as goal
 
 pub returns-in_err-rows-clause-room : goal.returns-in_err-rows-clause-room
@@ -12,7 +12,7 @@ returns-in_err-rows-clause-room c =
     rw p.1 (room_refused c.args.kept_from c.args.stamp old c.sweep_all.new.conn c.requires (AreLeft c.args.kept_from (placed_of old)) _ p.0 c.in_err-rows.ensures.call)
 
 pub returns-in_err-rows-clause-empty : goal.returns-in_err-rows-clause-empty
-returns-in_err-rows-clause-empty c = still_empty (newest_of c.args.tally.now) c.args.conn.now c.sweep_all.new.conn c.in_err-rows.ensures.call.unchanged
+returns-in_err-rows-clause-empty c = still_empty (used_of c.args.tally.now) c.args.conn.now c.sweep_all.new.conn c.in_err-rows.ensures.call.unchanged
 
 pub returns-then-stamp-kept_from-clause-room : goal.returns-then-stamp-kept_from-clause-room
 returns-then-stamp-kept_from-clause-room c = room_all c.args.kept_from c.args.stamp c.args.conn.now c.sweep_all.new.conn c.requires _ c.in_ok-rows.ensures.call
@@ -25,9 +25,15 @@ returns-in_err-kept-clause-room c =
 
 pub returns-in_err-kept-clause-empty : goal.returns-in_err-kept-clause-empty
 returns-in_err-kept-clause-empty c = λ empty.
-    fewer_empty (newest_of c.args.tally.now) (newest_of c.has_room.new.self) c.sweep_dead.new.conn c.has_room.ensures (still_empty (newest_of c.args.tally.now) c.args.conn.now c.sweep_dead.new.conn c.in_err-kept.ensures.call.unchanged empty)
+    fewer_empty (used_of c.args.tally.now) (used_of c.has_room.new.self) c.sweep_dead.new.conn c.has_room.ensures (still_empty (used_of c.args.tally.now) c.args.conn.now c.sweep_dead.new.conn c.in_err-kept.ensures.call.unchanged empty)
 
 pub returns-in_ok-kept-clause-room : goal.returns-in_ok-kept-clause-room
 returns-in_ok-kept-clause-room c =
     let low : c.args.kept_from ≤ c.args.stamp = search arith in
     room_dead c.args.kept_from c.args.stamp c.args.conn.now c.sweep_dead.new.conn c.requires _ low c.in_ok-kept.ensures.call
+
+pub returns-then-stamp-kept_from-clause-empty : goal.returns-then-stamp-kept_from-clause-empty
+returns-then-stamp-kept_from-clause-empty c = λ _. first_alone _ _ c.sweep_all.new.conn (search rules) c.in_ok-rows.ensures.count c.in_ok-rows.ensures.rest
+
+pub returns-in_ok-kept-clause-empty : goal.returns-in_ok-kept-clause-empty
+returns-in_ok-kept-clause-empty c = λ _. first_alone _ _ c.sweep_dead.new.conn (search rules) c.in_ok-kept.ensures.count c.in_ok-kept.ensures.rest

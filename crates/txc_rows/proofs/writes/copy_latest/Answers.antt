@@ -1,4 +1,4 @@
-use Rattle.std.proofs.Common.{◌≡◌, [], ◌∷◌, ◌++◌, filter, length, Result, Ok, Err, ℕ, IfOk}
+use Rattle.std.proofs.Common.{◌≡◌, [], ◌∷◌, ◌++◌, filter, length, Result, Ok, Err, ℕ, IfOk, sym, ◌∙◌}
 use Rattle.sqlite.specs.Held.{Held, state}
 use Rattle.sqlite.specs.Steps.{over_memory}
 use Rattle.sqlite.specs.State.{ExecutesInside}
@@ -9,8 +9,9 @@ use Rattle.txc_rows.specs.declared.texts.Segment.{Segment}
 use Rattle.txc_rows.specs.Texts.{copy_text, tree_of}
 use Rattle.txc_rows.specs.Placed.{has_key, HaveOwnKeys}
 use Rattle.txc_rows.specs.Stored.{number}
-use Rattle.txc_rows.specs.Kept.{latest_in, dead_in, HasTables, HasVersions}
+use Rattle.txc_rows.specs.Kept.{latest_in, dead_in, HasTables, HasVersions, OthersStay}
 use Rattle.txc_rows.proofs.PutLemmas.{few_keys}
+use Rattle.txc_rows.proofs.SegmentLemmas.{all_same}
 use Rattle.txc_rows.proofs.WriteLemmas.{copies}
 use Rattle.txc_rows.proofs.HeldLemmas.{steps, has_left, others_stay}
 use Rattle.txc_rows.proofs.writes.copy_latest.Goals as goal
@@ -22,6 +23,14 @@ counts : (j : Segment) (t i g : ℕ) (old new : Held MemStore) (r : Result ℕ E
     → IfOk r (λ n. n ≡ length (filter (has_key t i g) (latest_in old)))
 counts j t i g old new (Err e) has own h = tt
 counts j t i g old new (Ok count) has own h = (copies j (state over_memory old) (state over_memory new) t i g count has.schema has.latest has.dead (few_keys t i g (latest_in old) own) h.0).1
+
+-- where none was copied, no segment is written
+stays : (j : Segment) (t i g : ℕ) (old new : Held MemStore) (r : Result ℕ Error) → HasTables old → HaveOwnKeys (latest_in old) → ExecutesInside 0 (copy_text j) (number t ∷ number i ∷ number g ∷ []) (state over_memory old) (state over_memory new) r
+    → IfOk r (λ n. n ≡ 0 → OthersStay 0 old new)
+stays j t i g old new (Err e) has own h = tt
+stays j t i g old new (Ok count) has own h =
+    let it = copies j (state over_memory old) (state over_memory new) t i g count has.schema has.latest has.dead (few_keys t i g (latest_in old) own) h.0 in
+    λ zero s off. all_same j (state over_memory old).now.trees (state over_memory new).now.trees it.0.others (it.2 (sym it.1 ∙ zero)) s
 
 pub returns-clause-step : goal.returns-clause-step
 returns-clause-step c =
@@ -37,6 +46,9 @@ returns-clause-step c =
 
 pub returns-clause-count : goal.returns-clause-count
 returns-clause-count c = counts c.args.segment c.args.table c.args.id c.args.group c.args.tx.now.conn.now c.execute.new.self.conn.now c.execute.result c.requires.table c.requires.keys (ran c)
+
+pub returns-clause-none : goal.returns-clause-none
+returns-clause-none c = stays c.args.segment c.args.table c.args.id c.args.group c.args.tx.now.conn.now c.execute.new.self.conn.now c.execute.result c.requires.table c.requires.keys (ran c)
 
 pub returns-clause-others : goal.returns-clause-others
 returns-clause-others c =

@@ -43,3 +43,9 @@ returns-in_ok-add_latest-clause-others c = λ s off. c.in_ok-add_latest.ensures.
 
 pub returns-in_ok-renew_latest-clause-others : goal.returns-in_ok-renew_latest-clause-others
 returns-in_ok-renew_latest-clause-others c = λ s off. c.in_ok-renew_latest.ensures.others s (not_latest s) ∙ c.in_ok-copied.ensures.others s off
+
+pub returns-in_ok-add_latest-clause-none : goal.returns-in_ok-add_latest-clause-none
+returns-in_ok-add_latest-clause-none c = λ zero s off. c.in_ok-add_latest.ensures.others s off ∙ c.in_ok-copied.ensures.none zero s off
+
+pub returns-in_ok-renew_latest-clause-none : goal.returns-in_ok-renew_latest-clause-none
+returns-in_ok-renew_latest-clause-none c = λ zero s off. c.in_ok-renew_latest.ensures.others s off ∙ c.in_ok-copied.ensures.none zero s off

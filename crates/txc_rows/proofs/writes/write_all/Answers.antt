@@ -81,6 +81,7 @@ loop-change-preserved c =
       rest = ap (after_net c.args.stamp (drop (at + 1) net)) left.written.versions_are ∙ next ∙ i.rest;
       same = c.in_ok-one.ensures.same_reference ∙ i.same;
       others = λ s off. c.in_ok-one.ensures.others s off ∙ i.others s off;
+      none = λ zero s off. c.in_ok-one.ensures.none (c.and-written.ensures.next zero) s off ∙ i.none (c.and-written.ensures.first zero) s off;
     }
 
 pub returns-clause-others : goal.returns-clause-others
@@ -93,3 +94,14 @@ returns-clause-others c =
     let done = committed_kept mid end i.written.tables i.written.apart c.commit.ensures.ended (c.in_ok-commit.ensures.ok (memory_is_clean end)).1 in
     let stay : OthersStay (tree_of c.args.segment) old end = λ s off. ap (λ (t : Trees). t (tree_of s)) done.trees ∙ i.others s off in
     subst (OthersStay (tree_of c.args.segment) old) same stay
+
+pub returns-clause-none : goal.returns-clause-none
+returns-clause-none c = λ zero.
+    let old = c.args.conn.now in
+    let mid = c.loop-change.tx.conn.now in
+    let end = c.commit.new.self.0 in
+    let same : end ≡ c.conn-2-1.given.0 = search rules in
+    let i = c.loop-change.invariant in
+    let done = committed_kept mid end i.written.tables i.written.apart c.commit.ensures.ended (c.in_ok-commit.ensures.ok (memory_is_clean end)).1 in
+    let stay : OthersStay 0 old end = λ s off. ap (λ (t : Trees). t (tree_of s)) done.trees ∙ i.none zero s off in
+    subst (OthersStay 0 old) same stay

@@ -16,4 +16,5 @@ invariant-loop-change l = record {
   rest : after_net l.stamp (drop l.change-index l.net) (versions_of l.tx.conn.now) ≡ after_net l.stamp l.net (versions_of l.fn.conn);
   same : l.tx.conn.ghost_name ≡ l.initial.tx.conn.ghost_name;
   others : OthersStay (tree_of l.segment) l.fn.conn l.tx.conn.now;
+  none : l.written.copied ≡ 0 → OthersStay 0 l.fn.conn l.tx.conn.now;
 }

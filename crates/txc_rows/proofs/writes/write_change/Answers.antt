@@ -19,3 +19,6 @@ returns-in_ok-ended-in-Remove-clause-step c =
 
 pub returns-in_ok-ended-in-Remove-clause-others : goal.returns-in_ok-ended-in-Remove-clause-others
 returns-in_ok-ended-in-Remove-clause-others c = λ s off. c.in_ok-ended-in-Remove.ensures.others s (not_latest s)
+
+pub returns-in_ok-ended-in-Remove-clause-none : goal.returns-in_ok-ended-in-Remove-clause-none
+returns-in_ok-ended-in-Remove-clause-none c = λ zero s off. c.in_ok-ended-in-Remove.ensures.others s off

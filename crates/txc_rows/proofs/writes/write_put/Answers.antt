@@ -29,3 +29,6 @@ returns-clause-step c =
 
 pub returns-clause-others : goal.returns-clause-others
 returns-clause-others c = λ s off. c.in_ok-copied.ensures.others s off ∙ c.in_ok-ended.ensures.others s (not_latest s)
+
+pub returns-clause-none : goal.returns-clause-none
+returns-clause-none c = λ zero s off. c.in_ok-copied.ensures.none zero s off ∙ c.in_ok-ended.ensures.others s off

@@ -3,7 +3,7 @@ use Rattle.std.proofs.lemmas.Result.{err_from_is_err_and}
 use Rattle.txc_rows.specs.Versions.{purged}
 use Rattle.txc_rows.specs.Keeping.{KeepsPurged}
 use Rattle.txc_rows.specs.Placed.{AreSwept}
-use Rattle.txc_rows.specs.Kept.{placed_of, newest_of, AreEmptyBefore, IsCall}
+use Rattle.txc_rows.specs.Kept.{placed_of, used_of, AreEmptyBefore, IsCall}
 use Rattle.txc_rows.proofs.KeepingLemmas.{keeps_purged}
 use Rattle.txc_rows.proofs.StoreLemmas.{purged_store, refused_store}
 use Rattle.txc_rows.proofs.store.VersionRows.purge.Goals as goal
@@ -27,7 +27,7 @@ invariant_of-self-2 c =
     let store = c.self.invariant in
     let first : c.max-from.result ≡ max was.kept_from (c.args.horizon + 1) = search (arith, rules) in
     let call : IsCall (AreSwept (max was.kept_from (c.args.horizon + 1)) (placed_of was.conn)) was.conn c.sweep.new.conn (Ok c.in_ok-sweep.field-0) = rw (← first) c.in_ok-sweep.ensures.call in
-    let empty : AreEmptyBefore (newest_of c.mark.new.self) c.sweep.new.conn = subst (λ n. AreEmptyBefore n c.sweep.new.conn) (sym c.mark.ensures) (c.in_ok-sweep.ensures.empty store.empty) in
+    let empty : AreEmptyBefore (used_of c.mark.new.self) c.sweep.new.conn = subst (λ n. AreEmptyBefore n c.sweep.new.conn) (sym c.mark.ensures) (c.in_ok-sweep.ensures.empty store.empty) in
     let done = purged_store was.kept_from c.args.horizon was.next_place was.tally c.mark.new.self was.conn c.sweep.new.conn _ store empty call in
     done.0
 
@@ -37,7 +37,7 @@ returns-clause-after c =
     let store = c.self.invariant in
     let first : c.max-from.result ≡ max was.kept_from (c.args.horizon + 1) = search (arith, rules) in
     let call : IsCall (AreSwept (max was.kept_from (c.args.horizon + 1)) (placed_of was.conn)) was.conn c.sweep.new.conn (Ok c.in_ok-sweep.field-0) = rw (← first) c.in_ok-sweep.ensures.call in
-    let empty : AreEmptyBefore (newest_of c.mark.new.self) c.sweep.new.conn = subst (λ n. AreEmptyBefore n c.sweep.new.conn) (sym c.mark.ensures) (c.in_ok-sweep.ensures.empty store.empty) in
+    let empty : AreEmptyBefore (used_of c.mark.new.self) c.sweep.new.conn = subst (λ n. AreEmptyBefore n c.sweep.new.conn) (sym c.mark.ensures) (c.in_ok-sweep.ensures.empty store.empty) in
     let done = purged_store was.kept_from c.args.horizon was.next_place was.tally c.mark.new.self was.conn c.sweep.new.conn _ store empty call in
     rw first (done.1 ∙ ap (purged c.args.horizon) c.self.view_is)
 
@@ -47,6 +47,6 @@ returns-clause-keeps c =
     let store = c.self.invariant in
     let first : c.max-from.result ≡ max was.kept_from (c.args.horizon + 1) = search (arith, rules) in
     let call : IsCall (AreSwept (max was.kept_from (c.args.horizon + 1)) (placed_of was.conn)) was.conn c.sweep.new.conn (Ok c.in_ok-sweep.field-0) = rw (← first) c.in_ok-sweep.ensures.call in
-    let empty : AreEmptyBefore (newest_of c.mark.new.self) c.sweep.new.conn = subst (λ n. AreEmptyBefore n c.sweep.new.conn) (sym c.mark.ensures) (c.in_ok-sweep.ensures.empty store.empty) in
+    let empty : AreEmptyBefore (used_of c.mark.new.self) c.sweep.new.conn = subst (λ n. AreEmptyBefore n c.sweep.new.conn) (sym c.mark.ensures) (c.in_ok-sweep.ensures.empty store.empty) in
     let done = purged_store was.kept_from c.args.horizon was.next_place was.tally c.mark.new.self was.conn c.sweep.new.conn _ store empty call in
     rw first (subst (KeepsPurged c.args.horizon c.args.self.now) (sym (done.1 ∙ ap (purged c.args.horizon) c.self.view_is)) (keeps_purged c.args.horizon c.args.self.now))

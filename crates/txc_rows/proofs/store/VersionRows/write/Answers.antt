@@ -40,7 +40,7 @@ invariant_of-self-2 c =
     let store = c.self.invariant in
     rw c.in_ok-next_place.ensures.next
     (written_store was.kept_from c.in_ok-kept_from.kept_from c.number-number.result c.args.stamp was.next_place c.args.net.now was.tally c.make_room.new.tally was.conn c.make_room.new.conn c.number-number.ensures.answer store c.in_ok-kept_from.ensures.room (c.in_ok-kept_from.ensures.empty store.empty)
-    c.segment.result c.note.new.self c.write_all.new.conn _ c.segment.ensures c.note.ensures c.in_ok-written.ensures.others c.in_ok-written.ensures.call).0
+    c.segment.result c.note.new.self c.write_all.new.conn c.in_ok-written.written c.segment.ensures c.note.ensures.more c.note.ensures.used c.in_ok-written.ensures.others c.in_ok-written.ensures.none c.in_ok-written.ensures.call).0
 
 pub write_all-requires-clause-below : goal.write_all-requires-clause-below
 write_all-requires-clause-below c = c.in_ok-kept_from.ensures.room.below c.self.inside.next_place c.self.invariant.below
@@ -50,7 +50,7 @@ returns-clause-after c =
     let was = c.self.inside in
     let store = c.self.invariant in
     let done = written_store was.kept_from c.in_ok-kept_from.kept_from c.number-number.result c.args.stamp was.next_place c.args.net.now was.tally c.make_room.new.tally was.conn c.make_room.new.conn c.number-number.ensures.answer store c.in_ok-kept_from.ensures.room (c.in_ok-kept_from.ensures.empty store.empty)
-    c.segment.result c.note.new.self c.write_all.new.conn _ c.segment.ensures c.note.ensures c.in_ok-written.ensures.others c.in_ok-written.ensures.call in
+    c.segment.result c.note.new.self c.write_all.new.conn c.in_ok-written.written c.segment.ensures c.note.ensures.more c.note.ensures.used c.in_ok-written.ensures.others c.in_ok-written.ensures.none c.in_ok-written.ensures.call in
     done.1 ∙ ap (after_net c.args.stamp c.args.net.now) c.self.view_is
 
 pub returns-clause-keeps : goal.returns-clause-keeps
@@ -58,5 +58,5 @@ returns-clause-keeps c =
     let was = c.self.inside in
     let store = c.self.invariant in
     let done = written_store was.kept_from c.in_ok-kept_from.kept_from c.number-number.result c.args.stamp was.next_place c.args.net.now was.tally c.make_room.new.tally was.conn c.make_room.new.conn c.number-number.ensures.answer store c.in_ok-kept_from.ensures.room (c.in_ok-kept_from.ensures.empty store.empty)
-    c.segment.result c.note.new.self c.write_all.new.conn _ c.segment.ensures c.note.ensures c.in_ok-written.ensures.others c.in_ok-written.ensures.call in
+    c.segment.result c.note.new.self c.write_all.new.conn c.in_ok-written.written c.segment.ensures c.note.ensures.more c.note.ensures.used c.in_ok-written.ensures.others c.in_ok-written.ensures.none c.in_ok-written.ensures.call in
     rw (← c.self.view_is) (subst (KeepsWritten c.args.net.now c.args.stamp (left_from was.kept_from (versions_of was.conn))) (sym done.1) (keeps_written c.args.net.now c.args.stamp (left_from was.kept_from (versions_of was.conn)) done.2))
