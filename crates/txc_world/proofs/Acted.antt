@@ -1,5 +1,5 @@
 -- Steps of an actor that change nothing.
-use Rattle.std.proofs.Common.{◌≡◌, ◌⊎◌, inl, inr, ℕ, true, Option, None, Some, length, refl}
+use Rattle.std.proofs.Common.{◌≡◌, ◌⊎◌, inl, inr, ℕ, false, true, Option, None, Some, length, refl}
 use Rattle.std.specs.Prelude.{is_some}
 use Rattle.txc_tags.specs.Keys.{Call}
 use Rattle.txc_rows.specs.declared.query.Change.{Change}
@@ -55,6 +55,10 @@ refused_so next act p actor refusal fits due lost = record {
 there_by_test : {X : Type 0} (o : Option X) → is_some o ≡ true → (x : X) × (o ≡ Some x)
 there_by_test None is = absurd (cc is)
 there_by_test (Some x) is = (x, refl)
+
+pub none_by_test : {X : Type 0} (o : Option X) → is_some o ≡ false → o ≡ None
+none_by_test None is = refl
+none_by_test (Some x) is = absurd (cc is)
 
 -- a call is open, so a read-only transaction neither starts one nor ends
 pub reading_mid_call : {A C : Type 0} → (next : Next) (pass : ℕ) (p : PortsValue) (o : OpenTxn A C) (act : Act) → is_some o.call ≡ true

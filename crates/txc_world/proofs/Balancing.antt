@@ -18,7 +18,6 @@ use Rattle.txc_world.specs.Tidy.{empty_purse, purse_after, purse_by, AreBalanced
 use Rattle.txc_world.specs.Worlds.{value_of_world, IsBalanced, WorldValue}
 use Rattle.txc_world.proofs.Losing.{reply_so}
 use Rattle.txc_world.proofs.Times.{sum_at, sum_set}
-use Rattle.txc_world.proofs.Stepping.{set_twice}
 
 -- ---- a new world
 
@@ -79,13 +78,13 @@ module _ {A C : Type 0} (settings : WorldSettings) (old new : PortsValue) (floor
   account_there = slice_get-map account_at actors place ∙ ap (λ (o : Option (Option (Actor A C))). option_map account_at o) is
 
   pub world_balanced : (actors' : List (Option (Actor A C))) (was now : WorldValue) (reply : Reply) (purse : Purse)
-      → actors' ≡ slice_set (slice_set actors place None) place (Some actor') → new.spare ≡ old.spare → CountRight old
+      → actors' ≡ slice_set actors place (Some actor') → new.spare ≡ old.spare → CountRight old
       → ActCounts old new (account_of actor) (account_of actor') reply
       → value_of_world settings old floors actors ≡ was → value_of_world settings new floors' actors' ≡ now → IsBalanced was purse → IsBalanced now purse × LosesNothing reply
   world_balanced actors' was now reply purse put spare right counts shows shows' h =
       let h' = subst (λ (w : WorldValue). IsBalanced w purse) (sym shows) h in
       let b = acts_balanced old new (map account_at actors) place (account_of actor) (account_of actor') account_there (stamps_of_pins old.spare) purse counts.fair h' in (
-        subst (λ (w : WorldValue). IsBalanced w purse) shows' (rw (put, set_twice actors place None (Some actor'), spare, map-set account_at actors place (Some actor')) b),
+        subst (λ (w : WorldValue). IsBalanced w purse) shows' (rw (put, spare, map-set account_at actors place (Some actor')) b),
         loses_nothing old new (map account_at actors) place (account_of actor) (account_of actor') account_there (stamps_of_pins old.spare) purse reply right h' counts,
       )
 

@@ -22,7 +22,6 @@ use Rattle.txc_world.specs.Cast.{actor_at, actor_value, reading_value, reads, Re
 use Rattle.txc_world.specs.Actors.{IsNoted}
 use Rattle.txc_world.specs.Acts.{ActLeads, AreLed, HasStepped, StepLeads}
 use Rattle.txc_world.specs.Worlds.{value_of_world, WorldValue}
-use Rattle.txc_world.proofs.Stepping.{set_twice}
 
 -- ---- a call, as it is kept and as it is seen
 
@@ -45,13 +44,13 @@ module _ {A C : Type 0} (next : Next) (settings : WorldSettings) (old new : Port
   actor_there = slice_get-map actor_at actors place ∙ ap (λ (o : Option (Option (Actor A C))). option_map actor_at o) is
 
   pub world_led : (actors' : List (Option (Actor A C))) (was now : WorldValue) (act : Act) (reply : Reply)
-      → actors' ≡ slice_set (slice_set actors place None) place (Some actor')
+      → actors' ≡ slice_set actors place (Some actor')
       → ActLeads next settings.renew_after place act old new (actor_value actor) (actor_value actor') reply
       → value_of_world settings old floors actors ≡ was → value_of_world settings new floors' actors' ≡ now → StepLeads next was (steps.Actor place act) reply now
   world_led actors' was now act reply put leads shows shows' =
       let led : StepLeads next (value_of_world settings old floors actors) (steps.Actor place act) reply (value_of_world settings new floors' actors') = rw actor_there (record {
         actor = actor_value actor';
-        others = rw (put, set_twice actors place None (Some actor')) (map-set actor_at actors place (Some actor'));
+        others = rw put (map-set actor_at actors place (Some actor'));
         leads = leads;
       })
       in subst (λ (w : WorldValue). StepLeads next was (steps.Actor place act) reply w) shows'

@@ -80,17 +80,17 @@ module _ {A C : Type 0} (longer : HoldsInLonger) (next : Next) (settings : World
 
   -- an actor steps
   pub world_acts : (place floor : ℕ) (actor' : Actor A C) → IsWorld next settings ports floors actors → KeepsRow ports new → IsActor next (whole_of new) (length new.nodes) actor'
-      → IsWorld next settings new (slice_set floors place floor) (slice_set (slice_set actors place None) place (Some actor'))
+      → IsWorld next settings new (slice_set floors place floor) (slice_set actors place (Some actor'))
   world_acts place floor actor' h keeps kept =
       let same : length new.nodes ≡ settings.nodes = keeps.count ∙ h.nodes in
-      rw (set_twice actors place None (Some actor')) (record {
+      record {
         nodes = same;
         some = h.some;
         passes = set_length actors place (Some actor') ∙ h.passes ∙ sym keeps.actors;
         sessions = set_length floors place floor ∙ h.sessions ∙ sym (set_length actors place (Some actor'));
         there = All-set (IsActorThere next (whole_of new) settings.nodes) actors place (Some actor') (subst (λ (n : ℕ). IsActor next (whole_of new) n actor') same kept)
             (still_there h keeps);
-      })
+      }
 
 -- ---- what is told of an actor's step
 
@@ -102,13 +102,13 @@ module _ {A C : Type 0} (settings : WorldSettings) (ports : PortsValue) (floors 
   -- what the world shows after the step is what is told
   pub told_act : (new : PortsValue) (floors' : List ℕ) (actors' : List (Option (Actor A C))) (actor' : Actor A C) (act : Act) (reply : Reply) (now : Told)
       → floors' ≡ slice_set floors place (floor_by reply (floor_at floors place))
-      → actors' ≡ slice_set (slice_set actors place None) place (Some actor')
+      → actors' ≡ slice_set actors place (Some actor')
       → story_of actor' ≡ story_after act reply (story_of actor)
       → new.database.history ≡ act_in act reply (story_of actor) ports.database.history → new.spare ≡ ports.spare
       → told_of settings ports floors actors ≡ now → told_of settings new floors' actors' ≡ after now (steps.Actor place act) reply
   told_act new floors' actors' actor' act reply now noted put story history spare shows =
       let told : told_of settings new floors' actors' ≡ after (told_of settings ports floors actors) (steps.Actor place act) reply =
-      rw (noted, put, set_twice actors place None (Some actor'), story_there, history, spare, map-set story_at actors place (Some actor'), story) refl
+      rw (noted, put, story_there, history, spare, map-set story_at actors place (Some actor'), story) refl
       in told ∙ ap (λ (t : Told). after t (steps.Actor place act) reply) shows
 
   pub due_act : (act : Act) (reply : Reply) (now : Told) → IsActDue (story_of actor) act reply → told_of settings ports floors actors ≡ now

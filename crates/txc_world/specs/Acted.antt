@@ -1,11 +1,13 @@
 -- What every step of an actor does, whatever it has open.
-use Rattle.std.specs.Prelude.{◌≡◌, length}
+use Rattle.std.specs.Prelude.{◌≡◌, ℕ, List, Option, Some, length, slice_get, slice_set}
 use Rattle.txc_app.specs.Eval.{Next}
 use Rattle.txc_world.specs.declared.actor.Actor.{Actor}
 use Rattle.txc_world.specs.declared.reply.Reply.{Reply}
 use Rattle.txc_world.specs.declared.step.Act.{Act}
 use Rattle.txc_world.specs.Actors.{story_of, IsActor}
+use Rattle.txc_world.specs.Acts.{ActLeads}
 use Rattle.txc_world.specs.Books.{account_of, ActCounts}
+use Rattle.txc_world.specs.Cast.{actor_value}
 use Rattle.txc_world.specs.Ports.{PortsValue, whole_of, KeepsRow}
 use Rattle.txc_world.specs.Told.{act_in, story_after, IsActDue, ReplyExplains}
 
@@ -22,3 +24,23 @@ pub record IsActed {A C : Type 0} (next : Next) (act : Act) (old new : PortsValu
   pub keeps : KeepsRow old new
   pub spare : new.spare ≡ old.spare
   pub counts : ActCounts old new (account_of before) (account_of after) reply
+
+-- An actor stands there before and after the step, as every step of an actor has it.
+pub record ActsThere {A C : Type 0} (next : Next) (renew_after pass : ℕ) (act : Act) (old new : PortsValue)
+    (slot after : Option (Actor A C)) (reply : Reply) : Type 0 where
+  pub was : Actor A C
+  pub is : Actor A C
+  pub there : slot ≡ Some was
+  pub left : after ≡ Some is
+  pub acted : IsActed next act old new was is reply
+  pub leads : ActLeads next renew_after pass act old new (actor_value was) (actor_value is) reply
+
+-- the same of the actor at a place, while the others stay as they are
+pub record ActsAt {A C : Type 0} (next : Next) (renew_after place : ℕ) (act : Act) (old new : PortsValue)
+    (actors after : List (Option (Actor A C))) (reply : Reply) : Type 0 where
+  pub was : Actor A C
+  pub is : Actor A C
+  pub there : slice_get actors place ≡ Some (Some was)
+  pub others : after ≡ slice_set actors place (Some is)
+  pub acted : IsActed next act old new was is reply
+  pub leads : ActLeads next renew_after place act old new (actor_value was) (actor_value is) reply

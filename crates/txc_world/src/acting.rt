@@ -1,21 +1,21 @@
 //! What an actor does, each kind of step by itself.
-ghost use Rattle.std.specs.Prelude.{◌≡◌, ℕ, ◌≤◌, ◌<◌, All, IfOk, None, OnErr, Some, length, map};
+ghost use Rattle.std.specs.Prelude.{◌≡◌, ℕ, ◌≤◌, ◌<◌, All, IfNone, IfOk, IfSome, None, OnErr, Some, length, map, vec_len};
 ghost use Rattle.txc_registry.specs.Objects.{AllIdle, Objects};
 ghost use Rattle.txc_app.specs.Eval.{Next};
 ghost use Rattle.txc_rw.specs.Core.{IsOfCall};
 ghost use Rattle.txc_txn.specs.Core.{open_call, recorded_after, value_of, CoreAsks, CoreHolds, IsCore, IsTurn};
 ghost use Rattle.txc_ports.specs.Turns.{IsAsk};
-ghost use Rattle.txc_world.specs.Acted.{IsActed};
-ghost use Rattle.txc_world.specs.Actors.{counted, holds_any, AddsPart, CoreHasBegun, DropsNone, HasAsked, HasBegunWithin, IsActor, IsNoted, IsOpenTxn};
+ghost use Rattle.txc_world.specs.Acted.{ActsAt, ActsThere, IsActed};
+ghost use Rattle.txc_world.specs.Actors.{counted, holds_any, AddsPart, CoreHasBegun, DropsNone, HasAsked, HasBegunWithin, IsActor, IsActorThere, IsNoted, IsOpenTxn};
 ghost use Rattle.txc_world.specs.Acts.{ActLeads, LeavingLeads, ReadingLeads, RestingLeads};
-ghost use Rattle.txc_world.specs.Cast.{actor_value, opened, reading_value};
+ghost use Rattle.txc_world.specs.Cast.{actor_value, opened, reading_value, reads};
 ghost use Rattle.txc_world.specs.Books.{account_of_core, nothing, HasLost, IsFair};
 ghost use Rattle.txc_world.specs.Losing.{IfDidLose, IfTurnLost};
 ghost use Rattle.txc_world.specs.Parts.{IsPartOf};
 ghost use Rattle.txc_world.specs.Ports.{whole_of, KeepsRow};
 ghost use Rattle.txc_world.specs.Told.{did_in};
 
-use crate::actor::{Actor, OpenCall, OpenTxn};
+use crate::actor::{Actor, OpenCall, OpenTxn, put_back, take_out};
 use crate::asked::{Asked, Went};
 use crate::did::Did;
 use crate::ports::Ports;
@@ -91,22 +91,24 @@ fn begin_ro<A: App, C: Cacheable>(
 fn start<A: App, C: Cacheable>(
     alloc: Global,
     whole: &Ports<A>,
-    current: OpenTxn<A, C>,
+    current: &mut OpenTxn<A, C>,
     key: &Key,
-) -> (Actor<A, C>, Reply)
-    requires fits { IsOpenTxn (whole_of whole.now) (length whole.now.nodes) current }
-    requires no_call { current.call ≡ None }
-    ensures acted { IsActed A.next (Act.Start key.now) whole.now whole.now (Actor.Reading current) result.0 result.1 }
+) -> Reply
+    requires fits { IsOpenTxn (whole_of whole.now) (length whole.now.nodes) current.old }
+    ensures acted { IsActed A.next (Act.Start key.now) whole.now whole.now
+        (Actor.Reading current.old) (Actor.Reading current.new) result }
     ensures leads { (next : Next) (pass : ℕ) → ReadingLeads next pass (Act.Start key.now) whole.now whole.now
-        (reading_value current) (actor_value result.0) result.1 }
+        (reading_value current.old) (reads (reading_value current.new)) result }
 {
-    let mut current = current;
+    if current.call.is_some() {
+        return Reply::Refused(Refusal::MidCall);
+    }
     let turn = current.txn.start(alloc, key.copy());
     current.call = Some(OpenCall {
         key: key.copy(),
         turn,
     });
-    (Actor::Reading(current), Reply::Started)
+    Reply::Started
 }
 
 // What the port did, but that a hit which holds no member is a miss.
@@ -186,38 +188,26 @@ fn request_call<A: App, C: Cacheable>(
     alloc: Global,
     ports: &mut Ports<A>,
     pass: usize,
-    current: OpenTxn<A, C>,
-) -> (Actor<A, C>, Reply)
+    current: &mut OpenTxn<A, C>,
+) -> Reply
     requires own { pass < ports.old.actors }
-    requires fits { IsOpenTxn (whole_of ports.old) (length ports.old.nodes) current }
-    ensures acted { IsActed A.next Act.Request ports.old ports.new (Actor.Reading current) result.0 result.1 }
-    ensures leads { ReadingLeads A.next pass Act.Request ports.old ports.new (reading_value current)
-        (actor_value result.0) result.1 }
+    requires fits { IsOpenTxn (whole_of ports.old) (length ports.old.nodes) current.old }
+    ensures acted { IsActed A.next Act.Request ports.old ports.new
+        (Actor.Reading current.old) (Actor.Reading current.new) result }
+    ensures leads { ReadingLeads A.next pass Act.Request ports.old ports.new
+        (reading_value current.old) (reads (reading_value current.new)) result }
 {
-    let OpenTxn { txn, call } = current;
-    let Some(OpenCall { key, turn }) = call else {
-        return (
-            Actor::Reading(OpenTxn { txn, call: None }),
-            Reply::Refused(Refusal::NoRequest),
-        );
+    let Some(OpenCall { key, turn }) = current.call.take() else {
+        return Reply::Refused(Refusal::NoRequest);
     };
-    let mut txn = txn;
     match turn {
         Turn::Ask(request) => {
-            let Went { did, turn } = go_on(alloc, ports, pass, &mut txn, request);
+            let Went { did, turn } = go_on(alloc, ports, pass, &mut current.txn, request);
             let (call, end) = note(key, turn);
-            (
-                Actor::Reading(OpenTxn { txn, call }),
-                Reply::Asked(did, end),
-            )
+            current.call = call;
+            Reply::Asked(did, end)
         }
-        Turn::Refused(error) => {
-            let end = End::Refused(error);
-            (
-                Actor::Reading(OpenTxn { txn, call: None }),
-                Reply::Ended(end),
-            )
-        }
+        Turn::Refused(error) => Reply::Ended(End::Refused(error)),
         _ => unreachable!(),
     }
 }
@@ -315,12 +305,20 @@ fn act_open<A: App, C: Cacheable>(
             Reply::Refused(Refusal::AlreadyOpen),
         ),
         Act::Ask(_) | Act::Write(_) => (Actor::Reading(current), Reply::Refused(Refusal::NotOpen)),
-        Act::Request => request_call(alloc, ports, pass, current),
+        Act::Request => {
+            let mut current = current;
+            let reply = request_call(alloc, ports, pass, &mut current);
+            (Actor::Reading(current), reply)
+        }
+        Act::Start(key) => {
+            let mut current = current;
+            let reply = start(alloc, ports, &mut current, key);
+            (Actor::Reading(current), reply)
+        }
         Act::Abort => abort(ports, current),
-        Act::Start(_) | Act::Commit if current.call.is_some() => {
+        Act::Commit if current.call.is_some() => {
             (Actor::Reading(current), Reply::Refused(Refusal::MidCall))
         }
-        Act::Start(key) => start(alloc, ports, current, key),
         Act::Commit => commit(ports, current),
     }
 }
@@ -349,8 +347,8 @@ fn act_leaving<A: App, C: Cacheable>(
     }
 }
 
-/// One step of an actor.
-pub(crate) fn act<A: App, C: Cacheable>(
+// One step of an actor.
+fn act_whole<A: App, C: Cacheable>(
     alloc: Global,
     ports: &mut Ports<A>,
     renew_after: u64,
@@ -371,4 +369,71 @@ pub(crate) fn act<A: App, C: Cacheable>(
         Actor::Writing(current) => act_writing(alloc, ports, current, act),
         Actor::Leaving(registry, stamp) => act_leaving(ports, registry, stamp, act),
     }
+}
+
+// One step of the actor at a place, which is taken out of it and put back.
+fn act_moved<A: App, C: Cacheable>(
+    alloc: Global,
+    ports: &mut Ports<A>,
+    renew_after: u64,
+    place: usize,
+    actors: &mut Vec<Option<Actor<A, C>>>,
+    act: &Act,
+) -> Reply
+    requires own { place < ports.old.actors }
+    requires nodes { 1 ≤ length ports.old.nodes }
+    requires place { place < vec_len actors.old }
+    requires fits { All (IsActorThere A.next (whole_of ports.old) (length ports.old.nodes)) actors.old.items }
+    ensures { ActsAt A.next renew_after place act.now ports.old ports.new actors.old.items actors.new.items result }
+{
+    let Some(actor) = take_out(actors, place) else {
+        unreachable!();
+    };
+    let (actor, reply) = act_whole(alloc, ports, renew_after, place, actor, act);
+    put_back(actors, place, actor);
+    reply
+}
+
+// A call starts or goes on where its transaction stands, since an actor is large to move. There is no reply to anything else.
+fn call_there<A: App, C: Cacheable>(
+    alloc: Global,
+    ports: &mut Ports<A>,
+    place: usize,
+    slot: &mut Option<Actor<A, C>>,
+    act: &Act,
+) -> Option<Reply>
+    requires own { place < ports.old.actors }
+    requires fits { IsActorThere A.next (whole_of ports.old) (length ports.old.nodes) slot.old }
+    ensures acts { (renew_after : ℕ) → IfSome result (ActsThere A.next renew_after place act.now ports.old ports.new slot.old slot.new) }
+    ensures unchanged { IfNone result ((ports.new ≡ ports.old) × (slot.new ≡ slot.old)) }
+{
+    match slot {
+        Some(Actor::Reading(current)) => match act {
+            Act::Request => Some(request_call(alloc, ports, place, current)),
+            Act::Start(key) => Some(start(alloc, ports, current, key)),
+            _ => None,
+        },
+        _ => None,
+    }
+}
+
+/// One step of the actor at a place.
+pub(crate) fn act_at<A: App, C: Cacheable>(
+    alloc: Global,
+    ports: &mut Ports<A>,
+    renew_after: u64,
+    place: usize,
+    actors: &mut Vec<Option<Actor<A, C>>>,
+    act: &Act,
+) -> Reply
+    requires own { place < ports.old.actors }
+    requires nodes { 1 ≤ length ports.old.nodes }
+    requires place { place < vec_len actors.old }
+    requires fits { All (IsActorThere A.next (whole_of ports.old) (length ports.old.nodes)) actors.old.items }
+    ensures { ActsAt A.next renew_after place act.now ports.old ports.new actors.old.items actors.new.items result }
+{
+    if let Some(reply) = call_there(alloc, ports, place, &mut actors[place], act) {
+        return reply;
+    }
+    act_moved(alloc, ports, renew_after, place, actors, act)
 }

@@ -16,8 +16,8 @@ ghost use Rattle.txc_db.specs.Refusals.{IsWant};
 ghost use Rattle.txc_world.specs.Tidy.{empty_purse, purse_after, purse_by, AreTidy, IsTidy, LoseNoSnapshot, LosesNoSnapshot, LosesNothing, Purse};
 ghost use Rattle.txc_world.specs.Told.{after, idle, reading, told_by, AreDue, AreExplained, AreExplainedIn, IsDue, IsExplainedIn, Reading};
 
-use crate::acting::act;
-use crate::actor::{Actor, idle_actors, put_back, take_out};
+use crate::acting::act_at;
+use crate::actor::{Actor, idle_actors};
 use crate::keeping::keep;
 use crate::nodes::counts_of;
 use crate::ports::Ports;
@@ -212,13 +212,16 @@ impl<A: App, C: Cacheable> World<A, C> {
             return Reply::Refused(Refusal::NoActor);
         }
         transactions_stay_right();
-        let Some(actor) = take_out(&mut self.actors, place) else {
-            unreachable!();
-        };
         self.ports.count_right();
         let renew_after = self.settings.renew_after;
-        let (actor, reply) = act(alloc, &mut self.ports, renew_after, place, actor, doing);
-        put_back(&mut self.actors, place, actor);
+        let reply = act_at(
+            alloc,
+            &mut self.ports,
+            renew_after,
+            place,
+            &mut self.actors,
+            doing,
+        );
         note(&mut self.sessions, place, &reply);
         self.ports.are_true();
         reply

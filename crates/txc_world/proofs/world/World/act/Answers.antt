@@ -8,44 +8,44 @@ use Rattle.txc_world.proofs.world.World.act.Goals as goal
 
 pub invariant_of-self : goal.invariant_of-self
 invariant_of-self g c =
-    rw (c.note.ensures, c.put_back.ensures, c.take_out.ensures.after)
-    (world_acts c.transactions_stay_right.ensures.longer g.A.App.next c.self.inside.settings c.self.inside.ports c.act-actor.new.ports
-    c.self.inside.sessions.items c.self.inside.actors.items c.args.place _ c.act-actor.result.0 c.self.invariant c.act-actor.ensures.acted.keeps c.act-actor.ensures.acted.fits)
+    rw (c.note.ensures, c.act_at-reply.ensures.others)
+    (world_acts c.transactions_stay_right.ensures.longer g.A.App.next c.self.inside.settings c.self.inside.ports c.act_at-reply.new.ports
+    c.self.inside.sessions.items c.self.inside.actors.items c.args.place _ c.act_at-reply.ensures.is c.self.invariant c.act_at-reply.ensures.acted.keeps c.act_at-reply.ensures.acted.fits)
 
 pub returns-clause-told : goal.returns-clause-told
 returns-clause-told g c =
-    told_act c.self.inside.settings c.self.inside.ports c.self.inside.sessions.items c.self.inside.actors.items c.args.place c.in-Some.actor
-    (c.take_out.ensures.actor ∙ ap Some c.in-Some.is)
-    c.act-actor.new.ports c.note.new.sessions.items c.put_back.new.actors.items c.act-actor.result.0 c.args.doing.now c.act-actor.result.1 c.args.self.now.told
+    told_act c.self.inside.settings c.self.inside.ports c.self.inside.sessions.items c.self.inside.actors.items c.args.place c.act_at-reply.ensures.was
+    c.act_at-reply.ensures.there
+    c.act_at-reply.new.ports c.note.new.sessions.items c.act_at-reply.new.actors.items c.act_at-reply.ensures.is c.args.doing.now c.act_at-reply.result c.args.self.now.told
     c.note.ensures
-    (c.put_back.ensures ∙ ap (λ (l : List (Option (Actor g.row.A.Denot g.row.C.Denot))). slice_set l c.args.place (Some c.act-actor.result.0)) c.take_out.ensures.after)
-    c.act-actor.ensures.acted.told c.act-actor.ensures.acted.history c.act-actor.ensures.acted.spare (ap (λ (w : WorldValue). w.told) c.self.view_is)
+    c.act_at-reply.ensures.others
+    c.act_at-reply.ensures.acted.told c.act_at-reply.ensures.acted.history c.act_at-reply.ensures.acted.spare (ap (λ (w : WorldValue). w.told) c.self.view_is)
 
 pub returns-clause-due : goal.returns-clause-due
 returns-clause-due g c =
-    due_act c.self.inside.settings c.self.inside.ports c.self.inside.sessions.items c.self.inside.actors.items c.args.place c.in-Some.actor
-    (c.take_out.ensures.actor ∙ ap Some c.in-Some.is) c.args.doing.now c.act-actor.result.1 c.args.self.now.told c.act-actor.ensures.acted.due
+    due_act c.self.inside.settings c.self.inside.ports c.self.inside.sessions.items c.self.inside.actors.items c.args.place c.act_at-reply.ensures.was
+    c.act_at-reply.ensures.there c.args.doing.now c.act_at-reply.result c.args.self.now.told c.act_at-reply.ensures.acted.due
     (ap (λ (w : WorldValue). w.told) c.self.view_is)
 
 pub returns-clause-explained : goal.returns-clause-explained
 returns-clause-explained g c =
-    explained_act c.self.inside.settings c.self.inside.ports c.self.inside.sessions.items c.self.inside.actors.items c.args.place c.in-Some.actor
-    (c.take_out.ensures.actor ∙ ap Some c.in-Some.is) g.A.App.next c.act-actor.new.ports c.args.doing.now c.act-actor.result.1 c.args.self.now.told
-    c.act-actor.ensures.acted.explained (ap (λ (w : WorldValue). w.told) c.self.view_is)
+    explained_act c.self.inside.settings c.self.inside.ports c.self.inside.sessions.items c.self.inside.actors.items c.args.place c.act_at-reply.ensures.was
+    c.act_at-reply.ensures.there g.A.App.next c.act_at-reply.new.ports c.args.doing.now c.act_at-reply.result c.args.self.now.told
+    c.act_at-reply.ensures.acted.explained (ap (λ (w : WorldValue). w.told) c.self.view_is)
 
 pub returns-clause-balanced : goal.returns-clause-balanced
 returns-clause-balanced g c = λ purse h.
-    world_balanced c.self.inside.settings c.self.inside.ports c.act-actor.new.ports c.self.inside.sessions.items c.note.new.sessions.items c.self.inside.actors.items c.args.place c.in-Some.actor c.act-actor.result.0
-    (c.take_out.ensures.actor ∙ ap Some c.in-Some.is) c.put_back.new.actors.items c.args.self.now _ c.act-actor.result.1 purse
-    (c.put_back.ensures ∙ ap (λ (l : List (Option (Actor g.row.A.Denot g.row.C.Denot))). slice_set l c.args.place (Some c.act-actor.result.0)) c.take_out.ensures.after)
-    c.act-actor.ensures.acted.spare c.count_right.ensures c.act-actor.ensures.acted.counts c.self.view_is refl h
+    world_balanced c.self.inside.settings c.self.inside.ports c.act_at-reply.new.ports c.self.inside.sessions.items c.note.new.sessions.items c.self.inside.actors.items c.args.place c.act_at-reply.ensures.was c.act_at-reply.ensures.is
+    c.act_at-reply.ensures.there c.act_at-reply.new.actors.items c.args.self.now _ c.act_at-reply.result purse
+    c.act_at-reply.ensures.others
+    c.act_at-reply.ensures.acted.spare c.count_right.ensures c.act_at-reply.ensures.acted.counts c.self.view_is refl h
 
 pub returns-clause-leads : goal.returns-clause-leads
 returns-clause-leads g c =
-    world_led g.A.App.next c.self.inside.settings c.self.inside.ports c.act-actor.new.ports c.self.inside.sessions.items c.note.new.sessions.items c.self.inside.actors.items c.args.place c.in-Some.actor c.act-actor.result.0
-    (c.take_out.ensures.actor ∙ ap Some c.in-Some.is) c.put_back.new.actors.items c.args.self.now _ c.args.doing.now c.act-actor.result.1
-    (c.put_back.ensures ∙ ap (λ (l : List (Option (Actor g.row.A.Denot g.row.C.Denot))). slice_set l c.args.place (Some c.act-actor.result.0)) c.take_out.ensures.after)
-    c.act-actor.ensures.leads c.self.view_is refl
+    world_led g.A.App.next c.self.inside.settings c.self.inside.ports c.act_at-reply.new.ports c.self.inside.sessions.items c.note.new.sessions.items c.self.inside.actors.items c.args.place c.act_at-reply.ensures.was c.act_at-reply.ensures.is
+    c.act_at-reply.ensures.there c.act_at-reply.new.actors.items c.args.self.now _ c.args.doing.now c.act_at-reply.result
+    c.act_at-reply.ensures.others
+    c.act_at-reply.ensures.leads c.self.view_is refl
 
 pub note-requires : goal.note-requires
 note-requires g c = omega (arith, c.self.invariant.sessions, c.self.inside.sessions.ok.0)
