@@ -115,13 +115,13 @@ KINDS = {
 
 
 class Costs:
-    def __init__(self, program, refuse, room):
+    def __init__(self, program, refuse, room, mode="world", settings=SETTINGS):
         self.program, self.refuse, self.room = program, refuse, room
+        self.words = [mode, "--settings", settings]
 
     def run(self, words, script, environment=None):
         with open(script, encoding="ascii") as file:
-            command = [*words, self.program, "world", "--settings", SETTINGS]
-            ran = subprocess.run(command, stdin=file, capture_output=True, env={**os.environ, **(environment or {})}, text=True)
+            ran = subprocess.run([*words, self.program, *self.words], stdin=file, capture_output=True, env={**os.environ, **(environment or {})}, text=True)
         if ran.returncode or "refused" in ran.stdout:
             sys.exit(f"world.py: {script}: status {ran.returncode}: {ran.stderr[-200:]}")
 
