@@ -8,7 +8,8 @@ use Rattle.txc_rows.specs.Versions.{after_net}
 use Rattle.txc_rows.specs.Placed.{AreWritten}
 use Rattle.sqlite.specs.Tree.{Trees}
 use Rattle.txc_rows.specs.Texts.{tree_of}
-use Rattle.txc_rows.specs.Kept.{IsCall, versions_of, OthersStay}
+use Rattle.txc_rows.specs.Kept.{IsCall, versions_of, OthersStay, AreMarked}
+use Rattle.txc_rows.proofs.MarkLemmas.{stay_then, marked_by}
 use Rattle.txc_rows.proofs.HeldLemmas.{undone_call, refused_call, ended_call, committed_kept, recast_ok, recast_err}
 use Rattle.txc_rows.proofs.writes.write_all.Goals as goal
 
@@ -81,6 +82,8 @@ loop-change-preserved c =
       rest = ap (after_net c.args.stamp (drop (at + 1) net)) left.written.versions_are ∙ next ∙ i.rest;
       same = c.in_ok-one.ensures.same_reference ∙ i.same;
       others = λ s off. c.in_ok-one.ensures.others s off ∙ i.others s off;
+      more = stay_then c.args.marks.now c.loop-change.marks c.write_change.new.marks i.more c.in_ok-one.ensures.more;
+      marked = λ marked. c.in_ok-one.ensures.marked (i.marked marked);
       none = λ zero s off. c.in_ok-one.ensures.none (c.and-written.ensures.next zero) s off ∙ i.none (c.and-written.ensures.first zero) s off;
     }
 
@@ -105,3 +108,15 @@ returns-clause-none c = λ zero.
     let done = committed_kept mid end i.written.tables i.written.apart c.commit.ensures.ended (c.in_ok-commit.ensures.ok (memory_is_clean end)).1 in
     let stay : OthersStay 0 old end = λ s off. ap (λ (t : Trees). t (tree_of s)) done.trees ∙ i.none zero s off in
     subst (OthersStay 0 old) same stay
+
+pub returns-in_err-one-clause-more : goal.returns-in_err-one-clause-more
+returns-in_err-one-clause-more c = stay_then c.args.marks.now c.loop-change.marks c.write_change.new.marks c.loop-change.invariant.more c.in_err-one.ensures.more
+
+pub returns-clause-marked : goal.returns-clause-marked
+returns-clause-marked c = λ marked.
+    let mid = c.loop-change.tx.conn.now in
+    let end = c.commit.new.self.0 in
+    let same : end ≡ c.conn-2-1.given.0 = search rules in
+    let i = c.loop-change.invariant in
+    let done = committed_kept mid end i.written.tables i.written.apart c.commit.ensures.ended (c.in_ok-commit.ensures.ok (memory_is_clean end)).1 in
+    subst (AreMarked c.loop-change.marks) same (marked_by c.loop-change.marks mid end done.trees (i.marked marked))
