@@ -266,8 +266,7 @@ impl VersionRows {
         )?;
         self.kept_from = kept_from;
         let segment = self.tally.segment();
-        let marks = &mut self.tally.marks;
-        let written = write_all(&mut self.conn, net, stamp, place, segment, marks)?;
+        let written = write_all(&mut self.conn, net, stamp, place, segment, &mut self.tally.marks)?;
         self.tally.note(written, number);
         self.next_place = next_place;
         Ok(())

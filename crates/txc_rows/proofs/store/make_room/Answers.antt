@@ -51,3 +51,6 @@ returns-in_err-kept-clause-marked c = λ marked.
 
 pub returns-in_ok-kept-clause-marked : goal.returns-in_ok-kept-clause-marked
 returns-in_ok-kept-clause-marked c = λ _. first_marked _ _ c.sweep_dead.new.conn (search rules) c.in_ok-kept.ensures.marked c.in_ok-kept.ensures.rest
+
+pub returns-else-not-has_room-clause-marked : goal.returns-else-not-has_room-clause-marked
+returns-else-not-has_room-clause-marked c = subst (λ m. AreMarked m c.args.conn.now) (sym c.has_room.ensures.marks)
