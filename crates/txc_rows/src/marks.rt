@@ -11,7 +11,7 @@ use crate::query::Query;
 use crate::row::Row;
 use crate::texts::Segment;
 use sqlite::{Error, ErrorCode};
-use std::alloc::{AllocError, Global};
+use std::alloc::Global;
 
 /// So many marks a segment has for ids, and so many for groups.
 const MARKS: usize = 2048;
@@ -22,6 +22,14 @@ const MARKS: usize = 2048;
 pub(crate) struct Marks {
     ids: Vec<bool>,
     groups: Vec<bool>,
+}
+
+/// The marks of all segments for ids, or for groups: none is set.
+fn unset(alloc: Global) -> Result<Vec<bool>, Error> {
+    let Ok(marks) = vec![in alloc; false; 8 * MARKS] else {
+        return Err(Error::SqliteFailure(ErrorCode::OutOfMemory));
+    };
+    Ok(marks)
 }
 
 /// Where the mark of a table and a number stands among those of all segments.
@@ -50,10 +58,10 @@ fn set(marks: &mut [bool], at: usize)
 
 impl Marks {
     /// None is set.
-    pub(crate) fn none(alloc: Global) -> Result<Marks, AllocError> {
+    pub(crate) fn none(alloc: Global) -> Result<Marks, Error> {
         Ok(Marks {
-            ids: vec![in alloc; false; 8 * MARKS]?,
-            groups: vec![in alloc; false; 8 * MARKS]?,
+            ids: unset(alloc)?,
+            groups: unset(alloc)?,
         })
     }
 
@@ -94,9 +102,7 @@ impl Marks {
     pub(crate) fn of_first(alloc: Global, rows: &[sqlite::Row]) -> Result<Marks, Error>
         ensures { IfOk result (λ m. AllByRecursion (IsMarked m (segment_place First)) (map placed_from rows.now)) }
     {
-        let Ok(mut marks) = Marks::none(alloc) else {
-            return Err(Error::SqliteFailure(ErrorCode::OutOfMemory));
-        };
+        let mut marks = Marks::none(alloc)?;
         for row in rows {
             let table: u32 = row.get(1)?;
             let id: u32 = row.get(2)?;

@@ -10,7 +10,8 @@ use crate::query::Query;
 use crate::segments::Segments;
 use crate::texts::Segment;
 use crate::writes::Written;
-use std::alloc::{AllocError, Global};
+use sqlite::Error;
+use std::alloc::Global;
 
 /// The segments are made anew where so many of their versions are gone at least.
 const LEAST_DEAD: usize = 256;
@@ -34,7 +35,7 @@ pub(crate) struct Tally {
 }
 
 impl Tally {
-    pub(crate) fn empty(alloc: Global) -> Result<Tally, AllocError> {
+    pub(crate) fn empty(alloc: Global) -> Result<Tally, Error> {
         Ok(Tally {
             segments: Segments::empty(),
             marks: Marks::none(alloc)?,
