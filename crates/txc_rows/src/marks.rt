@@ -92,7 +92,10 @@ impl Marks {
                 is_set(&self.ids, mark_at(segment, u32::from(table.number()), id))
             }
             Query::ByGroup(table, group) => {
-                is_set(&self.groups, mark_at(segment, u32::from(table.number()), group))
+                is_set(
+                    &self.groups,
+                    mark_at(segment, u32::from(table.number()), group),
+                )
             }
             Query::All(_) | Query::Range(..) => true,
         }

@@ -266,7 +266,14 @@ impl VersionRows {
         )?;
         self.kept_from = kept_from;
         let segment = self.tally.segment();
-        let written = write_all(&mut self.conn, net, stamp, place, segment, &mut self.tally.marks)?;
+        let written = write_all(
+            &mut self.conn,
+            net,
+            stamp,
+            place,
+            segment,
+            &mut self.tally.marks,
+        )?;
         self.tally.note(written, number);
         self.next_place = next_place;
         Ok(())
