@@ -193,10 +193,10 @@ class Measuring:
             return timed(self.program, setting, queries, pages)[1]
         return traced(self.program, setting, queries, pages, self.room)
 
-    def cost_of_idle(self, setting, kind):
-        key = setting.idle(), kind
+    def cost_of_idle(self, setting, pages, kind):
+        """The same writes for as long: a commit costs more where more versions are kept."""
+        key = setting.idle(), pages, kind
         if key not in self.idle:
-            pages = self.options.pages if kind == "ns" else SECOND
             self.idle[key] = self.cost(setting.idle(), 1, pages, kind)
         return self.idle[key]
 
@@ -206,11 +206,12 @@ class Measuring:
         if setting.mode == "queries":
             counts = counts._replace(hits=0, misses=2 * counts.pages)
         print(setting.mode, setting.staleness, setting.keep, setting.capacity, queries, *counts, flush=True)
-        nanoseconds -= self.cost_of_idle(setting, "ns")
+        nanoseconds -= self.cost_of_idle(setting, pages, "ns")
         instructions = None
         if self.options.instructions:
-            instructions = self.cost(setting, queries, self.pages_to_trace(setting), "instructions")
-            instructions -= self.cost_of_idle(setting, "instructions")
+            pages = self.pages_to_trace(setting)
+            instructions = self.cost(setting, queries, pages, "instructions")
+            instructions -= self.cost_of_idle(setting, pages, "instructions")
         return Found(counts, nanoseconds, instructions)
 
 
