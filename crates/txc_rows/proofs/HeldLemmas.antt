@@ -148,7 +148,7 @@ tree_itself (Dead Sixth) trees = refl
 tree_itself (Dead Seventh) trees = refl
 
 -- each version of all tables can be held
-dead_each : (P : Placed → Type 0) (j : Segment) (trees : Trees) (ss : List Segment) → length (filter (is_tree j) ss) ≡ 1 → AllByRecursion P (dead_among trees ss) → AllByRecursion P (placed_all (trees (tree_of j)))
+pub dead_each : (P : Placed → Type 0) (j : Segment) (trees : Trees) (ss : List Segment) → length (filter (is_tree j) ss) ≡ 1 → AllByRecursion P (dead_among trees ss) → AllByRecursion P (placed_all (trees (tree_of j)))
 dead_each P j trees [] one all = absurd (omega (arith, one))
 dead_each P j trees (s ∷ ss) one all = go (is_tree j s) refl one (λ h. dead_each P j trees ss h (all_back P (placed_all (trees (tree_of s))) (dead_among trees ss) all))
   where

@@ -34,6 +34,7 @@ pub mod Answering
 pub mod KeepingLemmas
 pub mod Listed
 pub mod FindLemmas
+pub mod MarkLemmas
 pub mod StoreLemmas
 pub mod UsesLemmas
 pub mod Offered

@@ -5,6 +5,7 @@ use Rattle.std.specs.List.Sorted.{IsPermutation}
 use Rattle.std.proofs.lemmas.List.{at_drop_more}
 use Rattle.std.proofs.lemmas.List.Elements.{filter-append}
 use Rattle.std.proofs.lemmas.List.Sorted.{IsPermutation-trans, IsPermutation-append_left, IsPermutation-append_right, length_permutation}
+use Rattle.sqlite_trees.proofs.ListLemmas.{all-permutation}
 use Rattle.sqlite.specs.declared.error.Error.{Error}
 use Rattle.sqlite.specs.State.{Shows, KeepsCounts, IsRolledBack}
 use Rattle.sqlite.specs.Held.{Held, state}
@@ -132,6 +133,13 @@ count_kept latest xs mid end (Ok x) has apart idle ok =
     sym (ap (λ (t : Trees). length (dead_among t segments)) (committed_kept mid end has.tables apart idle ok.1).trees ∙ length_permutation xs (dead_in mid) has.dead_are)
 count_kept latest xs mid end (Err e) has apart idle ok = tt
 
+-- what is so of each that was given is so of each that is in the segments
+each_kept : (P : Placed → Type 0) (latest xs : List Placed) (mid end : Held MemStore) (r : Result (Unit {0}) Error) → HasVersions latest xs mid → AreWellPlaced (latest_in mid) (dead_in mid) → end.in_transaction ≡ false → OnOk r (Commits mid end)
+    → AllByRecursion P xs → OnOk r (AllByRecursion P (dead_in end))
+each_kept P latest xs mid end (Ok x) has apart idle ok each =
+    subst (λ (t : Trees). AllByRecursion P (dead_among t segments)) (sym (committed_kept mid end has.tables apart idle ok.1).trees) (all-permutation P xs (dead_in mid) has.dead_are each)
+each_kept P latest xs mid end (Err e) has apart idle ok each = tt
+
 -- ---- what is read of one segment more
 
 pub left_more : (from : ℕ) (old first new : Held MemStore) (i : ℕ) (d : Segment) (rows : Vec Row Global) (all xs : List Placed) → IsSame old first → i < length segments → IsLeaving from (Dead (get_or segments i d)) first new (Ok rows)
@@ -173,6 +181,9 @@ module _ (from : ℕ) (old first mid : Held MemStore) (same : IsSame old first) 
     pub dead_count : (end : Held MemStore) (r : Result (Unit {0}) Error) → end.in_transaction ≡ false → OnOk r (Commits mid end) → OnOk r (length left ≡ length (dead_in end))
     dead_count end r idle ok = count_kept (latest_in first) left mid end r has apart idle ok
 
+    pub dead_each_kept : (P : Placed → Type 0) (end : Held MemStore) (r : Result (Unit {0}) Error) → end.in_transaction ≡ false → OnOk r (Commits mid end) → AllByRecursion P left → OnOk r (AllByRecursion P (dead_in end))
+    dead_each_kept P end r idle ok each = each_kept P (latest_in first) left mid end r has apart idle ok each
+
   module _ (last : List Placed) (one : IsPermutation (placed_left from (latest_in old)) last) (has : HasVersions last left mid) where
     before : IsPermutation (placed_left from (dead_in old)) (dead_in mid)
     before = IsPermutation-trans _ _ _ two has.dead_are
@@ -191,3 +202,6 @@ module _ (from : ℕ) (old first mid : Held MemStore) (same : IsSame old first) 
 
     pub all_count : (end : Held MemStore) (r : Result (Unit {0}) Error) → end.in_transaction ≡ false → OnOk r (Commits mid end) → OnOk r (length left ≡ length (dead_in end))
     all_count end r idle ok = count_kept last left mid end r has both idle ok
+
+    pub all_each_kept : (P : Placed → Type 0) (end : Held MemStore) (r : Result (Unit {0}) Error) → end.in_transaction ≡ false → OnOk r (Commits mid end) → AllByRecursion P left → OnOk r (AllByRecursion P (dead_in end))
+    all_each_kept P end r idle ok each = each_kept P last left mid end r has both idle ok each

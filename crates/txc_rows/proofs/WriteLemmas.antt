@@ -310,14 +310,14 @@ module _ (j : Segment) (keys : Keys) (db : Trees) (new : State) (t i g : ℕ) (l
   other = applies.tables.0 (λ e. not_latest j (sym e))
 
   abbrev Copied : Type 0
-  Copied = Leaves (tree_of j) db (placed_all (db 0)) (dead_among db segments ++ copied) new × (length (edit_of db (segment_table j) [] Chosen 0 given).news ≡ length copied) × (length copied ≡ 0 → new.now.trees tree ≡ db tree)
+  Copied = Leaves (tree_of j) db (placed_all (db 0)) (dead_among db segments ++ copied) new × (length (edit_of db (segment_table j) [] Chosen 0 given).news ≡ length copied) × (length copied ≡ 0 → new.now.trees tree ≡ db tree) × (placed_all (new.now.trees tree) ≡ placed_all (db tree) ++ copied)
 
   copied_hits : (limit : Option ℕ) (mode : Mode) (x : List Row) → filter (λ r. has_key t i g (placed_in r)) (db 0) ≡ x → length x ≤ 1 → Copied
   copied_hits limit mode [] is short =
       let none = given_none key_filter copied_project (number t ∷ number i ∷ number g ∷ []) (has_key t i g) (copy_test t i g) copied_given (λ id x. refl) copied_by (db 0) given latest.each is page in
       let rows : new.now.trees tree ≡ db tree = applies.rows ∙ ap (λ all. edited db (edit_of db (segment_table j) [] Chosen 0 all)) none in
       let are : placed_all (new.now.trees tree) ≡ placed_all (db tree) ++ copied = ap placed_all rows ∙ sym (append-nil (placed_all (db tree))) ∙ ap (λ more. placed_all (db tree) ++ more) (sym (found [] is)) in
-      (segment_written j db copied new schema other applies.tables.1 (rw rows own) are latest dead, ap (λ all. length (edit_of db (segment_table j) [] Chosen 0 all).news) none ∙ ap length (sym (found [] is)), λ _. rows)
+      (segment_written j db copied new schema other applies.tables.1 (rw rows own) are latest dead, ap (λ all. length (edit_of db (segment_table j) [] Chosen 0 all).news) none ∙ ap length (sym (found [] is)), λ _. rows, are)
   copied_hits limit mode (x ∷ []) is short =
       let one = given_one key_filter copied_project (number t ∷ number i ∷ number g ∷ []) (has_key t i g) (copy_test t i g) copied_given (λ id y. refl) copied_by (db 0) given x latest.each is page in
       let rows : new.now.trees tree ≡ put_row (stored (next_rowid (db tree)) (placed_in x)) (db tree)
@@ -326,6 +326,7 @@ module _ (j : Segment) (keys : Keys) (db : Trees) (new : State) (t i g : ℕ) (l
         segment_written j db copied new schema other applies.tables.1 (rw rows (stored_put (next_rowid (db tree)) (placed_in x) (db tree) own)) are latest dead,
         ap (λ all. length (edit_of db (segment_table j) [] Chosen 0 all).news) one ∙ ap length (sym (found (x ∷ []) is)),
         λ none. absurd (omega (arith, none, ap length (found (x ∷ []) is))),
+        are,
       )
   copied_hits limit mode (x ∷ y ∷ more) is short = absurd (omega arith)
 
@@ -335,6 +336,7 @@ pub copies : (j : Segment) (old new : State) (t i g : ℕ) (count : ℕ) → old
     → Leaves (tree_of j) old.now.trees (placed_all (old.now.trees 0)) (dead_among old.now.trees segments ++ filter (has_key t i g) (placed_all (old.now.trees 0))) new
     × (count ≡ length (filter (has_key t i g) (placed_all (old.now.trees 0))))
     × (length (filter (has_key t i g) (placed_all (old.now.trees 0))) ≡ 0 → new.now.trees (tree_of j) ≡ old.now.trees (tree_of j))
+    × (placed_all (new.now.trees (tree_of j)) ≡ placed_all (old.now.trees (tree_of j)) ++ filter (has_key t i g) (placed_all (old.now.trees 0)))
 copies j old new t i g count has latest dead few h =
     let db = old.now.trees in
     let params : Row = number t ∷ number i ∷ number g ∷ [] in
@@ -345,4 +347,4 @@ copies j old new t i g count has latest dead few h =
     let it = inserts_rows (name_of j) (tree_of j) segment_keys old.step_limit (mode_of old) params db (segment_place j) from ran.tally new.now (on_segment old.step_limit (mode_of old) params old.now text from _ j done) in
     let page : IsPage 0 copied_by key_filter copied_project [] endless params (db 0) it.0 = answered 0 copied_by key_filter copied_project [] endless (overlay db []) params it.0 it.1.answer in
     let all = copied_hits j _ db new t i g latest dead it.0 page it.2 it.4 old.step_limit (mode_of old) (filter (λ r. has_key t i g (placed_in r)) (db 0)) refl (few_rows (has_key t i g) (db 0) few) in
-    (all.0, ran.counted ∙ ap (λ n. unwrap_or n 0) it.3 ∙ all.1, all.2)
+    (all.0, ran.counted ∙ ap (λ n. unwrap_or n 0) it.3 ∙ all.1, all.2, all.3)

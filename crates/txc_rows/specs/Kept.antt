@@ -18,6 +18,8 @@ use Rattle.txc_rows.specs.Holdable.{IsStorable}
 use Rattle.sqlite.specs.Tree.{Trees}
 use Rattle.txc_rows.specs.declared.texts.Segment.{Segment}
 use Rattle.txc_rows.specs.declared.tally.Tally.{Tally}
+use Rattle.txc_rows.specs.declared.marks.Marks.{Marks}
+use Rattle.txc_rows.specs.Marked.{AreKeyMarks, IsMarked}
 use Rattle.sqlite.specs.Schema.{Schema}
 use Rattle.txc_rows.specs.Texts.{no_schema, version_schema, segments, segment_place, tree_of}
 use Rattle.txc_rows.specs.declared.texts.Source.{Source}
@@ -135,6 +137,14 @@ used_of t = min t.segments.used 7
 abbrev pub AreEmptyBefore : ℕ → Held MemStore → Type 0
 AreEmptyBefore n h = (s : Segment) → segment_place s + n < 8 → (state over_memory h).now.trees (tree_of s) ≡ []
 
+-- each version of a segment has its marks
+abbrev pub AreMarked : Marks → Held MemStore → Type 0
+AreMarked m h = (s : Segment) → AllByRecursion (IsMarked m (segment_place s)) (placed_all ((state over_memory h).now.trees (tree_of s)))
+
+-- what had its marks has them, where one of that table, id and group came to the segment
+abbrev pub StaysMarked : Segment → ℕ → ℕ → ℕ → Held MemStore → Held MemStore → Type 0
+StaysMarked j table id group old new = (m : Marks) → AreKeyMarks m (segment_place j) table id group → AreMarked m old → AreMarked m new
+
 -- ---- tables that come and go
 
 -- no table is there
@@ -178,9 +188,10 @@ pub record IsFinding (q : Query) (from : ℕ) (placed : List Placed) (old new : 
   pub are : new ≡ old ++ more
   pub few : length new ≤ MAX_MATCHING
 
--- the tables are in order, each version has a lower place than the next one, and the segments that are not in use are
--- empty
+-- the tables are in order, each version has a lower place than the next one, the segments that are not in use are
+-- empty, and the versions of those that are have their marks
 pub record IsStore (next : ℕ) (tally : Tally) (h : Held MemStore) : Type 0 where
   pub kept : IsKept h
   pub below : AreBelow next (placed_of h)
   pub empty : AreEmptyBefore (used_of tally) h
+  pub marked : AreMarked tally.marks h

@@ -12,6 +12,7 @@ pub mod Texts
 pub mod Readings
 pub mod Placed
 pub mod Stored
+pub mod Marked
 pub mod Kept
 pub mod Keeping
 pub mod Uses

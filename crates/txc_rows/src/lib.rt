@@ -3,6 +3,7 @@
 
 mod decode;
 mod laws;
+mod marks;
 mod query;
 mod reads;
 mod row;

@@ -8,10 +8,12 @@ ghost use Rattle.sqlite.specs.Steps.{over_memory, IsEmpty};
 ghost use Rattle.txc_rows.specs.Placed.{AreSwept, AreLeft, placed_left};
 ghost use Rattle.txc_rows.specs.Stored.{AreCells, placed_from};
 ghost use Rattle.txc_rows.specs.declared.texts.Segment.{Segment};
-ghost use Rattle.txc_rows.specs.Texts.{latest_schema, version_schema, schema_to, schema_before, made_before, segments, tree_of};
+ghost use Rattle.txc_rows.specs.Texts.{latest_schema, version_schema, schema_to, schema_before, made_before, segments, segment_place, tree_of};
+ghost use Rattle.txc_rows.specs.Marked.{IsMarked};
 ghost use Rattle.txc_rows.specs.declared.texts.Segment.TheVariants.{First};
 ghost use Rattle.txc_rows.specs.Kept.{latest_in, dead_in, placed_of, HasNoTable, HasMadeTables, HasLatest, HasTables, HasVersions, IsKept, IsSame, IsStep, IsCall, IsLeaving, OthersStay, OthersAreEmpty};
 
+use crate::marks::Marks;
 use crate::texts::{
     ADD_LATEST, DROP_LATEST, MAKE_LATEST, SEGMENTS, Segment, Source, add_text, drop_text,
     left_text, make_text,
@@ -271,39 +273,44 @@ fn refill_all(
     fill_dead(tx, Segment::First, left)
 }
 
-/// Makes the segments anew, with what did not die before the stamp in the first one. It answers how many that are.
+/// Makes the segments anew, with what did not die before the stamp in the first one. It answers how many that are, and
+/// their marks.
 pub(crate) fn sweep_dead(
     conn: &mut Connection<MemStore>,
     alloc: Global,
     from: u32,
-) -> Result<usize, Error>
+) -> Result<(usize, Marks), Error>
     requires { IsKept conn.old }
     ensures call { IsCall (AreSwept from (placed_of conn.old)) conn.old conn.new result }
     ensures rest { OnOk result (OthersAreEmpty First conn.new) }
-    ensures count { IfOk result (λ kept. kept ≡ length (dead_in conn.new)) }
+    ensures count { IfOk result (λ kept. kept.0 ≡ length (dead_in conn.new)) }
+    ensures marked { IfOk result (λ kept. AllByRecursion (IsMarked kept.1 (segment_place First)) (dead_in conn.new)) }
 {
     let left = read_all_left(conn, alloc, from)?;
+    let marks = Marks::of_first(alloc, &left)?;
     let mut tx = conn.transaction();
     refill_dead(&mut tx, &left)?;
     tx.commit()?;
-    Ok(left.len())
+    Ok((left.len(), marks))
 }
 
-/// The same for all tables. It answers how many last versions are left, and how many others.
+/// The same for all tables. It answers how many last versions are left, how many others, and the marks of these.
 pub(crate) fn sweep_all(
     conn: &mut Connection<MemStore>,
     alloc: Global,
     from: u32,
-) -> Result<(usize, usize), Error>
+) -> Result<(usize, usize, Marks), Error>
     requires { IsKept conn.old }
     ensures call { IsCall (AreLeft from (placed_of conn.old)) conn.old conn.new result }
     ensures rest { OnOk result (OthersAreEmpty First conn.new) }
-    ensures count { IfOk result (λ counts. counts.1 ≡ length (dead_in conn.new)) }
+    ensures count { IfOk result (λ kept. kept.1 ≡ length (dead_in conn.new)) }
+    ensures marked { IfOk result (λ kept. AllByRecursion (IsMarked kept.2 (segment_place First)) (dead_in conn.new)) }
 {
     let latest = read_left(conn, Source::Latest, from)?;
     let left = read_all_left(conn, alloc, from)?;
+    let marks = Marks::of_first(alloc, &left)?;
     let mut tx = conn.transaction();
     refill_all(&mut tx, &latest, &left)?;
     tx.commit()?;
-    Ok((latest.len(), left.len()))
+    Ok((latest.len(), left.len(), marks))
 }

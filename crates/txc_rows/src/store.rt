@@ -5,7 +5,7 @@ ghost use Rattle.std.specs.List.Sorted.{IsPermutation, IsSorted};
 ghost use Rattle.txc_rows.specs.Versions.{suits, purged, after_net, version_cmp};
 ghost use Rattle.txc_rows.specs.declared.texts.Source.TheVariants.{Dead};
 ghost use Rattle.txc_rows.specs.Placed.{version_of, left_from, AreSwept};
-ghost use Rattle.txc_rows.specs.Kept.{placed_of, placed_read, versions_of, used_of, AreEmptyBefore, IsKept, IsCall, IsSame, IsRoom, IsFinding};
+ghost use Rattle.txc_rows.specs.Kept.{placed_of, placed_read, versions_of, used_of, AreEmptyBefore, AreMarked, IsKept, IsCall, IsSame, IsRoom, IsFinding};
 ghost use Rattle.txc_rows.specs.States.{State};
 ghost use Rattle.txc_rows.specs.Found.{Finds};
 ghost use Rattle.txc_rows.specs.Keeping.{KeepsStates, KeepsWritten, KeepsPurged, AnswersStates};
@@ -82,13 +82,14 @@ fn sweep(
     requires { IsKept conn.old }
     ensures call { IsCall (AreSwept from (placed_of conn.old)) conn.old conn.new result }
     ensures empty { AreEmptyBefore (used_of tally.old) conn.old → AreEmptyBefore (used_of tally.new) conn.new }
+    ensures marked { AreMarked tally.old.marks conn.old → AreMarked tally.new.marks conn.new }
 {
     if tally.is_mostly_ended(from) {
-        let (rows, kept) = sweep_all(conn, alloc, from)?;
-        tally.sweep_all(rows, kept);
+        let (rows, kept, marks) = sweep_all(conn, alloc, from)?;
+        tally.sweep_all(rows, kept, marks);
     } else if tally.is_mostly_dead(from) {
-        let kept = sweep_dead(conn, alloc, from)?;
-        tally.sweep_dead(kept);
+        let (kept, marks) = sweep_dead(conn, alloc, from)?;
+        tally.sweep_dead(kept, marks);
     }
     Ok(())
 }
@@ -105,15 +106,16 @@ fn make_room(
     requires { IsKept conn.old }
     ensures room { IsRoom kept_from stamp conn.old conn.new result }
     ensures empty { AreEmptyBefore (used_of tally.old) conn.old → AreEmptyBefore (used_of tally.new) conn.new }
+    ensures marked { AreMarked tally.old.marks conn.old → AreMarked tally.new.marks conn.new }
 {
     if stamp < kept_from {
-        let (rows, kept) = sweep_all(conn, alloc, kept_from)?;
-        tally.sweep_all(rows, kept);
+        let (rows, kept, marks) = sweep_all(conn, alloc, kept_from)?;
+        tally.sweep_all(rows, kept, marks);
         return Ok(0);
     }
     if !tally.has_room() {
-        let kept = sweep_dead(conn, alloc, kept_from)?;
-        tally.sweep_dead(kept);
+        let (kept, marks) = sweep_dead(conn, alloc, kept_from)?;
+        tally.sweep_dead(kept, marks);
     }
     Ok(kept_from)
 }
@@ -143,7 +145,7 @@ fn find(
     Ok(())
 }
 
-/// The same of a segment, which is read where it is in use.
+/// The same of a segment, which is read where it is in use and may have a version that matches.
 fn find_dead(
     conn: &mut Connection<MemStore>,
     alloc: Global,
@@ -156,12 +158,16 @@ fn find_dead(
     requires kept { IsKept conn.old }
     requires few { length found.old.items ≤ MAX_MATCHING }
     requires empty { AreEmptyBefore (used_of tally.now) conn.old }
+    requires marked { AreMarked tally.now.marks conn.old }
     ensures same { IsSame conn.old conn.new }
     ensures finds { OnOk result (IsFinding query.now from (placed_read (Dead segment) conn.old) found.old.items found.new.items) }
     ensures refused { result ≡ Err StoreError.TooManyRows
         → MAX_MATCHING < length found.old.items + length (filter (suits query.now) (left_from from (map version_of (placed_read (Dead segment) conn.old)))) }
 {
     if !tally.uses(segment) {
+        return Ok(());
+    }
+    if !tally.may_match(segment, query) {
         return Ok(());
     }
     find(conn, alloc, Source::Dead(segment), query, from, found)
@@ -187,6 +193,7 @@ fn find_all(
 ) -> Result<Vec<Versioned>, StoreError>
     requires kept { IsKept conn.old }
     requires empty { AreEmptyBefore (used_of tally.now) conn.old }
+    requires marked { AreMarked tally.now.marks conn.old }
     ensures same { IsSame conn.old conn.new }
     ensures finds { IfOk result (λ found. Finds query.now (left_from from (versions_of conn.old)) found.items) }
     ensures bound { IfOk result (λ found. length found.items ≤ MAX_MATCHING) }
@@ -211,11 +218,12 @@ impl VersionRows {
         ensures refused { IfErr result IsStoreRefusal }
     {
         let conn = open_tables(alloc)?;
+        let tally = Tally::empty(alloc)?;
         Ok(VersionRows {
             conn,
             next_place: 0,
             kept_from: 0,
-            tally: Tally::empty(),
+            tally,
             alloc,
         })
     }
@@ -257,7 +265,15 @@ impl VersionRows {
             number,
         )?;
         self.kept_from = kept_from;
-        let written = write_all(&mut self.conn, net, stamp, place, self.tally.segment())?;
+        let segment = self.tally.segment();
+        let written = write_all(
+            &mut self.conn,
+            net,
+            stamp,
+            place,
+            segment,
+            &mut self.tally.marks,
+        )?;
         self.tally.note(written, number);
         self.next_place = next_place;
         Ok(())

@@ -2,11 +2,16 @@
 
 ghost use Rattle.std.specs.Prelude.{◌≡◌, ◌≢◌, ◌≤◌, ◌+◌, ◌-◌, ◌↔◌, min, IsTrue};
 ghost use Rattle.txc_rows.specs.Texts.{segment_place};
+ghost use Rattle.txc_rows.specs.Marked.{may_match};
 ghost use Rattle.txc_rows.specs.Kept.{used_of};
 
+use crate::marks::Marks;
+use crate::query::Query;
 use crate::segments::Segments;
 use crate::texts::Segment;
 use crate::writes::Written;
+use sqlite::Error;
+use std::alloc::Global;
 
 /// The segments are made anew where so many of their versions are gone at least.
 const LEAST_DEAD: usize = 256;
@@ -15,9 +20,10 @@ const LEAST_DEAD: usize = 256;
 const LEAST_ENDED: usize = 1024;
 
 /// How many versions the tables have, and when they were written.
-#[derive(Clone, Copy)]
+#[derive(Drop)]
 pub(crate) struct Tally {
     segments: Segments,
+    pub marks: Marks,
     /// How many rows the table of last versions has, and how many of them have died.
     rows: usize,
     ended: usize,
@@ -29,17 +35,16 @@ pub(crate) struct Tally {
 }
 
 impl Tally {
-    pub(crate) fn empty() -> Tally
-        ensures { used_of result ≡ 0 }
-    {
-        Tally {
+    pub(crate) fn empty(alloc: Global) -> Result<Tally, Error> {
+        Ok(Tally {
             segments: Segments::empty(),
+            marks: Marks::none(alloc)?,
             rows: 0,
             ended: 0,
             marked_ended: 0,
             marked_at: 0,
             newest: 0,
-        }
+        })
     }
 
     /// The segment to which the next versions go.
@@ -56,9 +61,17 @@ impl Tally {
         segment.place() + self.segments.in_use() >= 8
     }
 
+    /// Whether a segment may have a version that the query asks for.
+    pub(crate) fn may_match(&self, segment: Segment, query: &Query) -> bool
+        ensures { result ≡ may_match self.now.marks (segment_place segment) query.now }
+    {
+        self.marks.may_match(segment, query)
+    }
+
     /// Whether a write finds room in a segment, perhaps in the next one.
     pub(crate) fn has_room(&mut self) -> bool
-        ensures { used_of self.old ≤ used_of self.new }
+        ensures more { used_of self.old ≤ used_of self.new }
+        ensures marks { self.new.marks ≡ self.old.marks }
     {
         !self.segments.is_full() || self.segments.advance()
     }
@@ -79,6 +92,7 @@ impl Tally {
     pub(crate) fn note(&mut self, written: Written, stamp: u32)
         ensures more { used_of self.old ≤ used_of self.new }
         ensures used { written.copied ≢ 0 → 1 ≤ used_of self.new }
+        ensures marks { self.new.marks ≡ self.old.marks }
     {
         self.newest = self.newest.max(stamp);
         self.segments.note(written.copied, self.newest);
@@ -89,7 +103,8 @@ impl Tally {
 
     /// What died before the stamp is hidden.
     pub(crate) fn mark(&mut self, from: u32)
-        ensures { used_of self.new ≡ used_of self.old }
+        ensures used { used_of self.new ≡ used_of self.old }
+        ensures marks { self.new.marks ≡ self.old.marks }
     {
         if self.marked_at < from {
             self.marked_ended = self.ended;
@@ -97,18 +112,21 @@ impl Tally {
         }
     }
 
-    /// The segments were made anew, with so many versions.
-    pub(crate) fn sweep_dead(&mut self, kept: usize)
-        ensures { used_of self.new ≡ min kept 1 }
+    /// The segments were made anew, with so many versions of these marks.
+    pub(crate) fn sweep_dead(&mut self, kept: usize, marks: Marks)
+        ensures used { used_of self.new ≡ min kept 1 }
+        ensures marks { self.new.marks ≡ marks }
     {
         self.segments = self.segments.joined(kept);
+        self.marks = marks;
     }
 
-    /// All tables were made anew, with so many last versions and so many others.
-    pub(crate) fn sweep_all(&mut self, rows: usize, kept: usize)
-        ensures { used_of self.new ≡ min kept 1 }
+    /// All tables were made anew, with so many last versions and so many others, of these marks.
+    pub(crate) fn sweep_all(&mut self, rows: usize, kept: usize, marks: Marks)
+        ensures used { used_of self.new ≡ min kept 1 }
+        ensures marks { self.new.marks ≡ marks }
     {
-        self.segments = self.segments.joined(kept);
+        self.sweep_dead(kept, marks);
         self.rows = rows;
         self.ended = 0;
         self.marked_ended = 0;

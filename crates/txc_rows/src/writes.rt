@@ -6,8 +6,10 @@ ghost use Rattle.txc_rows.specs.Values.{IsRow};
 ghost use Rattle.txc_rows.specs.Versions.{put, after_write, after_net};
 ghost use Rattle.txc_rows.specs.Placed.{has_key, closed_placed, new_placed, renewed, put_latest, put_dead, HaveOwnKeys, AreBelow, AreWellPlaced, AreWritten};
 ghost use Rattle.txc_rows.specs.Texts.{tree_of};
-ghost use Rattle.txc_rows.specs.Kept.{latest_in, dead_in, placed_of, versions_of, HasTables, HasVersions, HasWritten, OthersStay, IsKept, IsStep, IsCall};
+ghost use Rattle.txc_rows.specs.Marked.{StayMarked};
+ghost use Rattle.txc_rows.specs.Kept.{latest_in, dead_in, placed_of, versions_of, HasTables, HasVersions, HasWritten, OthersStay, AreMarked, StaysMarked, IsKept, IsStep, IsCall};
 
+use crate::marks::Marks;
 use crate::query::Change;
 use crate::row::Row;
 use crate::texts::{ADD_LATEST, END_VERSION, RENEW_LATEST, Segment, copy_text};
@@ -116,6 +118,7 @@ fn copy_latest(
         tx.old.conn.now tx.new.conn.now result }
     ensures others { OnOk result (OthersStay (tree_of segment) tx.old.conn.now tx.new.conn.now) }
     ensures none { IfOk result (λ n. n ≡ 0 → OthersStay 0 tx.old.conn.now tx.new.conn.now) }
+    ensures marked { OnOk result (StaysMarked segment table id group tx.old.conn.now tx.new.conn.now) }
 {
     tx.execute(
         copy_text(segment),
@@ -153,14 +156,15 @@ fn renew_latest(
     )
 }
 
-/// The last version of its table, id and group, if there is one, goes to the segment, and the new one stands in
-/// its place. It answers how many went.
+/// The last version of its table, id and group, if there is one, goes to the segment, whose marks of it are set, and
+/// the new one stands in its place. It answers how many went.
 fn put_version(
     tx: &mut Transaction<'_, MemStore>,
     place: u32,
     row: &Row,
     stamp: Stamp,
     segment: Segment,
+    marks: &mut Marks,
 ) -> Result<usize, Error>
     requires table { HasTables tx.old.conn.now }
     requires inside { tx.old.conn.now.in_transaction ≡ true }
@@ -173,11 +177,14 @@ fn put_version(
         tx.old.conn.now tx.new.conn.now result }
     ensures others { OnOk result (OthersStay (tree_of segment) tx.old.conn.now tx.new.conn.now) }
     ensures none { IfOk result (λ n. n ≡ 0 → OthersStay 0 tx.old.conn.now tx.new.conn.now) }
+    ensures more { StayMarked marks.old marks.new }
+    ensures marked { OnOk result (AreMarked marks.old tx.old.conn.now → AreMarked marks.new tx.new.conn.now) }
 {
     let copied = copy_latest(tx, row.table(), row.id(), row.group(), segment)?;
     if copied == 0 {
         add_latest(tx, place, row, stamp)?;
     } else {
+        marks.set_row(segment, row);
         renew_latest(tx, place, row, stamp)?;
     }
     Ok(copied)
@@ -189,6 +196,7 @@ fn write_put(
     stamp: Stamp,
     place: u32,
     segment: Segment,
+    marks: &mut Marks,
 ) -> Result<Written, Error>
     requires table { HasTables tx.old.conn.now }
     requires inside { tx.old.conn.now.in_transaction ≡ true }
@@ -200,9 +208,11 @@ fn write_put(
         tx.old.conn.now tx.new.conn.now result }
     ensures others { OnOk result (OthersStay (tree_of segment) tx.old.conn.now tx.new.conn.now) }
     ensures none { IfOk result (λ w. w.copied ≡ 0 → OthersStay 0 tx.old.conn.now tx.new.conn.now) }
+    ensures more { StayMarked marks.old marks.new }
+    ensures marked { OnOk result (AreMarked marks.old tx.old.conn.now → AreMarked marks.new tx.new.conn.now) }
 {
     let ended = end_version(tx, row.table(), row.id(), stamp)?;
-    let copied = put_version(tx, place, row, stamp, segment)?;
+    let copied = put_version(tx, place, row, stamp, segment, marks)?;
     Ok(Written {
         ended,
         copied,
@@ -216,6 +226,7 @@ fn write_change(
     stamp: Stamp,
     place: u32,
     segment: Segment,
+    marks: &mut Marks,
 ) -> Result<Written, Error>
     requires table { HasTables tx.old.conn.now }
     requires inside { tx.old.conn.now.in_transaction ≡ true }
@@ -227,9 +238,11 @@ fn write_change(
         tx.old.conn.now tx.new.conn.now result }
     ensures others { OnOk result (OthersStay (tree_of segment) tx.old.conn.now tx.new.conn.now) }
     ensures none { IfOk result (λ w. w.copied ≡ 0 → OthersStay 0 tx.old.conn.now tx.new.conn.now) }
+    ensures more { StayMarked marks.old marks.new }
+    ensures marked { OnOk result (AreMarked marks.old tx.old.conn.now → AreMarked marks.new tx.new.conn.now) }
 {
     match change {
-        Change::Put(row) => write_put(tx, row, stamp, place, segment),
+        Change::Put(row) => write_put(tx, row, stamp, place, segment, marks),
         Change::Remove(table, id) => {
             let ended = end_version(tx, *table, *id, stamp)?;
             Ok(Written {
@@ -241,13 +254,14 @@ fn write_change(
 }
 
 /// Writes the changes of one commit, all or none. The versions that they put have places from this one on, and
-/// those that they replace go to the segment.
+/// those that they replace go to the segment. Their marks are set, which stay where the commit is refused.
 pub(crate) fn write_all(
     conn: &mut Connection<MemStore>,
     net: &[Change],
     stamp: Stamp,
     place: u32,
     segment: Segment,
+    marks: &mut Marks,
 ) -> Result<Written, Error>
     requires kept { IsKept conn.old }
     requires below { AreBelow place (placed_of conn.old) }
@@ -257,12 +271,14 @@ pub(crate) fn write_all(
         conn.old conn.new result }
     ensures others { OnOk result (OthersStay (tree_of segment) conn.old conn.new) }
     ensures none { IfOk result (λ w. w.copied ≡ 0 → OthersStay 0 conn.old conn.new) }
+    ensures more { StayMarked marks.old marks.new }
+    ensures marked { OnOk result (AreMarked marks.old conn.old → AreMarked marks.new conn.new) }
 {
     let mut tx = conn.transaction();
     let mut written = Written::NOTHING;
     let mut next = place;
     for change in net {
-        let one = write_change(&mut tx, change, stamp, next, segment)?;
+        let one = write_change(&mut tx, change, stamp, next, segment, marks)?;
         written = written.and(one);
         next += 1;
     }

@@ -5,13 +5,15 @@ use Rattle.std.specs.List.Sorted.{IsPermutation}
 use Rattle.sqlite.specs.Held.{state}
 use Rattle.sqlite.proofs.Callers.{memory_is_clean}
 use Rattle.txc_rows.specs.declared.texts.Segment.TheVariants.{First}
-use Rattle.txc_rows.specs.Placed.{placed_left, AreLeft}
+use Rattle.std.specs.List.{AllByRecursion}
+use Rattle.txc_rows.specs.Placed.{placed_left, AreLeft, Placed}
+use Rattle.txc_rows.specs.Marked.{IsMarked}
 use Rattle.sqlite.specs.Tree.{Trees}
-use Rattle.txc_rows.specs.Texts.{segments}
+use Rattle.txc_rows.specs.Texts.{segments, segment_place}
 use Rattle.txc_rows.specs.Stored.{placed_from}
 use Rattle.txc_rows.specs.Kept.{dead_among, dead_in, placed_of, HasVersions, IsCall, OthersAreEmpty}
 use Rattle.txc_rows.proofs.HeldLemmas.{refused_call, recast_ok, recast_err}
-use Rattle.txc_rows.proofs.SweepCalls.{same_then, undone_since, begun_base, all_call, all_rest, all_count}
+use Rattle.txc_rows.proofs.SweepCalls.{same_then, undone_since, begun_base, all_call, all_rest, all_count, all_each_kept}
 use Rattle.txc_rows.proofs.statements.sweep_all.Goals as goal
 
 pub returns-in_err-latest-clause-call : goal.returns-in_err-latest-clause-call
@@ -26,6 +28,13 @@ returns-in_err-left-clause-call c =
     let first = c.read_left.new.conn in
     let same = same_then old first c.read_all_left.new.conn c.in_ok-latest.ensures.same c.in_err-left.ensures.same in
     let p = err_from_is_err_and c.from_residual-in_err-left.result c.from_residual-in_err-left.ensures.1 in
+    rw p.1 (refused_call (AreLeft c.args.from (placed_of old)) old c.read_all_left.new.conn p.0 same)
+
+pub returns-in_err-marks-clause-call : goal.returns-in_err-marks-clause-call
+returns-in_err-marks-clause-call c =
+    let old = c.args.conn.now in
+    let same = same_then old c.read_left.new.conn c.read_all_left.new.conn c.in_ok-latest.ensures.same c.in_ok-left.ensures.same in
+    let p = err_from_is_err_and c.from_residual-in_err-marks.result c.from_residual-in_err-marks.ensures.1 in
     rw p.1 (refused_call (AreLeft c.args.from (placed_of old)) old c.read_all_left.new.conn p.0 same)
 
 pub returns-in_err-refill_all-clause-call : goal.returns-in_err-refill_all-clause-call
@@ -53,7 +62,7 @@ returns-in_err-commit-clause-call c =
     let here = same_then old c.read_left.new.conn first c.in_ok-latest.ensures.same c.in_ok-left.ensures.same in
     let two : IsPermutation (placed_left c.args.from (dead_in old)) left
     = subst (λ (t : Trees). IsPermutation (placed_left c.args.from (dead_among t segments)) left) c.in_ok-latest.ensures.same.trees c.in_ok-left.ensures.left in
-    let has : HasVersions last left mid = rw (c.deref.ensures.value, c.deref-2.ensures.value) at step.leaves in
+    let has : HasVersions last left mid = rw (c.deref-2.ensures.value, c.deref-3.ensures.value) at step.leaves in
     let base = step.base ∙ begun_base first c.transaction-tx.result.conn.now c.transaction-tx.ensures.begun in
     let L = AreLeft c.args.from (placed_of old) in
     let call : IsCall L old end c.commit.result
@@ -75,7 +84,7 @@ returns-clause-call c =
     let here = same_then old c.read_left.new.conn first c.in_ok-latest.ensures.same c.in_ok-left.ensures.same in
     let two : IsPermutation (placed_left c.args.from (dead_in old)) left
     = subst (λ (t : Trees). IsPermutation (placed_left c.args.from (dead_among t segments)) left) c.in_ok-latest.ensures.same.trees c.in_ok-left.ensures.left in
-    let has : HasVersions last left mid = rw (c.deref.ensures.value, c.deref-2.ensures.value) at step.leaves in
+    let has : HasVersions last left mid = rw (c.deref-2.ensures.value, c.deref-3.ensures.value) at step.leaves in
     let base = step.base ∙ begun_base first c.transaction-tx.result.conn.now c.transaction-tx.ensures.begun in
     let L = AreLeft c.args.from (placed_of old) in
     let call : IsCall L old end c.commit.result
@@ -96,7 +105,7 @@ returns-clause-rest c =
     let here = same_then old c.read_left.new.conn first c.in_ok-latest.ensures.same c.in_ok-left.ensures.same in
     let two : IsPermutation (placed_left c.args.from (dead_in old)) left
     = subst (λ (t : Trees). IsPermutation (placed_left c.args.from (dead_among t segments)) left) c.in_ok-latest.ensures.same.trees c.in_ok-left.ensures.left in
-    let has : HasVersions last left mid = rw (c.deref.ensures.value, c.deref-2.ensures.value) at step.leaves in
+    let has : HasVersions last left mid = rw (c.deref-2.ensures.value, c.deref-3.ensures.value) at step.leaves in
     let rest : OnOk c.commit.result (OthersAreEmpty First end)
     = all_rest c.args.from old first mid here left two c.requires last c.in_ok-latest.ensures.left has end c.commit.result c.commit.ensures.ended (c.commit.ensures.ok (memory_is_clean end)) c.in_ok-refill_all.ensures.rest in
     let same : end ≡ c.conn-2-1.given.0 = search rules in
@@ -116,7 +125,7 @@ returns-clause-count c =
     let here = same_then old c.read_left.new.conn first c.in_ok-latest.ensures.same c.in_ok-left.ensures.same in
     let two : IsPermutation (placed_left c.args.from (dead_in old)) left
     = subst (λ (t : Trees). IsPermutation (placed_left c.args.from (dead_among t segments)) left) c.in_ok-latest.ensures.same.trees c.in_ok-left.ensures.left in
-    let has : HasVersions last left mid = rw (c.deref.ensures.value, c.deref-2.ensures.value) at step.leaves in
+    let has : HasVersions last left mid = rw (c.deref-2.ensures.value, c.deref-3.ensures.value) at step.leaves in
     let count : OnOk c.commit.result (length left ≡ length (dead_in end))
     = all_count c.args.from old first mid here left two c.requires last c.in_ok-latest.ensures.left has end c.commit.result c.commit.ensures.ended (c.commit.ensures.ok (memory_is_clean end)) in
     let same : end ≡ c.conn-2-1.given.0 = search rules in
@@ -124,3 +133,24 @@ returns-clause-count c =
     let all : length rows ≡ length (dead_in end) = sym (length-map rows placed_from) ∙ done in
     let counted : c.len-2.result ≡ length rows = search rules in
     subst (λ h. c.len-2.result ≡ length (dead_in h)) same (counted ∙ all)
+
+pub returns-clause-marked : goal.returns-clause-marked
+returns-clause-marked c =
+    let old = c.args.conn.now in
+    let first = c.read_all_left.new.conn in
+    let mid = c.refill_all.new.tx.conn.now in
+    let end = c.commit.new.self.0 in
+    let step = c.in_ok-refill_all.ensures.step in
+    let last = map placed_from c.in_ok-latest.latest.items in
+    let left = map placed_from c.in_ok-left.left.items in
+    let P : Placed → Type 0 = IsMarked c.in_ok-marks.marks (segment_place First) in
+    let here = same_then old c.read_left.new.conn first c.in_ok-latest.ensures.same c.in_ok-left.ensures.same in
+    let two : IsPermutation (placed_left c.args.from (dead_in old)) left
+    = subst (λ (t : Trees). IsPermutation (placed_left c.args.from (dead_among t segments)) left) c.in_ok-latest.ensures.same.trees c.in_ok-left.ensures.left in
+    let has : HasVersions last left mid = rw (c.deref-2.ensures.value, c.deref-3.ensures.value) at step.leaves in
+    let each : AllByRecursion P left = rw c.deref.ensures.value at c.in_ok-marks.ensures in
+    let marked : OnOk c.commit.result (AllByRecursion P (dead_in end))
+    = all_each_kept c.args.from old first mid here left two c.requires last c.in_ok-latest.ensures.left has P end c.commit.result c.commit.ensures.ended (c.commit.ensures.ok (memory_is_clean end)) each in
+    let same : end ≡ c.conn-2-1.given.0 = search rules in
+    let done : AllByRecursion P (dead_in end) = subst (λ r. OnOk r (AllByRecursion P (dead_in end))) c.in_ok-commit.was marked in
+    subst (λ h. AllByRecursion P (dead_in h)) same done

@@ -4,11 +4,14 @@ use Rattle.std.proofs.lemmas.Result.{err_from_is_err_and}
 use Rattle.sqlite.specs.Held.{state}
 use Rattle.sqlite.proofs.Callers.{memory_is_clean}
 use Rattle.txc_rows.specs.declared.texts.Segment.TheVariants.{First}
-use Rattle.txc_rows.specs.Placed.{AreSwept}
+use Rattle.std.specs.List.{AllByRecursion}
+use Rattle.txc_rows.specs.Placed.{AreSwept, Placed}
+use Rattle.txc_rows.specs.Texts.{segment_place}
+use Rattle.txc_rows.specs.Marked.{IsMarked}
 use Rattle.txc_rows.specs.Stored.{placed_from}
 use Rattle.txc_rows.specs.Kept.{latest_in, dead_in, placed_of, HasVersions, IsCall, OthersAreEmpty}
 use Rattle.txc_rows.proofs.HeldLemmas.{refused_call, recast_ok, recast_err}
-use Rattle.txc_rows.proofs.SweepCalls.{undone_since, begun_base, begun_latest, dead_call, dead_rest, dead_count}
+use Rattle.txc_rows.proofs.SweepCalls.{undone_since, begun_base, begun_latest, dead_call, dead_rest, dead_count, dead_each_kept}
 use Rattle.txc_rows.proofs.statements.sweep_dead.Goals as goal
 
 pub returns-in_err-left-clause-call : goal.returns-in_err-left-clause-call
@@ -16,6 +19,12 @@ returns-in_err-left-clause-call c =
     let old = c.args.conn.now in
     let p = err_from_is_err_and c.from_residual.result c.from_residual.ensures.1 in
     rw p.1 (refused_call (AreSwept c.args.from (placed_of old)) old c.read_all_left.new.conn p.0 c.in_err-left.ensures.same)
+
+pub returns-in_err-marks-clause-call : goal.returns-in_err-marks-clause-call
+returns-in_err-marks-clause-call c =
+    let old = c.args.conn.now in
+    let p = err_from_is_err_and c.from_residual-in_err-marks.result c.from_residual-in_err-marks.ensures.1 in
+    rw p.1 (refused_call (AreSwept c.args.from (placed_of old)) old c.read_all_left.new.conn p.0 c.in_ok-left.ensures.same)
 
 pub returns-in_err-refill_dead-clause-call : goal.returns-in_err-refill_dead-clause-call
 returns-in_err-refill_dead-clause-call c =
@@ -38,7 +47,7 @@ returns-in_err-commit-clause-call c =
     let end = c.commit.new.self.0 in
     let step = c.in_ok-refill_dead.ensures.step in
     let left = map placed_from c.in_ok-left.left.items in
-    let here : HasVersions (latest_in begun) left mid = rw c.deref.ensures.value at step.leaves in
+    let here : HasVersions (latest_in begun) left mid = rw c.deref-2.ensures.value at step.leaves in
     let has : HasVersions (latest_in first) left mid = subst (λ latest. HasVersions latest left mid) (begun_latest first begun c.transaction-tx.ensures.begun) here in
     let base = step.base ∙ begun_base first begun c.transaction-tx.ensures.begun in
     let L = AreSwept c.args.from (placed_of old) in
@@ -58,7 +67,7 @@ returns-clause-call c =
     let end = c.commit.new.self.0 in
     let step = c.in_ok-refill_dead.ensures.step in
     let left = map placed_from c.in_ok-left.left.items in
-    let here : HasVersions (latest_in begun) left mid = rw c.deref.ensures.value at step.leaves in
+    let here : HasVersions (latest_in begun) left mid = rw c.deref-2.ensures.value at step.leaves in
     let has : HasVersions (latest_in first) left mid = subst (λ latest. HasVersions latest left mid) (begun_latest first begun c.transaction-tx.ensures.begun) here in
     let base = step.base ∙ begun_base first begun c.transaction-tx.ensures.begun in
     let L = AreSwept c.args.from (placed_of old) in
@@ -76,7 +85,7 @@ returns-clause-rest c =
     let mid = c.refill_dead.new.tx.conn.now in
     let end = c.commit.new.self.0 in
     let left = map placed_from c.in_ok-left.left.items in
-    let here : HasVersions (latest_in begun) left mid = rw c.deref.ensures.value at c.in_ok-refill_dead.ensures.step.leaves in
+    let here : HasVersions (latest_in begun) left mid = rw c.deref-2.ensures.value at c.in_ok-refill_dead.ensures.step.leaves in
     let has : HasVersions (latest_in first) left mid = subst (λ latest. HasVersions latest left mid) (begun_latest first begun c.transaction-tx.ensures.begun) here in
     let rest : OnOk c.commit.result (OthersAreEmpty First end)
     = dead_rest c.args.from old first mid c.in_ok-left.ensures.same left c.in_ok-left.ensures.left c.requires has end c.commit.result c.commit.ensures.ended (c.commit.ensures.ok (memory_is_clean end)) c.in_ok-refill_dead.ensures.rest in
@@ -93,7 +102,7 @@ returns-clause-count c =
     let end = c.commit.new.self.0 in
     let rows = c.in_ok-left.left.items in
     let left = map placed_from rows in
-    let here : HasVersions (latest_in begun) left mid = rw c.deref.ensures.value at c.in_ok-refill_dead.ensures.step.leaves in
+    let here : HasVersions (latest_in begun) left mid = rw c.deref-2.ensures.value at c.in_ok-refill_dead.ensures.step.leaves in
     let has : HasVersions (latest_in first) left mid = subst (λ latest. HasVersions latest left mid) (begun_latest first begun c.transaction-tx.ensures.begun) here in
     let count : OnOk c.commit.result (length left ≡ length (dead_in end))
     = dead_count c.args.from old first mid c.in_ok-left.ensures.same left c.in_ok-left.ensures.left c.requires has end c.commit.result c.commit.ensures.ended (c.commit.ensures.ok (memory_is_clean end)) in
@@ -102,3 +111,21 @@ returns-clause-count c =
     let all : length rows ≡ length (dead_in end) = sym (length-map rows placed_from) ∙ done in
     let counted : c.len.result ≡ length rows = search rules in
     subst (λ h. c.len.result ≡ length (dead_in h)) same (counted ∙ all)
+
+pub returns-clause-marked : goal.returns-clause-marked
+returns-clause-marked c =
+    let old = c.args.conn.now in
+    let first = c.read_all_left.new.conn in
+    let begun = c.transaction-tx.result.conn.now in
+    let mid = c.refill_dead.new.tx.conn.now in
+    let end = c.commit.new.self.0 in
+    let left = map placed_from c.in_ok-left.left.items in
+    let P : Placed → Type 0 = IsMarked c.in_ok-marks.marks (segment_place First) in
+    let here : HasVersions (latest_in begun) left mid = rw c.deref-2.ensures.value at c.in_ok-refill_dead.ensures.step.leaves in
+    let has : HasVersions (latest_in first) left mid = subst (λ latest. HasVersions latest left mid) (begun_latest first begun c.transaction-tx.ensures.begun) here in
+    let each : AllByRecursion P left = rw c.deref.ensures.value at c.in_ok-marks.ensures in
+    let marked : OnOk c.commit.result (AllByRecursion P (dead_in end))
+    = dead_each_kept c.args.from old first mid c.in_ok-left.ensures.same left c.in_ok-left.ensures.left c.requires has P end c.commit.result c.commit.ensures.ended (c.commit.ensures.ok (memory_is_clean end)) each in
+    let same : end ≡ c.conn-2-1.given.0 = search rules in
+    let done : AllByRecursion P (dead_in end) = subst (λ r. OnOk r (AllByRecursion P (dead_in end))) c.in_ok-commit.was marked in
+    subst (λ h. AllByRecursion P (dead_in h)) same done

@@ -9,6 +9,7 @@ use Rattle.txc_rows.specs.Texts.{segments}
 use Rattle.txc_rows.specs.Kept.{dead_among, used_of}
 use Rattle.txc_rows.proofs.FindLemmas.{asked, of_all, found_latest, latest_many, found_dead, dead_many, found_all, passed_error}
 use Rattle.txc_rows.proofs.SweepCalls.{same_then}
+use Rattle.txc_rows.proofs.MarkLemmas.{marked_by}
 use Rattle.txc_rows.proofs.StoreLemmas.{still_empty}
 use Rattle.txc_rows.proofs.store.find_all.Goals as goal
 
@@ -24,6 +25,9 @@ loop-segment-init c =
 
 pub find_dead-requires-clause-empty : goal.find_dead-requires-clause-empty
 find_dead-requires-clause-empty c = still_empty (used_of c.args.tally.now) c.args.conn.now c.loop-segment.conn c.loop-segment.invariant.same.trees c.requires.empty
+
+pub find_dead-requires-clause-marked : goal.find_dead-requires-clause-marked
+find_dead-requires-clause-marked c = marked_by c.args.tally.now.marks c.args.conn.now c.loop-segment.conn c.loop-segment.invariant.same.trees c.requires.marked
 
 pub returns-in_err-find_dead-clause-refused : goal.returns-in_err-find_dead-clause-refused
 returns-in_err-find_dead-clause-refused c = λ many.

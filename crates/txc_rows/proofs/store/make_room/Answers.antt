@@ -1,7 +1,8 @@
-use Rattle.std.proofs.Common.{◌≤◌, arith, rules}
+use Rattle.std.proofs.Common.{◌≤◌, subst, sym, arith, rules}
 use Rattle.std.proofs.lemmas.Result.{err_from_is_err_and}
 use Rattle.txc_rows.specs.Placed.{AreSwept, AreLeft}
-use Rattle.txc_rows.specs.Kept.{placed_of, used_of}
+use Rattle.txc_rows.specs.Kept.{placed_of, used_of, AreMarked}
+use Rattle.txc_rows.proofs.MarkLemmas.{marked_by, first_marked}
 use Rattle.txc_rows.proofs.StoreLemmas.{still_empty, fewer_empty, first_alone, room_refused, room_all, room_dead}
 use Rattle.txc_rows.proofs.store.make_room.Goals as goal
 
@@ -25,7 +26,7 @@ returns-in_err-kept-clause-room c =
 
 pub returns-in_err-kept-clause-empty : goal.returns-in_err-kept-clause-empty
 returns-in_err-kept-clause-empty c = λ empty.
-    fewer_empty (used_of c.args.tally.now) (used_of c.has_room.new.self) c.sweep_dead.new.conn c.has_room.ensures (still_empty (used_of c.args.tally.now) c.args.conn.now c.sweep_dead.new.conn c.in_err-kept.ensures.call.unchanged empty)
+    fewer_empty (used_of c.args.tally.now) (used_of c.has_room.new.self) c.sweep_dead.new.conn c.has_room.ensures.more (still_empty (used_of c.args.tally.now) c.args.conn.now c.sweep_dead.new.conn c.in_err-kept.ensures.call.unchanged empty)
 
 pub returns-in_ok-kept-clause-room : goal.returns-in_ok-kept-clause-room
 returns-in_ok-kept-clause-room c =
@@ -37,3 +38,19 @@ returns-then-stamp-kept_from-clause-empty c = λ _. first_alone _ _ c.sweep_all.
 
 pub returns-in_ok-kept-clause-empty : goal.returns-in_ok-kept-clause-empty
 returns-in_ok-kept-clause-empty c = λ _. first_alone _ _ c.sweep_dead.new.conn (search rules) c.in_ok-kept.ensures.count c.in_ok-kept.ensures.rest
+
+pub returns-in_err-rows-clause-marked : goal.returns-in_err-rows-clause-marked
+returns-in_err-rows-clause-marked c = marked_by c.args.tally.now.marks c.args.conn.now c.sweep_all.new.conn c.in_err-rows.ensures.call.unchanged
+
+pub returns-then-stamp-kept_from-clause-marked : goal.returns-then-stamp-kept_from-clause-marked
+returns-then-stamp-kept_from-clause-marked c = λ _. first_marked _ _ c.sweep_all.new.conn (search rules) c.in_ok-rows.ensures.marked c.in_ok-rows.ensures.rest
+
+pub returns-in_err-kept-clause-marked : goal.returns-in_err-kept-clause-marked
+returns-in_err-kept-clause-marked c = λ marked.
+    subst (λ m. AreMarked m c.sweep_dead.new.conn) (sym c.has_room.ensures.marks) (marked_by c.args.tally.now.marks c.args.conn.now c.sweep_dead.new.conn c.in_err-kept.ensures.call.unchanged marked)
+
+pub returns-in_ok-kept-clause-marked : goal.returns-in_ok-kept-clause-marked
+returns-in_ok-kept-clause-marked c = λ _. first_marked _ _ c.sweep_dead.new.conn (search rules) c.in_ok-kept.ensures.marked c.in_ok-kept.ensures.rest
+
+pub returns-else-not-has_room-clause-marked : goal.returns-else-not-has_room-clause-marked
+returns-else-not-has_room-clause-marked c = subst (λ m. AreMarked m c.args.conn.now) (sym c.has_room.ensures.marks)

@@ -1,5 +1,6 @@
 use Rattle.std.proofs.Common.{rules}
 use Rattle.txc_rows.specs.Kept.{used_of}
+use Rattle.txc_rows.proofs.MarkLemmas.{marked_by, first_marked}
 use Rattle.txc_rows.proofs.StoreLemmas.{all_swept, still_empty, first_alone}
 use Rattle.txc_rows.proofs.store.sweep.Goals as goal
 
@@ -17,3 +18,15 @@ returns-in_ok-rows-clause-empty c = λ _. first_alone _ _ c.sweep_all.new.conn (
 
 pub returns-in_ok-kept-clause-empty : goal.returns-in_ok-kept-clause-empty
 returns-in_ok-kept-clause-empty c = λ _. first_alone _ _ c.sweep_dead.new.conn (search rules) c.in_ok-kept.ensures.count c.in_ok-kept.ensures.rest
+
+pub returns-in_err-rows-clause-marked : goal.returns-in_err-rows-clause-marked
+returns-in_err-rows-clause-marked c = marked_by c.args.tally.now.marks c.args.conn.now c.sweep_all.new.conn c.in_err-rows.ensures.call.unchanged
+
+pub returns-in_err-kept-clause-marked : goal.returns-in_err-kept-clause-marked
+returns-in_err-kept-clause-marked c = marked_by c.args.tally.now.marks c.args.conn.now c.sweep_dead.new.conn c.in_err-kept.ensures.call.unchanged
+
+pub returns-in_ok-rows-clause-marked : goal.returns-in_ok-rows-clause-marked
+returns-in_ok-rows-clause-marked c = λ _. first_marked _ _ c.sweep_all.new.conn (search rules) c.in_ok-rows.ensures.marked c.in_ok-rows.ensures.rest
+
+pub returns-in_ok-kept-clause-marked : goal.returns-in_ok-kept-clause-marked
+returns-in_ok-kept-clause-marked c = λ _. first_marked _ _ c.sweep_dead.new.conn (search rules) c.in_ok-kept.ensures.marked c.in_ok-kept.ensures.rest

@@ -1,8 +1,9 @@
 use Rattle.std.proofs.Common.{◌≡◌, ◌==◌, false, length, filter, sym, ap, ◌∙◌}
 use borrow.Author.Tests.{ne_eqb}
 use Rattle.txc_rows.specs.Placed.{has_key, put_dead}
-use Rattle.txc_rows.specs.Kept.{latest_in, dead_in, HasVersions}
+use Rattle.txc_rows.specs.Kept.{latest_in, dead_in, HasVersions, StaysMarked}
 use Rattle.txc_rows.proofs.SegmentLemmas.{not_latest}
+use Rattle.txc_rows.proofs.MarkLemmas.{stay_itself, more_marks, marked_others}
 use Rattle.txc_rows.proofs.ChangeSteps.{put_first, put_again}
 use Rattle.txc_rows.proofs.writes.put_version.Goals as goal
 
@@ -49,3 +50,27 @@ returns-in_ok-add_latest-clause-none c = λ zero s off. c.in_ok-add_latest.ensur
 
 pub returns-in_ok-renew_latest-clause-none : goal.returns-in_ok-renew_latest-clause-none
 returns-in_ok-renew_latest-clause-none c = λ zero s off. c.in_ok-renew_latest.ensures.others s off ∙ c.in_ok-copied.ensures.none zero s off
+
+pub returns-in_err-copied-clause-more : goal.returns-in_err-copied-clause-more
+returns-in_err-copied-clause-more c = stay_itself c.args.marks.now
+
+pub returns-in_err-add_latest-clause-more : goal.returns-in_err-add_latest-clause-more
+returns-in_err-add_latest-clause-more c = stay_itself c.args.marks.now
+
+pub returns-in_ok-add_latest-clause-more : goal.returns-in_ok-add_latest-clause-more
+returns-in_ok-add_latest-clause-more c = stay_itself c.args.marks.now
+
+pub returns-in_ok-add_latest-clause-marked : goal.returns-in_ok-add_latest-clause-marked
+returns-in_ok-add_latest-clause-marked c = λ marked.
+    let m = c.args.marks.now in
+    let mid = c.copy_latest.new.tx.conn.now in
+    marked_others m mid c.add_latest.new.tx.conn.now c.in_ok-add_latest.ensures.others (marked_others m c.args.tx.now.conn.now mid (c.in_ok-copied.ensures.none c.if-copied-eq0.true) marked)
+
+pub returns-in_ok-renew_latest-clause-marked : goal.returns-in_ok-renew_latest-clause-marked
+returns-in_ok-renew_latest-clause-marked c = λ marked.
+    let old = c.args.tx.now.conn.now in
+    let mid = c.copy_latest.new.tx.conn.now in
+    let row = c.args.row.now in
+    let m = c.set_row.new.self in
+    let copied : StaysMarked c.args.segment row.table row.id row.group old mid = rw (c.table.ensures, c.id.ensures, c.group.ensures) at (c.in_ok-copied.ensures.marked) in
+    marked_others m mid c.renew_latest.new.tx.conn.now c.in_ok-renew_latest.ensures.others (copied m c.set_row.ensures.set (more_marks c.args.marks.now m old c.set_row.ensures.more marked))

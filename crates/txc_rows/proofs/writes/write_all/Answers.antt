@@ -1,16 +1,55 @@
-use Rattle.std.proofs.Common.{◌≡◌, ◌+◌, ◌∷◌, drop, length, sym, subst, ap, ◌∙◌, rules, refl, Ok, Err, arith}
+use Rattle.std.proofs.Common.{◌≡◌, ℕ, true, ◌+◌, ◌++◌, ◌∷◌, drop, length, sym, subst, ap, ◌∙◌, rules, refl, Ok, Err, arith}
 use Rattle.std.proofs.lemmas.Result.{err_from_is_err_and}
 use Rattle.std.proofs.lemmas.List.{drop_all, at_drop_more}
-use Rattle.sqlite.specs.Held.{state}
+use Rattle.sqlite.specs.Effect.{Database}
+use Rattle.sqlite.specs.Held.{Held, state}
 use Rattle.sqlite.specs.Steps.{over_memory}
 use Rattle.sqlite.proofs.Callers.{memory_is_clean}
 use Rattle.txc_rows.specs.Versions.{after_net}
-use Rattle.txc_rows.specs.Placed.{AreWritten}
+use Rattle.txc_rows.specs.Placed.{versions_by_place, AreBelow, AreWellPlaced, AreWritten}
 use Rattle.sqlite.specs.Tree.{Trees}
-use Rattle.txc_rows.specs.Texts.{tree_of}
-use Rattle.txc_rows.specs.Kept.{IsCall, versions_of, OthersStay}
+use Rattle.sqlite_trees.specs.declared.memory.MemStore.{MemStore}
+use Rattle.txc_rows.specs.Texts.{segments, tree_of}
+use Rattle.txc_rows.specs.Stored.{placed_all, AreVersionRows}
+use Rattle.txc_rows.specs.Kept.{IsCall, IsKept, HasWritten, AreStoredIn, dead_among, placed_of, versions_of, OthersStay, AreMarked}
+use Rattle.txc_rows.proofs.MarkLemmas.{stay_itself, stay_then, marked_by}
 use Rattle.txc_rows.proofs.HeldLemmas.{undone_call, refused_call, ended_call, committed_kept, recast_ok, recast_err}
 use Rattle.txc_rows.proofs.writes.write_all.Goals as goal
+
+-- a transaction begins with what there is
+begun_written : (next : ℕ) (h tx : Held MemStore) → (state over_memory tx).now ≡ (state over_memory h).now → IsKept h → AreBelow next (placed_of h) → HasWritten (versions_of tx) next tx
+begun_written next h tx now kept below =
+    let same : (state over_memory h).now.trees ≡ (state over_memory tx).now.trees = ap (λ (d : Database). d.trees) (sym now) in
+    record {
+      tables = record {
+        schema = ap (λ (d : Database). d.schema) now ∙ kept.tables.schema;
+        latest = subst (λ (t : Trees). AreVersionRows (t 0)) same kept.tables.latest;
+        dead = subst (λ (t : Trees). AreStoredIn t segments) same kept.tables.dead;
+      };
+      apart = subst (λ (t : Trees). AreWellPlaced (placed_all (t 0)) (dead_among t segments)) same kept.apart;
+      written = record { versions_are = refl; below = subst (λ (t : Trees). AreBelow next (placed_all (t 0) ++ dead_among t segments)) same below };
+    }
+
+pub loop-change-init : goal.loop-change-init
+loop-change-init c =
+    let old = c.args.conn.now in
+    let tx = c.transaction-tx.result.conn.now in
+    let begun : tx ≡ record old { in_transaction = true } = c.transaction-tx.ensures.begun in
+    let now : (state over_memory tx).now ≡ (state over_memory old).now = ap (λ (h : Held MemStore). (state over_memory h).now) begun in
+    let trees : (state over_memory tx).now.trees ≡ (state over_memory old).now.trees = ap (λ (d : Database). d.trees) now in
+    record {
+      written = begun_written c.args.place old tx now c.requires.kept c.requires.below;
+      inside = ap (λ (h : Held MemStore). h.in_transaction) begun;
+      next = omega arith;
+      within = omega arith;
+      base = ap (λ (h : Held MemStore). (state over_memory h).committed) begun;
+      rest = ap (λ (t : Trees). after_net c.args.stamp c.args.net.now (versions_by_place (placed_all (t 0) ++ dead_among t segments))) trees;
+      same = refl;
+      others = λ s off. ap (λ (t : Trees). t (tree_of s)) trees;
+      none = λ zero s off. ap (λ (t : Trees). t (tree_of s)) trees;
+      more = stay_itself c.args.marks.now;
+      marked = marked_by c.args.marks.now old tx trees;
+    }
 
 pub returns-in_err-one-clause-call : goal.returns-in_err-one-clause-call
 returns-in_err-one-clause-call c =
@@ -81,6 +120,8 @@ loop-change-preserved c =
       rest = ap (after_net c.args.stamp (drop (at + 1) net)) left.written.versions_are ∙ next ∙ i.rest;
       same = c.in_ok-one.ensures.same_reference ∙ i.same;
       others = λ s off. c.in_ok-one.ensures.others s off ∙ i.others s off;
+      more = stay_then c.args.marks.now c.loop-change.marks c.write_change.new.marks i.more c.in_ok-one.ensures.more;
+      marked = λ marked. c.in_ok-one.ensures.marked (i.marked marked);
       none = λ zero s off. c.in_ok-one.ensures.none (c.and-written.ensures.next zero) s off ∙ i.none (c.and-written.ensures.first zero) s off;
     }
 
@@ -105,3 +146,21 @@ returns-clause-none c = λ zero.
     let done = committed_kept mid end i.written.tables i.written.apart c.commit.ensures.ended (c.in_ok-commit.ensures.ok (memory_is_clean end)).1 in
     let stay : OthersStay 0 old end = λ s off. ap (λ (t : Trees). t (tree_of s)) done.trees ∙ i.none zero s off in
     subst (OthersStay 0 old) same stay
+
+pub returns-in_err-one-clause-more : goal.returns-in_err-one-clause-more
+returns-in_err-one-clause-more c = stay_then c.args.marks.now c.loop-change.marks c.write_change.new.marks c.loop-change.invariant.more c.in_err-one.ensures.more
+
+pub returns-clause-marked : goal.returns-clause-marked
+returns-clause-marked c = λ marked.
+    let mid = c.loop-change.tx.conn.now in
+    let end = c.commit.new.self.0 in
+    let same : end ≡ c.conn-2-1.given.0 = search rules in
+    let i = c.loop-change.invariant in
+    let done = committed_kept mid end i.written.tables i.written.apart c.commit.ensures.ended (c.in_ok-commit.ensures.ok (memory_is_clean end)).1 in
+    subst (AreMarked c.loop-change.marks) same (marked_by c.loop-change.marks mid end done.trees (i.marked marked))
+
+pub returns-in_err-commit-clause-more : goal.returns-in_err-commit-clause-more
+returns-in_err-commit-clause-more c = c.loop-change.invariant.more
+
+pub returns-clause-more : goal.returns-clause-more
+returns-clause-more c = c.loop-change.invariant.more

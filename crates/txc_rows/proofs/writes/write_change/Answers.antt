@@ -2,6 +2,7 @@ use Rattle.std.proofs.Common.{◌+◌, sym, subst}
 use Rattle.txc_rows.specs.Versions.{after_write}
 use Rattle.txc_rows.specs.Kept.{versions_of, HasWritten}
 use Rattle.txc_rows.proofs.SegmentLemmas.{not_latest}
+use Rattle.txc_rows.proofs.MarkLemmas.{stay_itself, marked_others}
 use Rattle.txc_rows.proofs.ChangeSteps.{removed_step}
 use Rattle.txc_rows.proofs.writes.write_change.Goals as goal
 
@@ -22,3 +23,12 @@ returns-in_ok-ended-in-Remove-clause-others c = λ s off. c.in_ok-ended-in-Remov
 
 pub returns-in_ok-ended-in-Remove-clause-none : goal.returns-in_ok-ended-in-Remove-clause-none
 returns-in_ok-ended-in-Remove-clause-none c = λ zero s off. c.in_ok-ended-in-Remove.ensures.others s off
+
+pub returns-in_err-ended-in-Remove-clause-more : goal.returns-in_err-ended-in-Remove-clause-more
+returns-in_err-ended-in-Remove-clause-more c = stay_itself c.args.marks.now
+
+pub returns-in_ok-ended-in-Remove-clause-more : goal.returns-in_ok-ended-in-Remove-clause-more
+returns-in_ok-ended-in-Remove-clause-more c = stay_itself c.args.marks.now
+
+pub returns-in_ok-ended-in-Remove-clause-marked : goal.returns-in_ok-ended-in-Remove-clause-marked
+returns-in_ok-ended-in-Remove-clause-marked c = λ marked. marked_others c.args.marks.now c.args.tx.now.conn.now c.end_version.new.tx.conn.now c.in_ok-ended-in-Remove.ensures.others marked

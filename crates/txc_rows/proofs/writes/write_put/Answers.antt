@@ -2,6 +2,7 @@ use Rattle.std.proofs.Common.{map, ◌∙◌}
 use Rattle.txc_rows.specs.Placed.{closed_placed}
 use Rattle.txc_rows.specs.Kept.{latest_in, dead_in, HasVersions}
 use Rattle.txc_rows.proofs.SegmentLemmas.{not_latest}
+use Rattle.txc_rows.proofs.MarkLemmas.{stay_itself, marked_others}
 use Rattle.txc_rows.proofs.ChangeSteps.{ended_is_apart, put_step}
 use Rattle.txc_rows.proofs.writes.write_put.Goals as goal
 
@@ -32,3 +33,9 @@ returns-clause-others c = λ s off. c.in_ok-copied.ensures.others s off ∙ c.in
 
 pub returns-clause-none : goal.returns-clause-none
 returns-clause-none c = λ zero s off. c.in_ok-copied.ensures.none zero s off ∙ c.in_ok-ended.ensures.others s off
+
+pub returns-in_err-ended-clause-more : goal.returns-in_err-ended-clause-more
+returns-in_err-ended-clause-more c = stay_itself c.args.marks.now
+
+pub returns-clause-marked : goal.returns-clause-marked
+returns-clause-marked c = λ marked. c.in_ok-copied.ensures.marked (marked_others c.args.marks.now c.args.tx.now.conn.now c.end_version.new.tx.conn.now c.in_ok-ended.ensures.others marked)
