@@ -1,6 +1,6 @@
 //! The bytes of a cached result.
-ghost use Rattle.std.specs.Prelude.{◌≡◌, ◌≤◌, ◌<◌, ◌↔◌, [], ◌∷◌, length, encode_utf8, IsSome, IfSome, IfOk, vec_len};
-ghost use Rattle.txc_node.specs.Texts.{digit_of};
+ghost use Rattle.std.specs.Prelude.{◌≡◌, ◌≤◌, ◌↔◌, length, IsSome, IfSome, IfOk, vec_len};
+ghost use Rattle.txc_node.specs.Texts.{digits_of};
 
 use std::alloc::{AllocError, Global};
 use std::fmt;
@@ -64,33 +64,52 @@ impl Value {
     }
 }
 
-// A hexadecimal digit.
-fn digit(n: u8) -> char
-    requires { n < 16 }
-    ensures value { result ≡ digit_of n }
-    ensures text { encode_utf8 result ≡ digit_of n ∷ [] }
-{
-    if n < 10 {
-        char::from(b'0' + n)
-    } else {
-        char::from(b'a' + (n - 10))
-    }
+// The text of two digits, by the value of the second.
+macro_rules! by_low {
+    ($low:expr, $high:literal) => {
+        match $low {
+            0 => concat!($high, "0"),
+            1 => concat!($high, "1"),
+            2 => concat!($high, "2"),
+            3 => concat!($high, "3"),
+            4 => concat!($high, "4"),
+            5 => concat!($high, "5"),
+            6 => concat!($high, "6"),
+            7 => concat!($high, "7"),
+            8 => concat!($high, "8"),
+            9 => concat!($high, "9"),
+            10 => concat!($high, "a"),
+            11 => concat!($high, "b"),
+            12 => concat!($high, "c"),
+            13 => concat!($high, "d"),
+            14 => concat!($high, "e"),
+            _ => concat!($high, "f"),
+        }
+    };
 }
 
-// The two hexadecimal digits of a byte.
-#[derive(Drop)]
-struct Digits(u8);
-
-impl fmt::Display for Digits {
-    ghost use Rattle.std.specs.Prelude.{Some};
-    ghost use Rattle.txc_node.specs.Texts.{digits_of};
-
-    ghost output = { λ d. Some (digits_of d.0) };
-
-    fn fmt<W: fmt::Write>(&self, f: &mut fmt::Formatter<W>) -> fmt::Result {
-        let high = digit(self.0 / 16);
-        let low = digit(self.0 % 16);
-        write!(f, "{high}{low}")
+// The two hexadecimal digits of a byte, in one text, so that both are written at once.
+fn digits(byte: u8) -> &'static str
+    ensures { result.now ≡ digits_of byte }
+{
+    let low = byte % 16;
+    match byte / 16 {
+        0 => by_low!(low, "0"),
+        1 => by_low!(low, "1"),
+        2 => by_low!(low, "2"),
+        3 => by_low!(low, "3"),
+        4 => by_low!(low, "4"),
+        5 => by_low!(low, "5"),
+        6 => by_low!(low, "6"),
+        7 => by_low!(low, "7"),
+        8 => by_low!(low, "8"),
+        9 => by_low!(low, "9"),
+        10 => by_low!(low, "a"),
+        11 => by_low!(low, "b"),
+        12 => by_low!(low, "c"),
+        13 => by_low!(low, "d"),
+        14 => by_low!(low, "e"),
+        _ => by_low!(low, "f"),
     }
 }
 
@@ -107,8 +126,7 @@ impl fmt::Display for Value {
             return write!(f, "-");
         }
         for byte in bytes {
-            let digits = Digits(*byte);
-            write!(f, "{digits}")?;
+            f.write_str(digits(*byte))?;
         }
         Ok(())
     }
