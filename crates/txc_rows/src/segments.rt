@@ -6,7 +6,7 @@ ghost use Rattle.txc_rows.specs.Texts.{segment_place};
 use crate::texts::Segment;
 
 /// A segment takes so many versions at least.
-const LEAST_ROOM: usize = 1024;
+const LEAST_ROOM: usize = 128;
 
 /// Which segments are in use, the others being empty, and what they hold.
 #[derive(Clone, Copy)]

@@ -14,7 +14,7 @@ use sqlite::Error;
 use std::alloc::Global;
 
 /// The segments are made anew where so many of their versions are gone at least.
-const LEAST_DEAD: usize = 256;
+const LEAST_DEAD: usize = 128;
 
 /// All tables are made anew where so many of the last versions are gone at least.
 const LEAST_ENDED: usize = 1024;
