@@ -1,5 +1,5 @@
 -- What is found of the versions that have not died.
-use Rattle.std.proofs.Common.{◌≡◌, ◌≢◌, ℕ, ◌+◌, ◌≤◌, nat_le, List, [], ◌∷◌, ◌++◌, map, filter, length, Bool, true, false, cond, Option, Some, None, Ok, Err, Result, Vec, Global, IfOk, OnOk, refl, ap, subst, ◌∙◌, append-nil, length-append, arith}
+use Rattle.std.proofs.Common.{◌≡◌, ◌≢◌, ℕ, ◌+◌, ◌≤◌, nat_le, List, [], ◌∷◌, ◌++◌, map, filter, length, Bool, true, false, cond, Option, Some, None, is_none, not, Ok, Err, Result, Vec, Global, IfOk, OnOk, refl, ap, subst, ◌∙◌, append-nil, length-append, arith}
 use Rattle.std.proofs.lemmas.Bool.Decides.{nat_tests}
 use Rattle.std.specs.List.{AllByRecursion}
 use Rattle.std.specs.List.Sorted.{IsPermutation}
@@ -14,7 +14,7 @@ use Rattle.txc_rows.specs.declared.store_error.StoreError.{StoreError}
 use Rattle.txc_rows.specs.declared.version.Versioned.{Versioned}
 use Rattle.txc_rows.specs.declared.query.Query.{Query}
 use Rattle.txc_rows.specs.declared.texts.Source.TheVariants.{Latest}
-use Rattle.txc_rows.specs.Versions.{suits, current, is_current, purged}
+use Rattle.txc_rows.specs.Versions.{suits, current, is_current, purged, died_by}
 use Rattle.txc_rows.specs.Placed.{Placed, version_of, is_left, left_from}
 use Rattle.txc_rows.specs.Found.{Finds}
 use Rattle.txc_rows.specs.Says.{AreUpTo}
@@ -99,11 +99,12 @@ low_is a b low = grind (arith, nat_tests)
 -- where nothing has happened after a stamp, those that have not died are those that a purge up to it leaves
 no_later : (t : ℕ) (vs : List Versioned) → AreUpTo t vs → current vs ≡ purged t vs
 no_later t [] all = refl
-no_later t (v ∷ vs) all = go v.died refl (no_later t vs all.1)
+no_later t (v ∷ vs) all = go v.died all.0.1 (no_later t vs all.1)
   where
-    go : (d : Option ℕ) → v.died ≡ d → current vs ≡ purged t vs → current (v ∷ vs) ≡ purged t (v ∷ vs)
-    go None e same = rw e (ap (λ xs. v ∷ xs) same)
-    go (Some d) e same = rw (e, low_is d t (all.0.1 d e)) same
+    go : (d : Option ℕ) → ((s : ℕ) → d ≡ Some s → s ≤ t) → current vs ≡ purged t vs
+        → cond (is_none d) (v ∷ current vs) (current vs) ≡ cond (not (died_by t d)) (v ∷ purged t vs) (purged t vs)
+    go None low same = ap (λ xs. v ∷ xs) same
+    go (Some d) low same = rw (low_is d t (low d refl)) same
 
 newest_answers : (q : Query) (vs found : List Versioned) → Finds q (current vs) found → AnswersNewest q vs found
 newest_answers q vs found finds states horizon newest keeps =

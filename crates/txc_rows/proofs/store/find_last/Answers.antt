@@ -1,5 +1,6 @@
-use Rattle.std.proofs.Common.{◌≡◌, Err, ap, subst}
+use Rattle.std.proofs.Common.{◌+◌, ◌≤◌, Err, length, ap, arith, rules}
 use Rattle.txc_rows.specs.declared.store_error.StoreError.TheVariants.{TooManyRows}
+use Rattle.txc_rows.specs.declared.store_error.TheConstants.{MAX_MATCHING}
 use Rattle.txc_rows.specs.Placed.{left_from}
 use Rattle.txc_rows.specs.Kept.{versions_of, used_of}
 use Rattle.txc_rows.proofs.FindLemmas.{latest_many, passed_error}
@@ -27,14 +28,16 @@ pub returns-then-are_few_with-clause-finds : goal.returns-then-are_few_with-clau
 returns-then-are_few_with-clause-finds c = last_current c.args.query.now c.args.from c.args.conn.now c.requires.kept c.new-last.result.items c.find.new.found.items c.new-last.ensures.items c.in_ok-find.ensures.finds
 
 pub returns-then-are_few_with-clause-bound : goal.returns-then-are_few_with-clause-bound
-returns-then-are_few_with-clause-bound c = last_few c.args.query.now c.args.from c.args.conn.now c.requires.kept c.new-last.result.items c.find.new.found.items c.new-last.ensures.items c.in_ok-find.ensures.finds c.args.tally.now.dead c.requires.few (search rules)
+returns-then-are_few_with-clause-bound c =
+    let room : length c.find.new.found.items + c.args.tally.now.dead ≤ MAX_MATCHING = search (arith, rules) in
+    last_few c.args.query.now c.args.from c.args.conn.now c.requires.kept c.new-last.result.items c.find.new.found.items c.new-last.ensures.items c.in_ok-find.ensures.finds c.args.tally.now.dead c.requires.few room
 
 -- they are not
-pub find_all-2-requires-clause-empty : goal.find_all-2-requires-clause-empty
-find_all-2-requires-clause-empty c = still_empty (used_of c.args.tally.now) c.args.conn.now c.find.new.conn c.in_ok-find.ensures.same.trees c.requires.empty
+pub find_all-requires-2-clause-empty : goal.find_all-requires-2-clause-empty
+find_all-requires-2-clause-empty c = still_empty (used_of c.args.tally.now) c.args.conn.now c.find.new.conn c.in_ok-find.ensures.same.trees c.requires.empty
 
-pub find_all-2-requires-clause-marked : goal.find_all-2-requires-clause-marked
-find_all-2-requires-clause-marked c = marked_by c.args.tally.now.marks c.args.conn.now c.find.new.conn c.in_ok-find.ensures.same.trees c.requires.marked
+pub find_all-requires-2-clause-marked : goal.find_all-requires-2-clause-marked
+find_all-requires-2-clause-marked c = marked_by c.args.tally.now.marks c.args.conn.now c.find.new.conn c.in_ok-find.ensures.same.trees c.requires.marked
 
 pub returns-clause-same : goal.returns-clause-same
 returns-clause-same c = same_then c.args.conn.now c.find.new.conn c.find_all-2.new.conn c.in_ok-find.ensures.same c.find_all-2.ensures.same
