@@ -59,7 +59,7 @@ impl DbCore {
     {
         let newest = self.front.newest();
         let query = Query::ById(table, id);
-        let versions = self.store.matching(&query)?;
+        let versions = self.store.current(&query)?;
         Ok(rows_at(alloc, &versions, &query, newest)?)
     }
 

@@ -35,6 +35,8 @@ pub mod KeepingLemmas
 pub mod Listed
 pub mod FindLemmas
 pub mod MarkLemmas
+pub mod CountLemmas
+pub mod CurrentLemmas
 pub mod StoreLemmas
 pub mod UsesLemmas
 pub mod Offered

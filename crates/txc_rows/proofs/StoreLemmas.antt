@@ -18,9 +18,11 @@ use Rattle.txc_rows.specs.declared.texts.Segment.TheVariants.{First}
 use Rattle.txc_rows.specs.declared.tally.Tally.{Tally}
 use Rattle.txc_rows.specs.declared.writes.Written.{Written}
 use Rattle.txc_rows.specs.Texts.{segment_place, tree_of}
-use Rattle.txc_rows.specs.Kept.{latest_in, dead_in, placed_of, versions_of, used_of, AreEmptyBefore, AreMarked, OthersAreEmpty, OthersStay, IsKept, IsCall, IsSame, IsRoom, IsStore}
+use Rattle.txc_rows.specs.Kept.{latest_in, dead_in, placed_of, versions_of, used_of, AreEmptyBefore, AreMarked, AreAtMost, CameAtMost, OthersAreEmpty, OthersStay, IsKept, IsCall, IsSame, IsRoom, IsStore}
 use Rattle.txc_rows.specs.declared.marks.Marks.{Marks}
 use Rattle.txc_rows.specs.Marked.{StayMarked}
+use Rattle.txc_rows.specs.declared.store_error.TheConstants.{MAX_MATCHING}
+use Rattle.txc_rows.proofs.CountLemmas.{still_most, more_counted}
 use Rattle.txc_rows.proofs.MarkLemmas.{more_marks, marked_by, all_none_marked}
 use Rattle.txc_rows.proofs.SegmentLemmas.{not_latest, all_empty}
 use Rattle.txc_rows.proofs.HeldLemmas.{placed_by, placed_same}
@@ -37,7 +39,7 @@ no_dead : (h : Held MemStore) → length (placed_of h) ≡ 0 → length (dead_in
 no_dead h none = omega (arith, none, length-append (latest_in h) (dead_in h))
 
 pub new_store : (t : Tally) (h : Held MemStore) → IsKept h → placed_of h ≡ [] → IsStore 0 t h
-new_store t h kept empty = record { kept = kept; below = subst (AreBelow 0) (sym empty) tt; empty = none_used (used_of t) h (no_dead h (ap length empty)); marked = all_none_marked t.marks h (all_empty (state over_memory h).now.trees (no_dead h (ap length empty))) }
+new_store t h kept empty = record { kept = kept; below = subst (AreBelow 0) (sym empty) tt; empty = none_used (used_of t) h (no_dead h (ap length empty)); marked = all_none_marked t.marks h (all_empty (state over_memory h).now.trees (no_dead h (ap length empty))); few = λ _. omega (arith, no_dead h (ap length empty)) }
 
 pub new_view : (h : Held MemStore) → placed_of h ≡ [] → left_from 0 (versions_of h) ≡ []
 new_view h empty = ap (λ xs. left_from 0 (versions_by_place xs)) empty
@@ -83,6 +85,7 @@ same_store next t old new store same = record {
   below = subst (AreBelow next) (sym (placed_same old new same)) store.below;
   empty = still_empty (used_of t) old new same.trees store.empty;
   marked = marked_by t.marks old new same.trees store.marked;
+  few = still_most t.dead old new same.trees store.few;
 }
 
 pub same_view : (from : ℕ) (old new : Held MemStore) → IsSame old new → left_from from (versions_of new) ≡ left_from from (versions_of old)
@@ -123,44 +126,44 @@ room_itself from stamp h kept low = room_dead from stamp h h kept tt low (call_i
 
 -- ---- a purge
 
-pub purged_store : {X : Type 0} (from h next : ℕ) (t u : Tally) (old new : Held MemStore) (x : X) → IsStore next t old → AreEmptyBefore (used_of u) new → AreMarked u.marks new → IsCall (AreSwept (max from (h + 1)) (placed_of old)) old new (Ok x)
+pub purged_store : {X : Type 0} (from h next : ℕ) (t u : Tally) (old new : Held MemStore) (x : X) → IsStore next t old → AreEmptyBefore (used_of u) new → AreMarked u.marks new → AreAtMost u.dead new → IsCall (AreSwept (max from (h + 1)) (placed_of old)) old new (Ok x)
     → IsStore next u new × (left_from (max from (h + 1)) (versions_of new) ≡ purged h (left_from from (versions_of old)))
-purged_store from h next t u old new x store empty marked call = (
-  record { kept = call.kept; below = call.leaves.below next store.below; empty = empty; marked = marked },
+purged_store from h next t u old new x store empty marked few call = (
+  record { kept = call.kept; below = call.leaves.below next store.below; empty = empty; marked = marked; few = few },
   purged_view from h (placed_of old) (placed_of new) store.kept.apart.places call.leaves,
 )
 
-pub refused_store : {X : Type 0} (L : List Placed → Type 0) (from next : ℕ) (t u : Tally) (old new : Held MemStore) (e : Error) → IsStore next t old → AreEmptyBefore (used_of u) new → AreMarked u.marks new → IsCall {X = X} L old new (Err e)
+pub refused_store : {X : Type 0} (L : List Placed → Type 0) (from next : ℕ) (t u : Tally) (old new : Held MemStore) (e : Error) → IsStore next t old → AreEmptyBefore (used_of u) new → AreMarked u.marks new → AreAtMost u.dead new → IsCall {X = X} L old new (Err e)
     → IsStore next u new × (left_from from (versions_of new) ≡ left_from from (versions_of old))
-refused_store L from next t u old new e store empty marked call =
+refused_store L from next t u old new e store empty marked few call =
     let same = placed_by old new call.unchanged in (
-      record { kept = call.kept; below = subst (AreBelow next) (sym same) store.below; empty = empty; marked = marked },
+      record { kept = call.kept; below = subst (AreBelow next) (sym same) store.below; empty = empty; marked = marked; few = few },
       ap (λ xs. left_from from (versions_by_place xs)) same,
     )
 
 -- ---- a write
 
-pub no_room_store : (from stamp next : ℕ) (t u : Tally) (old mid : Held MemStore) (e : Error) → IsStore next t old → AreEmptyBefore (used_of u) mid → AreMarked u.marks mid → IsRoom from stamp old mid (Err e)
+pub no_room_store : (from stamp next : ℕ) (t u : Tally) (old mid : Held MemStore) (e : Error) → IsStore next t old → AreEmptyBefore (used_of u) mid → AreMarked u.marks mid → AreAtMost u.dead mid → IsRoom from stamp old mid (Err e)
     → IsStore next u mid × (left_from from (versions_of mid) ≡ left_from from (versions_of old))
-no_room_store from stamp next t u old mid e store empty marked room = (record { kept = room.kept; below = room.below next store.below; empty = empty; marked = marked }, room.unchanged)
+no_room_store from stamp next t u old mid e store empty marked few room = (record { kept = room.kept; below = room.below next store.below; empty = empty; marked = marked; few = few }, room.unchanged)
 
-module _ (from first number stamp next : ℕ) (net : List Change) (t u : Tally) (old mid : Held MemStore) (same_stamp : number ≡ stamp) (store : IsStore next t old) (room : IsRoom from number old mid (Ok first)) (empty : AreEmptyBefore (used_of u) mid) (marked : AreMarked u.marks mid) where
+module _ (from first number stamp next : ℕ) (net : List Change) (t u : Tally) (old mid : Held MemStore) (same_stamp : number ≡ stamp) (store : IsStore next t old) (room : IsRoom from number old mid (Ok first)) (empty : AreEmptyBefore (used_of u) mid) (marked : AreMarked u.marks mid) (few : AreAtMost u.dead mid) where
   pub room_store : IsStore next u mid
-  room_store = record { kept = room.kept; below = room.below next store.below; empty = empty; marked = marked }
+  room_store = record { kept = room.kept; below = room.below next store.below; empty = empty; marked = marked; few = few }
 
-  pub written_store : (j : Segment) (v : Tally) (m : Marks) (new : Held MemStore) (x : Written) → segment_place j + (used_of u - 1) ≡ 7 → used_of u ≤ used_of v → (x.copied ≢ 0 → 1 ≤ used_of v) → OthersStay (tree_of j) mid new → (x.copied ≡ 0 → OthersStay 0 mid new) → v.marks ≡ m → (AreMarked u.marks mid → AreMarked m new)
+  pub written_store : (j : Segment) (v : Tally) (m : Marks) (new : Held MemStore) (x : Written) → segment_place j + (used_of u - 1) ≡ 7 → used_of u ≤ used_of v → (x.copied ≢ 0 → 1 ≤ used_of v) → OthersStay (tree_of j) mid new → (x.copied ≡ 0 → OthersStay 0 mid new) → v.marks ≡ m → (AreMarked u.marks mid → AreMarked m new) → (v.dead ≤ MAX_MATCHING → v.dead ≡ u.dead + x.copied) → CameAtMost x.copied mid new
       → IsCall (AreWritten (after_net stamp net (versions_of mid)) (next + length net)) mid new (Ok x)
       → IsStore (next + length net) v new × (left_from first (versions_of new) ≡ after_net stamp net (left_from from (versions_of old))) × AllByRecursion IsStorable (after_net stamp net (left_from from (versions_of old)))
-  written_store j v m new x newest more used stay none same marks call =
+  written_store j v m new x newest more used stay none same marks sum came call =
       let is = written_view first stamp (subst (λ n. first ≤ n) same_stamp room.low) net (placed_of mid) (placed_of new) (next + length net) call.leaves ∙ ap (after_net stamp net) room.shown in (
-        record { kept = call.kept; below = call.leaves.below; empty = written_empty j (used_of u) (used_of v) x.copied mid new newest more used stay none empty; marked = subst (λ k. AreMarked k new) (sym same) (marks marked) },
+        record { kept = call.kept; below = call.leaves.below; empty = written_empty j (used_of u) (used_of v) x.copied mid new newest more used stay none empty; marked = subst (λ k. AreMarked k new) (sym same) (marks marked); few = more_counted u.dead x.copied v.dead mid new sum came few },
         is,
         subst (AllByRecursion IsStorable) is (view_each first (placed_of new) call.kept.apart.each),
       )
 
-  pub unwritten_store : {X : Type 0} (L : List Placed → Type 0) (v : Tally) (new : Held MemStore) (e : Error) → used_of v ≡ used_of u → StayMarked u.marks v.marks → IsCall {X = X} L mid new (Err e)
+  pub unwritten_store : {X : Type 0} (L : List Placed → Type 0) (v : Tally) (new : Held MemStore) (e : Error) → used_of v ≡ used_of u → StayMarked u.marks v.marks → v.dead ≡ u.dead → IsCall {X = X} L mid new (Err e)
       → IsStore next v new × (left_from first (versions_of new) ≡ left_from from (versions_of old))
-  unwritten_store L v new e used more call =
+  unwritten_store L v new e used more count call =
       let still = subst (λ n. AreEmptyBefore n new) (sym used) (still_empty (used_of u) mid new call.unchanged empty) in
-      let same = refused_store L first next u v mid new e room_store still (more_marks u.marks v.marks new more (marked_by u.marks mid new call.unchanged marked)) call in
+      let same = refused_store L first next u v mid new e room_store still (more_marks u.marks v.marks new more (marked_by u.marks mid new call.unchanged marked)) (subst (λ n. AreAtMost n new) (sym count) (still_most u.dead mid new call.unchanged few)) call in
       (same.0, same.1 ∙ room.shown)

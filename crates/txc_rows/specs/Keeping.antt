@@ -49,3 +49,8 @@ pub record ShowsAnswers (q : Query) (states : ℕ → State) (horizon newest : �
 abbrev pub AnswersStates : Query → List Versioned → List Versioned → Type 0
 AnswersStates q vs found = (states : ℕ → State) (horizon newest : ℕ) → KeepsStates states horizon newest vs
     → ShowsAnswers q states horizon newest found
+
+-- where the versions keep states, the found ones show the answer in the newest
+abbrev pub AnswersNewest : Query → List Versioned → List Versioned → Type 0
+AnswersNewest q vs found = (states : ℕ → State) (horizon newest : ℕ) → KeepsStates states horizon newest vs
+    → ShowsAnswers q states newest newest found

@@ -141,6 +141,14 @@ AreEmptyBefore n h = (s : Segment) → segment_place s + n < 8 → (state over_m
 abbrev pub AreMarked : Marks → Held MemStore → Type 0
 AreMarked m h = (s : Segment) → AllByRecursion (IsMarked m (segment_place s)) (placed_all ((state over_memory h).now.trees (tree_of s)))
 
+-- no more versions are in the segments, where so many or fewer may match a query
+abbrev pub AreAtMost : ℕ → Held MemStore → Type 0
+AreAtMost most h = most ≤ MAX_MATCHING → length (dead_in h) ≤ most
+
+-- no more came to the segments, where so many or fewer may match a query
+abbrev pub CameAtMost : ℕ → Held MemStore → Held MemStore → Type 0
+CameAtMost most old new = most ≤ MAX_MATCHING → length (dead_in new) ≤ length (dead_in old) + most
+
 -- what had its marks has them, where one of that table, id and group came to the segment
 abbrev pub StaysMarked : Segment → ℕ → ℕ → ℕ → Held MemStore → Held MemStore → Type 0
 StaysMarked j table id group old new = (m : Marks) → AreKeyMarks m (segment_place j) table id group → AreMarked m old → AreMarked m new
@@ -188,10 +196,11 @@ pub record IsFinding (q : Query) (from : ℕ) (placed : List Placed) (old new : 
   pub are : new ≡ old ++ more
   pub few : length new ≤ MAX_MATCHING
 
--- the tables are in order, each version has a lower place than the next one, the segments that are not in use are
--- empty, and the versions of those that are have their marks
+-- the tables are in order, and each version has a lower place than the next one. The segments that are not in use are
+-- empty; the versions of the others have their marks, and are no more than are counted
 pub record IsStore (next : ℕ) (tally : Tally) (h : Held MemStore) : Type 0 where
   pub kept : IsKept h
   pub below : AreBelow next (placed_of h)
   pub empty : AreEmptyBefore (used_of tally) h
   pub marked : AreMarked tally.marks h
+  pub few : AreAtMost tally.dead h

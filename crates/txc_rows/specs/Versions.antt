@@ -46,6 +46,10 @@ version_cmp v w = ordering_then (nat_cmp v.row.id w.row.id) (nat_cmp v.born w.bo
 abbrev pub is_current : Versioned → Bool
 is_current v = is_none v.died
 
+-- the versions that have not died
+abbrev pub current : List Versioned → List Versioned
+current = filter is_current
+
 -- the version after a change of the table and id at the stamp: the current one ends there
 abbrev pub closed : ℕ → ℕ → ℕ → Versioned → Versioned
 closed table id stamp v =

@@ -101,15 +101,6 @@ impl Segments {
         is_one_more
     }
 
-    /// How many versions there are.
-    pub(crate) fn count(&self) -> usize {
-        let mut sum = 0usize;
-        for at in 0..7usize {
-            sum = sum.wrapping_add(self.counts[at]);
-        }
-        sum
-    }
-
     /// How many are in segments of which none died at the stamp or later.
     pub(crate) fn count_before(&self, from: u32) -> usize {
         let mut sum = 0usize;

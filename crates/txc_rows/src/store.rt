@@ -2,13 +2,13 @@
 
 ghost use Rattle.std.specs.Prelude.{◌≡◌, ℕ, ◌+◌, ◌^◌, ◌<◌, ◌≤◌, [], Ok, IfOk, IfErr, OnOk, OnErr, length, filter, map};
 ghost use Rattle.std.specs.List.Sorted.{IsPermutation, IsSorted};
-ghost use Rattle.txc_rows.specs.Versions.{suits, purged, after_net, version_cmp};
+ghost use Rattle.txc_rows.specs.Versions.{suits, current, purged, after_net, version_cmp};
 ghost use Rattle.txc_rows.specs.declared.texts.Source.TheVariants.{Dead};
 ghost use Rattle.txc_rows.specs.Placed.{version_of, left_from, AreSwept};
-ghost use Rattle.txc_rows.specs.Kept.{placed_of, placed_read, versions_of, used_of, AreEmptyBefore, AreMarked, IsKept, IsCall, IsSame, IsRoom, IsFinding};
+ghost use Rattle.txc_rows.specs.Kept.{placed_of, placed_read, versions_of, used_of, AreEmptyBefore, AreMarked, AreAtMost, IsKept, IsCall, IsSame, IsRoom, IsFinding};
 ghost use Rattle.txc_rows.specs.States.{State};
 ghost use Rattle.txc_rows.specs.Found.{Finds};
-ghost use Rattle.txc_rows.specs.Keeping.{KeepsStates, KeepsWritten, KeepsPurged, AnswersStates};
+ghost use Rattle.txc_rows.specs.Keeping.{KeepsStates, KeepsWritten, KeepsPurged, AnswersStates, AnswersNewest};
 ghost use Rattle.txc_rows.specs.StoreErrors.{IsStoreRefusal};
 ghost use Rattle.txc_rows.specs.declared.store_error.TheConstants.{MAX_MATCHING};
 
@@ -83,6 +83,7 @@ fn sweep(
     ensures call { IsCall (AreSwept from (placed_of conn.old)) conn.old conn.new result }
     ensures empty { AreEmptyBefore (used_of tally.old) conn.old → AreEmptyBefore (used_of tally.new) conn.new }
     ensures marked { AreMarked tally.old.marks conn.old → AreMarked tally.new.marks conn.new }
+    ensures few { AreAtMost tally.old.dead conn.old → AreAtMost tally.new.dead conn.new }
 {
     if tally.is_mostly_ended(from) {
         let (rows, kept, marks) = sweep_all(conn, alloc, from)?;
@@ -107,6 +108,7 @@ fn make_room(
     ensures room { IsRoom kept_from stamp conn.old conn.new result }
     ensures empty { AreEmptyBefore (used_of tally.old) conn.old → AreEmptyBefore (used_of tally.new) conn.new }
     ensures marked { AreMarked tally.old.marks conn.old → AreMarked tally.new.marks conn.new }
+    ensures few { AreAtMost tally.old.dead conn.old → AreAtMost tally.new.dead conn.new }
 {
     if stamp < kept_from {
         let (rows, kept, marks) = sweep_all(conn, alloc, kept_from)?;
@@ -209,6 +211,61 @@ fn find_all(
     Ok(found)
 }
 
+/// The versions that match, with or without some that died. The segments are read where they may have so many that more
+/// match than may.
+fn find_last(
+    conn: &mut Connection<MemStore>,
+    alloc: Global,
+    query: &Query,
+    from: u32,
+    tally: &Tally,
+) -> Result<Vec<Versioned>, StoreError>
+    requires kept { IsKept conn.old }
+    requires empty { AreEmptyBefore (used_of tally.now) conn.old }
+    requires marked { AreMarked tally.now.marks conn.old }
+    requires few { AreAtMost tally.now.dead conn.old }
+    ensures same { IsSame conn.old conn.new }
+    ensures finds { IfOk result (λ found. IsPermutation
+        (filter (suits query.now) (current (left_from from (versions_of conn.old)))) (current found.items)) }
+    ensures bound { OnOk result (length (filter (suits query.now) (left_from from (versions_of conn.old))) ≤ MAX_MATCHING) }
+    ensures refused { result ≡ Err StoreError.TooManyRows
+        → MAX_MATCHING < length (filter (suits query.now) (left_from from (versions_of conn.old))) }
+{
+    if !tally.are_few_with(0) {
+        return find_all(conn, alloc, query, from, tally);
+    }
+    let mut last = Vec::new(alloc);
+    find(conn, alloc, Source::Latest, query, from, &mut last)?;
+    if tally.are_few_with(last.len()) {
+        return Ok(last);
+    }
+    find_all(conn, alloc, query, from, tally)
+}
+
+/// The versions that match and have not died, by id and then by birth.
+fn find_current(
+    conn: &mut Connection<MemStore>,
+    alloc: Global,
+    query: &Query,
+    from: u32,
+    tally: &Tally,
+) -> Result<Vec<Versioned>, StoreError>
+    requires kept { IsKept conn.old }
+    requires empty { AreEmptyBefore (used_of tally.now) conn.old }
+    requires marked { AreMarked tally.now.marks conn.old }
+    requires few { AreAtMost tally.now.dead conn.old }
+    ensures same { IsSame conn.old conn.new }
+    ensures finds { IfOk result (λ found. Finds query.now (current (left_from from (versions_of conn.old))) found.items) }
+    ensures bound { OnOk result (length (filter (suits query.now) (left_from from (versions_of conn.old))) ≤ MAX_MATCHING) }
+    ensures refused { result ≡ Err StoreError.TooManyRows
+        → MAX_MATCHING < length (filter (suits query.now) (left_from from (versions_of conn.old))) }
+{
+    let mut found = find_last(conn, alloc, query, from, tally)?;
+    found.retain(|version| version.died.is_none());
+    sort(&mut found)?;
+    Ok(found)
+}
+
 impl VersionRows {
     /// A store that has no version. It is refused where the store is out of memory.
     pub fn open_in_memory(alloc: Global) -> Result<VersionRows, StoreError>
@@ -238,6 +295,25 @@ impl VersionRows {
             → MAX_MATCHING < length (filter (suits query.now) self.old) }
     {
         find_all(
+            &mut self.conn,
+            self.alloc,
+            query,
+            self.kept_from,
+            &self.tally,
+        )
+    }
+
+    /// The versions that match and have not died, by id and then by birth: those that the newest state has. It is refused
+    /// as [`VersionRows::matching`] is, though most versions that have died are not looked at.
+    pub fn current(&mut self, query: &Query) -> Result<Vec<Versioned>, StoreError>
+        ensures same { self.new ≡ self.old }
+        ensures answer { IfOk result (λ found. Finds query.now (current self.old) found.items) }
+        ensures bound { OnOk result (length (filter (suits query.now) self.old) ≤ MAX_MATCHING) }
+        ensures answers { IfOk result (λ found. AnswersNewest query.now self.old found.items) }
+        ensures refused { result ≡ Err StoreError.TooManyRows
+            → MAX_MATCHING < length (filter (suits query.now) self.old) }
+    {
+        find_current(
             &mut self.conn,
             self.alloc,
             query,

@@ -4,10 +4,12 @@ ghost use Rattle.std.specs.Prelude.{◌≡◌, ◌≢◌, ◌≤◌, ◌+◌, �
 ghost use Rattle.txc_rows.specs.Texts.{segment_place};
 ghost use Rattle.txc_rows.specs.Marked.{may_match};
 ghost use Rattle.txc_rows.specs.Kept.{used_of};
+ghost use Rattle.txc_rows.specs.declared.store_error.TheConstants.{MAX_MATCHING};
 
 use crate::marks::Marks;
 use crate::query::Query;
 use crate::segments::Segments;
+use crate::store_error::MAX_MATCHING;
 use crate::texts::Segment;
 use crate::writes::Written;
 use sqlite::Error;
@@ -24,6 +26,8 @@ const LEAST_ENDED: usize = 1024;
 pub(crate) struct Tally {
     segments: Segments,
     pub marks: Marks,
+    /// The segments have no more versions than that.
+    dead: usize,
     /// How many rows the table of last versions has, and how many of them have died.
     rows: usize,
     ended: usize,
@@ -39,6 +43,7 @@ impl Tally {
         Ok(Tally {
             segments: Segments::empty(),
             marks: Marks::none(alloc)?,
+            dead: 0,
             rows: 0,
             ended: 0,
             marked_ended: 0,
@@ -68,10 +73,18 @@ impl Tally {
         self.marks.may_match(segment, query)
     }
 
+    /// Whether no more match than may, where so many of the last versions do.
+    pub(crate) fn are_few_with(&self, last: usize) -> bool
+        ensures { IsTrue result → last + self.now.dead ≤ MAX_MATCHING }
+    {
+        last <= MAX_MATCHING && self.dead <= MAX_MATCHING - last
+    }
+
     /// Whether a write finds room in a segment, perhaps in the next one.
     pub(crate) fn has_room(&mut self) -> bool
         ensures more { used_of self.old ≤ used_of self.new }
         ensures marks { self.new.marks ≡ self.old.marks }
+        ensures dead { self.new.dead ≡ self.old.dead }
     {
         !self.segments.is_full() || self.segments.advance()
     }
@@ -85,7 +98,7 @@ impl Tally {
     /// Whether as many versions of the segments are gone before the stamp as are left.
     pub(crate) fn is_mostly_dead(&self, from: u32) -> bool {
         let gone = self.segments.count_before(from);
-        gone >= LEAST_DEAD && gone >= self.segments.count() / 2
+        gone >= LEAST_DEAD && gone >= self.dead / 2
     }
 
     /// A commit was written.
@@ -93,7 +106,9 @@ impl Tally {
         ensures more { used_of self.old ≤ used_of self.new }
         ensures used { written.copied ≢ 0 → 1 ≤ used_of self.new }
         ensures marks { self.new.marks ≡ self.old.marks }
+        ensures dead { self.new.dead ≤ MAX_MATCHING → self.new.dead ≡ self.old.dead + written.copied }
     {
+        self.dead = self.dead.saturating_add(written.copied);
         self.newest = self.newest.max(stamp);
         self.segments.note(written.copied, self.newest);
         self.rows = self.rows.wrapping_add(written.added);
@@ -105,6 +120,7 @@ impl Tally {
     pub(crate) fn mark(&mut self, from: u32)
         ensures used { used_of self.new ≡ used_of self.old }
         ensures marks { self.new.marks ≡ self.old.marks }
+        ensures dead { self.new.dead ≡ self.old.dead }
     {
         if self.marked_at < from {
             self.marked_ended = self.ended;
@@ -116,15 +132,18 @@ impl Tally {
     pub(crate) fn sweep_dead(&mut self, kept: usize, marks: Marks)
         ensures used { used_of self.new ≡ min kept 1 }
         ensures marks { self.new.marks ≡ marks }
+        ensures dead { self.new.dead ≡ kept }
     {
         self.segments = self.segments.joined(kept);
         self.marks = marks;
+        self.dead = kept;
     }
 
     /// All tables were made anew, with so many last versions and so many others, of these marks.
     pub(crate) fn sweep_all(&mut self, rows: usize, kept: usize, marks: Marks)
         ensures used { used_of self.new ≡ min kept 1 }
         ensures marks { self.new.marks ≡ marks }
+        ensures dead { self.new.dead ≡ kept }
     {
         self.sweep_dead(kept, marks);
         self.rows = rows;

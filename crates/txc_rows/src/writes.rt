@@ -3,11 +3,12 @@
 ghost use Rattle.std.specs.Prelude.{◌≡◌, ◌++◌, ◌∷◌, [], ◌≤◌, ◌<◌, ◌+◌, ◌^◌, true, map, length, filter, IfOk, OnOk};
 ghost use Rattle.txc_stamp.specs.declared.stamp.TheConstants.{LAST_STAMP};
 ghost use Rattle.txc_rows.specs.Values.{IsRow};
+ghost use Rattle.txc_rows.specs.declared.store_error.TheConstants.{MAX_MATCHING};
 ghost use Rattle.txc_rows.specs.Versions.{put, after_write, after_net};
 ghost use Rattle.txc_rows.specs.Placed.{has_key, closed_placed, new_placed, renewed, put_latest, put_dead, HaveOwnKeys, AreBelow, AreWellPlaced, AreWritten};
 ghost use Rattle.txc_rows.specs.Texts.{tree_of};
 ghost use Rattle.txc_rows.specs.Marked.{StayMarked};
-ghost use Rattle.txc_rows.specs.Kept.{latest_in, dead_in, placed_of, versions_of, HasTables, HasVersions, HasWritten, OthersStay, AreMarked, StaysMarked, IsKept, IsStep, IsCall};
+ghost use Rattle.txc_rows.specs.Kept.{latest_in, dead_in, placed_of, versions_of, HasTables, HasVersions, HasWritten, OthersStay, AreMarked, StaysMarked, CameAtMost, IsKept, IsStep, IsCall};
 
 use crate::marks::Marks;
 use crate::query::Change;
@@ -35,10 +36,11 @@ impl Written {
     fn and(self, other: Written) -> Written
         ensures first { result.copied ≡ 0 → self.copied ≡ 0 }
         ensures next { result.copied ≡ 0 → other.copied ≡ 0 }
+        ensures count { result.copied ≤ MAX_MATCHING → result.copied ≡ self.copied + other.copied }
     {
         Written {
             ended: self.ended.wrapping_add(other.ended),
-            // a count that wraps could say that none was copied
+            // a count that wraps could say that few were copied
             copied: self.copied.saturating_add(other.copied),
             added: self.added.wrapping_add(other.added),
         }
@@ -177,6 +179,7 @@ fn put_version(
         tx.old.conn.now tx.new.conn.now result }
     ensures others { OnOk result (OthersStay (tree_of segment) tx.old.conn.now tx.new.conn.now) }
     ensures none { IfOk result (λ n. n ≡ 0 → OthersStay 0 tx.old.conn.now tx.new.conn.now) }
+    ensures count { IfOk result (λ n. CameAtMost n tx.old.conn.now tx.new.conn.now) }
     ensures more { StayMarked marks.old marks.new }
     ensures marked { OnOk result (AreMarked marks.old tx.old.conn.now → AreMarked marks.new tx.new.conn.now) }
 {
@@ -208,6 +211,7 @@ fn write_put(
         tx.old.conn.now tx.new.conn.now result }
     ensures others { OnOk result (OthersStay (tree_of segment) tx.old.conn.now tx.new.conn.now) }
     ensures none { IfOk result (λ w. w.copied ≡ 0 → OthersStay 0 tx.old.conn.now tx.new.conn.now) }
+    ensures count { IfOk result (λ w. CameAtMost w.copied tx.old.conn.now tx.new.conn.now) }
     ensures more { StayMarked marks.old marks.new }
     ensures marked { OnOk result (AreMarked marks.old tx.old.conn.now → AreMarked marks.new tx.new.conn.now) }
 {
@@ -238,6 +242,7 @@ fn write_change(
         tx.old.conn.now tx.new.conn.now result }
     ensures others { OnOk result (OthersStay (tree_of segment) tx.old.conn.now tx.new.conn.now) }
     ensures none { IfOk result (λ w. w.copied ≡ 0 → OthersStay 0 tx.old.conn.now tx.new.conn.now) }
+    ensures count { IfOk result (λ w. CameAtMost w.copied tx.old.conn.now tx.new.conn.now) }
     ensures more { StayMarked marks.old marks.new }
     ensures marked { OnOk result (AreMarked marks.old tx.old.conn.now → AreMarked marks.new tx.new.conn.now) }
 {
@@ -271,6 +276,7 @@ pub(crate) fn write_all(
         conn.old conn.new result }
     ensures others { OnOk result (OthersStay (tree_of segment) conn.old conn.new) }
     ensures none { IfOk result (λ w. w.copied ≡ 0 → OthersStay 0 conn.old conn.new) }
+    ensures count { IfOk result (λ w. CameAtMost w.copied conn.old conn.new) }
     ensures more { StayMarked marks.old marks.new }
     ensures marked { OnOk result (AreMarked marks.old conn.old → AreMarked marks.new conn.new) }
 {

@@ -1,8 +1,9 @@
 use Rattle.std.proofs.Common.{◌≤◌, subst, sym, arith, rules}
 use Rattle.std.proofs.lemmas.Result.{err_from_is_err_and}
 use Rattle.txc_rows.specs.Placed.{AreSwept, AreLeft}
-use Rattle.txc_rows.specs.Kept.{placed_of, used_of, AreMarked}
+use Rattle.txc_rows.specs.Kept.{placed_of, used_of, AreMarked, AreAtMost}
 use Rattle.txc_rows.proofs.MarkLemmas.{marked_by, first_marked}
+use Rattle.txc_rows.proofs.CountLemmas.{still_most, all_counted}
 use Rattle.txc_rows.proofs.StoreLemmas.{still_empty, fewer_empty, first_alone, room_refused, room_all, room_dead}
 use Rattle.txc_rows.proofs.store.make_room.Goals as goal
 
@@ -54,3 +55,19 @@ returns-in_ok-kept-clause-marked c = λ _. first_marked _ _ c.sweep_dead.new.con
 
 pub returns-else-not-has_room-clause-marked : goal.returns-else-not-has_room-clause-marked
 returns-else-not-has_room-clause-marked c = subst (λ m. AreMarked m c.args.conn.now) (sym c.has_room.ensures.marks)
+
+pub returns-in_err-rows-clause-few : goal.returns-in_err-rows-clause-few
+returns-in_err-rows-clause-few c = still_most c.args.tally.now.dead c.args.conn.now c.sweep_all.new.conn c.in_err-rows.ensures.call.unchanged
+
+pub returns-then-stamp-kept_from-clause-few : goal.returns-then-stamp-kept_from-clause-few
+returns-then-stamp-kept_from-clause-few c = λ _. all_counted _ _ c.sweep_all.new.conn (search rules) c.in_ok-rows.ensures.count
+
+pub returns-in_err-kept-clause-few : goal.returns-in_err-kept-clause-few
+returns-in_err-kept-clause-few c = λ few.
+    subst (λ n. AreAtMost n c.sweep_dead.new.conn) (sym c.has_room.ensures.dead) (still_most c.args.tally.now.dead c.args.conn.now c.sweep_dead.new.conn c.in_err-kept.ensures.call.unchanged few)
+
+pub returns-in_ok-kept-clause-few : goal.returns-in_ok-kept-clause-few
+returns-in_ok-kept-clause-few c = λ _. all_counted _ _ c.sweep_dead.new.conn (search rules) c.in_ok-kept.ensures.count
+
+pub returns-else-not-has_room-clause-few : goal.returns-else-not-has_room-clause-few
+returns-else-not-has_room-clause-few c = subst (λ n. AreAtMost n c.args.conn.now) (sym c.has_room.ensures.dead)

@@ -1,6 +1,7 @@
 use Rattle.std.proofs.Common.{rules}
 use Rattle.txc_rows.specs.Kept.{used_of}
 use Rattle.txc_rows.proofs.MarkLemmas.{marked_by, first_marked}
+use Rattle.txc_rows.proofs.CountLemmas.{still_most, all_counted}
 use Rattle.txc_rows.proofs.StoreLemmas.{all_swept, still_empty, first_alone}
 use Rattle.txc_rows.proofs.store.sweep.Goals as goal
 
@@ -30,3 +31,15 @@ returns-in_ok-rows-clause-marked c = λ _. first_marked _ _ c.sweep_all.new.conn
 
 pub returns-in_ok-kept-clause-marked : goal.returns-in_ok-kept-clause-marked
 returns-in_ok-kept-clause-marked c = λ _. first_marked _ _ c.sweep_dead.new.conn (search rules) c.in_ok-kept.ensures.marked c.in_ok-kept.ensures.rest
+
+pub returns-in_err-rows-clause-few : goal.returns-in_err-rows-clause-few
+returns-in_err-rows-clause-few c = still_most c.args.tally.now.dead c.args.conn.now c.sweep_all.new.conn c.in_err-rows.ensures.call.unchanged
+
+pub returns-in_err-kept-clause-few : goal.returns-in_err-kept-clause-few
+returns-in_err-kept-clause-few c = still_most c.args.tally.now.dead c.args.conn.now c.sweep_dead.new.conn c.in_err-kept.ensures.call.unchanged
+
+pub returns-in_ok-rows-clause-few : goal.returns-in_ok-rows-clause-few
+returns-in_ok-rows-clause-few c = λ _. all_counted _ _ c.sweep_all.new.conn (search rules) c.in_ok-rows.ensures.count
+
+pub returns-in_ok-kept-clause-few : goal.returns-in_ok-kept-clause-few
+returns-in_ok-kept-clause-few c = λ _. all_counted _ _ c.sweep_dead.new.conn (search rules) c.in_ok-kept.ensures.count

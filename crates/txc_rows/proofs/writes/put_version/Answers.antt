@@ -1,9 +1,10 @@
-use Rattle.std.proofs.Common.{◌≡◌, ◌==◌, false, length, filter, sym, ap, ◌∙◌}
+use Rattle.std.proofs.Common.{◌≡◌, ◌==◌, false, length, filter, sym, ap, subst, ◌∙◌, arith}
 use borrow.Author.Tests.{ne_eqb}
 use Rattle.txc_rows.specs.Placed.{has_key, put_dead}
-use Rattle.txc_rows.specs.Kept.{latest_in, dead_in, HasVersions, StaysMarked}
+use Rattle.txc_rows.specs.Kept.{latest_in, dead_in, HasVersions, StaysMarked, CameAtMost}
 use Rattle.txc_rows.proofs.SegmentLemmas.{not_latest}
 use Rattle.txc_rows.proofs.MarkLemmas.{stay_itself, more_marks, marked_others}
+use Rattle.txc_rows.proofs.CountLemmas.{none_came, these_came, came_then}
 use Rattle.txc_rows.proofs.ChangeSteps.{put_first, put_again}
 use Rattle.txc_rows.proofs.writes.put_version.Goals as goal
 
@@ -74,3 +75,18 @@ returns-in_ok-renew_latest-clause-marked c = λ marked.
     let m = c.set_row.new.self in
     let copied : StaysMarked c.args.segment row.table row.id row.group old mid = rw (c.table.ensures, c.id.ensures, c.group.ensures) at (c.in_ok-copied.ensures.marked) in
     marked_others m mid c.renew_latest.new.tx.conn.now c.in_ok-renew_latest.ensures.others (copied m c.set_row.ensures.set (more_marks c.args.marks.now m old c.set_row.ensures.more marked))
+
+-- what is copied is what comes to the segments
+pub returns-in_ok-add_latest-clause-count : goal.returns-in_ok-add_latest-clause-count
+returns-in_ok-add_latest-clause-count c =
+    let old = c.args.tx.now.conn.now in
+    let mid = c.copy_latest.new.tx.conn.now in
+    let came : CameAtMost c.in_ok-copied.copied old mid = subst (λ n. CameAtMost n old mid) (sym c.in_ok-copied.ensures.count) (these_came old mid _ _ c.in_ok-copied.ensures.step.leaves) in
+    came_then c.in_ok-copied.copied 0 c.in_ok-copied.copied old mid c.add_latest.new.tx.conn.now (λ _. omega arith) came (none_came mid c.add_latest.new.tx.conn.now _ c.in_ok-add_latest.ensures.step.leaves)
+
+pub returns-in_ok-renew_latest-clause-count : goal.returns-in_ok-renew_latest-clause-count
+returns-in_ok-renew_latest-clause-count c =
+    let old = c.args.tx.now.conn.now in
+    let mid = c.copy_latest.new.tx.conn.now in
+    let came : CameAtMost c.in_ok-copied.copied old mid = subst (λ n. CameAtMost n old mid) (sym c.in_ok-copied.ensures.count) (these_came old mid _ _ c.in_ok-copied.ensures.step.leaves) in
+    came_then c.in_ok-copied.copied 0 c.in_ok-copied.copied old mid c.renew_latest.new.tx.conn.now (λ _. omega arith) came (none_came mid c.renew_latest.new.tx.conn.now _ c.in_ok-renew_latest.ensures.step.leaves)

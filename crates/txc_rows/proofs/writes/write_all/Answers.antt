@@ -11,7 +11,8 @@ use Rattle.sqlite.specs.Tree.{Trees}
 use Rattle.sqlite_trees.specs.declared.memory.MemStore.{MemStore}
 use Rattle.txc_rows.specs.Texts.{segments, tree_of}
 use Rattle.txc_rows.specs.Stored.{placed_all, AreVersionRows}
-use Rattle.txc_rows.specs.Kept.{IsCall, IsKept, HasWritten, AreStoredIn, dead_among, placed_of, versions_of, OthersStay, AreMarked}
+use Rattle.txc_rows.specs.Kept.{IsCall, IsKept, HasWritten, AreStoredIn, dead_among, placed_of, versions_of, OthersStay, AreMarked, CameAtMost}
+use Rattle.txc_rows.proofs.CountLemmas.{same_count, came_then, came_by}
 use Rattle.txc_rows.proofs.MarkLemmas.{stay_itself, stay_then, marked_by}
 use Rattle.txc_rows.proofs.HeldLemmas.{undone_call, refused_call, ended_call, committed_kept, recast_ok, recast_err}
 use Rattle.txc_rows.proofs.writes.write_all.Goals as goal
@@ -47,6 +48,7 @@ loop-change-init c =
       same = refl;
       others = λ s off. ap (λ (t : Trees). t (tree_of s)) trees;
       none = λ zero s off. ap (λ (t : Trees). t (tree_of s)) trees;
+      count = λ _. omega (arith, same_count old tx trees);
       more = stay_itself c.args.marks.now;
       marked = marked_by c.args.marks.now old tx trees;
     }
@@ -120,6 +122,7 @@ loop-change-preserved c =
       rest = ap (after_net c.args.stamp (drop (at + 1) net)) left.written.versions_are ∙ next ∙ i.rest;
       same = c.in_ok-one.ensures.same_reference ∙ i.same;
       others = λ s off. c.in_ok-one.ensures.others s off ∙ i.others s off;
+      count = came_then c.loop-change.written.copied c.in_ok-one.one.copied c.and-written.result.copied c.args.conn.now c.loop-change.tx.conn.now c.write_change.new.tx.conn.now c.and-written.ensures.count i.count c.in_ok-one.ensures.count;
       more = stay_then c.args.marks.now c.loop-change.marks c.write_change.new.marks i.more c.in_ok-one.ensures.more;
       marked = λ marked. c.in_ok-one.ensures.marked (i.marked marked);
       none = λ zero s off. c.in_ok-one.ensures.none (c.and-written.ensures.next zero) s off ∙ i.none (c.and-written.ensures.first zero) s off;
@@ -146,6 +149,16 @@ returns-clause-none c = λ zero.
     let done = committed_kept mid end i.written.tables i.written.apart c.commit.ensures.ended (c.in_ok-commit.ensures.ok (memory_is_clean end)).1 in
     let stay : OthersStay 0 old end = λ s off. ap (λ (t : Trees). t (tree_of s)) done.trees ∙ i.none zero s off in
     subst (OthersStay 0 old) same stay
+
+pub returns-clause-count : goal.returns-clause-count
+returns-clause-count c =
+    let old = c.args.conn.now in
+    let mid = c.loop-change.tx.conn.now in
+    let end = c.commit.new.self.0 in
+    let same : end ≡ c.conn-2-1.given.0 = search rules in
+    let i = c.loop-change.invariant in
+    let done = committed_kept mid end i.written.tables i.written.apart c.commit.ensures.ended (c.in_ok-commit.ensures.ok (memory_is_clean end)).1 in
+    subst (CameAtMost c.loop-change.written.copied old) same (came_by c.loop-change.written.copied old mid end done.trees i.count)
 
 pub returns-in_err-one-clause-more : goal.returns-in_err-one-clause-more
 returns-in_err-one-clause-more c = stay_then c.args.marks.now c.loop-change.marks c.write_change.new.marks c.loop-change.invariant.more c.in_err-one.ensures.more

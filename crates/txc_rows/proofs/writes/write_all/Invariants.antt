@@ -4,7 +4,7 @@ use Rattle.sqlite.specs.Steps.{over_memory}
 use Rattle.txc_rows.specs.Versions.{after_net}
 use Rattle.txc_rows.specs.Texts.{tree_of}
 use Rattle.txc_rows.specs.Marked.{StayMarked}
-use Rattle.txc_rows.specs.Kept.{versions_of, HasWritten, OthersStay, AreMarked}
+use Rattle.txc_rows.specs.Kept.{versions_of, HasWritten, OthersStay, AreMarked, CameAtMost}
 use Rattle.txc_rows.proofs.writes.write_all.Given as goal
 
 abbrev pub invariant-loop-change : goal.invariant-loop-change
@@ -18,6 +18,7 @@ invariant-loop-change l = record {
   same : l.tx.conn.ghost_name ≡ l.initial.tx.conn.ghost_name;
   others : OthersStay (tree_of l.segment) l.fn.conn l.tx.conn.now;
   none : l.written.copied ≡ 0 → OthersStay 0 l.fn.conn l.tx.conn.now;
+  count : CameAtMost l.written.copied l.fn.conn l.tx.conn.now;
   more : StayMarked l.fn.marks l.marks;
   marked : AreMarked l.fn.marks l.fn.conn → AreMarked l.marks l.tx.conn.now;
 }

@@ -3,6 +3,7 @@ use Rattle.txc_rows.specs.Versions.{after_write}
 use Rattle.txc_rows.specs.Kept.{versions_of, HasWritten}
 use Rattle.txc_rows.proofs.SegmentLemmas.{not_latest}
 use Rattle.txc_rows.proofs.MarkLemmas.{stay_itself, marked_others}
+use Rattle.txc_rows.proofs.CountLemmas.{none_came}
 use Rattle.txc_rows.proofs.ChangeSteps.{removed_step}
 use Rattle.txc_rows.proofs.writes.write_change.Goals as goal
 
@@ -32,3 +33,6 @@ returns-in_ok-ended-in-Remove-clause-more c = stay_itself c.args.marks.now
 
 pub returns-in_ok-ended-in-Remove-clause-marked : goal.returns-in_ok-ended-in-Remove-clause-marked
 returns-in_ok-ended-in-Remove-clause-marked c = λ marked. marked_others c.args.marks.now c.args.tx.now.conn.now c.end_version.new.tx.conn.now c.in_ok-ended-in-Remove.ensures.others marked
+
+pub returns-in_ok-ended-in-Remove-clause-count : goal.returns-in_ok-ended-in-Remove-clause-count
+returns-in_ok-ended-in-Remove-clause-count c = none_came c.args.tx.now.conn.now c.end_version.new.tx.conn.now _ c.in_ok-ended-in-Remove.ensures.step.leaves

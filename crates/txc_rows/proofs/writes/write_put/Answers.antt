@@ -1,8 +1,9 @@
-use Rattle.std.proofs.Common.{map, ◌∙◌}
+use Rattle.std.proofs.Common.{map, ◌∙◌, arith}
 use Rattle.txc_rows.specs.Placed.{closed_placed}
 use Rattle.txc_rows.specs.Kept.{latest_in, dead_in, HasVersions}
 use Rattle.txc_rows.proofs.SegmentLemmas.{not_latest}
 use Rattle.txc_rows.proofs.MarkLemmas.{stay_itself, marked_others}
+use Rattle.txc_rows.proofs.CountLemmas.{none_came, came_then}
 use Rattle.txc_rows.proofs.ChangeSteps.{ended_is_apart, put_step}
 use Rattle.txc_rows.proofs.writes.write_put.Goals as goal
 
@@ -39,3 +40,9 @@ returns-in_err-ended-clause-more c = stay_itself c.args.marks.now
 
 pub returns-clause-marked : goal.returns-clause-marked
 returns-clause-marked c = λ marked. c.in_ok-copied.ensures.marked (marked_others c.args.marks.now c.args.tx.now.conn.now c.end_version.new.tx.conn.now c.in_ok-ended.ensures.others marked)
+
+pub returns-clause-count : goal.returns-clause-count
+returns-clause-count c =
+    let old = c.args.tx.now.conn.now in
+    let mid = c.end_version.new.tx.conn.now in
+    came_then 0 c.in_ok-copied.copied c.in_ok-copied.copied old mid c.put_version.new.tx.conn.now (λ _. omega arith) (none_came old mid _ c.in_ok-ended.ensures.step.leaves) c.in_ok-copied.ensures.count

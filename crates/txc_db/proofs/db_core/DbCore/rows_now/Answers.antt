@@ -1,9 +1,8 @@
-use Rattle.std.proofs.Common.{◌≡◌, ◌≤◌, ℕ, length, filter, ap, subst, ◌∙◌, List, arith}
-use Rattle.std.proofs.lemmas.List.Sorted.{length_permutation}
+use Rattle.std.proofs.Common.{◌≡◌, ◌≤◌, ℕ, length, ap, subst, ◌∙◌, List, arith}
 use Rattle.txc_rows.specs.declared.version.Versioned.{Versioned}
 use Rattle.txc_rows.specs.declared.query.Query.TheVariants.{ById}
 use Rattle.txc_rows.specs.States.{answer}
-use Rattle.txc_rows.specs.Versions.{shown_at, suits}
+use Rattle.txc_rows.specs.Versions.{shown_at}
 use Rattle.txc_rows.specs.Keeping.{ShowsAnswers}
 use Rattle.txc_db.specs.History.{state_at}
 use Rattle.txc_db.specs.DatabaseValue.{DatabaseValue, newest_state}
@@ -17,12 +16,9 @@ returns-clause-rows c =
     let last = length c.self.inside.front.history in
     let query = ById c.args.table c.args.id in
     let newest_is : c.newest-newest.result ≡ length c.self.inside.front.history = c.newest-newest.ensures in
-    let shows : ShowsAnswers (ById c.args.table c.args.id) (state_at c.self.inside.front.history) c.self.inside.horizon (length c.self.inside.front.history) c.in_ok-versions.versions.items = c.in_ok-versions.ensures.answers (state_at c.self.inside.front.history) c.self.inside.horizon (length c.self.inside.front.history) sound.kept in
+    let shows : ShowsAnswers (ById c.args.table c.args.id) (state_at c.self.inside.front.history) (length c.self.inside.front.history) (length c.self.inside.front.history) c.in_ok-versions.versions.items = c.in_ok-versions.ensures.answers (state_at c.self.inside.front.history) c.self.inside.horizon (length c.self.inside.front.history) sound.kept in
     c.in_ok-rows_at.ensures ∙ (ap (λ (n : ℕ). shown_at query n c.deref.result.now) newest_is ∙ (ap (λ (vs : List Versioned). shown_at query last vs) c.deref.ensures.value
-    ∙ (shows.answers last sound.kept.kept (omega arith) ∙ ap (λ (v : DatabaseValue). answer query (newest_state v)) c.self.view_is)))
+    ∙ (shows.answers last (omega arith) (omega arith) ∙ ap (λ (v : DatabaseValue). answer query (newest_state v)) c.self.view_is)))
 
 pub returns-clause-few : goal.returns-clause-few
-returns-clause-few c = λ _.
-    let query = ById c.args.table c.args.id in
-    subst (λ (v : DatabaseValue). matching_of v (ById c.args.table c.args.id) ≤ MAX_MATCHING) c.self.view_is
-    (subst (λ (n : ℕ). n ≤ MAX_MATCHING) (length_permutation (filter (suits query) c.self.inside.store) c.in_ok-versions.versions.items c.in_ok-versions.ensures.answer.same) c.in_ok-versions.ensures.bound)
+returns-clause-few c = λ _. subst (λ (v : DatabaseValue). matching_of v (ById c.args.table c.args.id) ≤ MAX_MATCHING) c.self.view_is c.in_ok-versions.ensures.bound
