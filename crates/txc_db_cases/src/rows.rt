@@ -47,8 +47,8 @@ fn say_version(answer: &mut String, version: &Versioned) {
     let _ = answer.push(')');
 }
 
-fn say_list(rows: &mut VersionRows, query: &Query, answer: &mut String) {
-    match rows.matching(query) {
+fn say_list(found: Result<Vec<Versioned>, StoreError>, answer: &mut String) {
+    match found {
         Ok(versions) => {
             for version in &versions {
                 say_version(answer, version);
@@ -58,8 +58,8 @@ fn say_list(rows: &mut VersionRows, query: &Query, answer: &mut String) {
     }
 }
 
-fn say_count(rows: &mut VersionRows, query: &Query, answer: &mut String) {
-    match rows.matching(query) {
+fn say_count(found: Result<Vec<Versioned>, StoreError>, answer: &mut String) {
+    match found {
         Ok(versions) => say_number(answer, versions.len()),
         Err(refusal) => say_refusal(answer, refusal),
     }
@@ -109,12 +109,22 @@ impl Obeys for Store {
             "purge" => say_done(answer, rows.purge(stamp(words))),
             "list" => {
                 if let Some(query) = query(words) {
-                    say_list(rows, &query, answer);
+                    say_list(rows.matching(&query), answer);
                 }
             }
             "count" => {
                 if let Some(query) = query(words) {
-                    say_count(rows, &query, answer);
+                    say_count(rows.matching(&query), answer);
+                }
+            }
+            "current" => {
+                if let Some(query) = query(words) {
+                    say_list(rows.current(&query), answer);
+                }
+            }
+            "count-current" => {
+                if let Some(query) = query(words) {
+                    say_count(rows.current(&query), answer);
                 }
             }
             "copy" => {
@@ -136,6 +146,11 @@ write 6: put 1 7 2 d =>
 list all 1 => 7:a [2,5) 7:d [6,) 8:b [1,4) 8:c [4,)
 list group 1 2 => 7:a [2,5) 7:d [6,) 8:b [1,4) 8:c [4,)
 list id 1 7 => 7:a [2,5) 7:d [6,)
+current id 1 7 => 7:d [6,)
+current id 1 9 =>
+current group 1 2 => 7:d [6,) 8:c [4,)
+current range 1 7 7 => 7:d [6,)
+current all 1 => 7:d [6,) 8:c [4,)
 list group 1 3 =>
 list range 1 7 8 => 7:a [2,5) 7:d [6,) 8:b [1,4) 8:c [4,)
 list range 1 7 7 => 7:a [2,5) 7:d [6,)
@@ -200,15 +215,34 @@ count range 1 1025 4294967295 => 0
 list id 1 1024 => 1024:a [2,)
 ";
 
+/// A version that has died counts for the bound, though it is not current, until it is purged.
+const CURRENT: &str = "write 1: put 1 0-1023 2 a =>
+count-current group 1 2 => 1024
+write 2: put 1 7 2 b =>
+count-current group 1 2 => over 1,024 versions match
+current id 1 7 => 7:b [2,)
+purge 1 =>
+count-current all 1 => over 1,024 versions match
+purge 2 =>
+count-current all 1 => 1024
+write 3: remove 1 7 =>
+current id 1 7 =>
+count-current all 1 => 1023
+";
+
 /// A row that comes to another group, comes back, goes, and is put again; and a death before the last purge.
 const RETURNING: &str = "write 1: put 1 7 2 a =>
 write 2: put 1 7 3 b =>
 list group 1 2 => 7:a [1,2)
 list group 1 3 => 7:b [2,)
+current group 1 2 =>
+current group 1 3 => 7:b [2,)
+current id 1 7 => 7:b [2,)
 write 3: put 1 7 2 c =>
 list group 1 2 => 7:a [1,2) 7:c [3,)
 list group 1 3 => 7:b [2,3)
 write 4: remove 1 7 =>
+current id 1 7 =>
 write 5: put 1 7 2 d =>
 list id 1 7 => 7:a [1,2) 7:b [2,3) 7:c [3,4) 7:d [5,)
 purge 9 =>
@@ -234,6 +268,9 @@ write 10: put 1 0-1023 2 j =>
 list id 1 7 => 7:a [1,2) 7:b [2,3) 7:c [3,4) 7:d [4,5) 7:e [5,6) 7:f [6,7) 7:g [7,8) 7:h [8,9) 7:i [9,10) 7:j [10,)
 count range 1 900 999 => 1000
 count range 1 900 1002 => over 1,024 versions match
+current id 1 7 => 7:j [10,)
+count-current range 1 900 999 => 100
+count-current range 1 900 1002 => over 1,024 versions match
 purge 8 =>
 list id 1 7 => 7:h [8,9) 7:i [9,10) 7:j [10,)
 ";
@@ -302,7 +339,7 @@ fn stores_follow_writes_and_purges_and_refused_ones_leave_them(
 
 #[test]
 fn at_most_1024_versions_match(rt: HostRuntime) -> Result<(), Fail> {
-    play_all(&rt, &[MANY])
+    play_all(&rt, &[MANY, CURRENT])
 }
 
 #[test]
