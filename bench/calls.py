@@ -11,10 +11,9 @@ most of the instructions are.
 
 import argparse
 import os
-import subprocess
 import tempfile
 
-from world import Costs, show
+from world import Costs, made_refuse, show
 
 SETTINGS = "workers = 1\ncapacity = 1024\nrow_cap = 1048576"
 FEW, MANY = 8, 16
@@ -57,11 +56,8 @@ def main():
     words.add_argument("--jobs", type=int, default=200)
     words.add_argument("--top", type=int, default=10)
     options = words.parse_args()
-    here = os.path.dirname(os.path.abspath(__file__))
     with tempfile.TemporaryDirectory() as room:
-        refuse = f"{room}/refuse.so"
-        subprocess.run(["cc", "-shared", "-fPIC", "-O2", "-o", refuse, f"{here}/../scripts/refuse.c"], check=True)
-        costs = Costs(os.path.abspath(options.program), refuse, room, "batch", SETTINGS)
+        costs = Costs(os.path.abspath(options.program), made_refuse(room), room, "batch", SETTINGS)
         for name, make in KINDS.items():
             few, many = (costs.of(lambda jobs: make(jobs, calls), options.jobs) for calls in (FEW, MANY))
             call = taken(many, few, MANY - FEW)

@@ -159,6 +159,13 @@ class Costs:
         return {name: count / times for name, count in many.items()}, (many_blocks - few_blocks) / times
 
 
+def made_refuse(room):
+    """The allocator of scripts/refuse.c, made in that folder."""
+    made, source = f"{room}/refuse.so", f"{os.path.dirname(os.path.abspath(__file__))}/../scripts/refuse.c"
+    subprocess.run(["cc", "-shared", "-fPIC", "-O2", "-o", made, source], check=True)
+    return made
+
+
 def less(costs, off, part):
     if off is None:
         return costs
@@ -185,11 +192,8 @@ def main():
     for name in options.kind:
         if name not in KINDS:
             words.error(f"there is no kind {name!r}; the kinds are {', '.join(map(repr, KINDS))}")
-    here = os.path.dirname(os.path.abspath(__file__))
     with tempfile.TemporaryDirectory() as room:
-        refuse = f"{room}/refuse.so"
-        subprocess.run(["cc", "-shared", "-fPIC", "-O2", "-o", refuse, f"{here}/../scripts/refuse.c"], check=True)
-        costs, found = Costs(os.path.abspath(options.program), refuse, room), {}
+        costs, found = Costs(os.path.abspath(options.program), made_refuse(room), room), {}
         for name in options.kind or KINDS:
             make, lines, off = KINDS[name]
             for needed in [*([off[0]] if off else []), name]:
