@@ -7,6 +7,9 @@
 #
 # It prints tables in markdown, of instructions (where valgrind is there) and blocks, and of processor time where `--times` asks
 # for it. bench/client_bench/times.py says what the rows mean.
+#
+# This script was never run from end to end: `rt ci` proved and built the program, and times.py was run over that one. Of the
+# program as Rattle's own compiler builds it nothing was measured.
 set -euo pipefail
 cd "$(dirname "$0")/.."
 

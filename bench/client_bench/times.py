@@ -13,6 +13,11 @@ processor time, the least of seven rounds in which the operations take turns.
 The program obeys lines. What a line costs is read before and after it; the same line with the number 0 is taken off, and what
 the beginning of a transaction or the making of a key takes, since these have rows of their own. Last comes a hit beside the
 sum of its parts.
+
+Two rows say little. By itself the making of a key is left out by the compiler, and so is a front that is lengthened again by
+one that shows no more. So a look-up at a plain node, a record and an answer hold a key each, and the sum holds four. Where the
+node is large, times of both look-ups at the plain node wait for memory, which in a hit only the first does. A difference of
+times may be below 0.
 """
 
 import argparse
