@@ -1,5 +1,5 @@
 -- The marks of what stands in the segments.
-use Rattle.std.proofs.Common.{◌≡◌, ◌≢◌, ℕ, pos, ◌+◌, ◌*◌, ◌<◌, ◌≤◌, ◌==◌, List, [], ◌∷◌, ◌++◌, map, filter, length, take, get_or, Bool, true, false, cond, ◌&&◌, true≢false, refl, sym, ap, subst, ◌∙◌, append-nil, arith}
+use Rattle.std.proofs.Common.{◌≡◌, ◌≢◌, ℕ, pos, ◌+◌, ◌*◌, ◌<◌, ◌≤◌, ◌==◌, List, [], ◌∷◌, ◌++◌, map, filter, length, take, get_or, Bool, true, false, cond, true≢false, refl, sym, ap, subst, ◌∙◌, append-nil, arith}
 use borrow.Author.Tests.{eqb-true, eq-eqb}
 use Rattle.std.specs.List.{AllByRecursion}
 use Rattle.std.specs.List.Sorted.{IsPermutation}
@@ -24,8 +24,8 @@ use Rattle.txc_rows.specs.Texts.{segment_place, tree_of, segments}
 use Rattle.txc_rows.specs.Versions.{suits}
 use Rattle.txc_rows.specs.Placed.{Placed, has_key, version_of, is_left, left_from}
 use Rattle.txc_rows.specs.Stored.{placed_all, placed_from}
-use Rattle.txc_rows.specs.Marked.{mark_at, AreKeyMarks, IsMarked, StayMarked, may_match}
-use Rattle.txc_rows.specs.Kept.{latest_in, dead_in, placed_read, OthersStay, OthersAreEmpty, AreMarked, IsFinding}
+use Rattle.txc_rows.specs.Marked.{AreKeyMarks, IsMarked, StayMarked, may_match}
+use Rattle.txc_rows.specs.Kept.{dead_in, placed_read, OthersStay, OthersAreEmpty, AreMarked, IsFinding}
 use Rattle.txc_rows.proofs.Members.{both_true}
 use Rattle.txc_rows.proofs.PutLemmas.{key_is}
 use Rattle.txc_rows.proofs.SegmentLemmas.{is_tree, once, not_latest}

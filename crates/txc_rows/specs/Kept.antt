@@ -141,11 +141,11 @@ AreEmptyBefore n h = (s : Segment) → segment_place s + n < 8 → (state over_m
 abbrev pub AreMarked : Marks → Held MemStore → Type 0
 AreMarked m h = (s : Segment) → AllByRecursion (IsMarked m (segment_place s)) (placed_all ((state over_memory h).now.trees (tree_of s)))
 
--- no more versions are in the segments, where so many or fewer may match a query
+-- the segments have so many versions at most; a count of more than may match says nothing
 abbrev pub AreAtMost : ℕ → Held MemStore → Type 0
 AreAtMost most h = most ≤ MAX_MATCHING → length (dead_in h) ≤ most
 
--- no more came to the segments, where so many or fewer may match a query
+-- so many versions at most came to the segments; a count of more than may match says nothing
 abbrev pub CameAtMost : ℕ → Held MemStore → Held MemStore → Type 0
 CameAtMost most old new = most ≤ MAX_MATCHING → length (dead_in new) ≤ length (dead_in old) + most
 

@@ -211,8 +211,8 @@ fn find_all(
     Ok(found)
 }
 
-/// The versions that match, with or without some that died. The segments are read where they may have so many that more
-/// match than may.
+/// The versions that match, without some that died. The segments are read where they may have so many that too many
+/// match.
 fn find_last(
     conn: &mut Connection<MemStore>,
     alloc: Global,
@@ -304,7 +304,7 @@ impl VersionRows {
     }
 
     /// The versions that match and have not died, by id and then by birth: those that the newest state has. It is refused
-    /// as [`VersionRows::matching`] is, though most versions that have died are not looked at.
+    /// as [`VersionRows::matching`] is, also where versions that have died make too many.
     pub fn current(&mut self, query: &Query) -> Result<Vec<Versioned>, StoreError>
         ensures same { self.new ≡ self.old }
         ensures answer { IfOk result (λ found. Finds query.now (current self.old) found.items) }

@@ -26,7 +26,7 @@ const LEAST_ENDED: usize = 1024;
 pub(crate) struct Tally {
     segments: Segments,
     pub marks: Marks,
-    /// The segments have no more versions than that.
+    /// The segments have so many versions at most.
     dead: usize,
     /// How many rows the table of last versions has, and how many of them have died.
     rows: usize,
@@ -73,7 +73,7 @@ impl Tally {
         self.marks.may_match(segment, query)
     }
 
-    /// Whether no more match than may, where so many of the last versions do.
+    /// Whether no more versions match than may, where so many of the last ones do.
     pub(crate) fn are_few_with(&self, last: usize) -> bool
         ensures { IsTrue result → last + self.now.dead ≤ MAX_MATCHING }
     {
