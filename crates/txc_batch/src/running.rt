@@ -154,7 +154,7 @@ where
         cushion,
         rows,
     } = parts;
-    let Ok(told) = database.front(alloc) else {
+    let Ok(told) = database.front() else {
         return Err(BatchError::Memory);
     };
     let Ok(database) = Database::<J>::new(alloc, database) else {

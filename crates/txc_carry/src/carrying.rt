@@ -122,10 +122,10 @@ fn carry_tables(
 }
 
 /// The newest stamp.
-fn newest_stamp(alloc: Global, old: &DbCore) -> Result<Stamp, AllocError>
+fn newest_stamp(old: &DbCore) -> Result<Stamp, AllocError>
     ensures { IfOk result (λ stamp. stamp ≡ newest old.now) }
 {
-    Ok(old.front(alloc)?.newest())
+    Ok(old.front()?.newest())
 }
 
 /// A database with room for `room` events whose newest state is the old one's.
@@ -151,7 +151,7 @@ pub fn carry(alloc: Global, old: &mut DbCore, room: usize) -> Result<DbCore, Car
         return Err(CarryError::Old(refusal));
     }
     old.is_sound();
-    let Ok(stamp) = newest_stamp(alloc, old) else {
+    let Ok(stamp) = newest_stamp(old) else {
         return Err(CarryError::Old(DbError::Memory));
     };
     match DbCore::new(alloc, room) {

@@ -60,7 +60,7 @@ fn answer(
             show(out, &"done")
         }
         _ => {
-            *front = row.again(alloc, other)?;
+            *front = other.again();
             show(out, &"done")
         }
     }
@@ -113,8 +113,8 @@ struct TwoFronts {
 /// A new row, of which the fronts show nothing yet.
 fn new_row(alloc: Global, capacity: u32) -> Result<TwoFronts, AllocError> {
     let row = EventRow::new(alloc, (capacity as usize).clamp(1, MAX_CAPACITY))?;
-    let one = row.start(alloc)?;
-    let other = row.start(alloc)?;
+    let one = row.start();
+    let other = row.start();
     Ok(TwoFronts { row, one, other })
 }
 

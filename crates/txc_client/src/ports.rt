@@ -188,7 +188,7 @@ fn draw_passes<A: App, J: Naming>(
 {
     let mut passes = Vec::new(alloc);
     for node in nodes {
-        passes.push(node.pass(rt, alloc)?)?;
+        passes.push(node.pass(rt)?)?;
     }
     Ok(passes)
 }

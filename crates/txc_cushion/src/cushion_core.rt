@@ -80,7 +80,7 @@ impl CushionCore {
         ensures unchanged { OnErr result (self.new ≡ self.old) }
     {
         let pins = newest_fresh(alloc, &self.entries, now, staleness, at_least)?;
-        let front = self.front.again(alloc)?;
+        let front = self.front.again()?;
         add_users(&mut self.entries, &pins);
         Ok(Pins { pins, front })
     }

@@ -26,7 +26,7 @@ pub struct Pincushion<J: Naming> {
 impl<J: Naming> Pincushion<J> {
     /// A pincushion with no pin, for the pins of the database.
     pub fn new(alloc: Global, database: &Database<J>) -> Result<Pincushion<J>, AllocError> {
-        Ok(Pincushion::of_core(CushionCore::new(alloc, database.reader(alloc)?)))
+        Ok(Pincushion::of_core(CushionCore::new(alloc, database.reader()?)))
     }
 
     /// A pincushion with what the core has, whose pins are those of the named row.

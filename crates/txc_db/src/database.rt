@@ -173,16 +173,16 @@ impl<J: Naming> Database<J> {
     }
 
     /// A front of the history that shows nothing yet. It takes no lock.
-    pub fn reader(&self, alloc: Global) -> Result<HistoryFront, AllocError>
+    pub fn reader(&self) -> Result<HistoryFront, AllocError>
         ensures { IfOk result (λ front. front ≡ record { events = J.database_row; history = [] }) }
     {
-        HistoryFront::new(alloc, Arc::try_clone(&self.events)?)
+        Ok(HistoryFront::new(Arc::try_clone(&self.events)?))
     }
 
     /// A feed of the events that has taken none yet. It takes no lock.
-    pub fn feed(&self, alloc: Global) -> Result<Feed<J>, AllocError>
+    pub fn feed(&self) -> Result<Feed<J>, AllocError>
         ensures { IfOk result (λ feed. (feed.history ≡ []) × (feed.taken ≡ 0)) }
     {
-        Feed::new(alloc, self.reader(alloc)?, Arc::try_clone(&self.marks)?)
+        Ok(Feed::new(self.reader()?, Arc::try_clone(&self.marks)?))
     }
 }

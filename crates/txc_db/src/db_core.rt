@@ -77,7 +77,7 @@ impl DbCore {
     {
         versions_keep_states();
         let events = Arc::new(alloc, EventRow::new(alloc, capacity)?)?;
-        let front = HistoryFront::new(alloc, events)?;
+        let front = HistoryFront::new(events);
         let store = VersionRows::open_in_memory(alloc)?;
         Ok(DbCore {
             store,
@@ -119,17 +119,17 @@ impl DbCore {
     }
 
     /// A front of the history that shows nothing yet.
-    pub fn reader(&self, alloc: Global) -> Result<HistoryFront, AllocError>
+    pub fn reader(&self) -> Result<HistoryFront, AllocError>
         ensures { IfOk result (λ front. front ≡ record { events = self.now.events; history = [] }) }
     {
-        HistoryFront::new(alloc, self.front.events_handle()?)
+        Ok(HistoryFront::new(self.front.events_handle()?))
     }
 
     /// A front that shows the whole history.
-    pub fn front(&self, alloc: Global) -> Result<HistoryFront, AllocError>
+    pub fn front(&self) -> Result<HistoryFront, AllocError>
         ensures { IfOk result (λ front. front ≡ front_of self.now) }
     {
-        self.front.again(alloc)
+        self.front.again()
     }
 
     /// The row of the events. Whoever appends to it breaks the database; tests do.
@@ -286,7 +286,7 @@ impl DbCore {
         let events = self.front.len();
         self.holds.reserve(1)?;
         let event = pin_event(alloc, now)?;
-        let mut front = self.front.again(alloc)?;
+        let mut front = self.front.again()?;
         let stamp = Stamp::after(events + 1);
         match self.front.append(event) {
             Ok(()) => {

@@ -1,5 +1,5 @@
 //! The events of a database for those who hold no lock.
-ghost use Rattle.std.specs.Prelude.{◌≡◌, ◌+◌, ◌<◌, ◌≤◌, ◌↔◌, ◌⊎◌, IsTrue, IfOk, [], length, Some};
+ghost use Rattle.std.specs.Prelude.{◌≡◌, ◌+◌, ◌<◌, ◌≤◌, ◌↔◌, ◌⊎◌, IsTrue, [], length, Some};
 ghost use Rattle.std.specs.Arc.{arc_value};
 ghost use Rattle.txc_db.specs.History.{tags_at, event_at};
 ghost use mathlib.Core.List.{IsPrefix};
@@ -7,7 +7,6 @@ ghost use mathlib.Core.List.{IsPrefix};
 use crate::event::Event;
 use crate::history_front::HistoryFront;
 use crate::naming::Naming;
-use std::alloc::{AllocError, Global};
 use std::marker::{Model, PhantomData};
 use std::sync::Arc;
 use txc_stream::{EventRow, Front, prefix_of_itself, prefix_of_prefix};
@@ -80,21 +79,18 @@ impl<J: Naming> Model for Feed<J> {
 }
 
 impl<J: Naming> Feed<J> {
-    pub(crate) fn new(
-        alloc: Global,
-        front: HistoryFront,
-        marks: Arc<EventRow<Mark<J>>>,
-    ) -> Result<Feed<J>, AllocError>
+    pub(crate) fn new(front: HistoryFront, marks: Arc<EventRow<Mark<J>>>) -> Feed<J>
         requires { front.events ≡ J.database_row }
-        ensures { IfOk result (λ feed. (feed.history ≡ front.history) × (feed.taken ≡ 0)) }
+        ensures history { result.history ≡ front.history }
+        ensures taken { result.taken ≡ 0 }
     {
-        let read = marks.start(alloc)?;
-        Ok(Feed {
+        let read = marks.start();
+        Feed {
             front,
             marks,
             read,
             taken: 0,
-        })
+        }
     }
 
     // Shows what the next mark shows. `false` where there is none yet.

@@ -8,7 +8,7 @@ ghost use Rattle.txc_db.specs.History.{AreTagged, state_after_event, state_at, t
 
 use crate::error::DbError;
 use crate::event::Event;
-use std::alloc::{AllocError, Global};
+use std::alloc::AllocError;
 use std::marker::Model;
 use std::sync::Arc;
 use txc_stamp::Stamp;
@@ -39,22 +39,20 @@ impl Model for HistoryFront {
 
 impl HistoryFront {
     /// A front that shows nothing yet of the row.
-    pub(crate) fn new(
-        alloc: Global,
-        events: Arc<EventRow<Event>>,
-    ) -> Result<HistoryFront, AllocError>
-        ensures { IfOk result (λ front. front ≡ record { events = arc_value events; history = [] }) }
+    pub(crate) fn new(events: Arc<EventRow<Event>>) -> HistoryFront
+        ensures { result ≡ record { events = arc_value events; history = [] } }
     {
-        let front = events.start(alloc)?;
-        Ok(HistoryFront { events, front })
+        let front = events.start();
+        HistoryFront { events, front }
     }
 
-    /// A front of one's own that shows the same.
-    pub fn again(&self, alloc: Global) -> Result<HistoryFront, AllocError>
+    /// A front of one's own that shows the same. It takes no memory: only a row of which there are too many handles
+    /// already refuses it.
+    pub fn again(&self) -> Result<HistoryFront, AllocError>
         ensures { IfOk result (λ copy. copy ≡ self.now) }
     {
         let events = Arc::try_clone(&self.events)?;
-        let front = events.again(alloc, &self.front)?;
+        let front = self.front.again();
         Ok(HistoryFront { events, front })
     }
 

@@ -61,9 +61,9 @@ impl<J: Naming> Locked<J> {
     ) -> Result<Locked<J>, AllocError>
         requires { core.events ≡ J.database_row }
     {
-        let mut marked = marks.start(alloc)?;
+        let mut marked = marks.start();
         if !core.history().is_empty() {
-            let mark = Box::new(alloc, Mark::new(core.front(alloc)?))?;
+            let mark = Box::new(alloc, Mark::new(core.front()?))?;
             if !leave_mark(&marks, &mut marked, mark, core.history()) {
                 core.set_broken();
             }
@@ -114,7 +114,7 @@ impl<J: Naming> Locked<J> {
     {
         self.is_named();
         let answer = self.core.query(alloc, query, stamp)?;
-        let front = self.core.front(alloc)?;
+        let front = self.core.front()?;
         Ok(Answered { answer, front })
     }
 
@@ -132,7 +132,7 @@ impl<J: Naming> Locked<J> {
     {
         self.is_named();
         self.core.check_hold()?;
-        let front = self.core.front(alloc)?;
+        let front = self.core.front()?;
         let answer = self.core.hold(alloc)?;
         Ok(Answered { answer, front })
     }
@@ -202,7 +202,7 @@ impl<J: Naming> Locked<J> {
     {
         self.is_named();
         let newest = self.core.check_base(base)?;
-        let mut front = self.core.front(alloc)?;
+        let mut front = self.core.front()?;
         let mark = self.mark(alloc)?;
         match self.core.commit(alloc, base, read, changes) {
             Ok(answer) => {
@@ -221,7 +221,7 @@ impl<J: Naming> Locked<J> {
     fn mark(&self, alloc: Global) -> Result<Box<Mark<J>>, AllocError>
         ensures { IfOk result (λ mark. mark.value ≡ self.now.history) }
     {
-        let front = self.core.front(alloc)?;
+        let front = self.core.front()?;
         Ok(Box::new(alloc, Mark::new(front))?)
     }
 }

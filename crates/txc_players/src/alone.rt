@@ -47,8 +47,8 @@ impl Calls for DbCore {
 
     fn other_call(&mut self, alloc: Global, command: &str, answer: &mut String) {
         let front = match command {
-            "reader" => self.reader(alloc),
-            "front" => self.front(alloc),
+            "reader" => self.reader(),
+            "front" => self.front(),
             _ => return say_unknown(answer),
         };
         match front {

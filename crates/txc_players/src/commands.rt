@@ -95,9 +95,7 @@ pub(crate) fn say_event(answer: &mut String, alloc: Global, event: &Event) {
 
 /// The events that the row has, from the first on.
 fn say_events(answer: &mut String, alloc: Global, events: &EventRow<Event>) {
-    let Ok(mut front) = events.start(alloc) else {
-        return say_refusal(answer, DbError::Memory);
-    };
+    let mut front = events.start();
     for _ in 0..events.capacity() {
         let Some(event) = events.next(&mut front) else {
             return;
@@ -108,7 +106,7 @@ fn say_events(answer: &mut String, alloc: Global, events: &EventRow<Event>) {
 
 /// Appends a record after the first two events, past the database, as no call does.
 fn append_foreign(alloc: Global, events: &EventRow<Event>) -> Result<(), DbError> {
-    let mut front = events.start(alloc)?;
+    let mut front = events.start();
     let _first = events.next(&mut front);
     let _second = events.next(&mut front);
     let event = Event {

@@ -34,7 +34,7 @@ impl<'a, J: Naming, R: Wait> Shared<'a, J, R> {
         database: &'a Database<J>,
         is_alone: bool,
     ) -> Result<Self, AllocError> {
-        let feed = database.feed(alloc)?;
+        let feed = database.feed()?;
         Ok(Shared {
             rt,
             database,
@@ -45,10 +45,10 @@ impl<'a, J: Naming, R: Wait> Shared<'a, J, R> {
     }
 
     /// A front of all that the answers and the feed have shown.
-    pub fn seen(&self, alloc: Global) -> Result<HistoryFront, AllocError>
+    pub fn seen(&self) -> Result<HistoryFront, AllocError>
         ensures { IfOk result (λ front. front.events ≡ J.database_row) }
     {
-        self.feed.front().again(alloc)
+        self.feed.front().again()
     }
 
     /// Says so where a front shows less than one before it.
@@ -79,8 +79,8 @@ impl<'a, J: Naming, R: Wait> Shared<'a, J, R> {
     }
 
     /// A front that was lengthened by that of the feed.
-    fn fed(&self, alloc: Global) -> Result<HistoryFront, AllocError> {
-        let mut front = self.database.reader(alloc)?;
+    fn fed(&self) -> Result<HistoryFront, AllocError> {
+        let mut front = self.database.reader()?;
         front.longer(self.feed.front());
         Ok(front)
     }
@@ -88,8 +88,8 @@ impl<'a, J: Naming, R: Wait> Shared<'a, J, R> {
     /// Appends a mark past the lock, before all others, as no call does.
     fn append_mark(&self, alloc: Global) -> Result<(), DbError> {
         let marks = self.database.marks();
-        let mut front = marks.start(alloc)?;
-        let mark = Mark::new(self.database.reader(alloc)?);
+        let mut front = marks.start();
+        let mark = Mark::new(self.database.reader()?);
         let _added = marks.append(&mut front, Box::new(alloc, mark)?);
         Ok(())
     }
@@ -187,9 +187,9 @@ impl<J: Naming, R: Wait> Calls for Shared<'_, J, R> {
                 self.is_alone = false;
                 return say_done(answer, self.append_mark(alloc));
             }
-            "reader" => self.database.reader(alloc),
-            "front" => self.seen(alloc),
-            "fed" => self.fed(alloc),
+            "reader" => self.database.reader(),
+            "front" => self.seen(),
+            "fed" => self.fed(),
             _ => return say_unknown(answer),
         };
         match front {

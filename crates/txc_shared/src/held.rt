@@ -122,11 +122,7 @@ impl<A: App, J: Naming> Held<A, J> {
     }
 
     /// One pass more, which has seen no record. It is broken where the node was made with other settings.
-    pub(crate) fn pass(
-        &mut self,
-        alloc: Global,
-        settings: NodeSettings,
-    ) -> Result<NodePass<J>, NodeError>
+    pub(crate) fn pass(&mut self, settings: NodeSettings) -> Result<NodePass<J>, NodeError>
         ensures named { self.old.cells ≡ J.node_rows self.old.settings.number }
         ensures pass { IfOk result (λ pass. pass ≡ record {
           settings = settings;
@@ -146,8 +142,8 @@ impl<A: App, J: Naming> Held<A, J> {
         }
         self.node.check_pass()?;
         let row = self.node.front().row_handle()?;
-        let records = NodeFront::new(alloc, row)?;
-        let events = self.node.seen().again(alloc)?;
+        let records = NodeFront::new(row);
+        let events = self.node.seen().again()?;
         let pass = self.node.pass()?;
         Ok(NodePass::new(settings, pass, records, events))
     }

@@ -4,7 +4,7 @@ ghost use Rattle.std.specs.Arc.{arc_value};
 ghost use mathlib.Core.List.{IsPrefix};
 ghost use Rattle.txc_stream.specs.declared.row.TheConstants.{MAX_CAPACITY};
 
-use std::alloc::{AllocError, Global};
+use std::alloc::AllocError;
 use std::marker::Model;
 use std::sync::Arc;
 use txc_node::Record;
@@ -34,11 +34,11 @@ impl Model for NodeFront {
 
 impl NodeFront {
     /// A front that shows nothing yet of the row.
-    pub(crate) fn new(alloc: Global, row: Arc<EventRow<Record>>) -> Result<NodeFront, AllocError>
-        ensures { IfOk result (λ front. front ≡ record { cells = arc_value row; records = [] }) }
+    pub(crate) fn new(row: Arc<EventRow<Record>>) -> NodeFront
+        ensures { result ≡ record { cells = arc_value row; records = [] } }
     {
-        let front = row.start(alloc)?;
-        Ok(NodeFront { row, front })
+        let front = row.start();
+        NodeFront { row, front }
     }
 
     /// The row of the records. Whoever appends to it breaks the node; tests do.

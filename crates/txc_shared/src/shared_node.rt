@@ -68,9 +68,9 @@ impl<A: App, J: Naming> SharedNode<A, J> {
         requires named { row ≡ J.node_rows settings.number }
         ensures { IfOk result (λ node. node ≡ settings) }
     {
-        let node = StoredNode::new(alloc, settings, row, database.reader(alloc)?)?;
+        let node = StoredNode::new(alloc, settings, row, database.reader()?)?;
         let row = node.front().row_handle()?;
-        let held = Held::new(node, database.feed(alloc)?);
+        let held = Held::new(node, database.feed()?);
         Ok(SharedNode {
             settings,
             row,
@@ -79,13 +79,13 @@ impl<A: App, J: Naming> SharedNode<A, J> {
     }
 
     /// A pass of its own for a caller, which has seen no record. At most [`MAX_PASSES`] are given.
-    pub fn pass(&self, rt: &impl Wait, alloc: Global) -> Result<NodePass<J>, NodeError>
+    pub fn pass(&self, rt: &impl Wait) -> Result<NodePass<J>, NodeError>
         ensures settings { IfOk result (λ pass. pass.settings ≡ self.now) }
         ensures number { IfOk result (λ pass. pass.pass < MAX_PASSES) }
         ensures records { IfOk result (λ pass. pass.records ≡ []) }
         ensures refused { IfErr result (NodeMayRefuse J.node_rows (IsNewPassRefused self.now)) }
     {
-        self.lock.lock(rt).pass(alloc, self.settings)
+        self.lock.lock(rt).pass(self.settings)
     }
 
     /// The row of its records, which anybody reads without the lock. Whoever appends to it breaks the node;

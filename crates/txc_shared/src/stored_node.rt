@@ -84,7 +84,7 @@ impl<A: App> StoredNode<A> {
     {
         nodes_go_on();
         let row = Arc::new(alloc, row)?;
-        let log = Log::new(alloc, NodeFront::new(alloc, row)?);
+        let log = Log::new(alloc, NodeFront::new(row));
         let core = NodeCore::new(alloc, settings.capacity, settings.recent)?;
         Ok(StoredNode {
             settings,
@@ -243,7 +243,7 @@ impl<A: App> StoredNode<A> {
             reach: hit.reach(),
             tags: hit.tags.copy(alloc)?,
         };
-        let front = self.seen.again(alloc)?;
+        let front = self.seen.again()?;
         Ok((Some(Finding::new(entry, front)), Reply::Hit(shown)))
     }
 

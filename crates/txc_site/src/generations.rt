@@ -40,13 +40,13 @@ struct Begun {
 }
 
 /// The front of the whole history, which goes on from what was seen of it. `Broken` where it shows less.
-fn whole_front(alloc: Global, core: &DbCore, seen: &HistoryFront) -> Result<HistoryFront, DbError>
+fn whole_front(core: &DbCore, seen: &HistoryFront) -> Result<HistoryFront, DbError>
     requires { core.now.events ≡ seen.now.events }
     ensures whole { IfOk result (λ front. front ≡ front_of core.now) }
     ensures goes_on { IfOk result (λ front. IsPrefix seen.now.history front.history) }
     ensures refused { IfErr result (λ error. (error ≡ DbError.Memory) ⊎ (error ≡ DbError.Broken)) }
 {
-    let whole = core.front(alloc)?;
+    let whole = core.front()?;
     if whole.len() < seen.len() {
         return Err(DbError::Broken);
     }
@@ -80,7 +80,7 @@ where
 {
     let Begun { core, front: begun } = begun;
     let (outputs, core) = over_new_rows::<A, D, V, R>(rt, alloc, plan, core, count, visitors)?;
-    let ended = whole_front(alloc, &core, &begun)?;
+    let ended = whole_front(&core, &begun)?;
     let generation = Generation {
         number,
         begun,
@@ -102,7 +102,7 @@ fn next(alloc: Global, plan: Plan, mut core: DbCore) -> Result<Begun, Generation
         Ok(core) => core,
         Err(cause) => return Err(GenerationError::Carry(cause)),
     };
-    let front = core.front(alloc)?;
+    let front = core.front()?;
     Ok(Begun { core, front })
 }
 
@@ -136,7 +136,7 @@ where
         return Err(OpenError::Site(SiteError::Plan));
     }
     let (opening, core) = opened::<A, D, O, R>(rt, alloc, plan, opening)?;
-    let front = opening.committed.front.again(alloc)?;
+    let front = opening.committed.front.again()?;
     let mut generations = Vec::new(alloc);
     let end = go_on::<A, D, V, R>(
         rt,

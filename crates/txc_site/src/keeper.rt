@@ -136,7 +136,7 @@ fn stations<'a, A: App, J: Naming>(
 {
     let mut stations = Vec::with_capacity(alloc, nodes.len())?;
     for node in nodes {
-        let pass = node.pass(rt, alloc)?;
+        let pass = node.pass(rt)?;
         stations.push(Station { node, pass })?;
     }
     Ok(stations)
@@ -192,7 +192,7 @@ fn pin<J: Naming>(
         }
         Err(cause) => {
             let held = database.hold(rt, alloc)?;
-            let front = held.front().again(alloc);
+            let front = held.front().again();
             let _ = database.release(rt, held);
             Ok((front?, Err(cause)))
         }

@@ -1,11 +1,11 @@
 ghost use Rattle.std.specs.Prelude.{◌≡◌, ℕ, ◌+◌, ◌<◌, ◌≤◌, ◌++◌, ◌∷◌, ◌⊎◌, [], length, Some, IfOk, OnOk, IfErr, IfSome, MatchOption, slice_get, slice_index, ◌↔◌, IsSome, IsNone, IsTrue};
-ghost use Rattle.once_cell.specs.Once.{Agrees};
 ghost use mathlib.Core.List.{IsPrefix};
 
+use crate::seen::Seen;
 use once_cell::race::{Note, OnceBox};
 use std::alloc::{AllocError, Global};
 use std::fmt;
-use std::marker::Model;
+use std::marker::{Model, PhantomData};
 use thiserror::Error;
 
 /// The most records that a row can have room for.
@@ -37,25 +37,24 @@ impl<T: Drop> Drop for EventRow<T> {
 /// A prefix of a row, as somebody has seen it.
 ///
 /// Contracts see it as a record: `row`, the names of all cells of its row, and `list`, the records seen. It
-/// has neither a lifetime nor a handle, so whoever owns the row can own its fronts too. It is made with a
-/// note for each cell of the row, and a note takes no bytes, so a front of any length takes as much as an
-/// empty `Vec`.
+/// has neither a lifetime nor a handle, so whoever owns the row can own its fronts too. It takes as much as a
+/// number, however many records it shows.
 #[derive(Drop)]
 pub struct Front<T> {
-    notes: Vec<Note<T>>,
+    seen: Seen<T>,
     len: usize,
 }
 
 impl<T> Model for Front<T> {
-    ghost use Rattle.txc_stream.specs.Shown.{Shown, shown_code, shown_by_notes, IsSeen};
+    ghost use Rattle.txc_stream.specs.Shown.{Shown, shown_code, shown_of, IsSeen};
 
     ghost Value = { Shown T };
 
     ghost coded = { shown_code T.code };
 
-    ghost view = { λ f. shown_by_notes f.notes.items f.len };
+    ghost view = { λ f. shown_of f.seen };
 
-    ghost invariant = { λ f. IsSeen f.notes.items f.len };
+    ghost invariant = { λ f. IsSeen f.seen f.len };
 }
 
 // A front is read by `&` from many threads. What it knows of the row's cells, every thread knows alike:
@@ -116,26 +115,25 @@ impl<T> EventRow<T> {
         self.cells.len()
     }
 
-    /// A front that shows nothing yet, with all the room that it will ever need.
-    pub fn start(&self, alloc: Global) -> Result<Front<T>, AllocError>
-        ensures { IfOk result (λ front. (front.row ≡ self.now) × (front.list ≡ [])) }
+    // Nothing was seen of the row.
+    fn unseen(&self) -> Seen<T>
+        ensures { (result.row ≡ self.now) × (result.list ≡ []) }
     {
-        let cells = &self.cells;
-        let mut notes = Vec::with_capacity(alloc, cells.len())?;
-        for cell in cells {
-            notes.push_reserved(cell.note());
+        Seen {
+            marker: PhantomData,
         }
-        Ok(Front { notes, len: 0 })
     }
 
-    /// A second front that shows what the given one shows.
-    pub fn again(&self, alloc: Global, front: &Front<T>) -> Result<Front<T>, AllocError>
-        requires { front.now.row ≡ self.now }
-        ensures { IfOk result (λ copy. copy ≡ front.now) }
+    /// A front that shows nothing yet.
+    pub fn start(&self) -> Front<T>
+        ensures row { result.row ≡ self.now }
+        ensures list { result.list ≡ [] }
     {
-        let mut copy = self.start(alloc)?;
-        copy.longer(front);
-        Ok(copy)
+        let _capacity = self.cells.len();
+        Front {
+            seen: self.unseen(),
+            len: 0,
+        }
     }
 
     /// The record at a place that the front shows, counted from 0.
@@ -144,12 +142,11 @@ impl<T> EventRow<T> {
         requires shown { at < length front.now.list }
         ensures { slice_get front.now.list at ≡ Some result.now }
     {
+        let _len = front.len();
         let cells = &self.cells;
-        let notes = &front.notes;
-        let _len = front.len;
         let cell = &cells[at];
         let mut note = cell.note();
-        pass_on(&notes[at], &mut note);
+        front.seen.tell(at, &mut note);
         match cell.get_as(&mut note) {
             Some(record) => record,
             None => unreachable!(),
@@ -174,7 +171,7 @@ impl<T> EventRow<T> {
         let cell = &cells[at];
         let mut seen = cell.note();
         let record = cell.get_as(&mut seen)?;
-        front.show(seen);
+        front.show(&seen);
         Some(record)
     }
 
@@ -214,7 +211,7 @@ impl<T: Drop> EventRow<T> {
         let mut stored = cell.note();
         match cell.set_as(value, &mut stored) {
             Ok(()) => {
-                front.show(stored);
+                front.show(&stored);
                 Ok(())
             }
             Err(value) => {
@@ -232,7 +229,6 @@ impl<T> Front<T> {
         ensures room { result ≤ length self.now.row }
         ensures most { length self.now.row ≤ MAX_CAPACITY }
     {
-        let _room = self.notes.len();
         self.len
     }
 
@@ -243,17 +239,22 @@ impl<T> Front<T> {
         self.len() == 0
     }
 
+    /// A second front that shows the same.
+    pub fn again(&self) -> Front<T>
+        ensures { result ≡ self.now }
+    {
+        Front {
+            seen: self.seen.again(),
+            len: self.len,
+        }
+    }
+
     /// Of two fronts of one row, one is a prefix of the other. This is a lemma: it does nothing when it runs.
     pub fn agree(&self, other: &Front<T>)
         requires { self.now.row ≡ other.now.row }
         ensures { IsPrefix self.now.list other.now.list ⊎ IsPrefix other.now.list self.now.list }
     {
-        let ones = &self.notes;
-        let others = &other.notes;
-        let most = self.len.min(other.len);
-        for at in 0..most {
-            same(&ones[at], &others[at]);
-        }
+        self.seen.agree(&other.seen);
     }
 
     /// Takes over what the other front shows beyond this one, so that this one shows the longer list.
@@ -264,39 +265,22 @@ impl<T> Front<T> {
         ensures this { IsPrefix self.old.list self.new.list }
         ensures that { IsPrefix other.now.list self.new.list }
     {
-        let others = &other.notes;
-        for at in 0..other.len {
-            if at < self.len {
-                same(&self.notes[at], &others[at]);
-            } else {
-                pass_on(&others[at], &mut self.notes[at]);
-            }
+        self.seen.agree(&other.seen);
+        if self.len < other.len {
+            self.seen = other.seen.again();
+            self.len = other.len;
         }
-        self.len = self.len.max(other.len);
     }
 
     // Shows one record more, which the note knows.
-    fn show(&mut self, note: Note<T>)
+    fn show(&mut self, note: &Note<T>)
         requires room { length self.old.list < length self.old.row }
-        requires cell { note.cell ≡ slice_index self.old.row (length self.old.list) }
-        requires known { IsSome note.known }
+        requires cell { note.now.cell ≡ slice_index self.old.row (length self.old.list) }
+        requires known { IsSome note.now.known }
         ensures row { self.new.row ≡ self.old.row }
-        ensures list { IfSome note.known (λ added. self.new.list ≡ self.old.list ++ added ∷ []) }
+        ensures list { IfSome note.now.known (λ added. self.new.list ≡ self.old.list ++ added ∷ []) }
     {
-        let at = self.len;
-        self.notes[at] = note;
-        self.len = at + 1;
+        self.seen.add(note);
+        self.len += 1;
     }
 }
-
-// What two notes of one cell know is the same. A note has no bytes, so there is nothing to run.
-fn same<T>(one: &Note<T>, other: &Note<T>)
-    requires { one.now.cell ≡ other.now.cell }
-    ensures { IfSome other.now.known (Agrees one.now.known) }
-{}
-
-// Lets a note know what another note of its cell knows. A note has no bytes, so there is nothing to run.
-fn pass_on<T>(from: &Note<T>, to: &mut Note<T>)
-    requires { from.now.cell ≡ to.old.cell }
-    ensures { (to.new.cell ≡ to.old.cell) × (to.new.known ≡ from.now.known) }
-{}

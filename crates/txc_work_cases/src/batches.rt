@@ -101,7 +101,7 @@ fn warm_up<J: Naming + Send + Sync, R: Threads + Wait + Sync>(
     let jobs = jobs(alloc, text)?;
     let mut pools = Vec::new(alloc);
     let clients = clients(rt, alloc, database, cushion, nodes, &mut pools, 1).ok()?;
-    let watch = Watch::new(alloc, database.events(), set_of(text), false);
+    let watch = Watch::new(database.events(), set_of(text), false);
     let batch = run_by::<Object, J, R>(rt, alloc, jobs, clients, &watch);
     if batch.is_ok() { Some(()) } else { None }
 }
@@ -146,7 +146,7 @@ fn run_on<J: Naming + Send + Sync, R: Threads + Wait + Sync>(
     let mut pools = Vec::new(alloc);
     let count = case.clients.clamp(1, 8);
     let clients = clients(rt, alloc, database, cushion, nodes, &mut pools, count).ok()?;
-    let watch = Watch::new(alloc, database.events(), set_of(case.jobs), case.holds);
+    let watch = Watch::new(database.events(), set_of(case.jobs), case.holds);
     let batch = run_by::<Object, J, R>(rt, alloc, jobs, clients, &watch);
     let left = count_left(rt, alloc, database, cushion, &mut pools);
     judge(answer, alloc, case, batch, &watch, (were, pins), left)

@@ -1,5 +1,4 @@
 //! A gate that watches the jobs, and may hold one of them back.
-use std::alloc::Global;
 use std::sync::atomic::{AtomicBool, AtomicU64, Ordering};
 use std::thread;
 use txc_db::Event;
@@ -12,7 +11,6 @@ const TURNS: u32 = 1_000_000;
 /// What a gate saw. Jobs have numbers below 64, of which each has one bit in a set.
 #[derive(Drop)]
 pub(super) struct Watch<'a> {
-    alloc: Global,
     events: &'a EventRow<Event>,
     jobs: u64,
     holds: bool,
@@ -21,7 +19,6 @@ pub(super) struct Watch<'a> {
     begun: AtomicU64,
     ended: AtomicU64,
     is_wrong: AtomicBool,
-    is_blind: AtomicBool,
     least_before: AtomicU64,
     most_after: AtomicU64,
     is_held: AtomicBool,
@@ -34,28 +31,22 @@ pub(super) fn bit(number: u32) -> u64 {
     1u64.wrapping_shl(number)
 }
 
-/// How many events there are; none where there is no memory to look.
-fn count_of(alloc: Global, events: &EventRow<Event>) -> Option<u64> {
-    let mut front = events.start(alloc).ok()?;
+/// How many events there are.
+fn count_of(events: &EventRow<Event>) -> u64 {
+    let mut front = events.start();
     for _ in 0..events.capacity() {
         if events.next(&mut front).is_none() {
             break;
         }
     }
-    Some(front.len() as u64)
+    front.len() as u64
 }
 
 impl<'a> Watch<'a> {
     /// Watches the jobs of this set over these events. Where it holds, job 1 is held until job 2 was
     /// answered, and job 2 until job 1 is held.
-    pub(super) fn new(
-        alloc: Global,
-        events: &'a EventRow<Event>,
-        jobs: u64,
-        holds: bool,
-    ) -> Watch<'a> {
+    pub(super) fn new(events: &'a EventRow<Event>, jobs: u64, holds: bool) -> Watch<'a> {
         Watch {
-            alloc,
             events,
             jobs,
             holds,
@@ -64,7 +55,6 @@ impl<'a> Watch<'a> {
             begun: AtomicU64::new(0),
             ended: AtomicU64::new(0),
             is_wrong: AtomicBool::new(false),
-            is_blind: AtomicBool::new(false),
             least_before: AtomicU64::new(u64::MAX),
             most_after: AtomicU64::new(0),
             is_held: AtomicBool::new(false),
@@ -88,12 +78,11 @@ impl<'a> Watch<'a> {
         !self.is_wrong.load(Ordering::SeqCst) && begun == self.jobs && ended == self.jobs
     }
 
-    /// Whether the first job began with so many events, and the last one ended with so many. True too where
-    /// there was no memory to look.
+    /// Whether the first job began with so many events, and the last one ended with so many.
     pub(super) fn was_round(&self, first: u64, last: u64) -> bool {
         let least = self.least_before.load(Ordering::SeqCst);
         let most = self.most_after.load(Ordering::SeqCst);
-        self.is_blind.load(Ordering::SeqCst) || (least == first && most == last)
+        least == first && most == last
     }
 
     /// Whether job 1 was held while job 2 ran.
@@ -144,12 +133,8 @@ impl Gate for Watch<'_> {
         if begun & bit != 0 || self.jobs & bit == 0 {
             self.is_wrong.store(true, Ordering::SeqCst);
         }
-        match count_of(self.alloc, self.events) {
-            Some(count) => {
-                self.least_before.fetch_min(count, Ordering::SeqCst);
-            }
-            None => self.is_blind.store(true, Ordering::SeqCst),
-        }
+        self.least_before
+            .fetch_min(count_of(self.events), Ordering::SeqCst);
         if self.holds {
             self.hold(job.number);
         }
@@ -158,12 +143,8 @@ impl Gate for Watch<'_> {
     fn after(&self, job: &Job) {
         let bit = bit(job.number);
         self.afters.fetch_add(1, Ordering::SeqCst);
-        match count_of(self.alloc, self.events) {
-            Some(count) => {
-                self.most_after.fetch_max(count, Ordering::SeqCst);
-            }
-            None => self.is_blind.store(true, Ordering::SeqCst),
-        }
+        self.most_after
+            .fetch_max(count_of(self.events), Ordering::SeqCst);
         let begun = self.begun.load(Ordering::SeqCst);
         let ended = self.ended.fetch_or(bit, Ordering::SeqCst);
         if begun & bit == 0 || ended & bit != 0 {

@@ -30,7 +30,7 @@ fn new_node<A: App>(
     ensures { IfOk result (IsNewNode settings row_cap passes (front_of database.now)) }
 {
     let row = EventRow::new(alloc, row_cap)?;
-    let seen = database.front(alloc)?;
+    let seen = database.front()?;
     let mut node = StoredNode::new(alloc, settings, row, seen)?;
     for pass in 0..passes {
         let Ok(_drawn) = node.pass() else {
@@ -85,7 +85,7 @@ impl<A: App> Ports<A> {
         ensures refused { IfErr result IsWant }
     {
         let database = DbCore::new(alloc, settings.row_cap)?;
-        let front = database.front(alloc)?;
+        let front = database.front()?;
         let cushion = CushionCore::new(alloc, front);
         let nodes = new_nodes(alloc, &database, settings, actors + 1)?;
         Ok(Ports {

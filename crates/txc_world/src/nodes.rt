@@ -93,7 +93,7 @@ pub(crate) fn advance<A: App>(
     if node.is_broken() {
         return Err(NodeError::Broken);
     }
-    let whole = database.front(alloc)?;
+    let whole = database.front()?;
     match node.advance(alloc, pass, &whole) {
         Ok(advanced) => Ok(advanced),
         Err(refusal) => Err(refusal),

@@ -165,7 +165,7 @@ impl<A: App> Ports<A> {
     {
         found_rows_give_true_entries();
         let answer = self.database.query(alloc, query, stamp)?;
-        let front = self.database.front(alloc)?;
+        let front = self.database.front()?;
         Ok(Answered { answer, front })
     }
 

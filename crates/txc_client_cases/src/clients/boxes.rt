@@ -90,7 +90,7 @@ fn work_of<
     };
     let one = Client::new(rt, alloc, &database, &cushion, &nodes, one, RENEW_AFTER).ok()?;
     let other = Client::new(rt, alloc, &database, &cushion, &nodes, other, RENEW_AFTER).ok()?;
-    let keeper = nodes[0].pass(rt, alloc).ok()?;
+    let keeper = nodes[0].pass(rt).ok()?;
     match work {
         Work::Lines(lines) => {
             let mut desk = Desk::new(

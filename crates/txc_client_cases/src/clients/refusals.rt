@@ -83,7 +83,7 @@ const LIMITS: [Script; 2] = [
 
 /// Appends a record past the node, as no call does.
 pub(super) fn append_foreign(alloc: Global, row: &EventRow<Record>) -> Result<(), AllocError> {
-    let mut front = row.start(alloc)?;
+    let mut front = row.start();
     let foreign = Record {
         pass: 0,
         turn: 1,
@@ -98,7 +98,7 @@ pub(super) fn append_foreign(alloc: Global, row: &EventRow<Record>) -> Result<()
 
 /// Appends a record after the first two events, past the database, as no call does.
 pub(super) fn append_event(alloc: Global, events: &EventRow<Event>) -> Result<(), DbError> {
-    let mut front = events.start(alloc)?;
+    let mut front = events.start();
     let _first = events.next(&mut front);
     let _second = events.next(&mut front);
     let event = Event {
@@ -160,11 +160,11 @@ fn make<J: Naming>(
     if is_broken {
         append_foreign(alloc, nodes[0].row()).ok()?;
         // It finds the record as it is asked for the first time.
-        let mut pass = nodes[0].pass(rt, alloc).ok()?;
+        let mut pass = nodes[0].pass(rt).ok()?;
         let _swept = pass.sweep(rt, alloc, &nodes[0], Stamp::ZERO);
     }
     for _ in 0..passes {
-        let _pass = nodes[0].pass(rt, alloc).ok()?;
+        let _pass = nodes[0].pass(rt).ok()?;
     }
     let mut pool = PermitPool::new(alloc, 1).ok()?;
     let Ok(functions) = registry(alloc, &mut pool) else {

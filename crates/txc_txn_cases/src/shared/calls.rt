@@ -92,11 +92,10 @@ impl<'a, J: Naming, R: Wait> Caller<'a, J, R> {
     /// A caller with a pass of its own.
     pub(super) fn new(
         rt: &'a R,
-        alloc: Global,
         database: &'a Database<J>,
         node: &'a SharedNode<Program, J>,
     ) -> Result<Self, NodeError> {
-        let pass = node.pass(rt, alloc)?;
+        let pass = node.pass(rt)?;
         Ok(Caller {
             rt,
             database,

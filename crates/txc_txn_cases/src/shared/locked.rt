@@ -129,7 +129,7 @@ struct Callers<'a, J: Naming, R: Wait> {
 
 /// Appends a record after the first one, past the node, as no call does.
 fn append_foreign(alloc: Global, row: &EventRow<Record>) -> Result<(), AllocError> {
-    let mut front = row.start(alloc)?;
+    let mut front = row.start();
     let _first = row.next(&mut front);
     let foreign = Record {
         pass: 0,
@@ -144,9 +144,9 @@ fn append_foreign(alloc: Global, row: &EventRow<Record>) -> Result<(), AllocErro
 }
 
 impl<J: Naming, R: Wait> Callers<'_, J, R> {
-    fn draw_passes(&self, alloc: Global, count: u32, answer: &mut String) {
+    fn draw_passes(&self, count: u32, answer: &mut String) {
         for _ in 0..count {
-            if let Err(refusal) = self.one.node.pass(self.one.rt, alloc) {
+            if let Err(refusal) = self.one.node.pass(self.one.rt) {
                 return say_refusal(answer, refusal);
             }
         }
@@ -186,7 +186,7 @@ impl<J: Naming, R: Wait> Obeys for Callers<'_, J, R> {
             "1" => self.other.obey(alloc, words, changes, answer),
             "meet" => self.meet(),
             "commit" => self.commit(alloc, changes, answer),
-            "passes" => self.draw_passes(alloc, number(words), answer),
+            "passes" => self.draw_passes(number(words), answer),
             "foreign" => {
                 if append_foreign(alloc, self.one.node.row()).is_err() {
                     say_refusal(answer, NodeError::Memory);
@@ -227,8 +227,8 @@ fn is_answered<J: Naming, R: Wait>(
 {
     let database = Database::<J>::new(alloc, core).ok()?;
     let node = SharedNode::<Program, J>::new(alloc, SETTINGS, row, &database).ok()?;
-    let one = Caller::new(rt, alloc, &database, &node).ok()?;
-    let other = Caller::new(rt, alloc, &database, &node).ok()?;
+    let one = Caller::new(rt, &database, &node).ok()?;
+    let other = Caller::new(rt, &database, &node).ok()?;
     let mut callers = Callers { one, other };
     Some(is_played(&mut callers, alloc, "", script.1, answer))
 }

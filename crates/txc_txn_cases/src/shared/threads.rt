@@ -117,8 +117,8 @@ fn meet_after<J: Naming + Send + Sync, R: Threads + Wait + Sync>(
 {
     let database = Database::<J>::new(alloc, core).ok()?;
     let node = SharedNode::<Program, J>::new(alloc, SETTINGS, row, &database).ok()?;
-    let one = node.pass(rt, alloc).ok()?;
-    let other = node.pass(rt, alloc).ok()?;
+    let one = node.pass(rt).ok()?;
+    let other = node.pass(rt).ok()?;
     let (one, other) = work_in_two_threads(rt, alloc, &database, &node, one, other);
     let (Some(mut one), Some(mut other)) = (one, other) else {
         return None;

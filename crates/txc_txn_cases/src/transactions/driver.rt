@@ -157,7 +157,7 @@ impl<A: App, C: Cacheable> Driver<A, C> {
     fn hit(&mut self, alloc: Global, words: &mut SplitWhitespace<'_>, answer: &mut String) {
         if let Some(PortRequest::Lookup { .. }) = &self.asks
             && let Some(Reply::Hit(shown)) = hit(alloc, words)
-            && let Ok(front) = self.core.seen().again(alloc)
+            && let Ok(front) = self.core.seen().again()
         {
             let hit = Answered {
                 answer: shown,
@@ -172,7 +172,7 @@ impl<A: App, C: Cacheable> Driver<A, C> {
             && let Some(Reply::Found(found)) = found(alloc, words)
             && let Some(newest) = self.core.members().first()
             && found.reach.holds(newest.stamp)
-            && let Ok(front) = self.core.seen().again(alloc)
+            && let Ok(front) = self.core.seen().again()
         {
             let found = Answered {
                 answer: found,
@@ -212,7 +212,7 @@ impl<A: App, C: Cacheable> Driver<A, C> {
         requires reply { IsAnswered self.old (ports.Pin (Ok pinned)) }
         requires row { pinned.front.events ≡ self.old.seen.events }
     {
-        if let Ok(front) = pinned.front.again(alloc) {
+        if let Ok(front) = pinned.front.again() {
             self.pinned = Some(Pinned {
                 stamp: pinned.stamp,
                 moment: pinned.moment,

@@ -43,7 +43,7 @@ pub(super) fn two_pins(alloc: Global, database: &mut DbCore, staleness: u64) -> 
     ensures fresh { ForSome result (λ pins.
         All (IsFresh pins.front.history (bounds_of staleness)) pins.pins.items) }
 {
-    let mut cushion = CushionCore::new(alloc, database.front(alloc).ok()?);
+    let mut cushion = CushionCore::new(alloc, database.front().ok()?);
     add_pin(alloc, database, &mut cushion, 1000)?;
     add_pin(alloc, database, &mut cushion, 2000)?;
     cushion.fresh(alloc, 2500, staleness, Stamp::ZERO).ok()

@@ -1,5 +1,5 @@
--- What the one note knows goes to the other. No code does it: a note has no bytes.
-use Rattle.std.proofs.Common.{◌≡◌, ℕ, List, [], ◌∷◌, ◌++◌, refl, sym, subst, IfSome}
+-- Of two lists that were seen of one row, one is a prefix of the other. No code shows it.
+use Rattle.std.proofs.Common.{◌≡◌, ℕ, List, [], ◌∷◌, ◌++◌, ◌⊎◌, refl, sym, subst}
 use mir.Syntax.{a_type}
 use mir.Val.{Val, vptr, vunit}
 use mir.MapTy.{inst_fn}
@@ -20,34 +20,34 @@ use denote.Steps.{nothing, heard}
 use denote.Param.{param, layouts}
 use denote.Param.Laws.{param_laws}
 use denote.Triple.Walked.{Stays, stay_dropped, walk_of, Goes-dropped}
-use Rattle.once_cell.specs.Once.{noted, Agrees}
+use mathlib.Core.List.{IsPrefix}
 use Rattle.std.proofs.raw_atomic.Walks.{proved_at, leaves}
-use Rattle.once_cell.proofs.Notes as notes
-use Rattle.once_cell.proofs.Notes.{Note}
-use Rattle.txc_stream.proofs.Shared.{note_reads}
-use Rattle.txc_stream.specs.contracts.row.same.{ended, clauses}
-use Rattle.txc_stream.specs.contracts.row.same.Key.{name as #self}
-use Rattle.txc_stream.proofs.row.same.Statement.{statement}
-use Rattle.txc_stream.proofs.row.same.Code as code
+use Rattle.txc_stream.specs.Seen.{stand}
+use Rattle.txc_stream.proofs.Standing.{Seen, stand_agree}
+use Rattle.txc_stream.proofs.Shared.{seen_reads}
+use Rattle.txc_stream.specs.contracts.seen.Seen.agree.{ended, clauses}
+use Rattle.txc_stream.specs.contracts.seen.Seen.agree.Key.{name as #self}
+use Rattle.txc_stream.proofs.seen.Seen.agree.Statement.{statement}
+use Rattle.txc_stream.proofs.seen.Seen.agree.Code as code
 
-pub same_spec : {M : Type 1} → statement M
-same_spec 𝓤 𝓛 𝓜 𝓡 wired T L =
+pub agree_spec : {M : Type 1} → statement M
+agree_spec 𝓤 𝓛 𝓜 𝓡 wired T L =
     let H = 𝓛.H in let 𝓣 = tables 𝓤 H 𝓜 𝓡 𝓡.env in let R : RattleType = param 0 T in let LR = param_laws 0 T L in let En = ended T in let c = clauses T 𝓛 𝓜.mem 𝓡.returns in
     let inst = layouts (a_type ∷ []) (T, tt) in let fn = inst_fn inst code.function in
-    let hs : Stays En.signature.params En.kept = (stay_dropped (RefOf (0 ∷ []) tt (plain (λ _. Note 𝓛 R)) (λ _. tt)) yes, (stay_dropped (RefOf (1 ∷ []) tt (plain (λ _. Note 𝓛 R)) (λ _. tt)) yes, tt)) in
-    proved_at 𝓛 En hs c 𝓜 𝓡 (Goes-dropped 𝓛 3 (RefOf (0 ∷ []) tt (plain (λ _. Note 𝓛 R)) (λ _. tt)) yes (λ κs x f. refl), (Goes-dropped 𝓛 3 (RefOf (1 ∷ []) tt (plain (λ _. Note 𝓛 R)) (λ _. tt)) yes (λ κs x f. refl), tt)) (#self inst) fn (code.unfolded 𝓤 H 𝓜 𝓡 wired (T, tt)) (λ z are.
+    let hs : Stays En.signature.params En.kept = (stay_dropped (RefOf (0 ∷ []) tt (plain (λ _. Seen 𝓛 R)) (λ _. tt)) yes, (stay_dropped (RefOf (1 ∷ []) tt (plain (λ _. Seen 𝓛 R)) (λ _. tt)) yes, tt)) in
+    proved_at 𝓛 En hs c 𝓜 𝓡 (Goes-dropped 𝓛 3 (RefOf (0 ∷ []) tt (plain (λ _. Seen 𝓛 R)) (λ _. tt)) yes (λ κs x f. refl), (Goes-dropped 𝓛 3 (RefOf (1 ∷ []) tt (plain (λ _. Seen 𝓛 R)) (λ _. tt)) yes (λ κs x f. refl), tt)) (#self inst) fn (code.unfolded 𝓤 H 𝓜 𝓡 wired (T, tt)) (λ z are.
     let κs = z.0.0 in let qs = z.0.1 in let Post : Val → SProp 𝓤 = (walk_of 𝓛 En hs c).post z in let Run : List Val → SProp 𝓤 = λ ws. WpFn 𝓤 H 𝓣.C 𝓣.Λ fn ws Post in
     let b : ℕ = z.0.3.0.ref_ptr.0 in let o : ℕ = z.0.3.0.ref_ptr.1 in let x = z.0.3.0.now in let κ : Lft = κs.0 in let q : Share = qs.0 in let μ : Lft = κs.1.1.0 in let r : Share = qs.1.1.0 in
-    let b' : ℕ = z.0.3.1.0.ref_ptr.0 in let o' : ℕ = z.0.3.1.0.ref_ptr.1 in let y = z.0.3.1.0.now in let κ' : Lft = κs.1.0 in let q' : Share = qs.1.0 in let So : Type 0 = IfSome y.known (Agrees x.known) in
-    qed 𝓛 (((‵ (flft κ q) ⊛ ‵ (flft κ' q') ⊛ ‵ (flft μ r) ⊛ ‵ ftrue) ⊛ ‵ (owns (types_at En.signature.params κs) z.0.3 z.0.4)) ∷ raw (fact 𝓤 (μ ⊑ T.lives)) ∷ raw (fact 𝓤 (x.cell ≡ y.cell)) ∷ []) ∵
-    move ! (2 ∷ []) $ heard ! (x.cell ≡ y.cell) (λ same. keep ! (0 ∷ []) $ split ! $ split3 ! $ move ! (2 ∷ []) $ split ! $ move ! (4 ∷ []) $ fsplit3 ! $ fsplit ! $ move ! (2 ∷ []) $ fsplit ! $ keep ! (3 ∷ 1 ∷ 7 ∷ 8 ∷ 5 ∷ []) $
+    let b' : ℕ = z.0.3.1.0.ref_ptr.0 in let o' : ℕ = z.0.3.1.0.ref_ptr.1 in let y = z.0.3.1.0.now in let κ' : Lft = κs.1.0 in let q' : Share = qs.1.0 in let So : Type 0 = IsPrefix x.list y.list ⊎ IsPrefix y.list x.list in
+    qed 𝓛 (((‵ (flft κ q) ⊛ ‵ (flft κ' q') ⊛ ‵ (flft μ r) ⊛ ‵ ftrue) ⊛ ‵ (owns (types_at En.signature.params κs) z.0.3 z.0.4)) ∷ raw (fact 𝓤 (μ ⊑ T.lives)) ∷ raw (fact 𝓤 (x.row ≡ y.row)) ∷ []) ∵
+    move ! (2 ∷ []) $ heard ! (x.row ≡ y.row) (λ same. keep ! (0 ∷ []) $ split ! $ split3 ! $ move ! (2 ∷ []) $ split ! $ move ! (4 ∷ []) $ fsplit3 ! $ fsplit ! $ move ! (2 ∷ []) $ fsplit ! $ keep ! (3 ∷ 1 ∷ 7 ∷ 8 ∷ 5 ∷ []) $
     -- [what the one `&` holds; the other; κ; κ'; μ]
     suffices ! (Run (vptr b o ∷ vptr b' o' ∷ [])) (subst (λ (us : List Val). ent 𝓤 (Run (vptr b o ∷ vptr b' o' ∷ [])) (Run us)) (sym (λ i. are.0.0 i ++ (are.1.0.0 i ++ []))) (id⊢ 𝓤 (Run (vptr b o ∷ vptr b' o' ∷ [])))) $
     enter ! 𝓣.C 𝓣.Λ fn (vptr b o ∷ vptr b' o' ∷ []) Post $ alloc_all ! (λ l. pass_all ! refl ((tt, tt), ((tt, tt), tt)) $
-    move ! (0 ∷ 2 ∷ []) $ use2 𝓛 (later (‵ (noted R x.cell x.known) ⊛ ‵ (flft κ q))) (note_reads 𝓛 R κ q x b o) $ await ! tt $ split ! $
-    move ! (2 ∷ 3 ∷ []) $ use2 𝓛 (later (‵ (noted R y.cell y.known) ⊛ ‵ (flft κ' q'))) (note_reads 𝓛 R κ' q' y b' o') $ await ! tt $ split ! $
+    move ! (0 ∷ 2 ∷ []) $ use2 𝓛 (later (‵ (stand R x.list x.row) ⊛ ‵ (flft κ q))) (seen_reads 𝓛 R κ q x b o) $ await ! tt $ split ! $
+    move ! (2 ∷ 3 ∷ []) $ use2 𝓛 (later (‵ (stand R y.list y.row) ⊛ ‵ (flft κ' q'))) (seen_reads 𝓛 R κ' q' y b' o') $ await ! tt $ split ! $
     -- [what the other knows; κ'; what the one knows; κ; μ]
-    move ! (2 ∷ []) $ rewrite ! 0 (λ (k : ℕ). ‵ (noted R k x.known)) same refl $ use2 𝓛 (raw (fact 𝓤 So)) (notes.noted_agree 𝓛 R y.cell x.known y.known) $ heard ! So (λ so.
+    move ! (2 ∷ []) $ rewrite ! 0 (λ (row : List ℕ). ‵ (stand R x.list row)) same refl $ move ! (0 ∷ 1 ∷ []) $ use2 𝓛 (raw (fact 𝓤 So)) (stand_agree 𝓛 R x.list y.list y.row) $ heard ! So (λ so.
     -- [κ'; κ; μ]
     nothing ! $ nothing ! $ fjoin ! $ nothing ! $ fjoin ! $ move ! (3 ∷ []) $ nothing ! $ move ! (1 ∷ 0 ∷ []) $ join ! $ move ! (2 ∷ 0 ∷ []) $ join ! $ move ! (2 ∷ 0 ∷ []) $ join ! $
     sets ! (of_opd ! (unit_lit !)) refl (tt, tt) $ feq_i ! (List Val) (vunit ∷ []) (vunit ∷ []) refl $ use0 𝓛 (raw (fact 𝓤 So)) (fact_i 𝓤 So (emp 𝓤) so) $
