@@ -57,10 +57,6 @@ impl<T> Model for Front<T> {
     ghost invariant = { λ f. IsSeen f.seen f.len };
 }
 
-// A front is read by `&` from many threads. What it knows of the row's cells, every thread knows alike:
-// that is shown in `proofs/Crosses.antt`, by which a closure that borrows a front is sent.
-unsafe impl<T> Sync for Front<T> {}
-
 /// Why a record was not appended. Either way the record comes back.
 #[derive(Drop, Error)]
 pub enum AppendError<T> {

@@ -28,6 +28,8 @@ impl<T> Drop for Seen<T> {
 // What is known of a cell, every thread knows alike.
 unsafe impl<T> Send for Seen<T> {}
 
+unsafe impl<T> Sync for Seen<T> {}
+
 impl<T> Seen<T> {
     /// The same, a second time.
     pub(crate) fn again(&self) -> Seen<T>
