@@ -15,7 +15,7 @@ A function's contract is all that the proofs of others know of it, so the wrong 
 functions are tried together, in one check: each is refused if the check says that its own function
 has a goal that is not proved. One of which that is not said is tried again, alone.
 
-An edit may change files of proofs/ beside its file of src/, so that a clause refuses it and not a name or an answer that is gone. One
+An edit has texts of several lines where a line after `old:` or `new:` begins with none of its words. It may change files of proofs/ beside its file of src/, so that a clause refuses it and not a name or an answer that is gone. One
 that changes no function, but a constant, has a line `function: NAME`: the function that is to refuse it, by its name or the end of it. Of
 a function that the prover does not know by that name the edit is bad, and the others of its check are tried without it.
 
@@ -54,16 +54,21 @@ class Edit:
         self.crate, self.path = crate, path
         self.name = f"{crate}/{os.path.basename(path)}"
         self.pairs, self.named, self.functions, self.verdict, self.said = [], None, set(), None, ""
-        file = old = None
-        for line in open(path, encoding="utf-8").read().split("\n"):
+        file, old, new = None, [], None
+        for line in [*open(path, encoding="utf-8").read().rstrip("\n").split("\n"), "file: "]:
+            if line.startswith(("file: ", "function: ", "old: ")) and new is not None:
+                self.pairs.append((file, "\n".join(old), "\n".join(new).removeprefix(" ")))
+                new = None
             if line.startswith("file: "):
                 file = line[6:].strip()
             elif line.startswith("function: "):
                 self.named = line[10:].strip()
             elif line.startswith("old: "):
-                old = line[5:]
+                old = [line[5:]]
             elif line.startswith("new:"):
-                self.pairs.append((file, old, line[4:].removeprefix(" ")))
+                new = [line[4:]]
+            else:
+                (old if new is None else new).append(line)
 
     def places(self, folder):
         """Each file that it changes, with where, and the text that comes there; or why it cannot be applied."""
