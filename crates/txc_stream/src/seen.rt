@@ -8,7 +8,7 @@ ghost use mathlib.Core.List.{IsPrefix};
 use once_cell::race::Note;
 use std::marker::{Model, PhantomData};
 
-/// The records that were seen in the first cells of a row. It takes no bytes: what it knows of the cells is in the proofs alone.
+/// The records that were seen in the first cells of a row. It takes no bytes: what it knows is for the proofs alone.
 pub(crate) struct Seen<T> {
     pub(crate) marker: PhantomData<*const T>,
     pub(crate) ghost row: { List ℕ },
@@ -40,7 +40,7 @@ impl<T> Seen<T> {
         }
     }
 
-    /// What was seen of one row is a prefix of all else that was. There is nothing to run.
+    /// Of what was seen of one row by two, one list is a prefix of the other. There is nothing to run.
     pub(crate) fn agree(&self, other: &Seen<T>)
         requires { self.now.row ≡ other.now.row }
         ensures { IsPrefix self.now.list other.now.list ⊎ IsPrefix other.now.list self.now.list }
