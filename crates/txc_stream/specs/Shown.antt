@@ -27,8 +27,8 @@ abbrev pub names_of : List (Global × ℕ) → List ℕ
 names_of cs = map cell_name cs
 
 -- what a front with these records shows
-abbrev pub shown_of : {T : Type 0} → Seen T → Shown T
-shown_of s = record { row = s.row; list = s.list }
+abbrev pub shown_by_seen : {T : Type 0} → Seen T → Shown T
+shown_by_seen s = record { row = s.row; list = s.list }
 
 -- so many records were seen, and the row has a cell for each
 pub record IsSeen {T : Type 0} (s : Seen T) (len : ℕ) : Type 0 where

@@ -46,13 +46,13 @@ pub struct Front<T> {
 }
 
 impl<T> Model for Front<T> {
-    ghost use Rattle.txc_stream.specs.Shown.{Shown, shown_code, shown_of, IsSeen};
+    ghost use Rattle.txc_stream.specs.Shown.{Shown, shown_code, shown_by_seen, IsSeen};
 
     ghost Value = { Shown T };
 
     ghost coded = { shown_code T.code };
 
-    ghost view = { λ f. shown_of f.seen };
+    ghost view = { λ f. shown_by_seen f.seen };
 
     ghost invariant = { λ f. IsSeen f.seen f.len };
 }
