@@ -75,7 +75,7 @@ fn work<J: Naming>(
     let mut answer = room(alloc).ok()?;
     let mut shared = Shared::new(rt, alloc, database, false).ok()?;
     if is_played(&mut shared, alloc, "", script, &mut answer) {
-        shared.seen(alloc).ok()
+        shared.seen().ok()
     } else {
         None
     }
