@@ -1,7 +1,7 @@
 use denote.Param.{param}
 use Rattle.std.proofs.Common.{ℕ, ◌<◌, ◌∙◌, length, slice_index_or, ap, subst, arith}
 use Rattle.txc_db.proofs.Captured.{argument_send}
-use Rattle.txc_site.proofs.Crosses.{site_client_send}
+use Rattle.txc_site.proofs.client.SiteClient.TheSendSync as site_client
 use Rattle.txc_site.proofs.Guests.{number_at}
 use Rattle.txc_site.proofs.visiting.Guest.TheSendSync as guest
 use Rattle.txc_site.proofs.visiting.visit.Goals as goal
@@ -11,7 +11,7 @@ pub map_vec-visited-requires-send-J : goal.map_vec-visited-requires-send-J
 map_vec-visited-requires-send-J g c κs within =
     argument_send _ _ _
     (guest.the_send _
-    (site_client_send _ (param 0 g.row.A) (param 1 g.row.D) (param 3 g.row.J) g.A.App g.D.Definition g.J.Naming c.type_bounds.send-D))
+    (site_client.the_send _ (param 0 g.row.A) (param 1 g.row.D) (param 3 g.row.J) g.A.App g.D.Definition g.J.Naming c.type_bounds.send-D))
 
 -- each guest has the number of his place, and a client of the site's plan
 pub returns-in-Ok-clause-gives : goal.returns-in-Ok-clause-gives

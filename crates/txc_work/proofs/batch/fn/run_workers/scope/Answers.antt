@@ -11,7 +11,7 @@ use Rattle.crossbeam_queue.specs.contracts.array_queue.Doing as Doing
 use Rattle.crossbeam_queue.specs.contracts.array_queue.Turns as Turns
 use Rattle.crossbeam_queue.specs.contracts.array_queue.TurnsTableRuleOptionDoingUnit.TheImpl as turns
 use Rattle.txc_db.proofs.Captured.{closure6_send}
-use Rattle.txc_client.proofs.Crosses.{client_send}
+use Rattle.txc_client.proofs.client.Client.TheSendSync as client
 use Rattle.txc_work.specs.Workers.{IsWorkerOf}
 use Rattle.txc_work.specs.contracts.job.Job as Job
 use Rattle.txc_work.specs.contracts.job.Receipted as Receipted
@@ -39,7 +39,7 @@ spawn-requires-send-F g c κs within =
     (queue.the_sync (Option.the_row Receipted.the_row) (Doing.the_row Receipted.the_row unit) (Turns.the_row (ResultRule.the_row B)) heap.the_row
     (turns.ghosts Receipted.the_row unit (ResultRule.the_row B) (result_rule.ghosts B g.B.Batch g.B.Batch-dict) g.B.Batch-dict) _ result_slot_send heap_send heap_sync frees))
     (shr_send _ _ _ c.requires.gate)
-    (worker_send _ (client_send _ (param 1 g.row.A) (param 2 g.row.C) (param 3 g.row.J) g.A.App g.C.Cacheable g.J.Naming c.requires.functions))
+    (worker_send _ (client.the_send _ (param 1 g.row.A) (param 2 g.row.C) (param 3 g.row.J) g.A.App g.C.Cacheable g.J.Naming c.requires.functions))
 
 pub spawn-requires-after_bounds : goal.spawn-requires-after_bounds
 spawn-requires-after_bounds g c κs within =
