@@ -25,6 +25,7 @@ pub mod Refusals
 pub mod LeftLemmas
 pub mod MakeLemmas
 pub mod DropLemmas
+pub mod RemakeLemmas
 pub mod HeldLemmas
 pub mod ChangeSteps
 pub mod SweepCalls

@@ -53,6 +53,9 @@ module _ (h tx : Held MemStore) (begun : tx ≡ record h { in_transaction = true
   pub begun_latest : latest_in tx ≡ latest_in h
   begun_latest = ap latest_in begun
 
+  pub begun_trees : (state over_memory tx).now.trees ≡ (state over_memory h).now.trees
+  begun_trees = ap (λ (x : Held MemStore). (state over_memory x).now.trees) begun
+
 -- ---- a row that was read is given
 
 bound_death : (d : Option ℕ) → bound_value (death d) ≡ death d

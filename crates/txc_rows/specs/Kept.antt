@@ -137,6 +137,14 @@ used_of t = min t.segments.used 7
 abbrev pub AreEmptyBefore : ℕ → Held MemStore → Type 0
 AreEmptyBefore n h = (s : Segment) → segment_place s + n < 8 → (state over_memory h).now.trees (tree_of s) ≡ []
 
+-- of these segments each has the rows that it had
+abbrev pub TheseStay : List Segment → Held MemStore → Held MemStore → Type 0
+TheseStay ss old new = AllByRecursion (λ s. (state over_memory new).now.trees (tree_of s) ≡ (state over_memory old).now.trees (tree_of s)) ss
+
+-- where so many are in use, each of these segments that is not is empty
+abbrev pub AreEmptyUnused : ℕ → List Segment → Held MemStore → Type 0
+AreEmptyUnused n ss h = AllByRecursion (λ s. segment_place s + n < 8 → (state over_memory h).now.trees (tree_of s) ≡ []) ss
+
 -- each version of a segment has its marks
 abbrev pub AreMarked : Marks → Held MemStore → Type 0
 AreMarked m h = (s : Segment) → AllByRecursion (IsMarked m (segment_place s)) (placed_all ((state over_memory h).now.trees (tree_of s)))

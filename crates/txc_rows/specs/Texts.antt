@@ -1,5 +1,5 @@
 -- The tables of the versions in the store: words that only this crate's private functions promise.
-use Rattle.std.specs.Prelude.{Bool, true, false, [], ◌∷◌, ◌++◌, ◌*◌, None, codes, List, ℕ, slice_index_or}
+use Rattle.std.specs.Prelude.{Bool, true, false, [], ◌∷◌, ◌++◌, ◌*◌, Option, Some, None, codes, List, ℕ, slice_index_or}
 use Rattle.sqlite.specs.Collation.TheVariants.{Binary}
 use Rattle.sqlite.specs.declared.types.Value.TheVariants.{Null}
 use Rattle.sqlite.specs.Table.{Table}
@@ -107,6 +107,16 @@ made_before Fourth = Fifth ∷ Sixth ∷ Seventh ∷ []
 made_before Third = Fourth ∷ Fifth ∷ Sixth ∷ Seventh ∷ []
 made_before Second = Third ∷ Fourth ∷ Fifth ∷ Sixth ∷ Seventh ∷ []
 made_before First = Second ∷ Third ∷ Fourth ∷ Fifth ∷ Sixth ∷ Seventh ∷ []
+
+-- the segment that comes into use after a segment: it is made right before it
+abbrev pub segment_after : Segment → Option Segment
+segment_after First = Some Second
+segment_after Second = Some Third
+segment_after Third = Some Fourth
+segment_after Fourth = Some Fifth
+segment_after Fifth = Some Sixth
+segment_after Sixth = Some Seventh
+segment_after Seventh = None
 
 -- the schema with these segments, of which the last is made first
 abbrev pub schema_with : List Segment → Schema

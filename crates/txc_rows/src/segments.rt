@@ -34,7 +34,7 @@ impl Segments {
             used: count.min(1),
             counts,
             lasts,
-            room: LEAST_ROOM.max(count / 6),
+            room: LEAST_ROOM.max(count / 3),
         }
     }
 

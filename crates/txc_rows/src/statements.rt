@@ -1,6 +1,6 @@
 //! The statements that make and drop tables, and leave out what died.
 
-ghost use Rattle.std.specs.Prelude.{◌≡◌, ◌++◌, ◌∷◌, [], true, map, length, OnOk, IfOk};
+ghost use Rattle.std.specs.Prelude.{◌≡◌, ◌≤◌, ◌+◌, ◌++◌, ◌∷◌, [], true, map, length, OnOk, IfOk};
 ghost use Rattle.std.specs.List.Sorted.{IsPermutation};
 ghost use Rattle.std.specs.List.{AllByRecursion};
 ghost use Rattle.sqlite.specs.Held.{state};
@@ -11,7 +11,7 @@ ghost use Rattle.txc_rows.specs.declared.texts.Segment.{Segment};
 ghost use Rattle.txc_rows.specs.Texts.{latest_schema, version_schema, schema_to, schema_before, made_before, segments, segment_place, tree_of};
 ghost use Rattle.txc_rows.specs.Marked.{IsMarked};
 ghost use Rattle.txc_rows.specs.declared.texts.Segment.TheVariants.{First};
-ghost use Rattle.txc_rows.specs.Kept.{latest_in, dead_in, placed_of, HasNoTable, HasMadeTables, HasLatest, HasTables, HasVersions, IsKept, IsSame, IsStep, IsCall, IsLeaving, OthersStay, OthersAreEmpty};
+ghost use Rattle.txc_rows.specs.Kept.{latest_in, dead_in, placed_of, HasNoTable, HasMadeTables, HasLatest, HasTables, HasVersions, IsKept, IsSame, IsStep, IsCall, IsLeaving, OthersStay, OthersAreEmpty, TheseStay, AreEmptyUnused, AreEmptyBefore};
 
 use crate::marks::Marks;
 use crate::texts::{
@@ -69,6 +69,7 @@ fn drop_segment(tx: &mut Transaction<'_, MemStore>, segment: Segment) -> Result<
     ensures step { IsStep
         (HasLatest (schema_before segment) (latest_in tx.old.conn.now))
         tx.old.conn.now tx.new.conn.now result }
+    ensures others { OnOk result (TheseStay (made_before segment) tx.old.conn.now tx.new.conn.now) }
 {
     tx.execute(drop_text(segment), &[])
 }
@@ -89,6 +90,43 @@ fn drop_segments(tx: &mut Transaction<'_, MemStore>) -> Result<usize, Error>
     drop_segment(tx, Segment::Fifth)?;
     drop_segment(tx, Segment::Sixth)?;
     drop_segment(tx, Segment::Seventh)
+}
+
+/// Drops a segment and those after it that are in use, and makes them anew, each empty.
+fn remake_to(
+    tx: &mut Transaction<'_, MemStore>,
+    segment: Segment,
+    used: usize,
+) -> Result<usize, Error>
+    requires table { HasLatest (schema_to segment) (latest_in tx.old.conn.now) tx.old.conn.now }
+    requires inside { tx.old.conn.now.in_transaction ≡ true }
+    requires used { used ≤ 7 }
+    requires empty { AreEmptyUnused used (made_before segment) tx.old.conn.now }
+    ensures same_reference { tx.new.conn.ghost_name ≡ tx.old.conn.ghost_name }
+    ensures step { IsStep
+        (HasMadeTables (schema_to segment) (latest_in tx.old.conn.now) (segment ∷ made_before segment))
+        tx.old.conn.now tx.new.conn.now result }
+{
+    drop_segment(tx, segment)?;
+    if let Some(next) = segment.next() {
+        if next.place() + used >= 8 {
+            remake_to(tx, next, used)?;
+        }
+    }
+    make_segment(tx, segment)
+}
+
+/// Makes the segments in use anew, each empty. The others are empty as they are.
+fn remake_segments(tx: &mut Transaction<'_, MemStore>, used: usize) -> Result<usize, Error>
+    requires table { HasTables tx.old.conn.now }
+    requires inside { tx.old.conn.now.in_transaction ≡ true }
+    requires used { used ≤ 7 }
+    requires empty { AreEmptyBefore used tx.old.conn.now }
+    ensures same_reference { tx.new.conn.ghost_name ≡ tx.old.conn.ghost_name }
+    ensures step { IsStep (HasVersions (latest_in tx.old.conn.now) []) tx.old.conn.now tx.new.conn.now result }
+    ensures empty { OnOk result ((s : Segment) → (state over_memory tx.new.conn.now).now.trees (tree_of s) ≡ []) }
+{
+    remake_to(tx, Segment::First, used)
 }
 
 /// Makes the tables in a store that has none.
@@ -224,10 +262,16 @@ fn read_all_left(
     Ok(left)
 }
 
-/// The segments are made anew, with these versions in the first one.
-fn refill_dead(tx: &mut Transaction<'_, MemStore>, left: &[sqlite::Row]) -> Result<(), Error>
+/// The segments in use are made anew, with these versions in the first one.
+fn refill_dead(
+    tx: &mut Transaction<'_, MemStore>,
+    used: usize,
+    left: &[sqlite::Row],
+) -> Result<(), Error>
     requires table { HasTables tx.old.conn.now }
     requires inside { tx.old.conn.now.in_transaction ≡ true }
+    requires used { used ≤ 7 }
+    requires empty { AreEmptyBefore used tx.old.conn.now }
     requires cells { AllByRecursion AreCells left.now }
     ensures same_reference { tx.new.conn.ghost_name ≡ tx.old.conn.ghost_name }
     ensures step { IsStep
@@ -235,8 +279,7 @@ fn refill_dead(tx: &mut Transaction<'_, MemStore>, left: &[sqlite::Row]) -> Resu
         tx.old.conn.now tx.new.conn.now result }
     ensures rest { OnOk result (OthersAreEmpty First tx.new.conn.now) }
 {
-    drop_segments(tx)?;
-    make_segments(tx)?;
+    remake_segments(tx, used)?;
     fill_dead(tx, Segment::First, left)
 }
 
@@ -273,14 +316,17 @@ fn refill_all(
     fill_dead(tx, Segment::First, left)
 }
 
-/// Makes the segments anew, with what did not die before the stamp in the first one. It answers how many that are, and
-/// their marks.
+/// Makes the segments in use anew, with what did not die before the stamp in the first one. It answers how many that are,
+/// and their marks.
 pub(crate) fn sweep_dead(
     conn: &mut Connection<MemStore>,
     alloc: Global,
+    used: usize,
     from: u32,
 ) -> Result<(usize, Marks), Error>
-    requires { IsKept conn.old }
+    requires kept { IsKept conn.old }
+    requires used { used ≤ 7 }
+    requires empty { AreEmptyBefore used conn.old }
     ensures call { IsCall (AreSwept from (placed_of conn.old)) conn.old conn.new result }
     ensures rest { OnOk result (OthersAreEmpty First conn.new) }
     ensures count { IfOk result (λ kept. kept.0 ≡ length (dead_in conn.new)) }
@@ -289,7 +335,7 @@ pub(crate) fn sweep_dead(
     let left = read_all_left(conn, alloc, from)?;
     let marks = Marks::of_first(alloc, &left)?;
     let mut tx = conn.transaction();
-    refill_dead(&mut tx, &left)?;
+    refill_dead(&mut tx, used, &left)?;
     tx.commit()?;
     Ok((left.len(), marks))
 }

@@ -79,9 +79,10 @@ fn sweep(
     tally: &mut Tally,
     from: u32,
 ) -> Result<(), sqlite::Error>
-    requires { IsKept conn.old }
+    requires kept { IsKept conn.old }
+    requires empty { AreEmptyBefore (used_of tally.old) conn.old }
     ensures call { IsCall (AreSwept from (placed_of conn.old)) conn.old conn.new result }
-    ensures empty { AreEmptyBefore (used_of tally.old) conn.old → AreEmptyBefore (used_of tally.new) conn.new }
+    ensures empty { AreEmptyBefore (used_of tally.new) conn.new }
     ensures marked { AreMarked tally.old.marks conn.old → AreMarked tally.new.marks conn.new }
     ensures few { AreAtMost tally.old.dead conn.old → AreAtMost tally.new.dead conn.new }
 {
@@ -89,7 +90,7 @@ fn sweep(
         let (rows, kept, marks) = sweep_all(conn, alloc, from)?;
         tally.sweep_all(rows, kept, marks);
     } else if tally.is_mostly_dead(from) {
-        let (kept, marks) = sweep_dead(conn, alloc, from)?;
+        let (kept, marks) = sweep_dead(conn, alloc, tally.in_use(), from)?;
         tally.sweep_dead(kept, marks);
     }
     Ok(())
@@ -104,9 +105,10 @@ fn make_room(
     kept_from: u32,
     stamp: u32,
 ) -> Result<u32, sqlite::Error>
-    requires { IsKept conn.old }
+    requires kept { IsKept conn.old }
+    requires empty { AreEmptyBefore (used_of tally.old) conn.old }
     ensures room { IsRoom kept_from stamp conn.old conn.new result }
-    ensures empty { AreEmptyBefore (used_of tally.old) conn.old → AreEmptyBefore (used_of tally.new) conn.new }
+    ensures empty { AreEmptyBefore (used_of tally.new) conn.new }
     ensures marked { AreMarked tally.old.marks conn.old → AreMarked tally.new.marks conn.new }
     ensures few { AreAtMost tally.old.dead conn.old → AreAtMost tally.new.dead conn.new }
 {
@@ -116,7 +118,7 @@ fn make_room(
         return Ok(0);
     }
     if !tally.has_room() {
-        let (kept, marks) = sweep_dead(conn, alloc, kept_from)?;
+        let (kept, marks) = sweep_dead(conn, alloc, tally.in_use(), kept_from)?;
         tally.sweep_dead(kept, marks);
     }
     Ok(kept_from)

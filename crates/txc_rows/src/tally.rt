@@ -59,6 +59,13 @@ impl Tally {
         self.segments.newest()
     }
 
+    /// How many segments are in use, the first one first.
+    pub(crate) fn in_use(&self) -> usize
+        ensures { result ≡ used_of self.now }
+    {
+        self.segments.in_use()
+    }
+
     /// Whether a segment is in use.
     pub(crate) fn uses(&self, segment: Segment) -> bool
         ensures { IsTrue result ↔ (8 ≤ segment_place segment + used_of self.now) }
@@ -95,10 +102,10 @@ impl Tally {
         self.marked_at < from && gone >= LEAST_ENDED.max(self.rows / 2)
     }
 
-    /// Whether as many versions of the segments are gone before the stamp as are left.
+    /// Whether twice as many versions of the segments are gone before the stamp as are left.
     pub(crate) fn is_mostly_dead(&self, from: u32) -> bool {
         let gone = self.segments.count_before(from);
-        gone >= LEAST_DEAD && gone >= self.dead / 2
+        gone >= LEAST_DEAD && gone >= self.dead / 3 * 2
     }
 
     /// A commit was written.

@@ -1,7 +1,7 @@
 //! The texts of the statements on the tables of versions.
 
 ghost use Rattle.std.specs.Prelude.{◌≡◌};
-ghost use Rattle.txc_rows.specs.Texts.{segment_place, add_text, copy_text, drop_text, make_text};
+ghost use Rattle.txc_rows.specs.Texts.{segment_place, segment_after, add_text, copy_text, drop_text, make_text};
 ghost use Rattle.txc_rows.specs.Readings.{table_text, row_text, group_text, range_text, left_text};
 
 use crate::store_error::MAX_MATCHING;
@@ -160,6 +160,21 @@ impl Segment {
             Segment::Fifth => 3,
             Segment::Sixth => 2,
             Segment::Seventh => 1,
+        }
+    }
+
+    /// The segment that comes into use after it.
+    pub(crate) fn next(self) -> Option<Segment>
+        ensures { result ≡ segment_after self }
+    {
+        match self {
+            Segment::First => Some(Segment::Second),
+            Segment::Second => Some(Segment::Third),
+            Segment::Third => Some(Segment::Fourth),
+            Segment::Fourth => Some(Segment::Fifth),
+            Segment::Fifth => Some(Segment::Sixth),
+            Segment::Sixth => Some(Segment::Seventh),
+            Segment::Seventh => None,
         }
     }
 }
