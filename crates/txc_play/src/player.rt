@@ -17,6 +17,9 @@ use txc_registry::Cacheable;
 use txc_script::{CommandFault, Script, Unread};
 use txc_world::World;
 
+/// Most lines take no more bytes, so that their text is not moved while it is written.
+const USUAL_LINE: usize = 128;
+
 /// A script of a world's lines.
 pub struct WorldScript<A, C>(pub PhantomData<(A, C)>);
 
@@ -26,7 +29,8 @@ fn push_printed(alloc: Global, text: &mut Vec<u8>, printed: &Printed) -> Result<
     ensures refusal { IfOk result (λ refused. refused ≡ is_refused_line printed.now) }
     ensures unchanged { OnErr result (text.new.items ≡ text.old.items) }
 {
-    let line = format!(in alloc; "{printed}\n")?;
+    let mut line = String::with_capacity(alloc, USUAL_LINE)?;
+    writeln!(line, "{printed}")?;
     text.extend_from_slice(line.as_bytes())?;
     Ok(is_refused_line(printed))
 }
