@@ -18,7 +18,8 @@ counted once a run is past its beginning, which takes the staleness and two seco
 staleness or a multiple of it: what was computed at first is too old all at once. Then come tables in markdown.
 
 The cost of a page is by instructions (callgrind, where valgrind is there) and by processor time. Of each, a run with the same
-writes and the same keeping and no page is taken off. Instructions are of as many seconds as the staleness, one at least.
+writes and the same keeping and no page is taken off. Its pins are of the same moments, so that the store is made anew in both
+at once. Instructions are of twice as many seconds as the staleness, six at least.
 """
 
 import argparse
@@ -179,7 +180,8 @@ class Measuring:
         self.idle = {}
 
     def pages_to_trace(self, setting):
-        return max(SECOND, setting.staleness)
+        # over some rebuilds of the store, between which queries cost more and more
+        return max(6 * SECOND, 2 * setting.staleness)
 
     def pages_to_time(self, setting):
         # every page of these takes all its queries
