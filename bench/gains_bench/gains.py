@@ -19,7 +19,7 @@ staleness or a multiple of it: what was computed at first is too old all at once
 
 The cost of a page is by instructions (callgrind, where valgrind is there) and by processor time. Of each, a run with the same
 writes and the same keeping and no page is taken off. Its pins are of the same moments, so that the store is made anew in both
-at once. Instructions are of twice as many seconds as the staleness, six at least.
+at once. Instructions are of as many seconds as the staleness, six at least.
 """
 
 import argparse
@@ -181,7 +181,7 @@ class Measuring:
 
     def pages_to_trace(self, setting):
         # over some rebuilds of the store, between which queries cost more and more
-        return max(6 * SECOND, 2 * setting.staleness)
+        return max(6 * SECOND, setting.staleness)
 
     def pages_to_time(self, setting):
         # every page of these takes all its queries
