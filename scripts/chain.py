@@ -1,22 +1,32 @@
 #!/usr/bin/env python3
-"""Simulates the gate over the seconds of docs/GATE.md's table: how long it takes by the clock, and which crates wait for one another.
+"""Simulates the gate over the seconds of docs/gate.tsv: how long it takes by the clock, and which crates wait for one another.
 
-usage: scripts/chain.py [CORES..]      by default 4 and 2
+usage: scripts/chain.py [--jobs N] [--memory GB] [CORES..]      by default 4 and 2 cores, 23 GB
+  N        one check a core and N at once, as RT_JOBS=N has it; else as `rt` chooses by memory, with more jobs a check where
+           cores are free
 
-It schedules as `rt ci` does with one check a core: first the task with the longest chain of others behind it, by lines; the wrong
-bodies fill what proofs leave free, and those that edits.txt names come last.
+It schedules as `rt ci` does: first the task with the longest chain of others behind it, by lines of .rt; the wrong bodies of
+must-fail/ fill what proofs leave free, and the tests and those that edits.txt names fill what is left of the cores, two at once.
 """
+import argparse
+import os
 import pathlib
-import re
-import sys
+import subprocess
 
-ROOT = pathlib.Path(__file__).resolve().parent.parent
+import sources
+from sources import ROOT
+
+KIT = pathlib.Path(subprocess.run(["rt", "doc"], capture_output=True, text=True, check=True).stdout.strip()).parent
+# How much sooner a check ends with so many jobs, measured at txc_tags and txc_world, and how much more memory each takes, as rt has it.
+SOONER = {1: 1, 2: 1.57, 3: 1.9, 4: 2.1}
+MORE = 0.6
+BESIDE = 2
 
 
-def table():
-    """The seconds of each crate's proof, tests, edits in must-fail/ and named edits."""
-    row = re.compile(r"\| `(\w+)` \|" + r" ~?(\d*) *\|" * 4)
-    return {it[1]: [int(it[k] or 0) for k in (2, 3, 4, 5)] for it in row.finditer((ROOT / "docs/GATE.md").read_text())}
+def seconds():
+    """The seconds of one core, by crate and kind."""
+    rows = [line.split("\t") for line in (ROOT / "docs/gate.tsv").read_text().splitlines() if line]
+    return {(crate, kind): int(cpu) for crate, kind, cpu, _ in rows}
 
 
 def uses():
@@ -24,50 +34,114 @@ def uses():
     return {name.split()[0]: below.split() for name, colon, below in rows if colon}
 
 
-def lines(crate):
-    files = [it for part in ("src", "specs", "proofs") for it in (ROOT / "crates" / crate / part).rglob("*") if it.is_file()]
+def lines(crate, ending):
+    files = [it for part in ("src", "specs", "proofs") for it in (ROOT / "crates" / crate / part).rglob(f"*{ending}")]
     return sum(it.read_bytes().count(b"\n") for it in files)
 
 
-def simulate(cores):
-    """The seconds by the clock, and when each task ended."""
-    seconds, below = table(), uses()
-    libraries = {name: [it for it in below[name] if it in seconds] for name in seconds}
-    tasks = {}
-    for name, (proof, tests, edits, _) in seconds.items():
-        waits = [(it, "proof") for it in libraries[name]]
-        tasks[name, "proof"] = (waits, lines(name), proof)
-        tasks[name, "tests"] = (waits, lines(name) * (tests > 0), tests)
-        if edits:
-            tasks[name, "edits"] = ([*waits, (name, "proof"), (name, "tests")], lines(name), edits)
-    behind = dict.fromkeys(tasks, 0)
-    for key in reversed(tasks):
-        behind[key] += tasks[key][1]
-        for it in tasks[key][0]:
-            behind[it] = max(behind[it], behind[key])
-    left, running, ended, now = sorted(tasks, key=lambda it: (it[1] == "edits", -behind[it])), {}, {}, 0
-    while left or running:
-        for key in [it for it in left if all(wait in ended for wait in tasks[it][0])]:
-            if len(running) < cores:
+def below(crate, used):
+    """The libraries below a crate, those of the repository and those of the kit."""
+    found, left = set(), [*used[crate]]
+    while left:
+        it = left.pop()
+        if it not in found:
+            found.add(it)
+            left += used.get(it, [])
+    return found
+
+
+def need(crate, used):
+    """The memory that `rt` puts by for a check, in GB."""
+    libraries = below(crate, used)
+    kit = [KIT / f"rlibs/{it}.rlib/toolchain/checked.a" for it in libraries - used.keys()]
+    loaded = sum(it.stat().st_size for it in kit if it.is_file())
+    others = sum(lines(it, ".rt") for it in libraries & used.keys())
+    return (1e9 + 1e6 * lines(crate, ".rt") + 2e5 * lines(crate, ".antt") + 8e4 * others + min(5 * loaded, 2.5e9)) / 1e9
+
+
+class Gate:
+    """The tasks of a gate, each with what it waits for, its seconds, its memory and its place in the queue."""
+
+    def __init__(self, cores, jobs, memory):
+        self.cores, self.fixed, self.memory = cores, jobs, 0.85 * memory
+        taken, used = seconds(), uses()
+        self.tasks = {}
+        for crate in sources.crates():
+            waits = [(it, "proof") for it in used[crate] if it in used]
+            wanted = need(crate, used)
+            self.tasks[crate, "proof"] = (waits, taken.get((crate, "proof"), 0) + taken.get((crate, "build"), 0), wanted)
+            if (crate, "must-fail") in taken:
+                self.tasks[crate, "must-fail"] = ([(crate, "proof")], taken[crate, "must-fail"], wanted)
+        self.behind = {}
+        for key in reversed(self.tasks):
+            own = lines(key[0], ".rt") if key[1] == "proof" else 0
+            self.behind[key] = own + max((self.behind[it] for it in self.behind if key in self.tasks[it][0]), default=0)
+        self.beside = [(("tests", "tests"), [], taken.get(("all", "tests"), 0))]
+        self.beside += [((crate, kind), [(crate, "proof")], cpu) for (crate, kind), cpu in taken.items() if kind == "named"]
+
+    def jobs_of(self, key, ready, running):
+        """With how many jobs a task begins now, or 0 where it has to wait."""
+        room = self.memory - sum(it[2] for it in running.values())
+        idle = self.cores - sum(it[1] for it in running.values())
+        wanted = self.tasks[key][2]
+        if idle <= 0 or not self.fixed and running and wanted > room:
+            return 0
+        if self.fixed or key[1] != "proof":
+            return 1
+        proofs = [it for it in ready if it[1] == "proof"]
+        spare = min(4, idle // (len(proofs) - proofs.index(key)), 1 + int((room / wanted - 1) / MORE))
+        return max(1, spare)
+
+    def begin(self, left, running, ended, work):
+        for key in [it for it in left if all(wait in ended for wait in self.tasks[it][0])]:
+            ready = [it for it in left if all(wait in ended for wait in self.tasks[it][0])]
+            jobs = self.jobs_of(key, ready, running)
+            if jobs:
                 left.remove(key)
-                running[key] = now + tasks[key][2]
-        key = min(running, key=running.get)
-        now = ended[key] = running.pop(key)
-    named = sorted((it[3] for it in seconds.values()), reverse=True)
-    lanes = [0] * cores
-    for it in named:
-        lanes[lanes.index(min(lanes))] += it
-    return now + max(lanes), ended, tasks
+                running[key] = (key, jobs, self.tasks[key][2] * (1 + MORE * (jobs - 1)))
+                work[key] = self.tasks[key][1] / SOONER[jobs]
+
+    def run(self):
+        """The seconds by the clock, and when each task ended: second by second, so that what runs beside takes idle cores."""
+        left = sorted(self.tasks, key=lambda it: (it[1] != "proof", -self.behind[it]))
+        running, ended, work, now = {}, {}, {}, 0
+        beside, at_side = [*self.beside], {}
+        while left or running or beside or at_side:
+            self.begin(left, running, ended, work)
+            for it in [it for it in beside if all(wait in ended for wait in it[1])]:
+                if len(at_side) < (BESIDE if left or running else self.cores):
+                    beside.remove(it)
+                    at_side[it[0]] = it[2]
+            now += 1
+            idle = self.cores - sum(it[1] for it in running.values())
+            for key in [*at_side]:
+                share = min(1, max(idle, 0.1) / len(at_side))
+                at_side[key] -= share
+                if at_side[key] <= 0:
+                    ended[at_side.pop(key) and key] = now
+            for key in [*running]:
+                work[key] -= 1
+                if work[key] <= 0:
+                    ended[key] = now
+                    del running[key]
+        return now, ended
 
 
 def main():
-    for cores in [int(it) for it in sys.argv[1:]] or [4, 2]:
-        clock, ended, tasks = simulate(cores)
-        print(f"{cores} cores: {clock / 60:.0f} minutes by the clock, {sum(map(sum, table().values())) / 60:.0f} of one core")
-        key, chain = max(ended, key=ended.get), []
+    words = argparse.ArgumentParser(usage=__doc__.partition("usage: ")[2].partition("\n")[0])
+    words.add_argument("--jobs", type=int, default=0)
+    words.add_argument("--memory", type=int, default=23)
+    words.add_argument("cores", nargs="*", type=int)
+    given = words.parse_args()
+    for cores in given.cores or [4, 2]:
+        gate = Gate(cores, given.jobs, given.memory)
+        clock, ended = gate.run()
+        whole = sum(it[1] for it in gate.tasks.values()) + sum(it[2] for it in gate.beside)
+        print(f"{cores} cores: {clock / 60:.0f} minutes by the clock, {whole / 60:.0f} of one core")
+        key, chain = max((it for it in ended if it in gate.tasks), key=ended.get), []
         while key:
-            chain.append(f"{key[0]}{'' if key[1] == 'proof' else ' ' + key[1]} {tasks[key][2]}")
-            key = max(tasks[key][0], key=ended.get, default=None)
+            chain.append(f"{key[0]}{'' if key[1] == 'proof' else ' ' + key[1]} {gate.tasks[key][1]}")
+            key = max(gate.tasks[key][0], key=ended.get, default=None)
         print("  the longest chain: " + ", ".join(reversed(chain)))
 
 

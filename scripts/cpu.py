@@ -1,43 +1,46 @@
 #!/usr/bin/env python3
-"""Runs a command, and prints the CPU seconds that rattle took below it, by crate and kind.
+"""Runs a command, and prints the seconds that rattle took below it, of one core and by the clock, by crate and kind.
 
-usage: scripts/cpu.py COMMAND..      as `scripts/cpu.py rt ci`
+usage: scripts/cpu.py [--table FILE] COMMAND..      as `scripts/cpu.py --table docs/gate.tsv make prove`
+  FILE     is written with the rows, for docs/GATE.md's table and scripts/chain.py
 
-It looks at the processes four times a second, so the last quarter of a second of each is missed;
-what is missed, and all else that the command ran, stands under `other`. The exit status is the
-command's.
+The kinds: a proof, the tests (compiled and run with no proof), what two compilers make of a program, the wrong bodies of
+must-fail/, and those that edits.txt names. It looks at the processes four times a second, so the last quarter of a second of
+each is missed. That, and all else that the command ran, stands under `other`. The exit status is the command's.
 """
 
+import argparse
 import os
 import resource
 import subprocess
 import sys
 import time
-from collections import Counter
 
 TICKS = os.sysconf("SC_CLK_TCK")
 
 
-def label(pid: str) -> tuple[str, str] | None:
-    """The crate that this process of rattle works on, and what it does there."""
-    with open(f"/proc/{pid}/cmdline") as it:
+def label(pid):
+    """The crate that this process works on, and what it does there."""
+    with open(f"/proc/{pid}/cmdline", encoding="utf-8", errors="replace") as it:
         words = it.read().split("\0")
+    if words[1:2] and words[1].endswith("/test.py"):
+        return "all", "tests"
     if "--crate-name" not in words:
         return None
-    crate = words[words.index("--crate-name") + 1]
-    if "/rt-edit-" in os.readlink(f"/proc/{pid}/cwd"):
-        return crate, "edits"
-    if "--test" in words:
-        return crate, "tests"
+    crate, folder = words[words.index("--crate-name") + 1], os.readlink(f"/proc/{pid}/cwd")
+    if "/rt-edit" in folder:
+        return crate, "must-fail"
+    if "/round-" in folder:
+        return crate, "named"
     return crate, "build" if "--crate-checked" in words else "proof"
 
 
-def look(top: str, seen: dict[tuple[str, str], tuple[tuple[str, str], int]]) -> None:
-    """Notes in `seen` the time of each labelled process below `top`, by its id and start."""
-    stats = {}
+def look(top, seen):
+    """Notes in `seen` the time of each labelled process below `top`, by its id and start, and when it was seen first and last."""
+    stats, now = {}, time.time()
     for pid in filter(str.isdigit, os.listdir("/proc")):
         try:
-            with open(f"/proc/{pid}/stat") as it:
+            with open(f"/proc/{pid}/stat", encoding="utf-8", errors="replace") as it:
                 stats[pid] = it.read().rpartition(")")[2].split()
         except OSError:
             pass
@@ -45,28 +48,42 @@ def look(top: str, seen: dict[tuple[str, str], tuple[tuple[str, str], int]]) -> 
         found, at = None, pid
         try:
             while at in stats and at != top:
-                found, at = found or label(at), stats[at][1]
+                # what a label stands above belongs to it: the tests run rattle too
+                found, at = label(at) or found, stats[at][1]
         except OSError:
             continue
         if found and at == top:
-            seen[pid, stat[19]] = found, int(stat[11]) + int(stat[12])
+            first = seen[pid, stat[19]][2] if (pid, stat[19]) in seen else now
+            seen[pid, stat[19]] = found, int(stat[11]) + int(stat[12]), first, now
 
 
-def main() -> int:
-    started = subprocess.Popen(sys.argv[1:])
-    seen = {}
+def rows_of(seen, whole, clock):
+    """Crate, kind, seconds of one core and by the clock, with what belongs to no crate and the whole."""
+    rows = []
+    for crate, kind in sorted({it[0] for it in seen.values()}):
+        own = [it for it in seen.values() if it[0] == (crate, kind)]
+        rows.append((crate, kind, sum(it[1] for it in own) / TICKS, max(it[3] for it in own) - min(it[2] for it in own)))
+    rows.append(("", "other", whole - sum(it[2] for it in rows), 0))
+    return [*rows, ("", "all", whole, clock)]
+
+
+def main():
+    words = argparse.ArgumentParser(usage=__doc__.partition("usage: ")[2].partition("\n")[0])
+    words.add_argument("--table")
+    words.add_argument("command", nargs=argparse.REMAINDER)
+    given = words.parse_args()
+    begun, seen = time.time(), {}
+    started = subprocess.Popen(given.command)
     while started.poll() is None:
         look(str(started.pid), seen)
         time.sleep(0.25)
-    taken = Counter()
-    for key, ticks in seen.values():
-        taken[key] += ticks / TICKS
     used = resource.getrusage(resource.RUSAGE_CHILDREN)
-    whole = used.ru_utime + used.ru_stime
-    for (crate, kind), seconds in sorted(taken.items()):
-        print(f"{crate:16} {kind:6} {seconds:8.1f}")
-    print(f"{'other':23} {whole - sum(taken.values()):8.1f}")
-    print(f"{'all':23} {whole:8.1f}")
+    rows = rows_of(seen, used.ru_utime + used.ru_stime, time.time() - begun)
+    for crate, kind, cpu, clock in rows:
+        print(f"{crate:16} {kind:9} {cpu:8.1f} {clock:8.1f}")
+    if given.table:
+        with open(given.table, "w", encoding="utf-8") as to:
+            to.write("".join(f"{crate}\t{kind}\t{cpu:.0f}\t{clock:.0f}\n" for crate, kind, cpu, clock in rows))
     return started.returncode
 
 

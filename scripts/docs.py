@@ -4,6 +4,7 @@
   PROMISE.md, crates/  from the crates' src/ and specs/, and docs/promise.in.md (scripts/promise.py, scripts/pages.py)
   WRONG_BODIES.md      its lists, from the crates' edits
   ARCHITECTURE.md      the table of proofs that other crates use
+  GATE.md              the table of what the gate takes, from docs/gate.tsv
   SCRIPTS.md           the examples, from examples/; the session of a world has to be that of its script
   CALLING.md           its code, from the tests
   EMBEDDING.md         its code, from the auction
@@ -23,6 +24,7 @@ SESSION = "### A world, line by line"
 # Of more commands in a row than this, only the first and the last are shown.
 MOST_SHOWN = 12
 PROOFS = "| Module | Says | Used by |\n|---|---|---|\n"
+TAKES = "| Crate | Proof | By the clock | Built | `must-fail/` | `edits.txt` |\n|---|---|---|---|---|---|\n"
 
 
 def named():
@@ -164,9 +166,24 @@ def architecture(text):
     return start + PROOFS + rows + re.sub(r"^(?:\|.*\n)*", "", after)
 
 
+def gate(text):
+    """Fills the table of what the gate takes, a row a crate, with the whole and what belongs to no crate as its last rows."""
+    taken = [line.split("\t") for line in (ROOT / "docs/gate.tsv").read_text().splitlines()]
+    cells = {(crate, kind): (cpu, clock) for crate, kind, cpu, clock in taken}
+    of = lambda crate, kind: cells.get((crate, kind), ("", ""))
+    rows = ""
+    for crate in crates():
+        if (crate, "proof") in cells:
+            rows += f"| `{crate}` | {' | '.join([*of(crate, 'proof'), *(of(crate, it)[0] for it in ('build', 'must-fail', 'named'))])} |\n"
+    for name, key in (("the tests", ("all", "tests")), ("what belongs to no crate", ("", "other")), ("all", ("", "all"))):
+        rows += f"| {name} | {' | '.join(of(*key))} | | | |\n"
+    start, _, after = text.partition(TAKES)
+    return start + TAKES + rows + re.sub(r"^(?:\|.*\n)*", "", after)
+
+
 def written():
     """Each file that is made by script, or has parts that are, beside its text."""
-    made = {"WRONG_BODIES.md": wrong_bodies, "SCRIPTS.md": scripts, "CALLING.md": calling, "EMBEDDING.md": calling, "ARCHITECTURE.md": architecture}
+    made = {"WRONG_BODIES.md": wrong_bodies, "SCRIPTS.md": scripts, "CALLING.md": calling, "EMBEDDING.md": calling, "ARCHITECTURE.md": architecture, "GATE.md": gate}
     texts = {ROOT / "docs" / name: make((ROOT / "docs" / name).read_text()) for name, make in made.items()}
     return {**texts, **pages.written(), promise.PAGE: promise.written()}
 
