@@ -57,13 +57,14 @@ def prove(room, crate):
     return int(not ran.returncode), [crate] * bool(ran.returncode), ran.stdout
 
 
-def prepare_proofs(room):
-    """Has the libraries in the copy: those that `rt ci` has left, and then those of the tests."""
+def prepare_proofs(room, crates):
+    """Has in the copy the libraries of these crates: those that `rt ci` has left, and then those of tests/."""
     for crate in os.listdir(f"{with_tests.ROOT}/crates"):
         if os.path.isdir(f"{with_tests.ROOT}/crates/{crate}/out"):
             os.symlink(f"{with_tests.ROOT}/crates/{crate}/out", f"{room}/crates/{crate}/out")
-    for crate in with_tests.lines():
-        if crate not in with_tests.test_crates():
+    lines = with_tests.lines()
+    for crate in lines:
+        if any(crate in lines[it].split() for it in crates):
             os.makedirs(f"{room}/crates/{crate}/out/rlib")
             ran = told(["rattle", "build", *check_words(room, crate), "-o", f"out/rlib/{crate}.rlib"], f"{room}/crates/{crate}")
             if ran.returncode:
@@ -81,7 +82,7 @@ def main():
                 shutil.copyfile(file, file.replace(f"{room}/crates", f"{with_tests.ROOT}/tests") + ".in")
             return
         if do == prove:
-            prepare_proofs(room)
+            prepare_proofs(room, crates)
         else:
             unproved.copy_of_kit(f"{room}/kit")
         wrong = laid_out(room, "--check")[1]
