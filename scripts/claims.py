@@ -55,7 +55,7 @@ def paths():
     for document in documents():
         if document == README or document.parent.name == "crates":
             continue
-        for name in re.findall(r"`((?:docs|crates|scripts|examples|bench)/[^`\s]*)`", prose(document)):
+        for name in re.findall(r"`((?:docs|crates|tests|scripts|examples|bench)/[^`\s]*)`", prose(document)):
             # a word in capitals stands for any name; what is built is there only once it is built
             pattern = re.sub(r"(?<![A-Za-z_])[A-Z]{2,}(?![A-Za-z_.])|\{[^}]*\}", "*", name.rstrip("/"))
             if "out" not in pattern.split("/") and not any(ROOT.glob(pattern)):
@@ -75,12 +75,12 @@ def counts():
     defined = {word for path in specs for word in sources.spec_file(path.parts[-3], path.stem).values() if word.crate == path.parts[-3]}
     return {
         "crates": len(names),
-        "library crates": len([it for it in names if not it.endswith("_cases") and it != "txcache"]),
+        "library crates": len([it for it in names if it != "txcache"]),
         "functions": len(functions),
         "public functions": len([it for it in functions if it.is_public]),
         "definitions": len(defined),
         "wrong bodies": edits("must-fail") + edits("more-edits"),
-        "tests": sum(text.count("#[test]") for crate in names for text in sources.source_files(crate).values()),
+        "tests": sum(path.read_text().count("#[test]") for path in [*ROOT.glob("crates/*/src/**/*.rt"), *ROOT.glob("tests/*/src/**/*.rt.in")]),
         "examples": len([it for it in ROOT.glob("examples/**/*.tx?")]),
     }
 
@@ -115,7 +115,8 @@ def long_sentences():
         for sentence in sentences(document):
             if len(sentence.split()) > MOST_WORDS_OF_A_SENTENCE:
                 yield document, f"has a sentence of {len(sentence.split())} words: {sentence}"
-    for path in sorted([*ROOT.glob("crates/*/src/**/*.rt"), *ROOT.glob("crates/*/specs/**/*.antt")]):
+    files = ("crates/*/src/**/*.rt", "crates/*/specs/**/*.antt", "tests/*/src/**/*.rt.in", "tests/*/specs/**/*.antt.in")
+    for path in sorted(path for it in files for path in ROOT.glob(it)):
         for sentence in comments(path):
             if len(sentence.split()) > MOST_WORDS_OF_A_SENTENCE:
                 yield path, f"has a comment with a sentence of {len(sentence.split())} words: {sentence}"
@@ -129,47 +130,46 @@ def comments(path):
         yield from re.split(r"(?<=[.?!:])\s+(?=[A-Z`(\[])", " ".join(block.split()))
 
 
+def uses(*files):
+    """The libraries that each crate of these lists uses."""
+    lines = [line.split("#")[0] for it in files for line in (ROOT / it).read_text().split("\n")]
+    return {line.split(":")[0].strip(): line.split(":")[1].split() for line in lines if ":" in line}
+
+
 def crate_tables():
     """Each crate has a row in ARCHITECTURE, which names some of the libraries that it uses and no other."""
     document = ROOT / "docs/ARCHITECTURE.md"
     rows = dict(re.findall(r"^\| `(tx\w+|auction|shop)` \|[^|]*\|([^|]*)\|$", document.read_text(), re.M))
-    lines = [line.split("#")[0] for line in (ROOT / "crates.txt").read_text().split("\n")]
-    uses = {line.split(":")[0].strip(): line.split(":")[1].split() for line in lines if ":" in line}
-    for crate in uses.keys() - rows.keys():
+    used = uses("crates.txt", "tests/crates.txt.in")
+    for crate in used.keys() - rows.keys():
         yield document, f"has no row for {crate}"
-    for crate in rows.keys() - uses.keys():
+    for crate in rows.keys() - used.keys():
         yield document, f"has a row for {crate}, which is no crate"
-    for crate in rows.keys() & uses.keys():
+    for crate in rows.keys() & used.keys():
         for other in re.findall(r"`(\w+)`", rows[crate]):
-            if other not in uses[crate]:
+            if other not in used[crate]:
                 yield document, f"says that {crate} stands on {other}, which it does not use"
 
 
 def promised():
-    """Each library that is not there for tests alone has a row in PROMISE."""
-    lines = [line.split("#")[0] for line in (ROOT / "crates.txt").read_text().split("\n")]
-    uses = {line.split(":")[0].strip(): line.split(":")[1].split() for line in lines if ":" in line}
-    of_tests = {it for it in uses if it.endswith("_cases")}
-    for crate in reversed(uses):
-        users = {it for it in uses if crate in uses[it]}
-        if users and users <= of_tests:
-            of_tests.add(crate)
+    """Each library that other crates use has a row in PROMISE."""
     document = ROOT / "docs/promise.in.md"
     rows = re.findall(r"^\| (`txc_.*?) \|", document.read_text(), re.M)
-    for crate in uses:
-        if crate not in of_tests and (ROOT / "crates" / crate / "src/lib.rt").is_file() and not any(f"`{crate}`" in it for it in rows):
+    used = {it for below in uses("crates.txt").values() for it in below}
+    for crate in sources.crates():
+        if crate in used and not any(f"`{crate}`" in it for it in rows):
             yield document, f"has no row for {crate} in its table of crates"
 
 
 def help_shown():
     """The help in SCRIPTS is the one that the tests of the command line compare."""
     document = ROOT / "docs/SCRIPTS.md"
-    text = (ROOT / "crates/txc_cases/src/command.rt").read_text()
+    text = (ROOT / "tests/txc_plain_tests/src/base/command.rt.in").read_text()
     said = re.search(r"^txcache --help = 0 (.*?[^\\])\n", re.sub(r"\\\n", "", text), re.M)[1]
     wanted = [line.rstrip() for line in said.rstrip(";").split(";")]
     shown = re.search(r"^    \$ txcache --help\n((?:    .*\n|\n)+)", document.read_text(), re.M)
     if not shown or [line[4:].rstrip() for line in shown[1].rstrip().split("\n")] != wanted:
-        yield document, "shows another help than the program's (crates/txc_cases/src/command.rt)"
+        yield document, "shows another help than the program's (tests/txc_plain_tests/src/base/command.rt.in)"
 
 
 def settings():
@@ -244,7 +244,8 @@ def version():
 
 def names():
     """Each file and each function of a type that ARCHITECTURE, CALLING and DECISIONS name in backticks is there."""
-    files = [f"/{it.as_posix()}" for it in ROOT.glob("crates/**/*") if it.suffix in (".rt", ".antt") and "out" not in it.parts]
+    places = [*ROOT.glob("crates/**/*"), *ROOT.glob("tests/**/*")]
+    files = [f"/{it.as_posix()}" for it in places if it.suffix in (".rt", ".antt", ".in") and "out" not in it.parts]
     methods = {}
     for crate in sources.crates():
         for word in sources.rust_items(crate).values():
@@ -255,7 +256,7 @@ def names():
         document = ROOT / "docs" / name
         for said in re.findall(r"`([^`\n]+)`", prose(document)):
             kind, _, method = said.partition("::")
-            if re.fullmatch(r"[\w/]+\.(rt|antt)", said) and not any(it.endswith(f"/{said}") for it in files):
+            if re.fullmatch(r"[\w/]+\.(rt|antt)(\.in)?", said) and not any(it.endswith(f"/{said}") for it in files):
                 yield document, f"names the file `{said}`, which is not there"
             elif kind in methods and re.fullmatch(r"\w+", method) and method not in methods[kind]:
                 yield document, f"names `{said}`, which is not there"

@@ -138,9 +138,10 @@ def calling(text):
 def used_proofs():
     """The modules of proofs that other crates use, but for those that are offered: each with the crates that do."""
     used = {}
-    for crate in crates():
-        for path in (ROOT / "crates" / crate).glob("**/*"):
-            if path.suffix in (".antt", ".rt") and "out" not in path.parts:
+    for folder in [*(ROOT / "crates" / it for it in crates()), *(ROOT / "tests").glob("txc_*")]:
+        crate = folder.name
+        for path in folder.glob("**/*"):
+            if path.suffix in (".antt", ".rt", ".in") and "out" not in path.parts:
                 for other, module in re.findall(r"Rattle\.(txc\w*)\.proofs\.((?:\w+\.)*\w+)", path.read_text()):
                     if other != crate and not module.startswith("Offered"):
                         used.setdefault((other, module), set()).add(crate)

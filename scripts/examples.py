@@ -1,6 +1,6 @@
 #!/usr/bin/env python3
 """Writes the examples with what they print as constants of the tests: those of mode node, with their reports, in
-crates/txc_run_cases/src/run/examples.rt, and those of mode world in crates/txc_world_cases/src/world/examples.rt.
+tests/txc_plain_tests/src/run/run/examples.rt.in, and those of mode world in tests/txc_script_tests/src/world/world/examples.rt.in.
 
 usage: examples.py [--check]      --check writes nothing, and ends with 1 where a file is not what would be written
 """
@@ -74,11 +74,11 @@ def of_worlds(folder):
 
 def main():
     root = pathlib.Path(__file__).resolve().parent.parent
-    crates = root / "crates"
+    tests = root / "tests"
     examples = root / "examples"
     written = {
-        crates / "txc_run_cases/src/run/examples.rt": of_nodes(examples),
-        crates / "txc_world_cases/src/world/examples.rt": of_worlds(examples),
+        tests / "txc_plain_tests/src/run/run/examples.rt.in": of_nodes(examples),
+        tests / "txc_script_tests/src/world/world/examples.rt.in": of_worlds(examples),
     }
     for target, text in written.items():
         if "--check" not in sys.argv[1:]:

@@ -124,7 +124,7 @@ class Names:
             return f"[`{said}`](crates/{kind.crate}.md#{kind.anchor})"
         for call in own_first(self.calls.get(said, [])):
             return f"[`{said}`](crates/{call.crate}.md#{pages.anchor_of(call)})"
-        for path in ROOT.glob("crates/*_cases/src/**/*.rt"):
+        for path in ROOT.glob("tests/*/src/**/*.rt.in"):
             if f"fn {said}(" in path.read_text():
                 return f"[`{said}`](../{path.relative_to(ROOT)})"
         if said == "laws" and all("laws" in sources.exported(it)[1] for it in crates):

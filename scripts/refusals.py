@@ -10,7 +10,6 @@ its allocations, as scripts/refuse.c says. A refusal while it has several thread
 import array
 import glob
 import os
-import re
 import resource
 import shutil
 import subprocess
@@ -22,17 +21,18 @@ from typing import Callable, NamedTuple
 
 import rows
 import unproved
+import with_tests
 from script_files import MODES, settings_of
 
 # Tests that count to a large limit: they do not begin anew where memory is refused on the way.
 LEFT_OUT = {
-    "txc_batch_cases batch::a_reader_that_never_ends",
-    "txc_client_cases clients::refusals::a_client_needs_a_pass_of_each_node",
-    "txc_client_cases clients::refusals::clients_are_refused_at_limits",
-    "txc_db_cases pins::shared::users_and_pins_have_a_limit",
-    "txc_run_cases run::a_reader_that_never_ends",
-    "txc_txn_cases shared::locked::passes_have_a_limit",
-    "txc_world_cases world::a_reader_that_never_ends",
+    "txc_client_tests client::clients::refusals::a_client_needs_a_pass_of_each_node",
+    "txc_client_tests client::clients::refusals::clients_are_refused_at_limits",
+    "txc_plain_tests run::run::a_reader_that_never_ends",
+    "txc_script_tests batch::batch::a_reader_that_never_ends",
+    "txc_script_tests world::world::a_reader_that_never_ends",
+    "txc_store_tests db::pins::shared::users_and_pins_have_a_limit",
+    "txc_store_tests txn::shared::locked::passes_have_a_limit",
 }
 
 # Each allocation of a row of a test is refused, or of a script, where all those runs take at most so many seconds of one
@@ -131,27 +131,12 @@ def without(script: bytes, reply: int) -> bytes:
     return b"\n".join(lines)
 
 
-def named_tests() -> dict[str, list[str]]:
-    """The names of the tests of each crate, by the text of its files."""
-    found = {}
-    for folder in sorted(glob.glob("crates/*_cases")):
-        files = sorted(glob.glob(f"{folder}/src/**/*.rt", recursive=True))
-        crate = os.path.basename(folder)
-        found[crate] = []
-        for file in files:
-            module = os.path.relpath(file, f"{folder}/src")[: -len(".rt")].replace("/", "::")
-            with open(file, encoding="utf-8") as it:
-                tests = re.findall(r"^#\[test\]\nfn (\w+)", it.read(), re.M)
-            found[crate] += [f"{crate} {module}::{it}".replace(" lib::", " ") for it in tests]
-    return found
-
-
 def built(room: str, crate: str) -> str:
     """The program of a crate's tests, in which rows say where they begin."""
     program = f"{room}/{crate}_tests"
     if not os.path.exists(program):
         with tempfile.TemporaryDirectory(prefix="rows-") as folder:
-            said = unproved.build(rows.copy(crate, f"{folder}/copy"), f"{folder}/program")
+            said = unproved.build(rows.copy(crate, folder), f"{folder}/program")
             if said:
                 sys.exit(f"{crate} does not compile:\n{said[-3000:]}")
             shutil.move(f"{folder}/program", program)
@@ -160,11 +145,12 @@ def built(room: str, crate: str) -> str:
 
 def tests(room: str, is_wanted: Callable[[str], bool]) -> list[Case]:
     found = []
-    for crate, named in named_tests().items():
-        wanted = [it for it in named if it not in LEFT_OUT and is_wanted(it)]
+    for crate in with_tests.test_crates():
+        names = {f"{crate} {it}": it for it in with_tests.named_tests(crate)}
+        wanted = [it for it in names if it not in LEFT_OUT and is_wanted(it)]
         if wanted:
             program = built(room, crate)
-            found += [Case(it, [program, it.split(" ")[1]], b"", wrong_of_test) for it in wanted]
+            found += [Case(it, [program, names[it]], b"", wrong_of_test) for it in wanted]
     return found
 
 

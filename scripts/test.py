@@ -1,54 +1,101 @@
 #!/usr/bin/env python3
-"""Runs the tests of all test crates by `rt try --test`, side by side. It proves nothing: the tests are compiled with checks
-of the toolchain's own. `make prove` proves them, and runs them again.
+"""Runs the tests of tests/ by `rt try --test`, each crate of them beside the others. It proves nothing: the tests are compiled
+with checks of the toolchain's own.
 
-usage: [JOBS=N] scripts/test.py [CRATE..]
-  CRATE    runs the tests of these crates alone
-  JOBS     how many crates are compiled and run side by side, by default one a core
+usage: [JOBS=N] scripts/test.py [--proved] [CRATE..]
+       scripts/test.py --fmt
+  CRATE     runs the tests of these crates alone
+  JOBS      how many crates are compiled and run side by side, by default one a core (4 GB each)
+  --proved  runs no test, and proves these crates over the libraries that `rt ci` (so `make prove`) has left in crates/*/out: a
+            test that calls against a `requires` is not proved
+  --fmt     does for the files of tests/ what `rt fmt` does for those of a crate, and nothing else
 
-It prints a line for each crate, what failed, and last `N passed, M failed`. The exit status is 0 only if M is 0.
+It prints each file that is not so laid out, a line for each crate, what failed, and last `N passed, M failed`. The exit status is 0 only if M is 0.
 """
 
 import glob
 import os
 import re
+import shutil
 import subprocess
 import sys
+import tempfile
 import time
 from concurrent.futures import ThreadPoolExecutor, as_completed
 
-ROOT = f"{os.path.dirname(os.path.abspath(__file__))}/.."
-# The test that fills the largest row takes longest: a minute or two, by how much else the machine does.
-SECONDS = "600"
+import unproved
+import with_tests
+from check import check_words
+
+# Each test may take so long; the compiled run alone is wanted, and no step of the toolchain's interpreter before it.
+LIMITS = ["--seconds", "600", "--steps", "1"]
 
 
-def lines_of(crate):
-    """How much there is to compile of a crate: the longest is begun first."""
-    return sum(sum(1 for _ in open(it, "rb")) for it in glob.glob(f"{crate}/src/**/*.rt", recursive=True))
+def told(words, folder):
+    return subprocess.run(words, cwd=folder, stdout=subprocess.PIPE, stderr=subprocess.STDOUT, text=True, errors="replace")
 
 
-def run(crate):
-    """What its tests came to: how many passed, those that failed, the seconds, and all that was said."""
-    begun = time.time()
-    ran = subprocess.run(["rt", "try", "--test", "--seconds", SECONDS], cwd=crate, stdout=subprocess.PIPE, stderr=subprocess.STDOUT, text=True, errors="replace")
+def laid_out(room, flag):
+    """The files of the tests in the copy, which `rattle fmt` is to look at or to write, and what it says of them."""
+    files = [it for crate in with_tests.lines() for it in glob.glob(f"{room}/crates/{crate}/*/**/*.*t", recursive=True)]
+    return files, told(["rattle", "fmt", flag, *files], room).stdout.replace(f"{room}/crates", "tests").splitlines()
+
+
+def run(room, crate):
+    """What its tests came to: how many passed, those that failed, and all that was said."""
+    ran = told([f"{room}/kit/bin/rt", "try", "--test", *LIMITS], f"{room}/crates/{crate}")
     ends = dict(re.findall(r"^test (\S+) \.\.\. (.*)$", ran.stdout, re.M))
-    failed = sorted(name for name, end in ends.items() if end != "ok")
-    if not ends or ran.returncode and not failed:
+    failed = [it for it in with_tests.named_tests(crate) if ends.get(it) != "ok"]
+    if ran.returncode and not failed:
         failed.append("(they did not run to their end)")
-    return sum(end == "ok" for end in ends.values()), failed, time.time() - begun, ran.stdout
+    return sum(end == "ok" for end in ends.values()), failed, ran.stdout
+
+
+def prove(room, crate):
+    """Whether it is proved, as `run` tells it."""
+    ran = told(["rattle", "check", *check_words(room, crate), "--test"], f"{room}/crates/{crate}")
+    return int(not ran.returncode), [crate] * bool(ran.returncode), ran.stdout
+
+
+def prepare_proofs(room, crates):
+    """Has in the copy the libraries of these crates: those that `rt ci` has left, and then those of tests/."""
+    for crate in os.listdir(f"{with_tests.ROOT}/crates"):
+        if os.path.isdir(f"{with_tests.ROOT}/crates/{crate}/out"):
+            os.symlink(f"{with_tests.ROOT}/crates/{crate}/out", f"{room}/crates/{crate}/out")
+    lines = with_tests.lines()
+    for crate in lines:
+        if any(crate in lines[it].split() for it in crates):
+            os.makedirs(f"{room}/crates/{crate}/out/rlib")
+            ran = told(["rattle", "build", *check_words(room, crate), "-o", f"out/rlib/{crate}.rlib"], f"{room}/crates/{crate}")
+            if ran.returncode:
+                sys.exit(f"{ran.stdout[-3000:]}{crate} is not proved")
 
 
 def main():
-    crates = [f"{ROOT}/crates/{it}" for it in sys.argv[1:]] or glob.glob(f"{ROOT}/crates/*_cases")
-    passed, failures = 0, 0
-    with ThreadPoolExecutor(int(os.environ.get("JOBS", os.cpu_count()))) as pool:
-        running = {pool.submit(run, it): os.path.basename(it) for it in sorted(crates, key=lines_of, reverse=True)}
-        for done in as_completed(running):
-            well, failed, seconds, said = done.result()
-            passed, failures = passed + well, failures + len(failed)
-            print(f"{running[done]}: {well} passed, {len(failed)} failed, {seconds:.0f} s", flush=True)
-            if failed:
-                print("".join(f"  {it}\n" for it in failed) + said[-3000:])
+    do = prove if "--proved" in sys.argv[1:] else run
+    crates = [it for it in sys.argv[1:] if not it.startswith("--")] or with_tests.test_crates()
+    begun = time.time()
+    with tempfile.TemporaryDirectory(prefix="tests-") as room:
+        with_tests.copy(room)
+        if "--fmt" in sys.argv[1:]:
+            for file in laid_out(room, "--write")[0]:
+                shutil.copyfile(file, file.replace(f"{room}/crates", f"{with_tests.ROOT}/tests") + ".in")
+            return
+        if do == prove:
+            prepare_proofs(room, crates)
+        else:
+            unproved.copy_of_kit(f"{room}/kit")
+        wrong = laid_out(room, "--check")[1]
+        print("".join(f"{it}\n" for it in wrong), end="")
+        passed, failures = 0, len(wrong)
+        with ThreadPoolExecutor(int(os.environ.get("JOBS", os.cpu_count()))) as pool:
+            running = {pool.submit(do, room, it): it for it in crates}
+            for done in as_completed(running):
+                well, failed, said = done.result()
+                passed, failures = passed + well, failures + len(failed)
+                print(f"{running[done]}: {well} passed, {len(failed)} failed, after {time.time() - begun:.0f} s", flush=True)
+                if failed:
+                    print("".join(f"  {it}\n" for it in failed) + said[-3000:])
     print(f"{passed} passed, {failures} failed")
     sys.exit(int(failures > 0))
 

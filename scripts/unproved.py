@@ -40,31 +40,31 @@ def linked(real, folder, own):
             os.symlink(f"{real}/{name}", f"{folder}/{name}")
 
 
-def copy_of_kit(real, folder, module):
-    """A copy of the toolchain's folder that keeps the module."""
+def copy_of_kit(folder, clang=None):
+    """A copy of the toolchain's folder in which the prover, which a try asks for a hint alone, says nothing, and in which this
+    script, if one is given, stands in the place of clang."""
+    real = kit()
     linked(real, folder, {"bin", "toolchain"})
     linked(f"{real}/bin", f"{folder}/bin", {"rt", "rtlib.py", "rattle"})
-    # the prover is asked for a hint alone
     os.symlink("/bin/true", f"{folder}/bin/rattle")
     for name in ("rt", "rtlib.py"):
         # what they are told of the toolchain is where they lie themselves
-        with open(f"{real}/bin/{name}", "rb") as it, open(f"{folder}/bin/{name}", "wb") as to:
-            to.write(it.read())
-        os.chmod(f"{folder}/bin/{name}", 0o755)
+        shutil.copy(f"{real}/bin/{name}", f"{folder}/bin/{name}")
     linked(f"{real}/toolchain", f"{folder}/toolchain", {"bin"})
-    linked(f"{real}/toolchain/bin", f"{folder}/toolchain/bin", {"clang"})
-    with open(f"{folder}/toolchain/bin/clang", "w", encoding="utf-8") as it:
-        it.write(KEEPS.format(module=module, clang=f"{real}/toolchain/bin/clang"))
-    os.chmod(f"{folder}/toolchain/bin/clang", 0o755)
+    linked(f"{real}/toolchain/bin", f"{folder}/toolchain/bin", {"clang"} if clang else ())
+    if clang:
+        with open(f"{folder}/toolchain/bin/clang", "w", encoding="utf-8") as it:
+            it.write(clang)
+        os.chmod(f"{folder}/toolchain/bin/clang", 0o755)
 
 
-def build(crate, program, words=("--test",)):
+def build(crate, program, words=("--test", "--steps", "1")):
     """Builds the tests of the crate's folder into the program, and returns what was said where they do not compile. Other words
     for `rt try` build what it runs with them."""
     real, room = kit(), f"{program}.made"
     module = f"{room}/module.bc"
     shutil.rmtree(room, ignore_errors=True)
-    copy_of_kit(real, f"{room}/kit", module)
+    copy_of_kit(f"{room}/kit", KEEPS.format(module=module, clang=f"{real}/toolchain/bin/clang"))
     tried = subprocess.run([f"{room}/kit/bin/rt", "try", *words], cwd=crate, capture_output=True, text=True, errors="replace")
     if not os.path.exists(module):
         return tried.stdout + tried.stderr
@@ -83,4 +83,4 @@ def build(crate, program, words=("--test",)):
 
 if __name__ == "__main__":
     is_main = sys.argv[3:] == ["--main"]
-    sys.exit(build(*map(os.path.abspath, sys.argv[1:3]), ["--steps", "1"] if is_main else ["--test"]) or 0)
+    sys.exit(build(*map(os.path.abspath, sys.argv[1:3]), ["--steps", "1"] if is_main else ["--test", "--steps", "1"]) or 0)
