@@ -5,12 +5,13 @@ with checks of the toolchain's own.
 usage: [JOBS=N] scripts/test.py [--proved] [CRATE..]
        scripts/test.py --fmt
   CRATE     runs the tests of these crates alone
-  JOBS      how many crates are compiled and run side by side, by default one a core (4 GB each)
+  JOBS      how many crates are compiled and run side by side, by default one a core (3 to 6 GB each)
   --proved  runs no test, and proves these crates over the libraries that `rt ci` (so `make prove`) has left in crates/*/out: a
             test that calls against a `requires` is not proved
   --fmt     does for the files of tests/ what `rt fmt` does for those of a crate, and nothing else
 
-It prints each file that is not so laid out, a line for each crate, what failed, and last `N passed, M failed`. The exit status is 0 only if M is 0.
+It prints each file that is not so laid out, a line for each crate, what failed, and last `N passed, M failed`. The exit status
+is 0 only if M is 0.
 """
 
 import glob
@@ -37,7 +38,7 @@ def told(words, folder):
 
 def laid_out(room, flag):
     """The files of the tests in the copy, which `rattle fmt` is to look at or to write, and what it says of them."""
-    files = [it for crate in with_tests.lines() for it in glob.glob(f"{room}/crates/{crate}/*/**/*.*t", recursive=True)]
+    files = [it for crate in with_tests.lines() for it in glob.glob(f"{room}/crates/{crate}/**/*.*t", recursive=True)]
     return files, told(["rattle", "fmt", flag, *files], room).stdout.replace(f"{room}/crates", "tests").splitlines()
 
 
@@ -81,13 +82,13 @@ def main():
             for file in laid_out(room, "--write")[0]:
                 shutil.copyfile(file, file.replace(f"{room}/crates", f"{with_tests.ROOT}/tests") + ".in")
             return
+        wrong = laid_out(room, "--check")[1]
+        print("".join(f"{it}\n" for it in wrong), end="")
+        passed, failures = 0, len(wrong)
         if do == prove:
             prepare_proofs(room, crates)
         else:
             unproved.copy_of_kit(f"{room}/kit")
-        wrong = laid_out(room, "--check")[1]
-        print("".join(f"{it}\n" for it in wrong), end="")
-        passed, failures = 0, len(wrong)
         with ThreadPoolExecutor(int(os.environ.get("JOBS", os.cpu_count()))) as pool:
             running = {pool.submit(do, room, it): it for it in crates}
             for done in as_completed(running):
