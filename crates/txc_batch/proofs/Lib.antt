@@ -3,6 +3,7 @@ pub mod OrderWords
 pub mod JobFaults
 pub mod Crews
 pub mod NodeRows
+pub mod NodesBy
 pub mod Preparing
 pub mod Closing
 pub mod Ending

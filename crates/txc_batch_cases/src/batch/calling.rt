@@ -1,4 +1,4 @@
-//! A run of a batch's script, over a new world, by workers that have the program's functions.
+//! A run of a batch's script, over a new database, by workers that have the program's functions.
 ghost use Rattle.std.specs.Prelude.{IfOk};
 ghost use Rattle.txc_batch.specs.Crews.{IsCrew};
 
@@ -6,13 +6,12 @@ use std::alloc::{AllocError, Global};
 use std::io::{Read, Write};
 use std::sync::Wait;
 use std::thread::Threads;
-use txc_batch::{run_batch_script, stage_settings};
+use txc_batch::run_batch_script;
 use txc_functions::{Object, Program, registries};
 use txc_permits::PermitPool;
 use txc_registry::Registry;
 use txc_script::{RunFault, Status};
 use txc_settings::Settings;
-use txc_world::World;
 
 /// The permits of the functions of all workers; none where memory was refused twice.
 pub(super) fn pool_of(alloc: Global, settings: Settings) -> Option<PermitPool> {
@@ -30,12 +29,12 @@ fn workers(
     settings: Settings,
     pool: &mut PermitPool,
 ) -> Result<Vec<Registry<Program, Object>>, AllocError>
-    ensures { IfOk result (λ crew. IsCrew crew.items) }
+    ensures { IfOk result (λ crew. IsCrew settings.workers crew.items) }
 {
     registries(alloc, pool, settings.workers)
 }
 
-/// Runs a script over a new world.
+/// Runs a script over a new database.
 pub(super) fn run<R: Read, W: Write, H: Threads + Wait + Sync>(
     rt: &H,
     alloc: Global,
@@ -47,8 +46,5 @@ pub(super) fn run<R: Read, W: Write, H: Threads + Wait + Sync>(
     let Ok(crew) = workers(alloc, settings, pool) else {
         return Err(RunFault::Memory);
     };
-    match World::<Program, Object>::new(alloc, stage_settings(settings), Vec::new(alloc)) {
-        Ok(world) => run_batch_script(rt, alloc, settings, world, crew, reader, writer),
-        Err(_) => Err(RunFault::Memory),
-    }
+    run_batch_script(rt, alloc, settings, crew, reader, writer)
 }

@@ -1,8 +1,8 @@
 use Rattle.std.specs.Prelude.{codes}
 use Rattle.txc_script.proofs.Offered.{words_alone, words_cut}
 use Rattle.txc_script.proofs.Offered.{other_text}
-use Rattle.txc_play.proofs.TaskParts.{no_lone_query, no_query}
-use Rattle.txc_play.proofs.parts.read_query.Goals as goal
+use Rattle.txc_words.proofs.WordParts.{no_lone_query, no_query}
+use Rattle.txc_words.proofs.parts.read_query.Goals as goal
 
 pub returns-in_default-clause-refused : goal.returns-in_default-clause-refused
 returns-in_default-clause-refused c q h = no_lone_query _ c.args.text.now q (words_alone c.args.text.now c.in_default.ensures.refused) h

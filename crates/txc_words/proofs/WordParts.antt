@@ -1,4 +1,4 @@
--- The parts of the lines of a world's script, word by word.
+-- The parts of lines, word by word.
 use Rattle.std.proofs.Common.{◌≡◌, ℕ, ◌≤◌, true, false, List, [], ◌∷◌, Result, Ok, Err, IfErr, length, refl, sym, ap, subst, ◌∙◌}
 use Rattle.std.specs.Prelude.{codes, IsErr, IsErrAnd}
 use Rattle.std.specs.Fmt.{decimal}
@@ -11,9 +11,9 @@ use Rattle.txc_rows.specs.declared.query.Query.{Query}
 use Rattle.txc_rows.specs.declared.query.Query.TheVariants as queries
 use Rattle.txc_rows.specs.declared.query.Change.{Change}
 use Rattle.txc_rows.specs.declared.query.Change.TheVariants as changes
-use Rattle.txc_play.specs.Tasks.{query_words, row_words, AreChangeWords, AreQueryWords}
+use Rattle.txc_words.specs.Parts.{query_words, row_words, AreChangeWords, AreQueryWords}
 use Rattle.txc_script.specs.Unread.{IsNone}
-use Rattle.txc_play.specs.TaskReading.{ArePairWords, AreRangeWords}
+use Rattle.txc_words.specs.Parts.{ArePairWords, AreRangeWords}
 use Rattle.txc_script.specs.Lines.{IsNumberWord}
 use Rattle.txc_script.specs.declared.unread.Unread.{Unread}
 use Rattle.txc_script.specs.declared.unread.Unread.TheVariants as reasons

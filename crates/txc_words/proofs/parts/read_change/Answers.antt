@@ -1,8 +1,8 @@
 use Rattle.std.specs.Prelude.{codes}
 use Rattle.txc_script.proofs.Offered.{words_alone, words_cut}
 use Rattle.txc_script.proofs.Offered.{other_text}
-use Rattle.txc_play.proofs.TaskParts.{no_lone_change, no_change}
-use Rattle.txc_play.proofs.parts.read_change.Goals as goal
+use Rattle.txc_words.proofs.WordParts.{no_lone_change, no_change}
+use Rattle.txc_words.proofs.parts.read_change.Goals as goal
 
 pub returns-in_default-clause-refused : goal.returns-in_default-clause-refused
 returns-in_default-clause-refused c change h = no_lone_change _ c.args.text.now change (words_alone c.args.text.now c.in_default.ensures.refused) h

@@ -1,6 +1,6 @@
-//! The kinds of the words of a world's lines.
+//! The kinds of the words of lines.
 ghost use Rattle.std.specs.Prelude.{◌≡◌, Some, None, IfSome, IfNone};
-ghost use Rattle.txc_play.specs.WorldFaults.{change_line, first_kinds, kinds_after, place, query_line};
+ghost use Rattle.txc_words.specs.Faults.{change_line, first_kinds, kinds_after, place, query_line};
 ghost use Rattle.txc_script.specs.declared.line_fault.WordKind.{WordKind};
 
 use crate::parts::LAST_MOMENT;

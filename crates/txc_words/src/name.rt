@@ -1,6 +1,6 @@
-//! The names of the lines of a world's script.
+//! The names of lines.
 ghost use Rattle.std.specs.Prelude.{◌≡◌, IfSome, IfNone};
-ghost use Rattle.txc_play.specs.Tasks.{name_text};
+ghost use Rattle.txc_words.specs.Names.{name_text};
 ghost use Rattle.txc_script.specs.declared.line_name.LineName.{LineName};
 
 use txc_script::LineName;

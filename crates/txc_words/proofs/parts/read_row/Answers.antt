@@ -1,8 +1,8 @@
 use Rattle.std.proofs.Common.{ℕ, List, ◌∷◌, refl, sym, ap, subst, ◌∙◌}
 use Rattle.txc_rows.specs.Values.{IsBody}
 use Rattle.txc_script.proofs.Offered.{words_alone, words_cut}
-use Rattle.txc_play.proofs.TaskParts.{none_of, row_alone, row_in, row_of, row_short}
-use Rattle.txc_play.proofs.parts.read_row.Goals as goal
+use Rattle.txc_words.proofs.WordParts.{none_of, row_alone, row_in, row_of, row_short}
+use Rattle.txc_words.proofs.parts.read_row.Goals as goal
 
 pub returns-in_default-clause-refused : goal.returns-in_default-clause-refused
 returns-in_default-clause-refused c row h = row_alone _ c.args.text.now row (words_alone c.args.text.now c.in_default.ensures.refused) h.0
