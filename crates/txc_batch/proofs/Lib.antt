@@ -4,6 +4,7 @@ pub mod JobFaults
 pub mod Crews
 pub mod NodeRows
 pub mod NodesBy
+pub mod Pinning
 pub mod Preparing
 pub mod Closing
 pub mod Ending

@@ -1,5 +1,5 @@
 -- Nodes that are made by their numbers.
-use Rattle.std.proofs.Common.{◌≡◌, ℕ, zero, suc, List, [], ◌∷◌, ◌++◌, Some, length, slice_get, sym, subst}
+use Rattle.std.proofs.Common.{◌≡◌, ℕ, zero, suc, List, [], ◌∷◌, ◌++◌, Some, length, slice_get, sym, ap, subst}
 use Rattle.txc_settings.specs.declared.settings.Settings.{Settings}
 use Rattle.txc_shared.specs.declared.settings.NodeSettings.{NodeSettings}
 use Rattle.txc_batch.specs.Staffing.{node_by}
@@ -7,6 +7,9 @@ use Rattle.txc_batch.specs.Staffing.{node_by}
 -- each is made by its number
 abbrev pub AreMadeBy : Settings → List NodeSettings → Type 0
 AreMadeBy s nodes = (number : ℕ) (node : NodeSettings) → slice_get nodes number ≡ Some node → node ≡ node_by s number
+
+pub numbered : (s : Settings) (m n : ℕ) → m ≡ n → node_by s m ≡ node_by s n
+numbered s m n same = ap (node_by s) same
 
 none_made : (s : Settings) (number : ℕ) (node : NodeSettings) → slice_get [] number ≡ Some node → node ≡ node_by s number
 none_made s number node is = absurd (cc is)

@@ -23,15 +23,14 @@ pub struct Source {
 }
 
 impl Model for Source {
-    ghost use Rattle.std.specs.Prelude.{◌≡◌};
-    ghost use Rattle.txc_db.specs.DatabaseValue.{newest};
+    ghost use Rattle.std.specs.Prelude.{◌≡◌, length};
     ghost use Rattle.txc_batch.specs.Sources.{SourceValue};
 
     ghost Value = { SourceValue };
 
     ghost view = { λ s. record { database = s.database; cushion = s.cushion } };
 
-    ghost invariant = { λ s. (s.newest ≡ newest s.database) × (s.cushion.events ≡ s.database.events) };
+    ghost invariant = { λ s. (s.newest ≡ length s.database.history) × (s.cushion.events ≡ s.database.events) };
 }
 
 impl Source {
