@@ -7,7 +7,7 @@ use Rattle.txc_batch.specs.BatchStates.{BatchState}
 use Rattle.txc_batch.specs.Orders.{AsksFor}
 use Rattle.txc_batch.specs.PreparedTexts.{prepared_text, is_refused_preparing}
 use Rattle.txc_batch.specs.Queueing.{QueuedValue, IsJobOf}
-use Rattle.txc_batch.specs.Sources.{DoesPin, DoesWrite, SourceValue}
+use Rattle.txc_batch.specs.Sources.{MakesPin, MakesChange, SourceValue}
 use Rattle.txc_batch.specs.declared.order.Order.{Order}
 use Rattle.txc_batch.specs.declared.order.Order.TheVariants.{Write, Pin, Run}
 use Rattle.txc_batch.specs.declared.prepared.PrepareError.{PrepareError}
@@ -25,9 +25,9 @@ pub record Queues (q : QueuedValue) (s end : BatchState) : Type 0 where
 -- a change or a pin was made, or refused, and has its reply; a job was put behind the others, and has no reply yet
 abbrev pub DoesOrder : BatchState → Order → Option (Result ℕ PrepareError) → BatchState → Type 0
 DoesOrder s (Write change) None end = ⊥
-DoesOrder s (Write change) (Some told) end = LeadsSource (λ old new. DoesWrite change old told new) s end
+DoesOrder s (Write change) (Some told) end = LeadsSource (λ old new. MakesChange change old told new) s end
 DoesOrder s (Pin now) None end = ⊥
-DoesOrder s (Pin now) (Some told) end = LeadsSource (λ old new. DoesPin now old told new) s end
+DoesOrder s (Pin now) (Some told) end = LeadsSource (λ old new. MakesPin now old told new) s end
 DoesOrder s (Run q) reply end = (reply ≡ None) × Queues q s end
 
 -- nothing was done of what a line asks for, or it is a change or a pin, and was made or refused

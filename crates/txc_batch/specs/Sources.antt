@@ -32,17 +32,17 @@ pub record HasRefusedSource (old : SourceValue) (error : DbError) (new : SourceV
   pub left : IsLeft old.database new.database error
 
 -- the change was committed at the newest stamp, with nothing read, and this is the newest stamp after it
-pub record HasWritten (change : Change) (old : SourceValue) (stamp : ℕ) (new : SourceValue) : Type 0 where
+pub record HasMadeChange (change : Change) (old : SourceValue) (stamp : ℕ) (new : SourceValue) : Type 0 where
   pub is : new ≡ record old { database = after_commit old.database (change ∷ []) }
   pub stamp_is : stamp ≡ newest new.database
   pub only_if : IsCommittable old.database (newest old.database) [] (change ∷ [])
 
 -- a change was committed, or the database refused it
-abbrev pub DoesWrite : Change → SourceValue → Result ℕ PrepareError → SourceValue → Type 0
-DoesWrite change old (Ok stamp) new = HasWritten change old stamp new
-DoesWrite change old (Err (Database error)) new = HasRefusedSource old error new
+abbrev pub MakesChange : Change → SourceValue → Result ℕ PrepareError → SourceValue → Type 0
+MakesChange change old (Ok stamp) new = HasMadeChange change old stamp new
+MakesChange change old (Err (Database error)) new = HasRefusedSource old error new
     × IsCommitRefused old.database (newest old.database) [] (change ∷ []) error
-DoesWrite change old (Err (Pincushion error)) new = ⊥
+MakesChange change old (Err (Pincushion error)) new = ⊥
 
 -- the pin that the database makes of the present, at this moment
 pub record IsPinOfPresent (now : ℕ) (d : DatabaseValue) (pinned : Pinned) : Type 0 where
@@ -70,10 +70,10 @@ pub record HasUnpinnedPresent (now : ℕ) (old : SourceValue) (error : AddError)
   pub cushion : new.cushion ≡ old.cushion
 
 -- the present was pinned and the pin added; or the database refused, or the pincushion
-abbrev pub DoesPin : ℕ → SourceValue → Result ℕ PrepareError → SourceValue → Type 0
-DoesPin now old (Ok stamp) new = HasPinnedPresent now old stamp new
-DoesPin now old (Err (Database error)) new = HasRefusedSource old error new × IsPinRefused old.database 0 error
-DoesPin now old (Err (Pincushion error)) new = HasUnpinnedPresent now old error new
+abbrev pub MakesPin : ℕ → SourceValue → Result ℕ PrepareError → SourceValue → Type 0
+MakesPin now old (Ok stamp) new = HasPinnedPresent now old stamp new
+MakesPin now old (Err (Database error)) new = HasRefusedSource old error new × IsPinRefused old.database 0 error
+MakesPin now old (Err (Pincushion error)) new = HasUnpinnedPresent now old error new
 
 -- ---- only private functions need this
 

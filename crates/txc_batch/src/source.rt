@@ -34,7 +34,7 @@ impl Model for Source {
 }
 
 impl Source {
-    ghost use Rattle.txc_batch.specs.Sources.{DoesPin, DoesWrite, HasAddedPin, IsNewSource};
+    ghost use Rattle.txc_batch.specs.Sources.{MakesPin, MakesChange, HasAddedPin, IsNewSource};
 
     /// An empty database, with room for so many events, and no pin.
     pub fn new(alloc: Global, row_cap: usize) -> Result<Source, DbError>
@@ -67,7 +67,7 @@ impl Source {
 
     /// Commits the change at the newest stamp, with nothing read, and answers the newest stamp after it.
     pub fn write(&mut self, alloc: Global, change: &Change) -> Result<Stamp, PrepareError>
-        ensures { DoesWrite change.now self.old result self.new }
+        ensures { MakesChange change.now self.old result self.new }
     {
         let read = TagSet::new(alloc);
         let base = self.newest;
@@ -84,7 +84,7 @@ impl Source {
     /// Pins the present, and adds the pin, which no transaction uses then. Where it is not added, its hold is taken
     /// away.
     pub fn pin(&mut self, alloc: Global, now: u64) -> Result<Stamp, PrepareError>
-        ensures { DoesPin now self.old result self.new }
+        ensures { MakesPin now self.old result self.new }
     {
         let pinned = match self.database.pin(alloc, now, Stamp::ZERO) {
             Ok(pinned) => pinned,
