@@ -1,11 +1,10 @@
 -- The jobs of a script run after its lines, and what they came to is written.
-use Rattle.std.proofs.Common.{◌≡◌, ◌||◌, ℕ, Bool, List, Option, Result, Ok, Err, Vec, length, sym, ap, subst, ◌∙◌, arith}
+use Rattle.std.proofs.Common.{◌≡◌, ◌||◌, ℕ, Bool, List, Option, Result, Ok, Err, length, sym, ap, subst, ◌∙◌, arith}
 use Rattle.std.specs.Prelude.{IsErr, IsErrAnd}
 use Rattle.std.proofs.lemmas.Bool.{false≢true}
 use Rattle.std.proofs.lemmas.List.{take_all}
 use Rattle.std.proofs.KnownBytes.{Appends-kept}
 use Rattle.std.specs.Io.KnownBytes.{Appends, Keeps}
-use Rattle.std.specs.declared.alloc.Global.{Global}
 use Rattle.txc_app.specs.Eval.{Next}
 use Rattle.txc_script.specs.Runs.{ScriptHasRun}
 use Rattle.txc_script.specs.Written.{AppendsPrefix}
@@ -13,16 +12,15 @@ use Rattle.txc_script.specs.declared.fault.RunFault.{RunFault}
 use Rattle.txc_script.specs.declared.fault.RunFault.TheVariants.{Write}
 use Rattle.txc_script.specs.declared.fault.Status.{Status}
 use Rattle.txc_work.specs.declared.error.BatchError.{BatchError}
-use Rattle.txc_work.specs.declared.job.Receipted.{Receipted}
-use Rattle.txc_world.specs.Worlds.{WorldValue}
-use Rattle.txc_batch.specs.BatchRuns.{status_of, EndsAfterLines, EndsInJobs, HasRunBatch}
+use Rattle.txc_batch.specs.BatchRuns.{status_of, EndsAfterLines, EndsInJobs, HasRunFrom}
 use Rattle.txc_batch.specs.BatchScripts.{batch_script}
-use Rattle.txc_batch.specs.BatchStates.{begun_batch, BatchState}
+use Rattle.txc_batch.specs.BatchStates.{BatchState}
 use Rattle.txc_batch.specs.OutcomeTexts.{batch_text, is_refused_batch}
 use Rattle.txc_batch.specs.RunJobs.{EndsSo}
+use Rattle.txc_batch.specs.Staffing.{RanValue}
 
 -- it was written, and the writer flushed
-pub jobs_written : (next : Next) (s : BatchState) (was_refused refused : Bool) (batch : Result (Vec Receipted Global) BatchError) (old mid new : Option (List ℕ)) (text : List ℕ) (status : Status) → EndsSo next s batch
+pub jobs_written : (next : Next) (s : BatchState) (was_refused refused : Bool) (batch : Result RanValue BatchError) (old mid new : Option (List ℕ)) (text : List ℕ) (status : Status) → EndsSo next s batch
     → text ≡ batch_text batch → refused ≡ is_refused_batch batch → Appends old mid text → Keeps mid new → status ≡ status_of (was_refused || refused) → EndsInJobs next s was_refused old new (Ok status)
 jobs_written next s was_refused refused batch old mid new text status ends text_is refused_is wrote keeps is = (
   batch,
@@ -32,7 +30,7 @@ jobs_written next s was_refused refused batch old mid new text status ends text_
 )
 
 -- it was written, and then the writer failed
-pub jobs_not_flushed : (next : Next) (s : BatchState) (was_refused : Bool) (batch : Result (Vec Receipted Global) BatchError) (old mid new : Option (List ℕ)) (text : List ℕ) → EndsSo next s batch → text ≡ batch_text batch
+pub jobs_not_flushed : (next : Next) (s : BatchState) (was_refused : Bool) (batch : Result RanValue BatchError) (old mid new : Option (List ℕ)) (text : List ℕ) → EndsSo next s batch → text ≡ batch_text batch
     → Appends old mid text → Keeps mid new → EndsInJobs next s was_refused old new (Err Write)
 jobs_not_flushed next s was_refused batch old mid new text ends text_is wrote keeps =
     let all = batch_text batch in
@@ -41,14 +39,13 @@ jobs_not_flushed next s was_refused batch old mid new text ends text_is wrote ke
     (batch, ends, (n, omega arith, subst (Appends old new) (sym (take_all n all (omega arith))) wrote_all))
 
 -- a prefix of it was written
-pub jobs_cut : (next : Next) (s : BatchState) (was_refused : Bool) (batch : Result (Vec Receipted Global) BatchError) (old new : Option (List ℕ)) (text : List ℕ) (fault : RunFault) (r : Result Status RunFault) → EndsSo next s batch
+pub jobs_cut : (next : Next) (s : BatchState) (was_refused : Bool) (batch : Result RanValue BatchError) (old new : Option (List ℕ)) (text : List ℕ) (fault : RunFault) (r : Result Status RunFault) → EndsSo next s batch
     → text ≡ batch_text batch → AppendsPrefix old new text → fault ≡ Write → IsErr r × IsErrAnd r (λ x. x ≡ fault) → EndsInJobs next s was_refused old new r
 jobs_cut next s was_refused batch old new text fault (Ok status) ends text_is cut is h = absurd (false≢true h.0)
 jobs_cut next s was_refused batch old new text fault (Err x) ends text_is cut is h =
     subst (λ (e : RunFault). EndsInJobs next s was_refused old new (Err e)) (sym (h.1 ∙ is)) (batch, ends, subst (AppendsPrefix old new) text_is cut)
 
 -- the lines were run, and then what comes after them
-pub run_ended : (next : Next) (world : WorldValue) (functions : List ℕ) (start left : BatchState) (a b w x y : Option (List ℕ)) (ended result : Result Status RunFault) → start ≡ begun_batch world functions
-    → ScriptHasRun (batch_script next) start a b w x ended left → EndsAfterLines next left ended x y result → HasRunBatch next world functions a b w y result
-run_ended next world functions start left a b w x y ended result is run after =
-    (left, x, ended, subst (λ (s : BatchState). ScriptHasRun (batch_script next) s a b w x ended left) is run, after)
+pub run_ended : (next : Next) (start left : BatchState) (a b w x y : Option (List ℕ)) (ended result : Result Status RunFault) → ScriptHasRun batch_script start a b w x ended left
+    → EndsAfterLines next left ended x y result → HasRunFrom next start a b w y result
+run_ended next start left a b w x y ended result run after = (left, x, ended, run, after)

@@ -15,8 +15,8 @@ use Rattle.txc_script.specs.declared.line_fault.WordFault.{WordFault}
 use Rattle.txc_script.specs.declared.line_fault.WordKind.{WordKind}
 use Rattle.txc_script.specs.declared.line_fault.WordKind.TheVariants.{Key}
 use Rattle.txc_script.specs.declared.line_name.LineName.{LineName}
-use Rattle.txc_play.specs.Tasks.{name_text}
-use Rattle.txc_play.specs.WorldFaults.{moment, IsFaultAfter}
+use Rattle.txc_words.specs.Names.{name_text}
+use Rattle.txc_words.specs.Faults.{moment, IsFaultAfter}
 use Rattle.txc_work.specs.declared.job.Job.{Job}
 use Rattle.txc_batch.specs.BatchFaults.{job_kinds, IsBadKey, IsBatchFault, IsJobFault, IsPreparingFault}
 use Rattle.txc_batch.specs.Orders.{AreJobWords, IsPreparing}

@@ -6,8 +6,8 @@ use Rattle.std.proofs.lemmas.List.Elements.{All-head, All-nil, All-push, All-sam
 use Rattle.txc_tags.specs.Keys.{Call}
 use Rattle.txc_tags.specs.TextKey.{key_text, IsKeyInRange}
 use Rattle.txc_script.specs.Lines.{IsKeyWord, IsNumberWord}
-use Rattle.txc_play.specs.declared.parts.TheConstants.{LAST_MOMENT}
-use Rattle.txc_play.proofs.TaskParts.{first_is, others_are}
+use Rattle.txc_words.specs.declared.parts.TheConstants.{LAST_MOMENT}
+use Rattle.txc_words.proofs.Offered.{first_is, others_are}
 use Rattle.txc_batch.specs.Orders.{AreJobWords, AreKeyWords}
 use Rattle.txc_batch.specs.Queueing.{QueuedValue}
 

@@ -4,7 +4,6 @@ use Rattle.std.specs.Prelude.{IsPermutation}
 use Rattle.std.specs.List.{All}
 use Rattle.std.specs.List.Sorted.{IsStrictlyIncreasing}
 use Rattle.std.proofs.lemmas.List.Elements.{All-weaker}
-use Rattle.txc_db.specs.DatabaseValue.{DatabaseValue}
 use Rattle.txc_db.specs.History.{History}
 use Rattle.txc_app.specs.Eval.{Next}
 use Rattle.txc_work.specs.Batches.{job_numbers, result_numbers, IsResultOf, Meets}
@@ -12,8 +11,10 @@ use Rattle.txc_work.specs.declared.job.Job.{Job}
 use Rattle.txc_work.specs.declared.job.Outcome.{Outcome}
 use Rattle.txc_work.specs.declared.job.Outcome.TheVariants as outcomes
 use Rattle.txc_work.specs.declared.job.Receipted.{Receipted}
+use Rattle.txc_batch.specs.BatchStates.{BatchState}
 use Rattle.txc_batch.specs.Rows.{OutcomeIsOfRow}
 use Rattle.txc_batch.specs.RunJobs.{AgreesWith, HaveRun}
+use Rattle.txc_batch.specs.Staffing.{HaveRoomsBy, RanValue}
 
 of_row : (next : Next) (row : List ℕ) (node_rows : ℕ → List ℕ) (functions : List ℕ) (job : Job) (outcome : Outcome) → Meets next row node_rows functions job outcome → OutcomeIsOfRow row outcome
 of_row next row node_rows functions job (outcomes.Receipt receipt) h = h.events
@@ -27,13 +28,16 @@ all_of_row next row shown node_rows functions jobs results same all =
     (All-weaker (IsResultOf jobs (Meets next row node_rows functions)) (λ told. OutcomeIsOfRow row told.outcome) (λ told h. of_row next row node_rows functions h.0 told.outcome h.3) results all)
 
 -- the jobs ran over the database, whose row was the named one
-pub have_run : (next : Next) (database : DatabaseValue) (row : List ℕ) (node_rows : ℕ → List ℕ) (functions : List ℕ) (jobs : List Job) (results : List Receipted) (history : History) → database.events ≡ row
-    → IsPermutation (job_numbers jobs) (result_numbers results) → IsStrictlyIncreasing (result_numbers results) → All (IsResultOf jobs (Meets next row node_rows functions)) results
-    → history ≡ database.history → All (λ told. AgreesWith history told.outcome) results → HaveRun next database functions jobs results
-have_run next database row node_rows functions jobs results history named once in_order met same agree = record {
+pub have_run : (next : Next) (s : BatchState) (ran : RanValue) (row : List ℕ) (node_rows : ℕ → List ℕ) (functions : List ℕ) (history : History) → s.source.database.events ≡ row → s.functions ≡ functions
+    → HaveRoomsBy s.settings node_rows → ran.settings ≡ s.settings → IsPermutation (job_numbers s.jobs) (result_numbers ran.results) → IsStrictlyIncreasing (result_numbers ran.results)
+    → All (IsResultOf s.jobs (Meets next row node_rows functions)) ran.results → history ≡ s.source.database.history → All (λ told. AgreesWith history told.outcome) ran.results → HaveRun next s ran
+have_run next s ran row node_rows functions history named of rooms settings once in_order met same agree = record {
   node_rows = node_rows;
+  rooms = rooms;
+  settings = settings;
   once = once;
   in_order = in_order;
-  met = subst (λ (r : List ℕ). All (IsResultOf jobs (Meets next r node_rows functions)) results) (sym named) met;
-  agree = subst (λ (L : History). All (λ told. AgreesWith L told.outcome) results) same agree;
+  met = subst (λ (fs : List ℕ). All (IsResultOf s.jobs (Meets next s.source.database.events node_rows fs)) ran.results) (sym of)
+      (subst (λ (r : List ℕ). All (IsResultOf s.jobs (Meets next r node_rows functions)) ran.results) (sym named) met);
+  agree = subst (λ (L : History). All (λ told. AgreesWith L told.outcome) ran.results) same agree;
 }

@@ -3,6 +3,8 @@ pub mod OrderWords
 pub mod JobFaults
 pub mod Crews
 pub mod NodeRows
+pub mod NodesBy
+pub mod Pinning
 pub mod Preparing
 pub mod Closing
 pub mod Ending

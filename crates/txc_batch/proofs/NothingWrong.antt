@@ -11,16 +11,15 @@ use Rattle.txc_script.specs.declared.line_fault.CommandFault.{CommandFault}
 use Rattle.txc_script.specs.declared.line_fault.CommandFault.TheVariants as faults
 use Rattle.txc_script.specs.declared.line_fault.WordKind.TheVariants.{Key}
 use Rattle.txc_script.specs.declared.line_name.LineName.{LineName}
-use Rattle.txc_play.specs.Tasks.{LineAsksFor, name_text}
-use Rattle.txc_play.specs.declared.task.Task.{Task}
-use Rattle.txc_play.proofs.NothingWrong.{has_kinds, none_after, none_bad}
+use Rattle.txc_words.specs.Names.{name_text}
+use Rattle.txc_words.proofs.Offered.{HasKinds, none_after, none_bad}
 use Rattle.txc_work.specs.declared.job.Job.{Job}
 use Rattle.txc_batch.specs.BatchFaults.{job_kinds, IsBatchFault, IsJobFault, IsPreparingFault}
 use Rattle.txc_batch.specs.Orders.{AreJobWords, AsksFor, IsPreparing}
 use Rattle.txc_batch.specs.Queueing.{QueuedValue}
 use Rattle.txc_batch.specs.declared.order.Order.{Order}
-use Rattle.txc_batch.specs.declared.order.Order.TheVariants.{Prepare, Run}
-use Rattle.txc_batch.proofs.OrderWords.{first_of, job_said, job_word, no_job_name, says_named}
+use Rattle.txc_batch.specs.declared.order.Order.TheVariants.{Write, Pin, Run}
+use Rattle.txc_batch.proofs.OrderWords.{job_asked, no_name, order_early, order_kinds}
 
 -- ---- words that are a job
 
@@ -49,9 +48,8 @@ no_job_fault words q faults.AfterJob h f = f
 
 -- ---- words that are a change or a pin
 
-no_preparing_fault : (jobs : List Job) (name : LineName) (words : List (List ℕ)) (task : Task) (fault : CommandFault) → jobs ≡ [] → LineAsksFor name words task → IsPreparingFault jobs name words fault → ⊥
-no_preparing_fault jobs name words task fault none says h =
-    none_after name words fault (subst (λ (js : List Job). IsPreparingFault js name words fault) none h) (has_kinds name words task says)
+no_preparing_fault : (jobs : List Job) (name : LineName) (words : List (List ℕ)) (fault : CommandFault) → jobs ≡ [] → HasKinds name words → IsPreparingFault jobs name words fault → ⊥
+no_preparing_fault jobs name words fault none good h = none_after name words fault (subst (λ (js : List Job). IsPreparingFault js name words fault) none h) good
 
 -- ---- lines
 
@@ -62,15 +60,12 @@ IsAfterName jobs all fault =
     ⊎ ((name : LineName) × (words : List (List ℕ)) × IsPreparing name × (all ≡ name_text name ∷ words) × IsPreparingFault jobs name words fault)
 
 none_after_name : (jobs : List Job) (line : List ℕ) (order : Order) (fault : CommandFault) → AsksFor jobs line order → IsAfterName jobs (words_of line) fault → ⊥
-none_after_name jobs line (Prepare task) fault h (inl f) = no_job_name h.1.name h.1.preparing (sym (first_of line (codes "job") f.0 task f.1 h.1))
-none_after_name jobs line (Run q) fault h (inl f) = no_job_fault f.0 q fault (job_said line (codes "job") f.0 q f.1 h) f.2
-none_after_name jobs line (Prepare task) fault h (inr f) =
-    no_preparing_fault jobs f.0 f.1 task fault h.0 (says_named line (name_text f.0) f.1 f.0 task f.3 refl h.1) f.4
-none_after_name jobs line (Run q) fault h (inr f) = no_job_name f.0 f.2 (job_word line (name_text f.0) f.1 q f.3 h)
+none_after_name jobs line order fault h (inl f) = let job = job_asked jobs line (codes "job") f.0 order f.1 refl h in no_job_fault f.0 job.0 fault job.1 f.2
+none_after_name jobs line order fault h (inr f) =
+    no_preparing_fault jobs f.0 f.1 fault (order_early jobs line f.0 f.1 order f.2 f.3 h) (order_kinds jobs line f.0 f.1 order f.2 f.3 h) f.4
 
 pub nothing_wrong : (jobs : List Job) (line : List ℕ) (order : Order) (fault : CommandFault) → AsksFor jobs line order → IsBatchFault jobs (words_of line) fault → ⊥
-nothing_wrong jobs line (Prepare task) (faults.Unknown text) h f = f.4 h.1.name h.1.preparing (first_of line f.0 f.1 task f.2 h.1)
-nothing_wrong jobs line (Run q) (faults.Unknown text) h f = f.3 (job_word line f.0 f.1 q f.2 h)
+nothing_wrong jobs line order (faults.Unknown text) h f = no_name jobs line f.0 f.1 order f.2 f.3 f.4 h
 nothing_wrong jobs line order (faults.Usage name) h f = none_after_name jobs line order (faults.Usage name) h f
 nothing_wrong jobs line order (faults.Count wanted given) h f = none_after_name jobs line order (faults.Count wanted given) h f
 nothing_wrong jobs line order (faults.Word fault) h f = none_after_name jobs line order (faults.Word fault) h f

@@ -1,2 +1,2 @@
 -- The lemmas that the crates above may use.
-pub use Rattle.txc_batch.proofs.Crews.{crew_made}
+pub use Rattle.txc_batch.proofs.Crews.{crew_made, crew_of}

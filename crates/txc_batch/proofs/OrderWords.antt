@@ -1,23 +1,28 @@
 -- What the lines of a batch's script ask for, by their first word.
-use Rattle.std.proofs.Common.{◌≡◌, ℕ, Bool, true, false, eqb, List, [], ◌∷◌, length, Result, Ok, Err, IfErr, refl, sym, ap, subst, ◌∙◌, arith}
+use Rattle.std.proofs.Common.{◌≡◌, ℕ, Bool, true, false, eqb, List, [], ◌∷◌, Some, length, Result, Ok, Err, IfErr, refl, sym, ap, subst, ◌∙◌, arith}
 use Rattle.std.proofs.lemmas.Bool.Decides.{nat_tests}
 use Rattle.std.specs.Prelude.{codes, IsErr, IsErrAnd}
+use Rattle.std.specs.Fmt.{decimal}
+use Rattle.txc_rows.specs.declared.query.Change.{Change}
+use Rattle.txc_rows.specs.declared.query.Change.TheVariants as changes
 use Rattle.txc_script.specs.Unread.{IsNone}
 use Rattle.txc_script.specs.Words.{HasNoBlank, words_of}
 use Rattle.txc_script.specs.declared.unread.Unread.{Unread}
 use Rattle.txc_script.specs.declared.unread.Unread.TheVariants as reasons
 use Rattle.txc_script.specs.declared.line_name.LineName.{LineName}
 use Rattle.txc_script.specs.declared.line_name.LineName.TheVariants as names
+use Rattle.txc_script.specs.declared.line_fault.WordKind.{WordKind}
+use Rattle.txc_script.specs.LineFaults.{AreOfKinds}
 use Rattle.txc_script.proofs.Offered.{words_alone}
-use Rattle.txc_play.specs.Tasks.{LineAsksFor, name_text}
-use Rattle.txc_play.specs.declared.task.Task.{Task}
-use Rattle.txc_play.proofs.TaskNames.{same_name, some_words}
-use Rattle.txc_play.proofs.TaskParts.{apart, first_is, others_are}
+use Rattle.txc_words.specs.Faults.{kinds_after, moment, pair_kinds, row_kinds, second_of}
+use Rattle.txc_words.specs.Names.{name_text}
+use Rattle.txc_words.specs.Parts.{AreChangeWords, ArePinWords, row_words}
+use Rattle.txc_words.proofs.Offered.{HasKinds, apart, first_is, has_one, has_pair, has_row, no_lone_change, of_kinds, others_are, pin_kinds, put_kinds, put_words, remove_kinds, remove_words}
 use Rattle.txc_work.specs.declared.job.Job.{Job}
-use Rattle.txc_batch.specs.Orders.{AreJobWords, AsksFor, IsPreparing, SpellsJob, SpellsPreparing}
+use Rattle.txc_batch.specs.Orders.{AreJobWords, AsksFor, IsPreparing, SpellsJob}
 use Rattle.txc_batch.specs.Queueing.{QueuedValue}
 use Rattle.txc_batch.specs.declared.order.Order.{Order}
-use Rattle.txc_batch.specs.declared.order.Order.TheVariants.{Prepare, Run}
+use Rattle.txc_batch.specs.declared.order.Order.TheVariants.{Write, Pin, Run}
 use Rattle.txc_batch.proofs.JobWords.{no_words}
 
 -- no change and no pin is called so
@@ -27,15 +32,27 @@ no_job_name names.Remove is e = apart (codes "remove") (codes "job") refl e
 no_job_name names.Pin is e = apart (codes "pin") (codes "job") refl e
 no_job_name name is e = absurd is
 
--- the words of a change or of a pin
-pub first_of : (line word : List ℕ) (words : List (List ℕ)) (task : Task) → words_of line ≡ word ∷ words → (h : SpellsPreparing line task) → word ≡ name_text h.name
-first_of line word words task e h = first_is word (name_text h.name) words h.words (sym e ∙ h.line_is)
+-- ---- the name of a change or of a pin
 
-pub says_named : (line word : List ℕ) (words : List (List ℕ)) (name : LineName) (task : Task) → words_of line ≡ word ∷ words → word ≡ name_text name → SpellsPreparing line task → LineAsksFor name words task
-says_named line word words name task e is h =
-    let same : h.name ≡ name = same_name h.name name (sym (first_of line word words task e h) ∙ is) in
-    let others : h.words ≡ words = others_are (name_text h.name) word h.words words (sym h.line_is ∙ e) in
-    subst (λ (n : LineName). LineAsksFor n words task) same (subst (λ (ws : List (List ℕ)). LineAsksFor h.name ws task) others h.says)
+-- words that begin with the name of a change or of a pin
+pub record IsNamed (words : List (List ℕ)) : Type 0 where
+  pub name : LineName
+  pub others : List (List ℕ)
+  pub preparing : IsPreparing name
+  pub words_are : words ≡ name_text name ∷ others
+
+change_named : (words : List (List ℕ)) (change : Change) → AreChangeWords words change → IsNamed words
+change_named words (changes.Put row) h = record { name = names.Put; others = row_words row; preparing = tt; words_are = h.0 }
+change_named words (changes.Remove t n) h = record { name = names.Remove; others = decimal t ∷ decimal n ∷ []; preparing = tt; words_are = h.0 }
+
+pin_named : (words : List (List ℕ)) (now : ℕ) → ArePinWords words now → IsNamed words
+pin_named words now h = record { name = names.Pin; others = decimal now ∷ []; preparing = tt; words_are = h.0 }
+
+-- so it is not called a job
+named_no_job : (words others : List (List ℕ)) (word : List ℕ) → words ≡ word ∷ others → word ≡ codes "job" → IsNamed words → ⊥
+named_no_job words others word e is h =
+    let first : word ≡ name_text h.name = first_is word (name_text h.name) others h.others (sym e ∙ h.words_are) in
+    no_job_name h.name h.preparing (sym first ∙ is)
 
 pub job_word : (line word : List ℕ) (words : List (List ℕ)) (q : QueuedValue) → words_of line ≡ word ∷ words → (h : SpellsJob line q) → word ≡ codes "job"
 job_word line word words q e h = first_is word (codes "job") words h.words (sym e ∙ h.line_is)
@@ -48,33 +65,46 @@ job_said line word words q e h =
 
 -- one of one word
 pub no_order_alone : (jobs : List Job) (line : List ℕ) (order : Order) → HasNoBlank line → AsksFor jobs line order → ⊥
-no_order_alone jobs line (Prepare task) bare h =
-    let alone : words_of line ≡ line ∷ [] = words_alone line bare in
-    some_words h.1.name task (subst (λ (ws : List (List ℕ)). LineAsksFor h.1.name ws task) (others_are (name_text h.1.name) line h.1.words [] (sym h.1.line_is ∙ alone)) h.1.says)
+no_order_alone jobs line (Write change) bare h = no_lone_change (words_of line) line change (words_alone line bare) h.1
+no_order_alone jobs line (Pin now) bare h = let same : line ∷ [] ≡ codes "pin" ∷ decimal now ∷ [] = sym (words_alone line bare) ∙ h.1.0 in cc
 no_order_alone jobs line (Run q) bare h = no_words q (job_said line line [] q (words_alone line bare) h)
 
 -- one that is called a job, and is none
-pub no_job : (jobs : List Job) (line word : List ℕ) (words : List (List ℕ)) (order : Order) → words_of line ≡ word ∷ words → word ≡ codes "job" → ((q : QueuedValue) → AreJobWords words q → ⊥)
-    → AsksFor jobs line order → ⊥
-no_job jobs line word words (Prepare task) e is none h = no_job_name h.1.name h.1.preparing (sym (first_of line word words task e h.1) ∙ is)
-no_job jobs line word words (Run q) e is none h = none q (job_said line word words q e h)
-
--- one that is called otherwise
-pub no_name : (jobs : List Job) (line word : List ℕ) (words : List (List ℕ)) (order : Order) → words_of line ≡ word ∷ words → (word ≡ codes "job" → ⊥)
-    → ((name : LineName) → IsPreparing name → word ≡ name_text name → ⊥) → AsksFor jobs line order → ⊥
-no_name jobs line word words (Prepare task) e other none h = none h.1.name h.1.preparing (first_of line word words task e h.1)
-no_name jobs line word words (Run q) e other none h = other (job_word line word words q e h)
+pub job_asked : (jobs : List Job) (line word : List ℕ) (words : List (List ℕ)) (order : Order) → words_of line ≡ word ∷ words → word ≡ codes "job" → AsksFor jobs line order → (q : QueuedValue) × AreJobWords words q
+job_asked jobs line word words (Write change) e is h = absurd (named_no_job (words_of line) words word e is (change_named (words_of line) change h.1))
+job_asked jobs line word words (Pin now) e is h = absurd (named_no_job (words_of line) words word e is (pin_named (words_of line) now h.1))
+job_asked jobs line word words (Run q) e is h = (q, job_said line word words q e h)
 
 -- a change or a pin after a job
 pub too_late : (jobs : List Job) (line word : List ℕ) (words : List (List ℕ)) (order : Order) → words_of line ≡ word ∷ words → (word ≡ codes "job" → ⊥) → (jobs ≡ [] → ⊥) → AsksFor jobs line order → ⊥
-too_late jobs line word words (Prepare task) e other some h = some h.0
+too_late jobs line word words (Write change) e other some h = some h.0
+too_late jobs line word words (Pin now) e other some h = some h.0
 too_late jobs line word words (Run q) e other some h = other (job_word line word words q e h)
 
--- one that has the name of a change or of a pin, and is none
-pub not_named : (jobs : List Job) (line word : List ℕ) (words : List (List ℕ)) (name : LineName) (order : Order) → words_of line ≡ word ∷ words → (word ≡ codes "job" → ⊥) → word ≡ name_text name
-    → ((task : Task) → LineAsksFor name words task → ⊥) → AsksFor jobs line order → ⊥
-not_named jobs line word words name (Prepare task) e other is none h = none task (says_named line word words name task e is h.1)
-not_named jobs line word words name (Run q) e other is none h = other (job_word line word words q e h)
+-- one that is called a pin, and is none
+pub pin_asked : (jobs : List Job) (line word : List ℕ) (words : List (List ℕ)) (order : Order) → words_of line ≡ word ∷ words → word ≡ codes "pin" → AsksFor jobs line order → (now : ℕ) × ArePinWords (codes "pin" ∷ words) now
+pin_asked jobs line word words (Write (changes.Put row)) e is h = absurd (apart (codes "pin") (codes "put") refl (sym is ∙ first_is word (codes "put") words (row_words row) (sym e ∙ h.1.0)))
+pin_asked jobs line word words (Write (changes.Remove t n)) e is h = absurd (apart (codes "pin") (codes "remove") refl (sym is ∙ first_is word (codes "remove") words (decimal t ∷ decimal n ∷ []) (sym e ∙ h.1.0)))
+pin_asked jobs line word words (Pin now) e is h = (now, subst (λ (ws : List (List ℕ)). ArePinWords ws now) (e ∙ ap (λ (w : List ℕ). w ∷ words) is) h.1)
+pin_asked jobs line word words (Run q) e is h = absurd (apart (codes "pin") (codes "job") refl (sym is ∙ job_word line word words q e h))
+
+-- one that is called otherwise, and is no change
+pub change_asked : (jobs : List Job) (line word : List ℕ) (words : List (List ℕ)) (order : Order) → words_of line ≡ word ∷ words → (word ≡ codes "job" → ⊥) → (word ≡ codes "pin" → ⊥) → AsksFor jobs line order
+    → (change : Change) × AreChangeWords (words_of line) change
+change_asked jobs line word words (Write change) e no_job no_pin h = (change, h.1)
+change_asked jobs line word words (Pin now) e no_job no_pin h = absurd (no_pin (first_is word (codes "pin") words (decimal now ∷ []) (sym e ∙ h.1.0)))
+change_asked jobs line word words (Run q) e no_job no_pin h = absurd (no_job (job_word line word words q e h))
+
+-- one whose first word is no name
+pub no_name : (jobs : List Job) (line word : List ℕ) (words : List (List ℕ)) (order : Order) → words_of line ≡ word ∷ words → (word ≡ codes "job" → ⊥)
+    → ((name : LineName) → IsPreparing name → word ≡ name_text name → ⊥) → AsksFor jobs line order → ⊥
+no_name jobs line word words (Write change) e other none h =
+    let named = change_named (words_of line) change h.1 in
+    none named.name named.preparing (first_is word (name_text named.name) words named.others (sym e ∙ named.words_are))
+no_name jobs line word words (Pin now) e other none h =
+    let named = pin_named (words_of line) now h.1 in
+    none named.name named.preparing (first_is word (name_text named.name) words named.others (sym e ∙ named.words_are))
+no_name jobs line word words (Run q) e other none h = other (job_word line word words q e h)
 
 -- ---- what was refused
 
@@ -85,14 +115,39 @@ none_like (Ok x) e Is Js h none there = tt
 none_like (Err x) reasons.Malformed Is Js h none there = subst (IsNone Js) (sym h.1) (λ w js. none (there w js).0 (there w js).1)
 none_like (Err x) reasons.Memory Is Js h none there = subst (IsNone Js) (sym h.1) tt
 
-pub job_asked : (jobs : List Job) (line word : List ℕ) (words : List (List ℕ)) (order : Order) → words_of line ≡ word ∷ words → word ≡ codes "job" → AsksFor jobs line order → (q : QueuedValue) × AreJobWords words q
-job_asked jobs line word words (Prepare task) e is h = absurd (no_job_name h.1.name h.1.preparing (sym (first_of line word words task e h.1) ∙ is))
-job_asked jobs line word words (Run q) e is h = (q, job_said line word words q e h)
+-- ---- the words after the name of a change or of a pin
 
-pub task_asked : (jobs : List Job) (line word : List ℕ) (words : List (List ℕ)) (name : LineName) (order : Order) → words_of line ≡ word ∷ words → (word ≡ codes "job" → ⊥) → word ≡ name_text name
-    → AsksFor jobs line order → (task : Task) × LineAsksFor name words task
-task_asked jobs line word words name (Prepare task) e other is h = (task, says_named line word words name task e is h.1)
-task_asked jobs line word words name (Run q) e other is h = absurd (other (job_word line word words q e h))
+-- those that are all of their kinds ask for something
+pub good_order : (line : List ℕ) (name : LineName) (words : List (List ℕ)) (kinds : List WordKind) → IsPreparing name → words_of line ≡ name_text name ∷ words → kinds_after name (second_of words) ≡ Some kinds
+    → AreOfKinds kinds words → (order : Order) × AsksFor [] line order
+good_order line names.Put words kinds is e known good =
+    let row = has_row words (of_kinds kinds row_kinds words known good) in
+    (Write (changes.Put row.row), (refl, put_words (words_of line) words (codes "put") row.row e refl row.are))
+good_order line names.Remove words kinds is e known good =
+    let pair = has_pair words (of_kinds kinds pair_kinds words known good) in
+    (Write (changes.Remove pair.t pair.n), (refl, remove_words (words_of line) words (codes "remove") pair.t pair.n e refl pair.are))
+good_order line names.Pin words kinds is e known good =
+    let one = has_one moment words (of_kinds kinds (moment ∷ []) words known good) in
+    let pin : codes "pin" ∷ words ≡ codes "pin" ∷ decimal one.is.0 ∷ [] = ap (λ (ws : List (List ℕ)). codes "pin" ∷ ws) (one.words_are ∙ ap (λ (w : List ℕ). w ∷ []) one.is.1.1) in
+    (Pin one.is.0, (refl, (e ∙ pin, one.is.1.0)))
+good_order line name words kinds is e known good = absurd is
+
+-- and those of a line that asks for something are of known kinds
+pub order_kinds : (jobs : List Job) (line : List ℕ) (name : LineName) (words : List (List ℕ)) (order : Order) → IsPreparing name → words_of line ≡ name_text name ∷ words → AsksFor jobs line order → HasKinds name words
+order_kinds jobs line names.Put words order is e h =
+    let asked = change_asked jobs line (codes "put") words order e (λ same. apart (codes "put") (codes "job") refl same) (λ same. apart (codes "put") (codes "pin") refl same) h in
+    put_kinds words asked.0 (subst (λ (ws : List (List ℕ)). AreChangeWords ws asked.0) e asked.1)
+order_kinds jobs line names.Remove words order is e h =
+    let asked = change_asked jobs line (codes "remove") words order e (λ same. apart (codes "remove") (codes "job") refl same) (λ same. apart (codes "remove") (codes "pin") refl same) h in
+    remove_kinds words asked.0 (subst (λ (ws : List (List ℕ)). AreChangeWords ws asked.0) e asked.1)
+order_kinds jobs line names.Pin words order is e h = let asked = pin_asked jobs line (codes "pin") words order e refl h in pin_kinds words asked.0 asked.1
+order_kinds jobs line name words order is e h = absurd is
+
+-- a change or a pin stands before the first job
+pub order_early : (jobs : List Job) (line : List ℕ) (name : LineName) (words : List (List ℕ)) (order : Order) → IsPreparing name → words_of line ≡ name_text name ∷ words → AsksFor jobs line order → jobs ≡ []
+order_early jobs line name words (Write change) is e h = h.0
+order_early jobs line name words (Pin now) is e h = h.0
+order_early jobs line name words (Run q) is e h = absurd (no_job_name name is (job_word line (name_text name) words q e h))
 
 -- ---- whether there is a job
 

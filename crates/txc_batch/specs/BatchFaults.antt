@@ -8,8 +8,8 @@ use Rattle.txc_script.specs.declared.line_fault.WordFault.{WordFault}
 use Rattle.txc_script.specs.declared.line_fault.WordKind.{WordKind}
 use Rattle.txc_script.specs.declared.line_fault.WordKind.TheVariants.{Key}
 use Rattle.txc_script.specs.declared.line_name.LineName.{LineName}
-use Rattle.txc_play.specs.Tasks.{name_text}
-use Rattle.txc_play.specs.WorldFaults.{moment, IsFaultAfter}
+use Rattle.txc_words.specs.Names.{name_text}
+use Rattle.txc_words.specs.Faults.{moment, IsFaultAfter}
 use Rattle.txc_work.specs.declared.job.Job.{Job}
 use Rattle.txc_batch.specs.Orders.{IsPreparing}
 use Rattle.txc_batch.specs.declared.finding.TheConstants.{LEAST_WORDS}
@@ -25,8 +25,8 @@ IsJobFault words (faults.Few least given) = (least ≡ LEAST_WORDS) × (given �
 IsJobFault words (faults.Word fault) = (LEAST_WORDS ≤ length words) × IsBadWord (job_kinds words) words fault
 IsJobFault words fault = ⊥
 
--- what is wrong with a change or a pin: before the first job, what is wrong with it in a world's script; after
--- one, that it stands there
+-- what is wrong with a change or a pin: before the first job, what is wrong with its words; after one, that it
+-- stands there
 abbrev pub IsPreparingFault : List Job → LineName → List (List ℕ) → CommandFault → Type 0
 IsPreparingFault [] name words fault = IsFaultAfter name words fault
 IsPreparingFault (job ∷ jobs) name words fault = fault ≡ faults.AfterJob

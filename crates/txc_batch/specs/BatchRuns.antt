@@ -1,8 +1,6 @@
 -- What a run does with a batch's script.
-use Rattle.std.specs.Prelude.{◌≡◌, ◌||◌, ℕ, Bool, true, false, List, Option, Result, Ok, Err}
+use Rattle.std.specs.Prelude.{◌≡◌, ◌⊎◌, ◌||◌, ℕ, Bool, true, false, List, Option, Result, Ok, Err}
 use Rattle.std.specs.Io.KnownBytes.{Appends, Keeps}
-use Rattle.std.specs.declared.alloc.Global.{Global}
-use Rattle.std.specs.declared.vec.Vec.{Vec}
 use Rattle.txc_settings.specs.declared.settings.Settings.{Settings}
 use Rattle.txc_app.specs.Eval.{Next}
 use Rattle.txc_script.specs.Runs.{ScriptHasRun}
@@ -12,36 +10,30 @@ use Rattle.txc_script.specs.declared.fault.RunFault.TheVariants.{Read, Write, Me
 use Rattle.txc_script.specs.declared.fault.Status.{Status}
 use Rattle.txc_script.specs.declared.fault.Status.TheVariants.{Done, Refused, Malformed}
 use Rattle.txc_work.specs.declared.error.BatchError.{BatchError}
-use Rattle.txc_work.specs.declared.job.Receipted.{Receipted}
-use Rattle.txc_world.specs.Worlds.{WorldValue}
-use Rattle.txc_world.specs.declared.settings.WorldSettings.{WorldSettings}
-use Rattle.txc_play.specs.WorldRuns.{world_settings}
 use Rattle.txc_batch.specs.BatchScripts.{batch_script}
-use Rattle.txc_batch.specs.BatchStates.{begun_batch, BatchState}
+use Rattle.txc_batch.specs.BatchStates.{new_batch, BatchState}
 use Rattle.txc_batch.specs.OutcomeTexts.{batch_text, is_refused_batch}
 use Rattle.txc_batch.specs.RunJobs.{EndsSo}
-
--- the settings of the world that the lines find: one node, which they do not ask
-abbrev pub stage_settings : Settings → WorldSettings
-stage_settings s = record (world_settings s) { nodes = 1 }
+use Rattle.txc_batch.specs.Sources.{IsNewSource, SourceValue}
+use Rattle.txc_batch.specs.Staffing.{RanValue}
 
 -- the status of a run without a malformed line, in which a refusal was written or none was
 abbrev pub status_of : Bool → Status
 status_of true = Refused
 status_of false = Done
 
--- The jobs that the lines asked for, and no others, ran over the world that the lines left, and what they came
+-- The jobs that the lines asked for, and no others, ran over the database that the lines left, and what they came
 -- to was written. The status tells whether a refusal was written, of a line or of a job, or of the batch. After a
 -- fault of the writer a prefix of that text was written, and nothing out of memory.
 abbrev pub EndsInJobs : Next → BatchState → Bool → Option (List ℕ) → Option (List ℕ) → Result Status RunFault
     → Type 0
 EndsInJobs next s is_refused contents_old contents_new (Ok status) =
-    (batch : Result (Vec Receipted Global) BatchError) × EndsSo next s batch
+    (batch : Result RanValue BatchError) × EndsSo next s batch
     × Appends contents_old contents_new (batch_text batch)
     × (status ≡ status_of (is_refused || is_refused_batch batch))
 EndsInJobs next s is_refused contents_old contents_new (Err Read) = ⊥
 EndsInJobs next s is_refused contents_old contents_new (Err Write) =
-    (batch : Result (Vec Receipted Global) BatchError) × EndsSo next s batch
+    (batch : Result RanValue BatchError) × EndsSo next s batch
     × AppendsPrefix contents_old contents_new (batch_text batch)
 EndsInJobs next s is_refused contents_old contents_new (Err Memory) = Keeps contents_old contents_new
 
@@ -58,12 +50,25 @@ EndsAfterLines next s (Ok (Malformed line)) contents_old contents_new result =
 EndsAfterLines next s (Err fault) contents_old contents_new result =
     Keeps contents_old contents_new × (result ≡ Err fault)
 
--- A run of a batch's script that begins with this world and functions of these numbers: its lines were run as
--- those of any script, and then came what comes after them.
-abbrev pub HasRunBatch : Next → WorldValue → List ℕ → Option (List ℕ) → Option (List ℕ) → Option (List ℕ)
-    → Option (List ℕ) → Result Status RunFault → Type 0
-HasRunBatch next world functions remaining_old remaining_new contents_old contents_new result =
+-- memory for what a run begins with was refused, and nothing was read or written
+abbrev pub HasNotBegun : Option (List ℕ) → Option (List ℕ) → Option (List ℕ) → Option (List ℕ)
+    → Result Status RunFault → Type 0
+HasNotBegun remaining_old remaining_new contents_old contents_new result =
+    (remaining_new ≡ remaining_old) × Keeps contents_old contents_new × (result ≡ Err Memory)
+
+-- a run that begins with this batch: its lines were run as those of any script, and then came what comes after them
+abbrev pub HasRunFrom : Next → BatchState → Option (List ℕ) → Option (List ℕ) → Option (List ℕ) → Option (List ℕ)
+    → Result Status RunFault → Type 0
+HasRunFrom next s remaining_old remaining_new contents_old contents_new result =
     (left : BatchState) × (contents : Option (List ℕ)) × (lines_ended : Result Status RunFault)
-    × ScriptHasRun (batch_script next) (begun_batch world functions) remaining_old remaining_new contents_old contents
-    lines_ended left
+    × ScriptHasRun batch_script s remaining_old remaining_new contents_old contents lines_ended left
     × EndsAfterLines next left lines_ended contents contents_new result
+
+-- A run of a batch's script by these settings: it begins with a new database of them, and functions of these
+-- numbers; or it did not begin.
+abbrev pub HasRunBatch : Next → Settings → List ℕ → Option (List ℕ) → Option (List ℕ) → Option (List ℕ)
+    → Option (List ℕ) → Result Status RunFault → Type 0
+HasRunBatch next settings functions remaining_old remaining_new contents_old contents_new result =
+    HasNotBegun remaining_old remaining_new contents_old contents_new result
+    ⊎ ((source : SourceValue) × IsNewSource settings.row_cap source
+    × HasRunFrom next (new_batch settings source functions) remaining_old remaining_new contents_old contents_new result)

@@ -1,23 +1,20 @@
 -- Scripts of a batch: what their lines ask for and what they give.
-use Rattle.std.specs.Prelude.{◌≡◌, ◌⊎◌, ℕ, Bool, false, List, [], ◌∷◌, ◌++◌, Option, Some, None, length}
-use Rattle.txc_app.specs.Eval.{Next}
+use Rattle.std.specs.Prelude.{◌≡◌, ◌⊎◌, ℕ, Bool, false, List, [], ◌∷◌, ◌++◌, Option, Some, None, Result, length}
 use Rattle.txc_script.specs.Kinds.{ScriptKind, no_closing}
-use Rattle.txc_play.specs.TaskSteps.{TaskHasBegun, TaskIsDone}
-use Rattle.txc_play.specs.TaskTexts.{printed_text, is_refused_line}
-use Rattle.txc_play.specs.declared.printed.Printed.{Printed}
-use Rattle.txc_play.specs.declared.task.Task.{Task}
 use Rattle.txc_work.specs.declared.job.Job.{Job}
-use Rattle.txc_world.specs.Worlds.{WorldValue}
 use Rattle.txc_batch.specs.BatchFaults.{IsBatchFault}
 use Rattle.txc_batch.specs.BatchStates.{BatchState}
 use Rattle.txc_batch.specs.Orders.{AsksFor}
+use Rattle.txc_batch.specs.PreparedTexts.{prepared_text, is_refused_preparing}
 use Rattle.txc_batch.specs.Queueing.{QueuedValue, IsJobOf}
+use Rattle.txc_batch.specs.Sources.{MakesPin, MakesChange, SourceValue}
 use Rattle.txc_batch.specs.declared.order.Order.{Order}
-use Rattle.txc_batch.specs.declared.order.Order.TheVariants.{Prepare, Run}
+use Rattle.txc_batch.specs.declared.order.Order.TheVariants.{Write, Pin, Run}
+use Rattle.txc_batch.specs.declared.prepared.PrepareError.{PrepareError}
 
--- steps led the world of the one state to that of the other, and all else stayed
-abbrev pub LeadsWorld : (WorldValue → WorldValue → Type 0) → BatchState → BatchState → Type 0
-LeadsWorld leads s end = (world : WorldValue) × leads s.world world × (end ≡ record s { world = world })
+-- what jobs run over was led from the one to the other, and all else stayed
+abbrev pub LeadsSource : (SourceValue → SourceValue → Type 0) → BatchState → BatchState → Type 0
+LeadsSource leads s end = (source : SourceValue) × leads s.source source × (end ≡ record s { source = source })
 
 -- the job stands behind the others, and has the number of its place among them
 pub record Queues (q : QueuedValue) (s end : BatchState) : Type 0 where
@@ -25,35 +22,35 @@ pub record Queues (q : QueuedValue) (s end : BatchState) : Type 0 where
   pub is : IsJobOf (length s.jobs) q job
   pub after : end ≡ record s { jobs = s.jobs ++ job ∷ [] }
 
--- a change or a pin was made as a world's script makes it, and has its reply; a job was put behind the others,
--- and has no reply yet
-abbrev pub DoesOrder : Next → BatchState → Order → Option Printed → BatchState → Type 0
-DoesOrder next s (Prepare task) None end = ⊥
-DoesOrder next s (Prepare task) (Some printed) end = LeadsWorld (λ w v. TaskIsDone next w task printed v) s end
-DoesOrder next s (Run q) reply end = (reply ≡ None) × Queues q s end
+-- a change or a pin was made, or refused, and has its reply; a job was put behind the others, and has no reply yet
+abbrev pub DoesOrder : BatchState → Order → Option (Result ℕ PrepareError) → BatchState → Type 0
+DoesOrder s (Write change) None end = ⊥
+DoesOrder s (Write change) (Some told) end = LeadsSource (λ old new. MakesChange change old told new) s end
+DoesOrder s (Pin now) None end = ⊥
+DoesOrder s (Pin now) (Some told) end = LeadsSource (λ old new. MakesPin now old told new) s end
+DoesOrder s (Run q) reply end = (reply ≡ None) × Queues q s end
 
--- nothing was done of what a line asks for, or the first steps of a change or a pin were taken, or all of them
-abbrev pub BreaksOffOrder : Next → BatchState → List ℕ → BatchState → Type 0
-BreaksOffOrder next s line end =
+-- nothing was done of what a line asks for, or it is a change or a pin, and was made or refused
+abbrev pub BreaksOffOrder : BatchState → List ℕ → BatchState → Type 0
+BreaksOffOrder s line end =
     (end ≡ s)
-    ⊎ ((task : Task) × AsksFor s.jobs line (Prepare task) × LeadsWorld (λ w v. TaskHasBegun next w task v) s end)
+    ⊎ ((order : Order) × (told : Result ℕ PrepareError) × AsksFor s.jobs line order × DoesOrder s order (Some told) end)
 
 -- what is written of a line: of a job nothing
-abbrev pub order_text : Option Printed → List ℕ
+abbrev pub order_text : Option (Result ℕ PrepareError) → List ℕ
 order_text None = []
-order_text (Some printed) = printed_text printed ++ 10 ∷ []
+order_text (Some told) = prepared_text told ++ 10 ∷ []
 
-abbrev pub is_refused_order : Option Printed → Bool
+abbrev pub is_refused_order : Option (Result ℕ PrepareError) → Bool
 is_refused_order None = false
-is_refused_order (Some printed) = is_refused_line printed
+is_refused_order (Some told) = is_refused_preparing told
 
--- The lines of a batch's script, whose functions compute this: changes and pins, and then jobs. No line runs a
--- job.
-abbrev pub batch_script : Next → ScriptKind BatchState Order (Option Printed)
-batch_script next = record {
+-- The lines of a batch's script: changes and pins, and then jobs. No line runs a job.
+abbrev pub batch_script : ScriptKind BatchState Order (Option (Result ℕ PrepareError))
+batch_script = record {
   asks = λ s. AsksFor s.jobs;
-  does = DoesOrder next;
-  breaks_off = BreaksOffOrder next;
+  does = DoesOrder;
+  breaks_off = BreaksOffOrder;
   text = order_text;
   is_refused = is_refused_order;
   is_wrong = λ s. IsBatchFault s.jobs;

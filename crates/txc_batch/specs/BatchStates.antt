@@ -1,15 +1,18 @@
 -- What the lines of a batch's script find and leave.
 use Rattle.std.specs.Prelude.{ℕ, List, []}
+use Rattle.txc_settings.specs.declared.settings.Settings.{Settings}
 use Rattle.txc_work.specs.declared.job.Job.{Job}
-use Rattle.txc_world.specs.Worlds.{WorldValue}
+use Rattle.txc_batch.specs.Sources.{SourceValue}
 
--- a world, over whose database and pincushion jobs are to run, the numbers of the functions that they may call,
--- and the jobs
+-- the settings of the nodes and of the clients, the database and the pincushion that jobs are to run over, the
+-- numbers of the functions that they may call, and the jobs
 pub record BatchState : Type 0 where
-  pub world : WorldValue
+  pub settings : Settings
+  pub source : SourceValue
   pub functions : List ℕ
   pub jobs : List Job
 
--- this world and these functions, and no job
-abbrev pub begun_batch : WorldValue → List ℕ → BatchState
-begun_batch world functions = record { world = world; functions = functions; jobs = [] }
+-- these, and no job
+abbrev pub new_batch : Settings → SourceValue → List ℕ → BatchState
+new_batch settings source functions =
+    record { settings = settings; source = source; functions = functions; jobs = [] }

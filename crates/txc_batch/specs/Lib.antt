@@ -1,10 +1,13 @@
 pub mod Queueing
 pub mod Crews
+pub mod Sources
+pub mod PreparedTexts
 pub mod BatchStates
 pub mod Orders
 pub mod BatchFaults
-pub mod OutcomeTexts
+pub mod Staffing
 pub mod RunJobs
+pub mod OutcomeTexts
 pub mod Rows
 pub mod BatchScripts
 pub mod BatchRuns

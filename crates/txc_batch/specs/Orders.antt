@@ -6,28 +6,19 @@ use Rattle.txc_tags.specs.TextKey.{key_text, IsKeyInRange}
 use Rattle.txc_script.specs.Words.{words_of}
 use Rattle.txc_script.specs.declared.line_name.LineName.{LineName}
 use Rattle.txc_script.specs.declared.line_name.LineName.TheVariants as names
-use Rattle.txc_play.specs.Tasks.{LineAsksFor, name_text}
-use Rattle.txc_play.specs.declared.parts.TheConstants.{LAST_MOMENT}
-use Rattle.txc_play.specs.declared.task.Task.{Task}
+use Rattle.txc_words.specs.Parts.{AreChangeWords, ArePinWords}
+use Rattle.txc_words.specs.declared.parts.TheConstants.{LAST_MOMENT}
 use Rattle.txc_work.specs.declared.job.Job.{Job}
 use Rattle.txc_batch.specs.Queueing.{QueuedValue}
 use Rattle.txc_batch.specs.declared.order.Order.{Order}
-use Rattle.txc_batch.specs.declared.order.Order.TheVariants.{Prepare, Run}
+use Rattle.txc_batch.specs.declared.order.Order.TheVariants.{Write, Pin, Run}
 
--- the lines of a world's script that a batch's has too, which prepare what jobs run over: changes, and pins
+-- the names of lines that prepare what jobs run over: of changes, and of pins
 abbrev pub IsPreparing : LineName → Type 0
 IsPreparing names.Put = Unit {0}
 IsPreparing names.Remove = Unit {0}
 IsPreparing names.Pin = Unit {0}
 IsPreparing name = ⊥
-
--- the line is a change or a pin, and asks for what it asks for in a world's script
-pub record SpellsPreparing (line : List ℕ) (task : Task) : Type 0 where
-  pub name : LineName
-  pub words : List (List ℕ)
-  pub preparing : IsPreparing name
-  pub line_is : words_of line ≡ name_text name ∷ words
-  pub says : LineAsksFor name words task
 
 -- the words are a moment, a staleness, and keys, one at least
 pub record AreJobWords (words : List (List ℕ)) (q : QueuedValue) : Type 0 where
@@ -45,7 +36,8 @@ pub record SpellsJob (line : List ℕ) (q : QueuedValue) : Type 0 where
 
 -- what a line asks for after lines that asked for these jobs: a change or a pin, before the first job; or a job
 abbrev pub AsksFor : List Job → List ℕ → Order → Type 0
-AsksFor jobs line (Prepare task) = (jobs ≡ []) × SpellsPreparing line task
+AsksFor jobs line (Write change) = (jobs ≡ []) × AreChangeWords (words_of line) change
+AsksFor jobs line (Pin now) = (jobs ≡ []) × ArePinWords (words_of line) now
 AsksFor jobs line (Run q) = SpellsJob line q
 
 -- ---- only private functions need this

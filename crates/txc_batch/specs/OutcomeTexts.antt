@@ -2,15 +2,14 @@
 use Rattle.std.specs.Prelude.{ℕ, Bool, true, false, List, [], ◌∷◌, ◌++◌, Result, Ok, Err, codes}
 use Rattle.std.specs.Fmt.{decimal}
 use Rattle.std.specs.List.{flat_map, list_any}
-use Rattle.std.specs.declared.alloc.Global.{Global}
-use Rattle.std.specs.declared.vec.Vec.{Vec}
 use Rattle.txc_node.specs.Texts.{hex_text}
-use Rattle.txc_play.specs.TaskTexts.{transaction_text}
+use Rattle.txc_words.specs.RefusalTexts.{transaction_text}
 use Rattle.txc_work.specs.declared.error.BatchError.{BatchError}
 use Rattle.txc_work.specs.declared.error.BatchError.TheVariants.{Missing, Twice, Memory}
 use Rattle.txc_work.specs.declared.job.Outcome.{Outcome}
 use Rattle.txc_work.specs.declared.job.Outcome.TheVariants as outcomes
 use Rattle.txc_work.specs.declared.job.Receipted.{Receipted}
+use Rattle.txc_batch.specs.Staffing.{RanValue}
 
 -- the value of each call, in order; or the refusal of one
 abbrev pub outcome_text : Outcome → List ℕ
@@ -28,8 +27,8 @@ batch_error_text (Twice number) = codes "refused J2 " ++ (decimal number ++ 10 �
 batch_error_text Memory = []
 
 -- the lines of the jobs; or that of the batch
-abbrev pub batch_text : Result (Vec Receipted Global) BatchError → List ℕ
-batch_text (Ok results) = flat_map result_text results.items
+abbrev pub batch_text : Result RanValue BatchError → List ℕ
+batch_text (Ok ran) = flat_map result_text ran.results
 batch_text (Err error) = batch_error_text error
 
 -- a call of the job was refused
@@ -38,6 +37,6 @@ is_refused_outcome (outcomes.Receipt receipt) = false
 is_refused_outcome (outcomes.Refused error) = true
 
 -- a job was refused, or the batch
-abbrev pub is_refused_batch : Result (Vec Receipted Global) BatchError → Bool
-is_refused_batch (Ok results) = list_any (λ told. is_refused_outcome told.outcome) results.items
+abbrev pub is_refused_batch : Result RanValue BatchError → Bool
+is_refused_batch (Ok ran) = list_any (λ told. is_refused_outcome told.outcome) ran.results
 is_refused_batch (Err error) = true

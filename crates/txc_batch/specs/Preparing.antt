@@ -1,36 +1,28 @@
 -- Only private functions need this file: what a line of a batch's script asks for is done.
-use Rattle.std.specs.Prelude.{◌≡◌, ◌⊎◌, ℕ, Bool, List, [], ◌∷◌, ◌++◌, Option}
-use Rattle.txc_app.specs.Eval.{Next}
-use Rattle.txc_play.specs.TaskSteps.{TaskHasBegun, TaskIsDone}
-use Rattle.txc_play.specs.TaskTexts.{printed_text, is_refused_line}
-use Rattle.txc_play.specs.declared.printed.Printed.{Printed}
-use Rattle.txc_play.specs.declared.task.Task.{Task}
-use Rattle.txc_batch.specs.BatchScripts.{order_text, is_refused_order, DoesOrder, LeadsWorld}
+use Rattle.std.specs.Prelude.{◌≡◌, ◌⊎◌, ℕ, Bool, List, ◌++◌, Option, Some, Result}
+use Rattle.txc_rows.specs.declared.query.Change.{Change}
+use Rattle.txc_batch.specs.BatchScripts.{order_text, is_refused_order, DoesOrder}
 use Rattle.txc_batch.specs.BatchStates.{BatchState}
 use Rattle.txc_batch.specs.declared.order.Order.{Order}
-use Rattle.txc_batch.specs.declared.order.Order.TheVariants.{Prepare}
+use Rattle.txc_batch.specs.declared.order.Order.TheVariants.{Write, Pin}
+use Rattle.txc_batch.specs.declared.prepared.PrepareError.{PrepareError}
 
--- a change or a pin was made, and what is written of it was put after the text
-pub record IsPrepared (next : Next) (s : BatchState) (task : Task) (end : BatchState) (old new : List ℕ)
-    (refused : Bool) : Type 0 where
-  pub printed : Printed
-  pub led : LeadsWorld (λ w v. TaskIsDone next w task printed v) s end
-  pub text : new ≡ old ++ (printed_text printed ++ 10 ∷ [])
-  pub is_refused : refused ≡ is_refused_line printed
+-- the change was made, or refused so
+abbrev pub LeadsByWrite : Change → BatchState → Result ℕ PrepareError → BatchState → Type 0
+LeadsByWrite change s told end = DoesOrder s (Write change) (Some told) end
 
--- nothing was done, or the first steps were taken, or all of them
-abbrev pub IsCutOff : Next → BatchState → Task → BatchState → Type 0
-IsCutOff next s task end = (end ≡ s) ⊎ LeadsWorld (λ w v. TaskHasBegun next w task v) s end
+-- the pin was made, or refused so
+abbrev pub LeadsByPin : ℕ → BatchState → Result ℕ PrepareError → BatchState → Type 0
+LeadsByPin now s told end = DoesOrder s (Pin now) (Some told) end
 
 -- what a line asks for was done, and what is written of it was put after the text
-pub record IsObeyed (next : Next) (s : BatchState) (order : Order) (end : BatchState) (old new : List ℕ)
-    (refused : Bool) : Type 0 where
-  pub reply : Option Printed
-  pub does : DoesOrder next s order reply end
+pub record IsObeyed (s : BatchState) (order : Order) (end : BatchState) (old new : List ℕ) (refused : Bool)
+    : Type 0 where
+  pub reply : Option (Result ℕ PrepareError)
+  pub does : DoesOrder s order reply end
   pub text : new ≡ old ++ order_text reply
   pub is_refused : refused ≡ is_refused_order reply
 
--- nothing was done; or the order is a change or a pin, and the first of its steps were taken, or all of them
-abbrev pub IsBrokenOff : Next → BatchState → Order → BatchState → Type 0
-IsBrokenOff next s order end =
-    (end ≡ s) ⊎ ((task : Task) × (order ≡ Prepare task) × LeadsWorld (λ w v. TaskHasBegun next w task v) s end)
+-- nothing was done; or the order is a change or a pin, and was made or refused
+abbrev pub IsBrokenOff : BatchState → Order → BatchState → Type 0
+IsBrokenOff s order end = (end ≡ s) ⊎ ((told : Result ℕ PrepareError) × DoesOrder s order (Some told) end)

@@ -1,26 +1,30 @@
-//! What the lines of a batch's script find and leave: a world, and the jobs that are to be run over it.
+//! What the lines of a batch's script find and leave: a database and its pincushion, and the jobs that are to be run
+//! over them.
 ghost use Rattle.std.specs.Prelude.{◌≡◌, IfOk, OnOk, OnErr};
 ghost use Rattle.txc_batch.specs.BatchScripts.{Queues};
-ghost use Rattle.txc_batch.specs.BatchStates.{begun_batch};
+ghost use Rattle.txc_batch.specs.BatchStates.{new_batch};
 ghost use Rattle.txc_batch.specs.Crews.{numbers_in, IsCrew};
-ghost use Rattle.txc_batch.specs.Preparing.{IsBrokenOff, IsCutOff, IsObeyed, IsPrepared};
+ghost use Rattle.txc_batch.specs.Preparing.{IsBrokenOff, IsObeyed, LeadsByPin, LeadsByWrite};
 
 use crate::order::{Order, Queued};
+use crate::prepared::{PrepareError, push_prepared};
+use crate::source::Source;
 use std::alloc::{AllocError, Global};
 use std::marker::Model;
 use txc_app::App;
-use txc_play::{Task, do_task};
 use txc_ports::Bounds;
 use txc_registry::{Cacheable, Registry};
+use txc_rows::Change;
+use txc_settings::Settings;
 use txc_stamp::Stamp;
 use txc_work::Job;
-use txc_world::World;
 
-/// What jobs are to run over, and the jobs.
+/// What jobs are to run over and by, and the jobs.
 #[derive(Drop)]
 pub struct Batch<A: App, C: Cacheable> {
-    /// It is there for its database and its pincushion.
-    pub(crate) world: World<A, C>,
+    /// Those of the nodes and of the clients.
+    pub(crate) settings: Settings,
+    pub(crate) source: Source,
     /// The functions of each worker.
     pub(crate) crew: Vec<Registry<A, C>>,
     /// In the order of their lines.
@@ -28,24 +32,36 @@ pub struct Batch<A: App, C: Cacheable> {
 }
 
 impl<A: App, C: Cacheable> Model for Batch<A, C> {
+    ghost use Rattle.std.specs.Prelude.{◌≡◌, length};
     ghost use Rattle.txc_batch.specs.BatchStates.{BatchState};
     ghost use Rattle.txc_batch.specs.Crews.{numbers_in, IsCrew};
 
     ghost Value = { BatchState };
 
-    ghost view = { λ b. record { world = b.world; functions = numbers_in b.crew.items; jobs = b.jobs.items } };
+    ghost view = { λ b. record {
+      settings = b.settings;
+      source = b.source;
+      functions = numbers_in b.crew.items;
+      jobs = b.jobs.items;
+    } };
 
-    ghost invariant = { λ b. IsCrew b.crew.items };
+    ghost invariant = { λ b. IsCrew b.settings.workers b.crew.items };
 }
 
 impl<A: App, C: Cacheable> Batch<A, C> {
     /// No job yet.
-    pub fn new(alloc: Global, world: World<A, C>, crew: Vec<Registry<A, C>>) -> Batch<A, C>
-        requires { IsCrew crew.items }
-        ensures { result ≡ begun_batch world (numbers_in crew.items) }
+    pub fn new(
+        alloc: Global,
+        settings: Settings,
+        source: Source,
+        crew: Vec<Registry<A, C>>,
+    ) -> Batch<A, C>
+        requires { IsCrew settings.workers crew.items }
+        ensures { result ≡ new_batch settings source (numbers_in crew.items) }
     {
         Batch {
-            world,
+            settings,
+            source,
             crew,
             jobs: Vec::new(alloc),
         }
@@ -58,14 +74,18 @@ impl<A: App, C: Cacheable> Batch<A, C> {
         &self.jobs
     }
 
-    /// Makes a change or a pin, and puts what is written of it after the text. Returns whether that holds a
-    /// refusal.
-    fn prepare(&mut self, alloc: Global, task: Task, text: &mut Vec<u8>) -> Result<bool, AllocError>
-        ensures after { IfOk result (IsPrepared A.next self.old task self.new text.old.items text.new.items) }
-        ensures broke { OnErr result (IsCutOff A.next self.old task self.new) }
-        ensures unchanged { OnErr result (text.new.items ≡ text.old.items) }
+    /// Makes a change.
+    fn write(&mut self, alloc: Global, change: &Change) -> Result<Stamp, PrepareError>
+        ensures { LeadsByWrite change.now self.old result self.new }
     {
-        do_task(alloc, &mut self.world, task, text)
+        self.source.write(alloc, change)
+    }
+
+    /// Makes a pin.
+    fn pin(&mut self, alloc: Global, now: u64) -> Result<Stamp, PrepareError>
+        ensures { LeadsByPin now self.old result self.new }
+    {
+        self.source.pin(alloc, now)
     }
 
     /// Puts a job behind the others.
@@ -102,12 +122,19 @@ impl<A: App, C: Cacheable> Batch<A, C> {
         order: Order,
         text: &mut Vec<u8>,
     ) -> Result<bool, AllocError>
-        ensures after { IfOk result (IsObeyed A.next self.old order self.new text.old.items text.new.items) }
-        ensures broke { OnErr result (IsBrokenOff A.next self.old order self.new) }
+        ensures after { IfOk result (IsObeyed self.old order self.new text.old.items text.new.items) }
+        ensures broke { OnErr result (IsBrokenOff self.old order self.new) }
         ensures unchanged { OnErr result (text.new.items ≡ text.old.items) }
     {
         match order {
-            Order::Prepare(task) => self.prepare(alloc, task, text),
+            Order::Write(change) => {
+                let written = self.write(alloc, &change);
+                push_prepared(alloc, text, &written)
+            }
+            Order::Pin(now) => {
+                let pinned = self.pin(alloc, now);
+                push_prepared(alloc, text, &pinned)
+            }
             Order::Run(queued) => {
                 self.queue(queued)?;
                 Ok(false)

@@ -9,11 +9,11 @@ ghost use Rattle.txc_batch.specs.declared.order.Order.{Order};
 
 use crate::reading::preparing_name;
 use std::alloc::Global;
-use txc_play::{LAST_MOMENT, find_after_name};
 use txc_script::{
     CommandFault, Excerpt, WordFault, WordKind, WordsLeft, all_words, bad_word, count_words,
 };
 use txc_tags::Key;
+use txc_words::{LAST_MOMENT, find_after_name};
 use txc_work::Job;
 
 /// How many words after its name a job has at least.

@@ -7,9 +7,12 @@ mod laws;
 mod order;
 mod outcomes;
 mod player;
+mod prepared;
+mod ran;
 mod reading;
 mod running;
 mod script;
+mod source;
 
 pub use laws::nothing_is_wrong_with_an_order;
-pub use script::{run_batch_script, stage_settings};
+pub use script::run_batch_script;

@@ -1,6 +1,6 @@
 //! What the lines of a batch's script ask for.
 use std::marker::Model;
-use txc_play::Task;
+use txc_rows::Change;
 use txc_tags::Key;
 
 /// A job that is to be run, without its number.
@@ -22,8 +22,10 @@ impl Model for Queued {
 /// What a line asks for.
 #[derive(Drop)]
 pub enum Order {
-    /// A change or a pin, which is made at once.
-    Prepare(Task),
+    /// A change, which is made at once.
+    Write(Change),
+    /// A pin of this moment, which is made at once.
+    Pin(u64),
     /// A job, which is run after all lines.
     Run(Queued),
 }

@@ -3,9 +3,10 @@ ghost use Rattle.std.specs.Prelude.{◌≡◌, ◌≢◌, ◌++◌, Err, IfOk, O
 ghost use Rattle.std.specs.List.{flat_map, list_any};
 ghost use Rattle.txc_batch.specs.OutcomeTexts.{batch_text, is_refused_batch, is_refused_outcome, result_text};
 
+use crate::ran::Ran;
 use std::alloc::{AllocError, Global};
 use std::fmt;
-use txc_play::OfTransaction;
+use txc_words::OfTransaction;
 use txc_work::{BatchError, Outcome, Receipted};
 
 #[derive(Drop)]
@@ -86,7 +87,7 @@ fn push_results(
 pub fn push_batch(
     alloc: Global,
     text: &mut Vec<u8>,
-    batch: &Result<Vec<Receipted>, BatchError>,
+    batch: &Result<Ran, BatchError>,
 ) -> Result<bool, AllocError>
     ensures text { OnOk result (text.new.items ≡ text.old.items ++ batch_text batch.now) }
     ensures refusal { IfOk result (λ refused. refused ≡ is_refused_batch batch.now) }
@@ -94,7 +95,7 @@ pub fn push_batch(
     ensures unchanged { OnErr result (text.new.items ≡ text.old.items) }
 {
     match batch {
-        Ok(results) => push_results(alloc, text, results),
+        Ok(ran) => push_results(alloc, text, ran.results()),
         Err(BatchError::Missing(number)) => {
             let line = format!(in alloc; "refused J1 {number}\n")?;
             text.extend_from_slice(line.as_bytes())?;

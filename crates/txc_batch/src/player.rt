@@ -4,13 +4,14 @@ ghost use Rattle.txc_batch.specs.BatchScripts.{batch_script};
 use crate::batch::Batch;
 use crate::finding::find_batch_fault;
 use crate::order::Order;
+use crate::prepared::PrepareError;
 use crate::reading::read_order;
 use std::alloc::{AllocError, Global};
 use std::marker::PhantomData;
 use txc_app::App;
-use txc_play::Printed;
 use txc_registry::Cacheable;
 use txc_script::{CommandFault, Script, Unread};
+use txc_stamp::Stamp;
 
 /// A batch's script, of which the jobs are run when all lines were answered.
 pub struct BatchScript<A, C>(pub PhantomData<(A, C)>);
@@ -20,9 +21,9 @@ impl<A: App, C: Cacheable> Script for BatchScript<A, C> {
 
     type Asked = Order;
 
-    type Reply = Option<Printed>;
+    type Reply = Option<Result<Stamp, PrepareError>>;
 
-    ghost kind = { λ _. batch_script A.next };
+    ghost kind = { λ _. batch_script };
 
     fn answer(
         &self,

@@ -3,14 +3,14 @@ ghost use Rattle.std.specs.Prelude.{◌≡◌, IfOk, IfErr, IfSome, IfNone};
 ghost use Rattle.txc_script.specs.Unread.{IsNone};
 ghost use Rattle.txc_script.specs.Words.{words_of};
 ghost use Rattle.txc_script.specs.declared.line_name.LineName.{LineName};
-ghost use Rattle.txc_play.specs.Tasks.{name_text};
+ghost use Rattle.txc_words.specs.Names.{name_text};
 ghost use Rattle.txc_batch.specs.Orders.{AreJobWords, AreKeyWords, AsksFor, IsPreparing};
 
 use crate::order::{Order, Queued};
 use std::alloc::Global;
-use txc_play::{read_moment, read_named};
 use txc_script::{LineName, Unread, all_words, count_words, first_word};
 use txc_tags::Key;
+use txc_words::{read_change, read_moment, read_pin};
 use txc_work::Job;
 
 /// The keys that the words are.
@@ -76,11 +76,11 @@ pub fn read_order(alloc: Global, jobs: &[Job], line: &[u8]) -> Result<Order, Unr
     if word == b"job".as_slice() {
         return Ok(Order::Run(read_queued(alloc, text)?));
     }
-    let Some(name) = preparing_name(word) else {
-        return Err(Unread::Malformed);
-    };
     if !jobs.is_empty() {
         return Err(Unread::Malformed);
     }
-    Ok(Order::Prepare(read_named(alloc, name, line, text)?))
+    if word == b"pin".as_slice() {
+        return Ok(Order::Pin(read_pin(text)?));
+    }
+    Ok(Order::Write(read_change(alloc, line)?))
 }

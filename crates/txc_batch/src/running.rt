@@ -1,52 +1,36 @@
-//! The jobs run: a world's database and pincushion stand under their locks, beside new nodes, and each worker has
-//! a client of them.
-ghost use Rattle.std.specs.Prelude.{◌≡◌, ◌≤◌, ℕ, List, All, IfErr, IfOk, length, vec_len};
+//! The jobs run: the database and the pincushion of a batch stand under their locks, beside new nodes, and each
+//! worker has a client of them.
+ghost use Rattle.std.specs.Prelude.{◌≡◌, ◌≤◌, ℕ, List, All, IfErr, IfOk, length, map, vec_len};
 ghost use Rattle.txc_stream.specs.declared.row.TheConstants.{MAX_CAPACITY as MAX_ROW};
 ghost use Rattle.txc_registry.specs.Objects.{numbers_of};
 ghost use Rattle.txc_work.specs.Batches.{job_numbers, NamesOneOf};
 ghost use Rattle.txc_batch.specs.Crews.{numbers_in, IsCrew};
 ghost use Rattle.txc_batch.specs.RunJobs.{AgreesWith, HaveRun};
 ghost use Rattle.txc_batch.specs.Rows.{AreRowsOf, OutcomeIsOfRow};
+ghost use Rattle.txc_batch.specs.Staffing.{AreNodesBy};
 
 use crate::batch::Batch;
+use crate::ran::Ran;
 use std::alloc::{AllocError, Global};
 use std::marker::Brand;
 use std::sync::Wait;
 use std::thread::Threads;
 use txc_app::App;
 use txc_client::Client;
-use txc_cushion::{CushionCore, Pincushion};
-use txc_db::{Database, DbCore, HistoryFront, Naming};
+use txc_cushion::Pincushion;
+use txc_db::{Database, HistoryFront, Naming};
 use txc_node::Record;
 use txc_registry::{Cacheable, Registry};
 use txc_settings::Settings;
 use txc_shared::{NodeSettings, SharedNode};
 use txc_stream::EventRow;
-use txc_work::{BatchError, Gate, Job, Outcome, Receipted, run_batch};
-
-/// A gate that lets each job pass.
-#[derive(Drop)]
-struct OpenGate;
-
-impl Gate for OpenGate {
-    fn before(&self, job: &Job) {}
-
-    fn after(&self, job: &Job) {}
-}
-
-/// What becomes of a world's ports and of the nodes under their locks.
-#[derive(Drop)]
-struct Parts {
-    database: DbCore,
-    cushion: CushionCore,
-    /// The row of each node's history.
-    rows: Vec<EventRow<Record>>,
-}
+use txc_work::{BatchError, Outcome, Receipted};
 
 /// So many rows, each with so much room.
 fn node_rows(alloc: Global, nodes: usize, room: usize) -> Result<Vec<EventRow<Record>>, AllocError>
     requires room { (1 ≤ room) × (room ≤ MAX_ROW) }
-    ensures { IfOk result (λ rows. vec_len rows ≡ nodes) }
+    ensures count { IfOk result (λ rows. vec_len rows ≡ nodes) }
+    ensures rooms { IfOk result (λ rows. All (λ row. length row ≡ room) rows.items) }
 {
     let mut rows = Vec::with_capacity(alloc, nodes)?;
     for _ in 0..nodes {
@@ -63,7 +47,8 @@ fn nodes<A: App, J: Naming>(
     database: &Database<J>,
 ) -> Result<Vec<SharedNode<A, J>>, AllocError>
     requires rows { AreRowsOf J.node_rows 0 rows.items }
-    ensures each { IfOk result (λ nodes. vec_len nodes ≡ vec_len rows) }
+    requires count { vec_len rows ≡ settings.nodes }
+    ensures { IfOk result (λ nodes. AreNodesBy settings nodes.items) }
 {
     let mut nodes = Vec::with_capacity(alloc, rows.len())?;
     for row in rows {
@@ -88,10 +73,13 @@ fn clients<'a, A: App, C: Cacheable, J: Naming>(
     renew_after: u64,
 ) -> Result<Vec<Client<'a, A, C, J>>, AllocError>
     requires some { 1 ≤ length nodes.now }
-    requires crew { IsCrew crew.items }
+    requires crew { IsCrew (vec_len crew) crew.items }
     ensures functions { IfOk result (λ clients.
         All (λ client. numbers_of client.objects ≡ numbers_in crew.items) clients.items) }
-    ensures each { IfOk result (λ clients. vec_len clients ≡ vec_len crew) }
+    ensures count { IfOk result (λ clients. vec_len clients ≡ vec_len crew) }
+    ensures nodes { IfOk result (λ clients.
+        All (λ client. map (λ pass. pass.settings) client.passes ≡ nodes.now) clients.items) }
+    ensures renewal { IfOk result (λ clients. All (λ client. client.renew_after ≡ renew_after) clients.items) }
 {
     let mut clients = Vec::with_capacity(alloc, crew.len())?;
     for registry in crew {
@@ -125,35 +113,34 @@ fn results_agree(told: &HistoryFront, results: &[Receipted])
     }
 }
 
-/// Runs the jobs over the parts, whose rows are the named ones.
+/// Runs the jobs over nodes of the rows, which are the named ones.
 fn run_over<A, C, J, H>(
     rt: &H,
     alloc: Global,
-    settings: Settings,
-    parts: Parts,
-    crew: Vec<Registry<A, C>>,
-    jobs: Vec<Job>,
-) -> Result<Vec<Receipted>, BatchError>
+    batch: Batch<A, C>,
+    rows: Vec<EventRow<Record>>,
+) -> Result<Ran, BatchError>
 where
     A: App + Send + Sync,
     C: Cacheable + Send,
     J: Naming + Send + Sync,
     H: Threads + Wait + Sync,
     ghost functions: { List ℕ }
-    requires database { parts.database.events ≡ J.database_row }
-    requires cushion { parts.cushion.events ≡ J.database_row }
-    requires some { 1 ≤ vec_len parts.rows }
-    requires rows { AreRowsOf J.node_rows 0 parts.rows.items }
-    requires crew { IsCrew crew.items }
-    requires functions { numbers_in crew.items ≡ functions }
-    ensures ran { IfOk result (λ results. HaveRun A.next parts.database functions jobs.items results.items) }
-    ensures named { IfErr result (NamesOneOf (job_numbers jobs.items)) }
+    requires database { batch.source.database.events ≡ J.database_row }
+    requires rows { AreRowsOf J.node_rows 0 rows.items }
+    requires count { vec_len rows ≡ batch.settings.nodes }
+    requires rooms { All (λ row. length row ≡ batch.settings.row_cap) rows.items }
+    requires functions { batch.functions ≡ functions }
+    ensures ran { IfOk result (HaveRun A.next batch) }
+    ensures named { IfErr result (NamesOneOf (job_numbers batch.jobs)) }
 {
-    let Parts {
-        database,
-        cushion,
-        rows,
-    } = parts;
+    let Batch {
+        settings,
+        source,
+        crew,
+        jobs,
+    } = batch;
+    let (database, cushion) = source.into_parts();
     let Ok(told) = database.front() else {
         return Err(BatchError::Memory);
     };
@@ -168,36 +155,24 @@ where
     let Ok(clients) = clients(rt, alloc, &database, &cushion, &nodes, crew, renew_after) else {
         return Err(BatchError::Memory);
     };
-    let results = run_batch(rt, alloc, jobs, clients, &OpenGate)?;
-    results_agree(&told, &results);
-    Ok(results)
+    let ran = Ran::by_clients(rt, alloc, settings, jobs, clients)?;
+    results_agree(&told, ran.results());
+    Ok(ran)
 }
 
-/// Runs the jobs over the database and the pincushion of the world, each once, by one of the workers. Out of
+/// Runs the jobs over the database and the pincushion of the batch, each once, by one of the workers. Out of
 /// memory no job was run.
-pub fn run_jobs<A, C, H>(
-    rt: &H,
-    alloc: Global,
-    settings: Settings,
-    batch: Batch<A, C>,
-) -> Result<Vec<Receipted>, BatchError>
+pub fn run_jobs<A, C, H>(rt: &H, alloc: Global, batch: Batch<A, C>) -> Result<Ran, BatchError>
 where
     A: App + Send + Sync,
     C: Cacheable + Send,
     H: Threads + Wait + Sync,
-    ensures ran { IfOk result (λ results. HaveRun A.next batch.world.ports.database batch.functions batch.jobs
-        results.items) }
+    ensures ran { IfOk result (HaveRun A.next batch) }
     ensures named { IfErr result (NamesOneOf (job_numbers batch.jobs)) }
 {
-    let Batch { world, crew, jobs } = batch;
-    let (database, cushion) = world.into_parts();
+    let settings = batch.settings;
     let Ok(rows) = node_rows(alloc, settings.nodes, settings.row_cap) else {
         return Err(BatchError::Memory);
     };
-    let parts = Parts {
-        database,
-        cushion,
-        rows,
-    };
-    run_over::<A, C, Brand, H>(rt, alloc, settings, parts, crew, jobs)
+    run_over::<A, C, Brand, H>(rt, alloc, batch, rows)
 }

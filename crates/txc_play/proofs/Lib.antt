@@ -3,7 +3,6 @@ pub mod TaskNames
 pub mod TasksDone
 pub mod WrittenOneWay
 pub mod GivingUp
-pub mod TaskParts
 pub mod WorldTexts
 pub mod Answering
 pub mod GoodWords

@@ -1,63 +1,17 @@
--- The names of the lines of a world's script, and what their words ask for.
-use Rattle.std.proofs.Common.{◌≡◌, ℕ, List, [], ◌∷◌, Option, Some, None, refl, sym, ap, subst, ◌∙◌}
-use Rattle.std.specs.Prelude.{codes, if◌then◌else◌}
-use Rattle.std.specs.Str.{bytes_eq}
+-- What the words of the lines of a world's script ask for.
+use Rattle.std.proofs.Common.{◌≡◌, ℕ, List, [], ◌∷◌, sym, subst, ◌∙◌}
+use Rattle.std.specs.Prelude.{codes}
 use Rattle.txc_rows.specs.declared.query.Change.{Change}
 use Rattle.txc_rows.specs.declared.query.Change.TheVariants as changes
 use Rattle.txc_script.specs.Words.{HasNoBlank, words_of}
-use Rattle.txc_play.specs.Tasks.{name_text, change_words, LineAsksFor, SpellsTask}
+use Rattle.txc_words.specs.Names.{name_text}
+use Rattle.txc_words.specs.Parts.{change_words}
+use Rattle.txc_play.specs.Tasks.{LineAsksFor, SpellsTask}
 use Rattle.txc_script.specs.declared.line_name.LineName.{LineName}
 use Rattle.txc_script.specs.declared.line_name.LineName.TheVariants as names
 use Rattle.txc_play.specs.declared.task.Task.{Task}
 use Rattle.txc_script.proofs.Offered.{words_alone}
-
--- the name that a text is, if it is one
-abbrev read_name : List ℕ → Option LineName
-read_name text =
-    if bytes_eq text (codes "put") then Some names.Put
-    else (if bytes_eq text (codes "remove") then Some names.Remove
-    else (if bytes_eq text (codes "pin") then Some names.Pin
-    else (if bytes_eq text (codes "query") then Some names.Query
-    else (if bytes_eq text (codes "ro") then Some names.Ro
-    else (if bytes_eq text (codes "rw") then Some names.Rw
-    else (if bytes_eq text (codes "session") then Some names.Session
-    else (if bytes_eq text (codes "call") then Some names.Call
-    else (if bytes_eq text (codes "step") then Some names.Step
-    else (if bytes_eq text (codes "finish") then Some names.Finish
-    else (if bytes_eq text (codes "ask") then Some names.Ask
-    else (if bytes_eq text (codes "write") then Some names.Write
-    else (if bytes_eq text (codes "pins") then Some names.Pins
-    else (if bytes_eq text (codes "commit") then Some names.Commit
-    else (if bytes_eq text (codes "abort") then Some names.Abort
-    else (if bytes_eq text (codes "advance") then Some names.Advance
-    else (if bytes_eq text (codes "sweep") then Some names.Sweep
-    else (if bytes_eq text (codes "tidy") then Some names.Tidy
-    else (if bytes_eq text (codes "counts") then Some names.Counts else None))))))))))))))))))
-
-read_back : (name : LineName) → read_name (name_text name) ≡ Some name
-read_back names.Put = refl
-read_back names.Remove = refl
-read_back names.Pin = refl
-read_back names.Query = refl
-read_back names.Ro = refl
-read_back names.Rw = refl
-read_back names.Session = refl
-read_back names.Call = refl
-read_back names.Step = refl
-read_back names.Finish = refl
-read_back names.Ask = refl
-read_back names.Write = refl
-read_back names.Pins = refl
-read_back names.Commit = refl
-read_back names.Abort = refl
-read_back names.Advance = refl
-read_back names.Sweep = refl
-read_back names.Tidy = refl
-read_back names.Counts = refl
-
--- no two names have one text
-pub same_name : (a b : LineName) → name_text a ≡ name_text b → a ≡ b
-same_name a b e = let same : Some a ≡ Some b = sym (read_back a) ∙ ap read_name e ∙ read_back b in cc
+use Rattle.txc_words.proofs.Offered.{same_name}
 
 -- what a line of this name asks for
 pub says_of : (line : List ℕ) (name : LineName) (words : List (List ℕ)) (task : Task) → words_of line ≡ name_text name ∷ words → SpellsTask line task → LineAsksFor name words task
@@ -75,7 +29,7 @@ no_change name (changes.Remove table id) e = cc
 pub some_words : (name : LineName) (task : Task) → LineAsksFor name [] task → ⊥
 some_words names.Put task h = no_change (codes "put") h.0 h.1.0
 some_words names.Remove task h = no_change (codes "remove") h.0 h.1.0
-some_words names.Pin task h = let e = h.1 in cc
+some_words names.Pin task h = let e = h.1.0 in cc
 some_words names.Query task h = let e = h.2 in cc
 some_words names.Ro task h = let e = h.2.0 in cc
 some_words names.Rw task h = let e = h.1.0 in cc

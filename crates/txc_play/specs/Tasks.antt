@@ -2,16 +2,12 @@
 use Rattle.std.specs.Prelude.{◌≡◌, ℕ, ◌≤◌, List, [], ◌∷◌, codes}
 use Rattle.std.specs.Fmt.{decimal}
 use Rattle.txc_stamp.specs.declared.stamp.TheConstants.{LAST_STAMP}
-use Rattle.txc_tags.specs.declared.tag.TheConstants.{LAST_TABLE}
 use Rattle.txc_tags.specs.declared.key.TheConstants.{LAST_FUNCTION}
 use Rattle.txc_tags.specs.declared.text.number.TheConstants.{LAST_NUMBER}
 use Rattle.txc_tags.specs.Keys.{Call}
 use Rattle.txc_tags.specs.TextKey.{key_text, IsKeyInRange}
-use Rattle.txc_rows.specs.Values.{RowValue, IsRow}
 use Rattle.txc_rows.specs.declared.query.Query.{Query}
-use Rattle.txc_rows.specs.declared.query.Query.TheVariants as queries
 use Rattle.txc_rows.specs.declared.query.Change.{Change}
-use Rattle.txc_rows.specs.declared.query.Change.TheVariants as changes
 use Rattle.txc_ports.specs.declared.bounds.Bounds.{Bounds}
 use Rattle.txc_world.specs.declared.step.Act.TheVariants as acts
 use Rattle.txc_world.specs.declared.step.Keep.TheVariants as keeps
@@ -19,46 +15,13 @@ use Rattle.txc_world.specs.declared.step.Step.TheVariants.{Actor, BeginIn, Keepe
 use Rattle.txc_script.specs.Words.{words_of}
 use Rattle.txc_script.specs.declared.line_name.LineName.{LineName}
 use Rattle.txc_script.specs.declared.line_name.LineName.TheVariants as names
-use Rattle.txc_play.specs.declared.parts.TheConstants.{LAST_MOMENT}
+use Rattle.txc_words.specs.Names.{name_text}
+use Rattle.txc_words.specs.Parts.{change_words, query_words, AreChangeWords, ArePinWords, IsChangeInRange, IsQueryInRange}
+use Rattle.txc_words.specs.declared.parts.TheConstants.{LAST_MOMENT}
 use Rattle.txc_play.specs.declared.task.Task.{Task}
 use Rattle.txc_play.specs.declared.task.Task.TheVariants as tasks
 
--- ---- parts of lines, by how they are written
-
--- a table, and an id or a group
-pub record IsPair (table number : ℕ) : Type 0 where
-  pub is_table : table ≤ LAST_TABLE
-  pub is_number : number ≤ LAST_NUMBER
-
--- a table, and the first and the last of some ids
-pub record IsIdRange (table first last : ℕ) : Type 0 where
-  pub is_table : table ≤ LAST_TABLE
-  pub is_first : first ≤ LAST_NUMBER
-  pub is_last : last ≤ LAST_NUMBER
-
-abbrev pub query_words : Query → List (List ℕ)
-query_words (queries.ById table id) = codes "by-id" ∷ decimal table ∷ decimal id ∷ []
-query_words (queries.ByGroup table group) = codes "by-group" ∷ decimal table ∷ decimal group ∷ []
-query_words (queries.All table) = codes "all" ∷ decimal table ∷ []
-query_words (queries.Range table first last) =
-    codes "range" ∷ decimal table ∷ decimal first ∷ decimal last ∷ []
-
-abbrev pub IsQueryInRange : Query → Type 0
-IsQueryInRange (queries.ById table id) = IsPair table id
-IsQueryInRange (queries.ByGroup table group) = IsPair table group
-IsQueryInRange (queries.All table) = table ≤ LAST_TABLE
-IsQueryInRange (queries.Range table first last) = IsIdRange table first last
-
-abbrev pub row_words : RowValue → List (List ℕ)
-row_words row = decimal row.table ∷ decimal row.id ∷ decimal row.group ∷ row.body ∷ []
-
-abbrev pub change_words : Change → List (List ℕ)
-change_words (changes.Put row) = codes "put" ∷ row_words row
-change_words (changes.Remove table id) = codes "remove" ∷ decimal table ∷ decimal id ∷ []
-
-abbrev pub IsChangeInRange : Change → Type 0
-IsChangeInRange (changes.Put row) = IsRow row
-IsChangeInRange (changes.Remove table id) = IsPair table id
+-- ---- the bounds of a transaction
 
 abbrev pub bounds_words : Bounds → List (List ℕ)
 bounds_words b = decimal b.now ∷ decimal b.staleness ∷ decimal b.at_least ∷ []
@@ -70,38 +33,9 @@ pub record AreBoundsInRange (b : Bounds) : Type 0 where
 
 -- ---- lines
 
--- the first word of a line
-abbrev pub name_text : LineName → List ℕ
-name_text names.Put = codes "put"
-name_text names.Remove = codes "remove"
-name_text names.Pin = codes "pin"
-name_text names.Query = codes "query"
-name_text names.Ro = codes "ro"
-name_text names.Rw = codes "rw"
-name_text names.Session = codes "session"
-name_text names.Call = codes "call"
-name_text names.Step = codes "step"
-name_text names.Finish = codes "finish"
-name_text names.Ask = codes "ask"
-name_text names.Write = codes "write"
-name_text names.Pins = codes "pins"
-name_text names.Commit = codes "commit"
-name_text names.Abort = codes "abort"
-name_text names.Advance = codes "advance"
-name_text names.Sweep = codes "sweep"
-name_text names.Tidy = codes "tidy"
-name_text names.Counts = codes "counts"
-
 -- the words are the number of an actor or a node, and then others
 abbrev pub AreAfterPlace : List (List ℕ) → ℕ → List (List ℕ) → Type 0
 AreAfterPlace words place others = (words ≡ decimal place ∷ others) × (place ≤ LAST_NUMBER)
-
--- the line of a change, of the keeper's own or of an actor
-abbrev pub AreChangeWords : List (List ℕ) → Change → Type 0
-AreChangeWords words change = (words ≡ change_words change) × IsChangeInRange change
-
-abbrev pub AreQueryWords : List (List ℕ) → Query → Type 0
-AreQueryWords words query = (words ≡ query_words query) × IsQueryInRange query
 
 abbrev pub AreBoundsWords : List (List ℕ) → Bounds → Type 0
 AreBoundsWords words b = (words ≡ bounds_words b) × AreBoundsInRange b
@@ -114,7 +48,7 @@ LineAsksFor names.Remove words task =
     (change : Change) × AreChangeWords (codes "remove" ∷ words) change
     × (task ≡ tasks.One (Keeper (keeps.Write change)))
 LineAsksFor names.Pin words task =
-    (now : ℕ) × (words ≡ decimal now ∷ []) × (now ≤ LAST_MOMENT) × (task ≡ tasks.Pin now)
+    (now : ℕ) × ArePinWords (codes "pin" ∷ words) now × (task ≡ tasks.Pin now)
 LineAsksFor names.Query words task =
     (stamp : ℕ) × (query : Query) × (words ≡ decimal stamp ∷ query_words query) × (stamp ≤ LAST_STAMP)
     × IsQueryInRange query × (task ≡ tasks.One (Keeper (keeps.Query stamp query)))

@@ -1,77 +1,12 @@
 //! Finding what is wrong with the words of a malformed line of a world's script.
-ghost use Rattle.std.specs.Prelude.{◌≡◌, List, Some, None, length};
-ghost use Rattle.txc_script.specs.LineFaults.{AreOfKinds};
-ghost use Rattle.txc_script.specs.Words.{words_left, words_of};
-ghost use Rattle.txc_script.specs.declared.line_fault.WordKind.{WordKind};
+ghost use Rattle.txc_script.specs.Words.{words_of};
 ghost use Rattle.txc_play.specs.Tasks.{SpellsTask};
-ghost use Rattle.txc_play.specs.WorldFaults.{IsFaultAfter, IsWorldFault, kinds_after, second_of};
+ghost use Rattle.txc_play.specs.WorldFaults.{IsWorldFault};
 ghost use Rattle.txc_play.specs.declared.task.Task.{Task};
 
-use crate::kinds::{first_kinds, kinds_after};
-use crate::name::name_of;
 use std::alloc::Global;
-use txc_script::{CommandFault, Excerpt, LineName, WordsLeft, all_words, bad_word, count_words};
-
-/// The second of the words, of which there are so many; no bytes where there is none.
-fn second_of(words: WordsLeft<'_>, count: usize) -> &[u8]
-    requires { count ≡ length (words_left words) }
-    ensures { result.now ≡ second_of (words_left words.entry) }
-{
-    if count < 2 {
-        return b"".as_slice();
-    }
-    let mut left = words;
-    let _first = left.next();
-    left.next()
-}
-
-/// What is wrong with the words after the name of a line, where they do not say of which kinds they are to be.
-fn find_without_kinds(
-    alloc: Global,
-    name: LineName,
-    words: WordsLeft<'_>,
-    count: usize,
-) -> CommandFault
-    requires counted { count ≡ length (words_left words) }
-    requires unknown { kinds_after name (second_of (words_left words)) ≡ None }
-    ensures { IsFaultAfter name (words_left words.entry) result }
-{
-    if count < 2 {
-        return CommandFault::Usage(name);
-    }
-    match bad_word(alloc, first_kinds(name), words.first(2)) {
-        Some(fault) => CommandFault::Word(fault),
-        None => unreachable!(),
-    }
-}
-
-/// What is wrong with the words after the name of a line, of which there are so many. Where memory is refused the
-/// answer is the same.
-pub fn find_after_name(
-    alloc: Global,
-    name: LineName,
-    words: WordsLeft<'_>,
-    count: usize,
-) -> CommandFault
-    requires counted { count ≡ length (words_left words) }
-    requires not_good { (kinds : List WordKind) → kinds_after name (second_of (words_left words)) ≡ Some kinds
-        → AreOfKinds kinds (words_left words) → ⊥ }
-    ensures { IsFaultAfter name (words_left words.entry) result }
-{
-    let Some(kinds) = kinds_after(name, second_of(words, count)) else {
-        return find_without_kinds(alloc, name, words, count);
-    };
-    if count != kinds.len() {
-        return CommandFault::Count {
-            wanted: kinds.len(),
-            given: count,
-        };
-    }
-    match bad_word(alloc, kinds, words) {
-        Some(fault) => CommandFault::Word(fault),
-        None => unreachable!(),
-    }
-}
+use txc_script::{CommandFault, Excerpt, all_words, count_words};
+use txc_words::{find_after_name, name_of};
 
 /// What is wrong with the words of a line that asks for nothing. Where memory is refused the answer is the same.
 pub fn find_command_fault(alloc: Global, line: &[u8]) -> CommandFault

@@ -3,9 +3,7 @@
 #![tactic(auto)]
 
 mod finding;
-mod kinds;
 mod laws;
-mod name;
 mod outcome;
 mod parts;
 mod player;
@@ -17,12 +15,7 @@ mod script;
 mod task;
 mod texts;
 
-pub use finding::find_after_name;
 pub use laws::{a_line_of_a_world_is_written_one_way, nothing_is_wrong_with_a_good_line};
-pub use parts::{LAST_MOMENT, read_moment};
-pub use player::do_task;
 pub use printed::Printed;
-pub use reading::read_named;
 pub use script::{run_world, world_settings};
 pub use task::{FunctionNumber, Task};
-pub use texts::OfTransaction;

@@ -37,7 +37,7 @@ fn push_printed(alloc: Global, text: &mut Vec<u8>, printed: &Printed) -> Result<
 
 /// Does what a line asks for, and puts what is written of it after the text. Returns whether that holds a
 /// refusal.
-pub fn do_task<A: App, C: Cacheable>(
+fn do_task<A: App, C: Cacheable>(
     alloc: Global,
     world: &mut World<A, C>,
     task: Task,

@@ -2,15 +2,13 @@
 ghost use Rattle.std.specs.Prelude.{◌≡◌, ◌≤◌, ℕ, List, [], ◌∷◌, IfOk, IfErr};
 ghost use Rattle.std.specs.Fmt.{decimal};
 ghost use Rattle.txc_script.specs.Words.{words_of};
-ghost use Rattle.txc_play.specs.Tasks.{name_text, AreAfterPlace, LineAsksFor, SpellsTask};
+ghost use Rattle.txc_words.specs.Names.{name_text};
+ghost use Rattle.txc_play.specs.Tasks.{AreAfterPlace, LineAsksFor, SpellsTask};
 ghost use Rattle.txc_script.specs.Unread.{IsNone};
 ghost use Rattle.txc_play.specs.TaskReading.{IsKeeperChange};
 ghost use Rattle.txc_play.specs.declared.task.Task.{Task};
 
-use crate::name::name_of;
-use crate::parts::{
-    read_bounds, read_change, read_function, read_moment, read_place, read_query, read_row,
-};
+use crate::parts::{read_bounds, read_function};
 use crate::task::Task;
 use std::alloc::Global;
 use txc_rows::Change;
@@ -18,6 +16,7 @@ use txc_script::{
     LineName, Malformed, Unread, first_word, one_word, read_stamp, three_words, two_words,
 };
 use txc_tags::Key;
+use txc_words::{name_of, read_change, read_moment, read_pin, read_place, read_query};
 use txc_world::{Act, Keep, Step};
 
 /// An actor or a node, as the only word.
@@ -163,7 +162,7 @@ pub fn read_named(alloc: Global, name: LineName, line: &[u8], text: &[u8]) -> Re
     match name {
         LineName::Put => read_keeper_change(alloc, line),
         LineName::Remove => read_keeper_change(alloc, line),
-        LineName::Pin => Ok(Task::Pin(read_moment(one_word(text)?)?)),
+        LineName::Pin => Ok(Task::Pin(read_pin(text)?)),
         LineName::Query => Ok(read_keeper_query(text)?),
         LineName::Ro => Ok(read_ro(text)?),
         LineName::Rw => Ok(Task::One(Step::Actor(read_only_place(text)?, Act::BeginRw))),

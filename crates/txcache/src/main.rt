@@ -3,30 +3,14 @@
 //! by side and prints what they came to.
 #![tactic(auto)]
 
-ghost use Rattle.std.specs.Prelude.{◌≡◌, vec_len, All, IfOk};
-ghost use Rattle.txc_registry.specs.Objects.{AllIdle};
-ghost use Rattle.txc_batch.specs.Crews.{IsCrew};
-
 use clap::error::ErrorKind;
-use std::alloc::{AllocError, Global};
 use std::fmt::Display;
 use std::io;
-use std::io::{Print, Read, Write};
+use std::io::Print;
 use std::process::ExitCode;
-use std::sync::Wait;
-use std::thread::Threads;
 use txc_arguments::{WordsError, read_arguments, read_words};
-use txc_batch::{run_batch_script, stage_settings};
-use txc_functions::{Object, Program, registries};
-use txc_permits::PermitPool;
-use txc_play::{run_world, world_settings};
-use txc_registry::Registry;
-use txc_run::{RunFault, Status, exit_of, run};
-use txc_settings::{Script, Settings, SettingsError};
-use txc_world::World;
-
-/// How many actors a world has.
-const ACTORS: usize = 8;
+use txc_modes::{RunFault, Status, exit_of, run};
+use txc_settings::{Settings, SettingsError};
 
 fn main(rt: HostRuntime) -> ExitCode {
     let alloc = rt.alloc();
@@ -44,63 +28,9 @@ fn main(rt: HostRuntime) -> ExitCode {
     };
     let mut reader = rt.reader();
     let mut writer = io::writer(&rt);
-    let ended = match arguments.script {
-        Script::Node(mode) => run(alloc, mode, settings, &mut reader, &mut writer),
-        Script::World => run_functions(alloc, settings, &mut reader, &mut writer),
-        Script::Batch => run_jobs(&rt, alloc, settings, &mut reader, &mut writer),
-    };
+    let ended = run(&rt, alloc, arguments.script, settings, &mut reader, &mut writer);
     print_fault(&rt, &ended);
     ExitCode::from(exit_of(&ended))
-}
-
-/// Runs a world's script with the program's functions.
-fn run_functions<R: Read, W: Write>(
-    alloc: Global,
-    settings: Settings,
-    reader: &mut R,
-    writer: &mut W,
-) -> Result<Status, RunFault> {
-    let Ok(registries) = actors(alloc, settings) else {
-        return Err(RunFault::Memory);
-    };
-    match World::new(alloc, world_settings(settings), registries) {
-        Ok(mut world) => run_world(alloc, &mut world, reader, writer),
-        Err(_) => Err(RunFault::Memory),
-    }
-}
-
-/// Runs a batch's script with the program's functions.
-fn run_jobs<R: Read, W: Write, H: Threads + Wait + Sync>(
-    rt: &H,
-    alloc: Global,
-    settings: Settings,
-    reader: &mut R,
-    writer: &mut W,
-) -> Result<Status, RunFault> {
-    let Ok(crew) = workers(alloc, settings) else {
-        return Err(RunFault::Memory);
-    };
-    match World::<Program, Object>::new(alloc, stage_settings(settings), Vec::new(alloc)) {
-        Ok(world) => run_batch_script(rt, alloc, settings, world, crew, reader, writer),
-        Err(_) => Err(RunFault::Memory),
-    }
-}
-
-/// The registries of the workers, which share the permits: each has one object of each function.
-fn workers(alloc: Global, settings: Settings) -> Result<Vec<Registry<Program, Object>>, AllocError>
-    ensures { IfOk result (λ crew. IsCrew crew.items) }
-{
-    let mut pool = PermitPool::new(alloc, settings.permits as u64)?;
-    registries(alloc, &mut pool, settings.workers)
-}
-
-/// The registries of the actors, which share the permits: each has one object of each function.
-fn actors(alloc: Global, settings: Settings) -> Result<Vec<Registry<Program, Object>>, AllocError>
-    ensures all_idle { IfOk result (λ registries. All AllIdle registries.items) }
-    ensures each { IfOk result (λ registries. vec_len registries ≡ 8) }
-{
-    let mut pool = PermitPool::new(alloc, settings.permits as u64)?;
-    registries(alloc, &mut pool, ACTORS)
 }
 
 /// Prints why the arguments give no words.

@@ -1,12 +1,13 @@
-use Rattle.std.proofs.Common.{rules, IfErr, subst}
-use Rattle.txc_work.specs.Batches.{job_numbers, NamesOneOf}
+use Rattle.std.proofs.Common.{rules, ◌≡◌, ℕ, List, length, refl, ap, subst, ◌∙◌}
+use Rattle.std.specs.List.{All}
 use Rattle.txc_batch.specs.BatchStates.{BatchState}
 use Rattle.txc_batch.proofs.NodeRows.{rows_by_place}
 use Rattle.txc_batch.proofs.running.run_jobs.Goals as goal
 
 pub run_over-requires : goal.run_over-requires
-run_over-requires g c = λ κs within. (search rules, (search rules, (search rules, (search rules, (search rules, (search rules, (search rules, (search rules, (search rules, (search rules, (search rules, (search rules, (search rules, (rows_by_place _, (search rules, search rules)))))))))))))))
-
-pub returns-clause-named : goal.returns-clause-named
-returns-clause-named g c =
-    subst (λ (batch : BatchState). IfErr c.run_over.result (NamesOneOf (job_numbers batch.jobs))) c.batch.view_is c.run_over.ensures.named
+run_over-requires g c = λ κs within.
+    let same = c.batch.view_is in
+    let rows = c.in-Ok.rows in
+    let count = c.in-Ok.ensures.count ∙ ap (λ (b : BatchState). b.settings.nodes) same in
+    let rooms = subst (λ (b : BatchState). All (λ (row : List ℕ). length row ≡ b.settings.row_cap) rows.items) same c.in-Ok.ensures.rooms in
+    (search rules, (search rules, (search rules, (search rules, (search rules, (search rules, (search rules, (search rules, (search rules, (search rules, (refl, (rows_by_place rows.items, (count, (rooms, refl))))))))))))))

@@ -1,14 +1,13 @@
 use Rattle.std.proofs.Common.{[], get_or}
-use Rattle.txc_batch.specs.Crews.{numbers_in}
 use Rattle.txc_batch.proofs.running.run_jobs.Given as goal
 
 -- the row of the database as it stood, and those that were just made
 abbrev pub ghosts-run_over : goal.ghosts-run_over
 ghosts-run_over g a = record {
-  database_row = a.parts.database.events;
-  node_rows = λ n. get_or a.parts.rows.items n [];
+  database_row = a.batch.source.database.events;
+  node_rows = λ n. get_or a.rows.items n [];
 }
 
--- those of the first worker
+-- those of the batch
 abbrev pub ghost-run_over : goal.ghost-run_over
-ghost-run_over g a = numbers_in a.crew.items
+ghost-run_over g a = a.batch.functions

@@ -1,30 +1,64 @@
-use Rattle.std.proofs.Common.{rules, ◌≡◌, ℕ, List, sym, ap, subst, ◌∙◌, arith}
+use Rattle.std.proofs.Common.{rules, ◌≡◌, ℕ, List, IfErr, length, map, sym, ap, subst, ◌∙◌, arith, vec_len}
 use Rattle.std.specs.List.{All}
+use Rattle.std.proofs.lemmas.List.Elements.{All-weaker}
 use Rattle.txc_db.specs.Seen.{FrontValue}
+use Rattle.txc_db.specs.DatabaseValue.{DatabaseValue}
 use Rattle.txc_registry.specs.Objects.{numbers_of}
+use Rattle.txc_shared.specs.Passes.{PassValue}
 use Rattle.txc_client.specs.Txn.{ClientValue}
-use Rattle.txc_work.specs.Batches.{IsResultOf, Meets}
+use Rattle.txc_work.specs.Batches.{job_numbers, IsResultOf, Meets, NamesOneOf}
 use Rattle.txc_work.specs.declared.job.Receipted.{Receipted}
-use Rattle.txc_batch.specs.RunJobs.{AgreesWith}
+use Rattle.txc_batch.specs.BatchStates.{BatchState}
+use Rattle.txc_batch.specs.Crews.{numbers_in}
+use Rattle.txc_batch.specs.RunJobs.{AgreesWith, HaveRun}
+use Rattle.txc_batch.specs.Staffing.{AreNodesBy}
 use Rattle.txc_batch.proofs.JobsRun.{all_of_row, have_run}
+use Rattle.txc_batch.proofs.NodeRows.{rooms_by}
 use Rattle.txc_batch.proofs.running.run_over.Goals as goal
 
-pub run_batch-requires : goal.run_batch-requires
-run_batch-requires g c = λ κs within.
-    let clients = c.in-Ok-clients.clients in
+pub by_clients-requires : goal.by_clients-requires
+by_clients-requires g c = λ κs within.
     let asked = c.requires.1.1.1.1.1.1.1.1.1.1 in
-    let crew = asked.1.1.1.1.0 in
-    (search rules, (search rules, (search rules, (search rules, (search rules, (search rules, (search rules, (search rules, (search rules, (search rules, (search rules, (search rules, (omega (arith, c.in-Ok-clients.ensures.each, crew.some, c.args.crew.ok.0), (omega (arith, c.in-Ok-clients.ensures.each, crew.few, c.args.crew.ok.0), subst (λ (fs : List ℕ). All (λ (client : ClientValue). numbers_of client.objects ≡ fs) clients.items) asked.1.1.1.1.1 c.in-Ok-clients.ensures.functions))))))))))))))
+    let inside = c.batch.inside in
+    let same = c.batch.view_is in
+    let count : vec_len c.args.rows ≡ inside.settings.nodes = asked.1.1.0 ∙ ap (λ (b : BatchState). b.settings.nodes) (sym same) in
+    let rooms = subst (λ (b : BatchState). All (λ (row : List ℕ). length row ≡ b.settings.row_cap) c.args.rows.items) (sym same) asked.1.1.1.0 in
+    let made = c.in-Ok-nodes.ensures in
+    let clients = c.in-Ok-clients in
+    let through = λ (client : ClientValue). map (λ (pass : PassValue). pass.settings) client.passes ≡ c.deref.result.now in
+    let by = λ (client : ClientValue). AreNodesBy inside.settings (map (λ (pass : PassValue). pass.settings) client.passes) in
+    (search rules, (search rules, (search rules, (search rules, (search rules, (search rules, (search rules, (search rules, (search rules, (search rules, (record {
+      count = omega (arith, clients.ensures.count, c.batch.invariant.count, clients.clients.ok.0, inside.crew.ok.0);
+      nodes = All-weaker through by (λ client h. subst (AreNodesBy inside.settings) (sym (h ∙ c.deref.ensures.value)) made) clients.clients.items clients.ensures.nodes;
+      rooms = rooms_by inside.settings c.args.rows.items g.J.Naming.node_rows asked.1.0 rooms (omega (arith, count, c.args.rows.ok.0));
+      renewal = clients.ensures.renewal;
+    }, subst (λ (fs : List ℕ). All (λ (client : ClientValue). numbers_of client.objects ≡ fs) clients.clients.items) (ap (λ (b : BatchState). b.functions) same ∙ asked.1.1.1.1) clients.ensures.functions)))))))))))
+
+pub returns-in_err-ran-clause-named : goal.returns-in_err-ran-clause-named
+returns-in_err-ran-clause-named g c =
+    subst (λ (b : BatchState). IfErr c.from_residual.result (NamesOneOf (job_numbers b.jobs))) c.batch.view_is (search rules)
 
 pub results_agree-requires : goal.results_agree-requires
 results_agree-requires g c =
-    let meets = IsResultOf c.args.jobs.items (Meets g.A.App.next g.J.Naming.database_row g.J.Naming.node_rows g.functions) in
-    all_of_row g.A.App.next g.J.Naming.database_row c.in-Ok.told.events g.J.Naming.node_rows g.functions c.args.jobs.items c.deref-2.result.now (ap (λ (f : FrontValue). f.events) c.in-Ok.ensures ∙ c.requires.1.1.1.1.1.1.1.1.1.1.0)
-    (subst (All meets) (sym c.deref-2.ensures.value) c.in_ok-results.ensures.met)
+    let asked = c.requires.1.1.1.1.1.1.1.1.1.1 in
+    let jobs = c.batch.inside.jobs.items in
+    let meets = IsResultOf jobs (Meets g.A.App.next g.J.Naming.database_row g.J.Naming.node_rows g.functions) in
+    let row : c.in-Ok.told.events ≡ g.J.Naming.database_row = ap (λ (f : FrontValue). f.events) c.in-Ok.ensures ∙ ap (λ (d : DatabaseValue). d.events) c.into_parts-database.ensures.database
+    ∙ ap (λ (b : BatchState). b.source.database.events) c.batch.view_is ∙ asked.0 in
+    all_of_row g.A.App.next g.J.Naming.database_row c.in-Ok.told.events g.J.Naming.node_rows g.functions jobs c.results.result.now row (subst (All meets) (sym c.results.ensures) c.in_ok-ran.ensures.met)
 
 pub returns-clause-ran : goal.returns-clause-ran
 returns-clause-ran g c =
-    let results = c.in_ok-results in
-    have_run g.A.App.next c.args.parts.database g.J.Naming.database_row g.J.Naming.node_rows g.functions c.args.jobs.items results.results.items c.in-Ok.told.history c.requires.1.1.1.1.1.1.1.1.1.1.0 results.ensures.once results.ensures.in_order
-    results.ensures.met (ap (λ (f : FrontValue). f.history) c.in-Ok.ensures)
-    (subst (All (λ (told : Receipted). AgreesWith c.in-Ok.told.history told.outcome)) c.deref-2.ensures.value c.results_agree.ensures)
+    let asked = c.requires.1.1.1.1.1.1.1.1.1.1 in
+    let inside = c.batch.inside in
+    let same = c.batch.view_is in
+    let s : BatchState = record { settings = inside.settings; source = inside.source; functions = numbers_in inside.crew.items; jobs = inside.jobs.items } in
+    let count : vec_len c.args.rows ≡ inside.settings.nodes = asked.1.1.0 ∙ ap (λ (b : BatchState). b.settings.nodes) (sym same) in
+    let rooms = subst (λ (b : BatchState). All (λ (row : List ℕ). length row ≡ b.settings.row_cap) c.args.rows.items) (sym same) asked.1.1.1.0 in
+    let history = c.in-Ok.told.history in
+    let ran = c.in_ok-ran in
+    subst (λ (b : BatchState). HaveRun g.A.App.next b ran.ran) same
+    (have_run g.A.App.next s ran.ran g.J.Naming.database_row g.J.Naming.node_rows g.functions history (ap (λ (b : BatchState). b.source.database.events) same ∙ asked.0)
+    (ap (λ (b : BatchState). b.functions) same ∙ asked.1.1.1.1) (rooms_by inside.settings c.args.rows.items g.J.Naming.node_rows asked.1.0 rooms (omega (arith, count, c.args.rows.ok.0))) ran.ensures.settings
+    ran.ensures.once ran.ensures.in_order ran.ensures.met (ap (λ (f : FrontValue). f.history) c.in-Ok.ensures ∙ ap (λ (d : DatabaseValue). d.history) c.into_parts-database.ensures.database)
+    (subst (All (λ (told : Receipted). AgreesWith history told.outcome)) c.results.ensures c.results_agree.ensures))

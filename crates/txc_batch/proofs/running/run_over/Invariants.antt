@@ -1,5 +1,5 @@
 use Rattle.txc_batch.proofs.running.run_over.Given as goal
 
 -- those of the workers
-abbrev pub ghost-run_batch : goal.ghost-run_batch
-ghost-run_batch g a = g.functions
+abbrev pub ghost-by_clients : goal.ghost-by_clients
+ghost-by_clients g a = g.functions

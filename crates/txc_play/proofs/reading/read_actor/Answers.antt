@@ -2,7 +2,7 @@ use Rattle.std.proofs.Common.{ℕ, List, ◌∷◌, sym, ap, ◌∙◌}
 use Rattle.txc_script.specs.Words.{words_of}
 use Rattle.txc_play.specs.Tasks.{AreAfterPlace}
 use Rattle.txc_script.proofs.Offered.{words_alone, words_cut}
-use Rattle.txc_play.proofs.TaskParts.{first_is, refused_anyhow}
+use Rattle.txc_words.proofs.Offered.{first_is, refused_anyhow}
 use Rattle.txc_play.proofs.reading.read_actor.Goals as goal
 
 pub returns-in_default-clause-refused : goal.returns-in_default-clause-refused

@@ -5,7 +5,7 @@ use Rattle.txc_play.specs.Tasks.{LineAsksFor}
 use Rattle.txc_script.specs.declared.line_name.LineName.TheVariants as names
 use Rattle.txc_play.specs.declared.task.Task.{Task}
 use Rattle.txc_script.proofs.Offered.{words_alone, words_cut}
-use Rattle.txc_play.proofs.TaskParts.{first_is, others_are, query_alone, refused_anyhow}
+use Rattle.txc_words.proofs.Offered.{first_is, others_are, query_alone, refused_anyhow}
 use Rattle.txc_play.proofs.reading.read_keeper_query.Goals as goal
 
 pub returns-in_default-clause-refused : goal.returns-in_default-clause-refused

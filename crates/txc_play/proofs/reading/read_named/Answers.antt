@@ -1,15 +1,22 @@
 use Rattle.std.proofs.Common.{◌≡◌, ℕ, List, ◌∷◌, sym, ap, subst, ◌∙◌}
 use Rattle.txc_script.specs.Words.{words_of}
-use Rattle.txc_play.specs.Tasks.{name_text, AreChangeWords, LineAsksFor}
+use Rattle.txc_words.specs.Names.{name_text}
+use Rattle.txc_words.specs.Parts.{AreChangeWords}
+use Rattle.txc_play.specs.Tasks.{LineAsksFor}
 use Rattle.txc_play.specs.TaskReading.{IsKeeperChange}
 use Rattle.txc_script.specs.declared.line_name.LineName.{LineName}
 use Rattle.txc_script.specs.declared.line_name.LineName.TheVariants as names
-use Rattle.txc_play.proofs.TaskParts.{none_as, none_of}
+use Rattle.txc_words.proofs.Offered.{none_as, none_of}
 use Rattle.txc_play.proofs.reading.read_named.Goals as goal
 
 pub returns-in_err-read_keeper_query-in-Query-clause-refused : goal.returns-in_err-read_keeper_query-in-Query-clause-refused
 returns-in_err-read_keeper_query-in-Query-clause-refused c = none_of _ _ c.from_residual-in_err-read_keeper_query-in-Query.ensures
     (λ task h. c.in_err-read_keeper_query-in-Query.ensures.refused task (subst (λ (n : LineName). LineAsksFor n (words_of c.args.text.now) task) c.in-Query.is h))
+
+pub returns-in_err-read_pin-in-Pin-clause-refused : goal.returns-in_err-read_pin-in-Pin-clause-refused
+returns-in_err-read_pin-in-Pin-clause-refused c = none_of _ _ c.from_residual-in_err-read_pin-in-Pin.ensures (λ task h.
+    let says : LineAsksFor names.Pin (words_of c.args.text.now) task = subst (λ (n : LineName). LineAsksFor n (words_of c.args.text.now) task) c.in-Pin.is h in
+    c.in_err-read_pin-in-Pin.ensures.refused says.0 says.1)
 
 pub returns-in_err-read_ro-in-Ro-clause-refused : goal.returns-in_err-read_ro-in-Ro-clause-refused
 returns-in_err-read_ro-in-Ro-clause-refused c = none_of _ _ c.from_residual-in_err-read_ro-in-Ro.ensures

@@ -8,7 +8,7 @@ use Rattle.txc_batch.proofs.batch.Batch.queue.Goals as goal
 
 pub returns-clause-after : goal.returns-clause-after
 returns-clause-after g c =
-    let s : BatchState = record { world = c.self.inside.world; functions = numbers_in c.self.inside.crew.items; jobs = c.self.inside.jobs.items } in
+    let s : BatchState = record { settings = c.self.inside.settings; source = c.self.inside.source; functions = numbers_in c.self.inside.crew.items; jobs = c.self.inside.jobs.items } in
     let inside = c.queued.inside in
     let q : QueuedValue = record { now = inside.now; staleness = inside.staleness; keys = inside.keys.items } in
     let job : Job = record { number = c.in-Ok.number; bounds = record { now = inside.now; staleness = inside.staleness; at_least = 0 }; keys = inside.keys } in

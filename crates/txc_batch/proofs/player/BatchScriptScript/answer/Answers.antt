@@ -19,9 +19,9 @@ returns-in-Ok-obey-clause-answered g c =
 
 pub returns-in-Err-obey-clause-refused : goal.returns-in-Err-obey-clause-refused
 returns-in-Err-obey-clause-refused g c =
-    broke g.A.App.next c.args.state.now c.obey.new.self c.args.line.now c.in-Ok.order (subst (λ (js : List Job). AsksFor js c.args.line.now c.in-Ok.order) c.jobs.ensures c.in-Ok.ensures.answer)
+    broke c.args.state.now c.obey.new.self c.args.line.now c.in-Ok.order (subst (λ (js : List Job). AsksFor js c.args.line.now c.in-Ok.order) c.jobs.ensures c.in-Ok.ensures.answer)
     c.in-Err-obey.ensures.broke
 
 pub returns-in-Err-clause-refused : goal.returns-in-Err-clause-refused
 returns-in-Err-clause-refused g c =
-    unread g.A.App.next c.args.state.now c.args.line.now c.in-Err.reason (subst (λ (js : List Job). IsNone (AsksFor js c.args.line.now) c.in-Err.reason) c.jobs.ensures c.in-Err.ensures.refused)
+    unread c.args.state.now c.args.line.now c.in-Err.reason (subst (λ (js : List Job). IsNone (AsksFor js c.args.line.now) c.in-Err.reason) c.jobs.ensures c.in-Err.ensures.refused)

@@ -1,0 +1,17 @@
+-- What is written of changes and pins.
+use Rattle.std.specs.Prelude.{ℕ, Bool, true, false, List, ◌++◌, Result, Ok, Err, codes}
+use Rattle.std.specs.Fmt.{decimal}
+use Rattle.txc_words.specs.RefusalTexts.{add_error_text, database_text}
+use Rattle.txc_batch.specs.declared.prepared.PrepareError.{PrepareError}
+use Rattle.txc_batch.specs.declared.prepared.PrepareError.TheVariants.{Database, Pincushion}
+
+-- the newest stamp after it, or why it was not made
+abbrev pub prepared_text : Result ℕ PrepareError → List ℕ
+prepared_text (Ok stamp) = codes "at " ++ decimal stamp
+prepared_text (Err (Database error)) = codes "refused " ++ database_text error
+prepared_text (Err (Pincushion error)) = codes "refused " ++ add_error_text error
+
+-- it was not made
+abbrev pub is_refused_preparing : Result ℕ PrepareError → Bool
+is_refused_preparing (Ok stamp) = false
+is_refused_preparing (Err error) = true

@@ -1,0 +1,32 @@
+-- The nodes and the clients of a batch, by its settings.
+use Rattle.std.specs.Prelude.{◌≡◌, ℕ, ◌<◌, List, Some, All, length, map, slice_get}
+use Rattle.txc_settings.specs.declared.settings.Settings.{Settings}
+use Rattle.txc_shared.specs.declared.settings.NodeSettings.{NodeSettings}
+use Rattle.txc_client.specs.Txn.{ClientValue}
+use Rattle.txc_work.specs.declared.job.Receipted.{Receipted}
+
+-- how the node of a number is made
+abbrev pub node_by : Settings → ℕ → NodeSettings
+node_by s number = record { number = number; capacity = s.capacity; recent = s.recent }
+
+-- as many nodes as there are to be, each made by its number
+pub record AreNodesBy (s : Settings) (nodes : List NodeSettings) : Type 0 where
+  pub count : length nodes ≡ s.nodes
+  pub each : (number : ℕ) (node : NodeSettings) → slice_get nodes number ≡ Some node → node ≡ node_by s number
+
+-- each row of a node has room for so many records
+abbrev pub HaveRoomsBy : Settings → (ℕ → List ℕ) → Type 0
+HaveRoomsBy s node_rows = (number : ℕ) → number < s.nodes → length (node_rows number) ≡ s.row_cap
+
+-- as many clients as there are to be workers; each has a pass through each of the nodes, whose rows are these, and
+-- renews a pin after that time
+pub record AreClientsBy (s : Settings) (node_rows : ℕ → List ℕ) (clients : List ClientValue) : Type 0 where
+  pub count : length clients ≡ s.workers
+  pub nodes : All (λ client. AreNodesBy s (map (λ pass. pass.settings) client.passes)) clients
+  pub rooms : HaveRoomsBy s node_rows
+  pub renewal : All (λ client. client.renew_after ≡ s.renew_after) clients
+
+-- the results of jobs, and the settings of the clients that ran them and of their nodes
+pub record RanValue : Type 0 where
+  pub settings : Settings
+  pub results : List Receipted

@@ -1,0 +1,80 @@
+//! Jobs that clients of known settings ran.
+ghost use Rattle.std.specs.Prelude.{◌≡◌, ℕ, List, All, IfErr, IfOk, IsPermutation};
+ghost use Rattle.std.specs.List.Sorted.{IsStrictlyIncreasing};
+ghost use Rattle.txc_registry.specs.Objects.{numbers_of};
+ghost use Rattle.txc_work.specs.Batches.{job_numbers, result_numbers, IsResultOf, Meets, NamesOneOf};
+
+use std::alloc::Global;
+use std::marker::Model;
+use std::sync::Wait;
+use std::thread::Threads;
+use txc_app::App;
+use txc_client::Client;
+use txc_db::Naming;
+use txc_registry::Cacheable;
+use txc_settings::Settings;
+use txc_work::{BatchError, Gate, Job, Receipted, run_batch};
+
+/// A gate that lets each job pass.
+#[derive(Drop)]
+struct OpenGate;
+
+impl Gate for OpenGate {
+    fn before(&self, job: &Job) {}
+
+    fn after(&self, job: &Job) {}
+}
+
+/// The results of jobs, and the settings of the clients that ran them and of their nodes. Nothing but
+/// [`Ran::by_clients`] makes it: no result shows those settings.
+#[derive(Drop)]
+pub struct Ran {
+    settings: Settings,
+    results: Vec<Receipted>,
+}
+
+impl Model for Ran {
+    ghost use Rattle.txc_batch.specs.Staffing.{RanValue};
+
+    ghost Value = { RanValue };
+
+    ghost view = { λ r. record { settings = r.settings; results = r.results.items } };
+}
+
+impl Ran {
+    ghost use Rattle.txc_batch.specs.Staffing.{AreClientsBy};
+
+    /// Runs the jobs, each once, by one of the clients, which are those of the settings.
+    pub fn by_clients<A, C, J, H>(
+        rt: &H,
+        alloc: Global,
+        settings: Settings,
+        jobs: Vec<Job>,
+        clients: Vec<Client<'_, A, C, J>>,
+    ) -> Result<Ran, BatchError>
+    where
+        A: App + Send + Sync,
+        C: Cacheable + Send,
+        J: Naming + Send + Sync,
+        H: Threads + Wait + Sync,
+        ghost functions: { List ℕ }
+        requires clients { AreClientsBy settings J.node_rows clients.items }
+        requires functions { All (λ client. numbers_of client.objects ≡ functions) clients.items }
+        ensures settings { IfOk result (λ ran. ran.settings ≡ settings) }
+        ensures once { IfOk result (λ ran. IsPermutation (job_numbers jobs.items) (result_numbers ran.results)) }
+        ensures in_order { IfOk result (λ ran. IsStrictlyIncreasing (result_numbers ran.results)) }
+        ensures met { IfOk result (λ ran.
+            All (IsResultOf jobs.items (Meets A.next J.database_row J.node_rows functions)) ran.results) }
+        ensures named { IfErr result (NamesOneOf (job_numbers jobs.items)) }
+    {
+        let results = run_batch(rt, alloc, jobs, clients, &OpenGate)?;
+        Ok(Ran { settings, results })
+    }
+
+    /// The results, in the order of the jobs' numbers.
+    pub fn results(&self) -> &[Receipted]
+        ensures { result.now ≡ self.now.results }
+    {
+        &self.results
+    }
+}

@@ -1,0 +1,2 @@
+pub mod Staffs
+pub mod Modes

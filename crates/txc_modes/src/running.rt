@@ -1,0 +1,79 @@
+//! Runs of scripts of every kind.
+ghost use Rattle.std.specs.Prelude.{◌≡◌};
+ghost use Rattle.txc_settings.specs.declared.script.Script.{Script};
+ghost use Rattle.txc_modes.specs.Modes.{HasRunBy};
+
+use crate::staff::Staff;
+use std::alloc::Global;
+use std::io::{Read, Write};
+use std::sync::Wait;
+use std::thread::Threads;
+use txc_batch::run_batch_script;
+use txc_play::{run_world, world_settings};
+use txc_script::{RunFault, Status};
+use txc_settings::{Script, Settings};
+use txc_world::World;
+
+/// How many actors a world has.
+pub const ACTORS: usize = 8;
+
+/// Runs a world's script in a new world, with an actor for each registry.
+fn run_in_world<R: Read, W: Write>(
+    alloc: Global,
+    settings: Settings,
+    reader: &mut R,
+    writer: &mut W,
+) -> Result<Status, RunFault>
+    ensures { HasRunBy Script.World settings
+        (R.remaining reader.old) (R.remaining reader.new) (W.contents writer.old) (W.contents writer.new) result }
+{
+    let Ok(staff) = Staff::new(alloc, settings.permits, ACTORS) else {
+        return Err(RunFault::Memory);
+    };
+    let registries = staff.into_registries();
+    match World::new(alloc, world_settings(settings), registries) {
+        Ok(mut world) => run_world(alloc, &mut world, reader, writer),
+        Err(_) => Err(RunFault::Memory),
+    }
+}
+
+/// Runs a batch's script by as many workers as the settings say.
+fn run_by_workers<R: Read, W: Write, H: Threads + Wait + Sync>(
+    rt: &H,
+    alloc: Global,
+    settings: Settings,
+    reader: &mut R,
+    writer: &mut W,
+) -> Result<Status, RunFault>
+    ensures { HasRunBy Script.Batch settings
+        (R.remaining reader.old) (R.remaining reader.new) (W.contents writer.old) (W.contents writer.new) result }
+{
+    let Ok(staff) = Staff::new(alloc, settings.permits, settings.workers) else {
+        return Err(RunFault::Memory);
+    };
+    let registries = staff.into_registries();
+    run_batch_script(rt, alloc, settings, registries, reader, writer)
+}
+
+/// Reads a script of this kind, and writes what its lines are answered, by the settings and with the program's
+/// functions. The status says what is wrong with a malformed line. A reader is read at most
+/// [`txc_script::MAX_READS`] times, where a read that was interrupted counts and is made again: one that has not
+/// come to its end by then is a read fault. The writer is flushed at the end, unless what the run begins with
+/// could not be made: then nothing was read.
+pub fn run<R: Read, W: Write, H: Threads + Wait + Sync>(
+    rt: &H,
+    alloc: Global,
+    script: Script,
+    settings: Settings,
+    reader: &mut R,
+    writer: &mut W,
+) -> Result<Status, RunFault>
+    ensures { HasRunBy script settings
+        (R.remaining reader.old) (R.remaining reader.new) (W.contents writer.old) (W.contents writer.new) result }
+{
+    match script {
+        Script::Node(mode) => txc_run::run(alloc, mode, settings, reader, writer),
+        Script::World => run_in_world(alloc, settings, reader, writer),
+        Script::Batch => run_by_workers(rt, alloc, settings, reader, writer),
+    }
+}

@@ -1,0 +1,49 @@
+//! Those who call functions: actors, or workers.
+ghost use Rattle.std.specs.Prelude.{◌≡◌, ◌≤◌, IfOk};
+ghost use Rattle.txc_permits.specs.declared.pool.TheConstants.{MAX_PERMITS};
+
+use std::alloc::{AllocError, Global};
+use std::marker::Model;
+use txc_functions::{Object, Program, registries};
+use txc_permits::PermitPool;
+use txc_registry::Registry;
+
+/// A registry of the program's functions for each of those who call them. All of them share the permits of one pool.
+#[derive(Drop)]
+pub struct Staff {
+    pool: PermitPool,
+    registries: Vec<Registry<Program, Object>>,
+}
+
+impl Model for Staff {
+    ghost use Rattle.txc_modes.specs.Staffs.{StaffValue};
+
+    ghost Value = { StaffValue };
+
+    ghost view = { λ s. record { permits = s.pool.most; registries = s.registries.items } };
+}
+
+impl Staff {
+    ghost use Rattle.txc_modes.specs.Staffs.{IsStaff};
+
+    /// So many registries, all idle, and so many permits.
+    pub fn new(alloc: Global, permits: usize, count: usize) -> Result<Staff, AllocError>
+        requires { (1 ≤ permits) × (permits ≤ MAX_PERMITS) }
+        ensures { IfOk result (IsStaff permits count) }
+    {
+        let mut pool = PermitPool::new(alloc, permits as u64)?;
+        let registries = registries(alloc, &mut pool, count)?;
+        Ok(Staff { pool, registries })
+    }
+
+    /// The registries, whose functions go on sharing the permits.
+    pub fn into_registries(self) -> Vec<Registry<Program, Object>>
+        ensures { result.items ≡ self.registries }
+    {
+        let Staff {
+            pool: _,
+            registries,
+        } = self;
+        registries
+    }
+}

@@ -1,0 +1,55 @@
+-- The names of lines.
+use Rattle.std.proofs.Common.{◌≡◌, ℕ, List, Option, Some, None, refl, sym, ap, ◌∙◌}
+use Rattle.std.specs.Prelude.{codes, if◌then◌else◌}
+use Rattle.std.specs.Str.{bytes_eq}
+use Rattle.txc_script.specs.declared.line_name.LineName.{LineName}
+use Rattle.txc_script.specs.declared.line_name.LineName.TheVariants as names
+use Rattle.txc_words.specs.Names.{name_text}
+
+-- the name that a text is, if it is one
+abbrev read_name : List ℕ → Option LineName
+read_name text =
+    if bytes_eq text (codes "put") then Some names.Put
+    else (if bytes_eq text (codes "remove") then Some names.Remove
+    else (if bytes_eq text (codes "pin") then Some names.Pin
+    else (if bytes_eq text (codes "query") then Some names.Query
+    else (if bytes_eq text (codes "ro") then Some names.Ro
+    else (if bytes_eq text (codes "rw") then Some names.Rw
+    else (if bytes_eq text (codes "session") then Some names.Session
+    else (if bytes_eq text (codes "call") then Some names.Call
+    else (if bytes_eq text (codes "step") then Some names.Step
+    else (if bytes_eq text (codes "finish") then Some names.Finish
+    else (if bytes_eq text (codes "ask") then Some names.Ask
+    else (if bytes_eq text (codes "write") then Some names.Write
+    else (if bytes_eq text (codes "pins") then Some names.Pins
+    else (if bytes_eq text (codes "commit") then Some names.Commit
+    else (if bytes_eq text (codes "abort") then Some names.Abort
+    else (if bytes_eq text (codes "advance") then Some names.Advance
+    else (if bytes_eq text (codes "sweep") then Some names.Sweep
+    else (if bytes_eq text (codes "tidy") then Some names.Tidy
+    else (if bytes_eq text (codes "counts") then Some names.Counts else None))))))))))))))))))
+
+read_back : (name : LineName) → read_name (name_text name) ≡ Some name
+read_back names.Put = refl
+read_back names.Remove = refl
+read_back names.Pin = refl
+read_back names.Query = refl
+read_back names.Ro = refl
+read_back names.Rw = refl
+read_back names.Session = refl
+read_back names.Call = refl
+read_back names.Step = refl
+read_back names.Finish = refl
+read_back names.Ask = refl
+read_back names.Write = refl
+read_back names.Pins = refl
+read_back names.Commit = refl
+read_back names.Abort = refl
+read_back names.Advance = refl
+read_back names.Sweep = refl
+read_back names.Tidy = refl
+read_back names.Counts = refl
+
+-- no two names have one text
+pub same_name : (a b : LineName) → name_text a ≡ name_text b → a ≡ b
+same_name a b e = let same : Some a ≡ Some b = sym (read_back a) ∙ ap read_name e ∙ read_back b in cc

@@ -1,0 +1,120 @@
+-- Of which kinds the words of lines are to be, and what is wrong with them.
+use Rattle.std.specs.Prelude.{◌≡◌, ◌≢◌, ◌<◌, ◌≤◌, ℕ, List, [], ◌∷◌, Option, Some, None, if◌then◌else◌, codes, length, take}
+use Rattle.std.specs.Str.{bytes_eq}
+use Rattle.txc_rows.specs.declared.row.TheConstants.{MAX_BODY_LEN}
+use Rattle.txc_script.specs.Excerpts.{excerpt_of}
+use Rattle.txc_script.specs.LineFaults.{IsBadWord}
+use Rattle.txc_script.specs.declared.line_fault.CommandFault.{CommandFault}
+use Rattle.txc_script.specs.declared.line_fault.CommandFault.TheVariants as faults
+use Rattle.txc_script.specs.declared.line_fault.WordFault.{WordFault}
+use Rattle.txc_script.specs.declared.line_fault.WordKind.{WordKind}
+use Rattle.txc_script.specs.declared.line_fault.WordKind.TheVariants.{Key, Stamp, Number, Text, QueryName, ChangeName}
+use Rattle.txc_script.specs.declared.line_name.LineName.{LineName}
+use Rattle.txc_script.specs.declared.line_name.LineName.TheVariants as names
+use Rattle.txc_tags.specs.declared.tag.TheConstants.{LAST_TABLE}
+use Rattle.txc_tags.specs.declared.key.TheConstants.{LAST_FUNCTION}
+use Rattle.txc_tags.specs.declared.text.number.TheConstants.{LAST_NUMBER}
+use Rattle.txc_words.specs.Names.{name_text}
+use Rattle.txc_words.specs.declared.parts.TheConstants.{LAST_MOMENT}
+
+-- ---- of which kinds words are to be
+
+-- the number of an actor or a node
+abbrev pub place : WordKind
+place = Number LAST_NUMBER
+
+abbrev pub table : WordKind
+table = Number LAST_TABLE
+
+-- an id or a group
+abbrev pub number_word : WordKind
+number_word = Number LAST_NUMBER
+
+-- a moment, or a time
+abbrev pub moment : WordKind
+moment = Number LAST_MOMENT
+
+abbrev pub function : WordKind
+function = Number LAST_FUNCTION
+
+-- a table, and an id or a group
+abbrev pub pair_kinds : List WordKind
+pair_kinds = table ∷ number_word ∷ []
+
+-- a table, and the first and the last of some ids
+abbrev pub range_kinds : List WordKind
+range_kinds = table ∷ number_word ∷ number_word ∷ []
+
+abbrev pub row_kinds : List WordKind
+row_kinds = table ∷ number_word ∷ number_word ∷ Text MAX_BODY_LEN ∷ []
+
+-- a word of this kind, and a query of this name, if it is one
+abbrev pub query_line : WordKind → List ℕ → Option (List WordKind)
+query_line first name =
+    if bytes_eq name (codes "by-id") then Some (first ∷ QueryName ∷ pair_kinds)
+    else (if bytes_eq name (codes "by-group") then Some (first ∷ QueryName ∷ pair_kinds)
+    else (if bytes_eq name (codes "all") then Some (first ∷ QueryName ∷ table ∷ [])
+    else (if bytes_eq name (codes "range") then Some (first ∷ QueryName ∷ range_kinds) else None)))
+
+-- an actor, and a change of this name, if it is one
+abbrev pub change_line : List ℕ → Option (List WordKind)
+change_line name =
+    if bytes_eq name (codes "put") then Some (place ∷ ChangeName ∷ row_kinds)
+    else (if bytes_eq name (codes "remove") then Some (place ∷ ChangeName ∷ pair_kinds) else None)
+
+-- The kinds of the words after a line's name, the second of which is this one. In three lines that word names a
+-- query or a change, and the words are of no known kinds where it does not.
+abbrev pub kinds_after : LineName → List ℕ → Option (List WordKind)
+kinds_after names.Put second = Some row_kinds
+kinds_after names.Remove second = Some pair_kinds
+kinds_after names.Pin second = Some (moment ∷ [])
+kinds_after names.Query second = query_line Stamp second
+kinds_after names.Ro second = Some (place ∷ moment ∷ moment ∷ Stamp ∷ [])
+kinds_after names.Rw second = Some (place ∷ [])
+kinds_after names.Session second = Some (place ∷ moment ∷ moment ∷ [])
+kinds_after names.Call second = Some (place ∷ Key ∷ [])
+kinds_after names.Step second = Some (place ∷ [])
+kinds_after names.Finish second = Some (place ∷ [])
+kinds_after names.Ask second = query_line place second
+kinds_after names.Write second = change_line second
+kinds_after names.Pins second = Some (place ∷ [])
+kinds_after names.Commit second = Some (place ∷ [])
+kinds_after names.Abort second = Some (place ∷ [])
+kinds_after names.Advance second = Some (place ∷ [])
+kinds_after names.Sweep second = Some (place ∷ Stamp ∷ [])
+kinds_after names.Tidy second = Some (moment ∷ moment ∷ [])
+kinds_after names.Counts second = Some (place ∷ function ∷ [])
+
+-- the kinds of the first two words after the name of such a line
+abbrev pub first_kinds : LineName → List WordKind
+first_kinds names.Query = Stamp ∷ QueryName ∷ []
+first_kinds names.Ask = place ∷ QueryName ∷ []
+first_kinds names.Write = place ∷ ChangeName ∷ []
+first_kinds name = []
+
+-- the second of the words, or no bytes where there are fewer
+abbrev pub second_of : List (List ℕ) → List ℕ
+second_of (first ∷ second ∷ words) = second
+second_of words = []
+
+-- ---- what is wrong
+
+-- the first word that is not of its kind: of all words, where these are their kinds and they are as many; or of
+-- the first two, where the kinds of the others are not known
+abbrev pub IsFirstBad : LineName → List (List ℕ) → Option (List WordKind) → WordFault → Type 0
+IsFirstBad name words (Some kinds) fault = (length words ≡ length kinds) × IsBadWord kinds words fault
+IsFirstBad name words None fault = (2 ≤ length words) × IsBadWord (first_kinds name) (take 2 words) fault
+
+-- What is wrong with the words after a line's name. They end before the one that names a query or a change; else
+-- that word names none, or the one before it is not of its kind. Else the number of words is another; else a word
+-- is not of its kind.
+abbrev pub IsFaultAfter : LineName → List (List ℕ) → CommandFault → Type 0
+IsFaultAfter name words (faults.Unknown text) = ⊥
+IsFaultAfter name words (faults.Usage line) =
+    (line ≡ name) × (kinds_after name (second_of words) ≡ None) × (length words < 2)
+IsFaultAfter name words (faults.Count wanted given) =
+    (kinds : List WordKind) × (kinds_after name (second_of words) ≡ Some kinds)
+    × (wanted ≡ length kinds) × (given ≡ length words) × (given ≢ wanted)
+IsFaultAfter name words (faults.Word fault) = IsFirstBad name words (kinds_after name (second_of words)) fault
+IsFaultAfter name words (faults.Few least given) = ⊥
+IsFaultAfter name words faults.AfterJob = ⊥

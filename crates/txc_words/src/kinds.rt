@@ -1,0 +1,163 @@
+//! The kinds of the words of lines.
+ghost use Rattle.std.specs.Prelude.{◌≡◌, Some, None, IfSome, IfNone};
+ghost use Rattle.txc_words.specs.Faults.{change_line, first_kinds, kinds_after, place, query_line};
+ghost use Rattle.txc_script.specs.declared.line_fault.WordKind.{WordKind};
+
+use crate::parts::LAST_MOMENT;
+use txc_rows::MAX_BODY_LEN;
+use txc_script::{LineName, WordKind};
+use txc_tags::{LAST_FUNCTION, LAST_NUMBER, LAST_TABLE};
+
+/// The number of an actor or a node.
+const PLACE: WordKind = WordKind::Number(LAST_NUMBER);
+
+const TABLE: WordKind = WordKind::Number(LAST_TABLE as u64);
+
+/// An id or a group.
+const NUMBER: WordKind = WordKind::Number(LAST_NUMBER);
+
+/// A moment, or a time.
+const MOMENT: WordKind = WordKind::Number(LAST_MOMENT);
+
+/// The number of a function.
+const FUNCTION: WordKind = WordKind::Number(LAST_FUNCTION as u64);
+
+const BODY: WordKind = WordKind::Text(MAX_BODY_LEN);
+
+static PUT: [WordKind; 4] = [TABLE, NUMBER, NUMBER, BODY];
+
+static REMOVE: [WordKind; 2] = [TABLE, NUMBER];
+
+static PIN: [WordKind; 1] = [MOMENT];
+
+static QUERY: [WordKind; 2] = [WordKind::Stamp, WordKind::QueryName];
+
+static QUERY_PAIR: [WordKind; 4] = [WordKind::Stamp, WordKind::QueryName, TABLE, NUMBER];
+
+static QUERY_TABLE: [WordKind; 3] = [WordKind::Stamp, WordKind::QueryName, TABLE];
+
+static QUERY_RANGE: [WordKind; 5] = [WordKind::Stamp, WordKind::QueryName, TABLE, NUMBER, NUMBER];
+
+static RO: [WordKind; 4] = [PLACE, MOMENT, MOMENT, WordKind::Stamp];
+
+static SESSION: [WordKind; 3] = [PLACE, MOMENT, MOMENT];
+
+static CALL: [WordKind; 2] = [PLACE, WordKind::Key];
+
+static ASK: [WordKind; 2] = [PLACE, WordKind::QueryName];
+
+static ASK_PAIR: [WordKind; 4] = [PLACE, WordKind::QueryName, TABLE, NUMBER];
+
+static ASK_TABLE: [WordKind; 3] = [PLACE, WordKind::QueryName, TABLE];
+
+static ASK_RANGE: [WordKind; 5] = [PLACE, WordKind::QueryName, TABLE, NUMBER, NUMBER];
+
+static WRITE: [WordKind; 2] = [PLACE, WordKind::ChangeName];
+
+static WRITE_PUT: [WordKind; 6] = [PLACE, WordKind::ChangeName, TABLE, NUMBER, NUMBER, BODY];
+
+static WRITE_REMOVE: [WordKind; 4] = [PLACE, WordKind::ChangeName, TABLE, NUMBER];
+
+static ONLY_PLACE: [WordKind; 1] = [PLACE];
+
+static SWEEP: [WordKind; 2] = [PLACE, WordKind::Stamp];
+
+static TIDY: [WordKind; 2] = [MOMENT, MOMENT];
+
+static COUNTS: [WordKind; 2] = [PLACE, FUNCTION];
+
+static NOTHING: [WordKind; 0] = [];
+
+/// The kinds of the words of `query`, of which the second has that name.
+fn query_kinds(name: &[u8]) -> Option<&'static [WordKind]>
+    ensures answer { IfSome result (λ kinds. query_line WordKind.Stamp name.now ≡ Some kinds.now) }
+    ensures refused { IfNone result (query_line WordKind.Stamp name.now ≡ None) }
+{
+    if name == b"by-id".as_slice() {
+        return Some(QUERY_PAIR.as_slice());
+    }
+    if name == b"by-group".as_slice() {
+        return Some(QUERY_PAIR.as_slice());
+    }
+    if name == b"all".as_slice() {
+        return Some(QUERY_TABLE.as_slice());
+    }
+    if name == b"range".as_slice() {
+        return Some(QUERY_RANGE.as_slice());
+    }
+    None
+}
+
+/// The kinds of the words of `ask`, of which the second has that name.
+fn ask_kinds(name: &[u8]) -> Option<&'static [WordKind]>
+    ensures answer { IfSome result (λ kinds. query_line place name.now ≡ Some kinds.now) }
+    ensures refused { IfNone result (query_line place name.now ≡ None) }
+{
+    if name == b"by-id".as_slice() {
+        return Some(ASK_PAIR.as_slice());
+    }
+    if name == b"by-group".as_slice() {
+        return Some(ASK_PAIR.as_slice());
+    }
+    if name == b"all".as_slice() {
+        return Some(ASK_TABLE.as_slice());
+    }
+    if name == b"range".as_slice() {
+        return Some(ASK_RANGE.as_slice());
+    }
+    None
+}
+
+/// The kinds of the words of `write`, of which the second has that name.
+fn write_kinds(name: &[u8]) -> Option<&'static [WordKind]>
+    ensures answer { IfSome result (λ kinds. change_line name.now ≡ Some kinds.now) }
+    ensures refused { IfNone result (change_line name.now ≡ None) }
+{
+    if name == b"put".as_slice() {
+        return Some(WRITE_PUT.as_slice());
+    }
+    if name == b"remove".as_slice() {
+        return Some(WRITE_REMOVE.as_slice());
+    }
+    None
+}
+
+/// The kinds of the words after a line's name, of which the second may name a query or a change.
+pub fn kinds_after(name: LineName, second: &[u8]) -> Option<&'static [WordKind]>
+    ensures answer { IfSome result (λ kinds. kinds_after name second.now ≡ Some kinds.now) }
+    ensures refused { IfNone result (kinds_after name second.now ≡ None) }
+{
+    match name {
+        LineName::Put => Some(PUT.as_slice()),
+        LineName::Remove => Some(REMOVE.as_slice()),
+        LineName::Pin => Some(PIN.as_slice()),
+        LineName::Query => query_kinds(second),
+        LineName::Ro => Some(RO.as_slice()),
+        LineName::Session => Some(SESSION.as_slice()),
+        LineName::Call => Some(CALL.as_slice()),
+        LineName::Ask => ask_kinds(second),
+        LineName::Write => write_kinds(second),
+        LineName::Sweep => Some(SWEEP.as_slice()),
+        LineName::Tidy => Some(TIDY.as_slice()),
+        LineName::Counts => Some(COUNTS.as_slice()),
+        LineName::Rw => Some(ONLY_PLACE.as_slice()),
+        LineName::Step => Some(ONLY_PLACE.as_slice()),
+        LineName::Finish => Some(ONLY_PLACE.as_slice()),
+        LineName::Pins => Some(ONLY_PLACE.as_slice()),
+        LineName::Commit => Some(ONLY_PLACE.as_slice()),
+        LineName::Abort => Some(ONLY_PLACE.as_slice()),
+        LineName::Advance => Some(ONLY_PLACE.as_slice()),
+    }
+}
+
+/// The kinds of the first two words after a line's name, where the second names a query or a change.
+pub fn first_kinds(name: LineName) -> &'static [WordKind]
+    ensures { result.now ≡ first_kinds name }
+{
+    match name {
+        LineName::Query => QUERY.as_slice(),
+        LineName::Ask => ASK.as_slice(),
+        LineName::Write => WRITE.as_slice(),
+        _ => NOTHING.as_slice(),
+    }
+}
