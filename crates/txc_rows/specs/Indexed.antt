@@ -42,7 +42,7 @@ is_between table first last s = (s.table == table) && (nat_le first s.key && nat
 abbrev pub spot_suits : Query → Spot → Bool
 spot_suits (ById table id) = is_between table id id
 spot_suits (ByGroup table group) = is_between table group group
-spot_suits (All table) = is_between table 0 4294967295
+spot_suits (All table) = λ s. s.table == table
 spot_suits (Range table first last) = is_between table first last
 
 -- those of the two sets in which the query is looked up

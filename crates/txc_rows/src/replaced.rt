@@ -154,10 +154,10 @@ fn take_found(
     requires few { length found.old.items ≤ MAX_MATCHING }
     requires from_first { AllByRecursion (λ s. first ≤ s.number) spots }
     ensures found { OnOk result (found.new.items
-        ≡ found.old.items ++ map version_of (placed_left from (picked first versions.now.items spots))) }
+        ≡ found.old.items ++ map version_of (placed_left from (picked first versions.now.items spots.entry))) }
     ensures bound { OnOk result (length found.new.items ≤ MAX_MATCHING) }
     ensures refused { result ≡ Err StoreError.TooManyRows
-        → MAX_MATCHING < length found.old.items + length (placed_left from (picked first versions.now.items spots)) }
+        → MAX_MATCHING < length found.old.items + length (placed_left from (picked first versions.now.items spots.entry)) }
 {
     for spot in spots {
         let Some(placed) = versions.get(spot.number - first) else {
@@ -206,10 +206,10 @@ impl Replaced {
         let (id, group) = (spot_by_id(&placed, number), spot_by_group(&placed, number));
         self.versions.reserve(1)?;
         add_spot(&mut self.ids, id)?;
-        if add_spot(&mut self.groups, group).is_err() {
+        let Ok(()) = add_spot(&mut self.groups, group) else {
             drop_spot(&mut self.ids, id);
             return Err(AllocError);
-        }
+        };
         self.versions.push_back_reserved(placed);
         Ok(())
     }
@@ -267,7 +267,8 @@ impl Replaced {
         ensures { IfOk result (λ left. left ≡ placed_left from self.now) }
     {
         let mut left = Replaced::new(alloc);
-        for placed in &self.versions {
+        for i in 0..self.versions.len() {
+            let placed = &self.versions[i];
             if !died_before(placed.version.died, from) {
                 left.add(placed.copy(alloc)?)?;
             }

@@ -59,6 +59,7 @@ fn add_latest(
     requires inside { tx.old.conn.now.in_transaction ≡ true }
     ensures same_reference { tx.new.conn.ghost_name ≡ tx.old.conn.ghost_name }
     ensures row { IsRow row.now }
+    ensures stamp { stamp ≤ LAST_STAMP }
     ensures step { IsStep (HasLatest (latest_in tx.old.conn.now ++ new_placed place row.now stamp ∷ []))
         tx.old.conn.now tx.new.conn.now result }
 {
@@ -109,6 +110,7 @@ fn renew_latest(
     requires keys { HaveOwnKeys (latest_in tx.old.conn.now) }
     ensures same_reference { tx.new.conn.ghost_name ≡ tx.old.conn.ghost_name }
     ensures row { IsRow row.now }
+    ensures stamp { stamp ≤ LAST_STAMP }
     ensures step { IsStep (HasLatest (map (renewed place row.now stamp) (latest_in tx.old.conn.now)))
         tx.old.conn.now tx.new.conn.now result }
 {
@@ -217,6 +219,7 @@ fn put_version(
         ≡ (length (filter (has_key row.now.table row.now.id row.now.group) (latest_in tx.old.conn.now)) == 0) }
     ensures same_reference { tx.new.conn.ghost_name ≡ tx.old.conn.ghost_name }
     ensures row { OnOk result (IsRow row.now) }
+    ensures stamp { OnOk result (stamp ≤ LAST_STAMP) }
     ensures step { IsStep (HasLatest (put_latest place row.now stamp (latest_in tx.old.conn.now)))
         tx.old.conn.now tx.new.conn.now result }
 {
@@ -341,9 +344,11 @@ pub(crate) fn write_all(
     ensures unchanged { OnErr result (replaced.new ≡ replaced.old) }
 {
     let before = replaced.len();
-    let result = write_table(conn, replaced, alloc, net, stamp, place);
-    if result.is_err() {
-        replaced.undo(before);
+    match write_table(conn, replaced, alloc, net, stamp, place) {
+        Ok(written) => Ok(written),
+        Err(refusal) => {
+            replaced.undo(before);
+            Err(refusal)
+        }
     }
-    result
 }
