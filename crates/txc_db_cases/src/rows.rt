@@ -253,8 +253,8 @@ purge 6 =>
 list id 1 7 => 7:e [6,)
 ";
 
-/// Versions that died fill all segments, are put together, and are found through all of it.
-const SEGMENTS: &str = "write 1: put 1 0-1023 2 a =>
+/// Versions are replaced again and again, and are found until they are purged.
+const REPLACED: &str = "write 1: put 1 0-1023 2 a =>
 write 2: put 1 0-1023 2 b =>
 write 3: put 1 0-1023 2 c =>
 write 4: put 1 0-1023 2 d =>
@@ -343,8 +343,8 @@ fn at_most_1024_versions_match(rt: HostRuntime) -> Result<(), Fail> {
 }
 
 #[test]
-fn what_died_is_found_in_all_segments(rt: HostRuntime) -> Result<(), Fail> {
-    play_all(&rt, &[SEGMENTS])
+fn what_was_replaced_is_found(rt: HostRuntime) -> Result<(), Fail> {
+    play_all(&rt, &[REPLACED])
 }
 
 #[test]
