@@ -1,5 +1,5 @@
 -- What the statements do to a connection over the tables.
-use Rattle.std.proofs.Common.{◌≡◌, ◌⊎◌, inl, inr, ℕ, ℤ, List, [], ◌∷◌, map, filter, Bool, true, false, cond, Some, Ok, Err, Result, OnOk, IfErr, IfOk, refl, sym, ap, subst, ◌∙◌, arith, IsTrue}
+use Rattle.std.proofs.Common.{◌≡◌, ◌⊎◌, inl, inr, ℕ, ℤ, List, [], ◌∷◌, map, filter, Bool, true, false, cond, Some, Ok, Err, Result, OnOk, IfErr, IfOk, refl, sym, ap, subst, ◌∙◌, IsTrue}
 use Rattle.std.specs.List.{AllByRecursion, list_all}
 use Rattle.std.specs.List.Sorted.{IsPermutation}
 use Rattle.sqlite.specs.Order.{Row}
@@ -30,7 +30,6 @@ use Rattle.txc_rows.proofs.WriteLemmas.{Leaves}
 use Rattle.txc_rows.proofs.Refusals.{Refused, query_refused, shown_same}
 use Rattle.txc_rows.proofs.Answering.{selects, listing}
 use Rattle.sqlite.specs.Tree.{Trees}
-use Rattle.sqlite.specs.Program.{overlay}
 
 -- each can be held
 abbrev pub AreStorable : List Placed → Type 0

@@ -1,5 +1,5 @@
 -- What making and dropping the table does to a connection.
-use Rattle.std.proofs.Common.{◌≡◌, ℕ, List, [], None, Ok, refl, ap, subst, ◌∙◌}
+use Rattle.std.proofs.Common.{◌≡◌, ℕ, [], None, Ok, refl, ap, subst, ◌∙◌}
 use Rattle.sqlite.specs.Command.TheVariants.{DropTable}
 use Rattle.sqlite.specs.Does.{Tally, Does}
 use Rattle.sqlite.specs.Listing.{understood}

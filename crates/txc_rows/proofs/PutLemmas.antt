@@ -11,7 +11,7 @@ use Rattle.sqlite_trees.proofs.ListLemmas.{map-map, all-append, all-map, all-per
 use Rattle.txc_stamp.specs.declared.stamp.TheConstants.{LAST_STAMP}
 use Rattle.txc_rows.specs.Values.{RowValue, IsRow}
 use Rattle.txc_rows.specs.States.{is_at}
-use Rattle.txc_rows.specs.Versions.{is_current, closed, removed, put}
+use Rattle.txc_rows.specs.Versions.{is_current, closed, removed}
 use Rattle.txc_rows.specs.Holdable.{IsStorable}
 use Rattle.txc_rows.specs.Placed.{Placed, version_of, by_place, versions_by_place, has_key, closed_placed, new_placed, renewed, put_latest, put_replaced, HaveOwnPlaces, HaveOwnKeys, AreBelow, IsOneCurrent, AreWellPlaced, AreWritten}
 use Rattle.txc_rows.proofs.Members.{bool_cases, both_true, and_true}

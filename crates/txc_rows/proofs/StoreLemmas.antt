@@ -7,11 +7,10 @@ use Rattle.sqlite.specs.Held.{Held, state}
 use Rattle.sqlite.specs.Steps.{over_memory}
 use Rattle.sqlite_trees.specs.declared.memory.MemStore.{MemStore}
 use Rattle.txc_rows.specs.declared.query.Change.{Change}
-use Rattle.txc_rows.specs.declared.version.Versioned.{Versioned}
 use Rattle.txc_rows.specs.Versions.{after_net, purged}
 use Rattle.txc_rows.specs.Holdable.{IsStorable}
 use Rattle.txc_rows.specs.Placed.{Placed, versions_by_place, left_from, placed_left, without_front_dead, AreBelow, AreWellPlaced, AreAll, AreSwept}
-use Rattle.txc_rows.specs.Kept.{latest_in, versions_of, IsKept, IsCall, IsSame, IsRoom, IsStore}
+use Rattle.txc_rows.specs.Kept.{latest_in, versions_of, IsKept, IsCall, IsRoom, IsStore}
 use Rattle.txc_rows.proofs.HeldLemmas.{latest_by}
 use Rattle.txc_rows.proofs.SweepLemmas.{both_below, both_apart, left_alone, none_hidden, dropped_each, dropped_apart, dropped_same, purged_left}
 use Rattle.txc_rows.proofs.ViewLemmas.{written_view, view_each}

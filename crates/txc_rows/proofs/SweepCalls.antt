@@ -6,7 +6,6 @@ use Rattle.sqlite_trees.proofs.ListLemmas.{all-filter, all-permutation}
 use Rattle.sqlite.specs.declared.error.Error.{Error}
 use Rattle.sqlite.specs.State.{Shows, KeepsCounts, IsRolledBack}
 use Rattle.sqlite.specs.Held.{Held, state}
-use Rattle.sqlite.specs.Effect.{Database}
 use Rattle.sqlite.specs.Steps.{over_memory, FailsToCommit}
 use Rattle.sqlite_trees.specs.declared.memory.MemStore.{MemStore}
 use Rattle.sqlite.specs.Order.{Row, column}

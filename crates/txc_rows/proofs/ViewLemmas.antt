@@ -1,5 +1,5 @@
 -- What a store shows of the versions in its tables.
-use Rattle.std.proofs.Common.{◌≡◌, ℕ, ◌≤◌, List, map, ap, ◌∙◌}
+use Rattle.std.proofs.Common.{◌≡◌, ℕ, ◌≤◌, List, ap, ◌∙◌}
 use Rattle.std.specs.List.{AllByRecursion}
 use Rattle.sqlite_trees.proofs.ListLemmas.{all-filter, all-map, all-permutation}
 use Rattle.txc_rows.specs.declared.query.Change.{Change}

@@ -106,9 +106,7 @@ fn make_room(
         return Ok(kept_from);
     }
     let Ok(left) = replaced.left(alloc, kept_from) else {
-        return Err(sqlite::Error::SqliteFailure(
-            sqlite::ErrorCode::OutOfMemory,
-        ));
+        return Err(sqlite::Error::SqliteFailure(sqlite::ErrorCode::OutOfMemory));
     };
     let rows = rebuild(conn, kept_from)?;
     *replaced = left;

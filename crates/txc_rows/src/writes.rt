@@ -192,9 +192,7 @@ fn replace(replaced: &mut Replaced, last: Option<Placed>, stamp: Stamp) -> Resul
     let revived = usize::from(last.version.died.is_some());
     if last.version.died.is_none() {
         if last.version.born >= stamp {
-            return Err(Error::SqliteFailure(ErrorCode::ConstraintViolation(
-                Constraint::Check,
-            )));
+            return Err(Error::SqliteFailure(ErrorCode::ConstraintViolation(Constraint::Check)));
         }
         last.version.died = Some(stamp);
     }

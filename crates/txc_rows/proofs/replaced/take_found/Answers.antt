@@ -1,4 +1,4 @@
-use Rattle.std.proofs.Common.{◌≡◌, ◌≤◌, ◌<◌, ◌-◌, ◌++◌, ◌∷◌, [], true, List, Some, length, map, get_or, ap, sym, subst, ◌∙◌, append_assoc, length-append, arith, rules}
+use Rattle.std.proofs.Common.{◌≡◌, ◌≤◌, ◌<◌, ◌-◌, ◌++◌, ◌∷◌, [], true, Some, length, ap, sym, subst, ◌∙◌, append_assoc, length-append, arith, rules}
 use Rattle.std.proofs.lemmas.List.{length-map}
 use Rattle.std.proofs.lemmas.Map.Iter.{rest_more}
 use Rattle.std.specs.Map.Iter.{deref}
@@ -21,8 +21,15 @@ returns-then-len-ge-MAX_MATCHING-clause-refused c = λ many.
     let more = ap (taken c.args.from c.args.first xs s c.next.new.self) next ∙ taken_left c.args.from c.args.first xs s c.next.new.self x there left in
     let i = c.loop-spot.invariant in
     let full : MAX_MATCHING ≤ length c.loop-spot.found.items = search (arith, rules) in
-    omega (arith, full, ap length more, ap length i.done, length-append c.loop-spot.found.items (taken c.args.from c.args.first xs s c.next.new.self c.loop-spot.spot-iterator),
-    length-append c.args.found.now.items (taken c.args.from c.args.first xs s c.next.new.self c.args.spots), length-map (placed_left c.args.from (picked c.args.first xs c.args.spots)) version_of)
+    omega (
+      arith,
+      full,
+      ap length more,
+      ap length i.done,
+      length-append c.loop-spot.found.items (taken c.args.from c.args.first xs s c.next.new.self c.loop-spot.spot-iterator),
+      length-append c.args.found.now.items (taken c.args.from c.args.first xs s c.next.new.self c.args.spots),
+      length-map (placed_left c.args.from (picked c.args.first xs c.args.spots)) version_of,
+    )
 
 pub loop-spot-preserved : goal.loop-spot-preserved
 loop-spot-preserved c =

@@ -1,4 +1,4 @@
-use Rattle.std.proofs.Common.{◌≡◌, ◌+◌, ◌-◌, ◌++◌, ◌<◌, ◌≤◌, length, map, ap, ◌∙◌, arith}
+use Rattle.std.proofs.Common.{◌≡◌, ◌-◌, ◌++◌, ◌<◌, ◌≤◌, length, map, ap, ◌∙◌, arith}
 use Rattle.txc_rows.specs.declared.store_error.TheConstants.{MAX_MATCHING}
 use Rattle.txc_rows.specs.States.{query_table}
 use Rattle.txc_rows.specs.Placed.{version_of, left_from}

@@ -1,4 +1,4 @@
-use Rattle.std.proofs.Common.{◌≡◌, ◌+◌, ◌++◌, ◌≤◌, Err, length, sym, ap, subst, arith, rules}
+use Rattle.std.proofs.Common.{◌+◌, ◌≤◌, Err, length, sym, ap, subst, arith, rules}
 use Rattle.txc_rows.specs.declared.store_error.StoreError.TheVariants.{TooManyRows}
 use Rattle.txc_rows.specs.declared.store_error.TheConstants.{MAX_MATCHING}
 use Rattle.txc_rows.specs.Placed.{left_from, AreWellPlaced}

@@ -1,4 +1,4 @@
-use Rattle.std.proofs.Common.{◌≡◌, ◌≤◌, length, filter, None, ap, ◌∙◌, arith, rules}
+use Rattle.std.proofs.Common.{◌≡◌, ◌≤◌, length, filter, ap, ◌∙◌, arith, rules}
 use Rattle.std.proofs.lemmas.Fn.{filter_same}
 use borrow.Author.Tests.{ltb-false}
 use Rattle.txc_rows.specs.Placed.{in_group}

@@ -1,4 +1,4 @@
-use Rattle.std.proofs.Common.{◌≡◌, ◌+◌, length, take, Ok, Err, ap, subst, ◌∙◌, rules}
+use Rattle.std.proofs.Common.{◌≡◌, ◌+◌, length, take, Err, ap, subst, ◌∙◌, rules}
 use Rattle.txc_rows.specs.Versions.{after_net}
 use Rattle.txc_rows.specs.Placed.{AreAll}
 use Rattle.txc_rows.specs.Kept.{versions_of, IsCall}

@@ -1,4 +1,4 @@
-use Rattle.std.proofs.Common.{◌+◌, refl, sym, subst, append-nil}
+use Rattle.std.proofs.Common.{◌+◌, sym, subst}
 use Rattle.txc_rows.specs.Versions.{after_write}
 use Rattle.txc_rows.specs.Kept.{latest_in, versions_of, HasWritten}
 use Rattle.txc_rows.proofs.ChangeSteps.{removed_all}

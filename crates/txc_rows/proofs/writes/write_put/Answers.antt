@@ -1,4 +1,4 @@
-use Rattle.std.proofs.Common.{◌≡◌, ◌≤◌, map, filter, length, cond, false, is_none, ◌∙◌, rules}
+use Rattle.std.proofs.Common.{◌≡◌, map, filter, length, cond, false, is_none, ◌∙◌, rules}
 use Rattle.std.specs.Prelude.{option_to_list}
 use Rattle.std.specs.List.Sorted.{IsPermutation}
 use Rattle.txc_rows.specs.Placed.{in_group, is_touched, closed_placed}

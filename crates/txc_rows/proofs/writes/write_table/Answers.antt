@@ -1,4 +1,4 @@
-use Rattle.std.proofs.Common.{◌≡◌, ℕ, true, List, ◌+◌, ◌++◌, ◌∷◌, drop, length, sym, subst, ap, ◌∙◌, rules, refl, Ok, Err, arith}
+use Rattle.std.proofs.Common.{◌≡◌, ℕ, List, ◌+◌, ◌++◌, ◌∷◌, drop, length, sym, subst, ap, ◌∙◌, rules, refl, Ok, Err, arith}
 use Rattle.std.proofs.lemmas.Result.{err_from_is_err_and}
 use Rattle.std.proofs.lemmas.List.{drop_all, at_drop_more}
 use Rattle.sqlite.specs.Effect.{Database}

@@ -1,9 +1,9 @@
-use Rattle.std.proofs.Common.{◌≡◌, ◌≤◌, ◌<◌, ◌+◌, ◌++◌, ◌∷◌, [], length, ap, sym, subst, ◌∙◌, arith, rules}
+use Rattle.std.proofs.Common.{◌≡◌, ◌<◌, ◌+◌, ◌∷◌, length, ap, subst, ◌∙◌, arith, rules}
 use Rattle.std.specs.List.Sorted.{IsPermutation}
 use Rattle.std.proofs.lemmas.List.Sorted.{IsPermutation-trans}
 use Rattle.txc_rows.specs.declared.replaced.Spot.{Spot}
-use Rattle.txc_rows.specs.Indexed.{id_of, group_of, spot_of, spots_from, AreIndexed}
-use Rattle.txc_rows.proofs.IndexLemmas.{Drops, all_numbered, one_added}
+use Rattle.txc_rows.specs.Indexed.{id_of, group_of, spot_of}
+use Rattle.txc_rows.proofs.IndexLemmas.{all_numbered, one_added}
 use Rattle.txc_rows.proofs.replaced.Replaced.add.Goals as goal
 
 pub add_spot-requires : goal.add_spot-requires

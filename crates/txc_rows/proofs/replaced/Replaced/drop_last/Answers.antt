@@ -1,5 +1,4 @@
-use Rattle.std.proofs.Common.{◌≡◌, ◌+◌, ◌++◌, ◌∷◌, [], length, ap, sym, subst, ◌∙◌, arith, rules}
-use Rattle.txc_rows.specs.declared.replaced.Spot.{Spot}
+use Rattle.std.proofs.Common.{◌≡◌, ◌+◌, ◌++◌, ◌∷◌, [], length, ap, subst, ◌∙◌, rules}
 use Rattle.txc_rows.specs.Indexed.{id_of, group_of, spot_of, AreIndexed}
 use Rattle.txc_rows.proofs.IndexLemmas.{Drops, last_dropped}
 use Rattle.txc_rows.proofs.replaced.Replaced.drop_last.Goals as goal

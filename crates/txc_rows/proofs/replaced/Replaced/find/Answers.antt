@@ -1,7 +1,3 @@
-use Rattle.std.proofs.Common.{◌≡◌, Ok, Err, Result, List, OnOk, subst, sym, ap, ◌∙◌}
-use Rattle.std.specs.List.{AllByRecursion}
-use Rattle.txc_rows.specs.Holdable.{IsStorable}
-use Rattle.txc_rows.specs.Kept.{IsFinding}
 use Rattle.txc_rows.proofs.IndexLemmas.{ids_fit, groups_fit, spots_suit, index_finds, index_many, both_ok}
 use Rattle.txc_rows.proofs.replaced.Replaced.find.Goals as goal
 

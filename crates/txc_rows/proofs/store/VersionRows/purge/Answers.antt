@@ -2,8 +2,8 @@ use Rattle.std.proofs.Common.{◌≡◌, ◌+◌, max, Ok, sym, ap, subst, ◌�
 use Rattle.std.proofs.lemmas.Result.{err_from_is_err_and}
 use Rattle.txc_rows.specs.Versions.{purged}
 use Rattle.txc_rows.specs.Keeping.{KeepsPurged}
-use Rattle.txc_rows.specs.Placed.{left_from, without_front_dead, AreSwept}
-use Rattle.txc_rows.specs.Kept.{latest_in, versions_of, IsCall, IsStore}
+use Rattle.txc_rows.specs.Placed.{AreSwept}
+use Rattle.txc_rows.specs.Kept.{latest_in, IsCall}
 use Rattle.txc_rows.proofs.KeepingLemmas.{keeps_purged}
 use Rattle.txc_rows.proofs.StoreLemmas.{still_store, same_view, purged_store}
 use Rattle.txc_rows.proofs.store.VersionRows.purge.Goals as goal
