@@ -17,7 +17,8 @@ use Rattle.txc_rows.specs.declared.texts.TheConstants.{MOST_READ}
 use Rattle.txc_rows.specs.States.{query_table}
 use Rattle.txc_rows.specs.Versions.{suits}
 use Rattle.txc_rows.specs.Holdable.{IsStorable}
-use Rattle.txc_rows.specs.Placed.{Placed, version_of, is_left, left_from}
+use Rattle.txc_rows.specs.declared.placed.Placed.{Placed}
+use Rattle.txc_rows.specs.Placed.{version_of, is_left, left_from}
 use Rattle.txc_rows.specs.Kept.{IsShown, IsListing}
 use Rattle.txc_rows.specs.Texts.{latest_schema}
 use Rattle.txc_rows.specs.Stored.{stored, placed_in, placed_all, queried_columns, version_shown, IsStored, AreVersionRows}

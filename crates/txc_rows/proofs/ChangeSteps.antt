@@ -14,7 +14,8 @@ use Rattle.txc_stamp.specs.declared.stamp.TheConstants.{LAST_STAMP}
 use Rattle.txc_rows.specs.Values.{RowValue, IsRow}
 use Rattle.txc_rows.specs.States.{is_at}
 use Rattle.txc_rows.specs.Versions.{is_current, removed, put}
-use Rattle.txc_rows.specs.Placed.{Placed, versions_by_place, in_group, is_touched, has_key, closed_placed, new_placed, renewed, put_latest, put_replaced, HaveOwnKeys, AreBelow, AreWellPlaced, AreAll, IsLonger}
+use Rattle.txc_rows.specs.declared.placed.Placed.{Placed}
+use Rattle.txc_rows.specs.Placed.{versions_by_place, in_group, is_touched, has_key, closed_placed, new_placed, renewed, put_latest, put_replaced, HaveOwnKeys, AreBelow, AreWellPlaced, AreAll, AddsAtEnd}
 use Rattle.txc_rows.specs.Kept.{latest_in, versions_of, HasLatest, HasWritten, IsStep}
 use Rattle.txc_rows.proofs.Members.{both_true, and_true}
 use Rattle.txc_rows.proofs.WriteLemmas.{no_permutation}
@@ -226,14 +227,14 @@ then_step L M old mid end (Err e) weaker base step = record { leaves = tt; insid
 
 -- ---- more replaced versions
 
-pub longer_itself : (xs : List Placed) → IsLonger xs xs
+pub longer_itself : (xs : List Placed) → AddsAtEnd xs xs
 longer_itself xs = record { more = []; are = sym (append-nil xs) }
 
-pub longer_then : (xs ys zs : List Placed) → IsLonger xs ys → IsLonger ys zs → IsLonger xs zs
+pub longer_then : (xs ys zs : List Placed) → AddsAtEnd xs ys → AddsAtEnd ys zs → AddsAtEnd xs zs
 longer_then xs ys zs a b = record { more = a.more ++ b.more; are = b.are ∙ ap (λ vs. vs ++ b.more) a.are ∙ append_assoc xs a.more b.more }
 
 -- those that were added are taken back
-pub taken_back : (xs ys : List Placed) → IsLonger xs ys → take (length xs) ys ≡ xs
+pub taken_back : (xs ys : List Placed) → AddsAtEnd xs ys → take (length xs) ys ≡ xs
 taken_back xs ys h = ap (take (length xs)) h.are ∙ front xs h.more
   where
     front : (us vs : List Placed) → take (length us) (us ++ vs) ≡ us

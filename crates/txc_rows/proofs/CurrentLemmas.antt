@@ -14,7 +14,8 @@ use Rattle.txc_rows.specs.declared.store_error.StoreError.{StoreError}
 use Rattle.txc_rows.specs.declared.version.Versioned.{Versioned}
 use Rattle.txc_rows.specs.declared.query.Query.{Query}
 use Rattle.txc_rows.specs.Versions.{suits, current, is_current, purged, died_by}
-use Rattle.txc_rows.specs.Placed.{Placed, version_of, is_left, left_from}
+use Rattle.txc_rows.specs.declared.placed.Placed.{Placed}
+use Rattle.txc_rows.specs.Placed.{version_of, is_left, left_from}
 use Rattle.txc_rows.specs.Found.{Finds}
 use Rattle.txc_rows.specs.Says.{AreUpTo}
 use Rattle.txc_rows.specs.Keeping.{AnswersNewest}

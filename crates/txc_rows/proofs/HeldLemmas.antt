@@ -19,7 +19,8 @@ use borrow.Author.Tests.{eqb-true}
 use Rattle.txc_rows.specs.declared.query.Query.{Query}
 use Rattle.txc_rows.specs.declared.texts.TheConstants.{MOST_READ, READ_LAST, READ_LEFT}
 use Rattle.txc_rows.specs.Holdable.{IsStorable}
-use Rattle.txc_rows.specs.Placed.{Placed, is_left, placed_left, is_touched}
+use Rattle.txc_rows.specs.declared.placed.Placed.{Placed}
+use Rattle.txc_rows.specs.Placed.{is_left, placed_left, is_touched}
 use Rattle.txc_rows.specs.Stored.{stored, cells_of, number, placed_all, AreVersionRows}
 use Rattle.txc_rows.specs.Kept.{latest_in, HasTable, HasLatest, IsKept, IsStep, IsCall, IsSame, IsReading, IsLeaving, AreTouched}
 use Rattle.txc_rows.proofs.Members.{both_true}

@@ -22,7 +22,7 @@ use Rattle.txc_rows.specs.declared.store_error.TheConstants.{MAX_MATCHING}
 use Rattle.txc_rows.specs.Versions.{suits}
 use Rattle.txc_rows.specs.Holdable.{IsStorable}
 use Rattle.txc_rows.specs.Placed.{version_of, is_left, placed_left}
-use Rattle.txc_rows.specs.Indexed.{id_of, group_of, spot_of, spots_from, FitsSpot, AreIndexed, is_between, spot_suits, spots_asked, picked}
+use Rattle.txc_rows.specs.Indexed.{version_id, version_group, spot_of, spots_from, FitsSpot, AreIndexed, is_between, spot_suits, spots_asked, picked}
 use Rattle.txc_rows.specs.Kept.{IsFinding}
 use Rattle.txc_rows.proofs.FindLemmas.{asked}
 
@@ -161,34 +161,30 @@ pub all_numbered : (key : Placed → ℕ) (first m : ℕ) (xs : List Placed) (sp
 all_numbered key first m xs spots low same = all-permutation (λ s. s.number ≢ m) _ _ same (spots_before key first m xs low)
 
 module _ (first : ℕ) (x : Placed) (xs : List Placed) (ids groups ids_then groups_then : List Spot) where
-  pub one_added : AreIndexed first xs ids groups → first + length xs + 1 < 2 ^ 64 → IsPermutation (spot_of id_of (first + length xs) x ∷ ids) ids_then → IsPermutation (spot_of group_of (first + length xs) x ∷ groups) groups_then
+  pub one_added : AreIndexed first xs ids groups → first + length xs + 1 < 2 ^ 64 → IsPermutation (spot_of version_id (first + length xs) x ∷ ids) ids_then → IsPermutation (spot_of version_group (first + length xs) x ∷ groups) groups_then
       → AreIndexed first (xs ++ x ∷ []) ids_then groups_then
   one_added h fits id group = record {
     fits = omega (arith, fits, length-append xs (x ∷ []));
-    by_id = more id_of ids ids_then h.by_id id;
-    by_group = more group_of groups groups_then h.by_group group;
+    by_id = more version_id ids ids_then h.by_id id;
+    by_group = more version_group groups groups_then h.by_group group;
   }
     where
       more : (key : Placed → ℕ) (old new : List Spot) → IsPermutation (spots_from key first xs) old → IsPermutation (spot_of key (first + length xs) x ∷ old) new → IsPermutation (spots_from key first (xs ++ x ∷ [])) new
       more key old new same added = IsPermutation-trans _ _ _ (IsPermutation-sym _ _ (spots_last key first xs x)) (IsPermutation-trans _ _ _ (IsPermutation-cons _ _ _ same) added)
 
-  pub first_dropped : AreIndexed first (x ∷ xs) ids groups → Drops (spot_of id_of first x) ids ids_then → Drops (spot_of group_of first x) groups groups_then → AreIndexed (first + 1) xs ids_then groups_then
+  pub first_dropped : AreIndexed first (x ∷ xs) ids groups → Drops (spot_of version_id first x) ids ids_then → Drops (spot_of version_group first x) groups groups_then → AreIndexed (first + 1) xs ids_then groups_then
   first_dropped h id group = record {
     fits = omega (arith, h.fits);
-    by_id = id (spots_from id_of (first + 1) xs) (spots_after id_of (first + 1) first xs (omega arith)) h.by_id;
-    by_group = group (spots_from group_of (first + 1) xs) (spots_after group_of (first + 1) first xs (omega arith)) h.by_group;
+    by_id = id (spots_from version_id (first + 1) xs) (spots_after version_id (first + 1) first xs (omega arith)) h.by_id;
+    by_group = group (spots_from version_group (first + 1) xs) (spots_after version_group (first + 1) first xs (omega arith)) h.by_group;
   }
 
-  pub last_dropped : AreIndexed first (xs ++ x ∷ []) ids groups → Drops (spot_of id_of (first + length xs) x) ids ids_then → Drops (spot_of group_of (first + length xs) x) groups groups_then → AreIndexed first xs ids_then groups_then
+  pub last_dropped : AreIndexed first (xs ++ x ∷ []) ids groups → Drops (spot_of version_id (first + length xs) x) ids ids_then → Drops (spot_of version_group (first + length xs) x) groups groups_then → AreIndexed first xs ids_then groups_then
   last_dropped h id group = record {
     fits = omega (arith, h.fits, length-append xs (x ∷ []));
-    by_id = id (spots_from id_of first xs) (spots_before id_of first (first + length xs) xs (omega arith)) (IsPermutation-trans _ _ _ (spots_last id_of first xs x) h.by_id);
-    by_group = group (spots_from group_of first xs) (spots_before group_of first (first + length xs) xs (omega arith)) (IsPermutation-trans _ _ _ (spots_last group_of first xs x) h.by_group);
+    by_id = id (spots_from version_id first xs) (spots_before version_id first (first + length xs) xs (omega arith)) (IsPermutation-trans _ _ _ (spots_last version_id first xs x) h.by_id);
+    by_group = group (spots_from version_group first xs) (spots_before version_group first (first + length xs) xs (omega arith)) (IsPermutation-trans _ _ _ (spots_last version_group first xs x) h.by_group);
   }
-
--- the spot that was added is dropped again
-pub dropped_again : (s : Spot) (old mid new : List Spot) → AllByRecursion (λ t. t.number ≢ s.number) old → IsPermutation (s ∷ old) mid → Drops s mid new → IsPermutation old new
-dropped_again s old mid new off added drops = drops old off added
 
 -- ---- spots between two
 
@@ -246,10 +242,10 @@ asked_spots q first xs ids groups h = go q
         subst (λ ys. IsPermutation ys (picked first xs (filter p spots))) all (IsPermutation-flat_map _ _ _ (IsPermutation-filter p _ _ same))
 
     go : (r : Query) → IsPermutation (filter (λ x. suits r x.version) xs) (picked first xs (filter (spot_suits r) (spots_asked r ids groups)))
-    go (ById t i) = by id_of _ _ ids h.by_id (λ n x. between_one t i x.version.row.table x.version.row.id)
-    go (ByGroup t g) = by group_of _ _ groups h.by_group (λ n x. between_one t g x.version.row.table x.version.row.group)
-    go (All t) = by id_of _ _ ids h.by_id (λ n x. refl)
-    go (Range t a b) = by id_of _ _ ids h.by_id (λ n x. refl)
+    go (ById t i) = by version_id _ _ ids h.by_id (λ n x. between_one t i x.version.row.table x.version.row.id)
+    go (ByGroup t g) = by version_group _ _ groups h.by_group (λ n x. between_one t g x.version.row.table x.version.row.group)
+    go (All t) = by version_id _ _ ids h.by_id (λ n x. refl)
+    go (Range t a b) = by version_id _ _ ids h.by_id (λ n x. refl)
 
 left_asked : (q : Query) (from : ℕ) (xs : List Placed) → map version_of (placed_left from (filter (λ x. suits q x.version) xs)) ≡ asked q from xs
 left_asked q from [] = refl
@@ -283,23 +279,23 @@ module _ (q : Query) (from first : ℕ) (xs : List Placed) (ids groups : List Sp
       high key spots same = all-permutation (λ s. first ≤ s.number) _ spots same (spots_high key first first xs (omega arith))
 
       go : (r : Query) → AllByRecursion (λ s. first ≤ s.number) (spots_asked r ids groups)
-      go (ById t i) = high id_of ids h.by_id
-      go (ByGroup t g) = high group_of groups h.by_group
-      go (All t) = high id_of ids h.by_id
-      go (Range t a b) = high id_of ids h.by_id
+      go (ById t i) = high version_id ids h.by_id
+      go (ByGroup t g) = high version_group groups h.by_group
+      go (All t) = high version_id ids h.by_id
+      go (Range t a b) = high version_id ids h.by_id
 
 -- the ids and the groups are numbers of a machine
 pub ids_fit : (first : ℕ) (xs : List Placed) (ids groups : List Spot) → AreIndexed first xs ids groups → AllByRecursion (λ x. IsStorable x.version) xs → AllByRecursion FitsSpot ids
-ids_fit first xs ids groups h each = all-permutation FitsSpot _ ids h.by_id (spots_fit id_of first xs (low xs each) h.fits)
+ids_fit first xs ids groups h each = all-permutation FitsSpot _ ids h.by_id (spots_fit version_id first xs (low xs each) h.fits)
   where
-    low : (ys : List Placed) → AllByRecursion (λ x. IsStorable x.version) ys → AllByRecursion (λ x. id_of x ≤ 4294967295) ys
+    low : (ys : List Placed) → AllByRecursion (λ x. IsStorable x.version) ys → AllByRecursion (λ x. version_id x ≤ 4294967295) ys
     low [] all = tt
     low (y ∷ ys) all = (all.0.row.id, low ys all.1)
 
 pub groups_fit : (first : ℕ) (xs : List Placed) (ids groups : List Spot) → AreIndexed first xs ids groups → AllByRecursion (λ x. IsStorable x.version) xs → AllByRecursion FitsSpot groups
-groups_fit first xs ids groups h each = all-permutation FitsSpot _ groups h.by_group (spots_fit group_of first xs (low xs each) h.fits)
+groups_fit first xs ids groups h each = all-permutation FitsSpot _ groups h.by_group (spots_fit version_group first xs (low xs each) h.fits)
   where
-    low : (ys : List Placed) → AllByRecursion (λ x. IsStorable x.version) ys → AllByRecursion (λ x. group_of x ≤ 4294967295) ys
+    low : (ys : List Placed) → AllByRecursion (λ x. IsStorable x.version) ys → AllByRecursion (λ x. version_group x ≤ 4294967295) ys
     low [] all = tt
     low (y ∷ ys) all = (all.0.row.group, low ys all.1)
 
@@ -316,9 +312,6 @@ module _ (from first : ℕ) (xs : List Placed) (s : Spot) (ss : List Spot) where
 
   pub taken_left : (x : Placed) → slice_get xs (s.number - first) ≡ Some x → is_left from x.version ≡ true → taken (s ∷ ss) ≡ x.version ∷ taken ss
   taken_left x e f = rw (e, f) refl
-
-  pub taken_dead : (x : Placed) → slice_get xs (s.number - first) ≡ Some x → is_left from x.version ≡ false → taken (s ∷ ss) ≡ taken ss
-  taken_dead x e f = rw (e, f) refl
 
 pub not_false : (b : Bool) → not b ≡ false → b ≡ true
 not_false true e = refl

@@ -14,7 +14,7 @@ use Rattle.sqlite.specs.State.{State, Shown}
 use Rattle.sqlite.proofs.Callers.{reads_as}
 use Rattle.sqlite_trees.proofs.ListLemmas.{map-map, filter-map, all-permutation}
 use Rattle.txc_rows.specs.Holdable.{IsStorable}
-use Rattle.txc_rows.specs.Placed.{Placed}
+use Rattle.txc_rows.specs.declared.placed.Placed.{Placed}
 use Rattle.txc_rows.specs.Texts.{latest_schema}
 use Rattle.txc_rows.specs.Stored.{stored, cells_of, placed_in, placed_all, placed_from, IsStored, AreVersionRows, AreCells}
 use Rattle.txc_rows.specs.Kept.{IsPlacedRow}

@@ -13,7 +13,8 @@ use Rattle.txc_rows.specs.Values.{RowValue, IsRow}
 use Rattle.txc_rows.specs.States.{is_at}
 use Rattle.txc_rows.specs.Versions.{is_current, closed, removed}
 use Rattle.txc_rows.specs.Holdable.{IsStorable}
-use Rattle.txc_rows.specs.Placed.{Placed, version_of, by_place, versions_by_place, has_key, closed_placed, new_placed, renewed, put_latest, put_replaced, HaveOwnPlaces, HaveOwnKeys, AreBelow, IsOneCurrent, AreWellPlaced, AreWritten}
+use Rattle.txc_rows.specs.declared.placed.Placed.{Placed}
+use Rattle.txc_rows.specs.Placed.{version_of, by_place, versions_by_place, has_key, closed_placed, new_placed, renewed, put_latest, put_replaced, HaveOwnPlaces, HaveOwnKeys, AreBelow, IsOneCurrent, AreWellPlaced, AreWritten}
 use Rattle.txc_rows.proofs.Members.{bool_cases, both_true, and_true}
 use Rattle.txc_rows.proofs.StoredVersions.{hit_is, holdable_closed, closed_dead}
 use Rattle.txc_rows.proofs.PlaceLemmas.{pairs_permuted, by_place_same, by_place_mapped, by_place_last, own_places_permuted}

@@ -25,7 +25,7 @@ use Rattle.sqlite.specs.Listing.{understood}
 use Rattle.sqlite.specs.Effect.{Database, Answers, IsSource}
 use Rattle.sqlite.specs.State.{State, Writes, Executes}
 use Rattle.sqlite.proofs.Callers.{command_of, statement_of, runs_as, one_step, IsPlain}
-use Rattle.txc_rows.specs.Placed.{Placed}
+use Rattle.txc_rows.specs.declared.placed.Placed.{Placed}
 use Rattle.txc_rows.specs.Texts.{latest_table, latest_schema}
 use Rattle.txc_rows.specs.Stored.{stored, cells_of}
 

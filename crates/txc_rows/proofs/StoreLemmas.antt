@@ -9,7 +9,8 @@ use Rattle.sqlite_trees.specs.declared.memory.MemStore.{MemStore}
 use Rattle.txc_rows.specs.declared.query.Change.{Change}
 use Rattle.txc_rows.specs.Versions.{after_net, purged}
 use Rattle.txc_rows.specs.Holdable.{IsStorable}
-use Rattle.txc_rows.specs.Placed.{Placed, versions_by_place, left_from, placed_left, without_front_dead, AreBelow, AreWellPlaced, AreAll, AreSwept}
+use Rattle.txc_rows.specs.declared.placed.Placed.{Placed}
+use Rattle.txc_rows.specs.Placed.{versions_by_place, left_from, placed_left, without_front_dead, AreBelow, AreWellPlaced, AreAll, AreSwept}
 use Rattle.txc_rows.specs.Kept.{latest_in, versions_of, IsKept, IsCall, IsRoom, IsStore}
 use Rattle.txc_rows.proofs.HeldLemmas.{latest_by}
 use Rattle.txc_rows.proofs.SweepLemmas.{both_below, both_apart, left_alone, none_hidden, dropped_each, dropped_apart, dropped_same, purged_left}
@@ -36,12 +37,6 @@ module _ (replaced : List Placed) (old new : Held MemStore) (same : (state over_
 
 -- ---- room for a write
 
-pub room_itself : (from stamp next : ℕ) (replaced : List Placed) (h : Held MemStore) → from ≤ stamp → IsStore next replaced h → IsRoom from stamp next replaced h replaced h (Ok from)
-room_itself from stamp next replaced h low store = record { store = store; low = low; shown = refl; unchanged = tt }
-
-pub room_unchanged : (from stamp next : ℕ) (replaced : List Placed) (h : Held MemStore) (e : Error) → IsStore next replaced h → IsRoom from stamp next replaced h replaced h (Err e)
-room_unchanged from stamp next replaced h e store = record { store = store; low = tt; shown = tt; unchanged = refl }
-
 module _ (from stamp next : ℕ) (before : List Placed) (old new : Held MemStore) (was : IsStore next before old) where
   pub room_refused : {X : Type 0} (L : List Placed → Type 0) (e f : Error) → IsCall {X = X} L old new (Err e) → IsRoom from stamp next before old before new (Err f)
   room_refused L e f call = record { store = still_store before old new call.unchanged next was call.kept; low = tt; shown = tt; unchanged = same_view before old new call.unchanged from }
@@ -57,17 +52,6 @@ module _ (from stamp next : ℕ) (before : List Placed) (old new : Held MemStore
     shown = none_hidden (versions_of left new) ∙ left_alone from (latest_in old) before (latest_in new) left call.leaves are was.apart;
     unchanged = tt;
   }
-
--- ---- a sweep
-
-pub nothing_swept : (from : ℕ) (h : Held MemStore) → IsKept h → IsCall {X = Unit {0}} (AreSwept from (latest_in h)) h h (Ok tt)
-nothing_swept from h kept = record { kept = kept; leaves = inl refl; unchanged = tt }
-
-pub all_swept : {X Y : Type 0} (from : ℕ) (old new : Held MemStore) (x : X) (y : Y) → IsCall {X = X} (IsPermutation (placed_left from (latest_in old))) old new (Ok x) → IsCall {X = Y} (AreSwept from (latest_in old)) old new (Ok y)
-all_swept from old new x y call = record { kept = call.kept; leaves = inr call.leaves; unchanged = tt }
-
-pub none_swept : {X Y : Type 0} (L M : List Placed → Type 0) (old new : Held MemStore) (e f : Error) → IsCall {X = X} L old new (Err e) → IsCall {X = Y} M old new (Err f)
-none_swept L M old new e f call = record { kept = call.kept; leaves = tt; unchanged = call.unchanged }
 
 -- ---- a purge
 

@@ -21,7 +21,8 @@ use Rattle.sqlite_value.proofs.OrderLemmas.{value_cmp-Int, value_cmp-apart, valu
 use Rattle.txc_rows.specs.declared.version.Versioned.{Versioned}
 use Rattle.txc_rows.specs.States.{is_at}
 use Rattle.txc_rows.specs.Versions.{suits, is_current}
-use Rattle.txc_rows.specs.Placed.{Placed, lasts_to, is_left, is_touched, has_key}
+use Rattle.txc_rows.specs.declared.placed.Placed.{Placed}
+use Rattle.txc_rows.specs.Placed.{lasts_to, is_left, is_touched, has_key}
 use Rattle.txc_rows.specs.declared.query.Query.{Query}
 use Rattle.txc_rows.specs.declared.query.Query.TheVariants.{ById, ByGroup, All, Range}
 use Rattle.txc_rows.specs.Stored.{stored, cells_of, number, death, IsStored, death_in, placed_in, placed_from, queried_columns, version_shown}

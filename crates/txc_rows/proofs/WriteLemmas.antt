@@ -26,7 +26,8 @@ use Rattle.std.specs.declared.cmp.Ordering.TheVariants.{Less}
 use Rattle.txc_rows.specs.Values.{RowValue}
 use Rattle.txc_rows.specs.States.{is_at}
 use Rattle.txc_rows.specs.Versions.{is_current}
-use Rattle.txc_rows.specs.Placed.{Placed, has_key, closed_placed, renewed}
+use Rattle.txc_rows.specs.declared.placed.Placed.{Placed}
+use Rattle.txc_rows.specs.Placed.{has_key, closed_placed, renewed}
 use Rattle.txc_rows.specs.Stored.{stored, cells_of, number, placed_in, placed_all, IsStored, AreVersionRows}
 use Rattle.txc_rows.specs.declared.texts.TheConstants.{ADD_LATEST, END_VERSION, RENEW_LATEST}
 use Rattle.txc_rows.proofs.Commands.{whole, endless, alone, terms, add_latest_is, add_latest_plain, close_filter, close_project, close_is, close_plain, key_filter, renew_project, renew_is, renew_plain}

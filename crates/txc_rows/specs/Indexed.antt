@@ -8,12 +8,12 @@ use Rattle.txc_rows.specs.declared.query.Query.TheVariants.{ById, ByGroup, All, 
 use Rattle.txc_rows.specs.declared.replaced.Spot.{Spot}
 
 -- the id of a version
-abbrev pub id_of : Placed → ℕ
-id_of x = x.version.row.id
+abbrev pub version_id : Placed → ℕ
+version_id x = x.version.row.id
 
 -- its group
-abbrev pub group_of : Placed → ℕ
-group_of x = x.version.row.group
+abbrev pub version_group : Placed → ℕ
+version_group x = x.version.row.group
 
 -- the spot of a version by its id or its group, and by its number
 abbrev pub spot_of : (Placed → ℕ) → ℕ → Placed → Spot
@@ -31,8 +31,8 @@ FitsSpot s = (s.key < 2 ^ 32) × (s.number < 2 ^ 64)
 -- both sets have the spots of all versions
 pub record AreIndexed (first : ℕ) (versions : List Placed) (ids groups : List Spot) : Type 0 where
   pub fits : first + length versions < 2 ^ 64
-  pub by_id : IsPermutation (spots_from id_of first versions) ids
-  pub by_group : IsPermutation (spots_from group_of first versions) groups
+  pub by_id : IsPermutation (spots_from version_id first versions) ids
+  pub by_group : IsPermutation (spots_from version_group first versions) groups
 
 -- of the table, and with a key from the first to the last
 abbrev pub is_between : ℕ → ℕ → ℕ → Spot → Bool

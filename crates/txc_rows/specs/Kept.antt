@@ -16,7 +16,8 @@ use Rattle.txc_rows.specs.declared.store_error.TheConstants.{MAX_MATCHING}
 use Rattle.txc_rows.specs.Versions.{suits}
 use Rattle.txc_rows.specs.Holdable.{IsStorable}
 use Rattle.txc_rows.specs.Texts.{no_schema, latest_schema}
-use Rattle.txc_rows.specs.Placed.{Placed, version_of, versions_by_place, left_from, placed_left, is_touched, AreBelow, AreWellPlaced, AreAll}
+use Rattle.txc_rows.specs.declared.placed.Placed.{Placed}
+use Rattle.txc_rows.specs.Placed.{version_of, versions_by_place, left_from, placed_left, is_touched, AreBelow, AreWellPlaced, AreAll}
 use Rattle.txc_rows.specs.Stored.{placed_all, placed_from, AreVersionRows, AreCells, queried_columns, version_shown}
 
 -- the last versions of each table, id and group, as the transaction sees them

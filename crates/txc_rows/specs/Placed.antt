@@ -3,7 +3,7 @@ use Rattle.std.specs.Prelude.{◌≡◌, ◌≢◌, ◌⊎◌, ◌<◌, ℕ, Boo
 use Rattle.std.specs.List.Sorted.{IsPermutation}
 use Rattle.std.specs.List.{AllByRecursion}
 use Rattle.sqlite.specs.Tree.{IsAscending}
-pub use Rattle.txc_rows.specs.declared.placed.Placed.{Placed}
+use Rattle.txc_rows.specs.declared.placed.Placed.{Placed}
 use Rattle.txc_rows.specs.declared.version.Versioned.{Versioned}
 use Rattle.txc_rows.specs.Versions.{is_current, closed}
 use Rattle.txc_rows.specs.States.{RowValue, is_at}
@@ -128,6 +128,6 @@ abbrev pub AreSwept : ℕ → List Placed → List Placed → Type 0
 AreSwept from old new = (new ≡ old) ⊎ IsPermutation (placed_left from old) new
 
 -- more were added at the end
-pub record IsLonger (old new : List Placed) : Type 0 where
+pub record AddsAtEnd (old new : List Placed) : Type 0 where
   pub more : List Placed
   pub are : new ≡ old ++ more

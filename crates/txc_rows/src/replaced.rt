@@ -7,7 +7,7 @@ ghost use Rattle.txc_rows.specs.declared.store_error.TheConstants.{MAX_MATCHING}
 ghost use Rattle.txc_rows.specs.Versions.{suits};
 ghost use Rattle.txc_rows.specs.Holdable.{IsStorable};
 ghost use Rattle.txc_rows.specs.Placed.{version_of, lasts_to, left_from, placed_left, has_front_died, without_front_dead};
-ghost use Rattle.txc_rows.specs.Indexed.{id_of, group_of, spot_of, FitsSpot, picked, is_between, spot_suits, spots_asked};
+ghost use Rattle.txc_rows.specs.Indexed.{version_id, version_group, spot_of, FitsSpot, picked, is_between, spot_suits, spots_asked};
 ghost use Rattle.txc_rows.specs.Kept.{IsFinding};
 
 use crate::placed::Placed;
@@ -54,7 +54,7 @@ impl Model for Replaced {
 // ---- spots
 
 fn spot_by_id(placed: &Placed, number: usize) -> Spot
-    ensures { result ≡ spot_of id_of number placed.now }
+    ensures { result ≡ spot_of version_id number placed.now }
 {
     let row = &placed.version.row;
     Spot {
@@ -65,7 +65,7 @@ fn spot_by_id(placed: &Placed, number: usize) -> Spot
 }
 
 fn spot_by_group(placed: &Placed, number: usize) -> Spot
-    ensures { result ≡ spot_of group_of number placed.now }
+    ensures { result ≡ spot_of version_group number placed.now }
 {
     let row = &placed.version.row;
     Spot {

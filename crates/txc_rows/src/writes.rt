@@ -7,7 +7,7 @@ ghost use Rattle.txc_stamp.specs.declared.stamp.TheConstants.{LAST_STAMP};
 ghost use Rattle.txc_rows.specs.Values.{IsRow};
 ghost use Rattle.txc_rows.specs.Versions.{put, after_write, after_net};
 ghost use Rattle.txc_rows.specs.Holdable.{IsStorable};
-ghost use Rattle.txc_rows.specs.Placed.{in_group, has_key, closed_placed, new_placed, renewed, put_latest, HaveOwnKeys, IsOneCurrent, AreBelow, AreWellPlaced, AreAll, IsLonger};
+ghost use Rattle.txc_rows.specs.Placed.{in_group, has_key, closed_placed, new_placed, renewed, put_latest, HaveOwnKeys, IsOneCurrent, AreBelow, AreWellPlaced, AreAll, AddsAtEnd};
 ghost use Rattle.txc_rows.specs.Kept.{latest_in, versions_of, HasTable, HasLatest, HasWritten, AreTouched, IsKept, IsStep, IsCall};
 
 use crate::decode::all_placed_from;
@@ -244,7 +244,7 @@ fn write_put(
     ensures step { IsStep
         (HasWritten (put row.now stamp (versions_of replaced.old tx.old.conn.now)) (place + 1) replaced.new)
         tx.old.conn.now tx.new.conn.now result }
-    ensures longer { IsLonger replaced.old replaced.new }
+    ensures longer { AddsAtEnd replaced.old replaced.new }
 {
     let rows = read_last(tx, row.table(), row.id(), row.group())?;
     let last = all_placed_from(alloc, row.table(), &rows)?;
@@ -278,7 +278,7 @@ fn write_change(
     ensures step { IsStep
         (HasWritten (after_write stamp change.now (versions_of replaced.old tx.old.conn.now)) (place + 1) replaced.new)
         tx.old.conn.now tx.new.conn.now result }
-    ensures longer { IsLonger replaced.old replaced.new }
+    ensures longer { AddsAtEnd replaced.old replaced.new }
 {
     match change {
         Change::Put(row) => write_put(tx, replaced, alloc, row, stamp, place),
@@ -309,7 +309,7 @@ fn write_table(
     ensures call { IsCall
         (AreAll (after_net stamp net.now (versions_of replaced.old conn.old)) (place + length net.now) replaced.new)
         conn.old conn.new result }
-    ensures longer { IsLonger replaced.old replaced.new }
+    ensures longer { AddsAtEnd replaced.old replaced.new }
 {
     let mut tx = conn.transaction();
     let mut written = Written::NOTHING;

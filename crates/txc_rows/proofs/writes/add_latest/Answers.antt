@@ -4,7 +4,8 @@ use Rattle.sqlite.specs.Steps.{over_memory}
 use Rattle.sqlite.specs.State.{ExecutesInside}
 use Rattle.sqlite.proofs.Callers.{memory_is_clean}
 use Rattle.txc_rows.specs.declared.texts.TheConstants.{ADD_LATEST}
-use Rattle.txc_rows.specs.Placed.{Placed, new_placed}
+use Rattle.txc_rows.specs.declared.placed.Placed.{Placed}
+use Rattle.txc_rows.specs.Placed.{new_placed}
 use Rattle.txc_rows.specs.Stored.{cells_of}
 use Rattle.txc_rows.specs.Kept.{latest_in, HasLatest}
 use Rattle.txc_rows.proofs.WriteLemmas.{adds_latest}

@@ -8,7 +8,8 @@ use Rattle.sqlite.proofs.Callers.{memory_is_clean}
 use Rattle.sqlite_trees.specs.declared.memory.MemStore.{MemStore}
 use Rattle.txc_rows.specs.Versions.{after_net}
 use Rattle.txc_rows.specs.Holdable.{IsStorable}
-use Rattle.txc_rows.specs.Placed.{Placed, versions_by_place, AreBelow, AreWellPlaced, AreAll}
+use Rattle.txc_rows.specs.declared.placed.Placed.{Placed}
+use Rattle.txc_rows.specs.Placed.{versions_by_place, AreBelow, AreWellPlaced, AreAll}
 use Rattle.txc_rows.specs.Stored.{placed_all}
 use Rattle.txc_rows.specs.Kept.{latest_in, versions_of, IsCall, IsKept, HasWritten}
 use Rattle.txc_rows.proofs.PutLemmas.{all_front}
