@@ -1,4 +1,4 @@
--- What the queries show of one table.
+-- What the queries show of the table.
 use Rattle.std.proofs.Common.{◌≡◌, ℕ, zero, suc, ℤ, Some, take, List, [], ◌∷◌, map, filter, cond, Bool, true, false, refl, sym, ap, subst, ◌∙◌}
 use Rattle.std.proofs.lemmas.List.{take-map}
 use Rattle.std.specs.List.{AllByRecursion, list_all}
@@ -17,9 +17,10 @@ use Rattle.txc_rows.specs.declared.texts.TheConstants.{MOST_READ}
 use Rattle.txc_rows.specs.States.{query_table}
 use Rattle.txc_rows.specs.Versions.{suits}
 use Rattle.txc_rows.specs.Holdable.{IsStorable}
-use Rattle.txc_rows.specs.Placed.{Placed, version_of, is_left, left_from}
+use Rattle.txc_rows.specs.declared.placed.Placed.{Placed}
+use Rattle.txc_rows.specs.Placed.{version_of, is_left, left_from}
 use Rattle.txc_rows.specs.Kept.{IsShown, IsListing}
-use Rattle.txc_rows.specs.Texts.{version_schema}
+use Rattle.txc_rows.specs.Texts.{latest_schema}
 use Rattle.txc_rows.specs.Stored.{stored, placed_in, placed_all, queried_columns, version_shown, IsStored, AreVersionRows}
 use Rattle.txc_rows.proofs.Members.{both_true}
 use Rattle.txc_rows.proofs.Commands.{alone, shown_columns, most_shown, listed, shown_names, IsListingOf}
@@ -36,36 +37,36 @@ pub record Lists (passes : Versioned → Bool) (most : ℕ) (versions : List Ver
   pub same : IsPermutation (filter passes versions) found
   pub rows_are : rows ≡ take most (map queried_columns found)
 
-module _ (tree : ℕ) (fs : List Term) (params : Row) where
+module _ (fs : List Term) (params : Row) where
   outputs : (rows : List Row) → AllByRecursion IsStored rows → (p : Row → Bool)
-      → map (λ r. output (listed tree fs) (params ∷ r ∷ [])) (filter p rows) ≡ map out (map version_of (map placed_in (filter p rows)))
+      → map (λ r. output (listed fs) (params ∷ r ∷ [])) (filter p rows) ≡ map out (map version_of (map placed_in (filter p rows)))
   outputs [] all p = refl
   outputs (r ∷ rows) all p =
-      let here : output (listed tree fs) (params ∷ r ∷ []) ≡ out (version_of (placed_in r)) = ap (λ x. output (listed tree fs) (params ∷ x ∷ [])) all.0 in
-      elim (p r) as (λ b. map (λ x. output (listed tree fs) (params ∷ x ∷ [])) (cond b (r ∷ filter p rows) (filter p rows)) ≡ map out (map version_of (map placed_in (cond b (r ∷ filter p rows) (filter p rows)))))
+      let here : output (listed fs) (params ∷ r ∷ []) ≡ out (version_of (placed_in r)) = ap (λ x. output (listed fs) (params ∷ x ∷ [])) all.0 in
+      elim (p r) as (λ b. map (λ x. output (listed fs) (params ∷ x ∷ [])) (cond b (r ∷ filter p rows) (filter p rows)) ≡ map out (map version_of (map placed_in (cond b (r ∷ filter p rows) (filter p rows)))))
       [ true ↦ rw (here, outputs rows all.1 p) refl | false ↦ outputs rows all.1 p ]
 
   passed : (P : Versioned → Bool) (table : List Row) → map version_of (map placed_in (filter (λ r. P (version_of (placed_in r))) table)) ≡ filter P (map version_of (placed_all table))
   passed P table = ap (map version_of) (sym (filter-map (λ x. P (version_of x)) placed_in table)) ∙ sym (filter-map P version_of (placed_all table))
 
   lists_page : (P : Versioned → Bool) (most : ℕ) → ((id : ℤ) (x : Placed) → list_all (holds (params ∷ stored id x ∷ [])) fs ≡ P (version_of x)) → as_count (eval most_shown (params ∷ [])) ≡ Some most
-      → (table rows : List Row) → AreVersionRows table → IsPage tree [] fs shown_columns [] most_shown params table rows → Lists P most (map version_of (placed_all table)) rows
+      → (table rows : List Row) → AreVersionRows table → IsPage fs shown_columns most_shown params table rows → Lists P most (map version_of (placed_all table)) rows
   lists_page P most test limit table rows keeps page =
       let chosen = select_stored _ (λ x. P (version_of x)) test table keeps.each in
       let moved : IsPermutation (map out (filter P (map version_of (placed_all table)))) page.ordered =
       subst (λ xs. IsPermutation xs page.ordered) (outputs table keeps.each _ ∙ ap (map out) (passed P table))
-      (subst (λ xs. IsPermutation (map (λ r. output (listed tree fs) (params ∷ r ∷ [])) xs) page.ordered) chosen page.same) in
+      (subst (λ xs. IsPermutation (map (λ r. output (listed fs) (params ∷ r ∷ [])) xs) page.ordered) chosen page.same) in
       let back = pull_back out _ page.ordered moved (filter P (map version_of (placed_all table))) refl in
       let all : map (λ (o : Output). o.1) page.ordered ≡ map queried_columns back.0 = ap (map (λ (o : Output). o.1)) back.2 ∙ map-map (λ (o : Output). o.1) out back.0 in
       record { found = back.0; same = back.1; rows_are = page.rows ∙ ap (λ n. limited n (map (λ (o : Output). o.1) page.ordered)) limit ∙ ap (take most) all }
 
   pub selects : (text : List ℕ) (P : Versioned → Bool) (most : ℕ) → ((id : ℤ) (x : Placed) → list_all (holds (params ∷ stored id x ∷ [])) fs ≡ P (version_of x)) → as_count (eval most_shown (params ∷ [])) ≡ Some most
-      → IsListingOf tree fs text → (old new : State) (rows : List Row) → overlay old.now.trees [] tree ≡ old.now.trees tree → old.now.schema ≡ version_schema → AreVersionRows (old.now.trees tree) → Shown text params old new rows
-      → Lists P most (map version_of (placed_all (old.now.trees tree))) rows
-  selects text P most test limit is old new rows own has keeps h =
-      let read = reads_as text params old new version_schema has (Select (alone (listed tree fs)) shown_names) is.command is.plain is.rows rows h in
-      let page = answered tree [] fs shown_columns [] most_shown (overlay old.now.trees []) params rows read.answer in
-      lists_page P most test limit (old.now.trees tree) rows keeps (subst (λ table. IsPage tree [] fs shown_columns [] most_shown params table rows) own page)
+      → IsListingOf fs text → (old new : State) (rows : List Row) → old.now.schema ≡ latest_schema → AreVersionRows (old.now.trees 0) → Shown text params old new rows
+      → Lists P most (map version_of (placed_all (old.now.trees 0))) rows
+  selects text P most test limit is old new rows has keeps h =
+      let read = reads_as text params old new latest_schema has (Select (alone (listed fs)) shown_names) is.command is.plain is.rows rows h in
+      let page = answered fs shown_columns most_shown (overlay old.now.trees []) params rows read.answer in
+      lists_page P most test limit (old.now.trees 0) rows keeps page
 
 -- what is shown is read back
 read_back : (t : ℕ) (vs : List Versioned) → AllByRecursion (λ v. (v.row.table ≡ t) × IsStorable v) vs → (map (version_shown t) (map queried_columns vs) ≡ vs) × AllByRecursion (IsShown t) (map queried_columns vs)

@@ -13,13 +13,13 @@ use Rattle.txc_rows.specs.declared.store_error.TheConstants.{MAX_MATCHING}
 use Rattle.txc_rows.specs.declared.store_error.StoreError.{StoreError}
 use Rattle.txc_rows.specs.declared.version.Versioned.{Versioned}
 use Rattle.txc_rows.specs.declared.query.Query.{Query}
-use Rattle.txc_rows.specs.declared.texts.Source.TheVariants.{Latest}
 use Rattle.txc_rows.specs.Versions.{suits, current, is_current, purged, died_by}
-use Rattle.txc_rows.specs.Placed.{Placed, version_of, is_left, left_from}
+use Rattle.txc_rows.specs.declared.placed.Placed.{Placed}
+use Rattle.txc_rows.specs.Placed.{version_of, is_left, left_from}
 use Rattle.txc_rows.specs.Found.{Finds}
 use Rattle.txc_rows.specs.Says.{AreUpTo}
 use Rattle.txc_rows.specs.Keeping.{AnswersNewest}
-use Rattle.txc_rows.specs.Kept.{dead_in, placed_read, versions_of, IsKept, IsFinding, AreAtMost}
+use Rattle.txc_rows.specs.Kept.{latest_in, versions_of, IsFinding}
 use Rattle.txc_rows.proofs.FindLemmas.{asked, of_all, found_latest}
 use Rattle.txc_rows.proofs.KeepingLemmas.{keeps_purged, found_answers}
 
@@ -64,21 +64,19 @@ module _ (q : Query) (from : ℕ) where
   asked_few : (xs : List Placed) → length (asked q from xs) ≤ length xs
   asked_few xs = omega (arith, filter_few (suits q) (left_from from (map version_of xs)), filter_few (is_left from) (map version_of xs), length-map xs version_of)
 
-  module _ (h : Held MemStore) (kept : IsKept h) (old found : List Versioned) (none : old ≡ []) (finding : IsFinding q from (placed_read Latest h) old found) where
-    all_of : IsPermutation (of_all q from h) (found ++ asked q from (dead_in h))
-    all_of = found_latest q from h old found none finding
+  module _ (replaced : List Placed) (h : Held MemStore) (old found : List Versioned) (none : old ≡ []) (finding : IsFinding q from (latest_in h) old found) where
+    all_of : IsPermutation (of_all q from replaced h) (found ++ asked q from replaced)
+    all_of = found_latest q from replaced h old found none finding
 
-    pub last_current : IsPermutation (filter (suits q) (current (left_from from (versions_of h)))) (current found)
-    last_current =
-        let are : current (found ++ asked q from (dead_in h)) ≡ current found
-        = filter-append is_current found (asked q from (dead_in h)) ∙ ap (λ xs. current found ++ xs) (none_current (dead_in h) kept.apart.ended) ∙ append-nil (current found) in
-        subst (IsPermutation (filter (suits q) (current (left_from from (versions_of h))))) are
-        (subst (λ xs. IsPermutation xs (current (found ++ asked q from (dead_in h)))) (filters_turned is_current (suits q) (left_from from (versions_of h))) (IsPermutation-filter is_current _ _ all_of))
+    pub last_current : AllByRecursion (λ x. x.version.died ≢ None) replaced → IsPermutation (filter (suits q) (current (left_from from (versions_of replaced h)))) (current found)
+    last_current ended =
+        let are : current (found ++ asked q from replaced) ≡ current found
+        = filter-append is_current found (asked q from replaced) ∙ ap (λ xs. current found ++ xs) (none_current replaced ended) ∙ append-nil (current found) in
+        subst (IsPermutation (filter (suits q) (current (left_from from (versions_of replaced h))))) are
+        (subst (λ xs. IsPermutation xs (current (found ++ asked q from replaced))) (filters_turned is_current (suits q) (left_from from (versions_of replaced h))) (IsPermutation-filter is_current _ _ all_of))
 
-    pub last_few : (most : ℕ) → AreAtMost most h → length found + most ≤ MAX_MATCHING → length (of_all q from h) ≤ MAX_MATCHING
-    last_few most were room =
-        let few : length (dead_in h) ≤ most = were (omega (arith, room)) in
-        omega (arith, few, room, length_permutation _ _ all_of, length-append found (asked q from (dead_in h)), asked_few (dead_in h))
+    pub last_few : length found + length replaced ≤ MAX_MATCHING → length (of_all q from replaced h) ≤ MAX_MATCHING
+    last_few room = omega (arith, room, length_permutation _ _ all_of, length-append found (asked q from replaced), asked_few replaced)
 
 -- ---- all versions
 

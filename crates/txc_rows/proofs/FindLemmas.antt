@@ -1,9 +1,9 @@
--- What is found in one table after another is what is found.
-use Rattle.std.proofs.Common.{◌≡◌, ℕ, ◌+◌, ◌-◌, ◌<◌, ◌≤◌, List, [], ◌∷◌, ◌++◌, map, filter, length, drop, get_or, Ok, Err, Result, Vec, Global, IfOk, IsErrAnd, sym, ap, subst, ◌∙◌, refl, append_assoc, append-nil, length-append, arith}
-use Rattle.std.proofs.lemmas.List.{map-append, length-map, at_drop_more}
+-- What is found of the last versions and of the replaced ones is what is found.
+use Rattle.std.proofs.Common.{◌≡◌, ℕ, ◌+◌, ◌-◌, ◌<◌, ◌≤◌, List, [], ◌++◌, map, filter, length, Ok, Err, Result, Vec, Global, IfOk, IsErrAnd, sym, ap, subst, ◌∙◌, append_assoc, length-append, arith}
+use Rattle.std.proofs.lemmas.List.{map-append, length-map}
 use Rattle.std.proofs.lemmas.List.Elements.{filter-append}
 use Rattle.std.specs.List.Sorted.{IsPermutation, IsSorted}
-use Rattle.std.proofs.lemmas.List.Sorted.{IsPermutation-refl, IsPermutation-map, IsPermutation-sym, IsPermutation-trans, IsPermutation-append_left, IsPermutation-append_right, length_permutation}
+use Rattle.std.proofs.lemmas.List.Sorted.{IsPermutation-map, IsPermutation-sym, IsPermutation-trans, IsPermutation-append_left, IsPermutation-append_right, length_permutation}
 use Rattle.sqlite_trees.proofs.ListLemmas.{IsPermutation-filter}
 use Rattle.txc_rows.specs.declared.store_error.TheConstants.{MAX_MATCHING}
 use Rattle.txc_rows.specs.declared.version.Versioned.{Versioned}
@@ -12,18 +12,14 @@ use Rattle.txc_rows.specs.Versions.{suits, version_cmp}
 use Rattle.txc_rows.specs.Found.{Finds}
 use Rattle.txc_rows.specs.Keeping.{AnswersStates}
 use Rattle.txc_rows.specs.declared.store_error.StoreError.{StoreError}
-use Rattle.txc_rows.specs.Placed.{Placed, version_of, versions_by_place, is_left, left_from}
-use Rattle.sqlite.specs.Held.{Held, state}
-use Rattle.sqlite.specs.Steps.{over_memory}
+use Rattle.txc_rows.specs.declared.placed.Placed.{Placed}
+use Rattle.txc_rows.specs.Placed.{version_of, versions_by_place, is_left, left_from}
+use Rattle.sqlite.specs.Held.{Held}
 use Rattle.sqlite.specs.Order.{Row}
-use Rattle.sqlite.specs.Tree.{Trees}
 use Rattle.sqlite_trees.specs.declared.memory.MemStore.{MemStore}
-use Rattle.txc_rows.specs.declared.texts.Segment.{Segment}
-use Rattle.txc_rows.specs.declared.texts.Source.TheVariants.{Latest, Dead}
-use Rattle.txc_rows.specs.Texts.{tree_of, segments}
 use Rattle.txc_rows.specs.States.{query_table}
-use Rattle.txc_rows.specs.Stored.{placed_all, version_shown}
-use Rattle.txc_rows.specs.Kept.{latest_in, dead_among, dead_in, placed_of, placed_read, versions_of, IsKept, IsSame, IsListing, IsFinding}
+use Rattle.txc_rows.specs.Stored.{version_shown}
+use Rattle.txc_rows.specs.Kept.{latest_in, versions_of, IsListing, IsFinding}
 use Rattle.txc_rows.proofs.PlaceLemmas.{by_place_permutes}
 use Rattle.txc_rows.proofs.KeepingLemmas.{found_answers}
 use Rattle.txc_rows.proofs.Listed.{all_shown}
@@ -55,19 +51,7 @@ module _ (q : Query) (from : ℕ) where
         let apart = ap length (asked_append here rest) ∙ length-append (asked here) (asked rest) in
         omega (arith, many, length_permutation _ _ so_far, length-append old (asked (here ++ rest)), apart)
 
--- an empty segment has nothing of the query
-pub unused_finding : (q : Query) (from : ℕ) (j : Segment) (h : Held MemStore) (found : List Versioned) → (state over_memory h).now.trees (tree_of j) ≡ [] → length found ≤ MAX_MATCHING → IsFinding q from (placed_read (Dead j) h) found found
-unused_finding q from j h found empty few = record {
-  more = [];
-  same = subst (λ (rows : List Row). IsPermutation (filter (suits q) (left_from from (map version_of (placed_all rows)))) []) (sym empty) (IsPermutation-refl []);
-  are = sym (append-nil found);
-  few = few;
-}
-
-pub same_itself : (h : Held MemStore) → IsKept h → IsSame h h
-same_itself h kept = record { kept = kept; trees = refl }
-
--- what was read of a table is found
+-- what was read of the table is found
 pub read_finding : (q : Query) (from : ℕ) (placed : List Placed) (old new : List Versioned) (rows : List Row) → IsListing q (left_from from (map version_of placed)) rows → length old ≤ MAX_MATCHING → length rows ≤ MAX_MATCHING - length old
     → new ≡ old ++ map (version_shown (query_table q)) rows → IsFinding q from placed old new
 read_finding q from placed old new rows listing room few are = record {
@@ -77,41 +61,28 @@ read_finding q from placed old new rows listing room few are = record {
   few = omega (arith, few, room, ap length are, length-append old (map (version_shown (query_table q)) rows), length-map rows (version_shown (query_table q)));
 }
 
--- ---- all tables, the last versions first
+-- ---- the last versions first, and then the replaced ones
 
-module _ (q : Query) (from : ℕ) (h : Held MemStore) where
+module _ (q : Query) (from : ℕ) (replaced : List Placed) (h : Held MemStore) where
   abbrev pub of_all : List Versioned
-  of_all = filter (suits q) (left_from from (versions_of h))
+  of_all = filter (suits q) (left_from from (versions_of replaced h))
 
-  pub found_latest : (old new : List Versioned) → old ≡ [] → IsFinding q from (placed_read Latest h) old new → IsPermutation of_all (new ++ asked q from (dead_in h))
+  pub found_latest : (old new : List Versioned) → old ≡ [] → IsFinding q from (latest_in h) old new → IsPermutation of_all (new ++ asked q from replaced)
   found_latest old new none finding =
-      found_more q from of_all [] new (latest_in h) (dead_in h) (all_asked q from (placed_of h)) (subst (λ vs. IsFinding q from (placed_read Latest h) vs new) none finding)
+      found_more q from of_all [] new (latest_in h) replaced (all_asked q from (latest_in h ++ replaced)) (subst (λ vs. IsFinding q from (latest_in h) vs new) none finding)
 
-  pub latest_many : (old : List Versioned) → old ≡ [] → MAX_MATCHING < length old + length (asked q from (placed_read Latest h)) → MAX_MATCHING < length of_all
+  pub latest_many : (old : List Versioned) → old ≡ [] → MAX_MATCHING < length old + length (asked q from (latest_in h)) → MAX_MATCHING < length of_all
   latest_many old none many =
-      found_many q from of_all [] [] (latest_in h) (dead_in h) (all_asked q from (placed_of h)) (subst (λ vs. MAX_MATCHING < length vs + length (asked q from (placed_read Latest h))) none many)
+      found_many q from of_all [] [] (latest_in h) replaced (all_asked q from (latest_in h ++ replaced)) (subst (λ vs. MAX_MATCHING < length vs + length (asked q from (latest_in h))) none many)
 
-  abbrev still_asked : List Segment → List Versioned
-  still_asked ss = asked q from (dead_among (state over_memory h).now.trees ss)
+  module _ (found : List Versioned) (so_far : IsPermutation of_all (found ++ asked q from replaced)) where
+    pub replaced_many : MAX_MATCHING < length found + length (asked q from replaced) → MAX_MATCHING < length of_all
+    replaced_many many = omega (arith, many, length_permutation _ _ so_far, length-append found (asked q from replaced))
 
-  -- of the segments from one on, that one is found
-  module _ (mid : Held MemStore) (same : IsSame h mid) (i : ℕ) (d : Segment) (low : i < length segments) (old : List Versioned) (so_far : IsPermutation of_all (old ++ still_asked (drop i segments))) where
-    apart : IsPermutation of_all (old ++ still_asked (get_or segments i d ∷ drop (i + 1) segments))
-    apart = subst (λ ss. IsPermutation of_all (old ++ still_asked ss)) (at_drop_more (λ ys. ys) segments i d low) so_far
-
-    pub found_dead : (new : List Versioned) → IsFinding q from (placed_read (Dead (get_or segments i d)) mid) old new → IsPermutation of_all (new ++ still_asked (drop (i + 1) segments))
-    found_dead new finding =
-        let here : IsFinding q from (placed_read (Dead (get_or segments i d)) h) old new = subst (λ (t : Trees). IsFinding q from (placed_all (t (tree_of (get_or segments i d)))) old new) same.trees finding in
-        found_more q from of_all old new (placed_read (Dead (get_or segments i d)) h) (dead_among (state over_memory h).now.trees (drop (i + 1) segments)) apart here
-
-    pub dead_many : MAX_MATCHING < length old + length (asked q from (placed_read (Dead (get_or segments i d)) mid)) → MAX_MATCHING < length of_all
-    dead_many many =
-        let here : MAX_MATCHING < length old + length (asked q from (placed_read (Dead (get_or segments i d)) h))
-        = subst (λ (t : Trees). MAX_MATCHING < length old + length (asked q from (placed_all (t (tree_of (get_or segments i d)))))) same.trees many in
-        found_many q from of_all old old (placed_read (Dead (get_or segments i d)) h) (dead_among (state over_memory h).now.trees (drop (i + 1) segments)) apart here
-
-  pub found_all : (found sorted : List Versioned) → IsPermutation of_all (found ++ still_asked []) → IsPermutation found sorted → IsSorted version_cmp sorted → Finds q (left_from from (versions_of h)) sorted
-  found_all found sorted so_far same sorts = record { same = IsPermutation-trans _ _ _ (subst (IsPermutation of_all) (append-nil found) so_far) same; sorted = sorts }
+    pub found_all : (all sorted : List Versioned) → IsFinding q from replaced found all → IsPermutation all sorted → IsSorted version_cmp sorted → Finds q (left_from from (versions_of replaced h)) sorted
+    found_all all sorted finding same sorts =
+        let both : IsPermutation of_all all = rw finding.are (IsPermutation-trans _ _ _ so_far (IsPermutation-append_right found _ _ finding.same)) in
+        record { same = IsPermutation-trans _ _ _ both same; sorted = sorts }
 
 -- what is found answers the query in each kept state
 pub all_answer : (q : Query) (vs : List Versioned) (r : Result (Vec Versioned Global) StoreError) → IfOk r (λ found. Finds q vs found.items) → IfOk r (λ found. AnswersStates q vs found.items)

@@ -1,11 +1,12 @@
 -- What the statements do to a connection over the tables.
-use Rattle.std.proofs.Common.{◌≡◌, ◌≢◌, inl, inr, ℕ, ℤ, List, [], ◌∷◌, ◌++◌, filter, length, Bool, true, false, cond, Some, Ok, Err, Result, OnOk, IfErr, IfOk, refl, sym, ap, subst, ◌∙◌, arith, IsTrue}
+use Rattle.std.proofs.Common.{◌≡◌, ◌⊎◌, inl, inr, ℕ, ℤ, List, [], ◌∷◌, map, filter, Bool, true, false, cond, Some, Ok, Err, Result, OnOk, IfErr, IfOk, refl, sym, ap, subst, ◌∙◌, IsTrue}
 use Rattle.std.specs.List.{AllByRecursion, list_all}
+use Rattle.std.specs.List.Sorted.{IsPermutation}
 use Rattle.sqlite.specs.Order.{Row}
 use Rattle.sqlite.specs.Term.{Term, holds, eval}
 use Rattle.sqlite.specs.Query.{as_count}
 use Rattle.sqlite.specs.declared.error.Error.{Error}
-use Rattle.sqlite.specs.State.{Executes, ExecutesInside, Shows, KeepsCounts, IsRolledBack, Shown, FailsToQuery}
+use Rattle.sqlite.specs.State.{Executes, ExecutesInside, IsTooLate, Shows, KeepsCounts, IsRolledBack, Shown, FailsToQuery}
 use Rattle.sqlite.specs.Listing.{understood}
 use Rattle.std.specs.Prelude.{Vec}
 use Rattle.std.specs.declared.alloc.Global.{Global}
@@ -14,29 +15,26 @@ use Rattle.sqlite.specs.Steps.{over_memory, FailsToCommit}
 use Rattle.sqlite.specs.Effect.{Database}
 use Rattle.sqlite.proofs.Callers.{IsPlain}
 use Rattle.sqlite_trees.specs.declared.memory.MemStore.{MemStore}
-use Rattle.txc_rows.specs.Texts.{segments, tree_of}
-use Rattle.txc_rows.specs.Readings.{tree_read, left_text}
-use Rattle.txc_rows.specs.declared.query.Query.{Query}
-use Rattle.txc_rows.specs.declared.texts.TheConstants.{MOST_READ}
-use Rattle.txc_rows.specs.declared.texts.Segment.{Segment}
-use Rattle.txc_rows.specs.declared.texts.Segment.TheVariants.{First, Second, Third, Fourth, Fifth, Sixth, Seventh}
-use Rattle.txc_rows.specs.declared.texts.Source.{Source}
-use Rattle.txc_rows.specs.declared.texts.Source.TheVariants.{Latest, Dead}
-use Rattle.txc_rows.specs.Holdable.{IsStorable}
-use Rattle.sqlite.specs.Tree.{Trees}
-use Rattle.sqlite.specs.Program.{overlay}
 use borrow.Author.Tests.{eqb-true}
-use Rattle.txc_rows.proofs.SegmentLemmas.{AreSame, at_segment, is_tree, once}
-use Rattle.txc_rows.proofs.PutLemmas.{all_front, all_back}
-use Rattle.txc_rows.proofs.Commands.{IsListingOf, most_shown, left_plain}
-use Rattle.txc_rows.proofs.LeftLemmas.{leaves_rows}
-use Rattle.txc_rows.proofs.StoredRows.{is_asked}
-use Rattle.txc_rows.specs.Placed.{Placed, AreWellPlaced}
-use Rattle.txc_rows.specs.Stored.{stored, number, placed_all, AreVersionRows}
-use Rattle.txc_rows.specs.Kept.{latest_in, dead_among, dead_in, placed_of, placed_read, AreStoredIn, HasTables, HasVersions, IsKept, IsStep, IsCall, IsSame, OthersStay, IsReading, IsLeaving}
-use Rattle.txc_rows.proofs.WriteLemmas.{Leaves, segment_rows}
+use Rattle.txc_rows.specs.declared.query.Query.{Query}
+use Rattle.txc_rows.specs.declared.texts.TheConstants.{MOST_READ, READ_LAST, READ_LEFT}
+use Rattle.txc_rows.specs.Holdable.{IsStorable}
+use Rattle.txc_rows.specs.declared.placed.Placed.{Placed}
+use Rattle.txc_rows.specs.Placed.{is_left, placed_left, is_touched}
+use Rattle.txc_rows.specs.Stored.{stored, cells_of, number, placed_all, AreVersionRows}
+use Rattle.txc_rows.specs.Kept.{latest_in, HasTable, HasLatest, IsKept, IsStep, IsCall, IsSame, IsReading, IsLeaving, AreTouched}
+use Rattle.txc_rows.proofs.Members.{both_true}
+use Rattle.txc_rows.proofs.Commands.{IsListingOf, most_shown, left_filter, touched_filter, left_is, touched_is}
+use Rattle.txc_rows.proofs.StoredRows.{is_asked, left_test_is, touched_test}
+use Rattle.txc_rows.proofs.LeftLemmas.{cells_read, cells_are, cells_each, placed_rows}
+use Rattle.txc_rows.proofs.WriteLemmas.{Leaves}
 use Rattle.txc_rows.proofs.Refusals.{Refused, query_refused, shown_same}
 use Rattle.txc_rows.proofs.Answering.{selects, listing}
+use Rattle.sqlite.specs.Tree.{Trees}
+
+-- each can be held
+abbrev pub AreStorable : List Placed → Type 0
+AreStorable = AllByRecursion (λ x. IsStorable x.version)
 
 -- ---- one statement of a transaction
 
@@ -51,49 +49,33 @@ pub steps : (sql : List ℕ) (params : Row) (L : Held MemStore → Type 0) (old 
 steps sql params L old new (Err e) h leaves = record { leaves = tt; inside = tt; base = refused_base old new sql params e h }
 steps sql params L old new (Ok count) h leaves = record { leaves = leaves count h.0; inside = h.1.mode; base = h.1.committed_is }
 
-pub has_left : {tree : ℕ} {db : Trees} (latest dead : List Placed) (h : Held MemStore) → Leaves tree db latest dead (state over_memory h) → HasVersions latest dead h
-has_left latest dead h it = record {
-  tables = record { schema = it.schema; latest = it.latest_rows; dead = it.dead_rows };
-  latest_are = it.latest_are;
-  dead_are = it.dead_are;
-}
-
--- where a statement is run, no other segment is written
-pub others_stay : (sql : List ℕ) (params : Row) (tree : ℕ) (old new : Held MemStore) (r : Result ℕ Error) → ExecutesInside 0 sql params (state over_memory old) (state over_memory new) r
-    → ((count : ℕ) → Executes sql params (state over_memory old) (state over_memory new) (Ok count) → AreSame tree (state over_memory old).now.trees (state over_memory new).now.trees segments) → OnOk r (OthersStay tree old new)
-others_stay sql params tree old new (Err e) h same = tt
-others_stay sql params tree old new (Ok count) h same = at_segment (λ s. tree_of s ≢ tree → (state over_memory new).now.trees (tree_of s) ≡ (state over_memory old).now.trees (tree_of s)) (same count h.0)
+pub has_latest : (latest : List Placed) (h : Held MemStore) → Leaves latest (state over_memory h) → HasLatest latest h
+has_latest latest h it = record { table = record { schema = it.schema; latest = it.rows }; latest_are = it.latest_are }
 
 -- ---- calls on a connection
 
-pub placed_by : (old new : Held MemStore) → (state over_memory new).now.trees ≡ (state over_memory old).now.trees → placed_of new ≡ placed_of old
-placed_by old new same = ap (λ (t : Trees). placed_all (t 0) ++ dead_among t segments) same
+pub latest_by : (old new : Held MemStore) → (state over_memory new).now.trees ≡ (state over_memory old).now.trees → latest_in new ≡ latest_in old
+latest_by old new same = ap (λ (t : Trees). placed_all (t 0)) same
 
-pub placed_same : (old new : Held MemStore) → IsSame old new → placed_of new ≡ placed_of old
-placed_same old new same = placed_by old new same.trees
+-- what is seen of the table
+pub table_by : (old new : Held MemStore) → HasTable old → (state over_memory new).now ≡ (state over_memory old).now → HasTable new
+table_by old new table now = record {
+  schema = ap (λ (d : Database). d.schema) now ∙ table.schema;
+  latest = subst (λ (d : Database). AreVersionRows (d.trees 0)) (sym now) table.latest;
+}
 
 -- what is seen is what was seen, and it is committed
-now_same : (old new : Held MemStore) → HasTables old → AreWellPlaced (latest_in old) (dead_in old) → (state over_memory new).now ≡ (state over_memory old).now → (state over_memory new).committed ≡ (state over_memory new).now → new.in_transaction ≡ false
-    → IsSame old new
-now_same old new tables apart now settled idle =
+now_same : (old new : Held MemStore) → HasTable old → AreStorable (latest_in old) → (state over_memory new).now ≡ (state over_memory old).now → (state over_memory new).committed ≡ (state over_memory new).now → new.in_transaction ≡ false → IsSame old new
+now_same old new table each now settled idle =
     let trees : (state over_memory new).now.trees ≡ (state over_memory old).now.trees = ap (λ (d : Database). d.trees) now in
     record {
-      kept = record {
-        tables = record {
-          schema = ap (λ (d : Database). d.schema) now ∙ tables.schema;
-          latest = subst (λ t. AreVersionRows (t 0)) (sym trees) tables.latest;
-          dead = subst (λ t. AreStoredIn t segments) (sym trees) tables.dead;
-        };
-        idle = idle;
-        settled = settled;
-        apart = subst (λ t. AreWellPlaced (placed_all (t 0)) (dead_among t segments)) (sym trees) apart;
-      };
+      kept = record { table = table_by old new table now; idle = idle; settled = settled; each = subst (λ (t : Trees). AreStorable (placed_all (t 0))) (sym trees) each };
       trees = trees;
     }
 
 -- what is seen and what is committed did not change
 pub kept_same : (old new : Held MemStore) → IsKept old → (state over_memory new).now ≡ (state over_memory old).now → (state over_memory new).committed ≡ (state over_memory old).committed → new.in_transaction ≡ false → IsSame old new
-kept_same old new kept now base idle = now_same old new kept.tables kept.apart now (base ∙ kept.settled ∙ sym now) idle
+kept_same old new kept now base idle = now_same old new kept.table kept.each now (base ∙ kept.settled ∙ sym now) idle
 
 pub refused_same : (old new : Held MemStore) → IsKept old → Refused (state over_memory old) (state over_memory new) → IsSame old new
 refused_same old new kept (inl same) = kept_same old new kept same.0.now_is same.0.committed_is (same.0.mode ∙ kept.idle)
@@ -116,72 +98,88 @@ undone_call old mid end kept base back =
     kept_same old end kept ((back.undone refl).0 ∙ base ∙ kept.settled) ((back.undone refl).1 ∙ base) back.autocommit
 
 -- what a commit leaves
-pub committed_kept : (mid end : Held MemStore) → HasTables mid → AreWellPlaced (latest_in mid) (dead_in mid) → end.in_transaction ≡ false
+pub committed_kept : (mid end : Held MemStore) → HasTable mid → AreStorable (latest_in mid) → end.in_transaction ≡ false
     → Shows (state over_memory mid) (state over_memory end) (state over_memory mid).now (state over_memory mid).now false → IsSame mid end
-committed_kept mid end tables apart idle shown = now_same mid end tables apart shown.now_is (shown.committed_is ∙ sym shown.now_is) idle
+committed_kept mid end table each idle shown = now_same mid end table each shown.now_is (shown.committed_is ∙ sym shown.now_is) idle
 
-pub ended_call : (L : List Placed → Type 0) (old mid end : Held MemStore) (r : Result (Unit {0}) Error) → IsKept old → HasTables mid → AreWellPlaced (latest_in mid) (dead_in mid) → L (placed_of mid)
+pub ended_call : (L : List Placed → Type 0) (old mid end : Held MemStore) (r : Result (Unit {0}) Error) → IsKept old → HasTable mid → AreStorable (latest_in mid) → L (latest_in mid)
     → (state over_memory mid).committed ≡ (state over_memory old).committed → end.in_transaction ≡ false
     → OnOk r (IsTrue (state over_memory mid).in_transaction × Shows (state over_memory mid) (state over_memory end) (state over_memory mid).now (state over_memory mid).now false × KeepsCounts (state over_memory mid) (state over_memory end) × ((state over_memory end).marks ≡ []))
     → IfErr r (FailsToCommit (state over_memory mid) (state over_memory end)) → mid.in_transaction ≡ true → IsCall L old end r
-ended_call L old mid end (Ok _) kept tables apart leaves base idle ok err inside =
-    let same = committed_kept mid end tables apart idle ok.1 in
-    record { kept = same.kept; leaves = subst L (sym (placed_same mid end same)) leaves; unchanged = tt }
-ended_call L old mid end (Err e) kept tables apart leaves base idle ok (inl fails) inside = refused_call L old end e (undone_call old mid end kept base fails.3)
-ended_call L old mid end (Err e) kept tables apart leaves base idle ok (inr late) inside = absurd (let off = late.1 in cc)
+ended_call L old mid end (Ok _) kept table each leaves base idle ok err inside =
+    let same = committed_kept mid end table each idle ok.1 in
+    record { kept = same.kept; leaves = subst L (sym (latest_by mid end same.trees)) leaves; unchanged = tt }
+ended_call L old mid end (Err e) kept table each leaves base idle ok (inl fails) inside = refused_call L old end e (undone_call old mid end kept base fails.3)
+ended_call L old mid end (Err e) kept table each leaves base idle ok (inr late) inside = absurd (let off = late.1 in cc)
 
--- ---- the versions of a query in one table
+-- ---- what is read
 
--- the rows of the table that is read
-pub rows_read : (s : Source) (h : Held MemStore) → HasTables h → AreVersionRows ((state over_memory h).now.trees (tree_read s))
-rows_read Latest h has = has.latest
-rows_read (Dead j) h has = segment_rows j (state over_memory h).now.trees segments (once j) has.dead
-
-tree_itself : (s : Source) (trees : Trees) → overlay trees [] (tree_read s) ≡ trees (tree_read s)
-tree_itself Latest trees = refl
-tree_itself (Dead First) trees = refl
-tree_itself (Dead Second) trees = refl
-tree_itself (Dead Third) trees = refl
-tree_itself (Dead Fourth) trees = refl
-tree_itself (Dead Fifth) trees = refl
-tree_itself (Dead Sixth) trees = refl
-tree_itself (Dead Seventh) trees = refl
-
--- each version of all tables can be held
-pub dead_each : (P : Placed → Type 0) (j : Segment) (trees : Trees) (ss : List Segment) → length (filter (is_tree j) ss) ≡ 1 → AllByRecursion P (dead_among trees ss) → AllByRecursion P (placed_all (trees (tree_of j)))
-dead_each P j trees [] one all = absurd (omega (arith, one))
-dead_each P j trees (s ∷ ss) one all = go (is_tree j s) refl one (λ h. dead_each P j trees ss h (all_back P (placed_all (trees (tree_of s))) (dead_among trees ss) all))
-  where
-    go : (b : Bool) → is_tree j s ≡ b → length (cond b (s ∷ filter (is_tree j) ss) (filter (is_tree j) ss)) ≡ 1 → (length (filter (is_tree j) ss) ≡ 1 → AllByRecursion P (placed_all (trees (tree_of j)))) → AllByRecursion P (placed_all (trees (tree_of j)))
-    go true e h on = subst (λ t. AllByRecursion P (placed_all (trees t))) (eqb-true (tree_of s) (tree_of j) e) (all_front P (placed_all (trees (tree_of s))) (dead_among trees ss) all)
-    go false e h on = on h
-
-each_read : (s : Source) (h : Held MemStore) → AreWellPlaced (latest_in h) (dead_in h) → AllByRecursion (λ x. IsStorable x.version) (placed_read s h)
-each_read Latest h apart = all_front (λ x. IsStorable x.version) (latest_in h) (dead_in h) apart.each
-each_read (Dead j) h apart = dead_each (λ x. IsStorable x.version) j (state over_memory h).now.trees segments (once j) (all_back (λ x. IsStorable x.version) (latest_in h) (dead_in h) apart.each)
-
-module _ (q : Query) (from : ℕ) (s : Source) (fs : List Term) (text : List ℕ) (is : IsListingOf (tree_read s) fs text) (params : Row)
+module _ (q : Query) (from : ℕ) (fs : List Term) (text : List ℕ) (is : IsListingOf fs text) (params : Row)
     (test : (id : ℤ) (x : Placed) → list_all (holds (params ∷ stored id x ∷ [])) fs ≡ is_asked q from x.version) (limit : as_count (eval most_shown (params ∷ [])) ≡ Some MOST_READ) (old new : Held MemStore) (kept : IsKept old) where
   plain : IsPlain (understood (state over_memory old).now.schema text)
-  plain = subst (λ c. IsPlain (understood c text)) (sym kept.tables.schema) is.plain
+  plain = subst (λ c. IsPlain (understood c text)) (sym kept.table.schema) is.plain
 
   pub lists : (r : Result (Vec Row Global) Error) → IfOk r (λ rows. Shown text params (state over_memory old) (state over_memory new) rows.items)
-      → IfErr r (FailsToQuery text params (state over_memory old) (state over_memory new)) → IsReading q from s old new r
+      → IfErr r (FailsToQuery text params (state over_memory old) (state over_memory new)) → IsReading q from old new r
   lists (Ok rows) ok err =
       let same = refused_same old new kept (inl (shown_same text params (state over_memory old) (state over_memory new) rows.items plain ok)) in
-      let found = selects (tree_read s) fs params text (is_asked q from) MOST_READ test limit is (state over_memory old) (state over_memory new) rows.items (tree_itself s (state over_memory old).now.trees) kept.tables.schema (rows_read s old kept.tables) ok in
-      record { same = same; lists = listing q from (placed_read s old) rows.items (each_read s old kept.apart) found }
+      let found = selects fs params text (is_asked q from) MOST_READ test limit is (state over_memory old) (state over_memory new) rows.items kept.table.schema kept.table.latest ok in
+      record { same = same; lists = listing q from (latest_in old) rows.items kept.each found }
   lists (Err e) ok err = record { same = refused_same old new kept (query_refused text params (state over_memory old) (state over_memory new) e plain err); lists = tt }
 
--- ---- the versions that are left in one table
+left_rows : (from : ℕ) (old new : Held MemStore) → IsKept old → (rows : List Row) → Shown READ_LEFT.now (number from ∷ []) (state over_memory old) (state over_memory new) rows
+    → IsPermutation (map cells_of (placed_left from (latest_in old))) rows
+left_rows from old new kept rows shown =
+    cells_read left_filter READ_LEFT.now left_is (number from ∷ []) (λ x. is_left from x.version) (left_test_is from) (state over_memory old) (state over_memory new) rows kept.table.schema kept.table.latest shown
 
-pub leaves : (s : Source) (from : ℕ) (old new : Held MemStore) → IsKept old → (r : Result (Vec Row Global) Error)
-    → IfOk r (λ rows. Shown (left_text s) (number from ∷ []) (state over_memory old) (state over_memory new) rows.items)
-    → IfErr r (FailsToQuery (left_text s) (number from ∷ []) (state over_memory old) (state over_memory new)) → IsLeaving from s old new r
-leaves s from old new kept (Ok rows) ok err =
-    let plain = subst (λ c. IsPlain (understood c (left_text s))) (sym kept.tables.schema) (left_plain s) in
-    let left = leaves_rows s from (state over_memory old) (state over_memory new) rows.items (tree_itself s (state over_memory old).now.trees) kept.tables.schema (rows_read s old kept.tables) ok in
-    record { same = refused_same old new kept (inl (shown_same (left_text s) (number from ∷ []) (state over_memory old) (state over_memory new) rows.items plain ok)); cells = left.0; left = left.1 }
-leaves s from old new kept (Err e) ok err =
-    let plain = subst (λ c. IsPlain (understood c (left_text s))) (sym kept.tables.schema) (left_plain s) in
-    record { same = refused_same old new kept (query_refused (left_text s) (number from ∷ []) (state over_memory old) (state over_memory new) e plain err); cells = tt; left = tt }
+pub leaves : (from : ℕ) (old new : Held MemStore) → IsKept old → (r : Result (Vec Row Global) Error)
+    → IfOk r (λ rows. Shown READ_LEFT.now (number from ∷ []) (state over_memory old) (state over_memory new) rows.items)
+    → IfErr r (FailsToQuery READ_LEFT.now (number from ∷ []) (state over_memory old) (state over_memory new)) → IsLeaving from old new r
+leaves from old new kept (Ok rows) ok err =
+    let plain = subst (λ c. IsPlain (understood c READ_LEFT.now)) (sym kept.table.schema) left_is.plain in
+    let read = left_rows from old new kept rows.items ok in
+    record { same = refused_same old new kept (inl (shown_same READ_LEFT.now (number from ∷ []) (state over_memory old) (state over_memory new) rows.items plain ok)); cells = cells_each _ rows.items read; left = cells_are _ rows.items read }
+leaves from old new kept (Err e) ok err =
+    let plain = subst (λ c. IsPlain (understood c READ_LEFT.now)) (sym kept.table.schema) left_is.plain in
+    record { same = refused_same old new kept (query_refused READ_LEFT.now (number from ∷ []) (state over_memory old) (state over_memory new) e plain err); cells = tt; left = tt }
+
+-- ---- what is read in a transaction
+
+module _ (t i g : ℕ) (old new : Held MemStore) (table : HasTable old) (each : AreStorable (latest_in old)) (inside : old.in_transaction ≡ true) where
+  abbrev given : Row
+  given = number t ∷ number i ∷ number g ∷ []
+
+  abbrev Fails : Error → Type 0
+  Fails e = FailsToQuery READ_LAST.now given (state over_memory old) (state over_memory new) e ⊎ IsTooLate READ_LAST.now given (state over_memory old) (state over_memory new) e
+
+  plain_last : IsPlain (understood (state over_memory old).now.schema READ_LAST.now)
+  plain_last = subst (λ c. IsPlain (understood c READ_LAST.now)) (sym table.schema) touched_is.plain
+
+  of_table : (xs : List Placed) → AreStorable xs → AllByRecursion (λ x. (x.version.row.table ≡ t) × IsStorable x.version) (filter (is_touched t i g) xs)
+  of_table [] all = tt
+  of_table (x ∷ xs) all = go (is_touched t i g x) refl (of_table xs all.1)
+    where
+      go : (b : Bool) → is_touched t i g x ≡ b → AllByRecursion (λ y. (y.version.row.table ≡ t) × IsStorable y.version) (filter (is_touched t i g) xs)
+          → AllByRecursion (λ y. (y.version.row.table ≡ t) × IsStorable y.version) (cond b (x ∷ filter (is_touched t i g) xs) (filter (is_touched t i g) xs))
+      go true e more = let at = both_true _ _ (both_true _ _ e).0 in ((eqb-true _ _ at.0, all.0), more)
+      go false e more = more
+
+  kept_base : (e : Error) → Fails e → (state over_memory new).committed ≡ (state over_memory old).committed
+  kept_base e (inl fails) = elim (query_refused READ_LAST.now given (state over_memory old) (state over_memory new) e plain_last fails) [ inl same ↦ same.0.committed_is | inr back ↦ (back.undone refl).1 ]
+  kept_base e (inr late) = late.5.0.committed_is
+
+  pub last_step : (r : Result (Vec Row Global) Error) → IfOk r (λ rows. Shown READ_LAST.now given (state over_memory old) (state over_memory new) rows.items) → IfErr r Fails → IsStep (HasLatest (latest_in old)) old new r
+  last_step (Ok rows) ok err =
+      let same = shown_same READ_LAST.now given (state over_memory old) (state over_memory new) rows.items plain_last ok in
+      record {
+        leaves = record { table = table_by old new table same.0.now_is; latest_are = latest_by old new (ap (λ (d : Database). d.trees) same.0.now_is) };
+        inside = same.0.mode ∙ inside;
+        base = same.0.committed_is;
+      }
+  last_step (Err e) ok err = record { leaves = tt; inside = tt; base = kept_base e err }
+
+  pub last_touched : (r : Result (Vec Row Global) Error) → IfOk r (λ rows. Shown READ_LAST.now given (state over_memory old) (state over_memory new) rows.items) → IfOk r (λ rows. AreTouched t i g (latest_in old) rows.items)
+  last_touched (Ok rows) ok =
+      let read = cells_read touched_filter READ_LAST.now touched_is given (is_touched t i g) (touched_test t i g) (state over_memory old) (state over_memory new) rows.items table.schema table.latest ok in
+      record { each = placed_rows t _ rows.items read (of_table (latest_in old) each); same = cells_are _ rows.items read }
+  last_touched (Err e) ok = tt

@@ -1,10 +1,9 @@
--- What is left of the versions of one table.
+-- What is read of the versions of the table with their places.
 use Rattle.std.proofs.Common.{◌≡◌, ℕ, ℤ, List, [], ◌∷◌, map, filter, cond, Bool, true, false, refl, sym, ap, subst, ◌∙◌}
 use Rattle.std.specs.List.{AllByRecursion, list_all}
 use Rattle.std.specs.List.Sorted.{IsPermutation}
 use Rattle.std.proofs.lemmas.List.Sorted.{IsPermutation-map}
 use Rattle.sqlite.specs.Order.{Row}
-use Rattle.sqlite.specs.Collation.{Collation}
 use Rattle.sqlite.specs.Command.TheVariants.{Select}
 use Rattle.sqlite.specs.Term.{Term, holds, eval_all}
 use Rattle.sqlite.specs.Query.{Output, output}
@@ -14,13 +13,13 @@ use Rattle.sqlite.specs.Edit.{id_in}
 use Rattle.sqlite.specs.State.{State, Shown}
 use Rattle.sqlite.proofs.Callers.{reads_as}
 use Rattle.sqlite_trees.proofs.ListLemmas.{map-map, filter-map, all-permutation}
-use Rattle.txc_rows.specs.declared.texts.Source.{Source}
-use Rattle.txc_rows.specs.Placed.{Placed, is_left, placed_left}
-use Rattle.txc_rows.specs.Texts.{version_schema}
-use Rattle.txc_rows.specs.Readings.{tree_read, left_text}
-use Rattle.txc_rows.specs.Stored.{stored, cells_of, number, placed_in, placed_all, placed_from, IsStored, AreVersionRows, AreCells}
-use Rattle.txc_rows.proofs.Commands.{alone, whole, endless, cells_project, cells_names, left_filter, left_reads, left_plain, left_lists}
-use Rattle.txc_rows.proofs.StoredRows.{select_stored, left_test_is, cells_again, asked, answered, IsPage}
+use Rattle.txc_rows.specs.Holdable.{IsStorable}
+use Rattle.txc_rows.specs.declared.placed.Placed.{Placed}
+use Rattle.txc_rows.specs.Texts.{latest_schema}
+use Rattle.txc_rows.specs.Stored.{stored, cells_of, placed_in, placed_all, placed_from, IsStored, AreVersionRows, AreCells}
+use Rattle.txc_rows.specs.Kept.{IsPlacedRow}
+use Rattle.txc_rows.proofs.Commands.{alone, whole, endless, cells_project, cells_names, AreCellsOf}
+use Rattle.txc_rows.proofs.StoredRows.{select_stored, cells_again, asked, answered, IsPage}
 
 -- what is shown of the rows that pass
 projected : (f : Row → Row) (g : Placed → Row) → ((id : ℤ) (x : Placed) → f (stored id x) ≡ g x) → (rows : List Row) → AllByRecursion IsStored rows → (p : Row → Bool)
@@ -31,12 +30,12 @@ projected f g shows (r ∷ rows) all p =
     elim (p r) as (λ b. map f (cond b (r ∷ filter p rows) (filter p rows)) ≡ map g (map placed_in (cond b (r ∷ filter p rows) (filter p rows))))
     [ true ↦ rw (here, projected f g shows rows all.1 p) refl | false ↦ projected f g shows rows all.1 p ]
 
--- a query on one table shows the versions that pass, in some order
-one_table : (tree : ℕ) (by : List Collation) (fs project : List Term) (params : Row) (P : Placed → Bool) (test : (id : ℤ) (x : Placed) → list_all (holds (params ∷ stored id x ∷ [])) fs ≡ P x)
+-- a query on the table shows the versions that pass, in some order
+one_table : (fs project : List Term) (params : Row) (P : Placed → Bool) (test : (id : ℤ) (x : Placed) → list_all (holds (params ∷ stored id x ∷ [])) fs ≡ P x)
     (g : Placed → Row) (shows : (id : ℤ) (x : Placed) → eval_all project (params ∷ stored id x ∷ []) ≡ g x) (table rows : List Row) → AllByRecursion IsStored table
-    → IsPage tree by fs project [] endless params table rows → IsPermutation (map g (filter P (placed_all table))) rows
-one_table tree by fs project params P test g shows table rows each page =
-    let q = asked tree by fs project [] endless in
+    → IsPage fs project endless params table rows → IsPermutation (map g (filter P (placed_all table))) rows
+one_table fs project params P test g shows table rows each page =
+    let q = asked fs project endless in
     let out = λ (r : Row). output q (params ∷ r ∷ []) in
     let first = λ (o : Output). o.1 in
     let passed = select_stored _ P test table each in
@@ -54,20 +53,26 @@ from_cells : (xs : List Placed) → map placed_from (map cells_of xs) ≡ xs
 from_cells [] = refl
 from_cells (x ∷ xs) = rw (cells_again x, from_cells xs) refl
 
-left_from_page : (tree from : ℕ) (table rows : List Row) → AreVersionRows table → IsPage tree [] (left_filter 0) cells_project [] endless (number from ∷ []) table rows
-    → AllByRecursion AreCells rows × IsPermutation (placed_left from (placed_all table)) (map placed_from rows)
-left_from_page tree from table rows keeps page =
-    let same = one_table tree [] (left_filter 0) cells_project (number from ∷ []) (λ x. is_left from x.version) (left_test_is from) cells_of (λ id x. refl) table rows keeps.each page in
-    let back = IsPermutation-map placed_from _ rows same in (
-      all-permutation AreCells _ rows same (all_cells (placed_left from (placed_all table))),
-      subst (λ xs. IsPermutation xs (map placed_from rows)) (from_cells (placed_left from (placed_all table))) back,
-    )
+-- what is read of the versions that pass, with their places
+module _ (fs : List Term) (text : List ℕ) (is : AreCellsOf fs text) (params : Row) (P : Placed → Bool) (test : (id : ℤ) (x : Placed) → list_all (holds (params ∷ stored id x ∷ [])) fs ≡ P x) where
+  pub cells_read : (old new : State) (rows : List Row) → old.now.schema ≡ latest_schema → AreVersionRows (old.now.trees 0) → Shown text params old new rows
+      → IsPermutation (map cells_of (filter P (placed_all (old.now.trees 0)))) rows
+  cells_read old new rows has keeps h =
+      let read = reads_as text params old new latest_schema has (Select (alone (whole fs cells_project)) cells_names) is.command is.plain is.rows rows h in
+      one_table fs cells_project params P test cells_of (λ id x. refl) (old.now.trees 0) rows keeps.each (answered fs cells_project endless (overlay old.now.trees []) params rows read.answer)
 
--- the rows that are read show the versions of the table that did not die before the stamp
-pub leaves_rows : (s : Source) (from : ℕ) (old new : State) (rows : List Row) → overlay old.now.trees [] (tree_read s) ≡ old.now.trees (tree_read s) → old.now.schema ≡ version_schema → AreVersionRows (old.now.trees (tree_read s))
-    → Shown (left_text s) (number from ∷ []) old new rows → AllByRecursion AreCells rows × IsPermutation (placed_left from (placed_all (old.now.trees (tree_read s)))) (map placed_from rows)
-leaves_rows s from old new rows own has keeps h =
-    let tree = tree_read s in
-    let read = reads_as (left_text s) (number from ∷ []) old new version_schema has (Select (alone (whole tree (left_filter 0) cells_project)) cells_names) (left_reads s) (left_plain s) (left_lists s) rows h in
-    let page = answered tree [] (left_filter 0) cells_project [] endless (overlay old.now.trees []) (number from ∷ []) rows read.answer in
-    left_from_page tree from (old.now.trees tree) rows keeps (subst (λ table. IsPage tree [] (left_filter 0) cells_project [] endless (number from ∷ []) table rows) own page)
+-- they are those versions again
+pub cells_are : (xs : List Placed) (rows : List Row) → IsPermutation (map cells_of xs) rows → IsPermutation xs (map placed_from rows)
+cells_are xs rows same = subst (λ ys. IsPermutation ys (map placed_from rows)) (from_cells xs) (IsPermutation-map placed_from _ rows same)
+
+pub cells_each : (xs : List Placed) (rows : List Row) → IsPermutation (map cells_of xs) rows → AllByRecursion AreCells rows
+cells_each xs rows same = all-permutation AreCells _ rows same (all_cells xs)
+
+pub placed_rows : (t : ℕ) (xs : List Placed) (rows : List Row) → IsPermutation (map cells_of xs) rows → AllByRecursion (λ x. (x.version.row.table ≡ t) × IsStorable x.version) xs → AllByRecursion (IsPlacedRow t) rows
+placed_rows t xs rows same each = all-permutation (IsPlacedRow t) _ rows same (go xs each)
+  where
+    go : (ys : List Placed) → AllByRecursion (λ x. (x.version.row.table ≡ t) × IsStorable x.version) ys → AllByRecursion (IsPlacedRow t) (map cells_of ys)
+    go [] all = tt
+    go (y ∷ ys) all =
+        let again = cells_again y in
+        (record { is = ap cells_of (sym again); table_is = subst (λ x. x.version.row.table ≡ t) (sym again) all.0.0; version = subst (λ x. IsStorable x.version) (sym again) all.0.1 }, go ys all.1)

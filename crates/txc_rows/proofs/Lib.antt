@@ -19,13 +19,10 @@ pub mod PlaceLemmas
 pub mod PutLemmas
 pub mod SweepLemmas
 pub mod Tables
-pub mod SegmentLemmas
 pub mod WriteLemmas
 pub mod Refusals
 pub mod LeftLemmas
 pub mod MakeLemmas
-pub mod DropLemmas
-pub mod RemakeLemmas
 pub mod HeldLemmas
 pub mod ChangeSteps
 pub mod SweepCalls
@@ -35,9 +32,8 @@ pub mod Answering
 pub mod KeepingLemmas
 pub mod Listed
 pub mod FindLemmas
-pub mod MarkLemmas
-pub mod CountLemmas
 pub mod CurrentLemmas
 pub mod StoreLemmas
 pub mod UsesLemmas
+pub mod IndexLemmas
 pub mod Offered

@@ -6,7 +6,8 @@ use Rattle.std.specs.List.Sorted.{IsPermutation}
 use Rattle.std.proofs.lemmas.List.Sorted.{IsPermutation-refl, IsPermutation-trans, IsPermutation-cons, IsPermutation-middle}
 use Rattle.sqlite.specs.Tree.{IsAscending}
 use Rattle.sqlite_trees.proofs.ListLemmas.{along_permutation, all-permutation, all-filter}
-use Rattle.txc_rows.specs.Placed.{Placed, put_at_place, by_place, HaveOwnPlaces, AreBelow}
+use Rattle.txc_rows.specs.declared.placed.Placed.{Placed}
+use Rattle.txc_rows.specs.Placed.{put_at_place, by_place, HaveOwnPlaces, AreBelow}
 
 -- ---- a relation of each two, in whichever order, holds of them in any order
 

@@ -1,4 +1,4 @@
--- What a change makes of the versions, the last of each table, id and group apart from those before it.
+-- What a change makes of the last versions and of those that were replaced.
 use Rattle.std.proofs.Common.{◌≡◌, ◌≢◌, inl, inr, ℕ, ◌+◌, ◌<◌, ◌≤◌, List, [], ◌∷◌, ◌++◌, map, filter, length, Bool, true, false, cond, ◌&&◌, ◌==◌, None, Some, refl, sym, ap, ◌∙◌, append-nil, append_assoc, arith}
 use Rattle.std.proofs.lemmas.Bool.Decides.{nat_tests}
 use borrow.Author.Tests.{eqb-true, eq-eqb}
@@ -11,9 +11,10 @@ use Rattle.sqlite_trees.proofs.ListLemmas.{map-map, all-append, all-map, all-per
 use Rattle.txc_stamp.specs.declared.stamp.TheConstants.{LAST_STAMP}
 use Rattle.txc_rows.specs.Values.{RowValue, IsRow}
 use Rattle.txc_rows.specs.States.{is_at}
-use Rattle.txc_rows.specs.Versions.{is_current, closed, removed, put}
+use Rattle.txc_rows.specs.Versions.{is_current, closed, removed}
 use Rattle.txc_rows.specs.Holdable.{IsStorable}
-use Rattle.txc_rows.specs.Placed.{Placed, version_of, by_place, versions_by_place, has_key, closed_placed, new_placed, renewed, put_latest, put_dead, HaveOwnPlaces, HaveOwnKeys, AreBelow, IsOneCurrent, AreWellPlaced, AreWritten}
+use Rattle.txc_rows.specs.declared.placed.Placed.{Placed}
+use Rattle.txc_rows.specs.Placed.{version_of, by_place, versions_by_place, has_key, closed_placed, new_placed, renewed, put_latest, put_replaced, HaveOwnPlaces, HaveOwnKeys, AreBelow, IsOneCurrent, AreWellPlaced, AreWritten}
 use Rattle.txc_rows.proofs.Members.{bool_cases, both_true, and_true}
 use Rattle.txc_rows.proofs.StoredVersions.{hit_is, holdable_closed, closed_dead}
 use Rattle.txc_rows.proofs.PlaceLemmas.{pairs_permuted, by_place_same, by_place_mapped, by_place_last, own_places_permuted}
@@ -32,7 +33,7 @@ pub pairs_front : {A : Type 0} (R : A → A → Type 0) (xs ys : List A) → IsA
 pairs_front R [] ys pairs = tt
 pairs_front R (x ∷ xs) ys pairs = (all_front (R x) xs ys pairs.0, pairs_front R xs ys pairs.1)
 
-none_of : {A : Type 0} (p : A → Bool) (xs : List A) → filter p xs ≡ [] → AllByRecursion (λ x. p x ≡ false) xs
+pub none_of : {A : Type 0} (p : A → Bool) (xs : List A) → filter p xs ≡ [] → AllByRecursion (λ x. p x ≡ false) xs
 none_of p [] e = tt
 none_of p (x ∷ xs) e = go (p x) refl (none_of p xs)
   where
@@ -40,7 +41,7 @@ none_of p (x ∷ xs) e = go (p x) refl (none_of p xs)
     go true at on = absurd (let f = rw at at e in cc)
     go false at on = (at, on (rw at at e))
 
-empty_of : {A : Type 0} (xs : List A) → length xs == 0 ≡ true → xs ≡ []
+pub empty_of : {A : Type 0} (xs : List A) → length xs == 0 ≡ true → xs ≡ []
 empty_of [] e = refl
 empty_of (x ∷ xs) e = absurd (let f = eqb-true _ _ e in omega (arith, f))
 
@@ -186,7 +187,7 @@ module _ (place s : ℕ) (row : RowValue) where
   moved : (xs ys zs : List Placed) → IsPermutation ((xs ++ zs) ++ ys) ((xs ++ ys) ++ zs)
   moved xs ys zs = rw (append_assoc xs zs ys, append_assoc xs ys zs) (IsPermutation-append_right xs _ _ (IsPermutation-append_comm zs ys))
 
-  put_permutes : (latest earlier : List Placed) → HaveOwnKeys latest → IsPermutation (put_latest place row s latest ++ put_dead row latest earlier) ((latest ++ earlier) ++ new ∷ [])
+  put_permutes : (latest earlier : List Placed) → HaveOwnKeys latest → IsPermutation (put_latest place row s latest ++ put_replaced row latest earlier) ((latest ++ earlier) ++ new ∷ [])
   put_permutes latest earlier own = go (length (filter here latest) == 0) refl
     where
       go : (b : Bool) → length (filter here latest) == 0 ≡ b → IsPermutation (cond b (latest ++ new ∷ []) (map (renewed place row s) latest) ++ (earlier ++ filter here latest)) ((latest ++ earlier) ++ new ∷ [])
@@ -208,10 +209,10 @@ module _ (place s : ℕ) (row : RowValue) where
     own_then : HaveOwnPlaces ((latest ++ earlier) ++ new ∷ [])
     own_then = ascending-append (λ x y. x.place ≢ y.place) (latest ++ earlier) (new ∷ []) h.places (tt, tt) (none_new (latest ++ earlier) low)
 
-    permutes : IsPermutation (put_latest place row s latest ++ put_dead row latest earlier) ((latest ++ earlier) ++ new ∷ [])
+    permutes : IsPermutation (put_latest place row s latest ++ put_replaced row latest earlier) ((latest ++ earlier) ++ new ∷ [])
     permutes = put_permutes latest earlier h.keys
 
-    pub put_versions : versions_by_place (put_latest place row s latest ++ put_dead row latest earlier) ≡ versions_by_place (latest ++ earlier) ++ new.version ∷ []
+    pub put_versions : versions_by_place (put_latest place row s latest ++ put_replaced row latest earlier) ≡ versions_by_place (latest ++ earlier) ++ new.version ∷ []
     put_versions =
         ap (map version_of) (sym (by_place_same _ _ (IsPermutation-sym _ _ permutes) own_then) ∙ by_place_last new (latest ++ earlier) low)
         ∙ map-append version_of (by_place (latest ++ earlier)) (new ∷ [])
@@ -220,7 +221,7 @@ module _ (place s : ℕ) (row : RowValue) where
     higher [] below = tt
     higher (x ∷ xs) below = (let l = below.0 in omega arith, higher xs below.1)
 
-    pub put_below : AreBelow (place + 1) (put_latest place row s latest ++ put_dead row latest earlier)
+    pub put_below : AreBelow (place + 1) (put_latest place row s latest ++ put_replaced row latest earlier)
     put_below =
         all-permutation (λ x. x.place < place + 1) _ _ (IsPermutation-sym _ _ permutes)
         (all-append (λ x. x.place < place + 1) (latest ++ earlier) (new ∷ []) (higher (latest ++ earlier) low) (omega arith, tt))
@@ -277,7 +278,7 @@ module _ (place s : ℕ) (row : RowValue) where
       holdable : IsStorable new.version
       holdable = record { row = is; born = stamp; died = λ d e. absurd (let f = e in cc) }
 
-      pub put_apart : AreWellPlaced (put_latest place row s latest) (put_dead row latest earlier)
+      pub put_apart : AreWellPlaced (put_latest place row s latest) (put_replaced row latest earlier)
       put_apart = record {
         places = own_places_permuted _ _ (IsPermutation-sym _ _ permutes) own_then;
         keys = keys_then;
@@ -301,7 +302,7 @@ removed_written t i s place low latest earlier h below = record {
     higher (x ∷ xs) below = (let l = below.0 in omega arith, higher xs below.1)
 
 pub put_written : (s place : ℕ) (row : RowValue) (latest earlier : List Placed) → AreWellPlaced latest earlier → AreBelow place (latest ++ earlier)
-    → AreWritten (versions_by_place (latest ++ earlier) ++ record { row = row; born = s; died = None } ∷ []) (place + 1) (put_latest place row s latest ++ put_dead row latest earlier)
+    → AreWritten (versions_by_place (latest ++ earlier) ++ record { row = row; born = s; died = None } ∷ []) (place + 1) (put_latest place row s latest ++ put_replaced row latest earlier)
 put_written s place row latest earlier h low = record {
   versions_are = put_versions place s row latest earlier h low;
   below = put_below place s row latest earlier h low;

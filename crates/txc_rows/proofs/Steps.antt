@@ -25,8 +25,8 @@ use Rattle.sqlite.specs.Listing.{understood}
 use Rattle.sqlite.specs.Effect.{Database, Answers, IsSource}
 use Rattle.sqlite.specs.State.{State, Writes, Executes}
 use Rattle.sqlite.proofs.Callers.{command_of, statement_of, runs_as, one_step, IsPlain}
-use Rattle.txc_rows.specs.Placed.{Placed}
-use Rattle.txc_rows.specs.Texts.{table_of_versions, version_schema}
+use Rattle.txc_rows.specs.declared.placed.Placed.{Placed}
+use Rattle.txc_rows.specs.Texts.{latest_table, latest_schema}
 use Rattle.txc_rows.specs.Stored.{stored, cells_of}
 
 either : (b : Bool) (x : Value) → cond b x x ≡ x
@@ -72,16 +72,13 @@ module _ (schema : Schema) (text : List ℕ) (table : Table) (is : command_of (u
 
 -- ---- rows come and change
 
-module _ (name : List ℕ) (tree : ℕ) (keys : List (List ℕ)) (limit : Option ℕ) (mode : Mode) (params : Row) (db : Trees) where
-  abbrev table : Table
-  table = table_of_versions name tree keys
-
+module _ (limit : Option ℕ) (mode : Mode) (params : Row) (db : Trees) where
   abbrev task : Task
-  task = record { limit = limit; keys = mode.keys; schema = version_schema; table = table; params = params }
+  task = record { limit = limit; keys = mode.keys; schema = latest_schema; table = latest_table; params = params }
 
   pub inserts_rows : (at : ℕ) (from : Source) (tally : Tally) (after : Database) → OnRows task mode None (Insert at from) db (Ok (tally, after))
-      → (given : List Row) × IsSource (record { schema = version_schema; trees = db }) (stamped table params) from given
-      × (after.schema ≡ version_schema) × (tally.rows ≡ Some (length (edit_of db table [] Chosen 0 given).news)) × Applies version_schema mode.keys db (edit_of db table [] Chosen 0 given) after.trees
+      → (given : List Row) × IsSource (record { schema = latest_schema; trees = db }) (stamped latest_table params) from given
+      × (after.schema ≡ latest_schema) × (tally.rows ≡ Some (length (edit_of db latest_table [] Chosen 0 given).news)) × Applies latest_schema mode.keys db (edit_of db latest_table [] Chosen 0 given) after.trees
   inserts_rows at from tally after h =
       let done = went h in
       let said = same_value (went (went done.2).2).2 in
@@ -90,34 +87,34 @@ module _ (name : List ℕ) (tree : ℕ) (keys : List (List ℕ)) (limit : Option
       let counted = went written.2 in
       let is = same_value counted.2 in
       let trees : done.0.trees ≡ written.0 = ap (λ (it : Written). it.trees) is ∙ same_value counted.1 in
-      let step = one_step version_schema mode.keys db written.0 (edit_of db table [] Chosen 0 given.0) refl written.1 in (
+      let step = one_step latest_schema mode.keys db written.0 (edit_of db latest_table [] Chosen 0 given.0) refl written.1 in (
         given.0,
         given.1,
         ap (λ (p : Tally × Database). p.1.schema) said,
         ap (λ (p : Tally × Database). p.0.rows) said ∙ ap (λ (it : Written). Some (length it.rows)) is,
-        subst (Applies version_schema mode.keys db (edit_of db table [] Chosen 0 given.0)) (sym (ap (λ (p : Tally × Database). p.1.trees) said ∙ trees)) step,
+        subst (Applies latest_schema mode.keys db (edit_of db latest_table [] Chosen 0 given.0)) (sym (ap (λ (p : Tally × Database). p.1.trees) said ∙ trees)) step,
       )
 
   pub updates_rows : (at : ℕ) (q : Program) (tally : Tally) (after : Database) → OnRows task mode None (Update at q) db (Ok (tally, after))
-      → (given : List Row) × Answers (record { schema = version_schema; trees = db }) q params given
-      × (after.schema ≡ version_schema) × Applies version_schema mode.keys db (edit_of db table (ids_of given) Given 1 given) after.trees
+      → (given : List Row) × Answers (record { schema = latest_schema; trees = db }) q params given
+      × (after.schema ≡ latest_schema) × Applies latest_schema mode.keys db (edit_of db latest_table (ids_of given) Given 1 given) after.trees
   updates_rows at q tally after h =
       let done = went h in
       let said = same_value (went (went done.2).2).2 in
       let given = went done.1 in
       let written = went given.2 in
       let trees : done.0.trees ≡ written.0 = ap (λ (it : Written). it.trees) (same_value written.2) in
-      let step = one_step version_schema mode.keys db written.0 (edit_of db table (ids_of given.0) Given 1 given.0) refl written.1 in (
+      let step = one_step latest_schema mode.keys db written.0 (edit_of db latest_table (ids_of given.0) Given 1 given.0) refl written.1 in (
         given.0,
         given.1,
         ap (λ (p : Tally × Database). p.1.schema) said,
-        subst (Applies version_schema mode.keys db (edit_of db table (ids_of given.0) Given 1 given.0)) (sym (ap (λ (p : Tally × Database). p.1.trees) said ∙ trees)) step,
+        subst (Applies latest_schema mode.keys db (edit_of db latest_table (ids_of given.0) Given 1 given.0)) (sym (ap (λ (p : Tally × Database). p.1.trees) said ∙ trees)) step,
       )
 
   -- one row is added at the end
-  pub one_more : (x : Placed) → edited db (edit_of db table [] Chosen 0 ((Null ∷ cells_of x) ∷ [])) ≡ put_row (stored (next_rowid (db tree)) x) (db tree)
+  pub one_more : (x : Placed) → edited db (edit_of db latest_table [] Chosen 0 ((Null ∷ cells_of x) ∷ [])) ≡ put_row (stored (next_rowid (db 0)) x) (db 0)
   one_more x = go x.version.died refl
     where
-      go : (d : Option ℕ) → x.version.died ≡ d → edited db (edit_of db table [] Chosen 0 ((Null ∷ cells_of x) ∷ [])) ≡ put_row (stored (next_rowid (db tree)) x) (db tree)
+      go : (d : Option ℕ) → x.version.died ≡ d → edited db (edit_of db latest_table [] Chosen 0 ((Null ∷ cells_of x) ∷ [])) ≡ put_row (stored (next_rowid (db 0)) x) (db 0)
       go None e = rw (e, cast_null, cast_int (pos x.place), cast_int (pos x.version.row.table), cast_int (pos x.version.row.id), cast_int (pos x.version.born), cast_int (pos x.version.row.group)) refl
       go (Some d) e = rw (e, cast_null, cast_int (pos d), cast_int (pos x.place), cast_int (pos x.version.row.table), cast_int (pos x.version.row.id), cast_int (pos x.version.born), cast_int (pos x.version.row.group)) refl

@@ -1,20 +1,18 @@
 -- What the tests of the statements say of a stored row.
-use Rattle.std.proofs.Common.{◌≡◌, ℕ, ℤ, pos, List, [], ◌∷◌, ◌++◌, map, filter, Bool, true, false, cond, ◌&&◌, ◌==◌, nat_lt, nat_le, Some, None, Option, is_none, refl, ap, subst, ◌∙◌, arith}
+use Rattle.std.proofs.Common.{◌≡◌, ℕ, ℤ, pos, List, [], ◌∷◌, ◌++◌, map, filter, Bool, true, false, cond, ◌&&◌, ◌||◌, ◌==◌, nat_lt, nat_le, Some, None, Option, is_none, refl, ap, subst, ◌∙◌, arith}
 use Rattle.std.proofs.lemmas.Bool.Decides.{nat_tests}
 use Rattle.std.specs.Ordering.{int_cmp, nat_cmp, is_eq, is_ge, is_le, is_lt}
 use Rattle.std.specs.List.{flat_map, list_all, AllByRecursion}
-use Rattle.std.specs.List.Sorted.{IsPermutation, IsSorted}
+use Rattle.std.specs.List.Sorted.{IsPermutation}
 use Rattle.sqlite.specs.declared.types.Value.TheVariants.{Null, Blob}
 use Rattle.sqlite.specs.Order.{Row, value_cmp}
-use Rattle.sqlite.specs.Collation.{Collation}
 use Rattle.sqlite.specs.Collation.TheVariants.{Binary}
 use Rattle.sqlite_sql.specs.declared.ops.BinaryOp.TheVariants.{Compare, Is, Or}
 use Rattle.sqlite_sql.specs.declared.ops.CompareOp.TheVariants.{Eq, Ge, Le}
-use Rattle.sqlite_value.specs.declared.keys.Key.{Key}
 use Rattle.sqlite.specs.Tree.{rowid}
 use Rattle.sqlite.specs.Edit.{id_in}
 use Rattle.sqlite.specs.Query as query
-use Rattle.sqlite.specs.Query.{IsAnswer, IsSureAnswer, Output, output, output_cmp, limited, as_count}
+use Rattle.sqlite.specs.Query.{IsAnswer, IsSureAnswer, Output, output, limited, as_count}
 use Rattle.sqlite.specs.Tree.{Trees}
 use Rattle.sqlite_trees.proofs.ListLemmas.{map-map}
 use Rattle.sqlite.specs.Ops.{from_truth, is_true, binary, or3, truth}
@@ -23,11 +21,12 @@ use Rattle.sqlite_value.proofs.OrderLemmas.{value_cmp-Int, value_cmp-apart, valu
 use Rattle.txc_rows.specs.declared.version.Versioned.{Versioned}
 use Rattle.txc_rows.specs.States.{is_at}
 use Rattle.txc_rows.specs.Versions.{suits, is_current}
-use Rattle.txc_rows.specs.Placed.{Placed, lasts_to, is_left, has_key}
+use Rattle.txc_rows.specs.declared.placed.Placed.{Placed}
+use Rattle.txc_rows.specs.Placed.{lasts_to, is_left, is_touched, has_key}
 use Rattle.txc_rows.specs.declared.query.Query.{Query}
 use Rattle.txc_rows.specs.declared.query.Query.TheVariants.{ById, ByGroup, All, Range}
 use Rattle.txc_rows.specs.Stored.{stored, cells_of, number, death, IsStored, death_in, placed_in, placed_from, queried_columns, version_shown}
-use Rattle.txc_rows.proofs.Commands.{close_filter, key_filter, left_filter, table_filter, row_filter, group_filter, range_filter, whole}
+use Rattle.txc_rows.proofs.Commands.{close_filter, key_filter, left_filter, touched_filter, table_filter, row_filter, group_filter, range_filter, whole}
 
 pub int_cmp-pos : (a b : ℕ) → int_cmp (pos a) (pos b) ≡ nat_cmp a b
 int_cmp-pos a b = grind (arith, nat_tests)
@@ -55,15 +54,17 @@ eq_test : (a b : ℕ) → is_true (binary (Compare Eq Binary) (number a) (number
 unfolding binary
 eq_test a b = true_of _ ∙ ap is_eq (number_cmp a b) ∙ is_eq-nat_cmp a b
 
+or_of : (b c : Bool) → is_true (from_truth (or3 (truth (from_truth (Some b))) (truth (from_truth (Some c))))) ≡ b || c
+or_of true true = refl
+or_of true false = refl
+or_of false true = refl
+or_of false false = refl
+
 -- a version that has not died, or not before the stamp
 left_is : (a : Option ℕ) (b : ℕ) → is_true (binary Or (binary (Is Binary) (death a) Null) (binary (Compare Ge Binary) (death a) (number b))) ≡ lasts_to b a
 unfolding binary
 left_is None b = rw (value_cmp-Null Null) refl
-left_is (Some a) b = rw (value_cmp-apart (number a) Null (λ e. omega (arith, e)), number_cmp a b) (or_of (is_ge (nat_cmp a b)) ∙ is_ge-nat_cmp a b)
-  where
-    or_of : (c : Bool) → is_true (from_truth (or3 (truth (from_truth (Some false))) (truth (from_truth (Some c))))) ≡ c
-    or_of true = refl
-    or_of false = refl
+left_is (Some a) b = rw (value_cmp-apart (number a) Null (λ e. omega (arith, e)), number_cmp a b) (or_of false (is_ge (nat_cmp a b)) ∙ is_ge-nat_cmp a b)
 
 null_test : (a : Option ℕ) → is_true (binary (Is Binary) (death a) Null) ≡ is_none a
 unfolding binary
@@ -84,14 +85,19 @@ one A false p = rw p refl
 pub close_test : (t i s : ℕ) (id : ℤ) (x : Placed) → list_all (holds ((number t ∷ number i ∷ number s ∷ []) ∷ stored id x ∷ [])) close_filter ≡ (is_at t i x.version.row && is_current x.version)
 close_test t i s id x = all_three _ _ _ _ _ _ (eq_test x.version.row.table t) (eq_test x.version.row.id i) (null_test x.version.died)
 
-pub copy_test : (t i g : ℕ) (id : ℤ) (x : Placed) → list_all (holds ((number t ∷ number i ∷ number g ∷ []) ∷ stored id x ∷ [])) key_filter ≡ has_key t i g x
-copy_test t i g id x = all_three _ _ _ _ _ _ (eq_test x.version.row.table t) (eq_test x.version.row.id i) (eq_test x.version.row.group g)
-
 pub renew_test : (t i g place s : ℕ) (body : List ℕ) (id : ℤ) (x : Placed)
     → list_all (holds ((number t ∷ number i ∷ number g ∷ number place ∷ number s ∷ Blob body ∷ []) ∷ stored id x ∷ [])) key_filter ≡ has_key t i g x
 renew_test t i g place s body id x = all_three _ _ _ _ _ _ (eq_test x.version.row.table t) (eq_test x.version.row.id i) (eq_test x.version.row.group g)
 
-pub left_test_is : (from : ℕ) (id : ℤ) (x : Placed) → list_all (holds ((number from ∷ []) ∷ stored id x ∷ [])) (left_filter 0) ≡ is_left from x.version
+touched_is : (a : Option ℕ) (g h : ℕ) → is_true (binary Or (binary (Is Binary) (death a) Null) (binary (Compare Eq Binary) (number g) (number h))) ≡ is_none a || (g == h)
+unfolding binary
+touched_is None g h = rw (value_cmp-Null Null) refl
+touched_is (Some a) g h = rw (value_cmp-apart (number a) Null (λ e. omega (arith, e)), number_cmp g h) (or_of false (is_eq (nat_cmp g h)) ∙ ap (λ b. false || b) (is_eq-nat_cmp g h))
+
+pub touched_test : (t i g : ℕ) (id : ℤ) (x : Placed) → list_all (holds ((number t ∷ number i ∷ number g ∷ []) ∷ stored id x ∷ [])) touched_filter ≡ is_touched t i g x
+touched_test t i g id x = all_three _ _ _ _ _ _ (eq_test x.version.row.table t) (eq_test x.version.row.id i) (touched_is x.version.died x.version.row.group g)
+
+pub left_test_is : (from : ℕ) (id : ℤ) (x : Placed) → list_all (holds ((number from ∷ []) ∷ stored id x ∷ [])) left_filter ≡ is_left from x.version
 left_test_is from id x = one _ _ (left_is x.version.died from)
 
 -- a version that a query asks for, of those that did not die before a stamp
@@ -162,24 +168,22 @@ one_by_one p e [] = refl
 one_by_one p e (x ∷ xs) = elim (p x) as (λ b. cond b (e x ∷ []) [] ++ flat_map (λ y. cond (p y) (e y ∷ []) []) xs ≡ map e (cond b (x ∷ filter p xs) (filter p xs)))
     [ true ↦ ap (λ ys. e x ∷ ys) (one_by_one p e xs) | false ↦ one_by_one p e xs ]
 
--- all rows of the table in a tree that pass, in an order, up to a limit
-abbrev pub asked : ℕ → List Collation → List Term → List Term → List (Term × Key) → Term → query.Query
-asked tree by filter project order limit = record (whole tree filter project) { collations = by; order = order; limit = limit }
+-- all rows of the table that pass, up to a limit
+abbrev pub asked : List Term → List Term → Term → query.Query
+asked filter project limit = record (whole filter project) { limit = limit }
 
 abbrev pub passing : List Term → Row → List Row → List Row
 passing fs params = filter (λ r. list_all (holds (params ∷ r ∷ [])) fs)
 
-pub record IsPage (tree : ℕ) (by : List Collation) (fs project : List Term) (order : List (Term × Key)) (limit : Term) (params : Row) (table found : List Row) : Type 0 where
+pub record IsPage (fs project : List Term) (limit : Term) (params : Row) (table found : List Row) : Type 0 where
   pub ordered : List Output
-  pub same : IsPermutation (map (λ r. output (asked tree by fs project order limit) (params ∷ r ∷ [])) (passing fs params table)) ordered
-  pub sorted : IsSorted (output_cmp (asked tree by fs project order limit)) ordered
+  pub same : IsPermutation (map (λ r. output (asked fs project limit) (params ∷ r ∷ [])) (passing fs params table)) ordered
   pub rows : found ≡ limited (as_count (eval limit (params ∷ []))) (map (λ (o : Output). o.1) ordered)
 
-pub answered : (tree : ℕ) (by : List Collation) (fs project : List Term) (order : List (Term × Key)) (limit : Term) (db : Trees) (params : Row) (found : List Row)
-    → IsSureAnswer (asked tree by fs project order limit) db params found → IsPage tree by fs project order limit params (db tree) found
-answered tree by fs project order limit db params found h =
-    let q = asked tree by fs project order limit in
+pub answered : (fs project : List Term) (limit : Term) (db : Trees) (params : Row) (found : List Row) → IsSureAnswer (asked fs project limit) db params found → IsPage fs project limit params (db 0) found
+answered fs project limit db params found h =
+    let q = asked fs project limit in
     let a : IsAnswer q db params found = h Null in
-    let kept : a.kept ≡ map (λ r. output q (params ∷ r ∷ [])) (passing fs params (db tree))
-    = a.distinct ∙ ap (map (output q)) (a.grouped ∙ one_by_one (λ r. list_all (holds (params ∷ r ∷ [])) fs) (λ r. params ∷ r ∷ []) (db tree)) ∙ map-map (output q) (λ r. params ∷ r ∷ []) _ in
-    record { ordered = a.ordered; same = subst (λ k. IsPermutation k a.ordered) kept a.same; sorted = a.sorted; rows = a.shown }
+    let kept : a.kept ≡ map (λ r. output q (params ∷ r ∷ [])) (passing fs params (db 0))
+    = a.distinct ∙ ap (map (output q)) (a.grouped ∙ one_by_one (λ r. list_all (holds (params ∷ r ∷ [])) fs) (λ r. params ∷ r ∷ []) (db 0)) ∙ map-map (output q) (λ r. params ∷ r ∷ []) _ in
+    record { ordered = a.ordered; same = subst (λ k. IsPermutation k a.ordered) kept a.same; rows = a.shown }

@@ -1,12 +1,12 @@
 -- What is left of the versions where those that died are hidden, swept away or purged.
-use Rattle.std.proofs.Common.{◌≡◌, ◌≢◌, ℕ, ◌+◌, ◌<◌, ◌≤◌, max, nat_le, List, [], ◌∷◌, ◌++◌, map, filter, Bool, true, false, cond, not, ◌&&◌, None, Some, Option, refl, sym, ap, subst, ◌∙◌, arith, inl, inr}
+use Rattle.std.proofs.Common.{◌≡◌, ◌≢◌, ℕ, ◌+◌, ◌<◌, ◌≤◌, max, nat_le, List, [], ◌∷◌, ◌++◌, map, Bool, true, false, cond, not, ◌&&◌, None, Some, Option, refl, sym, ap, subst, ◌∙◌, arith, inl, inr}
 use Rattle.std.proofs.lemmas.Bool.Decides.{nat_tests}
 use Rattle.std.proofs.lemmas.List.Elements.{filter-append}
 use Rattle.std.specs.List.{AllByRecursion}
 use Rattle.std.specs.List.Sorted.{IsPermutation}
-use Rattle.std.proofs.lemmas.List.Sorted.{IsPermutation-append, IsPermutation-append_right}
+use Rattle.std.proofs.lemmas.List.Sorted.{IsPermutation-refl, IsPermutation-append_left}
 use Rattle.sqlite.specs.Tree.{IsAscending}
-use Rattle.sqlite_trees.proofs.ListLemmas.{filter-map, filter-filter, filter_same, all-append, all-filter, all-permutation, ascending-filter, IsPermutation-filter}
+use Rattle.sqlite_trees.proofs.ListLemmas.{filter-map, filter-filter, filter_same, all-append, all-filter, all-permutation, ascending-append, ascending-filter, IsPermutation-filter}
 use Rattle.txc_rows.specs.declared.version.Versioned.{Versioned}
 use Rattle.txc_rows.specs.declared.query.Change.{Change}
 use Rattle.txc_rows.specs.declared.query.Change.TheVariants.{Put, Remove}
@@ -14,7 +14,8 @@ use Rattle.txc_rows.specs.Values.{RowValue}
 use Rattle.txc_rows.specs.States.{is_at}
 use Rattle.txc_rows.specs.Versions.{is_current, has_died_by, died_by, closed, removed, put, after_net, purged}
 use Rattle.txc_rows.specs.Holdable.{IsStorable}
-use Rattle.txc_rows.specs.Placed.{Placed, version_of, by_place, versions_by_place, lasts_to, is_left, left_from, placed_left, has_key, HaveOwnPlaces, IsOneCurrent, AreWellPlaced, AreSwept, AreLeft}
+use Rattle.txc_rows.specs.declared.placed.Placed.{Placed}
+use Rattle.txc_rows.specs.Placed.{version_of, by_place, versions_by_place, lasts_to, is_left, left_from, placed_left, without_front_dead, has_key, HaveOwnPlaces, AreBelow, IsOneCurrent, AreWellPlaced, AreSwept}
 use Rattle.txc_rows.proofs.Members.{bool_cases}
 use Rattle.txc_rows.proofs.StoredVersions.{hit_is}
 use Rattle.txc_rows.proofs.PlaceLemmas.{pairs_permuted, by_place_same, by_place_left, own_places_permuted}
@@ -25,75 +26,112 @@ use Rattle.txc_rows.proofs.PutLemmas.{all_front, all_back, key_turned, one_turne
 placed_as_left : (from : ℕ) (xs : List Placed) → left_from from (versions_by_place xs) ≡ map version_of (by_place (placed_left from xs))
 placed_as_left from xs = filter-map (is_left from) version_of (by_place xs) ∙ ap (map version_of) (by_place_left (λ x. is_left from x.version) xs)
 
+twice : (from : ℕ) (xs : List Placed) → placed_left from (placed_left from xs) ≡ placed_left from xs
+twice from xs = filter-filter (λ x. is_left from x.version) (λ x. is_left from x.version) (λ x e. e) xs
+
 -- those that are left are the same
-pub swept_same : (from : ℕ) (old new : List Placed) → AreSwept from old new → HaveOwnPlaces old → left_from from (versions_by_place new) ≡ left_from from (versions_by_place old)
-swept_same from old new swept own =
+left_same : (from : ℕ) (old new : List Placed) → IsPermutation (placed_left from old) (placed_left from new) → HaveOwnPlaces old → left_from from (versions_by_place new) ≡ left_from from (versions_by_place old)
+left_same from old new left own =
     placed_as_left from new
-    ∙ ap (map version_of) (sym (by_place_same (placed_left from old) (placed_left from new) swept.left (ascending-filter (λ x y. x.place ≢ y.place) (λ x. is_left from x.version) old own)))
+    ∙ ap (map version_of) (sym (by_place_same (placed_left from old) (placed_left from new) left (ascending-filter (λ x y. x.place ≢ y.place) (λ x. is_left from x.version) old own)))
     ∙ sym (placed_as_left from old)
 
-module _ (from : ℕ) (latest earlier kept : List Placed) (left : IsPermutation (placed_left from earlier) kept) where
-  twice : (xs : List Placed) → placed_left from (placed_left from xs) ≡ placed_left from xs
-  twice xs = filter-filter (λ x. is_left from x.version) (λ x. is_left from x.version) (λ x e. e) xs
+keys_turned : (x y : Placed) → has_key x.version.row.table x.version.row.id x.version.row.group y ≡ false → has_key y.version.row.table y.version.row.id y.version.row.group x ≡ false
+keys_turned x y off =
+    key_turned x.version.row.table x.version.row.id x.version.row.group y.version.row.table y.version.row.id y.version.row.group ∙ off
 
-  pub swept_earlier : AreSwept from (latest ++ earlier) (latest ++ kept)
-  swept_earlier = record {
-    left = rw (filter-append (λ x. is_left from x.version) latest earlier, filter-append (λ x. is_left from x.version) latest kept)
-        (IsPermutation-append_right (placed_left from latest) _ _ (subst (λ xs. IsPermutation xs (placed_left from kept)) (twice earlier) (IsPermutation-filter (λ x. is_left from x.version) _ _ left)));
-    below = λ next low.
-        all-append (λ x. x.place < next) latest kept (all_front (λ x. x.place < next) latest earlier low)
-        (all-permutation (λ x. x.place < next) _ kept left (all-filter (λ x. x.place < next) (λ x. is_left from x.version) earlier (all_back (λ x. x.place < next) latest earlier low)));
-  }
+-- ---- both are left alone
 
-  some_after : {A : Type 0} (R : A → A → Type 0) (p : A → Bool) (xs ys : List A) → IsAscending R (xs ++ ys) → IsAscending R (xs ++ filter p ys)
-  some_after R p [] ys pairs = ascending-filter R p ys pairs
-  some_after R p (x ∷ xs) ys pairs =
-      (all-append (R x) xs (filter p ys) (all_front (R x) xs ys pairs.0) (all-filter (R x) p ys (all_back (R x) xs ys pairs.0)), some_after R p xs ys pairs.1)
-
-  pub swept_apart : AreWellPlaced latest earlier → AreWellPlaced latest kept
-  swept_apart h = record {
-    places = own_places_permuted _ _ (IsPermutation-append_right latest _ _ left) (some_after (λ x y. x.place ≢ y.place) (λ x. is_left from x.version) latest earlier h.places);
-    keys = h.keys;
-    current = h.current;
-    ended = all-permutation (λ x. x.version.died ≢ None) _ kept left (all-filter (λ x. x.version.died ≢ None) (λ x. is_left from x.version) earlier h.ended);
-    each = all-append (λ x. IsStorable x.version) latest kept (all_front (λ x. IsStorable x.version) latest earlier h.each)
-        (all-permutation (λ x. IsStorable x.version) _ kept left (all-filter (λ x. IsStorable x.version) (λ x. is_left from x.version) earlier (all_back (λ x. IsStorable x.version) latest earlier h.each)));
-  }
-
-module _ (from : ℕ) (latest earlier last before : List Placed) (one : IsPermutation (placed_left from latest) last) (two : IsPermutation (placed_left from earlier) before) where
+module _ (from : ℕ) (latest earlier last before : List Placed) (one : IsPermutation (placed_left from latest) last) (two : before ≡ placed_left from earlier) where
   together : IsPermutation (placed_left from (latest ++ earlier)) (last ++ before)
-  together = rw (filter-append (λ x. is_left from x.version) latest earlier) (IsPermutation-append _ _ _ _ one two)
+  together = rw (filter-append (λ x. is_left from x.version) latest earlier, two) (IsPermutation-append_left (placed_left from earlier) _ _ one)
 
-  pub swept_both : AreLeft from (latest ++ earlier) (last ++ before)
-  swept_both = record {
-    left = together;
-    below = λ next low. all-permutation (λ x. x.place < next) _ (last ++ before) together (all-filter (λ x. x.place < next) (λ x. is_left from x.version) (latest ++ earlier) low);
-  }
-
-  keys_turned : (x y : Placed) → has_key x.version.row.table x.version.row.id x.version.row.group y ≡ false → has_key y.version.row.table y.version.row.id y.version.row.group x ≡ false
-  keys_turned x y off =
-      key_turned x.version.row.table x.version.row.id x.version.row.group y.version.row.table y.version.row.id y.version.row.group ∙ off
+  pub both_below : (next : ℕ) → AreBelow next (latest ++ earlier) → AreBelow next (last ++ before)
+  both_below next low = all-permutation (λ x. x.place < next) _ (last ++ before) together (all-filter (λ x. x.place < next) (λ x. is_left from x.version) (latest ++ earlier) low)
 
   pub both_apart : AreWellPlaced latest earlier → AreWellPlaced last before
   both_apart h = record {
     places = own_places_permuted _ _ together (ascending-filter (λ x y. x.place ≢ y.place) (λ x. is_left from x.version) (latest ++ earlier) h.places);
     keys = (pairs_permuted (λ x y. has_key x.version.row.table x.version.row.id x.version.row.group y ≡ false) keys_turned _ last one).1 (ascending-filter _ (λ x. is_left from x.version) latest h.keys);
     current = (pairs_permuted IsOneCurrent one_turned _ last one).1 (ascending-filter IsOneCurrent (λ x. is_left from x.version) latest h.current);
-    ended = all-permutation (λ x. x.version.died ≢ None) _ before two (all-filter (λ x. x.version.died ≢ None) (λ x. is_left from x.version) earlier h.ended);
+    ended = rw two (all-filter (λ x. x.version.died ≢ None) (λ x. is_left from x.version) earlier h.ended);
     each = all-permutation (λ x. IsStorable x.version) _ (last ++ before) together (all-filter (λ x. IsStorable x.version) (λ x. is_left from x.version) (latest ++ earlier) h.each);
   }
 
-pub left_is_swept : (from : ℕ) (old new : List Placed) → AreLeft from old new → AreSwept from old new
-left_is_swept from old new left = record {
-  left = subst (λ xs. IsPermutation xs (placed_left from new)) (filter-filter (λ x. is_left from x.version) (λ x. is_left from x.version) (λ x e. e) old) (IsPermutation-filter (λ x. is_left from x.version) _ _ left.left);
-  below = left.below;
-}
+  -- only those that were hidden are gone
+  pub left_alone : AreWellPlaced latest earlier → versions_by_place (last ++ before) ≡ left_from from (versions_by_place (latest ++ earlier))
+  left_alone h =
+      ap (map version_of) (sym (by_place_same (placed_left from (latest ++ earlier)) (last ++ before) together (ascending-filter (λ x y. x.place ≢ y.place) (λ x. is_left from x.version) (latest ++ earlier) h.places)))
+      ∙ sym (placed_as_left from (latest ++ earlier))
 
--- only those that were hidden are gone
-pub left_alone : (from : ℕ) (old new : List Placed) → AreLeft from old new → HaveOwnPlaces old → versions_by_place new ≡ left_from from (versions_by_place old)
-left_alone from old new left own =
-    ap (map version_of) (sym (by_place_same (placed_left from old) new left.left (ascending-filter (λ x y. x.place ≢ y.place) (λ x. is_left from x.version) old own)))
-    ∙ sym (placed_as_left from old)
+-- ---- a sweep of the last versions, and then the front of the replaced ones is dropped
+
+swept_left : (from : ℕ) (old new : List Placed) → AreSwept from old new → IsPermutation (placed_left from old) (placed_left from new)
+swept_left from old new (inl same) = rw same (IsPermutation-refl (placed_left from old))
+swept_left from old new (inr left) = subst (λ xs. IsPermutation xs (placed_left from new)) (twice from old) (IsPermutation-filter (λ x. is_left from x.version) _ _ left)
+
+swept_each : (P : Placed → Type 0) (from : ℕ) (old new : List Placed) → AreSwept from old new → AllByRecursion P old → AllByRecursion P new
+swept_each P from old new (inl same) each = rw same each
+swept_each P from old new (inr left) each = all-permutation P _ new left (all-filter P (λ x. is_left from x.version) old each)
+
+swept_pairs : (R : Placed → Placed → Type 0) → ((x y : Placed) → R x y → R y x) → (from : ℕ) (old new : List Placed) → AreSwept from old new → IsAscending R old → IsAscending R new
+swept_pairs R turn from old new (inl same) pairs = rw same pairs
+swept_pairs R turn from old new (inr left) pairs = (pairs_permuted R turn _ new left).1 (ascending-filter R (λ x. is_left from x.version) old pairs)
+
+front_each : (P : Placed → Type 0) (from : ℕ) (xs : List Placed) → AllByRecursion P xs → AllByRecursion P (without_front_dead from xs)
+front_each P from [] each = tt
+front_each P from (x ∷ xs) each = elim (is_left from x.version) as (λ b. AllByRecursion P (cond b (x ∷ xs) (without_front_dead from xs))) [ true ↦ each | false ↦ front_each P from xs each.1 ]
+
+front_pairs : (R : Placed → Placed → Type 0) (from : ℕ) (xs : List Placed) → IsAscending R xs → IsAscending R (without_front_dead from xs)
+front_pairs R from [] pairs = tt
+front_pairs R from (x ∷ xs) pairs = elim (is_left from x.version) as (λ b. IsAscending R (cond b (x ∷ xs) (without_front_dead from xs))) [ true ↦ pairs | false ↦ front_pairs R from xs pairs.1 ]
+
+front_left : (from : ℕ) (xs : List Placed) → placed_left from (without_front_dead from xs) ≡ placed_left from xs
+front_left from [] = refl
+front_left from (x ∷ xs) = go (is_left from x.version) refl (front_left from xs)
+  where
+    go : (b : Bool) → is_left from x.version ≡ b → placed_left from (without_front_dead from xs) ≡ placed_left from xs
+        → placed_left from (cond b (x ∷ xs) (without_front_dead from xs)) ≡ placed_left from (x ∷ xs)
+    go true e more = refl
+    go false e more = rw e more
+
+-- each of two lists, and each of the first with each of the second
+parts : {A : Type 0} (R : A → A → Type 0) (xs ys : List A) → IsAscending R (xs ++ ys) → IsAscending R xs × IsAscending R ys × AllByRecursion (λ x. AllByRecursion (R x) ys) xs
+parts R [] ys pairs = (tt, pairs, tt)
+parts R (x ∷ xs) ys pairs = let rest = parts R xs ys pairs.1 in ((all_front (R x) xs ys pairs.0, rest.0), rest.1, (all_back (R x) xs ys pairs.0, rest.2))
+
+module _ (from : ℕ) (latest earlier last : List Placed) (swept : AreSwept from latest last) where
+  abbrev dropped : List Placed
+  dropped = without_front_dead from earlier
+
+  pub dropped_each : (P : Placed → Type 0) → AllByRecursion P (latest ++ earlier) → AllByRecursion P (last ++ dropped)
+  dropped_each P each = all-append P last dropped (swept_each P from latest last swept (all_front P latest earlier each)) (front_each P from earlier (all_back P latest earlier each))
+
+  across : AllByRecursion (λ x. AllByRecursion (λ y. x.place ≢ y.place) earlier) latest → AllByRecursion (λ x. AllByRecursion (λ y. x.place ≢ y.place) dropped) last
+  across all = each last (swept_each _ from latest last swept all)
+    where
+      each : (xs : List Placed) → AllByRecursion (λ x. AllByRecursion (λ y. x.place ≢ y.place) earlier) xs → AllByRecursion (λ x. AllByRecursion (λ y. x.place ≢ y.place) dropped) xs
+      each [] h = tt
+      each (x ∷ xs) h = (front_each (λ y. x.place ≢ y.place) from earlier h.0, each xs h.1)
+
+  pub dropped_apart : AreWellPlaced latest earlier → AreWellPlaced last dropped
+  dropped_apart h =
+      let places = parts (λ x y. x.place ≢ y.place) latest earlier h.places in
+      record {
+        places = ascending-append (λ x y. x.place ≢ y.place) last dropped (swept_pairs (λ x y. x.place ≢ y.place) (λ x y apart e. apart (sym e)) from latest last swept places.0)
+            (front_pairs (λ x y. x.place ≢ y.place) from earlier places.1) (across places.2);
+        keys = swept_pairs _ keys_turned from latest last swept h.keys;
+        current = swept_pairs IsOneCurrent one_turned from latest last swept h.current;
+        ended = front_each (λ x. x.version.died ≢ None) from earlier h.ended;
+        each = dropped_each (λ x. IsStorable x.version) h.each;
+      }
+
+  pub dropped_same : AreWellPlaced latest earlier → left_from from (versions_by_place (last ++ dropped)) ≡ left_from from (versions_by_place (latest ++ earlier))
+  dropped_same h = left_same from (latest ++ earlier) (last ++ dropped) both h.places
+    where
+      both : IsPermutation (placed_left from (latest ++ earlier)) (placed_left from (last ++ dropped))
+      both = rw (filter-append (λ x. is_left from x.version) latest earlier, filter-append (λ x. is_left from x.version) last dropped, front_left from earlier)
+          (IsPermutation-append_left (placed_left from earlier) _ _ (swept_left from latest last swept))
 
 -- from stamp 0 on none is hidden
 all_last : (died : Option ℕ) → lasts_to 0 died ≡ true

@@ -1,22 +1,19 @@
 -- What a store shows of the versions in its tables.
-use Rattle.std.proofs.Common.{◌≡◌, ℕ, ◌+◌, ◌≤◌, max, List, map, ap, ◌∙◌}
+use Rattle.std.proofs.Common.{◌≡◌, ℕ, ◌≤◌, List, ap, ◌∙◌}
 use Rattle.std.specs.List.{AllByRecursion}
 use Rattle.sqlite_trees.proofs.ListLemmas.{all-filter, all-map, all-permutation}
 use Rattle.txc_rows.specs.declared.query.Change.{Change}
-use Rattle.txc_rows.specs.Versions.{after_net, purged}
+use Rattle.txc_rows.specs.Versions.{after_net}
 use Rattle.txc_rows.specs.Holdable.{IsStorable}
-use Rattle.txc_rows.specs.Placed.{Placed, version_of, by_place, versions_by_place, is_left, left_from, HaveOwnPlaces, AreWritten, AreSwept}
+use Rattle.txc_rows.specs.declared.placed.Placed.{Placed}
+use Rattle.txc_rows.specs.Placed.{version_of, by_place, versions_by_place, is_left, left_from, AreWritten}
 use Rattle.txc_rows.proofs.PlaceLemmas.{by_place_permutes}
-use Rattle.txc_rows.proofs.SweepLemmas.{swept_same, purged_left, net_left}
+use Rattle.txc_rows.proofs.SweepLemmas.{net_left}
 
 -- after a write at a stamp that no death is hidden at
 pub written_view : (from s : ℕ) → from ≤ s → (net : List Change) (old new : List Placed) (next : ℕ) → AreWritten (after_net s net (versions_by_place old)) next new
     → left_from from (versions_by_place new) ≡ after_net s net (left_from from (versions_by_place old))
 written_view from s low net old new next written = ap (left_from from) written.versions_are ∙ net_left from s low net (versions_by_place old)
-
--- after a sweep, from the next death on
-pub purged_view : (from h : ℕ) (old new : List Placed) → HaveOwnPlaces old → AreSwept (max from (h + 1)) old new → left_from (max from (h + 1)) (versions_by_place new) ≡ purged h (left_from from (versions_by_place old))
-purged_view from h old new own swept = swept_same (max from (h + 1)) old new swept own ∙ purged_left from h (versions_by_place old)
 
 -- each can be held
 pub view_each : (from : ℕ) (placed : List Placed) → AllByRecursion (λ x. IsStorable x.version) placed → AllByRecursion IsStorable (left_from from (versions_by_place placed))

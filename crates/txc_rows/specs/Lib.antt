@@ -9,10 +9,9 @@ pub mod Found
 pub mod StoreErrors
 pub mod Holdable
 pub mod Texts
-pub mod Readings
 pub mod Placed
 pub mod Stored
-pub mod Marked
+pub mod Indexed
 pub mod Kept
 pub mod Keeping
 pub mod Uses

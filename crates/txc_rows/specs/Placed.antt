@@ -1,17 +1,13 @@
 -- Versions with their places in the one list of versions, apart by which are the last of a table, id and group.
-use Rattle.std.specs.Prelude.{◌≡◌, ◌≢◌, ◌<◌, ℕ, Bool, true, false, ◌&&◌, ◌==◌, nat_lt, nat_le, List, [], ◌∷◌, ◌++◌, length, filter, if◌then◌else◌, map, Option, Some, None}
+use Rattle.std.specs.Prelude.{◌≡◌, ◌≢◌, ◌⊎◌, ◌<◌, ℕ, Bool, true, false, not, ◌&&◌, ◌||◌, ◌==◌, nat_lt, nat_le, List, [], ◌∷◌, ◌++◌, length, filter, if◌then◌else◌, map, Option, Some, None}
 use Rattle.std.specs.List.Sorted.{IsPermutation}
 use Rattle.std.specs.List.{AllByRecursion}
 use Rattle.sqlite.specs.Tree.{IsAscending}
+use Rattle.txc_rows.specs.declared.placed.Placed.{Placed}
 use Rattle.txc_rows.specs.declared.version.Versioned.{Versioned}
-use Rattle.txc_rows.specs.Versions.{closed}
+use Rattle.txc_rows.specs.Versions.{is_current, closed}
 use Rattle.txc_rows.specs.States.{RowValue, is_at}
 use Rattle.txc_rows.specs.Holdable.{IsStorable}
-
--- a version, and where it stands among all
-pub record Placed : Type 0 where
-  pub place : ℕ
-  pub version : Versioned
 
 -- the version alone
 abbrev pub version_of : Placed → Versioned
@@ -48,9 +44,27 @@ left_from from = filter (is_left from)
 abbrev pub placed_left : ℕ → List Placed → List Placed
 placed_left from = filter (λ x. is_left from x.version)
 
+-- the first of them died before the stamp
+abbrev pub has_front_died : ℕ → List Placed → Bool
+has_front_died from [] = false
+has_front_died from (x ∷ xs) = not (is_left from x.version)
+
+-- without those at the front that died before the stamp
+abbrev pub without_front_dead : ℕ → List Placed → List Placed
+without_front_dead from [] = []
+without_front_dead from (x ∷ xs) = if is_left from x.version then x ∷ xs else without_front_dead from xs
+
 -- the version is of that table, id and group
 abbrev pub has_key : ℕ → ℕ → ℕ → Placed → Bool
 has_key table id group x = is_at table id x.version.row && (x.version.row.group == group)
+
+-- the version is of that group
+abbrev pub in_group : ℕ → Placed → Bool
+in_group group x = x.version.row.group == group
+
+-- a put of that table, id and group ends or replaces it: it is of the table and id, and current or of the group
+abbrev pub is_touched : ℕ → ℕ → ℕ → Placed → Bool
+is_touched table id group x = is_at table id x.version.row && (is_current x.version || in_group group x)
 
 -- the version after a change of the table and id at the stamp, at the same place
 abbrev pub closed_placed : ℕ → ℕ → ℕ → Placed → Placed
@@ -81,13 +95,13 @@ abbrev pub IsOneCurrent : Placed → Placed → Type 0
 IsOneCurrent x y = is_at x.version.row.table x.version.row.id y.version.row ≡ true → x.version.died ≡ None
     → y.version.died ≢ None
 
--- all versions, the last of each table, id and group apart from those before it, which have died
-pub record AreWellPlaced (latest dead : List Placed) : Type 0 where
-  pub places : HaveOwnPlaces (latest ++ dead)
+-- all versions: the last of each table, id and group, and those that were replaced, which have died
+pub record AreWellPlaced (latest replaced : List Placed) : Type 0 where
+  pub places : HaveOwnPlaces (latest ++ replaced)
   pub keys : HaveOwnKeys latest
   pub current : IsAscending IsOneCurrent latest
-  pub ended : AllByRecursion (λ x. x.version.died ≢ None) dead
-  pub each : AllByRecursion (λ x. IsStorable x.version) (latest ++ dead)
+  pub ended : AllByRecursion (λ x. x.version.died ≢ None) replaced
+  pub each : AllByRecursion (λ x. IsStorable x.version) (latest ++ replaced)
 
 -- the last versions after a put: the new one stands in place of the last of its table, id and group, or else at
 -- the end
@@ -95,21 +109,25 @@ abbrev pub put_latest : ℕ → RowValue → ℕ → List Placed → List Placed
 put_latest place row stamp latest = if length (filter (has_key row.table row.id row.group) latest) == 0
     then latest ++ new_placed place row stamp ∷ [] else map (renewed place row stamp) latest
 
--- the dead versions after it: that last one is one of them
-abbrev pub put_dead : RowValue → List Placed → List Placed → List Placed
-put_dead row latest dead = dead ++ filter (has_key row.table row.id row.group) latest
+-- those that were replaced after it: that last one is one of them
+abbrev pub put_replaced : RowValue → List Placed → List Placed → List Placed
+put_replaced row latest replaced = replaced ++ filter (has_key row.table row.id row.group) latest
 
 -- these are the versions by place, and each place is below the next one
 pub record AreWritten (versions : List Versioned) (next : ℕ) (placed : List Placed) : Type 0 where
   pub versions_are : versions_by_place placed ≡ versions
   pub below : AreBelow next placed
 
--- of those that did not die before the stamp none is missing or new, and no place is new
-pub record AreSwept (from : ℕ) (old placed : List Placed) : Type 0 where
-  pub left : IsPermutation (placed_left from old) (placed_left from placed)
-  pub below : (next : ℕ) → AreBelow next old → AreBelow next placed
+-- the same of last versions and replaced ones that are well placed
+pub record AreAll (versions : List Versioned) (next : ℕ) (replaced latest : List Placed) : Type 0 where
+  pub apart : AreWellPlaced latest replaced
+  pub written : AreWritten versions next (latest ++ replaced)
 
--- these are all that did not die before the stamp, and no place is new
-pub record AreLeft (from : ℕ) (old placed : List Placed) : Type 0 where
-  pub left : IsPermutation (placed_left from old) placed
-  pub below : (next : ℕ) → AreBelow next old → AreBelow next placed
+-- they are the same, or those alone that did not die before the stamp
+abbrev pub AreSwept : ℕ → List Placed → List Placed → Type 0
+AreSwept from old new = (new ≡ old) ⊎ IsPermutation (placed_left from old) new
+
+-- more were added at the end
+pub record AddsAtEnd (old new : List Placed) : Type 0 where
+  pub more : List Placed
+  pub are : new ≡ old ++ more

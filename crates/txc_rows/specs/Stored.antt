@@ -9,7 +9,7 @@ use Rattle.sqlite.specs.declared.types.Value.TheVariants.{Null, Int, Real, Text,
 use Rattle.sqlite.specs.Order.{Row, column, bytes}
 use Rattle.sqlite.specs.Values.{or_null}
 use Rattle.txc_rows.specs.declared.version.Versioned.{Versioned}
-use Rattle.txc_rows.specs.Placed.{Placed}
+use Rattle.txc_rows.specs.declared.placed.Placed.{Placed}
 
 -- a number as the store keeps it
 abbrev pub number : ℕ → Value

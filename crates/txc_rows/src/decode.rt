@@ -4,9 +4,10 @@ ghost use Rattle.std.specs.Prelude.{◌≡◌, ◌≤◌, IfOk, IfErr, Some, map
 ghost use Rattle.std.specs.List.{AllByRecursion};
 ghost use Rattle.txc_stamp.specs.declared.stamp.TheConstants.{LAST_STAMP};
 ghost use Rattle.txc_rows.specs.Values.{IsBody};
-ghost use Rattle.txc_rows.specs.Stored.{version_shown};
-ghost use Rattle.txc_rows.specs.Kept.{IsShown};
+ghost use Rattle.txc_rows.specs.Stored.{placed_from, version_shown};
+ghost use Rattle.txc_rows.specs.Kept.{IsPlacedRow, IsShown};
 
+use crate::placed::Placed;
 use crate::row::Row;
 use crate::store_error::StoreError;
 use crate::version::Versioned;
@@ -70,4 +71,42 @@ pub(crate) fn versions_from(
         versions.push(version)?;
     }
     Ok(versions)
+}
+
+fn placed_from(table: Table, row: &sqlite::Row) -> Result<Placed, sqlite::Error>
+    requires { IsPlacedRow table row.now }
+    ensures { IfOk result (λ x. x ≡ placed_from row.now) }
+{
+    let place: u32 = row.get(0)?;
+    let id: u32 = row.get(2)?;
+    let born: u32 = row.get(3)?;
+    let group: u32 = row.get(4)?;
+    let body: Vec<u8> = row.get(5)?;
+    let died: Option<u32> = row.get(6)?;
+    Ok(Placed {
+        place,
+        version: Versioned {
+            row: row_from(table, id, group, body),
+            born: Stamp::after(born as usize),
+            died: death_from(died),
+        },
+    })
+}
+
+/// The versions of a table that the rows are.
+pub(crate) fn all_placed_from(
+    alloc: Global,
+    table: Table,
+    rows: &[sqlite::Row],
+) -> Result<Vec<Placed>, sqlite::Error>
+    requires { AllByRecursion (IsPlacedRow table) rows.now }
+    ensures { IfOk result (λ xs. xs.items ≡ map placed_from rows.now) }
+{
+    let mut placed = Vec::new(alloc);
+    for row in rows {
+        let Ok(()) = placed.push(placed_from(table, row)?) else {
+            return Err(sqlite::Error::SqliteFailure(sqlite::ErrorCode::OutOfMemory));
+        };
+    }
+    Ok(placed)
 }

@@ -1,18 +1,18 @@
 //! Rows of tables, changes of them, queries over them, and the versions of rows that say every kept state.
 #![tactic(auto)]
 
+mod counts;
 mod decode;
 mod laws;
-mod marks;
+mod placed;
 mod query;
 mod reads;
+mod replaced;
 mod row;
-mod segments;
 mod statements;
 mod store;
 mod store_error;
 mod store_laws;
-mod tally;
 mod texts;
 mod version;
 mod writes;

@@ -3,22 +3,21 @@
 ghost use Rattle.std.specs.Prelude.{◌≡◌, ℕ, ◌+◌, ◌^◌, ◌<◌, ◌≤◌, [], Ok, IfOk, IfErr, OnOk, OnErr, length, filter, map};
 ghost use Rattle.std.specs.List.Sorted.{IsPermutation, IsSorted};
 ghost use Rattle.txc_rows.specs.Versions.{suits, current, purged, after_net, version_cmp};
-ghost use Rattle.txc_rows.specs.declared.texts.Source.TheVariants.{Dead};
-ghost use Rattle.txc_rows.specs.Placed.{version_of, left_from, AreSwept};
-ghost use Rattle.txc_rows.specs.Kept.{placed_of, placed_read, versions_of, used_of, AreEmptyBefore, AreMarked, AreAtMost, IsKept, IsCall, IsSame, IsRoom, IsFinding};
+ghost use Rattle.txc_rows.specs.Placed.{version_of, left_from, AreSwept, AreWellPlaced};
+ghost use Rattle.txc_rows.specs.Kept.{latest_in, versions_of, IsKept, IsCall, IsSame, IsRoom, IsFinding, IsStore};
 ghost use Rattle.txc_rows.specs.States.{State};
 ghost use Rattle.txc_rows.specs.Found.{Finds};
 ghost use Rattle.txc_rows.specs.Keeping.{KeepsStates, KeepsWritten, KeepsPurged, AnswersStates, AnswersNewest};
 ghost use Rattle.txc_rows.specs.StoreErrors.{IsStoreRefusal};
 ghost use Rattle.txc_rows.specs.declared.store_error.TheConstants.{MAX_MATCHING};
 
+use crate::counts::Counts;
 use crate::decode::versions_from;
 use crate::query::{Change, Query};
 use crate::reads::read;
-use crate::statements::{create, sweep_all, sweep_dead};
+use crate::replaced::Replaced;
+use crate::statements::{create, rebuild};
 use crate::store_error::{MAX_MATCHING, StoreError};
-use crate::tally::Tally;
-use crate::texts::{SEGMENTS, Segment, Source};
 use crate::version::Versioned;
 use crate::writes::write_all;
 use sqlite::{Connection, MemStore};
@@ -26,15 +25,17 @@ use std::alloc::Global;
 use std::marker::Model;
 use txc_stamp::Stamp;
 
-/// Row versions in a store in memory. Contracts see the list of its versions, the earliest put first.
+/// Row versions in a store in memory: the last of each table, id and group in a table of SQLite, and those that later ones
+/// replaced beside it. Contracts see the list of its versions, the earliest put first.
 #[derive(Drop)]
 pub struct VersionRows {
     conn: Connection<MemStore>,
+    replaced: Replaced,
     /// The place of the next version: each that is stored has a lower one.
     next_place: u32,
-    /// Versions that died before it are gone, though the tables may still have them.
+    /// Versions that died before it are gone, though they may still be stored.
     kept_from: u32,
-    tally: Tally,
+    counts: Counts,
     alloc: Global,
 }
 
@@ -46,15 +47,15 @@ impl Model for VersionRows {
 
     ghost Value = { List Versioned };
 
-    ghost view = { λ a. left_from a.kept_from (versions_of a.conn) };
+    ghost view = { λ a. left_from a.kept_from (versions_of a.replaced a.conn) };
 
-    ghost invariant = { λ a. IsStore a.next_place a.tally a.conn };
+    ghost invariant = { λ a. IsStore a.next_place a.replaced a.conn };
 }
 
-/// A connection with the tables and no version.
-fn open_tables(alloc: Global) -> Result<Connection<MemStore>, sqlite::Error>
+/// A connection with the table and no version.
+fn open_table(alloc: Global) -> Result<Connection<MemStore>, sqlite::Error>
     ensures kept { IfOk result IsKept }
-    ensures empty { IfOk result (λ conn. placed_of conn ≡ []) }
+    ensures empty { IfOk result (λ conn. latest_in conn ≡ []) }
 {
     let mut conn = Connection::open_in_memory(alloc)?;
     create(&mut conn)?;
@@ -72,63 +73,51 @@ fn place_after(place: u32, more: usize) -> Result<u32, sqlite::Error>
     Ok(place + more as u32)
 }
 
-/// Makes tables anew without what died before the stamp, where that is as much as what is left.
+/// Makes the table anew without what died before the stamp, where that is as much as what is left.
 fn sweep(
     conn: &mut Connection<MemStore>,
-    alloc: Global,
-    tally: &mut Tally,
+    counts: &mut Counts,
     from: u32,
 ) -> Result<(), sqlite::Error>
-    requires kept { IsKept conn.old }
-    requires empty { AreEmptyBefore (used_of tally.old) conn.old }
-    ensures call { IsCall (AreSwept from (placed_of conn.old)) conn.old conn.new result }
-    ensures empty { AreEmptyBefore (used_of tally.new) conn.new }
-    ensures marked { AreMarked tally.old.marks conn.old → AreMarked tally.new.marks conn.new }
-    ensures few { AreAtMost tally.old.dead conn.old → AreAtMost tally.new.dead conn.new }
+    requires { IsKept conn.old }
+    ensures { IsCall (AreSwept from (latest_in conn.old)) conn.old conn.new result }
 {
-    if tally.is_mostly_ended(from) {
-        let (rows, kept, marks) = sweep_all(conn, alloc, from)?;
-        tally.sweep_all(rows, kept, marks);
-    } else if tally.is_mostly_dead(from) {
-        let (kept, marks) = sweep_dead(conn, alloc, tally.in_use(), from)?;
-        tally.sweep_dead(kept, marks);
+    if counts.is_mostly_ended(from) {
+        let rows = rebuild(conn, from)?;
+        counts.rebuilt(rows);
     }
     Ok(())
 }
 
-/// Before a write at the stamp: a segment has room, and no death at the stamp is hidden. It answers from which
-/// stamp on deaths are shown.
+/// Before a write at the stamp: no death at the stamp is hidden. It answers from which stamp on deaths are shown.
 fn make_room(
     conn: &mut Connection<MemStore>,
+    replaced: &mut Replaced,
     alloc: Global,
-    tally: &mut Tally,
+    counts: &mut Counts,
     kept_from: u32,
     stamp: u32,
 ) -> Result<u32, sqlite::Error>
-    requires kept { IsKept conn.old }
-    requires empty { AreEmptyBefore (used_of tally.old) conn.old }
-    ensures room { IsRoom kept_from stamp conn.old conn.new result }
-    ensures empty { AreEmptyBefore (used_of tally.new) conn.new }
-    ensures marked { AreMarked tally.old.marks conn.old → AreMarked tally.new.marks conn.new }
-    ensures few { AreAtMost tally.old.dead conn.old → AreAtMost tally.new.dead conn.new }
+    requires { IsKept conn.old }
+    ensures { (next : ℕ) → IsStore next replaced.old conn.old
+        → IsRoom kept_from stamp next replaced.old conn.old replaced.new conn.new result }
 {
-    if stamp < kept_from {
-        let (rows, kept, marks) = sweep_all(conn, alloc, kept_from)?;
-        tally.sweep_all(rows, kept, marks);
-        return Ok(0);
+    if stamp >= kept_from {
+        return Ok(kept_from);
     }
-    if !tally.has_room() {
-        let (kept, marks) = sweep_dead(conn, alloc, tally.in_use(), kept_from)?;
-        tally.sweep_dead(kept, marks);
-    }
-    Ok(kept_from)
+    let Ok(left) = replaced.left(alloc, kept_from) else {
+        return Err(sqlite::Error::SqliteFailure(sqlite::ErrorCode::OutOfMemory));
+    };
+    let rows = rebuild(conn, kept_from)?;
+    *replaced = left;
+    counts.rebuilt(rows);
+    Ok(0)
 }
 
-/// The versions of one table that match, of those that did not die before the stamp, come to the found ones.
+/// The last versions that match, of those that did not die before the stamp, come to the found ones.
 fn find(
     conn: &mut Connection<MemStore>,
     alloc: Global,
-    source: Source,
     query: &Query,
     from: u32,
     found: &mut Vec<Versioned>,
@@ -136,45 +125,17 @@ fn find(
     requires kept { IsKept conn.old }
     requires few { length found.old.items ≤ MAX_MATCHING }
     ensures same { IsSame conn.old conn.new }
-    ensures finds { OnOk result (IsFinding query.now from (placed_read source conn.old) found.old.items found.new.items) }
+    ensures finds { OnOk result (IsFinding query.now from (latest_in conn.old) found.old.items found.new.items) }
     ensures refused { result ≡ Err StoreError.TooManyRows
-        → MAX_MATCHING < length found.old.items + length (filter (suits query.now) (left_from from (map version_of (placed_read source conn.old)))) }
+        → MAX_MATCHING < length found.old.items + length (filter (suits query.now) (left_from from (map version_of (latest_in conn.old)))) }
 {
-    let rows = read(conn, source, query, from)?;
+    let rows = read(conn, query, from)?;
     if rows.len() > MAX_MATCHING - found.len() {
         return Err(StoreError::TooManyRows);
     }
     let mut more = versions_from(alloc, query.table(), &rows)?;
     found.append(&mut more)?;
     Ok(())
-}
-
-/// The same of a segment, which is read where it is in use and may have a version that matches.
-fn find_dead(
-    conn: &mut Connection<MemStore>,
-    alloc: Global,
-    segment: Segment,
-    query: &Query,
-    from: u32,
-    tally: &Tally,
-    found: &mut Vec<Versioned>,
-) -> Result<(), StoreError>
-    requires kept { IsKept conn.old }
-    requires few { length found.old.items ≤ MAX_MATCHING }
-    requires empty { AreEmptyBefore (used_of tally.now) conn.old }
-    requires marked { AreMarked tally.now.marks conn.old }
-    ensures same { IsSame conn.old conn.new }
-    ensures finds { OnOk result (IsFinding query.now from (placed_read (Dead segment) conn.old) found.old.items found.new.items) }
-    ensures refused { result ≡ Err StoreError.TooManyRows
-        → MAX_MATCHING < length found.old.items + length (filter (suits query.now) (left_from from (map version_of (placed_read (Dead segment) conn.old)))) }
-{
-    if !tally.uses(segment) {
-        return Ok(());
-    }
-    if !tally.may_match(segment, query) {
-        return Ok(());
-    }
-    find(conn, alloc, Source::Dead(segment), query, from, found)
 }
 
 /// By id, and then by birth.
@@ -190,79 +151,72 @@ fn sort(versions: &mut Vec<Versioned>) -> Result<(), StoreError>
 /// The versions that match, of those that did not die before the stamp, by id and then by birth.
 fn find_all(
     conn: &mut Connection<MemStore>,
+    replaced: &Replaced,
     alloc: Global,
     query: &Query,
     from: u32,
-    tally: &Tally,
 ) -> Result<Vec<Versioned>, StoreError>
     requires kept { IsKept conn.old }
-    requires empty { AreEmptyBefore (used_of tally.now) conn.old }
-    requires marked { AreMarked tally.now.marks conn.old }
+    requires apart { AreWellPlaced (latest_in conn.old) replaced.now }
     ensures same { IsSame conn.old conn.new }
-    ensures finds { IfOk result (λ found. Finds query.now (left_from from (versions_of conn.old)) found.items) }
+    ensures finds { IfOk result (λ found. Finds query.now (left_from from (versions_of replaced.now conn.old)) found.items) }
     ensures bound { IfOk result (λ found. length found.items ≤ MAX_MATCHING) }
     ensures refused { result ≡ Err StoreError.TooManyRows
-        → MAX_MATCHING < length (filter (suits query.now) (left_from from (versions_of conn.old))) }
+        → MAX_MATCHING < length (filter (suits query.now) (left_from from (versions_of replaced.now conn.old))) }
 {
     let mut found = Vec::new(alloc);
-    find(conn, alloc, Source::Latest, query, from, &mut found)?;
-    for segment in SEGMENTS {
-        find_dead(conn, alloc, *segment, query, from, tally, &mut found)?;
-    }
+    find(conn, alloc, query, from, &mut found)?;
+    replaced.find(alloc, query, from, &mut found)?;
     sort(&mut found)?;
     Ok(found)
 }
 
-/// The versions that match, without some that died. The segments are read where they may have so many that too many
+/// The versions that match, without some that died. The replaced ones are read where they may be so many that too many
 /// match.
 fn find_last(
     conn: &mut Connection<MemStore>,
+    replaced: &Replaced,
     alloc: Global,
     query: &Query,
     from: u32,
-    tally: &Tally,
 ) -> Result<Vec<Versioned>, StoreError>
     requires kept { IsKept conn.old }
-    requires empty { AreEmptyBefore (used_of tally.now) conn.old }
-    requires marked { AreMarked tally.now.marks conn.old }
-    requires few { AreAtMost tally.now.dead conn.old }
+    requires apart { AreWellPlaced (latest_in conn.old) replaced.now }
     ensures same { IsSame conn.old conn.new }
     ensures finds { IfOk result (λ found. IsPermutation
-        (filter (suits query.now) (current (left_from from (versions_of conn.old)))) (current found.items)) }
-    ensures bound { OnOk result (length (filter (suits query.now) (left_from from (versions_of conn.old))) ≤ MAX_MATCHING) }
+        (filter (suits query.now) (current (left_from from (versions_of replaced.now conn.old)))) (current found.items)) }
+    ensures bound { OnOk result (length (filter (suits query.now) (left_from from (versions_of replaced.now conn.old))) ≤ MAX_MATCHING) }
     ensures refused { result ≡ Err StoreError.TooManyRows
-        → MAX_MATCHING < length (filter (suits query.now) (left_from from (versions_of conn.old))) }
+        → MAX_MATCHING < length (filter (suits query.now) (left_from from (versions_of replaced.now conn.old))) }
 {
-    if !tally.are_few_with(0) {
-        return find_all(conn, alloc, query, from, tally);
+    if replaced.len() > MAX_MATCHING {
+        return find_all(conn, replaced, alloc, query, from);
     }
     let mut last = Vec::new(alloc);
-    find(conn, alloc, Source::Latest, query, from, &mut last)?;
-    if tally.are_few_with(last.len()) {
+    find(conn, alloc, query, from, &mut last)?;
+    if replaced.len() <= MAX_MATCHING - last.len() {
         return Ok(last);
     }
-    find_all(conn, alloc, query, from, tally)
+    find_all(conn, replaced, alloc, query, from)
 }
 
 /// The versions that match and have not died, by id and then by birth.
 fn find_current(
     conn: &mut Connection<MemStore>,
+    replaced: &Replaced,
     alloc: Global,
     query: &Query,
     from: u32,
-    tally: &Tally,
 ) -> Result<Vec<Versioned>, StoreError>
     requires kept { IsKept conn.old }
-    requires empty { AreEmptyBefore (used_of tally.now) conn.old }
-    requires marked { AreMarked tally.now.marks conn.old }
-    requires few { AreAtMost tally.now.dead conn.old }
+    requires apart { AreWellPlaced (latest_in conn.old) replaced.now }
     ensures same { IsSame conn.old conn.new }
-    ensures finds { IfOk result (λ found. Finds query.now (current (left_from from (versions_of conn.old))) found.items) }
-    ensures bound { OnOk result (length (filter (suits query.now) (left_from from (versions_of conn.old))) ≤ MAX_MATCHING) }
+    ensures finds { IfOk result (λ found. Finds query.now (current (left_from from (versions_of replaced.now conn.old))) found.items) }
+    ensures bound { OnOk result (length (filter (suits query.now) (left_from from (versions_of replaced.now conn.old))) ≤ MAX_MATCHING) }
     ensures refused { result ≡ Err StoreError.TooManyRows
-        → MAX_MATCHING < length (filter (suits query.now) (left_from from (versions_of conn.old))) }
+        → MAX_MATCHING < length (filter (suits query.now) (left_from from (versions_of replaced.now conn.old))) }
 {
-    let mut found = find_last(conn, alloc, query, from, tally)?;
+    let mut found = find_last(conn, replaced, alloc, query, from)?;
     found.retain(|version| version.died.is_none());
     sort(&mut found)?;
     Ok(found)
@@ -276,13 +230,13 @@ impl VersionRows {
             (states : ℕ → State) → states 0 ≡ [] → KeepsStates states 0 0 rows) }
         ensures refused { IfErr result IsStoreRefusal }
     {
-        let conn = open_tables(alloc)?;
-        let tally = Tally::empty(alloc)?;
+        let conn = open_table(alloc)?;
         Ok(VersionRows {
             conn,
+            replaced: Replaced::new(alloc),
             next_place: 0,
             kept_from: 0,
-            tally,
+            counts: Counts::NONE,
             alloc,
         })
     }
@@ -298,10 +252,10 @@ impl VersionRows {
     {
         find_all(
             &mut self.conn,
+            &self.replaced,
             self.alloc,
             query,
             self.kept_from,
-            &self.tally,
         )
     }
 
@@ -317,10 +271,10 @@ impl VersionRows {
     {
         find_current(
             &mut self.conn,
+            &self.replaced,
             self.alloc,
             query,
             self.kept_from,
-            &self.tally,
         )
     }
 
@@ -337,22 +291,22 @@ impl VersionRows {
         let number = stamp.number();
         let kept_from = make_room(
             &mut self.conn,
+            &mut self.replaced,
             self.alloc,
-            &mut self.tally,
+            &mut self.counts,
             self.kept_from,
             number,
         )?;
         self.kept_from = kept_from;
-        let segment = self.tally.segment();
         let written = write_all(
             &mut self.conn,
+            &mut self.replaced,
+            self.alloc,
             net,
             stamp,
             place,
-            segment,
-            &mut self.tally.marks,
         )?;
-        self.tally.note(written, number);
+        self.counts.note(written, number);
         self.next_place = next_place;
         Ok(())
     }
@@ -365,8 +319,9 @@ impl VersionRows {
         ensures refused { IfErr result IsStoreRefusal }
     {
         let from = self.kept_from.max(horizon.number() + 1);
-        sweep(&mut self.conn, self.alloc, &mut self.tally, from)?;
-        self.tally.mark(from);
+        sweep(&mut self.conn, &mut self.counts, from)?;
+        self.replaced.purge(from);
+        self.counts.hide(from);
         self.kept_from = from;
         Ok(())
     }

@@ -1,7 +1,8 @@
-ghost use Rattle.std.specs.Prelude.{◌≡◌};
+ghost use Rattle.std.specs.Prelude.{◌≡◌, IfOk};
 ghost use Rattle.txc_rows.specs.Versions.{is_visible};
 
 use crate::row::Row;
+use std::alloc::{AllocError, Global};
 use txc_stamp::Stamp;
 
 /// A row with the stamps at which it stands: from `born` to the stamp before `died`, or on while that is
@@ -23,5 +24,16 @@ impl Versioned {
             None => true,
         };
         self.born <= at && lives
+    }
+
+    /// An equal version.
+    pub(crate) fn copy(&self, alloc: Global) -> Result<Versioned, AllocError>
+        ensures { IfOk result (λ v. v ≡ self.now) }
+    {
+        Ok(Versioned {
+            row: self.row.copy(alloc)?,
+            born: self.born,
+            died: self.died,
+        })
     }
 }

@@ -5,10 +5,10 @@ use Rattle.sqlite.specs.State.{ExecutesInside}
 use Rattle.sqlite.proofs.Callers.{memory_is_clean}
 use Rattle.txc_rows.specs.declared.texts.TheConstants.{ADD_LATEST}
 use Rattle.txc_rows.specs.Stored.{cells_of, placed_from}
-use Rattle.txc_rows.specs.Kept.{latest_in, dead_in, HasVersions}
+use Rattle.txc_rows.specs.Kept.{latest_in, HasLatest}
 use Rattle.txc_rows.proofs.WriteLemmas.{adds_latest}
 use Rattle.txc_rows.proofs.SweepCalls.{bound_cells}
-use Rattle.txc_rows.proofs.HeldLemmas.{steps, has_left, others_stay}
+use Rattle.txc_rows.proofs.HeldLemmas.{steps, has_latest}
 use Rattle.txc_rows.proofs.statements.add_row.Goals as goal
 
 ran : (c : goal.After-execute) → ExecutesInside 0 ADD_LATEST.now (cells_of (placed_from c.args.row.now)) (state over_memory c.args.tx.now.conn.now) (state over_memory c.execute.new.self.conn.now) c.execute.result
@@ -20,13 +20,5 @@ returns-clause-step c =
     let new = c.execute.new.self.conn.now in
     let x = placed_from c.args.row.now in
     let has = c.requires.table in
-    steps ADD_LATEST.now (cells_of x) (HasVersions (latest_in old ++ x ∷ []) (dead_in old)) old new c.execute.result (ran c)
-    (λ count run. has_left _ _ new (adds_latest (state over_memory old) (state over_memory new) x count has.schema has.latest has.dead run))
-
-pub returns-clause-others : goal.returns-clause-others
-returns-clause-others c =
-    let old = c.args.tx.now.conn.now in
-    let new = c.execute.new.self.conn.now in
-    let x = placed_from c.args.row.now in
-    let has = c.requires.table in
-    others_stay ADD_LATEST.now (cells_of x) 0 old new c.execute.result (ran c) (λ count run. (adds_latest (state over_memory old) (state over_memory new) x count has.schema has.latest has.dead run).others)
+    steps ADD_LATEST.now (cells_of x) (HasLatest (latest_in old ++ x ∷ [])) old new c.execute.result (ran c)
+    (λ count run. has_latest _ new (adds_latest (state over_memory old) (state over_memory new) x count has.schema has.latest run))

@@ -1,8 +1,6 @@
 use Rattle.std.proofs.Common.{◌≡◌, ◌+◌, ◌++◌, ◌∷◌, [], map, drop, sym, ap, subst, ◌∙◌, refl, append_assoc, append-nil}
 use Rattle.std.specs.List.{AllByRecursion}
-use Rattle.std.specs.List.Sorted.{IsPermutation}
 use Rattle.std.proofs.lemmas.List.{drop_all}
-use Rattle.std.proofs.lemmas.List.Sorted.{IsPermutation-refl, IsPermutation-trans}
 use Rattle.txc_rows.specs.Stored.{AreCells, placed_from}
 use Rattle.txc_rows.specs.Kept.{latest_in}
 use Rattle.txc_rows.proofs.SweepCalls.{next_first}
@@ -22,14 +20,12 @@ loop-row-preserved c =
     let next : (latest_in old ++ x ∷ []) ++ later ≡ latest_in old ++ map placed_from (drop c.loop-row.row-index c.args.rows.now) =
     append_assoc (latest_in old) (x ∷ []) later ∙ ap (λ rs. latest_in old ++ map placed_from rs) (sym split) in
     record {
-      tables = step.leaves.tables;
+      table = step.leaves.table;
       latest = ap (λ xs. xs ++ later) step.leaves.latest_are ∙ next ∙ i.latest;
-      dead = IsPermutation-trans _ _ _ i.dead step.leaves.dead_are;
       inside = step.inside;
       base = step.base ∙ i.base;
       rest = (subst (AllByRecursion AreCells) split i.rest).1;
       same = c.in_ok-add_row.ensures.same_reference ∙ i.same;
-      others = λ s off. c.in_ok-add_row.ensures.others s off ∙ i.others s off;
     }
 
 pub returns-clause-step : goal.returns-clause-step
@@ -38,9 +34,8 @@ returns-clause-step c =
     let past = drop_all c.loop-row.row-index c.args.rows.now c.loop-row-test.false in
     record {
       leaves = record {
-        tables = i.tables;
+        table = i.table;
         latest_are = sym (append-nil (latest_in c.loop-row.tx.conn.now)) ∙ ap (λ rs. latest_in c.loop-row.tx.conn.now ++ map placed_from rs) (sym past) ∙ i.latest;
-        dead_are = i.dead;
       };
       inside = i.inside;
       base = i.base;
@@ -48,12 +43,10 @@ returns-clause-step c =
 
 pub loop-row-init : goal.loop-row-init
 loop-row-init c = record {
-  tables = c.requires.table;
+  table = c.requires.table;
   latest = refl;
-  dead = IsPermutation-refl _;
   inside = c.requires.inside;
   base = refl;
   rest = c.requires.cells;
   same = refl;
-  others = λ s off. refl;
 }

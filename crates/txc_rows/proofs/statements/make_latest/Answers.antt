@@ -1,7 +1,6 @@
 use Rattle.std.proofs.Common.{[]}
 use Rattle.sqlite.proofs.Callers.{memory_is_clean}
 use Rattle.txc_rows.specs.declared.texts.TheConstants.{MAKE_LATEST}
-use Rattle.txc_rows.specs.Texts.{latest_schema}
 use Rattle.txc_rows.specs.Kept.{HasLatest}
 use Rattle.txc_rows.proofs.MakeLemmas.{makes_latest}
 use Rattle.txc_rows.proofs.HeldLemmas.{steps}
@@ -11,4 +10,4 @@ pub returns-clause-step : goal.returns-clause-step
 returns-clause-step c =
     let old = c.args.tx.now.conn.now in
     let new = c.execute.new.self.conn.now in
-    steps MAKE_LATEST.now [] (HasLatest latest_schema []) old new c.execute.result (c.execute.ensures.runs (memory_is_clean new) c.requires.inside) (makes_latest old new c.requires.table)
+    steps MAKE_LATEST.now [] (HasLatest []) old new c.execute.result (c.execute.ensures.runs (memory_is_clean new) c.requires.inside) (makes_latest old new c.requires.table)

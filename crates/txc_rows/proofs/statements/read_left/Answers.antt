@@ -4,8 +4,8 @@ use Rattle.sqlite.specs.Steps.{over_memory}
 use Rattle.sqlite.specs.Order.{Row}
 use Rattle.sqlite.specs.State.{Shown, FailsToQuery}
 use Rattle.sqlite.proofs.Callers.{memory_is_clean}
+use Rattle.txc_rows.specs.declared.texts.TheConstants.{READ_LEFT}
 use Rattle.txc_rows.specs.Stored.{number}
-use Rattle.txc_rows.specs.Readings.{left_text}
 use Rattle.txc_rows.proofs.HeldLemmas.{leaves}
 use Rattle.txc_rows.proofs.statements.read_left.Goals as goal
 
@@ -13,10 +13,9 @@ pub returns : goal.returns
 returns c =
     let old = c.args.conn.now in
     let new = c.query_all.new.self in
-    let s = c.args.source in
     let given : Row = number c.args.from ∷ [] in
-    let ok : IfOk c.query_all.result (λ rows. Shown (left_text s) given (state over_memory old) (state over_memory new) rows.items)
-    = rw (c.left_text.ensures, c.params-to_sql.ensures) at (c.query_all.ensures.ok (memory_is_clean new)) in
-    let err : IfErr c.query_all.result (FailsToQuery (left_text s) given (state over_memory old) (state over_memory new))
-    = rw (c.left_text.ensures, c.params-to_sql.ensures) at (c.query_all.ensures.err (memory_is_clean new)) in
-    leaves s c.args.from old new c.requires c.query_all.result ok err
+    let ok : IfOk c.query_all.result (λ rows. Shown READ_LEFT.now given (state over_memory old) (state over_memory new) rows.items)
+    = rw c.params-to_sql.ensures at (c.query_all.ensures.ok (memory_is_clean new)) in
+    let err : IfErr c.query_all.result (FailsToQuery READ_LEFT.now given (state over_memory old) (state over_memory new))
+    = rw c.params-to_sql.ensures at (c.query_all.ensures.err (memory_is_clean new)) in
+    leaves c.args.from old new c.requires c.query_all.result ok err

@@ -4,11 +4,12 @@ use Rattle.sqlite.specs.Steps.{over_memory}
 use Rattle.sqlite.specs.State.{ExecutesInside}
 use Rattle.sqlite.proofs.Callers.{memory_is_clean}
 use Rattle.txc_rows.specs.declared.texts.TheConstants.{ADD_LATEST}
-use Rattle.txc_rows.specs.Placed.{Placed, new_placed}
+use Rattle.txc_rows.specs.declared.placed.Placed.{Placed}
+use Rattle.txc_rows.specs.Placed.{new_placed}
 use Rattle.txc_rows.specs.Stored.{cells_of}
-use Rattle.txc_rows.specs.Kept.{latest_in, dead_in, HasVersions}
+use Rattle.txc_rows.specs.Kept.{latest_in, HasLatest}
 use Rattle.txc_rows.proofs.WriteLemmas.{adds_latest}
-use Rattle.txc_rows.proofs.HeldLemmas.{steps, has_left, others_stay}
+use Rattle.txc_rows.proofs.HeldLemmas.{steps, has_latest}
 use Rattle.txc_rows.proofs.writes.add_latest.Goals as goal
 
 abbrev new_one : goal.After-execute → Placed
@@ -24,13 +25,5 @@ returns-clause-step c =
     let new = c.execute.new.self.conn.now in
     let x = new_one c in
     let has = c.requires.table in
-    steps ADD_LATEST.now (cells_of x) (HasVersions (latest_in old ++ x ∷ []) (dead_in old)) old new c.execute.result (ran c)
-    (λ count run. has_left _ _ new (adds_latest (state over_memory old) (state over_memory new) x count has.schema has.latest has.dead run))
-
-pub returns-clause-others : goal.returns-clause-others
-returns-clause-others c =
-    let old = c.args.tx.now.conn.now in
-    let new = c.execute.new.self.conn.now in
-    let x = new_one c in
-    let has = c.requires.table in
-    others_stay ADD_LATEST.now (cells_of x) 0 old new c.execute.result (ran c) (λ count run. (adds_latest (state over_memory old) (state over_memory new) x count has.schema has.latest has.dead run).others)
+    steps ADD_LATEST.now (cells_of x) (HasLatest (latest_in old ++ x ∷ [])) old new c.execute.result (ran c)
+    (λ count run. has_latest _ new (adds_latest (state over_memory old) (state over_memory new) x count has.schema has.latest run))

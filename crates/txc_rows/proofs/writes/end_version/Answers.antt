@@ -6,10 +6,10 @@ use Rattle.sqlite.proofs.Callers.{memory_is_clean}
 use Rattle.txc_rows.specs.declared.texts.TheConstants.{END_VERSION}
 use Rattle.txc_rows.specs.Placed.{closed_placed}
 use Rattle.txc_rows.specs.Stored.{number}
-use Rattle.txc_rows.specs.Kept.{latest_in, dead_in, HasVersions}
+use Rattle.txc_rows.specs.Kept.{latest_in, HasLatest}
 use Rattle.txc_rows.proofs.PutLemmas.{few_current}
 use Rattle.txc_rows.proofs.WriteLemmas.{closes}
-use Rattle.txc_rows.proofs.HeldLemmas.{steps, has_left, others_stay}
+use Rattle.txc_rows.proofs.HeldLemmas.{steps, has_latest}
 use Rattle.txc_rows.proofs.writes.end_version.Goals as goal
 
 ran : (c : goal.After-execute) → ExecutesInside 0 END_VERSION.now (number c.args.table ∷ number c.args.id ∷ number c.args.stamp ∷ []) (state over_memory c.args.tx.now.conn.now) (state over_memory c.execute.new.self.conn.now) c.execute.result
@@ -23,16 +23,5 @@ returns-clause-step c =
     let i = c.args.id in
     let s = c.args.stamp in
     let has = c.requires.table in
-    steps END_VERSION.now (number t ∷ number i ∷ number s ∷ []) (HasVersions (map (closed_placed t i s) (latest_in old)) (dead_in old)) old new c.execute.result (ran c)
-    (λ count run. has_left _ _ new (closes (state over_memory old) (state over_memory new) t i s count has.schema has.latest has.dead (few_current t i (latest_in old) c.requires.apart.current) run))
-
-pub returns-clause-others : goal.returns-clause-others
-returns-clause-others c =
-    let old = c.args.tx.now.conn.now in
-    let new = c.execute.new.self.conn.now in
-    let t = c.args.table in
-    let i = c.args.id in
-    let s = c.args.stamp in
-    let has = c.requires.table in
-    others_stay END_VERSION.now (number t ∷ number i ∷ number s ∷ []) 0 old new c.execute.result (ran c)
-    (λ count run. (closes (state over_memory old) (state over_memory new) t i s count has.schema has.latest has.dead (few_current t i (latest_in old) c.requires.apart.current) run).others)
+    steps END_VERSION.now (number t ∷ number i ∷ number s ∷ []) (HasLatest (map (closed_placed t i s) (latest_in old))) old new c.execute.result (ran c)
+    (λ count run. has_latest _ new (closes (state over_memory old) (state over_memory new) t i s count has.schema has.latest (few_current t i (latest_in old) c.requires.current) run))

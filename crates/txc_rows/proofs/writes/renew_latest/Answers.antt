@@ -5,10 +5,10 @@ use Rattle.sqlite.specs.State.{ExecutesInside}
 use Rattle.sqlite.proofs.Callers.{memory_is_clean}
 use Rattle.txc_rows.specs.declared.texts.TheConstants.{RENEW_LATEST}
 use Rattle.txc_rows.specs.Placed.{renewed}
-use Rattle.txc_rows.specs.Kept.{latest_in, dead_in, HasVersions}
+use Rattle.txc_rows.specs.Kept.{latest_in, HasLatest}
 use Rattle.txc_rows.proofs.PutLemmas.{few_keys}
 use Rattle.txc_rows.proofs.WriteLemmas.{renew_params, renews}
-use Rattle.txc_rows.proofs.HeldLemmas.{steps, has_left, others_stay}
+use Rattle.txc_rows.proofs.HeldLemmas.{steps, has_latest}
 use Rattle.txc_rows.proofs.writes.renew_latest.Goals as goal
 
 ran : (c : goal.After-execute) → ExecutesInside 0 RENEW_LATEST.now (renew_params c.args.place c.args.stamp c.args.row.now) (state over_memory c.args.tx.now.conn.now) (state over_memory c.execute.new.self.conn.now) c.execute.result
@@ -23,16 +23,5 @@ returns-clause-step c =
     let s = c.args.stamp in
     let row = c.args.row.now in
     let has = c.requires.table in
-    steps RENEW_LATEST.now (renew_params place s row) (HasVersions (map (renewed place row s) (latest_in old)) (dead_in old)) old new c.execute.result (ran c)
-    (λ count run. has_left _ _ new (renews (state over_memory old) (state over_memory new) place s row count has.schema has.latest has.dead (few_keys row.table row.id row.group (latest_in old) c.requires.keys) run))
-
-pub returns-clause-others : goal.returns-clause-others
-returns-clause-others c =
-    let old = c.args.tx.now.conn.now in
-    let new = c.execute.new.self.conn.now in
-    let place = c.args.place in
-    let s = c.args.stamp in
-    let row = c.args.row.now in
-    let has = c.requires.table in
-    others_stay RENEW_LATEST.now (renew_params place s row) 0 old new c.execute.result (ran c)
-    (λ count run. (renews (state over_memory old) (state over_memory new) place s row count has.schema has.latest has.dead (few_keys row.table row.id row.group (latest_in old) c.requires.keys) run).others)
+    steps RENEW_LATEST.now (renew_params place s row) (HasLatest (map (renewed place row s) (latest_in old))) old new c.execute.result (ran c)
+    (λ count run. has_latest _ new (renews (state over_memory old) (state over_memory new) place s row count has.schema has.latest (few_keys row.table row.id row.group (latest_in old) c.requires.keys) run))

@@ -1,48 +1,65 @@
-use Rattle.std.proofs.Common.{map, ◌∙◌, arith}
-use Rattle.txc_rows.specs.Placed.{closed_placed}
-use Rattle.txc_rows.specs.Kept.{latest_in, dead_in, HasVersions}
-use Rattle.txc_rows.proofs.SegmentLemmas.{not_latest}
-use Rattle.txc_rows.proofs.MarkLemmas.{stay_itself, marked_others}
-use Rattle.txc_rows.proofs.CountLemmas.{none_came, came_then}
-use Rattle.txc_rows.proofs.ChangeSteps.{ended_is_apart, put_step}
+use Rattle.std.proofs.Common.{◌≡◌, map, filter, length, cond, false, is_none, ◌∙◌, rules}
+use Rattle.std.specs.Prelude.{option_to_list}
+use Rattle.std.specs.List.Sorted.{IsPermutation}
+use Rattle.txc_rows.specs.Placed.{in_group, is_touched, closed_placed}
+use Rattle.txc_rows.specs.Kept.{latest_in, HasLatest, AreTouched}
+use Rattle.txc_rows.proofs.PutLemmas.{few_keys}
+use Rattle.txc_rows.proofs.ChangeSteps.{one_group, put_keys, put_is_first, put_step}
 use Rattle.txc_rows.proofs.writes.write_put.Goals as goal
+
+pub of_group-last-requires : goal.of_group-last-requires
+of_group-last-requires c =
+    let old = c.args.tx.now.conn.now in
+    let row = c.args.row.now in
+    let xs = c.in_ok-last.last.items in
+    let reads : AreTouched row.table row.id row.group (latest_in old) c.in_ok-rows.rows.items = rw (c.table.ensures, c.id.ensures, c.group.ensures) at c.in_ok-rows.ensures.touched in
+    let touched : IsPermutation (filter (is_touched row.table row.id row.group) (latest_in old)) xs = rw (c.in_ok-last.ensures, c.deref.ensures.value) reads.same in
+    record { few = rw c.group-2.ensures (rw (one_group row.table row.id row.group c.args.stamp (latest_in old) xs c.requires.apart.keys touched) (few_keys row.table row.id row.group (latest_in old) c.requires.apart.keys)) }
 
 pub put_version-requires-clause-keys : goal.put_version-requires-clause-keys
 put_version-requires-clause-keys c =
     let old = c.args.tx.now.conn.now in
-    let mid = c.end_version.new.tx.conn.now in
     let row = c.args.row.now in
-    let ended : HasVersions (map (closed_placed row.table row.id c.args.stamp) (latest_in old)) (dead_in old) mid = rw (c.table.ensures, c.id.ensures) at (c.in_ok-ended.ensures.step.leaves) in
-    (ended_is_apart old mid row.table row.id c.args.stamp c.args.place c.in_ok-ended.ensures.stamp c.requires.apart c.requires.below ended).keys
+    let xs = c.in_ok-last.last.items in
+    let reads : AreTouched row.table row.id row.group (latest_in old) c.in_ok-rows.rows.items = rw (c.table.ensures, c.id.ensures, c.group.ensures) at c.in_ok-rows.ensures.touched in
+    let touched : IsPermutation (filter (is_touched row.table row.id row.group) (latest_in old)) xs = rw (c.in_ok-last.ensures, c.deref.ensures.value) reads.same in
+    let one : option_to_list c.of_group-last.result.0 ≡ filter (in_group row.group) xs = rw c.group-2.ensures at c.of_group-last.ensures.same in
+    let stay : c.of_group-last.result.1 ≡ false → length (filter (in_group row.group) xs) ≡ length xs = rw c.group-2.ensures at c.of_group-last.ensures.moves in
+    let mid = c.end_moved.new.tx.conn.now in
+    let moved : HasLatest (cond c.of_group-last.result.1 (map (closed_placed row.table row.id c.args.stamp) (latest_in c.read_last.new.tx.conn.now)) (latest_in c.read_last.new.tx.conn.now)) mid
+    = rw (c.table-3.ensures, c.id-2.ensures) at c.in_ok-ended.ensures.step.leaves in
+    put_keys row c.args.stamp c.args.place old c.read_last.new.tx.conn.now mid c.args.replaced.now c.requires.apart c.requires.below c.in_ok-rows.ensures.step.leaves xs touched c.of_group-last.result.0 one c.of_group-last.result.1 stay moved
+
+pub put_version-requires-clause-first : goal.put_version-requires-clause-first
+put_version-requires-clause-first c =
+    let old = c.args.tx.now.conn.now in
+    let row = c.args.row.now in
+    let xs = c.in_ok-last.last.items in
+    let reads : AreTouched row.table row.id row.group (latest_in old) c.in_ok-rows.rows.items = rw (c.table.ensures, c.id.ensures, c.group.ensures) at c.in_ok-rows.ensures.touched in
+    let touched : IsPermutation (filter (is_touched row.table row.id row.group) (latest_in old)) xs = rw (c.in_ok-last.ensures, c.deref.ensures.value) reads.same in
+    let one : option_to_list c.of_group-last.result.0 ≡ filter (in_group row.group) xs = rw c.group-2.ensures at c.of_group-last.ensures.same in
+    let stay : c.of_group-last.result.1 ≡ false → length (filter (in_group row.group) xs) ≡ length xs = rw c.group-2.ensures at c.of_group-last.ensures.moves in
+    let mid = c.end_moved.new.tx.conn.now in
+    let moved : HasLatest (cond c.of_group-last.result.1 (map (closed_placed row.table row.id c.args.stamp) (latest_in c.read_last.new.tx.conn.now)) (latest_in c.read_last.new.tx.conn.now)) mid
+    = rw (c.table-3.ensures, c.id-2.ensures) at c.in_ok-ended.ensures.step.leaves in
+    let first : c.is_none-is_first.result ≡ is_none c.of_group-last.result.0 = search rules in
+    first ∙ put_is_first row c.args.stamp c.args.place old c.read_last.new.tx.conn.now mid c.args.replaced.now c.requires.apart c.requires.below c.in_ok-rows.ensures.step.leaves xs touched c.of_group-last.result.0 one c.of_group-last.result.1 stay moved
 
 pub returns-clause-step : goal.returns-clause-step
 returns-clause-step c =
     let old = c.args.tx.now.conn.now in
-    let mid = c.end_version.new.tx.conn.now in
     let row = c.args.row.now in
-    let first = c.in_ok-ended.ensures.step in
-    let last = c.in_ok-copied.ensures.step in
-    let ended : HasVersions (map (closed_placed row.table row.id c.args.stamp) (latest_in old)) (dead_in old) mid = rw (c.table.ensures, c.id.ensures) at (first.leaves) in
+    let xs = c.in_ok-last.last.items in
+    let reads : AreTouched row.table row.id row.group (latest_in old) c.in_ok-rows.rows.items = rw (c.table.ensures, c.id.ensures, c.group.ensures) at c.in_ok-rows.ensures.touched in
+    let touched : IsPermutation (filter (is_touched row.table row.id row.group) (latest_in old)) xs = rw (c.in_ok-last.ensures, c.deref.ensures.value) reads.same in
+    let one : option_to_list c.of_group-last.result.0 ≡ filter (in_group row.group) xs = rw c.group-2.ensures at c.of_group-last.ensures.same in
+    let stay : c.of_group-last.result.1 ≡ false → length (filter (in_group row.group) xs) ≡ length xs = rw c.group-2.ensures at c.of_group-last.ensures.moves in
+    let mid = c.end_moved.new.tx.conn.now in
+    let moved : HasLatest (cond c.of_group-last.result.1 (map (closed_placed row.table row.id c.args.stamp) (latest_in c.read_last.new.tx.conn.now)) (latest_in c.read_last.new.tx.conn.now)) mid
+    = rw (c.table-3.ensures, c.id-2.ensures) at c.in_ok-ended.ensures.step.leaves in
+    let last = c.in_ok-put_version.ensures in
     record {
-      leaves = put_step old mid c.put_version.new.tx.conn.now row c.args.stamp c.args.place c.in_ok-ended.ensures.stamp c.in_ok-copied.ensures.row c.requires.apart c.requires.below ended last.leaves;
-      inside = last.inside;
-      base = last.base ∙ first.base;
+      leaves = rw c.in_ok-revived.ensures.added (put_step row c.args.stamp c.args.place old c.read_last.new.tx.conn.now mid c.args.replaced.now c.requires.apart c.requires.below c.in_ok-rows.ensures.step.leaves xs touched c.of_group-last.result.0 one c.of_group-last.result.1 stay moved last.stamp last.row c.put_version.new.tx.conn.now last.step.leaves);
+      inside = last.step.inside;
+      base = last.step.base ∙ c.in_ok-ended.ensures.step.base ∙ c.in_ok-rows.ensures.step.base;
     }
-
-pub returns-clause-others : goal.returns-clause-others
-returns-clause-others c = λ s off. c.in_ok-copied.ensures.others s off ∙ c.in_ok-ended.ensures.others s (not_latest s)
-
-pub returns-clause-none : goal.returns-clause-none
-returns-clause-none c = λ zero s off. c.in_ok-copied.ensures.none zero s off ∙ c.in_ok-ended.ensures.others s off
-
-pub returns-in_err-ended-clause-more : goal.returns-in_err-ended-clause-more
-returns-in_err-ended-clause-more c = stay_itself c.args.marks.now
-
-pub returns-clause-marked : goal.returns-clause-marked
-returns-clause-marked c = λ marked. c.in_ok-copied.ensures.marked (marked_others c.args.marks.now c.args.tx.now.conn.now c.end_version.new.tx.conn.now c.in_ok-ended.ensures.others marked)
-
-pub returns-clause-count : goal.returns-clause-count
-returns-clause-count c =
-    let old = c.args.tx.now.conn.now in
-    let mid = c.end_version.new.tx.conn.now in
-    came_then 0 c.in_ok-copied.copied c.in_ok-copied.copied old mid c.put_version.new.tx.conn.now (λ _. omega arith) (none_came old mid _ c.in_ok-ended.ensures.step.leaves) c.in_ok-copied.ensures.count

@@ -2,14 +2,14 @@ use Rattle.std.proofs.Common.{◌∙◌}
 use Rattle.txc_rows.specs.Placed.{left_from}
 use Rattle.txc_rows.specs.Kept.{versions_of}
 use Rattle.txc_rows.proofs.FindLemmas.{all_answer}
-use Rattle.txc_rows.proofs.StoreLemmas.{same_store, same_view}
+use Rattle.txc_rows.proofs.StoreLemmas.{still_store, same_view}
 use Rattle.txc_rows.proofs.store.VersionRows.matching.Goals as goal
 
 pub invariant_of-self : goal.invariant_of-self
-invariant_of-self c = same_store c.self.inside.next_place c.self.inside.tally c.self.inside.conn c.find_all.new.conn c.self.invariant c.find_all.ensures.same
+invariant_of-self c = still_store c.self.inside.replaced c.self.inside.conn c.find_all.new.conn c.find_all.ensures.same.trees c.self.inside.next_place c.self.invariant c.find_all.ensures.same.kept
 
 pub returns-clause-same : goal.returns-clause-same
-returns-clause-same c = same_view c.self.inside.kept_from c.self.inside.conn c.find_all.new.conn c.find_all.ensures.same ∙ c.self.view_is
+returns-clause-same c = same_view c.self.inside.replaced c.self.inside.conn c.find_all.new.conn c.find_all.ensures.same.trees c.self.inside.kept_from ∙ c.self.view_is
 
 pub returns-clause-answers : goal.returns-clause-answers
-returns-clause-answers c = rw (← c.self.view_is) (all_answer c.args.query.now (left_from c.self.inside.kept_from (versions_of c.self.inside.conn)) c.find_all.result c.find_all.ensures.finds)
+returns-clause-answers c = rw (← c.self.view_is) (all_answer c.args.query.now (left_from c.self.inside.kept_from (versions_of c.self.inside.replaced c.self.inside.conn)) c.find_all.result c.find_all.ensures.finds)

@@ -5,7 +5,10 @@ use Rattle.txc_rows.proofs.StoreLemmas.{new_store, new_view}
 use Rattle.txc_rows.proofs.store.VersionRows.open_in_memory.Goals as goal
 
 pub invariant_of-result : goal.invariant_of-result
-invariant_of-result c = new_store c.in_ok-tally.tally c.in_ok-conn.conn c.in_ok-conn.ensures.kept c.in_ok-conn.ensures.empty
+invariant_of-result c = rw c.new.ensures (new_store c.in_ok-conn.conn c.in_ok-conn.ensures.kept c.in_ok-conn.ensures.empty)
+
+pub returns-clause-answer : goal.returns-clause-answer
+returns-clause-answer c = rw c.new.ensures (new_view c.in_ok-conn.conn c.in_ok-conn.ensures.empty)
 
 pub returns-clause-keeps : goal.returns-clause-keeps
-returns-clause-keeps c states empty = subst (KeepsStates states 0 0) (sym (new_view c.in_ok-conn.conn c.in_ok-conn.ensures.empty)) (keeps_nothing states empty)
+returns-clause-keeps c states empty = rw c.new.ensures (subst (KeepsStates states 0 0) (sym (new_view c.in_ok-conn.conn c.in_ok-conn.ensures.empty)) (keeps_nothing states empty))
