@@ -149,7 +149,7 @@ def promised():
     """Each library that is not there for tests alone has a row in PROMISE."""
     lines = [line.split("#")[0] for line in (ROOT / "crates.txt").read_text().split("\n")]
     uses = {line.split(":")[0].strip(): line.split(":")[1].split() for line in lines if ":" in line}
-    of_tests = {it for it in uses if it.endswith("_cases")}
+    of_tests = {it for it in uses if it.endswith("_cases") or it == "txc_uses"}
     for crate in reversed(uses):
         users = {it for it in uses if crate in uses[it]}
         if users and users <= of_tests:
