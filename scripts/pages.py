@@ -43,7 +43,7 @@ def needed():
             for other in [*word.uses, *(word.seen or [])]:
                 add(other)
 
-    for crate in sources.crates():
+    for crate in sources.documented():
         types, calls = sources.public_api(crate)
         for word in [*types, *(it for call in calls for it in call.words())]:
             add(word)
@@ -120,7 +120,7 @@ def index(names):
 
 def written():
     """Each file of docs/crates/, with what it says."""
-    pages = {crate: page(crate) for crate in sources.crates()}
+    pages = {crate: page(crate) for crate in sources.documented()}
     made = {FOLDER / f"{crate}.md": text for crate, text in pages.items() if text}
     made[FOLDER / "README.md"] = index([crate for crate, text in pages.items() if text])
     return made

@@ -95,12 +95,12 @@ class Names:
     """The names that the sentences may have, with what each is a link to."""
 
     def __init__(self, page):
-        self.pages = {crate for crate in sources.crates() if pages.page(crate)}
+        self.pages = {crate for crate in sources.documented() if pages.page(crate)}
         self.signs = {name for _, name in library_names(page)}
         self.shown, self.kinds, self.calls, self.clauses = {}, {}, {}, set()
         for word in page.shown:
             self.shown.setdefault(word.name, []).append(word)
-        for crate in sources.crates():
+        for crate in sources.documented():
             kinds, calls = sources.public_api(crate)
             for kind in kinds:
                 self.kinds.setdefault(kind.name, []).append(kind)

@@ -20,6 +20,11 @@ def crates():
     return [row.split(":")[0].strip() for row in rows if ":" in row]
 
 
+def documented():
+    """Those that have a page in docs/: all but the one that only calls the others."""
+    return [it for it in crates() if it != "txc_uses"]
+
+
 class Word:
     """A definition of specs/, or a type or constant of src/."""
 

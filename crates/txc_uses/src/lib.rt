@@ -1,0 +1,11 @@
+//! Calls of the libraries at the types of a program.
+//!
+//! A contract is proved of each function by itself, and a generic one from its bounds alone. Here somebody calls them:
+//! what a call requires can be met, each bound has a type that meets it, and what it makes can be let go. A function
+//! without type parameters that a library above calls has its caller there. Nothing runs these, and nothing stands on
+//! them.
+#![tactic(auto)]
+
+pub mod functions;
+pub mod shared;
+pub mod values;
