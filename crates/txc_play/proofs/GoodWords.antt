@@ -27,7 +27,7 @@ use Rattle.txc_words.specs.Parts.{AreChangeWords, AreQueryWords, change_words, q
 use Rattle.txc_words.specs.Faults.{change_line, function, kinds_after, moment, number_word, pair_kinds, place, query_line, range_kinds, row_kinds, second_of, table}
 use Rattle.txc_play.specs.declared.task.Task.{Task}
 use Rattle.txc_play.specs.declared.task.Task.TheVariants as tasks
-use Rattle.txc_words.proofs.Offered.{by_id, by_group, by_range, by_table, pair_words, put_words, range_words, remove_words, row_of}
+use Rattle.txc_words.proofs.Offered.{put_words, remove_words}
 use Rattle.txc_words.proofs.Offered.{HasChange, HasOne, HasPair, HasQuery, HasRow, HasThree, HasTwo, begins, has_change, has_one, has_pair, has_query, has_row, has_three, has_two, of_kinds, two_are}
 
 record HasPlace (words : List (List ℕ)) : Type 0 where

@@ -28,7 +28,14 @@ fn main(rt: HostRuntime) -> ExitCode {
     };
     let mut reader = rt.reader();
     let mut writer = io::writer(&rt);
-    let ended = run(&rt, alloc, arguments.script, settings, &mut reader, &mut writer);
+    let ended = run(
+        &rt,
+        alloc,
+        arguments.script,
+        settings,
+        &mut reader,
+        &mut writer,
+    );
     print_fault(&rt, &ended);
     ExitCode::from(exit_of(&ended))
 }

@@ -26,13 +26,45 @@ by_clients-requires g c = λ κs within.
     let made = c.in-Ok-nodes.ensures in
     let clients = c.in-Ok-clients in
     let through = λ (client : ClientValue). map (λ (pass : PassValue). pass.settings) client.passes ≡ c.deref.result.now in
-    let by = λ (client : ClientValue). AreNodesBy inside.settings (map (λ (pass : PassValue). pass.settings) client.passes) in
-    (search rules, (search rules, (search rules, (search rules, (search rules, (search rules, (search rules, (search rules, (search rules, (search rules, (record {
-      count = omega (arith, clients.ensures.count, c.batch.invariant.count, clients.clients.ok.0, inside.crew.ok.0);
-      nodes = All-weaker through by (λ client h. subst (AreNodesBy inside.settings) (sym (h ∙ c.deref.ensures.value)) made) clients.clients.items clients.ensures.nodes;
-      rooms = rooms_by inside.settings c.args.rows.items g.J.Naming.node_rows asked.1.0 rooms (omega (arith, count, c.args.rows.ok.0));
-      renewal = clients.ensures.renewal;
-    }, subst (λ (fs : List ℕ). All (λ (client : ClientValue). numbers_of client.objects ≡ fs) clients.clients.items) (ap (λ (b : BatchState). b.functions) same ∙ asked.1.1.1.1) clients.ensures.functions)))))))))))
+    let by = λ (client : ClientValue). AreNodesBy inside.settings (map (λ (pass : PassValue). pass.settings) client.passes) in (
+      search rules,
+      (
+        search rules,
+        (
+          search rules,
+          (
+            search rules,
+            (
+              search rules,
+              (
+                search rules,
+                (
+                  search rules,
+                  (
+                    search rules,
+                    (
+                      search rules,
+                      (
+                        search rules,
+                        (
+                          record {
+                            count = omega (arith, clients.ensures.count, c.batch.invariant.count, clients.clients.ok.0, inside.crew.ok.0);
+                            nodes = All-weaker through by (λ client h. subst (AreNodesBy inside.settings) (sym (h ∙ c.deref.ensures.value)) made) clients.clients.items clients.ensures.nodes;
+                            rooms = rooms_by inside.settings c.args.rows.items g.J.Naming.node_rows asked.1.0 rooms (omega (arith, count, c.args.rows.ok.0));
+                            renewal = clients.ensures.renewal;
+                          },
+                          subst (λ (fs : List ℕ). All (λ (client : ClientValue). numbers_of client.objects ≡ fs) clients.clients.items) (ap (λ (b : BatchState). b.functions) same ∙ asked.1.1.1.1) clients.ensures.functions,
+                        ),
+                      ),
+                    ),
+                  ),
+                ),
+              ),
+            ),
+          ),
+        ),
+      ),
+    )
 
 pub returns-in_err-ran-clause-named : goal.returns-in_err-ran-clause-named
 returns-in_err-ran-clause-named g c =

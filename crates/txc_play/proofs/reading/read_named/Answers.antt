@@ -14,7 +14,7 @@ returns-in_err-read_keeper_query-in-Query-clause-refused c = none_of _ _ c.from_
     (λ task h. c.in_err-read_keeper_query-in-Query.ensures.refused task (subst (λ (n : LineName). LineAsksFor n (words_of c.args.text.now) task) c.in-Query.is h))
 
 pub returns-in_err-read_pin-in-Pin-clause-refused : goal.returns-in_err-read_pin-in-Pin-clause-refused
-returns-in_err-read_pin-in-Pin-clause-refused c = none_of _ _ c.from_residual-in_err-read_pin-in-Pin.ensures (λ task h.
+returns-in_err-read_pin-in-Pin-clause-refused c = none_of _ _ c.from_residual.ensures (λ task h.
     let says : LineAsksFor names.Pin (words_of c.args.text.now) task = subst (λ (n : LineName). LineAsksFor n (words_of c.args.text.now) task) c.in-Pin.is h in
     c.in_err-read_pin-in-Pin.ensures.refused says.0 says.1)
 
