@@ -1,6 +1,5 @@
 -- Workers of a batch, of which each has all functions of the program.
-use Rattle.std.proofs.Common.{◌≡◌, ℕ, List}
-use Rattle.txc_registry.specs.Objects.{Objects}
+use Rattle.std.proofs.Common.{ℕ}
 use Rattle.txc_batch.specs.Crews.{IsCrew}
 use Rattle.txc_batch.proofs.Offered.{crew_of}
 use Rattle.txc_functions.specs.AnyFunction.{ALL_NUMBERS}

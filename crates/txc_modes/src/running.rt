@@ -1,6 +1,9 @@
 //! Runs of scripts of every kind.
 ghost use Rattle.std.specs.Prelude.{◌≡◌};
 ghost use Rattle.txc_settings.specs.declared.script.Script.{Script};
+ghost use Rattle.txc_functions.specs.Program.{program};
+ghost use Rattle.txc_batch.specs.BatchRuns.{HasRunBatch};
+ghost use Rattle.txc_batch.specs.Crews.{numbers_in, IsCrew};
 ghost use Rattle.txc_modes.specs.Modes.{HasRunBy};
 
 use crate::staff::Staff;
@@ -9,7 +12,9 @@ use std::io::{Read, Write};
 use std::sync::Wait;
 use std::thread::Threads;
 use txc_batch::run_batch_script;
+use txc_functions::{Object, Program};
 use txc_play::{run_world, world_settings};
+use txc_registry::Registry;
 use txc_script::{RunFault, Status};
 use txc_settings::{Script, Settings};
 use txc_world::World;
@@ -37,6 +42,22 @@ fn run_in_world<R: Read, W: Write>(
     }
 }
 
+/// Runs a batch's script by these workers.
+fn run_by<R: Read, W: Write, H: Threads + Wait + Sync>(
+    rt: &H,
+    alloc: Global,
+    settings: Settings,
+    workers: Vec<Registry<Program, Object>>,
+    reader: &mut R,
+    writer: &mut W,
+) -> Result<Status, RunFault>
+    requires { IsCrew settings.workers workers.items }
+    ensures { HasRunBatch program settings (numbers_in workers.items)
+        (R.remaining reader.old) (R.remaining reader.new) (W.contents writer.old) (W.contents writer.new) result }
+{
+    run_batch_script(rt, alloc, settings, workers, reader, writer)
+}
+
 /// Runs a batch's script by as many workers as the settings say.
 fn run_by_workers<R: Read, W: Write, H: Threads + Wait + Sync>(
     rt: &H,
@@ -51,8 +72,8 @@ fn run_by_workers<R: Read, W: Write, H: Threads + Wait + Sync>(
     let Ok(staff) = Staff::new(alloc, settings.permits, settings.workers) else {
         return Err(RunFault::Memory);
     };
-    let registries = staff.into_registries();
-    run_batch_script(rt, alloc, settings, registries, reader, writer)
+    let workers = staff.into_registries();
+    run_by(rt, alloc, settings, workers, reader, writer)
 }
 
 /// Reads a script of this kind, and writes what its lines are answered, by the settings and with the program's

@@ -32,7 +32,8 @@ impl Staff {
         ensures { IfOk result (IsStaff permits count) }
     {
         let mut pool = PermitPool::new(alloc, permits as u64)?;
-        let registries = registries(alloc, &mut pool, count)?;
+        let mut shared = pool.share()?;
+        let registries = registries(alloc, &mut shared, count)?;
         Ok(Staff { pool, registries })
     }
 
