@@ -1,4 +1,4 @@
-//! What stands under locks: a database, its pincushion and a node; and clients, updates and a batch over them.
+//! What stands under locks: a database, its pincushion and a node; and clients and updates over them.
 ghost use Rattle.std.specs.Prelude.{◌≡◌, ◌≤◌, length};
 ghost use Rattle.txc_registry.specs.Objects.{AllIdle};
 
@@ -7,7 +7,6 @@ use anyhow::{Result, bail};
 use std::alloc::Global;
 use std::marker::Brand;
 use std::sync::Wait;
-use std::thread::Threads;
 use txc_client::Client;
 use txc_cushion::{CushionCore, Pincushion};
 use txc_db::{Database, DbCore, Mark, Naming};
@@ -16,12 +15,11 @@ use txc_node::Record;
 use txc_registry::Registry;
 use txc_rows::Query;
 use txc_rw::RwTxn;
-use txc_shared::{Finding, NodeFront, NodePass, NodeSettings, SharedNode, StoredNode, audit, meet};
+use txc_shared::{NodePass, NodeSettings, SharedNode, audit, meet};
 use txc_stamp::Stamp;
 use txc_stream::EventRow;
 use txc_tags::{Key, Table, TagSet};
 use txc_txn::Session;
-use txc_work::{Gate, Job, run_batch};
 
 const SETTINGS: NodeSettings = NodeSettings {
     number: 0,
@@ -74,27 +72,6 @@ fn stick<J: Naming>(
     let core = CushionCore::new(alloc, database.reader()?);
     let retired = Pincushion::<J>::of_core(core).retire(rt, alloc, 2000, 1000)?;
     Ok(pins.pins.len().max(retired.len()))
-}
-
-/// The steps of one pass through a node of one thread.
-pub fn stored(alloc: Global) -> Result<bool> {
-    let database = DbCore::new(alloc, 4)?;
-    let row = EventRow::new(alloc, 16)?;
-    let mut node = StoredNode::<Program>::new(alloc, SETTINGS, row, database.reader()?)?;
-    let front = database.front()?;
-    node.see(&front);
-    let pass = node.pass()?;
-    node.sweep(alloc, pass, Stamp::ZERO)?;
-    node.is_sound();
-    let turn = node.turn(pass) == node.passes() && node.seen().is_empty();
-    let key = Key::read(b"f0(7)")?;
-    let Some(found) = node.lookup(alloc, pass, &key, Stamp::ZERO, Stamp::ZERO)? else {
-        node.advance(alloc, pass, &front)?;
-        return Ok(turn || node.is_broken() || node.front().is_full());
-    };
-    let found = Finding::<Program>::new(found.entry, found.front);
-    node.insert(alloc, pass, found.entry, &found.front)?;
-    Ok(node.settings() == SETTINGS)
 }
 
 /// An event that a node takes, and what it drops.
@@ -194,18 +171,9 @@ fn update<J: Naming>(
     }
 }
 
-/// A gate that is open.
-struct Open;
-
-impl Gate for Open {
-    fn before(&self, _job: &Job) {}
-
-    fn after(&self, _job: &Job) {}
-}
-
-/// What clients do over these, and a batch of one job by one client.
-fn work<J: Naming + Send + Sync, R: Threads + Wait + Sync>(
-    rt: &R,
+/// What clients do over these: an update, and the pages of one.
+fn work<J: Naming>(
+    rt: &impl Wait,
     alloc: Global,
     database: &Database<J>,
     cushion: &Pincushion<J>,
@@ -216,21 +184,13 @@ fn work<J: Naming + Send + Sync, R: Threads + Wait + Sync>(
     let updated = update(rt, alloc, database, functions(alloc)?)?;
     let registry = functions(alloc)?;
     let client = Client::new(rt, alloc, database, cushion, nodes, registry, 5000)?;
-    let mut clients = Vec::new(alloc);
-    clients.push(pages(rt, alloc, client)?)?;
-    let mut jobs = Vec::new(alloc);
-    jobs.push(Job {
-        number: 1,
-        bounds: BOUNDS,
-        keys: vec![in alloc; Key::read(b"f0(7)")?]?,
-    })?;
-    let receipts = run_batch(rt, alloc, jobs, clients, &Open)?;
-    Ok(updated.max(receipts.len()))
+    let client = pages(rt, alloc, client)?;
+    Ok(updated.max(client.node_count()))
 }
 
 /// All of it over these rows.
-fn over_rows<J: Naming + Send + Sync, R: Threads + Wait + Sync>(
-    rt: &R,
+fn over_rows<J: Naming>(
+    rt: &impl Wait,
     alloc: Global,
     core: DbCore,
     row: EventRow<Record>,
@@ -250,8 +210,8 @@ fn over_rows<J: Naming + Send + Sync, R: Threads + Wait + Sync>(
 }
 
 /// The same over a new database.
-pub fn shared<R: Threads + Wait + Sync>(rt: &R, alloc: Global) -> Result<(DbCore, usize)> {
+pub fn shared(rt: &impl Wait, alloc: Global) -> Result<(DbCore, usize)> {
     let core = DbCore::new(alloc, 16)?;
     let row = EventRow::new(alloc, 64)?;
-    over_rows::<Brand, R>(rt, alloc, core, row)
+    over_rows::<Brand>(rt, alloc, core, row)
 }
