@@ -40,9 +40,9 @@ def linked(real, folder, own):
             os.symlink(f"{real}/{name}", f"{folder}/{name}")
 
 
-def copy_of_kit(folder, clang=None):
+def copy_of_kit(folder, clang):
     """A copy of the toolchain's folder in which the prover, which a try asks for a hint alone, says nothing, and in which this
-    script, if one is given, stands in the place of clang."""
+    script stands in the place of clang."""
     real = kit()
     linked(real, folder, {"bin", "toolchain"})
     linked(f"{real}/bin", f"{folder}/bin", {"rt", "rtlib.py", "rattle"})
@@ -51,11 +51,10 @@ def copy_of_kit(folder, clang=None):
         # what they are told of the toolchain is where they lie themselves
         shutil.copy(f"{real}/bin/{name}", f"{folder}/bin/{name}")
     linked(f"{real}/toolchain", f"{folder}/toolchain", {"bin"})
-    linked(f"{real}/toolchain/bin", f"{folder}/toolchain/bin", {"clang"} if clang else ())
-    if clang:
-        with open(f"{folder}/toolchain/bin/clang", "w", encoding="utf-8") as it:
-            it.write(clang)
-        os.chmod(f"{folder}/toolchain/bin/clang", 0o755)
+    linked(f"{real}/toolchain/bin", f"{folder}/toolchain/bin", {"clang"})
+    with open(f"{folder}/toolchain/bin/clang", "w", encoding="utf-8") as it:
+        it.write(clang)
+    os.chmod(f"{folder}/toolchain/bin/clang", 0o755)
 
 
 def build(crate, program, words=("--test", "--steps", "1")):
