@@ -74,6 +74,11 @@ HasMade old new op reply = HasNextRecord old.pass old.records new.records op rep
 abbrev pub shown_of_entry : Entry → Shown
 shown_of_entry e = record { reach = e.reach; value = e.value; tags = e.tags }
 
+-- what a lookup that found this is replied
+abbrev pub reply_of_found : Option Entry → Reply Shown
+reply_of_found None = replies.Miss
+reply_of_found (Some e) = replies.Hit (shown_of_entry e)
+
 -- it looked up and found the entry, or nothing
 abbrev pub HasFound : PassValue → PassValue → Op → Option Entry → Type 0
 HasFound old new op None = HasMade old new op replies.Miss
