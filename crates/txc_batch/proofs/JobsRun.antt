@@ -4,6 +4,7 @@ use Rattle.std.specs.Prelude.{IsPermutation}
 use Rattle.std.specs.List.{All}
 use Rattle.std.specs.List.Sorted.{IsStrictlyIncreasing}
 use Rattle.std.proofs.lemmas.List.Elements.{All-weaker}
+use Rattle.txc_stream.specs.Names.{Name}
 use Rattle.txc_db.specs.DatabaseValue.{DatabaseValue}
 use Rattle.txc_db.specs.History.{History}
 use Rattle.txc_app.specs.Eval.{Next}
@@ -15,25 +16,25 @@ use Rattle.txc_work.specs.declared.job.Receipted.{Receipted}
 use Rattle.txc_batch.specs.Rows.{OutcomeIsOfRow}
 use Rattle.txc_batch.specs.RunJobs.{AgreesWith, HaveRun}
 
-of_row : (next : Next) (row : List ℕ) (node_rows : ℕ → List ℕ) (functions : List ℕ) (job : Job) (outcome : Outcome) → Meets next row node_rows functions job outcome → OutcomeIsOfRow row outcome
-of_row next row node_rows functions job (outcomes.Receipt receipt) h = h.events
-of_row next row node_rows functions job (outcomes.Refused error) h = tt
+of_row : (next : Next) (row : List ℕ) (node_histories : ℕ → Name) (functions : List ℕ) (job : Job) (outcome : Outcome) → Meets next row node_histories functions job outcome → OutcomeIsOfRow row outcome
+of_row next row node_histories functions job (outcomes.Receipt receipt) h = h.events
+of_row next row node_histories functions job (outcomes.Refused error) h = tt
 
 -- what the results of jobs over a row show is a part of that row
-pub all_of_row : (next : Next) (row shown : List ℕ) (node_rows : ℕ → List ℕ) (functions : List ℕ) (jobs : List Job) (results : List Receipted) → shown ≡ row
-    → All (IsResultOf jobs (Meets next row node_rows functions)) results → All (λ told. OutcomeIsOfRow shown told.outcome) results
-all_of_row next row shown node_rows functions jobs results same all =
+pub all_of_row : (next : Next) (row shown : List ℕ) (node_histories : ℕ → Name) (functions : List ℕ) (jobs : List Job) (results : List Receipted) → shown ≡ row
+    → All (IsResultOf jobs (Meets next row node_histories functions)) results → All (λ told. OutcomeIsOfRow shown told.outcome) results
+all_of_row next row shown node_histories functions jobs results same all =
     subst (λ (shown : List ℕ). All (λ told. OutcomeIsOfRow shown told.outcome) results) (sym same)
-    (All-weaker (IsResultOf jobs (Meets next row node_rows functions)) (λ told. OutcomeIsOfRow row told.outcome) (λ told h. of_row next row node_rows functions h.0 told.outcome h.3) results all)
+    (All-weaker (IsResultOf jobs (Meets next row node_histories functions)) (λ told. OutcomeIsOfRow row told.outcome) (λ told h. of_row next row node_histories functions h.0 told.outcome h.3) results all)
 
 -- the jobs ran over the database, whose row was the named one
-pub have_run : (next : Next) (database : DatabaseValue) (row : List ℕ) (node_rows : ℕ → List ℕ) (functions : List ℕ) (jobs : List Job) (results : List Receipted) (history : History) → database.events ≡ row
-    → IsPermutation (job_numbers jobs) (result_numbers results) → IsStrictlyIncreasing (result_numbers results) → All (IsResultOf jobs (Meets next row node_rows functions)) results
+pub have_run : (next : Next) (database : DatabaseValue) (row : List ℕ) (node_histories : ℕ → Name) (functions : List ℕ) (jobs : List Job) (results : List Receipted) (history : History) → database.events ≡ row
+    → IsPermutation (job_numbers jobs) (result_numbers results) → IsStrictlyIncreasing (result_numbers results) → All (IsResultOf jobs (Meets next row node_histories functions)) results
     → history ≡ database.history → All (λ told. AgreesWith history told.outcome) results → HaveRun next database functions jobs results
-have_run next database row node_rows functions jobs results history named once in_order met same agree = record {
-  node_rows = node_rows;
+have_run next database row node_histories functions jobs results history named once in_order met same agree = record {
+  node_histories = node_histories;
   once = once;
   in_order = in_order;
-  met = subst (λ (r : List ℕ). All (IsResultOf jobs (Meets next r node_rows functions)) results) (sym named) met;
+  met = subst (λ (r : List ℕ). All (IsResultOf jobs (Meets next r node_histories functions)) results) (sym named) met;
   agree = subst (λ (L : History). All (λ told. AgreesWith L told.outcome) results) same agree;
 }

@@ -4,6 +4,7 @@ use Rattle.std.specs.List.Sorted.{IsStrictlyIncreasing}
 use Rattle.std.specs.declared.alloc.Global.{Global}
 use Rattle.std.specs.declared.vec.Vec.{Vec}
 use mathlib.Core.List.{IsPrefix}
+use Rattle.txc_stream.specs.Names.{Name}
 use Rattle.txc_db.specs.DatabaseValue.{DatabaseValue}
 use Rattle.txc_db.specs.History.{History}
 use Rattle.txc_app.specs.Eval.{Next}
@@ -26,10 +27,10 @@ AgreesWith L (outcomes.Refused error) = Unit {0}
 -- What a receipt shows of the history goes on from the database's, or is a part of it.
 pub record HaveRun (next : Next) (database : DatabaseValue) (functions : List ℕ) (jobs : List Job)
     (results : List Receipted) : Type 0 where
-  pub node_rows : ℕ → List ℕ
+  pub node_histories : ℕ → Name
   pub once : IsPermutation (job_numbers jobs) (result_numbers results)
   pub in_order : IsStrictlyIncreasing (result_numbers results)
-  pub met : All (IsResultOf jobs (Meets next database.events node_rows functions)) results
+  pub met : All (IsResultOf jobs (Meets next database.events node_histories functions)) results
   pub agree : All (λ told. AgreesWith database.history told.outcome) results
 
 -- the jobs ran over the world, and have results; or one of them has none, or two; it is not that memory was

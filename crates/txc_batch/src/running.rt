@@ -62,7 +62,7 @@ fn nodes<A: App, J: Naming>(
     rows: Vec<EventRow<Record>>,
     database: &Database<J>,
 ) -> Result<Vec<SharedNode<A, J>>, AllocError>
-    requires rows { AreRowsOf J.node_rows 0 rows.items }
+    requires rows { AreRowsOf J.node_histories 0 rows.items }
     ensures each { IfOk result (λ nodes. vec_len nodes ≡ vec_len rows) }
 {
     let mut nodes = Vec::with_capacity(alloc, rows.len())?;
@@ -143,7 +143,7 @@ where
     requires database { parts.database.events ≡ J.database_row }
     requires cushion { parts.cushion.events ≡ J.database_row }
     requires some { 1 ≤ vec_len parts.rows }
-    requires rows { AreRowsOf J.node_rows 0 parts.rows.items }
+    requires rows { AreRowsOf J.node_histories 0 parts.rows.items }
     requires crew { IsCrew crew.items }
     requires functions { numbers_in crew.items ≡ functions }
     ensures ran { IfOk result (λ results. HaveRun A.next parts.database functions jobs.items results.items) }

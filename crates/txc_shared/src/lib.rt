@@ -12,10 +12,10 @@ pub mod laws;
 mod log;
 mod node_front;
 mod node_pass;
+mod planned;
 mod prepared;
 mod settings;
 mod shared_node;
-mod step;
 mod stored_node;
 
 pub use advanced::Advanced;

@@ -2,20 +2,24 @@
 ghost use Rattle.std.specs.Prelude.{◌≡◌, ◌+◌, ◌++◌, ◌∷◌, ◌<◌, ◌≤◌, [], ℕ, length, IfOk, OnOk, OnErr, IfErr, IsTrue, ◌↔◌, true, false};
 ghost use Rattle.txc_stream.specs.Names.{IsStored};
 ghost use Rattle.txc_node.specs.Steps.{step_reply};
+ghost use Rattle.txc_node.specs.declared.hit.Shown.{Shown};
+ghost use Rattle.txc_node.specs.declared.reply.Reply.{Reply};
 ghost use Rattle.txc_shared.specs.Histories.{records_of, next_record};
 ghost use Rattle.txc_shared.specs.Nodes.{NodeFrontValue};
-ghost use Rattle.txc_shared.specs.Planned.{op_of};
+ghost use Rattle.txc_node.specs.declared.op.Op.TheVariants.{Insert, Event};
 ghost use Rattle.txc_shared.specs.Locked.{record_in, Suits, AwaitsReply, IsRoomRefused, CanGrow};
 
 use crate::error::NodeError;
 use crate::history::History;
 use crate::node_front::NodeFront;
+use crate::planned::{AsEvent, AsInsertion, AsPlanned, Insertable, Planned, Takeable};
 use crate::prepared::Prepared;
-use crate::step::{AsPlanned, Planned, Step};
 use std::alloc::{AllocError, Global};
 use std::marker::Model;
-use txc_node::{NodeCore, Record, Reply};
+use txc_node::{Entry, NodeCore, Op, Record, Reply};
+use txc_stamp::Stamp;
 use txc_stream::Draft;
+use txc_tags::TagSet;
 
 /// The most passes of a node.
 pub const MAX_PASSES: usize = 4_096;
@@ -111,16 +115,30 @@ impl Log {
         Ok(())
     }
 
-    // The next record of a pass, in the proofs alone. There is nothing to run.
-    fn draft(&self, pass: usize, step: Step<'_>, core: &NodeCore) -> Draft<Record>
+    // The next record of a pass, for a row. Its reply is still to come.
+    fn boxed(&self, alloc: Global, pass: usize, op: Op) -> Result<Box<Record>, AllocError>
         requires { pass < self.now.passes }
-        ensures { result.value
-            ≡ next_record pass self.now.records (op_of step) (step_reply core.now (op_of step)) }
+        ensures { IfOk result (λ next. (reply : Reply Shown)
+            → record next.value { reply = reply } ≡ next_record pass self.now.records op reply) }
+    {
+        let next = Record {
+            pass,
+            turn: self.turn(pass),
+            op,
+            reply: Reply::Miss,
+        };
+        Ok(Box::new(alloc, next)?)
+    }
+
+    // The next record of a pass, in the proofs alone. There is nothing to run.
+    fn draft(&self, pass: usize, op: &Op, core: &NodeCore) -> Draft<Record>
+        requires { pass < self.now.passes }
+        ensures { result.value ≡ next_record pass self.now.records op.now (step_reply core.now op.now) }
     {
         let planned = Planned {
             pass,
             turn: self.turn(pass),
-            step,
+            op,
             core,
         };
         Draft::of::<Planned<'_>, AsPlanned>(&planned)
@@ -131,24 +149,99 @@ impl Log {
         &self,
         alloc: Global,
         pass: usize,
-        step: Step<'_>,
+        op: Op,
+        core: &NodeCore,
+    ) -> Result<Prepared, AllocError>
+        requires { pass < self.now.passes }
+        ensures suits { IfOk result (Suits self.now.name) }
+        ensures awaits { IfOk result
+            (AwaitsReply (next_record pass self.now.records op (step_reply core.now op))) }
+    {
+        if self.front().is_stored() {
+            Ok(Prepared::Stored(self.boxed(alloc, pass, op)?))
+        } else {
+            Ok(Prepared::Unstored(self.draft(pass, &op, core)))
+        }
+    }
+
+    // The record of an insertion, in the proofs alone. There is nothing to run.
+    fn draft_insertion(&self, pass: usize, entry: &Entry, core: &NodeCore) -> Draft<Record>
+        requires { pass < self.now.passes }
+        ensures { result.value
+            ≡ next_record pass self.now.records (Insert entry.now) (step_reply core.now (Insert entry.now)) }
+    {
+        let insertable = Insertable {
+            pass,
+            turn: self.turn(pass),
+            entry,
+            core,
+        };
+        Draft::of::<Insertable<'_>, AsInsertion>(&insertable)
+    }
+
+    /// The record of an insertion that the cache is to make. Only a stored one takes memory.
+    pub(crate) fn prepare_insertion(
+        &self,
+        alloc: Global,
+        pass: usize,
+        entry: &Entry,
         core: &NodeCore,
     ) -> Result<Prepared, AllocError>
         requires { pass < self.now.passes }
         ensures suits { IfOk result (Suits self.now.name) }
         ensures awaits { IfOk result (AwaitsReply
-            (next_record pass self.now.records (op_of step) (step_reply core.now (op_of step)))) }
+            (next_record pass self.now.records (Insert entry.now) (step_reply core.now (Insert entry.now)))) }
     {
-        if !self.history.front().is_stored() {
-            return Ok(Prepared::Unstored(self.draft(pass, step, core)));
+        if self.front().is_stored() {
+            let op = Op::Insert(entry.copy(alloc)?);
+            Ok(Prepared::Stored(self.boxed(alloc, pass, op)?))
+        } else {
+            Ok(Prepared::Unstored(self.draft_insertion(pass, entry, core)))
         }
-        let next = Record {
+    }
+
+    // The record of an event, in the proofs alone. There is nothing to run.
+    fn draft_event(
+        &self,
+        pass: usize,
+        stamp: Stamp,
+        tags: &TagSet,
+        core: &NodeCore,
+    ) -> Draft<Record>
+        requires { pass < self.now.passes }
+        ensures { result.value
+            ≡ next_record pass self.now.records (Event stamp tags.now) (step_reply core.now (Event stamp tags.now)) }
+    {
+        let takeable = Takeable {
             pass,
             turn: self.turn(pass),
-            op: step.to_op(alloc)?,
-            reply: Reply::Miss,
+            stamp,
+            tags,
+            core,
         };
-        Ok(Prepared::Stored(Box::new(alloc, next)?))
+        Draft::of::<Takeable<'_>, AsEvent>(&takeable)
+    }
+
+    /// The record of an event that the cache is to take. Only a stored one takes memory.
+    pub(crate) fn prepare_event(
+        &self,
+        alloc: Global,
+        pass: usize,
+        stamp: Stamp,
+        tags: &TagSet,
+        core: &NodeCore,
+    ) -> Result<Prepared, AllocError>
+        requires { pass < self.now.passes }
+        ensures suits { IfOk result (Suits self.now.name) }
+        ensures awaits { IfOk result (AwaitsReply
+            (next_record pass self.now.records (Event stamp tags.now) (step_reply core.now (Event stamp tags.now)))) }
+    {
+        if self.front().is_stored() {
+            let tags = tags.copy(alloc)?;
+            Ok(Prepared::Stored(self.boxed(alloc, pass, Op::Event { stamp, tags })?))
+        } else {
+            Ok(Prepared::Unstored(self.draft_event(pass, stamp, tags, core)))
+        }
     }
 
     /// Appends a record of one of its passes. `false` where another one stands in its cell; then nothing

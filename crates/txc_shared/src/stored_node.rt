@@ -20,13 +20,12 @@ use crate::laws::{answers_are_true, nodes_go_on};
 use crate::log::{Log, MAX_PASSES};
 use crate::node_front::NodeFront;
 use crate::settings::NodeSettings;
-use crate::step::Step;
 use std::alloc::{AllocError, Global};
 use std::marker::{Model, PhantomData};
 use txc_app::App;
 use txc_app::laws::true_entries_stay;
 use txc_db::{HistoryFront, states_stay};
-use txc_node::{Entry, MAX_CAPACITY, MAX_RECENT, NodeCore, Record, Reply};
+use txc_node::{Entry, MAX_CAPACITY, MAX_RECENT, NodeCore, Op, Record, Reply};
 use txc_stamp::Stamp;
 use txc_stream::{EventRow, Pen};
 use txc_tags::{Key, TagSet};
@@ -322,8 +321,12 @@ impl<A: App> StoredNode<A> {
         }
         self.check_room()?;
         let finding = self.find(alloc, key, lo, hi)?;
-        let step = Step::Lookup { key, lo, hi };
-        let prepared = self.log.prepare(alloc, pass, step, &self.core)?;
+        let op = Op::Lookup {
+            key: key.copy(),
+            lo,
+            hi,
+        };
+        let prepared = self.log.prepare(alloc, pass, op, &self.core)?;
         let next = prepared.with_found(alloc, &finding)?;
         let Ok(_) = self.core.lookup(key, lo, hi) else {
             unreachable!();
@@ -362,8 +365,7 @@ impl<A: App> StoredNode<A> {
         self.check_room()?;
         let _known = entry.reach.known();
         let _bytes = entry.value.bytes();
-        let step = Step::Insert(&entry);
-        let prepared = self.log.prepare(alloc, pass, step, &self.core)?;
+        let prepared = self.log.prepare_insertion(alloc, pass, &entry, &self.core)?;
         let inserted = self.core.insert(entry)?;
         let insertion = Insertion::of(&inserted);
         let next = prepared.answered(Reply::Inserted(inserted));
@@ -422,8 +424,9 @@ impl<A: App> StoredNode<A> {
         self.check_room()?;
         let stamp = Stamp::after(number);
         let tags = self.tags_of(alloc, front, number)?;
-        let step = Step::Event { stamp, tags: &tags };
-        let prepared = self.log.prepare(alloc, pass, step, &self.core)?;
+        let prepared = self
+            .log
+            .prepare_event(alloc, pass, stamp, &tags, &self.core)?;
         let Ok(closed) = self.core.event(stamp, tags) else {
             unreachable!();
         };
@@ -448,8 +451,8 @@ impl<A: App> StoredNode<A> {
         nodes_go_on();
         self.check_whole()?;
         self.check_room()?;
-        let step = Step::Sweep { horizon };
-        let prepared = self.log.prepare(alloc, pass, step, &self.core)?;
+        let op = Op::Sweep { horizon };
+        let prepared = self.log.prepare(alloc, pass, op, &self.core)?;
         let dropped = self.core.sweep(horizon);
         let next = prepared.answered(Reply::Swept(dropped));
         if !self.log.append(pass, next) {

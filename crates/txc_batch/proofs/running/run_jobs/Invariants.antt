@@ -1,4 +1,5 @@
 use Rattle.std.proofs.Common.{[], get_or}
+use Rattle.txc_stream.specs.Names.{stored}
 use Rattle.txc_batch.specs.Crews.{numbers_in}
 use Rattle.txc_batch.proofs.running.run_jobs.Given as goal
 
@@ -6,7 +7,7 @@ use Rattle.txc_batch.proofs.running.run_jobs.Given as goal
 abbrev pub ghosts-run_over : goal.ghosts-run_over
 ghosts-run_over g a = record {
   database_row = a.parts.database.events;
-  node_rows = λ n. get_or a.parts.rows.items n [];
+  node_histories = λ n. stored (get_or a.parts.rows.items n []);
 }
 
 -- those of the first worker

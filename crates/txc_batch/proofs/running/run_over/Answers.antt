@@ -18,13 +18,13 @@ run_batch-requires g c = λ κs within.
 
 pub results_agree-requires : goal.results_agree-requires
 results_agree-requires g c =
-    let meets = IsResultOf c.args.jobs.items (Meets g.A.App.next g.J.Naming.database_row g.J.Naming.node_rows g.functions) in
-    all_of_row g.A.App.next g.J.Naming.database_row c.in-Ok.told.events g.J.Naming.node_rows g.functions c.args.jobs.items c.deref-2.result.now (ap (λ (f : FrontValue). f.events) c.in-Ok.ensures ∙ c.requires.1.1.1.1.1.1.1.1.1.1.0)
+    let meets = IsResultOf c.args.jobs.items (Meets g.A.App.next g.J.Naming.database_row g.J.Naming.node_histories g.functions) in
+    all_of_row g.A.App.next g.J.Naming.database_row c.in-Ok.told.events g.J.Naming.node_histories g.functions c.args.jobs.items c.deref-2.result.now (ap (λ (f : FrontValue). f.events) c.in-Ok.ensures ∙ c.requires.1.1.1.1.1.1.1.1.1.1.0)
     (subst (All meets) (sym c.deref-2.ensures.value) c.in_ok-results.ensures.met)
 
 pub returns-clause-ran : goal.returns-clause-ran
 returns-clause-ran g c =
     let results = c.in_ok-results in
-    have_run g.A.App.next c.args.parts.database g.J.Naming.database_row g.J.Naming.node_rows g.functions c.args.jobs.items results.results.items c.in-Ok.told.history c.requires.1.1.1.1.1.1.1.1.1.1.0 results.ensures.once results.ensures.in_order
+    have_run g.A.App.next c.args.parts.database g.J.Naming.database_row g.J.Naming.node_histories g.functions c.args.jobs.items results.results.items c.in-Ok.told.history c.requires.1.1.1.1.1.1.1.1.1.1.0 results.ensures.once results.ensures.in_order
     results.ensures.met (ap (λ (f : FrontValue). f.history) c.in-Ok.ensures)
     (subst (All (λ (told : Receipted). AgreesWith c.in-Ok.told.history told.outcome)) c.deref-2.ensures.value c.results_agree.ensures)
