@@ -6,9 +6,6 @@ use denote.Param.SendFields.{declared_send, declared_sync}
 use Rattle.std.proofs.Crossing.{Arc-sync}
 use Rattle.std.proofs.option.Option.TheSendSync as option
 use Rattle.std.proofs.sync.Mutex.TheSendSync as mutex
-use Rattle.std_alloc.specs.contracts.arc.Arc as Arc
-use Rattle.std_heap.specs.contracts.Global as Heap
-use Rattle.std_heap.specs.contracts.GlobalAllocator.TheImpl.{ghosts}
 use Rattle.txc_stream.proofs.row.EventRow.TheSendSync as row
 use Rattle.txc_stream.proofs.row.Front.TheSendSync as front
 use Rattle.txc_stream.specs.contracts.row.EventRow as EventRow
@@ -33,12 +30,9 @@ records_send = row.the_send Record.the_row record_crosses.the_send
 records_sync : IsSync (EventRow.the_row Record.the_row)
 records_sync = row.the_sync Record.the_row record_crosses.the_send record_crosses.the_sync
 
-row_sync : IsSync (Arc.the_row (EventRow.the_row Record.the_row) Heap.the_row ghosts)
-row_sync = Arc-sync (EventRow.the_row Record.the_row) records_send records_sync
-
 front_sync : IsSync NodeFront.the_row
 front_sync = view_sync front_inside.the_row _ _ _ _ (declared_sync front_inside.the_type (
-  option.the_sync (Arc.the_row (EventRow.the_row Record.the_row) Heap.the_row ghosts) row_sync,
+  option.the_sync _ (Arc-sync (EventRow.the_row Record.the_row) records_send records_sync),
   (front.the_sync Record.the_row, tt),
 ))
 

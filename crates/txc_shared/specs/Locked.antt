@@ -2,8 +2,6 @@
 use Rattle.std.specs.Prelude.{◌≡◌, ℕ, ◌+◌, ◌^◌, ◌<◌, false, List, length}
 use mathlib.Core.List.{IsPrefix}
 use Rattle.txc_stream.specs.Names.{Name, IsStored}
-use Rattle.txc_node.specs.declared.op.Op.{Op}
-use Rattle.txc_node.specs.declared.op.Op.TheVariants as ops
 use Rattle.txc_node.specs.declared.record.Record.{Record}
 use Rattle.txc_shared.specs.declared.error.NodeError.{NodeError}
 use Rattle.txc_shared.specs.declared.error.NodeError.TheVariants.{HistoryFull, Memory}

@@ -1,6 +1,6 @@
 -- Who lengthens the history of a node.
 use Rattle.std.specs.Prelude.{◌≡◌, Option, None, Some}
-use Rattle.txc_stream.specs.Names.{Name, IsStored, stored, unstored}
+use Rattle.txc_stream.specs.Names.{IsStored, unstored}
 use Rattle.txc_stream.specs.declared.pen.Pen.{Pen}
 use Rattle.txc_node.specs.declared.record.Record.{Record}
 use Rattle.txc_shared.specs.Nodes.{NodeFrontValue}

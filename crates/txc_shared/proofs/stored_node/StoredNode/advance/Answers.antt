@@ -77,3 +77,6 @@ append-requires-clause-by g c =
     let tags = c.in_ok-tags.tags in
     ap (λ (r : Record). r.pass) (c.answered-next.ensures.answered (next_record c.args.pass c.self.inside.log.records (Event stamp tags) (replies.Closed (closed_count c.self.inside.core stamp tags)))
     c.in_ok-prepared.ensures.awaits (ap replies.Closed c.in-Ok.ensures.answer))
+
+pub append-requires-clause-suits : goal.append-requires-clause-suits
+append-requires-clause-suits g c = c.answered-next.ensures.suits c.self.inside.log.name c.in_ok-prepared.ensures.suits

@@ -52,3 +52,6 @@ pub append-requires-clause-by : goal.append-requires-clause-by
 append-requires-clause-by g c =
     ap (λ (r : Record). r.pass) (c.answered-next.ensures.answered (next_record c.args.pass c.self.inside.log.records (Insert c.args.entry) (replies.Inserted (outcome c.self.inside.core c.args.entry)))
     c.in_ok-prepared.ensures.awaits (ap replies.Inserted c.in_ok-inserted.ensures.answer))
+
+pub append-requires-clause-suits : goal.append-requires-clause-suits
+append-requires-clause-suits g c = c.answered-next.ensures.suits c.self.inside.log.name c.in_ok-prepared.ensures.suits
