@@ -1,4 +1,5 @@
 //! Batches, and what their jobs come to, worked by hand.
+ghost use Rattle.txc_stream.specs.Names.{stored};
 ghost use Rattle.std.specs.Prelude.{◌≡◌, ◌<◌, ◌≤◌, All, length, vec_len};
 ghost use Rattle.txc_registry.specs.Objects.{numbers_of};
 ghost use Rattle.txc_functions.specs.AnyFunction.{ALL_NUMBERS};
@@ -202,8 +203,8 @@ fn run_over<J: Naming + Send + Sync, R: Threads + Wait + Sync>(
     answer: &mut String,
 ) -> Option<Verdict>
     requires database { rows.0.events ≡ J.database_row }
-    requires one { rows.1 ≡ J.node_rows 0 }
-    requires other { rows.2 ≡ J.node_rows 1 }
+    requires one { stored rows.1 ≡ J.node_histories 0 }
+    requires other { stored rows.2 ≡ J.node_histories 1 }
 {
     let (core, one, other) = rows;
     let database = Database::<J>::new(alloc, core).ok()?;

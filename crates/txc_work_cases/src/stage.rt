@@ -1,5 +1,6 @@
 //! What a batch runs over: a database, its pincushion, two nodes, and clients. Each client has a pool of
 //! permits of its own, so that none lacks one beside another.
+ghost use Rattle.txc_stream.specs.Names.{stored};
 ghost use Rattle.std.specs.Prelude.{◌≡◌, ◌≤◌, All, IfOk, IfSome, length, vec_len};
 ghost use Rattle.txc_registry.specs.Objects.{numbers_of};
 ghost use Rattle.txc_functions.specs.AnyFunction.{ALL_NUMBERS};
@@ -47,7 +48,7 @@ fn node<J: Naming>(
     row: EventRow<Record>,
     database: &Database<J>,
 ) -> Option<SharedNode<Program, J>>
-    requires { row ≡ J.node_rows number }
+    requires { stored row ≡ J.node_histories number }
     ensures { IfSome result (λ node. node.number ≡ number) }
 {
     let settings = NodeSettings {
@@ -65,8 +66,8 @@ pub(super) fn nodes<J: Naming>(
     other: EventRow<Record>,
     database: &Database<J>,
 ) -> Option<Vec<SharedNode<Program, J>>>
-    requires one { one ≡ J.node_rows 0 }
-    requires other { other ≡ J.node_rows 1 }
+    requires one { stored one ≡ J.node_histories 0 }
+    requires other { stored other ≡ J.node_histories 1 }
     ensures { IfSome result (λ nodes. vec_len nodes ≡ 2) }
 {
     let mut nodes = Vec::new(alloc);

@@ -1,4 +1,5 @@
 //! Clients of the program's functions, in boxes, and all that they stand on.
+ghost use Rattle.txc_stream.specs.Names.{stored};
 ghost use Rattle.std.specs.Prelude.{◌≡◌, ◌≤◌, All, IfOk};
 ghost use Rattle.txc_registry.specs.Activity.{idle};
 ghost use Rattle.txc_functions.specs.Program.{program};
@@ -69,7 +70,7 @@ fn work_of<
     answer: &mut String,
 ) -> Option<Verdict>
     requires database { rows.0.events ≡ J.database_row }
-    requires node { rows.1 ≡ J.node_rows 0 }
+    requires node { stored rows.1 ≡ J.node_histories 0 }
     requires idle { All (λ c. C.activity c ≡ idle) one.items }
     requires means { All (λ c. C.says c ≡ A.next (C.number c)) one.items }
     requires idle_too { All (λ c. C.activity c ≡ idle) other.items }

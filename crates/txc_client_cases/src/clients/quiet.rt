@@ -1,4 +1,5 @@
 //! What a client's calls do beside their answers, where it is alone.
+ghost use Rattle.txc_stream.specs.Names.{stored};
 ghost use Rattle.std.specs.Prelude.{◌≡◌};
 
 use super::desk::{
@@ -281,8 +282,8 @@ fn play<J: Naming>(
     answer: &mut String,
 ) -> Option<bool>
     requires database { rows.0.events ≡ J.database_row }
-    requires one { rows.1 ≡ J.node_rows 0 }
-    requires other { rows.2 ≡ J.node_rows 1 }
+    requires one { stored rows.1 ≡ J.node_histories 0 }
+    requires other { stored rows.2 ≡ J.node_histories 1 }
 {
     let (core, one, other) = rows;
     let database = Database::<J>::new(alloc, core).ok()?;

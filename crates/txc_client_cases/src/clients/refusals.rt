@@ -1,4 +1,5 @@
 //! What clients are refused: where something beside them broke the database or a node, and at limits.
+ghost use Rattle.txc_stream.specs.Names.{stored};
 ghost use Rattle.std.specs.Prelude.{◌≡◌};
 
 use super::caller::Reader;
@@ -149,7 +150,7 @@ fn make<J: Naming>(
     answer: &mut String,
 ) -> Option<()>
     requires database { rows.0.events ≡ J.database_row }
-    requires node { rows.1 ≡ J.node_rows 0 }
+    requires node { stored rows.1 ≡ J.node_histories 0 }
 {
     let (core, row) = rows;
     let (is_broken, passes) = made;
@@ -158,7 +159,7 @@ fn make<J: Naming>(
     let mut nodes = Vec::new(alloc);
     nodes.push(node(alloc, 0, row, &database)?).ok()?;
     if is_broken {
-        append_foreign(alloc, nodes[0].row()).ok()?;
+        append_foreign(alloc, nodes[0].row()?).ok()?;
         // It finds the record as it is asked for the first time.
         let mut pass = nodes[0].pass(rt).ok()?;
         let _swept = pass.sweep(rt, alloc, &nodes[0], Stamp::ZERO);
@@ -257,7 +258,7 @@ fn free_after<J: Naming>(
     count: usize,
 ) -> Option<usize>
     requires database { rows.0.events ≡ J.database_row }
-    requires node { rows.1 ≡ J.node_rows 0 }
+    requires node { stored rows.1 ≡ J.node_histories 0 }
 {
     let (core, row) = rows;
     let database = Database::<J>::new(alloc, core).ok()?;

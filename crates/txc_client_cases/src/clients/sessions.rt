@@ -1,4 +1,5 @@
 //! What a caller reads in a session, worked by hand.
+ghost use Rattle.txc_stream.specs.Names.{stored};
 ghost use Rattle.std.specs.Prelude.{◌≡◌, ◌≤◌, IfSome, vec_len};
 
 use super::caller::Caller;
@@ -69,7 +70,7 @@ pub(super) fn node<J: Naming>(
     row: EventRow<Record>,
     database: &Database<J>,
 ) -> Option<SharedNode<Program, J>>
-    requires { row ≡ J.node_rows number }
+    requires { stored row ≡ J.node_histories number }
 {
     let settings = NodeSettings {
         number,
@@ -100,8 +101,8 @@ fn play<J: Naming>(
     answer: &mut String,
 ) -> Option<Verdict>
     requires database { rows.0.events ≡ J.database_row }
-    requires one { rows.1 ≡ J.node_rows 0 }
-    requires other { rows.2 ≡ J.node_rows 1 }
+    requires one { stored rows.1 ≡ J.node_histories 0 }
+    requires other { stored rows.2 ≡ J.node_histories 1 }
 {
     let (core, one, other) = rows;
     let (_, how, commands) = script;
@@ -120,7 +121,7 @@ fn play<J: Naming>(
     let one = Client::new(rt, alloc, &database, &cushion, &nodes, one, RENEW_AFTER).ok()?;
     let other = Client::new(rt, alloc, &database, &cushion, &nodes, other, RENEW_AFTER).ok()?;
     if how == How::Broken {
-        append_foreign(alloc, nodes[1].row()).ok()?;
+        append_foreign(alloc, nodes[1].row()?).ok()?;
     }
     let shared = Shared::new(rt, alloc, &database, false).ok()?;
     let mut caller = Caller::new(rt, (&database, &cushion), shared, pool, (one, other));

@@ -111,9 +111,9 @@ fn visit<A: App, C: Cacheable, J: Naming>(
         client = transact(rt, alloc, client, &bounds, round, &mut tally);
     }
     for node in 0..client.node_count() {
-        tally.hits = tally
-            .hits
-            .saturating_add(audit(client.pass(node)).of(1).hits);
+        if let Some(counts) = audit(client.pass(node)) {
+            tally.hits = tally.hits.saturating_add(counts.of(1).hits);
+        }
     }
     tally
 }

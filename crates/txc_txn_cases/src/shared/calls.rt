@@ -77,7 +77,9 @@ fn say_count(answer: &mut String, count: Result<usize, NodeError>) {
 
 /// The counts of function 0, and those of all.
 fn say_audit<J: Naming>(answer: &mut String, pass: &NodePass<J>) {
-    let counts = audit(pass);
+    let Some(counts) = audit(pass) else {
+        return;
+    };
     let own = counts.of(0);
     let (lookups, hits, stored, kept) = (own.lookups, own.hits, own.stored, own.kept);
     let _ = write!(

@@ -1,4 +1,5 @@
 //! The calls of two passes through one node.
+ghost use Rattle.txc_stream.specs.Names.{stored};
 ghost use Rattle.std.specs.Prelude.{◌≡◌};
 
 use super::calls::{Caller, say_refusal};
@@ -188,7 +189,10 @@ impl<J: Naming, R: Wait> Obeys for Callers<'_, J, R> {
             "commit" => self.commit(alloc, changes, answer),
             "passes" => self.draw_passes(number(words), answer),
             "foreign" => {
-                if append_foreign(alloc, self.one.node.row()).is_err() {
+                let Some(row) = self.one.node.row() else {
+                    return;
+                };
+                if append_foreign(alloc, row).is_err() {
                     say_refusal(answer, NodeError::Memory);
                 }
             }
@@ -223,7 +227,7 @@ fn is_answered<J: Naming, R: Wait>(
     answer: &mut String,
 ) -> Option<bool>
     requires database { core.events ≡ J.database_row }
-    requires node { row ≡ J.node_rows 0 }
+    requires node { stored row ≡ J.node_histories 0 }
 {
     let database = Database::<J>::new(alloc, core).ok()?;
     let node = SharedNode::<Program, J>::new(alloc, SETTINGS, row, &database).ok()?;

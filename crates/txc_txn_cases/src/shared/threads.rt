@@ -1,4 +1,5 @@
 //! Two passes through one node, on two threads.
+ghost use Rattle.txc_stream.specs.Names.{stored};
 ghost use Rattle.std.specs.Prelude.{◌≡◌};
 
 use super::calls::Caller;
@@ -113,7 +114,7 @@ fn meet_after<J: Naming + Send + Sync, R: Threads + Wait + Sync>(
     row: EventRow<Record>,
 ) -> Option<bool>
     requires database { core.events ≡ J.database_row }
-    requires node { row ≡ J.node_rows 0 }
+    requires node { stored row ≡ J.node_histories 0 }
 {
     let database = Database::<J>::new(alloc, core).ok()?;
     let node = SharedNode::<Program, J>::new(alloc, SETTINGS, row, &database).ok()?;

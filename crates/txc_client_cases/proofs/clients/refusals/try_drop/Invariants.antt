@@ -1,5 +1,6 @@
+use Rattle.txc_stream.specs.Names.{stored}
 use Rattle.txc_client_cases.proofs.clients.refusals.try_drop.Given as goal
 
 -- the rows that were just made
 abbrev pub ghosts-free_after : goal.ghosts-free_after
-ghosts-free_after g a = record { database_row = a.rows.0.events; node_rows = λ n. a.rows.1 }
+ghosts-free_after g a = record { database_row = a.rows.0.events; node_histories = λ n. stored a.rows.1 }
