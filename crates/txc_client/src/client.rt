@@ -1,6 +1,6 @@
 //! Clients, and the beginning of their transactions.
 ghost use Rattle.std.specs.Prelude.{◌≡◌, ◌≤◌, ◌<◌, ◌⊎◌, [], get_or, slice_get, true, All, Any, IfErr, IfOk, MatchOption, None, length, map};
-ghost use Rattle.txc_stream.specs.Names.{IsStored};
+ghost use Rattle.txc_stream.specs.Names.{HasRow};
 ghost use Rattle.txc_node.specs.Counts.{AreCountsOf};
 ghost use Rattle.txc_cushion.specs.Cushion.{cushion_front, handed_out};
 ghost use Rattle.txc_cushion.specs.Shared.{CushionMayAnswer};
@@ -180,7 +180,7 @@ impl<'a, A: App, C: Cacheable, J: Naming> Client<'a, A, C, J> {
         ensures { MatchOption (slice_get self.now.passes node)
             (result ≡ None)
             (λ pass. MatchOption result
-                (¬ (IsStored (J.node_histories pass.settings.number)))
+                (¬ (HasRow (J.node_histories pass.settings.number)))
                 (AreCountsOf pass.records)) }
     {
         if node >= self.ports.len() {

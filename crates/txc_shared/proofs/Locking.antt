@@ -24,7 +24,7 @@ use Rattle.txc_shared.specs.declared.settings.NodeSettings.{NodeSettings}
 use Rattle.txc_shared.specs.Runs.{IsNode}
 use Rattle.txc_shared.specs.Laws.{EventsAreTaken}
 use Rattle.txc_shared.specs.Histories.{cache_after, records_of, events_of, next_record}
-use Rattle.txc_shared.specs.Nodes.{NodeValue, IsFull, start_of, after_call, seeing, next_event, HasAdvanced}
+use Rattle.txc_shared.specs.Nodes.{NodeValue, IsHistoryFull, start_of, after_call, seeing, next_event, HasAdvanced}
 use Rattle.txc_shared.specs.Passes.{PassValue, HasSeen, GrowsByOthers, HasMade, HasFound, HasTaken}
 use Rattle.txc_shared.specs.Locked.{IsAhead, IsAdmitted}
 use Rattle.txc_shared.proofs.Histories.{records_of-append}
@@ -108,9 +108,9 @@ has_found old new key op (Some s) found is h = subst (HasFound old new op) (sym 
 -- ---- refusals
 
 -- a full history is shown whole
-pub full_shown : (histories : ℕ → Name) (n : NodeValue) (p q : PassValue) → IsAdmitted n p → IsFull n.name n.records
-    → n.name ≡ histories n.settings.number → q.records ≡ n.records → GrowsByOthers p.pass p.records q.records × IsFull (histories p.settings.number) q.records
+pub full_shown : (histories : ℕ → Name) (n : NodeValue) (p q : PassValue) → IsAdmitted n p → IsHistoryFull n.name n.records
+    → n.name ≡ histories n.settings.number → q.records ≡ n.records → GrowsByOthers p.pass p.records q.records × IsHistoryFull (histories p.settings.number) q.records
 full_shown histories n p q h full named shows = (
   subst (GrowsByOthers p.pass p.records) (sym shows) (others_did p.pass p.records n.records h.ahead.records h.turn),
-  subst (IsFull (histories p.settings.number)) (sym shows) (subst (λ (name : Name). IsFull name n.records) (named ∙ ap (λ (s : NodeSettings). histories s.number) (sym h.ahead.settings)) full),
+  subst (IsHistoryFull (histories p.settings.number)) (sym shows) (subst (λ (name : Name). IsHistoryFull name n.records) (named ∙ ap (λ (s : NodeSettings). histories s.number) (sym h.ahead.settings)) full),
 )

@@ -1,14 +1,14 @@
 -- Words for what is done under the lock, which only this crate's private functions promise.
 use Rattle.std.specs.Prelude.{◌≡◌, ℕ, ◌+◌, ◌^◌, ◌<◌, false, List, length}
 use mathlib.Core.List.{IsPrefix}
-use Rattle.txc_stream.specs.Names.{Name, IsStored}
+use Rattle.txc_stream.specs.Names.{Name, HasRow}
 use Rattle.txc_node.specs.declared.record.Record.{Record}
 use Rattle.txc_shared.specs.declared.error.NodeError.{NodeError}
 use Rattle.txc_shared.specs.declared.error.NodeError.TheVariants.{HistoryFull, Memory}
 use Rattle.txc_shared.specs.declared.prepared.Prepared.{Prepared}
 use Rattle.txc_shared.specs.declared.prepared.Prepared.TheVariants.{Stored, Unstored}
 use Rattle.txc_shared.specs.Histories.{records_of}
-use Rattle.txc_shared.specs.Nodes.{NodeValue, IsFull, HasRoom}
+use Rattle.txc_shared.specs.Nodes.{NodeValue, IsHistoryFull, HasRecordRoom}
 use Rattle.txc_shared.specs.Passes.{PassValue}
 
 -- what lies under a node's lock: the node's history and the database's row are the named ones, and, unless it is
@@ -39,8 +39,8 @@ record_in (Unstored draft) = draft.value
 
 -- it is prepared for a history of this kind
 abbrev pub Suits : Name → Prepared → Type 0
-Suits name (Stored next) = IsStored name
-Suits name (Unstored draft) = ¬ (IsStored name)
+Suits name (Stored next) = HasRow name
+Suits name (Unstored draft) = ¬ (HasRow name)
 
 -- it is this record, but for the reply where it is stored
 abbrev pub AwaitsReply : Record → Prepared → Type 0
@@ -49,11 +49,11 @@ AwaitsReply r (Unstored draft) = draft.value ≡ r
 
 -- no record can be appended: the history is full, or has as many records as are counted
 abbrev pub IsRoomRefused : Name → List Record → NodeError → Type 0
-IsRoomRefused name records HistoryFull = IsFull name records
-IsRoomRefused name records Memory = HasRoom name records
+IsRoomRefused name records HistoryFull = IsHistoryFull name records
+IsRoomRefused name records Memory = HasRecordRoom name records
 IsRoomRefused name records e = ⊥
 
 -- there is room for one record more, and it can be counted
 pub record CanGrow (name : Name) (records : List Record) : Type 0 where
-  pub room : HasRoom name records
+  pub room : HasRecordRoom name records
   pub counted : length records + 1 < 2 ^ 64

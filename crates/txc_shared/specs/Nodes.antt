@@ -48,14 +48,14 @@ pub record NodeValue : Type 0 where
 -- ---- room
 
 -- the history is full: it is stored, and has as many records as its row has cells
-abbrev pub IsFull : Name → List Record → Type 0
-IsFull (stored cells) records = length records ≡ length cells
-IsFull (unstored number) records = ⊥
+abbrev pub IsHistoryFull : Name → List Record → Type 0
+IsHistoryFull (stored cells) records = length records ≡ length cells
+IsHistoryFull (unstored number) records = ⊥
 
 -- there is room for one record more: a cell, where they are stored
-abbrev pub HasRoom : Name → List Record → Type 0
-HasRoom (stored cells) records = length records < length cells
-HasRoom (unstored number) records = Unit {0}
+abbrev pub HasRecordRoom : Name → List Record → Type 0
+HasRecordRoom (stored cells) records = length records < length cells
+HasRecordRoom (unstored number) records = Unit {0}
 
 -- ---- what calls leave
 

@@ -19,7 +19,7 @@ use Rattle.txc_shared.specs.declared.error.NodeError.TheVariants.{HistoryFull}
 use Rattle.txc_shared.specs.declared.insertion.Insertion.{Insertion}
 use Rattle.txc_shared.specs.declared.settings.NodeSettings.{NodeSettings}
 use Rattle.txc_shared.specs.Histories.{records_of, next_record, events_of}
-use Rattle.txc_shared.specs.Nodes.{NodeValue, IsFull, insertion_of}
+use Rattle.txc_shared.specs.Nodes.{NodeValue, IsHistoryFull, insertion_of}
 
 -- a pass: the settings of its node, its number, the records that its own last call showed it, those that it
 -- has seen, and what it has seen of the database's history
@@ -101,5 +101,5 @@ HasTaken old new Idle =
 -- pass as it was
 abbrev pub IsPassLeft : Name → PassValue → PassValue → NodeError → Type 0
 IsPassLeft name old new HistoryFull =
-    GrowsByOthers old.pass old.records new.records × IsFull name new.records
+    GrowsByOthers old.pass old.records new.records × IsHistoryFull name new.records
 IsPassLeft name old new e = new ≡ old

@@ -1,29 +1,29 @@
 -- Why calls of a node are refused, and what a refusal leaves.
 use Rattle.std.specs.Prelude.{◌≡◌, ◌≢◌, ◌⊎◌, ℕ, ◌<◌, ◌≤◌, true, false}
 use mathlib.Core.List.{IsPrefix}
-use Rattle.txc_stream.specs.Names.{Name, IsStored}
+use Rattle.txc_stream.specs.Names.{Name, HasRow}
 use Rattle.txc_shared.specs.declared.error.NodeError.{NodeError}
 use Rattle.txc_shared.specs.declared.error.NodeError.TheVariants.{Broken, EmptyRange, HistoryFull, PassesFull, Memory}
 use Rattle.txc_shared.specs.declared.log.TheConstants.{MAX_PASSES}
 use Rattle.txc_shared.specs.declared.settings.NodeSettings.{NodeSettings}
-use Rattle.txc_shared.specs.Nodes.{NodeValue, IsFull, HasRoom}
+use Rattle.txc_shared.specs.Nodes.{NodeValue, IsHistoryFull, HasRecordRoom}
 use Rattle.txc_shared.specs.Passes.{PassValue, DoAgree}
 
 -- a step can be recorded: the node is whole, and there is room for one record more
 pub record CanRecord (n : NodeValue) : Type 0 where
   pub whole : n.broken ≡ false
-  pub room : HasRoom n.name n.records
+  pub room : HasRecordRoom n.name n.records
 
 -- another record may stand in the row after the node's, where its history is stored
 pub record MayBeForestalled (n : NodeValue) : Type 0 where
   pub recorded : CanRecord n
-  pub in_row : IsStored n.name
+  pub in_row : HasRow n.name
 
 -- of a step: broken, or the history is full; and then out of memory, or another record stands in the row
 abbrev pub IsStepRefused : NodeValue → NodeError → Type 0
 IsStepRefused n Broken = (n.broken ≡ true) ⊎ MayBeForestalled n
 IsStepRefused n EmptyRange = ⊥
-IsStepRefused n HistoryFull = (n.broken ≡ false) × IsFull n.name n.records
+IsStepRefused n HistoryFull = (n.broken ≡ false) × IsHistoryFull n.name n.records
 IsStepRefused n PassesFull = ⊥
 IsStepRefused n Memory = CanRecord n
 

@@ -5,7 +5,7 @@ ghost use mathlib.Core.List.{IsPrefix};
 ghost use Rattle.txc_node.specs.declared.op.Op.TheVariants.{Lookup, Insert, Sweep};
 ghost use Rattle.txc_node.specs.declared.reply.Reply.TheVariants.{Swept};
 ghost use Rattle.txc_app.specs.Claims.{IsTrueIn};
-ghost use Rattle.txc_shared.specs.Nodes.{NodeValue, IsFull, after_call, seeing, HasAdvanced};
+ghost use Rattle.txc_shared.specs.Nodes.{NodeValue, IsHistoryFull, after_call, seeing, HasAdvanced};
 ghost use Rattle.txc_shared.specs.Passes.{PassValue, HasGrown, HasSeen, DoAgree, HasFound, HasMade, HasInserted, HasTaken, IsPassLeft};
 ghost use Rattle.txc_shared.specs.Refusals.{IsLookupRefused, IsStepRefused, IsNodeLeft, IsRefusedThrough, IsNewPassRefused};
 ghost use Rattle.txc_shared.specs.Locked.{IsAhead, IsAdmitted, LiesUnderLock};
@@ -116,7 +116,7 @@ impl<A: App, J: Naming> Held<A, J> {
     // Shows a full history to the pass whose call it refuses.
     fn refuse(&self, pass: &mut NodePass<J>, refusal: NodeError) -> NodeError
         requires { refusal ≡ NodeError.HistoryFull
-            → IsAdmitted self.now pass.old × IsFull self.now.name self.now.records }
+            → IsAdmitted self.now pass.old × IsHistoryFull self.now.name self.now.records }
         ensures same { result ≡ refusal }
         ensures longer { HasGrown pass.old pass.new }
         ensures left { IsPassLeft (J.node_histories pass.old.settings.number) pass.old pass.new refusal }

@@ -1,6 +1,6 @@
 //! The history of a node, and who lengthens it.
 ghost use Rattle.std.specs.Prelude.{◌≡◌, ◌++◌, ◌∷◌, [], IfOk, IsTrue, ◌↔◌, true, false};
-ghost use Rattle.txc_stream.specs.Names.{stored, unstored, IsStored};
+ghost use Rattle.txc_stream.specs.Names.{stored, unstored, HasRow};
 ghost use Rattle.txc_shared.specs.Nodes.{NodeFrontValue};
 ghost use Rattle.txc_shared.specs.Locked.{record_in, Suits, CanGrow};
 
@@ -82,7 +82,7 @@ impl History {
         ensures after { result ≡ true
             → self.new ≡ record self.old { records = self.old.records ++ record_in next ∷ [] } }
         ensures unchanged { result ≡ false → self.new ≡ self.old }
-        ensures taken { result ≡ false → IsStored self.old.name }
+        ensures taken { result ≡ false → HasRow self.old.name }
     {
         match next {
             Prepared::Stored(next) => self.front.append(next),

@@ -1,6 +1,6 @@
 //! The records of a node, and the next turn of each pass.
 ghost use Rattle.std.specs.Prelude.{◌≡◌, ◌+◌, ◌++◌, ◌∷◌, ◌<◌, ◌≤◌, [], ℕ, length, IfOk, OnOk, OnErr, IfErr, IsTrue, ◌↔◌, true, false};
-ghost use Rattle.txc_stream.specs.Names.{IsStored};
+ghost use Rattle.txc_stream.specs.Names.{HasRow};
 ghost use Rattle.txc_node.specs.Steps.{step_reply};
 ghost use Rattle.txc_node.specs.declared.hit.Shown.{Shown};
 ghost use Rattle.txc_node.specs.declared.reply.Reply.{Reply};
@@ -254,7 +254,7 @@ impl Log {
         ensures after { result ≡ true
             → self.new ≡ record self.old { records = self.old.records ++ record_in next ∷ [] } }
         ensures unchanged { result ≡ false → self.new ≡ self.old }
-        ensures taken { result ≡ false → IsStored self.old.name }
+        ensures taken { result ≡ false → HasRow self.old.name }
     {
         let turn = self.turns[pass];
         if !self.history.append(next) {

@@ -2,9 +2,9 @@
 ghost use Rattle.std.specs.Prelude.{◌≡◌, ◌+◌, ◌^◌, ◌<◌, ◌≤◌, ◌⊎◌, ◌++◌, ◌∷◌, [], length, Some, slice_get, IfOk, MatchOption, IsTrue, ◌↔◌, true, false};
 ghost use Rattle.std.specs.Arc.{arc_value};
 ghost use mathlib.Core.List.{IsPrefix};
-ghost use Rattle.txc_stream.specs.Names.{stored, unstored, IsStored};
+ghost use Rattle.txc_stream.specs.Names.{stored, unstored, HasRow};
 ghost use Rattle.txc_stream.specs.Shown.{HasCells};
-ghost use Rattle.txc_shared.specs.Nodes.{IsFull, HasRoom};
+ghost use Rattle.txc_shared.specs.Nodes.{IsHistoryFull, HasRecordRoom};
 
 use std::alloc::{AllocError, Global};
 use std::marker::Model;
@@ -25,7 +25,7 @@ pub struct NodeFront {
 impl Model for NodeFront {
     ghost use Rattle.std.specs.Prelude.{◌≡◌, MatchOption};
     ghost use Rattle.std.specs.Arc.{arc_value};
-    ghost use Rattle.txc_stream.specs.Names.{stored, IsStored};
+    ghost use Rattle.txc_stream.specs.Names.{stored, HasRow};
     ghost use Rattle.txc_shared.specs.Nodes.{NodeFrontValue};
 
     ghost Value = { NodeFrontValue };
@@ -33,7 +33,7 @@ impl Model for NodeFront {
     ghost view = { λ f. record { name = f.front.name; records = f.front.list } };
 
     ghost invariant = { λ f. MatchOption f.row
-        (¬ (IsStored f.front.name))
+        (¬ (HasRow f.front.name))
         (λ row. f.front.name ≡ stored (arc_value row)) };
 }
 
@@ -49,7 +49,7 @@ impl NodeFront {
 
     /// What the front shows of a history that is not stored.
     pub(crate) fn unstored(front: Front<Record>) -> NodeFront
-        requires { ¬ (IsStored front.name) }
+        requires { ¬ (HasRow front.name) }
         ensures { result ≡ record { name = front.name; records = front.list } }
     {
         NodeFront { row: None, front }
@@ -71,7 +71,7 @@ impl NodeFront {
     /// The row of the records, where they are stored. Whoever appends to it breaks the node; tests do.
     pub fn row(&self) -> Option<&EventRow<Record>>
         ensures { MatchOption result
-            (¬ (IsStored self.now.name))
+            (¬ (HasRow self.now.name))
             (λ row. self.now.name ≡ stored row.now) }
     {
         match &self.row {
@@ -82,7 +82,7 @@ impl NodeFront {
 
     /// Whether its records are stored.
     pub fn is_stored(&self) -> bool
-        ensures { IsTrue result ↔ IsStored self.now.name }
+        ensures { IsTrue result ↔ HasRow self.now.name }
     {
         self.row.is_some()
     }
@@ -97,7 +97,7 @@ impl NodeFront {
 
     /// One of the records that it shows, where they are stored.
     pub fn get(&self, at: usize) -> &Record
-        requires stored { IsStored self.now.name }
+        requires stored { HasRow self.now.name }
         requires shown { at < length self.now.records }
         ensures { slice_get self.now.records at ≡ Some result.now }
     {
@@ -124,8 +124,8 @@ impl NodeFront {
 
     /// Whether it shows as many records as its row has cells. One that is not stored is never full.
     pub fn is_full(&self) -> bool
-        ensures full { result ≡ true → IsFull self.now.name self.now.records }
-        ensures room { result ≡ false → HasRoom self.now.name self.now.records }
+        ensures full { result ≡ true → IsHistoryFull self.now.name self.now.records }
+        ensures room { result ≡ false → HasRecordRoom self.now.name self.now.records }
     {
         match &self.row {
             Some(row) => self.front.len() == row.capacity(),
@@ -156,8 +156,8 @@ impl NodeFront {
 
     /// Appends a stored record. `false` where another one stands in its cell; then nothing has changed.
     pub(crate) fn append(&mut self, next: Box<Record>) -> bool
-        requires stored { IsStored self.old.name }
-        requires room { HasRoom self.old.name self.old.records }
+        requires stored { HasRow self.old.name }
+        requires room { HasRecordRoom self.old.name self.old.records }
         ensures after { result ≡ true
             → self.new ≡ record self.old { records = self.old.records ++ next.value ∷ [] } }
         ensures unchanged { result ≡ false → self.new ≡ self.old }

@@ -1,7 +1,7 @@
 //! What a caller has seen of a node.
 ghost use Rattle.std.specs.Prelude.{◌≡◌, ◌+◌, ◌<◌, ◌≤◌, ◌⊎◌, [], ℕ, take, length, MatchOption};
 ghost use mathlib.Core.List.{IsPrefix};
-ghost use Rattle.txc_stream.specs.Names.{IsStored};
+ghost use Rattle.txc_stream.specs.Names.{HasRow};
 ghost use Rattle.txc_node.specs.Counts.{AreCountsOf};
 ghost use Rattle.txc_shared.specs.Histories.{records_of, IsLegal};
 ghost use Rattle.txc_shared.specs.Nodes.{start_of};
@@ -167,7 +167,7 @@ pub fn meet<J: Naming>(one: &mut NodePass<J>, other: &mut NodePass<J>)
 /// The counts of the records that a pass has seen, where they are stored. It takes no lock and no memory.
 pub fn audit<J: Naming>(pass: &NodePass<J>) -> Option<Counts>
     ensures { MatchOption result
-        (¬ (IsStored (J.node_histories pass.now.settings.number)))
+        (¬ (HasRow (J.node_histories pass.now.settings.number)))
         (AreCountsOf pass.now.records) }
 {
     let records = pass.records();
@@ -179,7 +179,7 @@ pub fn audit<J: Naming>(pass: &NodePass<J>) -> Option<Counts>
 
 // The counts of the records that a front shows.
 fn count_records(records: &NodeFront) -> Counts
-    requires { IsStored records.now.name }
+    requires { HasRow records.now.name }
     ensures { AreCountsOf records.now.records result }
 {
     let mut counts = Counts::new();

@@ -2,7 +2,7 @@
 ghost use Rattle.std.specs.Prelude.{◌≡◌, ◌<◌, ◌≤◌, [], Ok, Err, IfOk, OnOk, IfErr, IfSome, MatchOption};
 ghost use Rattle.std.specs.Option.{option_map};
 ghost use mathlib.Core.List.{IsPrefix};
-ghost use Rattle.txc_stream.specs.Names.{stored, unstored, IsStored};
+ghost use Rattle.txc_stream.specs.Names.{stored, unstored, HasRow};
 ghost use Rattle.txc_node.specs.declared.op.Op.TheVariants.{Lookup, Sweep};
 ghost use Rattle.txc_node.specs.declared.reply.Reply.TheVariants.{Swept};
 ghost use Rattle.txc_app.specs.Claims.{IsTrueIn};
@@ -122,7 +122,7 @@ impl<A: App, J: Naming> SharedNode<A, J> {
     /// it breaks the node; tests do.
     pub fn row(&self) -> Option<&EventRow<Record>>
         ensures { MatchOption result
-            (¬ (IsStored (J.node_histories self.now.number)))
+            (¬ (HasRow (J.node_histories self.now.number)))
             (λ row. J.node_histories self.now.number ≡ stored row.now) }
     {
         let _number = self.settings.number;

@@ -7,7 +7,7 @@ use Rattle.txc_shared.specs.declared.settings.NodeSettings.{NodeSettings}
 use Rattle.txc_site.specs.declared.plan.Plan.{Plan}
 use Rattle.txc_site.specs.Plans.{settings_of_node}
 use Rattle.txc_site.specs.declared.node_history.NodeHistory.{NodeHistory}
-use Rattle.txc_site.specs.Histories.{AreHistoriesOf, IsNew, name_of}
+use Rattle.txc_site.specs.Histories.{AreHistoriesOf, IsNew, history_name}
 
 -- so many places later
 later_histories : (names : List Name) (name : Name) (n : ℕ) (histories : List NodeHistory) → AreHistoriesOf (λ k. get_or names k (stored [])) n histories
@@ -18,12 +18,12 @@ later_histories names name n (x ∷ histories) h =
     (h.0, h.1 ∙ ap (λ (m : ℕ). get_or (name ∷ names) m (stored [])) next, later_histories names name (n + 1) histories h.2)
 
 -- each new history of a list is called as the one at its place
-pub histories_by_place : (histories : List NodeHistory) → All IsNew histories → AreHistoriesOf (λ k. get_or (map name_of histories) k (stored [])) 0 histories
+pub histories_by_place : (histories : List NodeHistory) → All IsNew histories → AreHistoriesOf (λ k. get_or (map history_name histories) k (stored [])) 0 histories
 histories_by_place [] new = tt
 histories_by_place (x ∷ histories) new = (
   new 0 x (omega arith),
   refl,
-  later_histories (map name_of histories) (name_of x) 0 histories (histories_by_place histories (λ i d within. new (suc i) d (omega (arith, within)))),
+  later_histories (map history_name histories) (history_name x) 0 histories (histories_by_place histories (λ i d within. new (suc i) d (omega (arith, within)))),
 )
 
 -- one history less is left

@@ -6,9 +6,9 @@ use Rattle.txc_site.specs.declared.node_history.NodeHistory.{NodeHistory}
 use Rattle.txc_site.specs.declared.node_history.NodeHistory.TheVariants.{Stored, Unstored}
 
 -- what a history is called
-abbrev pub name_of : NodeHistory → Name
-name_of (Stored row) = stored row
-name_of (Unstored pen) = unstored pen.number
+abbrev pub history_name : NodeHistory → Name
+history_name (Stored row) = stored row
+history_name (Unstored pen) = unstored pen.number
 
 -- nothing was written
 abbrev pub IsNew : NodeHistory → Type 0
@@ -19,10 +19,10 @@ IsNew (Unstored pen) = pen.list ≡ []
 abbrev pub AreHistoriesOf : (ℕ → Name) → ℕ → List NodeHistory → Type 0
 AreHistoriesOf named number [] = Unit {0}
 AreHistoriesOf named number (history ∷ histories) =
-    IsNew history × (name_of history ≡ named number) × AreHistoriesOf named (number + 1) histories
+    IsNew history × (history_name history ≡ named number) × AreHistoriesOf named (number + 1) histories
 
 -- so much room is left after these records, where they are stored
-abbrev pub IsLeft : Name → List Record → Option ℕ → Type 0
-IsLeft (stored cells) records (Some left) = left + length records ≡ length cells
-IsLeft (stored cells) records None = ⊥
-IsLeft (unstored number) records left = left ≡ None
+abbrev pub IsRoomLeft : Name → List Record → Option ℕ → Type 0
+IsRoomLeft (stored cells) records (Some left) = left + length records ≡ length cells
+IsRoomLeft (stored cells) records None = ⊥
+IsRoomLeft (unstored number) records left = left ≡ None

@@ -6,7 +6,7 @@ use Rattle.txc_node.specs.declared.reply.Reply.TheVariants.{Swept}
 use Rattle.txc_shared.specs.declared.advanced.Advanced.TheVariants as advances
 use Rattle.txc_shared.specs.declared.error.NodeError.{NodeError}
 use Rattle.txc_shared.specs.Passes.{PassValue, HasMade, HasTaken, IsPassLeft}
-use Rattle.txc_site.specs.Histories.{IsLeft}
+use Rattle.txc_site.specs.Histories.{IsRoomLeft}
 use Rattle.txc_site.specs.declared.keeper.Ended.{Ended}
 use Rattle.txc_site.specs.declared.keeper.Ended.TheVariants.{Idle, Paused, Refused}
 use Rattle.txc_site.specs.declared.keeper.KeptNode.{KeptNode}
@@ -49,7 +49,7 @@ pub record HasKeptNode (histories : ℕ → Name) (horizon : Option ℕ) (old : 
   pub swept : HasSwept histories between horizon kept.swept new
   pub settings : new.settings ≡ old.settings
   pub pass : new.pass ≡ old.pass
-  pub left : IsLeft (histories new.settings.number) new.records kept.records_left
+  pub left : IsRoomLeft (histories new.settings.number) new.records kept.records_left
 
 -- the same of each node, in order
 abbrev pub HaveKept : (ℕ → Name) → Option ℕ → List PassValue → List KeptNode → List PassValue → Type 0

@@ -1,6 +1,6 @@
 //! Clients of a site.
 ghost use Rattle.std.specs.Prelude.{◌≡◌, ◌+◌, ◌<◌, ◌≤◌, [], All, IfErr, IfOk, MatchOption, None, length, map, slice_get, vec_len};
-ghost use Rattle.txc_stream.specs.Names.{IsStored};
+ghost use Rattle.txc_stream.specs.Names.{HasRow};
 ghost use Rattle.txc_node.specs.Counts.{AreCountsOf};
 ghost use Rattle.txc_registry.specs.Objects.{AllIdle};
 ghost use Rattle.txc_site.specs.Plans.{nodes_of};
@@ -155,7 +155,7 @@ impl<'a, A: App, D: Definition, J: Naming> SiteClient<'a, A, D, J> {
         ensures { MatchOption (slice_get self.now.reader.passes node)
             (result ≡ None)
             (λ pass. MatchOption result
-                (¬ (IsStored (J.node_histories pass.settings.number)))
+                (¬ (HasRow (J.node_histories pass.settings.number)))
                 (AreCountsOf pass.records)) }
     {
         self.reader.counts(node)

@@ -2,7 +2,7 @@
 ghost use Rattle.std.specs.Prelude.{◌≡◌, ◌≤◌, IfOk, vec_len};
 ghost use Rattle.txc_db.specs.Shared.{IsDatabaseOf};
 ghost use Rattle.txc_site.specs.Plans.{nodes_of, IsPlan};
-ghost use Rattle.txc_site.specs.Histories.{AreHistoriesOf, IsNew, name_of};
+ghost use Rattle.txc_site.specs.Histories.{AreHistoriesOf, IsNew, history_name};
 
 use crate::keeper::retire;
 use crate::node_history::NodeHistory;
@@ -37,7 +37,7 @@ fn new_node<A: App, J: Naming>(
     requires capacity { (1 ≤ settings.capacity) × (settings.capacity ≤ MAX_CAPACITY) }
     requires recent { (1 ≤ settings.recent) × (settings.recent ≤ MAX_RECENT) }
     requires new { IsNew history }
-    requires named { name_of history ≡ J.node_histories settings.number }
+    requires named { history_name history ≡ J.node_histories settings.number }
     ensures { IfOk result (λ node. node ≡ settings) }
 {
     match history {

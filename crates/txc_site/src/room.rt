@@ -1,6 +1,6 @@
 //! How much room is left in the histories.
 ghost use Rattle.std.specs.Prelude.{◌≡◌, ◌+◌, length};
-ghost use Rattle.txc_site.specs.Histories.{IsLeft};
+ghost use Rattle.txc_site.specs.Histories.{IsRoomLeft};
 
 use txc_db::{HistoryFront, Naming};
 use txc_shared::NodePass;
@@ -15,7 +15,7 @@ pub fn events_left(front: &HistoryFront) -> usize
 /// How many records there is room for after those that the pass has seen, where they are stored. A history that
 /// is not stored has no end.
 pub fn records_left<J: Naming>(pass: &NodePass<J>) -> Option<usize>
-    ensures { IsLeft (J.node_histories pass.now.settings.number) pass.now.records result }
+    ensures { IsRoomLeft (J.node_histories pass.now.settings.number) pass.now.records result }
 {
     let front = pass.records();
     let row = front.row()?;

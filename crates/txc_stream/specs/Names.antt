@@ -8,24 +8,24 @@ pub data Name : Type 0 where
   stored : List ℕ → Name
   unstored : ℕ → Name
 
--- the history is stored
-abbrev pub IsStored : Name → Type 0
-IsStored (stored cells) = Unit {0}
-IsStored (unstored number) = ⊥
+-- the history is stored in a row
+abbrev pub HasRow : Name → Type 0
+HasRow (stored cells) = Unit {0}
+HasRow (unstored number) = ⊥
 
 -- ---- the code of names
 
-abbrev either : Name → List ℕ ⊎ ℕ
-either (stored cells) = inl cells
-either (unstored number) = inr number
+abbrev as_sum : Name → List ℕ ⊎ ℕ
+as_sum (stored cells) = inl cells
+as_sum (unstored number) = inr number
 
-abbrev named : List ℕ ⊎ ℕ → Name
-named (inl cells) = stored cells
-named (inr number) = unstored number
+abbrev of_sum : List ℕ ⊎ ℕ → Name
+of_sum (inl cells) = stored cells
+of_sum (inr number) = unstored number
 
-pub named_either : (name : Name) → named (either name) ≡ name
-named_either (stored cells) = refl
-named_either (unstored number) = refl
+pub of_as_sum : (name : Name) → of_sum (as_sum name) ≡ name
+of_as_sum (stored cells) = refl
+of_as_sum (unstored number) = refl
 
 abbrev pub coded_name : Coded Name
-coded_name = code_by (List ℕ ⊎ ℕ) (coded⊎ (coded_list coded_ℕ) coded_ℕ) either named named_either
+coded_name = code_by (List ℕ ⊎ ℕ) (coded⊎ (coded_list coded_ℕ) coded_ℕ) as_sum of_sum of_as_sum

@@ -19,11 +19,11 @@ stand R (x ∷ xs) (cell ∷ row) = fsep (noted R cell (Some x)) (stand R xs row
 -- ---- histories that exist in the proofs alone
 
 -- a list is kept as its ghost values, in an algebra that names no type parameter
-abbrev pub itself : Coded Gv
-itself = record { code = λ g. g; inj = λ x y p. p }
+abbrev pub plain_code : Coded Gv
+plain_code = record { code = λ g. g; inj = λ x y p. p }
 
 abbrev pub growing_lists : Order (List Gv)
-growing_lists = prefixes itself
+growing_lists = prefixes plain_code
 
 -- the list that was written so far, and the right to write more
 abbrev pub written : (R : RattleType) → ℕ → List R.Denot → Fml

@@ -1,5 +1,5 @@
 ghost use Rattle.std.specs.Prelude.{◌≡◌, ℕ, ◌+◌, ◌^◌, ◌<◌, ◌≤◌, ◌++◌, ◌∷◌, ◌⊎◌, [], length, Some, IfOk, OnOk, IfErr, IfSome, MatchOption, slice_get, ◌↔◌, IsSome, IsNone, IsTrue};
-ghost use Rattle.txc_stream.specs.Names.{stored, IsStored};
+ghost use Rattle.txc_stream.specs.Names.{stored, HasRow};
 ghost use Rattle.txc_stream.specs.Shown.{HasCells, shown_by_seen};
 ghost use Rattle.txc_stream.specs.Seen.{IsCellAfter};
 ghost use mathlib.Core.List.{IsPrefix};
@@ -284,7 +284,7 @@ impl<T> Front<T> {
 
     // A front that shows nothing, where nothing was seen of a history that is not stored.
     pub(crate) fn of_none(seen: Seen<T>) -> Front<T>
-        requires name { ¬ (IsStored seen.name) }
+        requires name { ¬ (HasRow seen.name) }
         requires none { seen.list ≡ [] }
         ensures { result ≡ shown_by_seen seen }
     {
@@ -294,7 +294,7 @@ impl<T> Front<T> {
     // Shows what was seen, one record more of a history that is not stored.
     pub(crate) fn show_one_more(&mut self, seen: Seen<T>)
         requires name { seen.name ≡ self.old.name }
-        requires unstored { ¬ (IsStored seen.name) }
+        requires unstored { ¬ (HasRow seen.name) }
         requires more { length seen.list ≡ length self.old.list + 1 }
         requires room { length seen.list < 2 ^ 64 }
         ensures { self.new ≡ shown_by_seen seen }

@@ -18,7 +18,7 @@ use Rattle.txc_shared.specs.Refusals.{IsNodeLeft, IsNodeBroken}
 use Rattle.txc_stream.proofs.Offered.{longer_is}
 use Rattle.txc_world.specs.Parts.{IsPartOf}
 use Rattle.txc_world.specs.NodeSteps.{LookupLeads, InsertLeads, AdvanceLeads, SweepLeads}
-use Rattle.txc_stream.specs.Names.{IsStored}
+use Rattle.txc_stream.specs.Names.{HasRow}
 use Rattle.txc_world.specs.Ports.{IsNodeOf}
 use Rattle.txc_world.proofs.PartLemmas.{part_itself}
 
@@ -40,7 +40,7 @@ pub record StaysNode (whole : FrontValue) (old new : NodeValue) : Type 0 where
 
 pub node_stays : (whole : FrontValue) (actors : ℕ) (old new : NodeValue) → StaysNode whole old new → IsNodeOf whole actors old
     → IsNodeOf whole actors new
-node_stays whole actors old new s n = record { kind = subst IsStored (sym s.name) n.kind; row = s.row n.row; seen = s.seen n.seen; passes = s.passes ∙ n.passes }
+node_stays whole actors old new s n = record { kind = subst HasRow (sym s.name) n.kind; row = s.row n.row; seen = s.seen n.seen; passes = s.passes ∙ n.passes }
 
 module _ (whole : FrontValue) where
   pub stays_itself : (n : NodeValue) → StaysNode whole n n
