@@ -101,10 +101,10 @@ module _ (old new : PassValue) (grown : HasGrown old new) (x : Exchange) where
       added_these (next_record old.pass old.records op reply ∷ []) (may (next_record old.pass old.records op reply, refl, is)) (one_more old.pass old.records new.records op reply h)
 
   -- it was refused
-  added_no : Leaves x [] → (cells : List ℕ) (e : NodeError) → IsPassLeft cells old new e → HasAdded (x ∷ []) old new
-  added_no none cells e h = added_these [] none (as_before e h ∙ sym (append-nil (own_records old)))
+  added_no : Leaves x [] → (name : Name) (e : NodeError) → IsPassLeft name old new e → HasAdded (x ∷ []) old new
+  added_no none name e h = added_these [] none (as_before e h ∙ sym (append-nil (own_records old)))
     where
-      as_before : (error : NodeError) → IsPassLeft cells old new error → made_by old.pass new.records ≡ own_records old
+      as_before : (error : NodeError) → IsPassLeft name old new error → made_by old.pass new.records ≡ own_records old
       as_before Broken left = ap (λ (p : PassValue). made_by old.pass p.records) left
       as_before EmptyRange left = ap (λ (p : PassValue). made_by old.pass p.records) left
       as_before HistoryFull left = stays old.pass old.records new.records left.0
