@@ -34,7 +34,7 @@ fn hold<R: Threads + Wait + Sync>(
 {
     let plan = Plan {
         events: 2048,
-        records: 16_384,
+        records: Some(16_384),
         ..Plan::DEFAULT
     };
     let crowd = Crowd { arguments };

@@ -16,16 +16,16 @@ use Rattle.txc_batch.specs.Rows.{OutcomeIsOfRow}
 use Rattle.txc_batch.specs.RunJobs.{AgreesWith, HaveRun}
 use Rattle.txc_batch.specs.Staffing.{HaveRoomsBy, RanValue}
 
-of_row : (next : Next) (row : List ℕ) (node_rows : ℕ → List ℕ) (functions : List ℕ) (job : Job) (outcome : Outcome) → Meets next row node_rows functions job outcome → OutcomeIsOfRow row outcome
-of_row next row node_rows functions job (outcomes.Receipt receipt) h = h.events
-of_row next row node_rows functions job (outcomes.Refused error) h = tt
+of_row : (next : Next) (row : List ℕ) (node_histories : ℕ → Name) (functions : List ℕ) (job : Job) (outcome : Outcome) → Meets next row node_histories functions job outcome → OutcomeIsOfRow row outcome
+of_row next row node_histories functions job (outcomes.Receipt receipt) h = h.events
+of_row next row node_histories functions job (outcomes.Refused error) h = tt
 
 -- what the results of jobs over a row show is a part of that row
-pub all_of_row : (next : Next) (row shown : List ℕ) (node_rows : ℕ → List ℕ) (functions : List ℕ) (jobs : List Job) (results : List Receipted) → shown ≡ row
-    → All (IsResultOf jobs (Meets next row node_rows functions)) results → All (λ told. OutcomeIsOfRow shown told.outcome) results
-all_of_row next row shown node_rows functions jobs results same all =
+pub all_of_row : (next : Next) (row shown : List ℕ) (node_histories : ℕ → Name) (functions : List ℕ) (jobs : List Job) (results : List Receipted) → shown ≡ row
+    → All (IsResultOf jobs (Meets next row node_histories functions)) results → All (λ told. OutcomeIsOfRow shown told.outcome) results
+all_of_row next row shown node_histories functions jobs results same all =
     subst (λ (shown : List ℕ). All (λ told. OutcomeIsOfRow shown told.outcome) results) (sym same)
-    (All-weaker (IsResultOf jobs (Meets next row node_rows functions)) (λ told. OutcomeIsOfRow row told.outcome) (λ told h. of_row next row node_rows functions h.0 told.outcome h.3) results all)
+    (All-weaker (IsResultOf jobs (Meets next row node_histories functions)) (λ told. OutcomeIsOfRow row told.outcome) (λ told h. of_row next row node_histories functions h.0 told.outcome h.3) results all)
 
 -- the jobs ran over the database, whose row was the named one
 pub have_run : (next : Next) (s : BatchState) (ran : RanValue) (row : List ℕ) (node_rows : ℕ → List ℕ) (functions : List ℕ) (history : History) → s.source.database.events ≡ row → s.functions ≡ functions

@@ -1,4 +1,5 @@
 -- What one call through a pass leaves of all passes.
+use Rattle.txc_stream.specs.Names.{Name}
 use Rattle.std.proofs.Common.{◌≡◌, ℕ, ◌<◌, List, length, get_or, set, Option, Some, None, Result, Ok, Err, IfOk, IfErr, refl, sym, subst, inl, inr}
 use Rattle.std.specs.Option.{option_map}
 use Rattle.std.proofs.lemmas.Option.{slice_get_read}
@@ -19,32 +20,32 @@ pub called_at : (ps : List PassValue) (node : ℕ) (call : PassValue → PassVal
 called_at ps node call old new within at grown called =
     record { old = old; new = new; pass = slice_get_read ps (length ps) node old refl within at; grown = grown; called = called; others = refl }
 
-module _ (node_rows : ℕ → List ℕ) (old new : PassValue) where
+module _ (node_histories : ℕ → Name) (old new : PassValue) where
   -- a lookup, by what it returns
   module _ {F : Type 0} (r : Result (Option F) NodeError) (entry_of : F → Entry) (key : Call) (lo hi : ℕ)
       (found : IfOk r (λ o. HasFound old new (Lookup key lo hi) (option_map entry_of o)))
-      (left : IfErr r (IsPassLeft (node_rows old.settings.number) old new))
-      (refused : IfErr r (NodeMayRefuse node_rows (λ n. IsRefusedThrough (λ m. IsLookupRefused m lo hi) n old))) where
-    pub lookup_hit : (f : F) (hit : Answered Shown) → r ≡ Ok (Some f) → hit.answer ≡ shown_of_entry (entry_of f) → LookupLeaves node_rows key lo hi (Some hit) old new
+      (left : IfErr r (IsPassLeft (node_histories old.settings.number) old new))
+      (refused : IfErr r (NodeMayRefuse node_histories (λ n. IsRefusedThrough (λ m. IsLookupRefused m lo hi) n old))) where
+    pub lookup_hit : (f : F) (hit : Answered Shown) → r ≡ Ok (Some f) → hit.answer ≡ shown_of_entry (entry_of f) → LookupLeaves node_histories key lo hi (Some hit) old new
     lookup_hit f hit is shown =
         inl (subst (λ (s : Shown). HasMade old new (Lookup key lo hi) (Hit s)) (sym shown)
         (subst (λ (q : Result (Option F) NodeError). IfOk q (λ o. HasFound old new (Lookup key lo hi) (option_map entry_of o))) is found))
 
-    pub lookup_miss : r ≡ Ok None → LookupLeaves node_rows key lo hi None old new
+    pub lookup_miss : r ≡ Ok None → LookupLeaves node_histories key lo hi None old new
     lookup_miss is = inl (subst (λ (q : Result (Option F) NodeError). IfOk q (λ o. HasFound old new (Lookup key lo hi) (option_map entry_of o))) is found)
 
-    pub lookup_refused : (e : NodeError) → r ≡ Err e → LookupLeaves node_rows key lo hi None old new
+    pub lookup_refused : (e : NodeError) → r ≡ Err e → LookupLeaves node_histories key lo hi None old new
     lookup_refused e is = inr (
       refl,
       record {
         error = e;
-        reason = subst (λ (q : Result (Option F) NodeError). IfErr q (NodeMayRefuse node_rows (λ n. IsRefusedThrough (λ m. IsLookupRefused m lo hi) n old))) is refused;
-        left = subst (λ (q : Result (Option F) NodeError). IfErr q (IsPassLeft (node_rows old.settings.number) old new)) is left;
+        reason = subst (λ (q : Result (Option F) NodeError). IfErr q (NodeMayRefuse node_histories (λ n. IsRefusedThrough (λ m. IsLookupRefused m lo hi) n old))) is refused;
+        left = subst (λ (q : Result (Option F) NodeError). IfErr q (IsPassLeft (node_histories old.settings.number) old new)) is left;
       },
     )
 
   -- an insertion, by what it returns
-  pub inserted : (entry : Entry) (r : Result Insertion NodeError) → IfOk r (HasInserted old new entry) → IfErr r (IsPassLeft (node_rows old.settings.number) old new)
-      → IfErr r (NodeMayRefuse node_rows (λ n. IsRefusedThrough IsStepRefused n old)) → InsertLeaves node_rows entry old new
+  pub inserted : (entry : Entry) (r : Result Insertion NodeError) → IfOk r (HasInserted old new entry) → IfErr r (IsPassLeft (node_histories old.settings.number) old new)
+      → IfErr r (NodeMayRefuse node_histories (λ n. IsRefusedThrough IsStepRefused n old)) → InsertLeaves node_histories entry old new
   inserted entry (Ok insertion) made left refused = inl (insertion, made)
   inserted entry (Err e) made left refused = inr (record { error = e; reason = refused; left = left })

@@ -17,7 +17,7 @@ grown_self p = record { is = refl; records = prefix_self p.records; history = pr
 
 pub grown_then : (p q r : PassValue) → HasGrown p q → HasGrown q r → HasGrown p r
 grown_then p q r a b = record {
-  is = b.is ∙ ap (λ (w : PassValue). record w { records = r.records; history = r.history }) a.is;
+  is = b.is ∙ ap (λ (w : PassValue). record w { own = r.own; records = r.records; history = r.history }) a.is;
   records = prefix_then p.records q.records r.records a.records b.records;
   history = prefix_then p.history q.history r.history a.history b.history;
 }

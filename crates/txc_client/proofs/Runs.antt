@@ -1,4 +1,5 @@
 -- A run of a call, exchange by exchange.
+use Rattle.txc_stream.specs.Names.{Name}
 use Rattle.std.proofs.Common.{◌≡◌, ℕ, List, [], ◌∷◌, ◌++◌, refl, subst}
 use Rattle.txc_tags.specs.Keys.{Call}
 use Rattle.txc_app.specs.Eval.{Next}
@@ -14,14 +15,14 @@ use Rattle.txc_client.specs.Ports.{PassesAfter}
 use Rattle.txc_client.specs.Run.{ExchangeLeads, ExchangesLead, HasBegun, HasRun, IsRefusedSo}
 use Rattle.txc_client.specs.Txn.{RoTxnValue}
 
-module _ (next : Next) (row : List ℕ) (node_rows : ℕ → List ℕ) where
+module _ (next : Next) (row : List ℕ) (node_histories : ℕ → Name) where
   led_more : (old mid new : RoTxnValue) (asking then turn : Turn) (exchanges : List Exchange) (x : Exchange)
-      → ExchangesLead next row node_rows old asking exchanges mid then → ExchangeLeads next row node_rows mid then x new turn
-      → ExchangesLead next row node_rows old asking (exchanges ++ x ∷ []) new turn
+      → ExchangesLead next row node_histories old asking exchanges mid then → ExchangeLeads next row node_histories mid then x new turn
+      → ExchangesLead next row node_histories old asking (exchanges ++ x ∷ []) new turn
   led_more old mid new asking then turn [] x led step = (
     new,
     turn,
-    subst (λ (v : RoTxnValue). ExchangeLeads next row node_rows v asking x new turn) led.0 (subst (λ (t : Turn). ExchangeLeads next row node_rows mid t x new turn) led.1 step),
+    subst (λ (v : RoTxnValue). ExchangeLeads next row node_histories v asking x new turn) led.0 (subst (λ (t : Turn). ExchangeLeads next row node_histories mid t x new turn) led.1 step),
     (refl, refl),
   )
   led_more old mid new asking then turn (first ∷ exchanges) x led step =
@@ -29,13 +30,13 @@ module _ (next : Next) (row : List ℕ) (node_rows : ℕ → List ℕ) where
 
   module _ (old : RoTxnValue) (k : Call) where
     -- no exchange yet
-    pub run_begun : (new : RoTxnValue) (turn : Turn) → HasBegun old k new turn → HasRun next row node_rows old k new turn
+    pub run_begun : (new : RoTxnValue) (turn : Turn) → HasBegun old k new turn → HasRun next row node_histories old k new turn
     run_begun new turn begun =
         record { first = new; first_turn = turn; exchanges = []; begun = begun; led = (refl, refl) }
 
     -- an exchange more
     pub run_on : (mid new : RoTxnValue) (then turn : Turn) (x : Exchange)
-        → HasRun next row node_rows old k mid then → ExchangeLeads next row node_rows mid then x new turn → HasRun next row node_rows old k new turn
+        → HasRun next row node_histories old k mid then → ExchangeLeads next row node_histories mid then x new turn → HasRun next row node_histories old k new turn
     run_on mid new then turn x run step = record {
       first = run.first;
       first_turn = run.first_turn;
@@ -47,13 +48,13 @@ module _ (next : Next) (row : List ℕ) (node_rows : ℕ → List ℕ) where
     -- a request that was answered, and what came of the reply, is an exchange more
     pub run_asked : (mid new : RoTxnValue) (then turn : Turn) (request : PortRequest) (reply : PortReply) → then ≡ Ask request
         → IsReplyTo next request reply → IsOfRow row reply → IsExchange (IsRefusedSo row) request reply
-        → IsExchange (λ x. PassesAfter node_rows mid.passes x new.passes) request reply → HasGoneOn next mid.txn reply new.txn turn
-        → HasRun next row node_rows old k mid then → HasRun next row node_rows old k new turn
+        → IsExchange (λ x. PassesAfter node_histories mid.passes x new.passes) request reply → HasGoneOn next mid.txn reply new.txn turn
+        → HasRun next row node_histories old k mid then → HasRun next row node_histories old k new turn
     run_asked mid new then turn request reply asks to of_row refused passes goes_on run =
         let given : Exchange → Type 0 = λ x. IsAnsweredRight next x × IsRefusedSo row x in
-        let left : Exchange → Type 0 = λ x. PassesAfter node_rows mid.passes x new.passes in
+        let left : Exchange → Type 0 = λ x. PassesAfter node_histories mid.passes x new.passes in
         by_exchange (λ x. given x × left x)
-        (λ q r. then ≡ Ask q → IsOfRow row r → HasGoneOn next mid.txn r new.txn turn → HasRun next row node_rows old k new turn)
+        (λ q r. then ≡ Ask q → IsOfRow row r → HasGoneOn next mid.txn r new.txn turn → HasRun next row node_histories old k new turn)
         (λ x h asks of_row goes_on. run_on mid new then turn x run (record {
           asks = asks;
           given = record { right = h.0.0; of_row = of_row; refused = h.0.1 };

@@ -1,4 +1,5 @@
 -- A client's own records in the history of a node.
+use Rattle.txc_stream.specs.Names.{Name}
 use Rattle.std.proofs.Common.{◌≡◌, ◌≢◌, ℕ, zero, suc, Bool, true, false, List, [], ◌∷◌, ◌++◌, set, slice_get, Some, None, cond, refl, sym, ap, subst, ◌∙◌, append-nil, append_assoc, inl, inr}
 use Rattle.std.specs.List.{filter}
 use Rattle.std.specs.Prelude.{◌==◌}
@@ -100,10 +101,10 @@ module _ (old new : PassValue) (grown : HasGrown old new) (x : Exchange) where
       added_these (next_record old.pass old.records op reply ∷ []) (may (next_record old.pass old.records op reply, refl, is)) (one_more old.pass old.records new.records op reply h)
 
   -- it was refused
-  added_no : Leaves x [] → (cells : List ℕ) (e : NodeError) → IsPassLeft cells old new e → HasAdded (x ∷ []) old new
-  added_no none cells e h = added_these [] none (as_before e h ∙ sym (append-nil (own_records old)))
+  added_no : Leaves x [] → (name : Name) (e : NodeError) → IsPassLeft name old new e → HasAdded (x ∷ []) old new
+  added_no none name e h = added_these [] none (as_before e h ∙ sym (append-nil (own_records old)))
     where
-      as_before : (error : NodeError) → IsPassLeft cells old new error → made_by old.pass new.records ≡ own_records old
+      as_before : (error : NodeError) → IsPassLeft name old new error → made_by old.pass new.records ≡ own_records old
       as_before Broken left = ap (λ (p : PassValue). made_by old.pass p.records) left
       as_before EmptyRange left = ap (λ (p : PassValue). made_by old.pass p.records) left
       as_before HistoryFull left = stays old.pass old.records new.records left.0
@@ -156,36 +157,36 @@ module _ (at node : ℕ) (x : Exchange) (call : PassValue → PassValue → Type
 stays_at : (node : ℕ) (p : PassValue) (olds news : List PassValue) → news ≡ olds → slice_get olds node ≡ Some p → AddedAt node [] p news
 stays_at node p olds news same is = (p, ap (λ (l : List PassValue). slice_get l node) same ∙ is, added_none p)
 
-module _ (node_rows : ℕ → List ℕ) (olds news : List PassValue) (node : ℕ) (p : PassValue) where
-  hit_adds : (at : ℕ) (key : Call) (lo hi : ℕ) (hit : Answered Shown) → IsCallAt at (LookupLeaves node_rows key lo hi (Some hit)) olds news
+module _ (node_histories : ℕ → Name) (olds news : List PassValue) (node : ℕ) (p : PassValue) where
+  hit_adds : (at : ℕ) (key : Call) (lo hi : ℕ) (hit : Answered Shown) → IsCallAt at (LookupLeaves node_histories key lo hi (Some hit)) olds news
       → slice_get olds node ≡ Some p → AddedAt node (one_if (at == node) (exchanges.Lookup at key lo hi (Some hit))) p news
   hit_adds at key lo hi hit h is =
-      added_at at node (exchanges.Lookup at key lo hi (Some hit)) (LookupLeaves node_rows key lo hi (Some hit)) olds news p
+      added_at at node (exchanges.Lookup at key lo hi (Some hit)) (LookupLeaves node_histories key lo hi (Some hit)) olds news p
       (λ old new grown called. elim called [
         | inl made ↦ added_one old new grown (exchanges.Lookup at key lo hi (Some hit)) (ops.Lookup key lo hi) (reply_to_lookup (Some hit)) made (λ one. one) (refl, refl)
         | inr refused ↦ absurd (cc refused.0)
       ]) h is
 
-  miss_adds : (at : ℕ) (key : Call) (lo hi : ℕ) → IsCallAt at (LookupLeaves node_rows key lo hi None) olds news
+  miss_adds : (at : ℕ) (key : Call) (lo hi : ℕ) → IsCallAt at (LookupLeaves node_histories key lo hi None) olds news
       → slice_get olds node ≡ Some p → AddedAt node (one_if (at == node) (exchanges.Lookup at key lo hi None)) p news
   miss_adds at key lo hi h is =
-      added_at at node (exchanges.Lookup at key lo hi None) (LookupLeaves node_rows key lo hi None) olds news p
+      added_at at node (exchanges.Lookup at key lo hi None) (LookupLeaves node_histories key lo hi None) olds news p
       (λ old new grown called. elim called [
         | inl made ↦ added_one old new grown (exchanges.Lookup at key lo hi None) (ops.Lookup key lo hi) (reply_to_lookup None) made (λ one. inr one) (refl, refl)
-        | inr refused ↦ added_no old new grown (exchanges.Lookup at key lo hi None) (inl refl) (node_rows old.settings.number) refused.1.error refused.1.left
+        | inr refused ↦ added_no old new grown (exchanges.Lookup at key lo hi None) (inl refl) (node_histories old.settings.number) refused.1.error refused.1.left
       ]) h is
 
-  insert_adds : (at : ℕ) (entry : Entry) → IsCallAt at (InsertLeaves node_rows entry) olds news
+  insert_adds : (at : ℕ) (entry : Entry) → IsCallAt at (InsertLeaves node_histories entry) olds news
       → slice_get olds node ≡ Some p → AddedAt node (one_if (at == node) (exchanges.Insert at entry)) p news
   insert_adds at entry h is =
-      added_at at node (exchanges.Insert at entry) (InsertLeaves node_rows entry) olds news p
+      added_at at node (exchanges.Insert at entry) (InsertLeaves node_histories entry) olds news p
       (λ old new grown called. elim called [
         | inl made ↦
             added_one old new grown (exchanges.Insert at entry) (ops.Insert entry) (replies.Inserted made.1.inserted) made.1.made (λ one. inr one) (refl, (made.1.inserted, refl))
-        | inr refused ↦ added_no old new grown (exchanges.Insert at entry) (inl refl) (node_rows old.settings.number) refused.error refused.left
+        | inr refused ↦ added_no old new grown (exchanges.Insert at entry) (inl refl) (node_histories old.settings.number) refused.error refused.left
       ]) h is
 
-  exchange_adds : (x : Exchange) → PassesAfter node_rows olds x news → slice_get olds node ≡ Some p → AddedAt node (filter (asks node) (x ∷ [])) p news
+  exchange_adds : (x : Exchange) → PassesAfter node_histories olds x news → slice_get olds node ≡ Some p → AddedAt node (filter (asks node) (x ∷ [])) p news
   exchange_adds (exchanges.Pin now at_least pinned) h is = stays_at node p olds news h is
   exchange_adds (exchanges.AddPin pinned given added) h is = stays_at node p olds news h is
   exchange_adds (exchanges.Unpin stamp) h is = stays_at node p olds news h is
@@ -196,12 +197,12 @@ module _ (node_rows : ℕ → List ℕ) (olds news : List PassValue) (node : ℕ
 
 -- ---- a run
 
-module _ (next : Next) (row : List ℕ) (node_rows : ℕ → List ℕ) (node : ℕ) where
-  led_adds : (xs : List Exchange) (old new : RoTxnValue) (asking turn : Turn) (p : PassValue) → ExchangesLead next row node_rows old asking xs new turn
+module _ (next : Next) (row : List ℕ) (node_histories : ℕ → Name) (node : ℕ) where
+  led_adds : (xs : List Exchange) (old new : RoTxnValue) (asking turn : Turn) (p : PassValue) → ExchangesLead next row node_histories old asking xs new turn
       → slice_get old.passes node ≡ Some p → AddedAt node (filter (asks node) xs) p new.passes
   led_adds [] old new asking turn p led is = stays_at node p old.passes new.passes (ap (λ (v : RoTxnValue). v.passes) led.0) is
   led_adds (x ∷ xs) old new asking turn p led is =
-      let one = exchange_adds node_rows old.passes led.0.passes node p x led.2.passes is in
+      let one = exchange_adds node_histories old.passes led.0.passes node p x led.2.passes is in
       let rest = led_adds xs led.0 new led.1 turn one.0 led.3 one.1 in (
         rest.0,
         rest.1,
@@ -210,9 +211,9 @@ module _ (next : Next) (row : List ℕ) (node_rows : ℕ → List ℕ) (node : �
       )
 
 pub calls_stand_once : CallsStandOnce
-calls_stand_once next row node_rows old new k turn run node before after was is =
+calls_stand_once next row node_histories old new k turn run node before after was is =
     let began = ap (λ (l : List PassValue). slice_get l node) run.begun.passes ∙ was in
-    let adds = led_adds next row node_rows node run.exchanges run.first new run.first_turn turn before run.led began in
+    let adds = led_adds next row node_histories node run.exchanges run.first new run.first_turn turn before run.led began in
     let both : Some adds.0 ≡ Some after = sym adds.1 ∙ is in
     let same : adds.0 ≡ after = cc both in
     subst (λ (q : PassValue). HasAdded (filter (asks node) run.exchanges) before q) same adds.2

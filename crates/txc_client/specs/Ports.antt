@@ -1,4 +1,5 @@
 -- What the passes of a client show, and what each request leaves of them.
+use Rattle.txc_stream.specs.Names.{Name}
 use Rattle.std.specs.Prelude.{◌≡◌, ◌⊎◌, ℕ, List, [], ◌∷◌, slice_get, set, Option, Some, None}
 use Rattle.txc_tags.specs.Keys.{Call}
 use Rattle.txc_db.specs.declared.answered.Answered.{Answered}
@@ -31,11 +32,11 @@ pub record IsCallAt (node : ℕ) (call : PassValue → PassValue → Type 0) (ol
   pub others : news ≡ set olds node new
 
 -- a call through the pass was refused as some node of the named row refuses it, and left the pass so
-pub record IsCallRefused (node_rows : ℕ → List ℕ) (refused : NodeValue → NodeError → Type 0)
+pub record IsCallRefused (node_histories : ℕ → Name) (refused : NodeValue → NodeError → Type 0)
     (old new : PassValue) : Type 0 where
   pub error : NodeError
-  pub reason : NodeMayRefuse node_rows (λ n. IsRefusedThrough refused n old) error
-  pub left : IsPassLeft (node_rows old.settings.number) old new error
+  pub reason : NodeMayRefuse node_histories (λ n. IsRefusedThrough refused n old) error
+  pub left : IsPassLeft (node_histories old.settings.number) old new error
 
 -- what a node replied to a lookup that found so much
 abbrev pub reply_to_lookup : Option (Answered Shown) → Reply Shown
@@ -43,20 +44,20 @@ reply_to_lookup None = Miss
 reply_to_lookup (Some hit) = Hit hit.answer
 
 -- one lookup, whose record shows what was found; or it was refused, and nothing was found
-abbrev pub LookupLeaves : (ℕ → List ℕ) → Call → ℕ → ℕ → Option (Answered Shown) → PassValue → PassValue → Type 0
-LookupLeaves node_rows key lo hi found old new = HasMade old new (Lookup key lo hi) (reply_to_lookup found)
-    ⊎ ((found ≡ None) × IsCallRefused node_rows (λ n. IsLookupRefused n lo hi) old new)
+abbrev pub LookupLeaves : (ℕ → Name) → Call → ℕ → ℕ → Option (Answered Shown) → PassValue → PassValue → Type 0
+LookupLeaves node_histories key lo hi found old new = HasMade old new (Lookup key lo hi) (reply_to_lookup found)
+    ⊎ ((found ≡ None) × IsCallRefused node_histories (λ n. IsLookupRefused n lo hi) old new)
 
 -- one insertion of the entry; or it was refused
-abbrev pub InsertLeaves : (ℕ → List ℕ) → Entry → PassValue → PassValue → Type 0
-InsertLeaves node_rows entry old new = ((insertion : Insertion) × HasInserted old new entry insertion)
-    ⊎ IsCallRefused node_rows IsStepRefused old new
+abbrev pub InsertLeaves : (ℕ → Name) → Entry → PassValue → PassValue → Type 0
+InsertLeaves node_histories entry old new = ((insertion : Insertion) × HasInserted old new entry insertion)
+    ⊎ IsCallRefused node_histories IsStepRefused old new
 
 -- What an exchange leaves of the passes. A lookup is one lookup at the node that is named, of this call at these
 -- stamps; an insertion is one insertion of this entry there; and any other leaves every pass as it was.
-abbrev pub PassesAfter : (ℕ → List ℕ) → List PassValue → Exchange → List PassValue → Type 0
-PassesAfter node_rows olds (exchanges.Lookup node key lo hi found) news =
-    IsCallAt node (LookupLeaves node_rows key lo hi found) olds news
-PassesAfter node_rows olds (exchanges.Insert node entry) news =
-    IsCallAt node (InsertLeaves node_rows entry) olds news
-PassesAfter node_rows olds exchange news = news ≡ olds
+abbrev pub PassesAfter : (ℕ → Name) → List PassValue → Exchange → List PassValue → Type 0
+PassesAfter node_histories olds (exchanges.Lookup node key lo hi found) news =
+    IsCallAt node (LookupLeaves node_histories key lo hi found) olds news
+PassesAfter node_histories olds (exchanges.Insert node entry) news =
+    IsCallAt node (InsertLeaves node_histories entry) olds news
+PassesAfter node_histories olds exchange news = news ≡ olds

@@ -1,5 +1,6 @@
 -- How a call of a transaction goes: what it asks and is replied, what each request leaves of the passes, and what
 -- comes of each reply.
+use Rattle.txc_stream.specs.Names.{Name}
 use Rattle.std.specs.Prelude.{◌≡◌, ℕ, List, [], ◌∷◌, Some, Result, Ok, Err}
 use Rattle.txc_tags.specs.Keys.{Call}
 use Rattle.txc_db.specs.Calls.{IsPinRefused, IsQueryRefused}
@@ -46,27 +47,27 @@ pub record HasBegun (old : RoTxnValue) (k : Call) (new : RoTxnValue) (turn : Tur
   pub passes : new.passes ≡ old.passes
 
 -- the turn asks, the request leaves the passes so, and the reply to it leads on to the next turn
-pub record ExchangeLeads (next : Next) (row : List ℕ) (node_rows : ℕ → List ℕ) (old : RoTxnValue) (asking : Turn)
+pub record ExchangeLeads (next : Next) (row : List ℕ) (node_histories : ℕ → Name) (old : RoTxnValue) (asking : Turn)
     (x : Exchange) (new : RoTxnValue) (turn : Turn) : Type 0 where
   pub asks : asking ≡ Ask (request_of x)
   pub given : IsGiven next row x
-  pub passes : PassesAfter node_rows old.passes x new.passes
+  pub passes : PassesAfter node_histories old.passes x new.passes
   pub goes_on : HasGoneOn next old.txn (reply_of x) new.txn turn
 
 -- the exchanges lead on, one after the other, to the last turn
-abbrev pub ExchangesLead : Next → List ℕ → (ℕ → List ℕ) → RoTxnValue → Turn → List Exchange → RoTxnValue → Turn → Type 0
-ExchangesLead next row node_rows old asking [] new turn = (new ≡ old) × (turn ≡ asking)
-ExchangesLead next row node_rows old asking (x ∷ exchanges) new turn = (after : RoTxnValue) × (then : Turn)
-    × ExchangeLeads next row node_rows old asking x after then × ExchangesLead next row node_rows after then exchanges new turn
+abbrev pub ExchangesLead : Next → List ℕ → (ℕ → Name) → RoTxnValue → Turn → List Exchange → RoTxnValue → Turn → Type 0
+ExchangesLead next row node_histories old asking [] new turn = (new ≡ old) × (turn ≡ asking)
+ExchangesLead next row node_histories old asking (x ∷ exchanges) new turn = (after : RoTxnValue) × (then : Turn)
+    × ExchangeLeads next row node_histories old asking x after then × ExchangesLead next row node_histories after then exchanges new turn
 
 -- the call of a transaction ran from its beginning, by such exchanges, to this turn
-pub record HasRun (next : Next) (row : List ℕ) (node_rows : ℕ → List ℕ) (old : RoTxnValue) (k : Call)
+pub record HasRun (next : Next) (row : List ℕ) (node_histories : ℕ → Name) (old : RoTxnValue) (k : Call)
     (new : RoTxnValue) (turn : Turn) : Type 0 where
   pub first : RoTxnValue
   pub first_turn : Turn
   pub exchanges : List Exchange
   pub begun : HasBegun old k first first_turn
-  pub led : ExchangesLead next row node_rows first first_turn exchanges new turn
+  pub led : ExchangesLead next row node_histories first first_turn exchanges new turn
 
 -- the turn that ends a call with this result
 abbrev pub turn_of_result : Result (List ℕ) TxnError → Turn

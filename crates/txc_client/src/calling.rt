@@ -38,7 +38,7 @@ pub(crate) fn call_at<A: App, C: Cacheable, J: Naming>(
     ensures events { txn.new.core.seen.events ≡ J.database_row }
     ensures longer { IsPrefix txn.old.core.seen.history txn.new.core.seen.history }
     ensures functions { numbers_of txn.new.objects ≡ numbers_of txn.old.objects }
-    ensures run { HasRun A.next J.database_row J.node_rows
+    ensures run { HasRun A.next J.database_row J.node_histories
         (record { txn = txn.old; passes = ports.old }) key
         (record { txn = txn.new; passes = ports.new }) result }
     ensures missing { txn.old.core.pins.members ≢ [] → IsNone (activity_of txn.old.objects key.function)

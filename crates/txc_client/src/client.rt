@@ -1,5 +1,6 @@
 //! Clients, and the beginning of their transactions.
-ghost use Rattle.std.specs.Prelude.{◌≡◌, ◌≤◌, ◌<◌, ◌⊎◌, ◌↔◌, [], get_or, slice_get, true, All, Any, IfErr, IfOk, IfSome, IsSome, MatchOption, None, length, map};
+ghost use Rattle.std.specs.Prelude.{◌≡◌, ◌≤◌, ◌<◌, ◌⊎◌, [], get_or, slice_get, true, All, Any, IfErr, IfOk, MatchOption, None, length, map};
+ghost use Rattle.txc_stream.specs.Names.{HasRow};
 ghost use Rattle.txc_node.specs.Counts.{AreCountsOf};
 ghost use Rattle.txc_cushion.specs.Cushion.{cushion_front, handed_out};
 ghost use Rattle.txc_cushion.specs.Shared.{CushionMayAnswer};
@@ -72,7 +73,7 @@ impl<'a, A: App, C: Cacheable, J: Naming> Client<'a, A, C, J> {
         ensures renew_after { IfOk result (λ client. client.renew_after ≡ renew_after) }
         ensures functions { IfOk result (λ client. client.objects ≡ registry) }
         ensures refused { IfErr result (λ e. (e ≡ NodeError.Memory)
-            ⊎ Any (λ node. NodeMayRefuse J.node_rows (IsNewPassRefused node) e) nodes.now) }
+            ⊎ Any (λ node. NodeMayRefuse J.node_histories (IsNewPassRefused node) e) nodes.now) }
     {
         let ports = Ports::new(rt, alloc, database, cushion, nodes)?;
         Ok(Client {
@@ -173,17 +174,19 @@ impl<'a, A: App, C: Cacheable, J: Naming> Client<'a, A, C, J> {
         self.ports.pass(node)
     }
 
-    /// The counts of what its pass through a node has seen; none where there is no such node. It takes no lock
-    /// and no memory.
+    /// The counts of what its pass through a node has seen; none where there is no such node, or its history is
+    /// not stored. It takes no lock and no memory.
     pub fn counts(&self, node: usize) -> Option<Counts>
-        ensures answer { MatchOption (slice_get self.now.passes node) (result ≡ None)
-            (λ pass. IfSome result (AreCountsOf pass.records)) }
-        ensures only_if { IsSome result ↔ (node < length self.now.passes) }
+        ensures { MatchOption (slice_get self.now.passes node)
+            (result ≡ None)
+            (λ pass. MatchOption result
+                (¬ (HasRow (J.node_histories pass.settings.number)))
+                (AreCountsOf pass.records)) }
     {
         if node >= self.ports.len() {
             return None;
         }
-        Some(audit(self.ports.pass(node)))
+        audit(self.ports.pass(node))
     }
 }
 

@@ -57,7 +57,7 @@ impl<'a, A: App, J: Naming> Ports<'a, A, J> {
         ensures nodes { IfOk result (λ ports. map (λ pass. pass.settings) ports ≡ nodes.now) }
         ensures records { IfOk result (λ ports. All (λ pass. pass.records ≡ []) ports) }
         ensures refused { IfErr result (λ e. (e ≡ NodeError.Memory)
-            ⊎ Any (λ node. NodeMayRefuse J.node_rows (IsNewPassRefused node) e) nodes.now) }
+            ⊎ Any (λ node. NodeMayRefuse J.node_histories (IsNewPassRefused node) e) nodes.now) }
     {
         let passes = draw_passes(rt, alloc, nodes)?;
         Ok(Ports {
@@ -99,7 +99,7 @@ impl<'a, A: App, J: Naming> Ports<'a, A, J> {
             IsTrueIn A.next hit.front.history (entry_shown key.now hit.answer)) }
         ensures row { IfSome result (λ hit. hit.front.events ≡ J.database_row) }
         ensures passes { HaveGrown self.old self.new }
-        ensures left { IsCallAt node (LookupLeaves J.node_rows key.now lo hi result) self.old self.new }
+        ensures left { IsCallAt node (LookupLeaves J.node_histories key.now lo hi result) self.old self.new }
     {
         let nodes = self.nodes;
         let pass = &mut self.passes[node];
@@ -123,7 +123,7 @@ impl<'a, A: App, J: Naming> Ports<'a, A, J> {
         requires row { seen.now.events ≡ J.database_row }
         requires is_true { IsTrueIn A.next seen.now.history entry }
         ensures passes { HaveGrown self.old self.new }
-        ensures left { IsCallAt node (InsertLeaves J.node_rows entry) self.old self.new }
+        ensures left { IsCallAt node (InsertLeaves J.node_histories entry) self.old self.new }
     {
         let nodes = self.nodes;
         let pass = &mut self.passes[node];
@@ -144,7 +144,7 @@ impl<'a, A: App, J: Naming> Ports<'a, A, J> {
         ensures row { IsOfRow J.database_row result }
         ensures refused { IsExchange (IsRefusedSo J.database_row) request result }
         ensures passes { HaveGrown self.old self.new }
-        ensures left { IsExchange (λ x. PassesAfter J.node_rows self.old x self.new) request result }
+        ensures left { IsExchange (λ x. PassesAfter J.node_histories self.old x self.new) request result }
     {
         match request {
             PortRequest::Pin { now, at_least } => PortReply::Pin(
@@ -184,7 +184,7 @@ fn draw_passes<A: App, J: Naming>(
     ensures nodes { IfOk result (λ passes. map (λ pass. pass.settings) passes.items ≡ nodes.now) }
     ensures records { IfOk result (λ passes. All (λ pass. pass.records ≡ []) passes.items) }
     ensures refused { IfErr result (λ e. (e ≡ NodeError.Memory)
-        ⊎ Any (λ node. NodeMayRefuse J.node_rows (IsNewPassRefused node) e) nodes.now) }
+        ⊎ Any (λ node. NodeMayRefuse J.node_histories (IsNewPassRefused node) e) nodes.now) }
 {
     let mut passes = Vec::new(alloc);
     for node in nodes {

@@ -61,7 +61,7 @@ impl<'a, A: App, C: Cacheable, J: Naming> RoTxn<'a, A, C, J> {
         ensures meant { IsTxn A.next self.new.txn }
         ensures idle { AllIdle self.new.txn.objects }
         ensures functions { self.new.txn.objects ≡ self.old.txn.objects }
-        ensures run { HasRun A.next J.database_row J.node_rows self.old key self.new (turn_of_result result) }
+        ensures run { HasRun A.next J.database_row J.node_histories self.old key self.new (turn_of_result result) }
         ensures settings { KeepsSettings self.old.txn.core self.new.txn.core }
         ensures longer { IsPrefix self.old.txn.core.seen.history self.new.txn.core.seen.history }
         ensures missing { self.old.txn.core.pins.members ≢ []

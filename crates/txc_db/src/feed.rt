@@ -68,13 +68,14 @@ pub struct Feed<J: Naming> {
 impl<J: Naming> Model for Feed<J> {
     ghost use Rattle.std.specs.Prelude.{◌≡◌, ◌≤◌, length};
     ghost use Rattle.std.specs.Arc.{arc_value};
+    ghost use Rattle.txc_stream.specs.Names.{stored};
     ghost use Rattle.txc_db.specs.Seen.{FeedValue};
 
     ghost Value = { FeedValue };
 
     ghost view = { λ f. record { history = f.front.history; taken = f.taken } };
 
-    ghost invariant = { λ f. (f.front.events ≡ J.database_row) × (f.read.row ≡ arc_value f.marks)
+    ghost invariant = { λ f. (f.front.events ≡ J.database_row) × (f.read.name ≡ stored (arc_value f.marks))
         × (f.taken ≤ length f.front.history) };
 }
 

@@ -28,13 +28,14 @@ impl Model for HistoryFront {
     ghost use Rattle.std.specs.Prelude.{◌≡◌};
     ghost use Rattle.std.specs.Arc.{arc_value};
     ghost use Rattle.txc_db.specs.History.{AreTagged};
+    ghost use Rattle.txc_stream.specs.Names.{stored};
     ghost use Rattle.txc_db.specs.Seen.{FrontValue};
 
     ghost Value = { FrontValue };
 
-    ghost view = { λ f. record { events = f.front.row; history = f.front.list } };
+    ghost view = { λ f. record { events = arc_value f.events; history = f.front.list } };
 
-    ghost invariant = { λ f. (arc_value f.events ≡ f.front.row) × AreTagged f.front.list };
+    ghost invariant = { λ f. (f.front.name ≡ stored (arc_value f.events)) × AreTagged f.front.list };
 }
 
 impl HistoryFront {

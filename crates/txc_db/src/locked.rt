@@ -2,6 +2,7 @@
 ghost use Rattle.std.specs.Prelude.{◌≡◌, ◌+◌, ◌≤◌, ◌∷◌, [], true, false, length, Err, IfOk, IfErr, IsOk, OnOk, OnErr, IsTrue};
 ghost use Rattle.std.specs.Arc.{arc_value};
 ghost use mathlib.Core.List.{IsPrefix};
+ghost use Rattle.txc_stream.specs.Names.{stored};
 ghost use Rattle.txc_rows.specs.RowTags.{query_tag};
 ghost use Rattle.txc_validity.specs.Answers.{IsAnswer};
 ghost use Rattle.txc_db.specs.History.{state_at};
@@ -41,6 +42,7 @@ pub(crate) struct Locked<J: Naming> {
 impl<J: Naming> Model for Locked<J> {
     ghost use Rattle.std.specs.Prelude.{◌≡◌, false};
     ghost use Rattle.std.specs.Arc.{arc_value};
+    ghost use Rattle.txc_stream.specs.Names.{stored};
     ghost use Rattle.txc_db.specs.Seen.{last_mark};
     ghost use Rattle.txc_db.specs.DatabaseValue.{DatabaseValue};
 
@@ -48,7 +50,7 @@ impl<J: Naming> Model for Locked<J> {
 
     ghost view = { λ l. l.core };
 
-    ghost invariant = { λ l. (l.core.events ≡ J.database_row) × (l.marked.row ≡ arc_value l.marks)
+    ghost invariant = { λ l. (l.core.events ≡ J.database_row) × (l.marked.name ≡ stored (arc_value l.marks))
         × (l.core.broken ≡ false → last_mark l.marked.list ≡ l.core.history) };
 }
 
@@ -233,10 +235,10 @@ fn leave_mark<J: Naming>(
     mut mark: Box<Mark<J>>,
     history: &HistoryFront,
 ) -> bool
-    requires row { marked.old.row ≡ marks.now }
+    requires row { marked.old.name ≡ stored marks.now }
     requires named { history.now.events ≡ J.database_row }
     requires begins { IsPrefix mark.value history.now.history }
-    ensures row { marked.new.row ≡ marked.old.row }
+    ensures name { marked.new.name ≡ marked.old.name }
     ensures last { IsTrue result → last_mark marked.new.list ≡ history.now.history }
 {
     mark.lengthen(history);

@@ -3,6 +3,7 @@ use Rattle.std.proofs.Common.{◌≡◌, ℕ, List, [], ◌∷◌, ◌++◌, len
 use Rattle.std.specs.Option.{option_map}
 use mathlib.Core.List.{IsPrefix}
 use Rattle.txc_stream.proofs.Offered.{prefix_trans, prefix_push, longer_is}
+use Rattle.txc_stream.specs.Names.{Name}
 use Rattle.txc_tags.specs.Keys.{Call}
 use Rattle.txc_db.specs.History.{tags_at}
 use Rattle.txc_db.specs.Seen.{FrontValue}
@@ -23,12 +24,18 @@ use Rattle.txc_shared.specs.declared.settings.NodeSettings.{NodeSettings}
 use Rattle.txc_shared.specs.Runs.{IsNode}
 use Rattle.txc_shared.specs.Laws.{EventsAreTaken}
 use Rattle.txc_shared.specs.Histories.{cache_after, records_of, events_of, next_record}
-use Rattle.txc_shared.specs.Nodes.{NodeValue, start_of, after_call, seeing, next_event, HasAdvanced}
+use Rattle.txc_shared.specs.Nodes.{NodeValue, IsHistoryFull, start_of, after_call, seeing, next_event, HasAdvanced}
 use Rattle.txc_shared.specs.Passes.{PassValue, HasSeen, GrowsByOthers, HasMade, HasFound, HasTaken}
 use Rattle.txc_shared.specs.Locked.{IsAhead, IsAdmitted}
 use Rattle.txc_shared.proofs.Histories.{records_of-append}
 
 -- ---- a step of an admitted pass
+
+-- where all has as many records of the pass as its beginning has, so has what stands between
+pub turn_between : (pass : ℕ) (own mid all : List Record) → IsPrefix own mid → IsPrefix mid all → records_of pass all ≡ records_of pass own → records_of pass all ≡ records_of pass mid
+turn_between pass own mid all p q same =
+    let a = records_of-append pass own p.0 in let b = records_of-append pass mid q.0 in
+    let e = ap (records_of pass) p.1 in let f = ap (records_of pass) q.1 in omega (arith, a, b, e, f, same)
 
 -- the node goes on ahead of the pass
 pub ahead_after : (n m : NodeValue) (p : PassValue) (seen : FrontValue) (op : Op) → IsAdmitted n p → m ≡ after_call (seeing n seen) p.pass op → IsAhead m p
@@ -101,9 +108,9 @@ has_found old new key op (Some s) found is h = subst (HasFound old new op) (sym 
 -- ---- refusals
 
 -- a full history is shown whole
-pub full_shown : (rows : ℕ → List ℕ) (n : NodeValue) (p q : PassValue) → IsAdmitted n p → length n.records ≡ length n.cells
-    → n.cells ≡ rows n.settings.number → q.records ≡ n.records → GrowsByOthers p.pass p.records q.records × (length q.records ≡ length (rows p.settings.number))
-full_shown rows n p q h full named shows = (
+pub full_shown : (histories : ℕ → Name) (n : NodeValue) (p q : PassValue) → IsAdmitted n p → IsHistoryFull n.name n.records
+    → n.name ≡ histories n.settings.number → q.records ≡ n.records → GrowsByOthers p.pass p.records q.records × IsHistoryFull (histories p.settings.number) q.records
+full_shown histories n p q h full named shows = (
   subst (GrowsByOthers p.pass p.records) (sym shows) (others_did p.pass p.records n.records h.ahead.records h.turn),
-  ap length shows ∙ (full ∙ (ap length named ∙ ap (λ (s : NodeSettings). length (rows s.number)) (sym h.ahead.settings))),
+  subst (IsHistoryFull (histories p.settings.number)) (sym shows) (subst (λ (name : Name). IsHistoryFull name n.records) (named ∙ ap (λ (s : NodeSettings). histories s.number) (sym h.ahead.settings)) full),
 )

@@ -1,6 +1,7 @@
 -- What a step leaves of a node.
-use Rattle.std.proofs.Common.{◌≡◌, ℕ, ◌+◌, ◌≤◌, List, [], ◌∷◌, ◌++◌, length, length-append, Bool, true, false, None, refl, sym, ap, subst, ◌∙◌, arith}
+use Rattle.std.proofs.Common.{◌≡◌, ℕ, ◌+◌, ◌≤◌, List, [], ◌∷◌, ◌++◌, length, length-append, Bool, true, false, Option, None, Some, refl, sym, ap, subst, ◌∙◌, arith}
 use Rattle.std.proofs.lemmas.Bool.Decides.{nat_tests}
+use Rattle.std.specs.Option.{option_map}
 use mathlib.Core.List.{IsPrefix}
 use Rattle.txc_tags.specs.declared.tag.Tag.{Tag}
 use Rattle.txc_tags.specs.Keys.{Call}
@@ -9,17 +10,19 @@ use Rattle.txc_db.specs.Laws.{TagsStay}
 use Rattle.txc_db.specs.Seen.{FrontValue}
 use Rattle.txc_node.specs.declared.value.TheConstants.{MAX_VALUE_LEN}
 use Rattle.txc_node.specs.declared.entry.Entry.{Entry}
+use Rattle.txc_node.specs.declared.hit.Shown.{Shown}
 use Rattle.txc_node.specs.declared.op.Op.{Op}
 use Rattle.txc_node.specs.declared.op.Op.TheVariants.{Insert, Lookup, Event, Sweep}
 use Rattle.txc_node.specs.declared.record.Record.{Record}
 use Rattle.txc_node.specs.Cache.{Cache}
-use Rattle.txc_node.specs.Steps.{refusal_of, step_reply, after_step}
+use Rattle.txc_node.specs.Steps.{found_reply, refusal_of, step_reply, after_step}
 use Rattle.txc_node.proofs.Offered.{entry_is_made}
 use Rattle.txc_app.specs.Eval.{Next}
-use Rattle.txc_app.specs.Claims.{IsTrueIn}
+use Rattle.txc_app.specs.Claims.{IsTrueIn, entry_shown}
 use Rattle.txc_shared.specs.Histories.{next_record}
 use Rattle.txc_shared.specs.Runs.{IsNode}
 use Rattle.txc_shared.specs.Nodes.{LogValue, NodeValue, after_call, seeing, HasTags}
+use Rattle.txc_shared.specs.Passes.{reply_of_found}
 use Rattle.txc_shared.specs.Laws.{MayStep, NodeGoesOn, NodeBreaks}
 
 module _ (next : Next) (L : History) (start : Cache) where
@@ -68,18 +71,23 @@ tags_in_longer stay L M number tags begins h =
     within : number ≤ length (L ++ begins.0)
     within = let long = length-append L begins.0 in let h = h.0 in omega (arith, long, h)
 
+-- what a lookup found is replied as it is shown
+pub found_replied : (key : Call) (shown : Option Shown) → reply_of_found (option_map (entry_shown key) shown) ≡ found_reply shown
+found_replied key None = refl
+found_replied key (Some s) = refl
+
 -- the value of a node that made a step, by its fields
 pub called : (n : NodeValue) (seen : FrontValue) (pass : ℕ) (op : Op) (r : Record) (log : LogValue) (cache : Cache)
     → r ≡ next_record pass n.records op (step_reply n.cache op)
-    → log ≡ record { cells = n.cells; records = n.records ++ r ∷ []; passes = n.passes } → cache ≡ after_step n.cache op
-    → record { settings = n.settings; cells = log.cells; records = log.records; passes = log.passes; cache = cache; seen = seen; broken = n.broken }
+    → log ≡ record { name = n.name; records = n.records ++ r ∷ []; passes = n.passes } → cache ≡ after_step n.cache op
+    → record { settings = n.settings; name = log.name; records = log.records; passes = log.passes; cache = cache; seen = seen; broken = n.broken }
     ≡ after_call (seeing n seen) pass op
 called n seen pass op r log cache r_is log_is cache_is =
     let records : log.records ≡ n.records ++ next_record pass n.records op (step_reply n.cache op) ∷ [] =
     ap (λ (l : LogValue). l.records) log_is ∙ ap (λ (x : Record). n.records ++ x ∷ []) r_is in
     λ i. record {
       settings = n.settings;
-      cells = (log_is i).cells;
+      name = (log_is i).name;
       records = records i;
       passes = (log_is i).passes;
       cache = cache_is i;

@@ -4,5 +4,7 @@ pub mod Laws
 pub mod Nodes
 pub mod Passes
 pub mod Refusals
+pub mod Planned
+pub mod Writers
 pub mod Locked
 pub mod Worked

@@ -1,14 +1,20 @@
 -- Words for what is done under the lock, which only this crate's private functions promise.
-use Rattle.std.specs.Prelude.{◌≡◌, ℕ, ◌<◌, false, List}
+use Rattle.std.specs.Prelude.{◌≡◌, ℕ, ◌+◌, ◌^◌, ◌<◌, false, List, length}
 use mathlib.Core.List.{IsPrefix}
+use Rattle.txc_stream.specs.Names.{Name, HasRow}
+use Rattle.txc_node.specs.declared.record.Record.{Record}
+use Rattle.txc_shared.specs.declared.error.NodeError.{NodeError}
+use Rattle.txc_shared.specs.declared.error.NodeError.TheVariants.{HistoryFull, Memory}
+use Rattle.txc_shared.specs.declared.prepared.Prepared.{Prepared}
+use Rattle.txc_shared.specs.declared.prepared.Prepared.TheVariants.{Stored, Unstored}
 use Rattle.txc_shared.specs.Histories.{records_of}
-use Rattle.txc_shared.specs.Nodes.{NodeValue}
+use Rattle.txc_shared.specs.Nodes.{NodeValue, IsHistoryFull, HasRecordRoom}
 use Rattle.txc_shared.specs.Passes.{PassValue}
 
--- what lies under a node's lock: the node's row and the database's are the named ones, and, unless it is
+-- what lies under a node's lock: the node's history and the database's row are the named ones, and, unless it is
 -- broken, as many events were taken from the feed as it took
-pub record LiesUnderLock (rows : ℕ → List ℕ) (row : List ℕ) (taken : ℕ) (n : NodeValue) : Type 0 where
-  pub cells : n.cells ≡ rows n.settings.number
+pub record LiesUnderLock (histories : ℕ → Name) (row : List ℕ) (taken : ℕ) (n : NodeValue) : Type 0 where
+  pub name : n.name ≡ histories n.settings.number
   pub events : n.seen.events ≡ row
   pub in_step : n.broken ≡ false → taken ≡ n.cache.processed
 
@@ -23,3 +29,31 @@ pub record IsAhead (n : NodeValue) (p : PassValue) : Type 0 where
 pub record IsAdmitted (n : NodeValue) (p : PassValue) : Type 0 where
   pub ahead : IsAhead n p
   pub turn : records_of p.pass n.records ≡ records_of p.pass p.records
+
+-- ---- records
+
+-- the record that was prepared
+abbrev pub record_in : Prepared → Record
+record_in (Stored next) = next.value
+record_in (Unstored draft) = draft.value
+
+-- it is prepared for a history of this kind
+abbrev pub Suits : Name → Prepared → Type 0
+Suits name (Stored next) = HasRow name
+Suits name (Unstored draft) = ¬ (HasRow name)
+
+-- it is this record, but for the reply where it is stored
+abbrev pub AwaitsReply : Record → Prepared → Type 0
+AwaitsReply r (Stored next) = record next.value { reply = r.reply } ≡ r
+AwaitsReply r (Unstored draft) = draft.value ≡ r
+
+-- no record can be appended: the history is full, or has as many records as are counted
+abbrev pub IsRoomRefused : Name → List Record → NodeError → Type 0
+IsRoomRefused name records HistoryFull = IsHistoryFull name records
+IsRoomRefused name records Memory = HasRecordRoom name records
+IsRoomRefused name records e = ⊥
+
+-- there is room for one record more, and it can be counted
+pub record CanGrow (name : Name) (records : List Record) : Type 0 where
+  pub room : HasRecordRoom name records
+  pub counted : length records + 1 < 2 ^ 64

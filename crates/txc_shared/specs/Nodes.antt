@@ -1,6 +1,7 @@
 -- What callers see of a node with its stored history.
-use Rattle.std.specs.Prelude.{◌≡◌, ◌⊎◌, ℕ, ◌+◌, ◌≤◌, Bool, List, [], ◌∷◌, ◌++◌, length}
+use Rattle.std.specs.Prelude.{◌≡◌, ◌⊎◌, ℕ, ◌+◌, ◌<◌, ◌≤◌, Bool, List, [], ◌∷◌, ◌++◌, length}
 use mathlib.Core.List.{IsPrefix}
+use Rattle.txc_stream.specs.Names.{Name, stored, unstored}
 use Rattle.txc_tags.specs.declared.tag.Tag.{Tag}
 use Rattle.txc_db.specs.History.{History, tags_at}
 use Rattle.txc_db.specs.Seen.{FrontValue}
@@ -22,27 +23,39 @@ use Rattle.txc_shared.specs.Histories.{next_record}
 abbrev pub start_of : NodeSettings → Cache
 start_of settings = empty_cache settings.capacity settings.recent
 
--- the names of all cells for records, and what was seen in the first of them
+-- what the history of a node is called, and the first records of it that were seen
 pub record NodeFrontValue : Type 0 where
-  pub cells : List ℕ
+  pub name : Name
   pub records : List Record
 
 -- the same, and how many passes there are
 pub record LogValue : Type 0 where
-  pub cells : List ℕ
+  pub name : Name
   pub records : List Record
   pub passes : ℕ
 
--- a node: its settings; the names of all cells for its records, its records, and how many passes there are;
+-- a node: its settings; what its history is called, its records, and how many passes there are;
 -- its cache; what it has seen of the database's history; and whether another record was found in its row
 pub record NodeValue : Type 0 where
   pub settings : NodeSettings
-  pub cells : List ℕ
+  pub name : Name
   pub records : List Record
   pub passes : ℕ
   pub cache : Cache
   pub seen : FrontValue
   pub broken : Bool
+
+-- ---- room
+
+-- the history is full: it is stored, and has as many records as its row has cells
+abbrev pub IsHistoryFull : Name → List Record → Type 0
+IsHistoryFull (stored cells) records = length records ≡ length cells
+IsHistoryFull (unstored number) records = ⊥
+
+-- there is room for one record more: a cell, where they are stored
+abbrev pub HasRecordRoom : Name → List Record → Type 0
+HasRecordRoom (stored cells) records = length records < length cells
+HasRecordRoom (unstored number) records = Unit {0}
 
 -- ---- what calls leave
 

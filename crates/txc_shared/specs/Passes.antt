@@ -1,6 +1,7 @@
 -- Passes through a node, and what their calls leave.
 use Rattle.std.specs.Prelude.{◌≡◌, ◌⊎◌, ℕ, ◌<◌, ◌≤◌, List, [], ◌∷◌, ◌++◌, length, Option, Some, None}
 use mathlib.Core.List.{IsPrefix}
+use Rattle.txc_stream.specs.Names.{Name}
 use Rattle.txc_tags.specs.declared.tag.Tag.{Tag}
 use Rattle.txc_db.specs.History.{History}
 use Rattle.txc_node.specs.declared.entry.Entry.{Entry}
@@ -18,35 +19,37 @@ use Rattle.txc_shared.specs.declared.error.NodeError.TheVariants.{HistoryFull}
 use Rattle.txc_shared.specs.declared.insertion.Insertion.{Insertion}
 use Rattle.txc_shared.specs.declared.settings.NodeSettings.{NodeSettings}
 use Rattle.txc_shared.specs.Histories.{records_of, next_record, events_of}
-use Rattle.txc_shared.specs.Nodes.{NodeValue, insertion_of}
+use Rattle.txc_shared.specs.Nodes.{NodeValue, IsHistoryFull, insertion_of}
 
--- a pass: the settings of its node, its number, the records that it has seen, and what it has seen of the
--- database's history
+-- a pass: the settings of its node, its number, the records that its own last call showed it, those that it
+-- has seen, and what it has seen of the database's history
 pub record PassValue : Type 0 where
   pub settings : NodeSettings
   pub pass : ℕ
+  pub own : List Record
   pub records : List Record
   pub history : History
 
 -- the pass, having seen no less than before
 pub record HasGrown (old new : PassValue) : Type 0 where
-  pub is : new ≡ record old { records = new.records; history = new.history }
+  pub is : new ≡ record old { own = new.own; records = new.records; history = new.history }
   pub records : IsPrefix old.records new.records
   pub history : IsPrefix old.history new.history
 
 -- the pass, having seen these records, and the longer of its own history and another
 pub record HasSeen (old : PassValue) (all : List Record) (other : History) (new : PassValue) : Type 0 where
   pub grown : HasGrown old new
+  pub own : new.own ≡ all
   pub records : new.records ≡ all
   pub either : (new.history ≡ old.history) ⊎ (new.history ≡ other)
   pub history : IsPrefix other new.history
 
--- the node agrees with what the pass says of it: its settings, its number, its turn, and how many records
--- it has seen
+-- the node agrees with what the pass says of it: its settings, its number, its turn after its own last call,
+-- and how many records it has seen
 pub record DoAgree (n : NodeValue) (p : PassValue) : Type 0 where
   pub settings : p.settings ≡ n.settings
   pub own : p.pass < n.passes
-  pub turn : records_of p.pass n.records ≡ records_of p.pass p.records
+  pub turn : records_of p.pass n.records ≡ records_of p.pass p.own
   pub seen : length p.records ≤ length n.records
 
 -- ---- what a call leaves
@@ -71,6 +74,11 @@ HasMade old new op reply = HasNextRecord old.pass old.records new.records op rep
 abbrev pub shown_of_entry : Entry → Shown
 shown_of_entry e = record { reach = e.reach; value = e.value; tags = e.tags }
 
+-- what a lookup that found this is replied
+abbrev pub reply_of_found : Option Entry → Reply Shown
+reply_of_found None = replies.Miss
+reply_of_found (Some e) = replies.Hit (shown_of_entry e)
+
 -- it looked up and found the entry, or nothing
 abbrev pub HasFound : PassValue → PassValue → Op → Option Entry → Type 0
 HasFound old new op None = HasMade old new op replies.Miss
@@ -91,7 +99,7 @@ HasTaken old new Idle =
 
 -- what a refusal leaves: a full history is seen up to the last of the row's cells; any other leaves the
 -- pass as it was
-abbrev pub IsPassLeft : List ℕ → PassValue → PassValue → NodeError → Type 0
-IsPassLeft cells old new HistoryFull =
-    GrowsByOthers old.pass old.records new.records × (length new.records ≡ length cells)
-IsPassLeft cells old new e = new ≡ old
+abbrev pub IsPassLeft : Name → PassValue → PassValue → NodeError → Type 0
+IsPassLeft name old new HistoryFull =
+    GrowsByOthers old.pass old.records new.records × IsHistoryFull name new.records
+IsPassLeft name old new e = new ≡ old

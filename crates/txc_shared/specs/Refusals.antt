@@ -1,29 +1,35 @@
 -- Why calls of a node are refused, and what a refusal leaves.
-use Rattle.std.specs.Prelude.{◌≡◌, ◌≢◌, ◌⊎◌, ℕ, ◌<◌, ◌≤◌, List, true, false, length}
+use Rattle.std.specs.Prelude.{◌≡◌, ◌≢◌, ◌⊎◌, ℕ, ◌<◌, ◌≤◌, true, false}
 use mathlib.Core.List.{IsPrefix}
+use Rattle.txc_stream.specs.Names.{Name, HasRow}
 use Rattle.txc_shared.specs.declared.error.NodeError.{NodeError}
 use Rattle.txc_shared.specs.declared.error.NodeError.TheVariants.{Broken, EmptyRange, HistoryFull, PassesFull, Memory}
 use Rattle.txc_shared.specs.declared.log.TheConstants.{MAX_PASSES}
 use Rattle.txc_shared.specs.declared.settings.NodeSettings.{NodeSettings}
-use Rattle.txc_shared.specs.Nodes.{NodeValue}
+use Rattle.txc_shared.specs.Nodes.{NodeValue, IsHistoryFull, HasRecordRoom}
 use Rattle.txc_shared.specs.Passes.{PassValue, DoAgree}
 
 -- a step can be recorded: the node is whole, and there is room for one record more
 pub record CanRecord (n : NodeValue) : Type 0 where
   pub whole : n.broken ≡ false
-  pub room : length n.records < length n.cells
+  pub room : HasRecordRoom n.name n.records
+
+-- another record may stand in the row after the node's, where its history is stored
+pub record MayBeForestalled (n : NodeValue) : Type 0 where
+  pub recorded : CanRecord n
+  pub in_row : HasRow n.name
 
 -- of a step: broken, or the history is full; and then out of memory, or another record stands in the row
 abbrev pub IsStepRefused : NodeValue → NodeError → Type 0
-IsStepRefused n Broken = (n.broken ≡ true) ⊎ CanRecord n
+IsStepRefused n Broken = (n.broken ≡ true) ⊎ MayBeForestalled n
 IsStepRefused n EmptyRange = ⊥
-IsStepRefused n HistoryFull = (n.broken ≡ false) × (length n.records ≡ length n.cells)
+IsStepRefused n HistoryFull = (n.broken ≡ false) × IsHistoryFull n.name n.records
 IsStepRefused n PassesFull = ⊥
 IsStepRefused n Memory = CanRecord n
 
 -- of a lookup: the stamps too, before a full history, end before they begin
 abbrev pub IsLookupRefused : NodeValue → ℕ → ℕ → NodeError → Type 0
-IsLookupRefused n lo hi Broken = (n.broken ≡ true) ⊎ (CanRecord n × (lo ≤ hi))
+IsLookupRefused n lo hi Broken = (n.broken ≡ true) ⊎ (MayBeForestalled n × (lo ≤ hi))
 IsLookupRefused n lo hi EmptyRange = (n.broken ≡ false) × (hi < lo)
 IsLookupRefused n lo hi e = IsStepRefused n e × (lo ≤ hi)
 
@@ -60,6 +66,6 @@ abbrev pub IsNewPassRefused : NodeSettings → NodeValue → NodeError → Type 
 IsNewPassRefused settings n Broken = (n.broken ≡ true) ⊎ (settings ≢ n.settings)
 IsNewPassRefused settings n e = IsPassRefused n e × (settings ≡ n.settings)
 
--- some node of a named row refuses so
-abbrev pub NodeMayRefuse : (ℕ → List ℕ) → (NodeValue → NodeError → Type 0) → NodeError → Type 0
-NodeMayRefuse rows refused e = (n : NodeValue) × (n.cells ≡ rows n.settings.number) × refused n e
+-- some node of a named history refuses so
+abbrev pub NodeMayRefuse : (ℕ → Name) → (NodeValue → NodeError → Type 0) → NodeError → Type 0
+NodeMayRefuse histories refused e = (n : NodeValue) × (n.name ≡ histories n.settings.number) × refused n e

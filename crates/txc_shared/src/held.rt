@@ -5,7 +5,7 @@ ghost use mathlib.Core.List.{IsPrefix};
 ghost use Rattle.txc_node.specs.declared.op.Op.TheVariants.{Lookup, Insert, Sweep};
 ghost use Rattle.txc_node.specs.declared.reply.Reply.TheVariants.{Swept};
 ghost use Rattle.txc_app.specs.Claims.{IsTrueIn};
-ghost use Rattle.txc_shared.specs.Nodes.{NodeValue, after_call, seeing, HasAdvanced};
+ghost use Rattle.txc_shared.specs.Nodes.{NodeValue, IsHistoryFull, after_call, seeing, HasAdvanced};
 ghost use Rattle.txc_shared.specs.Passes.{PassValue, HasGrown, HasSeen, DoAgree, HasFound, HasMade, HasInserted, HasTaken, IsPassLeft};
 ghost use Rattle.txc_shared.specs.Refusals.{IsLookupRefused, IsStepRefused, IsNodeLeft, IsRefusedThrough, IsNewPassRefused};
 ghost use Rattle.txc_shared.specs.Locked.{IsAhead, IsAdmitted, LiesUnderLock};
@@ -16,7 +16,6 @@ use crate::finding::Finding;
 use crate::insertion::Insertion;
 use crate::laws::legal_histories;
 use crate::log::MAX_PASSES;
-use crate::node_front::NodeFront;
 use crate::node_pass::NodePass;
 use crate::settings::NodeSettings;
 use crate::stored_node::StoredNode;
@@ -26,7 +25,7 @@ use txc_app::App;
 use txc_db::{Event, Feed, HistoryFront, Naming};
 use txc_node::{Entry, Record};
 use txc_stamp::Stamp;
-use txc_stream::{longer_of_two, prefix_of_itself, prefix_of_prefix};
+use txc_stream::{prefix_of_itself, prefix_of_prefix};
 use txc_tags::Key;
 
 /// What lies under the lock: the named node, and a feed of the events that it takes.
@@ -44,13 +43,13 @@ impl<A: App, J: Naming> Model for Held<A, J> {
 
     ghost view = { λ h. h.node };
 
-    ghost invariant = { λ h. LiesUnderLock J.node_rows J.database_row h.feed.taken h.node };
+    ghost invariant = { λ h. LiesUnderLock J.node_histories J.database_row h.feed.taken h.node };
 }
 
 impl<A: App, J: Naming> Held<A, J> {
     /// The named node, which has taken no event, and a feed of which none was taken.
     pub(crate) fn new(node: StoredNode<A>, feed: Feed<J>) -> Held<A, J>
-        requires cells { node.cells ≡ J.node_rows node.settings.number }
+        requires name { node.name ≡ J.node_histories node.settings.number }
         requires events { node.seen.events ≡ J.database_row }
         requires none { node.cache.processed ≡ 0 }
         requires feed { feed.taken ≡ 0 }
@@ -70,10 +69,21 @@ impl<A: App, J: Naming> Held<A, J> {
         self.node.turn(pass.pass) == pass.turn && seen <= self.node.front().len()
     }
 
+    // A whole node that agrees with a pass has all that the pass has seen, and no further record of it. It does
+    // nothing when it runs.
+    fn admits(&self, pass: &NodePass<J>)
+        requires whole { self.now.broken ≡ false }
+        requires agrees { DoAgree self.now pass.now }
+        ensures { IsAdmitted self.now pass.now }
+    {
+        pass.is_legal();
+        pass.records.agree(self.node.front());
+    }
+
     // Lets a pass make a step, where the node is whole and agrees with it. A pass that it does not agree
     // with breaks it.
     fn admit(&mut self, pass: &NodePass<J>) -> Result<(), NodeError>
-        ensures named { self.old.cells ≡ J.node_rows self.old.settings.number }
+        ensures named { self.old.name ≡ J.node_histories self.old.settings.number }
         ensures ok { OnOk result (IsAdmitted self.old pass.now) }
         ensures agrees { OnOk result (DoAgree self.old pass.now) }
         ensures unchanged { OnOk result (self.new ≡ self.old) }
@@ -81,7 +91,6 @@ impl<A: App, J: Naming> Held<A, J> {
         ensures refused { OnErr result ((result ≡ Err NodeError.Broken)
             × ((self.old.broken ≡ true) ⊎ ¬ (DoAgree self.old pass.now))) }
     {
-        longer_of_two::<Record>();
         prefix_of_itself::<Event>();
         if self.node.is_broken() {
             return Err(NodeError::Broken);
@@ -90,7 +99,7 @@ impl<A: App, J: Naming> Held<A, J> {
             self.node.set_broken();
             return Err(NodeError::Broken);
         }
-        pass.records.agree(self.node.front());
+        self.admits(pass);
         Ok(())
     }
 
@@ -107,10 +116,10 @@ impl<A: App, J: Naming> Held<A, J> {
     // Shows a full history to the pass whose call it refuses.
     fn refuse(&self, pass: &mut NodePass<J>, refusal: NodeError) -> NodeError
         requires { refusal ≡ NodeError.HistoryFull
-            → IsAdmitted self.now pass.old × (length self.now.records ≡ length self.now.cells) }
+            → IsAdmitted self.now pass.old × IsHistoryFull self.now.name self.now.records }
         ensures same { result ≡ refusal }
         ensures longer { HasGrown pass.old pass.new }
-        ensures left { IsPassLeft (J.node_rows pass.old.settings.number) pass.old pass.new refusal }
+        ensures left { IsPassLeft (J.node_histories pass.old.settings.number) pass.old pass.new refusal }
     {
         prefix_of_itself::<Record>();
         prefix_of_itself::<Event>();
@@ -123,10 +132,11 @@ impl<A: App, J: Naming> Held<A, J> {
 
     /// One pass more, which has seen no record. It is broken where the node was made with other settings.
     pub(crate) fn pass(&mut self, settings: NodeSettings) -> Result<NodePass<J>, NodeError>
-        ensures named { self.old.cells ≡ J.node_rows self.old.settings.number }
+        ensures named { self.old.name ≡ J.node_histories self.old.settings.number }
         ensures pass { IfOk result (λ pass. pass ≡ record {
           settings = settings;
           pass = self.old.passes;
+          own = [];
           records = [];
           history = self.old.seen.history;
         }) }
@@ -141,8 +151,7 @@ impl<A: App, J: Naming> Held<A, J> {
             return Err(NodeError::Broken);
         }
         self.node.check_pass()?;
-        let row = self.node.front().row_handle()?;
-        let records = NodeFront::new(row);
+        let records = self.node.start()?;
         let events = self.node.seen().again()?;
         let pass = self.node.pass()?;
         Ok(NodePass::new(settings, pass, records, events))
@@ -157,7 +166,7 @@ impl<A: App, J: Naming> Held<A, J> {
         lo: Stamp,
         hi: Stamp,
     ) -> Result<Option<Finding<A>>, NodeError>
-        ensures named { self.old.cells ≡ J.node_rows self.old.settings.number }
+        ensures named { self.old.name ≡ J.node_histories self.old.settings.number }
         ensures after { OnOk result (self.new ≡ after_call self.old pass.old.pass (Lookup key.now lo hi)) }
         ensures unchanged { IfErr result (IsNodeLeft self.old self.new) }
         ensures refused { IfErr result (IsRefusedThrough (λ n. IsLookupRefused n lo hi) self.old pass.old) }
@@ -167,7 +176,7 @@ impl<A: App, J: Naming> Held<A, J> {
         ensures key { IfOk result (λ found. IfSome found (λ f. f.entry.key ≡ key.now)) }
         ensures front { IfOk result (λ found. IfSome found (λ f. f.front.events ≡ J.database_row)) }
         ensures shown { IfOk result (λ found. IfSome found (λ f. IsPrefix f.front.history pass.new.history)) }
-        ensures left { IfErr result (IsPassLeft (J.node_rows pass.old.settings.number) pass.old pass.new) }
+        ensures left { IfErr result (IsPassLeft (J.node_histories pass.old.settings.number) pass.old pass.new) }
     {
         self.admit(pass)?;
         match self.node.lookup(alloc, pass.pass, key, lo, hi) {
@@ -190,7 +199,7 @@ impl<A: App, J: Naming> Held<A, J> {
     ) -> Result<Insertion, NodeError>
         requires row { front.now.events ≡ J.database_row }
         requires is_true { IsTrueIn A.next front.now.history entry }
-        ensures named { self.old.cells ≡ J.node_rows self.old.settings.number }
+        ensures named { self.old.name ≡ J.node_histories self.old.settings.number }
         ensures after { OnOk result
             (self.new ≡ after_call (seeing self.old self.new.seen) pass.old.pass (Insert entry)) }
         ensures seen { OnOk result (IsPrefix front.now.history self.new.seen.history) }
@@ -199,7 +208,7 @@ impl<A: App, J: Naming> Held<A, J> {
         ensures longer { HasGrown pass.old pass.new }
         ensures made { IfOk result (HasInserted pass.old pass.new entry) }
         ensures shown { OnOk result (IsPrefix front.now.history pass.new.history) }
-        ensures left { IfErr result (IsPassLeft (J.node_rows pass.old.settings.number) pass.old pass.new) }
+        ensures left { IfErr result (IsPassLeft (J.node_histories pass.old.settings.number) pass.old pass.new) }
     {
         prefix_of_prefix::<Event>();
         self.admit(pass)?;
@@ -219,13 +228,13 @@ impl<A: App, J: Naming> Held<A, J> {
         alloc: Global,
         pass: &mut NodePass<J>,
     ) -> Result<Advanced, NodeError>
-        ensures named { self.old.cells ≡ J.node_rows self.old.settings.number }
+        ensures named { self.old.name ≡ J.node_histories self.old.settings.number }
         ensures after { IfOk result (HasAdvanced (seeing self.old self.new.seen) pass.old.pass self.new) }
         ensures unchanged { IfErr result (IsNodeLeft self.old self.new) }
         ensures refused { IfErr result (IsRefusedThrough IsStepRefused self.old pass.old) }
         ensures longer { HasGrown pass.old pass.new }
         ensures taken { IfOk result (HasTaken pass.old pass.new) }
-        ensures left { IfErr result (IsPassLeft (J.node_rows pass.old.settings.number) pass.old pass.new) }
+        ensures left { IfErr result (IsPassLeft (J.node_histories pass.old.settings.number) pass.old pass.new) }
     {
         legal_histories();
         prefix_of_prefix::<Event>();
@@ -255,13 +264,13 @@ impl<A: App, J: Naming> Held<A, J> {
         pass: &mut NodePass<J>,
         horizon: Stamp,
     ) -> Result<usize, NodeError>
-        ensures named { self.old.cells ≡ J.node_rows self.old.settings.number }
+        ensures named { self.old.name ≡ J.node_histories self.old.settings.number }
         ensures after { OnOk result (self.new ≡ after_call self.old pass.old.pass (Sweep horizon)) }
         ensures unchanged { IfErr result (IsNodeLeft self.old self.new) }
         ensures refused { IfErr result (IsRefusedThrough IsStepRefused self.old pass.old) }
         ensures longer { HasGrown pass.old pass.new }
         ensures made { IfOk result (λ count. HasMade pass.old pass.new (Sweep horizon) (Swept count)) }
-        ensures left { IfErr result (IsPassLeft (J.node_rows pass.old.settings.number) pass.old pass.new) }
+        ensures left { IfErr result (IsPassLeft (J.node_histories pass.old.settings.number) pass.old pass.new) }
     {
         self.admit(pass)?;
         match self.node.sweep(alloc, pass.pass, horizon) {

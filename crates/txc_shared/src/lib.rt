@@ -1,15 +1,19 @@
-//! Cache nodes that threads share, each with the stored history of its steps.
+//! Cache nodes that threads share, each with the history of its steps, which is stored or exists in the proofs
+//! alone.
 #![tactic(auto)]
 
 mod advanced;
 mod error;
 mod finding;
 mod held;
+mod history;
 mod insertion;
 pub mod laws;
 mod log;
 mod node_front;
 mod node_pass;
+mod planned;
+mod prepared;
 mod settings;
 mod shared_node;
 mod stored_node;

@@ -1,21 +1,33 @@
 //! The records of a node, and the next turn of each pass.
-ghost use Rattle.std.specs.Prelude.{◌≡◌, ◌+◌, ◌++◌, ◌∷◌, ◌<◌, ◌≤◌, [], ℕ, length, IfOk, OnOk, OnErr, true, false};
-ghost use Rattle.std.specs.Arc.{arc_value};
+ghost use Rattle.std.specs.Prelude.{◌≡◌, ◌+◌, ◌++◌, ◌∷◌, ◌<◌, ◌≤◌, [], ℕ, length, IfOk, OnOk, OnErr, IfErr, IsTrue, ◌↔◌, true, false};
+ghost use Rattle.txc_stream.specs.Names.{HasRow};
+ghost use Rattle.txc_node.specs.Steps.{step_reply};
+ghost use Rattle.txc_node.specs.declared.hit.Shown.{Shown};
+ghost use Rattle.txc_node.specs.declared.reply.Reply.{Reply};
 ghost use Rattle.txc_shared.specs.Histories.{records_of, next_record};
 ghost use Rattle.txc_shared.specs.Nodes.{NodeFrontValue};
+ghost use Rattle.txc_node.specs.declared.op.Op.TheVariants.{Insert, Event};
+ghost use Rattle.txc_shared.specs.Locked.{record_in, Suits, AwaitsReply, IsRoomRefused, CanGrow};
 
+use crate::error::NodeError;
+use crate::history::History;
 use crate::node_front::NodeFront;
+use crate::planned::{AsEvent, AsInsertion, AsPlanned, Insertable, Planned, Takeable};
+use crate::prepared::Prepared;
 use std::alloc::{AllocError, Global};
 use std::marker::Model;
-use txc_node::{Op, Record, Reply, Shown};
+use txc_node::{Entry, NodeCore, Op, Record, Reply};
+use txc_stamp::Stamp;
+use txc_stream::Draft;
+use txc_tags::TagSet;
 
 /// The most passes of a node.
 pub const MAX_PASSES: usize = 4_096;
 
-/// A front of the node's row, and how many of its records each pass made.
+/// The history of a node, and how many of its records each pass made.
 #[derive(Drop)]
 pub(crate) struct Log {
-    front: NodeFront,
+    history: History,
     turns: Vec<usize>,
 }
 
@@ -27,31 +39,38 @@ impl Model for Log {
     ghost Value = { LogValue };
 
     ghost view = { λ l. record {
-      cells = l.front.cells;
-      records = l.front.records;
+      name = l.history.name;
+      records = l.history.records;
       passes = length l.turns.items;
     } };
 
-    ghost invariant = { λ l. (p : ℕ) → get_or l.turns.items p 0 ≡ records_of p l.front.records };
+    ghost invariant = { λ l. (p : ℕ) → get_or l.turns.items p 0 ≡ records_of p l.history.records };
 }
 
 impl Log {
     /// A log without records and passes.
-    pub(crate) fn new(alloc: Global, front: NodeFront) -> Log
-        requires { front.records ≡ [] }
-        ensures { result ≡ record { cells = front.cells; records = []; passes = 0 } }
+    pub(crate) fn new(alloc: Global, history: History) -> Log
+        requires { history.records ≡ [] }
+        ensures { result ≡ record { name = history.name; records = []; passes = 0 } }
     {
         Log {
-            front,
+            history,
             turns: Vec::new(alloc),
         }
     }
 
     /// A front that shows its records.
     pub(crate) fn front(&self) -> &NodeFront
-        ensures { result.now ≡ record { cells = self.now.cells; records = self.now.records } }
+        ensures { result.now ≡ record { name = self.now.name; records = self.now.records } }
     {
-        &self.front
+        self.history.front()
+    }
+
+    /// What a pass has seen that was just made.
+    pub(crate) fn start(&self) -> Result<NodeFront, AllocError>
+        ensures { IfOk result (λ front. front ≡ record { name = self.now.name; records = [] }) }
+    {
+        self.history.start()
     }
 
     /// How many passes there are.
@@ -77,36 +96,168 @@ impl Log {
         requires { pass < self.now.passes }
         ensures { result ≡ records_of pass self.now.records }
     {
-        let _len = self.front.len();
+        let _len = self.history.front().len();
         self.turns[pass]
     }
 
-    /// The next record of a pass.
-    pub(crate) fn next_record(&self, pass: usize, op: Op, reply: Reply<Shown>) -> Record
-        requires { pass < self.now.passes }
-        ensures { result ≡ next_record pass self.now.records op reply }
+    /// Refused as full; or as out of memory, where there are as many records as a number counts.
+    pub(crate) fn check_room(&self) -> Result<(), NodeError>
+        ensures only_if { OnOk result (CanGrow self.now.name self.now.records) }
+        ensures refused { IfErr result (IsRoomRefused self.now.name self.now.records) }
     {
-        Record {
+        let front = self.history.front();
+        if front.is_full() {
+            return Err(NodeError::HistoryFull);
+        }
+        if front.len() == usize::MAX {
+            return Err(NodeError::Memory);
+        }
+        Ok(())
+    }
+
+    // The next record of a pass, for a row. Its reply is still to come.
+    fn boxed(&self, alloc: Global, pass: usize, op: Op) -> Result<Box<Record>, AllocError>
+        requires { pass < self.now.passes }
+        ensures { IfOk result (λ next. (reply : Reply Shown)
+            → record next.value { reply = reply } ≡ next_record pass self.now.records op reply) }
+    {
+        let next = Record {
             pass,
             turn: self.turn(pass),
             op,
-            reply,
+            reply: Reply::Miss,
+        };
+        Ok(Box::new(alloc, next)?)
+    }
+
+    // The next record of a pass, in the proofs alone. There is nothing to run.
+    fn draft(&self, pass: usize, op: &Op, core: &NodeCore) -> Draft<Record>
+        requires { pass < self.now.passes }
+        ensures { result.value ≡ next_record pass self.now.records op.now (step_reply core.now op.now) }
+    {
+        let planned = Planned {
+            pass,
+            turn: self.turn(pass),
+            op,
+            core,
+        };
+        Draft::of::<Planned<'_>, AsPlanned>(&planned)
+    }
+
+    /// The next record of a pass, whose step the cache is to make. Only a stored one takes memory.
+    pub(crate) fn prepare(
+        &self,
+        alloc: Global,
+        pass: usize,
+        op: Op,
+        core: &NodeCore,
+    ) -> Result<Prepared, AllocError>
+        requires { pass < self.now.passes }
+        ensures suits { IfOk result (Suits self.now.name) }
+        ensures awaits { IfOk result
+            (AwaitsReply (next_record pass self.now.records op (step_reply core.now op))) }
+    {
+        if self.front().is_stored() {
+            Ok(Prepared::Stored(self.boxed(alloc, pass, op)?))
+        } else {
+            Ok(Prepared::Unstored(self.draft(pass, &op, core)))
+        }
+    }
+
+    // The record of an insertion, in the proofs alone. There is nothing to run.
+    fn draft_insertion(&self, pass: usize, entry: &Entry, core: &NodeCore) -> Draft<Record>
+        requires { pass < self.now.passes }
+        ensures { result.value
+            ≡ next_record pass self.now.records (Insert entry.now) (step_reply core.now (Insert entry.now)) }
+    {
+        let insertable = Insertable {
+            pass,
+            turn: self.turn(pass),
+            entry,
+            core,
+        };
+        Draft::of::<Insertable<'_>, AsInsertion>(&insertable)
+    }
+
+    /// The record of an insertion that the cache is to make. Only a stored one takes memory.
+    pub(crate) fn prepare_insertion(
+        &self,
+        alloc: Global,
+        pass: usize,
+        entry: &Entry,
+        core: &NodeCore,
+    ) -> Result<Prepared, AllocError>
+        requires { pass < self.now.passes }
+        ensures suits { IfOk result (Suits self.now.name) }
+        ensures awaits { IfOk result (AwaitsReply
+            (next_record pass self.now.records (Insert entry.now) (step_reply core.now (Insert entry.now)))) }
+    {
+        if self.front().is_stored() {
+            let op = Op::Insert(entry.copy(alloc)?);
+            Ok(Prepared::Stored(self.boxed(alloc, pass, op)?))
+        } else {
+            Ok(Prepared::Unstored(self.draft_insertion(pass, entry, core)))
+        }
+    }
+
+    // The record of an event, in the proofs alone. There is nothing to run.
+    fn draft_event(
+        &self,
+        pass: usize,
+        stamp: Stamp,
+        tags: &TagSet,
+        core: &NodeCore,
+    ) -> Draft<Record>
+        requires { pass < self.now.passes }
+        ensures { result.value
+            ≡ next_record pass self.now.records (Event stamp tags.now) (step_reply core.now (Event stamp tags.now)) }
+    {
+        let takeable = Takeable {
+            pass,
+            turn: self.turn(pass),
+            stamp,
+            tags,
+            core,
+        };
+        Draft::of::<Takeable<'_>, AsEvent>(&takeable)
+    }
+
+    /// The record of an event that the cache is to take. Only a stored one takes memory.
+    pub(crate) fn prepare_event(
+        &self,
+        alloc: Global,
+        pass: usize,
+        stamp: Stamp,
+        tags: &TagSet,
+        core: &NodeCore,
+    ) -> Result<Prepared, AllocError>
+        requires { pass < self.now.passes }
+        ensures suits { IfOk result (Suits self.now.name) }
+        ensures awaits { IfOk result (AwaitsReply
+            (next_record pass self.now.records (Event stamp tags.now) (step_reply core.now (Event stamp tags.now)))) }
+    {
+        if self.front().is_stored() {
+            let tags = tags.copy(alloc)?;
+            Ok(Prepared::Stored(self.boxed(alloc, pass, Op::Event { stamp, tags })?))
+        } else {
+            Ok(Prepared::Unstored(self.draft_event(pass, stamp, tags, core)))
         }
     }
 
     /// Appends a record of one of its passes. `false` where another one stands in its cell; then nothing
     /// has changed.
-    pub(crate) fn append(&mut self, next: Box<Record>) -> bool
-        requires room { length self.old.records < length self.old.cells }
-        requires own { next.value.pass < self.old.passes }
+    pub(crate) fn append(&mut self, pass: usize, next: Prepared) -> bool
+        requires suits { Suits self.old.name next }
+        requires room { CanGrow self.old.name self.old.records }
+        requires own { pass < self.old.passes }
+        requires by { (record_in next).pass ≡ pass }
         ensures after { result ≡ true
-            → self.new ≡ record self.old { records = self.old.records ++ next.value ∷ [] } }
+            → self.new ≡ record self.old { records = self.old.records ++ record_in next ∷ [] } }
         ensures unchanged { result ≡ false → self.new ≡ self.old }
+        ensures taken { result ≡ false → HasRow self.old.name }
     {
-        let pass = next.pass;
         let turn = self.turns[pass];
-        let _seen = self.front.len();
-        if !self.front.append(next) {
+        if !self.history.append(next) {
             return false;
         }
         self.turns[pass] = turn + 1;

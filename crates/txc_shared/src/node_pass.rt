@@ -1,6 +1,7 @@
 //! What a caller has seen of a node.
-ghost use Rattle.std.specs.Prelude.{◌≡◌, ◌+◌, ◌<◌, ◌≤◌, ◌⊎◌, [], ℕ, take, length};
+ghost use Rattle.std.specs.Prelude.{◌≡◌, ◌+◌, ◌<◌, ◌≤◌, ◌⊎◌, [], ℕ, take, length, MatchOption};
 ghost use mathlib.Core.List.{IsPrefix};
+ghost use Rattle.txc_stream.specs.Names.{HasRow};
 ghost use Rattle.txc_node.specs.Counts.{AreCountsOf};
 ghost use Rattle.txc_shared.specs.Histories.{records_of, IsLegal};
 ghost use Rattle.txc_shared.specs.Nodes.{start_of};
@@ -11,7 +12,8 @@ use crate::node_front::NodeFront;
 use crate::settings::NodeSettings;
 use std::marker::{Model, PhantomData};
 use txc_db::{HistoryFront, Naming};
-use txc_node::Counts;
+use txc_node::{Counts, Record};
+use txc_stream::{Front, prefix_of_itself, prefix_of_prefix};
 
 /// What a caller has seen of a node: a legal history of its records, and what they name of the database's
 /// history.
@@ -22,8 +24,9 @@ use txc_node::Counts;
 pub struct NodePass<J: Naming> {
     pub(crate) settings: NodeSettings,
     pub(crate) pass: usize,
-    // How many of the records that it shows are its own.
+    // How many of the records that its own last call showed it are its own.
     pub(crate) turn: usize,
+    own: Front<Record>,
     pub(crate) records: NodeFront,
     pub(crate) events: HistoryFront,
     of: PhantomData<J>,
@@ -31,6 +34,7 @@ pub struct NodePass<J: Naming> {
 
 impl<J: Naming> Model for NodePass<J> {
     ghost use Rattle.std.specs.Prelude.{◌≡◌};
+    ghost use mathlib.Core.List.{IsPrefix};
     ghost use Rattle.txc_shared.specs.Histories.{records_of, IsLegal};
     ghost use Rattle.txc_shared.specs.Nodes.{start_of};
     ghost use Rattle.txc_shared.specs.Passes.{PassValue};
@@ -40,14 +44,16 @@ impl<J: Naming> Model for NodePass<J> {
     ghost view = { λ p. record {
       settings = p.settings;
       pass = p.pass;
+      own = p.own.list;
       records = p.records.records;
       history = p.events.history;
     } };
 
     ghost invariant = { λ p.
-        (p.records.cells ≡ J.node_rows p.settings.number)
+        (p.records.name ≡ J.node_histories p.settings.number)
         × (p.events.events ≡ J.database_row)
-        × (p.turn ≡ records_of p.pass p.records.records)
+        × (p.turn ≡ records_of p.pass p.own.list)
+        × IsPrefix p.own.list p.records.records
         × IsLegal p.events.history (start_of p.settings) p.records.records };
 }
 
@@ -59,17 +65,20 @@ impl<J: Naming> NodePass<J> {
         records: NodeFront,
         events: HistoryFront,
     ) -> NodePass<J>
-        requires cells { records.cells ≡ J.node_rows settings.number }
+        requires name { records.name ≡ J.node_histories settings.number }
         requires none { records.records ≡ [] }
         requires events { events.events ≡ J.database_row }
         ensures { result
-            ≡ record { settings = settings; pass = pass; records = []; history = events.history } }
+            ≡ record { settings = settings; pass = pass; own = []; records = []; history = events.history } }
     {
         legal_histories();
+        prefix_of_itself::<Record>();
+        let own = records.front().again();
         NodePass {
             settings,
             pass,
             turn: 0,
+            own,
             records,
             events,
             of: PhantomData,
@@ -90,16 +99,18 @@ impl<J: Naming> NodePass<J> {
         self.records.len()
     }
 
-    /// What it has seen is a legal history of its node. It does nothing when it runs.
+    /// What it has seen is a legal history of its node, and begins with what its own last call showed it. It
+    /// does nothing when it runs.
     pub fn is_legal(&self)
-        ensures { IsLegal self.now.history (start_of self.now.settings) self.now.records }
+        ensures legal { IsLegal self.now.history (start_of self.now.settings) self.now.records }
+        ensures own { IsPrefix self.now.own self.now.records }
     {
         let _len = self.records.len();
     }
 
     /// The records that it has seen.
     pub fn records(&self) -> &NodeFront
-        ensures cells { result.now.cells ≡ J.node_rows self.now.settings.number }
+        ensures name { result.now.name ≡ J.node_histories self.now.settings.number }
         ensures records { result.now.records ≡ self.now.records }
     {
         &self.records
@@ -116,7 +127,7 @@ impl<J: Naming> NodePass<J> {
     /// Sees the records that a front shows, which go on from its own and have that many of its own, and
     /// what the other front shows of the database's history beyond what it has seen itself.
     pub(crate) fn see(&mut self, records: &NodeFront, events: &HistoryFront, turn: usize)
-        requires cells { records.now.cells ≡ J.node_rows self.old.settings.number }
+        requires name { records.now.name ≡ J.node_histories self.old.settings.number }
         requires row { events.now.events ≡ J.database_row }
         requires records { IsPrefix self.old.records records.now.records }
         requires turn { turn ≡ records_of self.old.pass records.now.records }
@@ -124,23 +135,12 @@ impl<J: Naming> NodePass<J> {
         ensures { HasSeen self.old records.now.records events.now.history self.new }
     {
         legal_histories();
+        prefix_of_itself::<Record>();
         self.records.longer(records);
         self.events.longer(events);
+        self.own = records.front().again();
         self.turn = turn;
     }
-}
-
-// How many of the records that a front shows a pass made.
-fn count_records(front: &NodeFront, pass: usize) -> usize
-    ensures { result ≡ records_of pass front.now.records }
-{
-    let mut count = 0;
-    for at in 0..front.len() {
-        if front.get(at).pass == pass {
-            count += 1;
-        }
-    }
-    count
 }
 
 /// Gives two passes of one node what either of them has seen. It takes no lock and no memory.
@@ -157,21 +157,34 @@ pub fn meet<J: Naming>(one: &mut NodePass<J>, other: &mut NodePass<J>)
     ensures legal { IsLegal one.new.history (start_of one.new.settings) one.new.records }
 {
     legal_histories();
+    prefix_of_prefix::<Record>();
     one.records.longer(&other.records);
     other.records.longer(&one.records);
     one.events.longer(&other.events);
     other.events.longer(&one.events);
-    one.turn = count_records(&one.records, one.pass);
-    other.turn = count_records(&other.records, other.pass);
 }
 
-/// The counts of the records that a pass has seen. It takes no lock and no memory.
-pub fn audit<J: Naming>(pass: &NodePass<J>) -> Counts
-    ensures { AreCountsOf pass.now.records result }
+/// The counts of the records that a pass has seen, where they are stored. It takes no lock and no memory.
+pub fn audit<J: Naming>(pass: &NodePass<J>) -> Option<Counts>
+    ensures { MatchOption result
+        (¬ (HasRow (J.node_histories pass.now.settings.number)))
+        (AreCountsOf pass.now.records) }
+{
+    let records = pass.records();
+    if !records.is_stored() {
+        return None;
+    }
+    Some(count_records(records))
+}
+
+// The counts of the records that a front shows.
+fn count_records(records: &NodeFront) -> Counts
+    requires { HasRow records.now.name }
+    ensures { AreCountsOf records.now.records result }
 {
     let mut counts = Counts::new();
-    for at in 0..pass.records.len() {
-        counts.add(pass.records.get(at));
+    for at in 0..records.len() {
+        counts.add(records.get(at));
     }
     counts
 }

@@ -1,8 +1,8 @@
 //! The node under its lock, and the steps of passes through it.
-ghost use Rattle.std.specs.Prelude.{◌≡◌, ◌<◌, ◌≤◌, [], Ok, Err, IfOk, OnOk, IfErr, IfSome};
+ghost use Rattle.std.specs.Prelude.{◌≡◌, ◌<◌, ◌≤◌, [], Ok, Err, IfOk, OnOk, IfErr, IfSome, MatchOption};
 ghost use Rattle.std.specs.Option.{option_map};
-ghost use Rattle.std.specs.Arc.{arc_value};
 ghost use mathlib.Core.List.{IsPrefix};
+ghost use Rattle.txc_stream.specs.Names.{stored, unstored, HasRow};
 ghost use Rattle.txc_node.specs.declared.op.Op.TheVariants.{Lookup, Sweep};
 ghost use Rattle.txc_node.specs.declared.reply.Reply.TheVariants.{Swept};
 ghost use Rattle.txc_app.specs.Claims.{IsTrueIn};
@@ -17,41 +17,42 @@ use crate::finding::Finding;
 use crate::held::Held;
 use crate::insertion::Insertion;
 use crate::log::MAX_PASSES;
+use crate::node_front::NodeFront;
 use crate::node_pass::NodePass;
 use crate::settings::NodeSettings;
 use crate::stored_node::StoredNode;
 use std::alloc::{AllocError, Global};
 use std::marker::Model;
-use std::sync::{Arc, Mutex, Wait};
+use std::sync::{Mutex, Wait};
 use txc_app::App;
 use txc_db::{Database, HistoryFront, Naming};
 use txc_node::{Entry, MAX_CAPACITY, MAX_RECENT, Record};
 use txc_stamp::Stamp;
-use txc_stream::EventRow;
+use txc_stream::{EventRow, Pen};
 use txc_tags::Key;
 
 /// A node that threads share. Contracts see how it was made.
 ///
 /// A caller draws a pass, and makes its steps through it: each does the step of [`StoredNode`] of its name,
-/// for some history of the named row, and leaves the pass with what it has seen of that history. A node
+/// for some beginning of the named history, and leaves the pass with what it has seen of that history. A node
 /// that a call finds `Broken` refuses each call so from then on.
 #[derive(Drop)]
 pub struct SharedNode<A: App, J: Naming> {
     settings: NodeSettings,
-    row: Arc<EventRow<Record>>,
+    // Shows nothing.
+    start: NodeFront,
     lock: Mutex<Held<A, J>>,
 }
 
 impl<A: App, J: Naming> Model for SharedNode<A, J> {
     ghost use Rattle.std.specs.Prelude.{◌≡◌};
-    ghost use Rattle.std.specs.Arc.{arc_value};
     ghost use Rattle.txc_shared.specs.declared.settings.NodeSettings.{NodeSettings};
 
     ghost Value = { NodeSettings };
 
     ghost view = { λ n. n.settings };
 
-    ghost invariant = { λ n. arc_value n.row ≡ J.node_rows n.settings.number };
+    ghost invariant = { λ n. n.start.name ≡ J.node_histories n.settings.number };
 }
 
 impl<A: App, J: Naming> SharedNode<A, J> {
@@ -65,15 +66,44 @@ impl<A: App, J: Naming> SharedNode<A, J> {
     ) -> Result<SharedNode<A, J>, AllocError>
         requires capacity { (1 ≤ settings.capacity) × (settings.capacity ≤ MAX_CAPACITY) }
         requires recent { (1 ≤ settings.recent) × (settings.recent ≤ MAX_RECENT) }
-        requires named { row ≡ J.node_rows settings.number }
+        requires named { stored row ≡ J.node_histories settings.number }
         ensures { IfOk result (λ node. node ≡ settings) }
     {
         let node = StoredNode::new(alloc, settings, row, database.reader()?)?;
-        let row = node.front().row_handle()?;
+        SharedNode::of(node, database)
+    }
+
+    /// An empty node, which will take the events of the database. Its history exists in the proofs alone, and
+    /// its pen is that of the one named at its number.
+    pub fn unstored(
+        alloc: Global,
+        settings: NodeSettings,
+        pen: Pen<Record>,
+        database: &Database<J>,
+    ) -> Result<SharedNode<A, J>, AllocError>
+        requires capacity { (1 ≤ settings.capacity) × (settings.capacity ≤ MAX_CAPACITY) }
+        requires recent { (1 ≤ settings.recent) × (settings.recent ≤ MAX_RECENT) }
+        requires named { unstored pen.number ≡ J.node_histories settings.number }
+        requires none { pen.list ≡ [] }
+        ensures { IfOk result (λ node. node ≡ settings) }
+    {
+        let node = StoredNode::unstored(alloc, settings, pen, database.reader()?)?;
+        SharedNode::of(node, database)
+    }
+
+    // The node under its lock.
+    fn of(node: StoredNode<A>, database: &Database<J>) -> Result<SharedNode<A, J>, AllocError>
+        requires name { node.name ≡ J.node_histories node.settings.number }
+        requires events { node.seen.events ≡ J.database_row }
+        requires none { node.cache.processed ≡ 0 }
+        ensures { IfOk result (λ shared. shared ≡ node.settings) }
+    {
+        let settings = node.settings();
+        let start = node.start()?;
         let held = Held::new(node, database.feed()?);
         Ok(SharedNode {
             settings,
-            row,
+            start,
             lock: Mutex::new(held),
         })
     }
@@ -83,18 +113,20 @@ impl<A: App, J: Naming> SharedNode<A, J> {
         ensures settings { IfOk result (λ pass. pass.settings ≡ self.now) }
         ensures number { IfOk result (λ pass. pass.pass < MAX_PASSES) }
         ensures records { IfOk result (λ pass. pass.records ≡ []) }
-        ensures refused { IfErr result (NodeMayRefuse J.node_rows (IsNewPassRefused self.now)) }
+        ensures refused { IfErr result (NodeMayRefuse J.node_histories (IsNewPassRefused self.now)) }
     {
         self.lock.lock(rt).pass(self.settings)
     }
 
-    /// The row of its records, which anybody reads without the lock. Whoever appends to it breaks the node;
-    /// tests do.
-    pub fn row(&self) -> &EventRow<Record>
-        ensures { result.now ≡ J.node_rows self.now.number }
+    /// The row of its records, where they are stored, which anybody reads without the lock. Whoever appends to
+    /// it breaks the node; tests do.
+    pub fn row(&self) -> Option<&EventRow<Record>>
+        ensures { MatchOption result
+            (¬ (HasRow (J.node_histories self.now.number)))
+            (λ row. J.node_histories self.now.number ≡ stored row.now) }
     {
         let _number = self.settings.number;
-        &self.row
+        self.start.row()
     }
 }
 
@@ -117,9 +149,9 @@ impl<J: Naming> NodePass<J> {
         ensures key { IfOk result (λ found. IfSome found (λ f. f.entry.key ≡ key.now)) }
         ensures front { IfOk result (λ found. IfSome found (λ f. f.front.events ≡ J.database_row)) }
         ensures shown { IfOk result (λ found. IfSome found (λ f. IsPrefix f.front.history self.new.history)) }
-        ensures left { IfErr result (IsPassLeft (J.node_rows self.old.settings.number) self.old self.new) }
+        ensures left { IfErr result (IsPassLeft (J.node_histories self.old.settings.number) self.old self.new) }
         ensures refused { IfErr result
-            (NodeMayRefuse J.node_rows (λ n. IsRefusedThrough (λ m. IsLookupRefused m lo hi) n self.old)) }
+            (NodeMayRefuse J.node_histories (λ n. IsRefusedThrough (λ m. IsLookupRefused m lo hi) n self.old)) }
     {
         let found = node.lock.lock(rt).lookup(alloc, self, key, lo, hi);
         self.is_legal();
@@ -141,9 +173,9 @@ impl<J: Naming> NodePass<J> {
         ensures legal { IsLegal self.new.history (start_of self.new.settings) self.new.records }
         ensures made { IfOk result (HasInserted self.old self.new entry) }
         ensures shown { OnOk result (IsPrefix front.now.history self.new.history) }
-        ensures left { IfErr result (IsPassLeft (J.node_rows self.old.settings.number) self.old self.new) }
+        ensures left { IfErr result (IsPassLeft (J.node_histories self.old.settings.number) self.old self.new) }
         ensures refused { IfErr result
-            (NodeMayRefuse J.node_rows (λ n. IsRefusedThrough IsStepRefused n self.old)) }
+            (NodeMayRefuse J.node_histories (λ n. IsRefusedThrough IsStepRefused n self.old)) }
     {
         let insertion = node.lock.lock(rt).insert(alloc, self, entry, front);
         self.is_legal();
@@ -161,9 +193,9 @@ impl<J: Naming> NodePass<J> {
         ensures longer { HasGrown self.old self.new }
         ensures legal { IsLegal self.new.history (start_of self.new.settings) self.new.records }
         ensures taken { IfOk result (HasTaken self.old self.new) }
-        ensures left { IfErr result (IsPassLeft (J.node_rows self.old.settings.number) self.old self.new) }
+        ensures left { IfErr result (IsPassLeft (J.node_histories self.old.settings.number) self.old self.new) }
         ensures refused { IfErr result
-            (NodeMayRefuse J.node_rows (λ n. IsRefusedThrough IsStepRefused n self.old)) }
+            (NodeMayRefuse J.node_histories (λ n. IsRefusedThrough IsStepRefused n self.old)) }
     {
         let advanced = node.lock.lock(rt).advance(alloc, self);
         self.is_legal();
@@ -181,9 +213,9 @@ impl<J: Naming> NodePass<J> {
         ensures longer { HasGrown self.old self.new }
         ensures legal { IsLegal self.new.history (start_of self.new.settings) self.new.records }
         ensures made { IfOk result (λ count. HasMade self.old self.new (Sweep horizon) (Swept count)) }
-        ensures left { IfErr result (IsPassLeft (J.node_rows self.old.settings.number) self.old self.new) }
+        ensures left { IfErr result (IsPassLeft (J.node_histories self.old.settings.number) self.old self.new) }
         ensures refused { IfErr result
-            (NodeMayRefuse J.node_rows (λ n. IsRefusedThrough IsStepRefused n self.old)) }
+            (NodeMayRefuse J.node_histories (λ n. IsRefusedThrough IsStepRefused n self.old)) }
     {
         let count = node.lock.lock(rt).sweep(alloc, self, horizon);
         self.is_legal();

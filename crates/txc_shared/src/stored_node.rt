@@ -1,18 +1,20 @@
 //! The node for one thread, which its lock holds too.
 ghost use Rattle.std.specs.Prelude.{◌≡◌, ◌+◌, ◌<◌, ◌≤◌, ◌⊎◌, ◌↔◌, ◌++◌, ◌∷◌, [], true, false, length, Some, None, Ok, Err, IsOk, IfOk, OnOk, OnErr, IfErr, IfSome, IsTrue};
+ghost use Rattle.txc_stream.specs.Names.{stored, unstored};
 ghost use Rattle.std.specs.Option.{option_map};
 ghost use Rattle.txc_node.specs.Cache.{lookup_answer, outcome, swept_count};
-ghost use Rattle.txc_node.specs.Steps.{found_reply};
 ghost use Rattle.txc_node.specs.declared.op.Op.TheVariants.{Insert, Lookup, Sweep};
 ghost use Rattle.txc_app.specs.Claims.{IsTrueIn, entry_shown};
 ghost use Rattle.txc_shared.specs.Nodes.{NodeValue, start_of, after_call, seeing, IsLonger, HasTags, insertion_of, HasAdvanced, HasTakenAll};
 ghost use Rattle.txc_shared.specs.Histories.{records_of};
 ghost use Rattle.txc_shared.specs.Runs.{IsNode};
 ghost use Rattle.txc_shared.specs.Refusals.{CanRecord, IsStepRefused, IsLookupRefused, IsPassRefused, IsNodeLeft};
+ghost use Rattle.txc_shared.specs.Locked.{IsRoomRefused, CanGrow};
 
 use crate::advanced::Advanced;
 use crate::error::NodeError;
 use crate::finding::Finding;
+use crate::history::History;
 use crate::insertion::Insertion;
 use crate::laws::{answers_are_true, nodes_go_on};
 use crate::log::{Log, MAX_PASSES};
@@ -20,16 +22,16 @@ use crate::node_front::NodeFront;
 use crate::settings::NodeSettings;
 use std::alloc::{AllocError, Global};
 use std::marker::{Model, PhantomData};
-use std::sync::Arc;
 use txc_app::App;
 use txc_app::laws::true_entries_stay;
 use txc_db::{HistoryFront, states_stay};
-use txc_node::{Entry, MAX_CAPACITY, MAX_RECENT, NodeCore, Op, Record, Reply, Shown};
+use txc_node::{Entry, MAX_CAPACITY, MAX_RECENT, NodeCore, Op, Record, Reply};
 use txc_stamp::Stamp;
-use txc_stream::EventRow;
+use txc_stream::{EventRow, Pen};
 use txc_tags::{Key, TagSet};
 
-/// A node of the cache, with the stored history of its steps and what it has seen of the database's history.
+/// A node of the cache, with the history of its steps, which is stored or exists in the proofs alone, and what
+/// it has seen of the database's history.
 ///
 /// It is the state after its history, unless it is broken, and each result that it holds is true in what it
 /// has seen. A step is one of a pass, by the pass's number: its record has the pass's next turn.
@@ -51,7 +53,7 @@ impl<A: App> Model for StoredNode<A> {
 
     ghost view = { λ n. record {
       settings = n.settings;
-      cells = n.log.cells;
+      name = n.log.name;
       records = n.log.records;
       passes = n.log.passes;
       cache = n.core;
@@ -75,16 +77,60 @@ impl<A: App> StoredNode<A> {
         requires capacity { (1 ≤ settings.capacity) × (settings.capacity ≤ MAX_CAPACITY) }
         requires recent { (1 ≤ settings.recent) × (settings.recent ≤ MAX_RECENT) }
         ensures settings { IfOk result (λ n. n.settings ≡ settings) }
-        ensures cells { IfOk result (λ n. n.cells ≡ row) }
+        ensures name { IfOk result (λ n. n.name ≡ stored row) }
         ensures records { IfOk result (λ n. n.records ≡ []) }
         ensures passes { IfOk result (λ n. n.passes ≡ 0) }
         ensures cache { IfOk result (λ n. n.cache ≡ start_of settings) }
         ensures seen { IfOk result (λ n. n.seen ≡ seen) }
         ensures whole { IfOk result (λ n. n.broken ≡ false) }
     {
+        let history = History::stored(alloc, row)?;
+        StoredNode::of(alloc, settings, history, seen)
+    }
+
+    /// An empty node, whose records the pen writes. The front shows what it has seen of the database's history.
+    pub fn unstored(
+        alloc: Global,
+        settings: NodeSettings,
+        pen: Pen<Record>,
+        seen: HistoryFront,
+    ) -> Result<StoredNode<A>, AllocError>
+        requires capacity { (1 ≤ settings.capacity) × (settings.capacity ≤ MAX_CAPACITY) }
+        requires recent { (1 ≤ settings.recent) × (settings.recent ≤ MAX_RECENT) }
+        requires none { pen.list ≡ [] }
+        ensures settings { IfOk result (λ n. n.settings ≡ settings) }
+        ensures name { IfOk result (λ n. n.name ≡ unstored pen.number) }
+        ensures records { IfOk result (λ n. n.records ≡ []) }
+        ensures passes { IfOk result (λ n. n.passes ≡ 0) }
+        ensures cache { IfOk result (λ n. n.cache ≡ start_of settings) }
+        ensures seen { IfOk result (λ n. n.seen ≡ seen) }
+        ensures whole { IfOk result (λ n. n.broken ≡ false) }
+    {
+        StoredNode::of(alloc, settings, History::unstored(pen), seen)
+    }
+
+    // An empty node of that history.
+    fn of(
+        alloc: Global,
+        settings: NodeSettings,
+        history: History,
+        seen: HistoryFront,
+    ) -> Result<StoredNode<A>, AllocError>
+        requires capacity { (1 ≤ settings.capacity) × (settings.capacity ≤ MAX_CAPACITY) }
+        requires recent { (1 ≤ settings.recent) × (settings.recent ≤ MAX_RECENT) }
+        requires none { history.records ≡ [] }
+        ensures { IfOk result (λ n. n ≡ record {
+          settings = settings;
+          name = history.name;
+          records = [];
+          passes = 0;
+          cache = start_of settings;
+          seen = seen;
+          broken = false;
+        }) }
+    {
         nodes_go_on();
-        let row = Arc::new(alloc, row)?;
-        let log = Log::new(alloc, NodeFront::new(row));
+        let log = Log::new(alloc, history);
         let core = NodeCore::new(alloc, settings.capacity, settings.recent)?;
         Ok(StoredNode {
             settings,
@@ -115,7 +161,7 @@ impl<A: App> StoredNode<A> {
 
     /// A front that shows its records.
     pub fn front(&self) -> &NodeFront
-        ensures { result.now ≡ record { cells = self.now.cells; records = self.now.records } }
+        ensures { result.now ≡ record { name = self.now.name; records = self.now.records } }
     {
         self.log.front()
     }
@@ -178,16 +224,12 @@ impl<A: App> StoredNode<A> {
         Ok(())
     }
 
-    // Refused as full.
+    // Refused as full; or as out of memory, where there are as many records as a number counts.
     fn check_room(&self) -> Result<(), NodeError>
-        ensures only_if { OnOk result (length self.now.records < length self.now.cells) }
-        ensures refused { OnErr result
-            ((result ≡ Err NodeError.HistoryFull) × (length self.now.records ≡ length self.now.cells)) }
+        ensures only_if { OnOk result (CanGrow self.now.name self.now.records) }
+        ensures refused { IfErr result (IsRoomRefused self.now.name self.now.records) }
     {
-        if self.log.front().is_full() {
-            return Err(NodeError::HistoryFull);
-        }
-        Ok(())
+        self.log.check_room()
     }
 
     /// Refuses a pass that cannot be made, whatever memory there is.
@@ -214,29 +256,34 @@ impl<A: App> StoredNode<A> {
         Ok(self.log.add_pass()?)
     }
 
-    // What a lookup finds, as a finding and as a reply.
+    /// What a pass has seen that was just made.
+    pub(crate) fn start(&self) -> Result<NodeFront, AllocError>
+        ensures { IfOk result (λ front. front ≡ record { name = self.now.name; records = [] }) }
+    {
+        self.log.start()
+    }
+
+    // What a lookup finds.
     fn find(
         &self,
         alloc: Global,
         key: &Key,
         lo: Stamp,
         hi: Stamp,
-    ) -> Result<(Option<Finding<A>>, Reply<Shown>), AllocError>
+    ) -> Result<Option<Finding<A>>, AllocError>
         requires { lo ≤ hi }
-        ensures found { IfOk result (λ both.
-            option_map (λ f. f.entry) both.0
+        ensures found { IfOk result (λ found.
+            option_map (λ f. f.entry) found
             ≡ option_map (entry_shown key.now) (lookup_answer self.now.cache key.now lo hi)) }
-        ensures front { IfOk result (λ both. IfSome both.0 (λ f. f.front ≡ self.now.seen)) }
-        ensures reply { IfOk result (λ both. both.1 ≡ found_reply (lookup_answer self.now.cache key.now lo hi)) }
+        ensures front { IfOk result (λ found. IfSome found (λ f. f.front ≡ self.now.seen)) }
     {
         answers_are_true();
         let Ok(found) = self.core.find(key, lo, hi) else {
             unreachable!();
         };
         let Some(hit) = found else {
-            return Ok((None, Reply::Miss));
+            return Ok(None);
         };
-        let shown = hit.copy(alloc)?;
         let entry = Entry {
             key: key.copy(),
             value: hit.value.copy(alloc)?,
@@ -244,7 +291,7 @@ impl<A: App> StoredNode<A> {
             tags: hit.tags.copy(alloc)?,
         };
         let front = self.seen.again()?;
-        Ok((Some(Finding::new(entry, front)), Reply::Hit(shown)))
+        Ok(Some(Finding::new(entry, front)))
     }
 
     /// Looks up the call of `key` at the stamps from `lo` to `hi`, both included. The finding is true in
@@ -273,17 +320,18 @@ impl<A: App> StoredNode<A> {
             return Err(NodeError::EmptyRange);
         }
         self.check_room()?;
-        let (finding, reply) = self.find(alloc, key, lo, hi)?;
+        let finding = self.find(alloc, key, lo, hi)?;
         let op = Op::Lookup {
             key: key.copy(),
             lo,
             hi,
         };
-        let next = Box::new(alloc, self.log.next_record(pass, op, reply))?;
+        let prepared = self.log.prepare(alloc, pass, op, &self.core)?;
+        let next = prepared.with_found(alloc, &finding)?;
         let Ok(_) = self.core.lookup(key, lo, hi) else {
             unreachable!();
         };
-        if !self.log.append(next) {
+        if !self.log.append(pass, next) {
             self.broken = true;
             return Err(NodeError::Broken);
         }
@@ -317,13 +365,12 @@ impl<A: App> StoredNode<A> {
         self.check_room()?;
         let _known = entry.reach.known();
         let _bytes = entry.value.bytes();
-        let op = Op::Insert(entry.copy(alloc)?);
-        let mut next = Box::new(alloc, self.log.next_record(pass, op, Reply::Miss))?;
+        let prepared = self.log.prepare_insertion(alloc, pass, &entry, &self.core)?;
         let inserted = self.core.insert(entry)?;
         let insertion = Insertion::of(&inserted);
-        set_reply(&mut next, Reply::Inserted(inserted));
+        let next = prepared.answered(Reply::Inserted(inserted));
         self.seen.longer(front);
-        if !self.log.append(next) {
+        if !self.log.append(pass, next) {
             self.broken = true;
             return Err(NodeError::Broken);
         }
@@ -377,17 +424,15 @@ impl<A: App> StoredNode<A> {
         self.check_room()?;
         let stamp = Stamp::after(number);
         let tags = self.tags_of(alloc, front, number)?;
-        let op = Op::Event {
-            stamp,
-            tags: tags.copy(alloc)?,
-        };
-        let mut next = Box::new(alloc, self.log.next_record(pass, op, Reply::Miss))?;
+        let prepared = self
+            .log
+            .prepare_event(alloc, pass, stamp, &tags, &self.core)?;
         let Ok(closed) = self.core.event(stamp, tags) else {
             unreachable!();
         };
-        set_reply(&mut next, Reply::Closed(closed));
+        let next = prepared.answered(Reply::Closed(closed));
         self.seen.longer(front);
-        if !self.log.append(next) {
+        if !self.log.append(pass, next) {
             self.broken = true;
             return Err(NodeError::Broken);
         }
@@ -407,20 +452,13 @@ impl<A: App> StoredNode<A> {
         self.check_whole()?;
         self.check_room()?;
         let op = Op::Sweep { horizon };
-        let mut next = Box::new(alloc, self.log.next_record(pass, op, Reply::Miss))?;
+        let prepared = self.log.prepare(alloc, pass, op, &self.core)?;
         let dropped = self.core.sweep(horizon);
-        set_reply(&mut next, Reply::Swept(dropped));
-        if !self.log.append(next) {
+        let next = prepared.answered(Reply::Swept(dropped));
+        if !self.log.append(pass, next) {
             self.broken = true;
             return Err(NodeError::Broken);
         }
         Ok(dropped)
     }
-}
-
-// The reply of a record whose room was made before the step.
-fn set_reply(next: &mut Record, reply: Reply<Shown>)
-    ensures { next.new ≡ record next.old { reply = reply } }
-{
-    next.reply = reply;
 }

@@ -2,6 +2,7 @@
 use Rattle.std.proofs.Common.{◌≡◌, ◌∙◌, ℕ, ◌+◌, ◌<◌, List, [], ◌∷◌, ◌++◌, Option, map, length, get_or, take, sym, ap, subst}
 use Rattle.std.proofs.lemmas.List.{append_assoc, map-append}
 use Rattle.std.specs.Prelude.{All}
+use Rattle.txc_stream.specs.Names.{Name}
 use Rattle.txc_client.proofs.Drawn.{none_seen, one_more, settings_of}
 use Rattle.txc_shared.specs.declared.advanced.Advanced.TheVariants as advances
 use Rattle.txc_shared.specs.declared.settings.NodeSettings.{NodeSettings}
@@ -21,35 +22,35 @@ pub one_taken_more : (old last new : PassValue) (stamps : List ℕ) (stamp close
     → HasTaken last new (advances.Taken stamp closed) → HasTakenEach old (stamp ∷ stamps) new
 one_taken_more old last new stamps stamp closed before taken = (last, closed, before, taken)
 
-one_kept_more : (rows : ℕ → List ℕ) (h : Option ℕ) (olds : List PassValue) (all : List KeptNode) (news : List PassValue)
-    (old : PassValue) (kept : KeptNode) (new : PassValue) → HaveKept rows h olds all news → HasKeptNode rows h old kept new
-    → HaveKept rows h (olds ++ old ∷ []) (all ++ kept ∷ []) (news ++ new ∷ [])
-one_kept_more rows h [] [] [] old kept new before one = (one, tt)
-one_kept_more rows h (o ∷ olds) (k ∷ all) (n ∷ news) old kept new before one =
-    (before.0, one_kept_more rows h olds all news old kept new before.1 one)
-one_kept_more rows h [] [] (n ∷ news) old kept new before one = absurd before
-one_kept_more rows h [] (k ∷ all) news old kept new before one = absurd before
-one_kept_more rows h (o ∷ olds) [] news old kept new before one = absurd before
-one_kept_more rows h (o ∷ olds) (k ∷ all) [] old kept new before one = absurd before
+one_kept_more : (histories : ℕ → Name) (h : Option ℕ) (olds : List PassValue) (all : List KeptNode) (news : List PassValue)
+    (old : PassValue) (kept : KeptNode) (new : PassValue) → HaveKept histories h olds all news → HasKeptNode histories h old kept new
+    → HaveKept histories h (olds ++ old ∷ []) (all ++ kept ∷ []) (news ++ new ∷ [])
+one_kept_more histories h [] [] [] old kept new before one = (one, tt)
+one_kept_more histories h (o ∷ olds) (k ∷ all) (n ∷ news) old kept new before one =
+    (before.0, one_kept_more histories h olds all news old kept new before.1 one)
+one_kept_more histories h [] [] (n ∷ news) old kept new before one = absurd before
+one_kept_more histories h [] (k ∷ all) news old kept new before one = absurd before
+one_kept_more histories h (o ∷ olds) [] news old kept new before one = absurd before
+one_kept_more histories h (o ∷ olds) (k ∷ all) [] old kept new before one = absurd before
 
 -- none was kept
-pub none_kept : {T : Type 0} (pass : T → PassValue) (rows : ℕ → List ℕ) (h : Option ℕ) (nodes : List KeptNode) (left : List T) → nodes ≡ []
-    → left ≡ [] → HaveKept rows h [] nodes (map pass left)
-none_kept {T} pass rows h nodes left no_node none =
-    subst (λ (all : List KeptNode). HaveKept rows h [] all (map pass left)) (sym no_node)
-    (subst (λ (xs : List T). HaveKept rows h [] [] (map pass xs)) (sym none) tt)
+pub none_kept : {T : Type 0} (pass : T → PassValue) (histories : ℕ → Name) (h : Option ℕ) (nodes : List KeptNode) (left : List T) → nodes ≡ []
+    → left ≡ [] → HaveKept histories h [] nodes (map pass left)
+none_kept {T} pass histories h nodes left no_node none =
+    subst (λ (all : List KeptNode). HaveKept histories h [] all (map pass left)) (sym no_node)
+    (subst (λ (xs : List T). HaveKept histories h [] [] (map pass xs)) (sym none) tt)
 
 -- one station more was kept, and is left with those that were
-pub one_left_more : {T : Type 0} (pass : T → PassValue) (rows : ℕ → List ℕ) (h : Option ℕ) (olds : List PassValue)
+pub one_left_more : {T : Type 0} (pass : T → PassValue) (histories : ℕ → Name) (h : Option ℕ) (olds : List PassValue)
     (nodes more : List KeptNode) (left others : List T) (kept : KeptNode) (station after : T)
-    → HaveKept rows h olds nodes (map pass left) → HasKeptNode rows h (pass station) kept (pass after)
+    → HaveKept histories h olds nodes (map pass left) → HasKeptNode histories h (pass station) kept (pass after)
     → more ≡ nodes ++ kept ∷ [] → others ≡ left ++ after ∷ []
-    → HaveKept rows h (olds ++ pass station ∷ []) more (map pass others)
-one_left_more pass rows h olds nodes more left others kept station after before one is added =
+    → HaveKept histories h (olds ++ pass station ∷ []) more (map pass others)
+one_left_more pass histories h olds nodes more left others kept station after before one is added =
     let news = ap (map pass) added ∙ map-append pass left (after ∷ []) in
-    subst (λ (all : List KeptNode). HaveKept rows h (olds ++ pass station ∷ []) all (map pass others)) (sym is)
-    (subst (λ (ps : List PassValue). HaveKept rows h (olds ++ pass station ∷ []) (nodes ++ kept ∷ []) ps) (sym news)
-    (one_kept_more rows h olds nodes (map pass left) (pass station) kept (pass after) before one))
+    subst (λ (all : List KeptNode). HaveKept histories h (olds ++ pass station ∷ []) all (map pass others)) (sym is)
+    (subst (λ (ps : List PassValue). HaveKept histories h (olds ++ pass station ∷ []) (nodes ++ kept ∷ []) ps) (sym news)
+    (one_kept_more histories h olds nodes (map pass left) (pass station) kept (pass after) before one))
 
 -- the stations that were kept and those that are not are all
 pub one_station_less : {T : Type 0} (pass : T → PassValue) (olds all : List PassValue) (station : T) (rest before : List T)

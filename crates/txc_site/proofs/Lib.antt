@@ -2,7 +2,7 @@ pub mod Crosses
 mod Guests
 pub mod Keeping
 mod Listing
-mod NodeRows
+mod NodeHistories
 pub mod Opened
 mod Tried
 pub mod Turns

@@ -1,10 +1,12 @@
 -- What a keeper did with the nodes of a site.
 use Rattle.std.specs.Prelude.{◌≡◌, ℕ, ◌+◌, List, [], ◌∷◌, length, Option, Some, None, Ok, Err, IfErr, IfOk, Result}
+use Rattle.txc_stream.specs.Names.{Name}
 use Rattle.txc_node.specs.declared.op.Op.TheVariants.{Sweep}
 use Rattle.txc_node.specs.declared.reply.Reply.TheVariants.{Swept}
 use Rattle.txc_shared.specs.declared.advanced.Advanced.TheVariants as advances
 use Rattle.txc_shared.specs.declared.error.NodeError.{NodeError}
 use Rattle.txc_shared.specs.Passes.{PassValue, HasMade, HasTaken, IsPassLeft}
+use Rattle.txc_site.specs.Histories.{IsRoomLeft}
 use Rattle.txc_site.specs.declared.keeper.Ended.{Ended}
 use Rattle.txc_site.specs.declared.keeper.Ended.TheVariants.{Idle, Paused, Refused}
 use Rattle.txc_site.specs.declared.keeper.KeptNode.{KeptNode}
@@ -18,43 +20,43 @@ HasTakenEach old (stamp ∷ earlier) new = (before : PassValue) × (closed : ℕ
 
 -- after so many events there was none that the node had not taken, or it had taken as many as it may at once, or it
 -- refused the next one
-abbrev pub HasStoppedTaking : (ℕ → List ℕ) → PassValue → ℕ → Ended → PassValue → Type 0
-HasStoppedTaking rows old taken Idle new = HasTaken old new advances.Idle
-HasStoppedTaking rows old taken Paused new = (new ≡ old) × (taken ≡ MAX_TAKEN)
-HasStoppedTaking rows old taken (Refused error) new = IsPassLeft (rows old.settings.number) old new error
+abbrev pub HasStoppedTaking : (ℕ → Name) → PassValue → ℕ → Ended → PassValue → Type 0
+HasStoppedTaking histories old taken Idle new = HasTaken old new advances.Idle
+HasStoppedTaking histories old taken Paused new = (new ≡ old) × (taken ≡ MAX_TAKEN)
+HasStoppedTaking histories old taken (Refused error) new = IsPassLeft (histories old.settings.number) old new error
 
 -- so many events were taken, and it ended so
-pub record HasTakenEvents (rows : ℕ → List ℕ) (old : PassValue) (taken : ℕ) (ended : Ended) (new : PassValue) : Type 0 where
+pub record HasTakenEvents (histories : ℕ → Name) (old : PassValue) (taken : ℕ) (ended : Ended) (new : PassValue) : Type 0 where
   pub stamps : List ℕ
   pub last : PassValue
   pub took : HasTakenEach old stamps last
   pub counted : taken ≡ length stamps
-  pub end : HasStoppedTaking rows last taken ended new
+  pub end : HasStoppedTaking histories last taken ended new
 
 -- the node was swept, and dropped so many entries; or refused the sweep; without a horizon it was not swept
-abbrev pub HasSwept : (ℕ → List ℕ) → PassValue → Option ℕ → Option (Result ℕ NodeError) → PassValue → Type 0
-HasSwept rows old (Some horizon) (Some result) new =
+abbrev pub HasSwept : (ℕ → Name) → PassValue → Option ℕ → Option (Result ℕ NodeError) → PassValue → Type 0
+HasSwept histories old (Some horizon) (Some result) new =
     IfOk result (λ count. HasMade old new (Sweep horizon) (Swept count))
-    × IfErr result (IsPassLeft (rows old.settings.number) old new)
-HasSwept rows old None None new = new ≡ old
-HasSwept rows old horizon swept new = ⊥
+    × IfErr result (IsPassLeft (histories old.settings.number) old new)
+HasSwept histories old None None new = new ≡ old
+HasSwept histories old horizon swept new = ⊥
 
 -- what was done with a node through its pass, which is the same one, and the room that is left after what the pass
 -- has seen
-pub record HasKeptNode (rows : ℕ → List ℕ) (horizon : Option ℕ) (old : PassValue) (kept : KeptNode) (new : PassValue) : Type 0 where
+pub record HasKeptNode (histories : ℕ → Name) (horizon : Option ℕ) (old : PassValue) (kept : KeptNode) (new : PassValue) : Type 0 where
   pub between : PassValue
-  pub advanced : HasTakenEvents rows old kept.taken kept.ended between
-  pub swept : HasSwept rows between horizon kept.swept new
+  pub advanced : HasTakenEvents histories old kept.taken kept.ended between
+  pub swept : HasSwept histories between horizon kept.swept new
   pub settings : new.settings ≡ old.settings
   pub pass : new.pass ≡ old.pass
-  pub left : kept.records_left + length new.records ≡ length (rows new.settings.number)
+  pub left : IsRoomLeft (histories new.settings.number) new.records kept.records_left
 
 -- the same of each node, in order
-abbrev pub HaveKept : (ℕ → List ℕ) → Option ℕ → List PassValue → List KeptNode → List PassValue → Type 0
-HaveKept rows horizon [] [] [] = Unit {0}
-HaveKept rows horizon (old ∷ olds) (kept ∷ all) (new ∷ news) =
-    HasKeptNode rows horizon old kept new × HaveKept rows horizon olds all news
-HaveKept rows horizon olds all news = ⊥
+abbrev pub HaveKept : (ℕ → Name) → Option ℕ → List PassValue → List KeptNode → List PassValue → Type 0
+HaveKept histories horizon [] [] [] = Unit {0}
+HaveKept histories horizon (old ∷ olds) (kept ∷ all) (new ∷ news) =
+    HasKeptNode histories horizon old kept new × HaveKept histories horizon olds all news
+HaveKept histories horizon olds all news = ⊥
 
 -- the horizon, if there is one
 abbrev pub ok_of : {T E : Type 0} → Result T E → Option T

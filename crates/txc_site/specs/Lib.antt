@@ -3,6 +3,6 @@ pub mod Generations
 pub mod Keeping
 pub mod Opened
 pub mod Plans
-pub mod Rows
+pub mod Histories
 pub mod Sites
 pub mod Writes

@@ -1,5 +1,5 @@
 -- Plans of sites.
-use Rattle.std.specs.Prelude.{◌≤◌, ℕ, List, map}
+use Rattle.std.specs.Prelude.{◌≤◌, ℕ, List, map, IfSome}
 use Rattle.std.specs.List.{range_with_len}
 use Rattle.txc_node.specs.declared.node.TheConstants.{MAX_CAPACITY, MAX_RECENT}
 use Rattle.txc_permits.specs.declared.pool.TheConstants.{MAX_PERMITS}
@@ -16,7 +16,7 @@ IsPlan p =
     × (1 ≤ p.recent) × (p.recent ≤ MAX_RECENT)
     × (1 ≤ p.permits) × (p.permits ≤ MAX_PERMITS)
     × (1 ≤ p.events) × (p.events ≤ MAX_ROOM)
-    × (1 ≤ p.records) × (p.records ≤ MAX_ROOM)
+    × IfSome p.records (λ room. (1 ≤ room) × (room ≤ MAX_ROOM))
 
 -- how the node of this number is made
 abbrev pub settings_of_node : Plan → ℕ → NodeSettings

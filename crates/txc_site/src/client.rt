@@ -1,5 +1,6 @@
 //! Clients of a site.
-ghost use Rattle.std.specs.Prelude.{◌≡◌, ◌+◌, ◌<◌, ◌≤◌, ◌↔◌, [], All, IfErr, IfOk, IfSome, IsSome, MatchOption, None, length, map, slice_get, vec_len};
+ghost use Rattle.std.specs.Prelude.{◌≡◌, ◌+◌, ◌<◌, ◌≤◌, [], All, IfErr, IfOk, MatchOption, None, length, map, slice_get, vec_len};
+ghost use Rattle.txc_stream.specs.Names.{HasRow};
 ghost use Rattle.txc_node.specs.Counts.{AreCountsOf};
 ghost use Rattle.txc_registry.specs.Objects.{AllIdle};
 ghost use Rattle.txc_site.specs.Plans.{nodes_of};
@@ -148,11 +149,14 @@ impl<'a, A: App, D: Definition, J: Naming> SiteClient<'a, A, D, J> {
         Keeper::new(rt, alloc, self.foundation)
     }
 
-    /// The counts of what the client has seen of a node; none where there is no such node.
+    /// The counts of what the client has seen of a node; none where there is no such node, or its records are not
+    /// stored.
     pub fn counts(&self, node: usize) -> Option<Counts>
-        ensures answer { MatchOption (slice_get self.now.reader.passes node) (result ≡ None)
-            (λ pass. IfSome result (AreCountsOf pass.records)) }
-        ensures only_if { IsSome result ↔ (node < length self.now.reader.passes) }
+        ensures { MatchOption (slice_get self.now.reader.passes node)
+            (result ≡ None)
+            (λ pass. MatchOption result
+                (¬ (HasRow (J.node_histories pass.settings.number)))
+                (AreCountsOf pass.records)) }
     {
         self.reader.counts(node)
     }

@@ -2,18 +2,18 @@
 ghost use Rattle.std.specs.Prelude.{◌≡◌, ◌≤◌, IfOk, vec_len};
 ghost use Rattle.txc_db.specs.Shared.{IsDatabaseOf};
 ghost use Rattle.txc_site.specs.Plans.{nodes_of, IsPlan};
-ghost use Rattle.txc_site.specs.Rows.{AreRowsOf};
+ghost use Rattle.txc_site.specs.Histories.{AreHistoriesOf, IsNew, history_name};
 
 use crate::keeper::retire;
+use crate::node_history::NodeHistory;
 use crate::plan::Plan;
 use std::alloc::{AllocError, Global};
 use std::sync::Wait;
 use txc_app::App;
 use txc_cushion::Pincushion;
 use txc_db::{Database, DbCore, Naming};
-use txc_node::Record;
+use txc_node::{MAX_CAPACITY, MAX_RECENT};
 use txc_shared::{NodeSettings, SharedNode};
-use txc_stream::EventRow;
 
 /// The database, its pincushion and its nodes, as the plan says.
 #[derive(Drop)]
@@ -27,48 +27,67 @@ pub(crate) struct Foundation<A: App, J: Naming> {
     ghost planned: { nodes.items ≡ nodes_of plan },
 }
 
-/// The nodes of the rows, by their numbers.
+/// A node of the history.
+fn new_node<A: App, J: Naming>(
+    alloc: Global,
+    settings: NodeSettings,
+    history: NodeHistory,
+    database: &Database<J>,
+) -> Result<SharedNode<A, J>, AllocError>
+    requires capacity { (1 ≤ settings.capacity) × (settings.capacity ≤ MAX_CAPACITY) }
+    requires recent { (1 ≤ settings.recent) × (settings.recent ≤ MAX_RECENT) }
+    requires new { IsNew history }
+    requires named { history_name history ≡ J.node_histories settings.number }
+    ensures { IfOk result (λ node. node ≡ settings) }
+{
+    match history {
+        NodeHistory::Stored(row) => SharedNode::new(alloc, settings, row, database),
+        NodeHistory::Unstored(pen) => SharedNode::unstored(alloc, settings, pen, database),
+    }
+}
+
+/// The nodes of the histories, by their numbers.
 fn nodes<A: App, J: Naming>(
     alloc: Global,
     plan: Plan,
-    rows: Vec<EventRow<Record>>,
+    histories: Vec<NodeHistory>,
     database: &Database<J>,
 ) -> Result<Vec<SharedNode<A, J>>, AllocError>
     requires plan { IsPlan plan }
-    requires each { vec_len rows ≡ plan.nodes }
-    requires rows { AreRowsOf J.node_rows 0 rows.items }
+    requires each { vec_len histories ≡ plan.nodes }
+    requires histories { AreHistoriesOf J.node_histories 0 histories.items }
     ensures each { IfOk result (λ nodes. vec_len nodes ≡ plan.nodes) }
     ensures made { IfOk result (λ nodes. nodes.items ≡ nodes_of plan) }
 {
-    let mut nodes = Vec::with_capacity(alloc, rows.len())?;
-    for row in rows {
+    let mut nodes = Vec::with_capacity(alloc, histories.len())?;
+    for history in histories {
         let settings = NodeSettings {
             number: nodes.len(),
             capacity: plan.capacity,
             recent: plan.recent,
         };
-        nodes.push(SharedNode::new(alloc, settings, row, database)?)?;
+        nodes.push(new_node(alloc, settings, history, database)?)?;
     }
     Ok(nodes)
 }
 
 impl<A: App, J: Naming> Foundation<A, J> {
-    /// Puts the database and the nodes of these rows under their locks.
+    /// Puts the database and the nodes of these histories under their locks.
     pub(crate) fn new(
         alloc: Global,
         plan: Plan,
         core: DbCore,
-        rows: Vec<EventRow<Record>>,
+        histories: Vec<NodeHistory>,
     ) -> Result<Foundation<A, J>, AllocError>
         requires plan { IsPlan plan }
         requires database { core.events ≡ J.database_row }
-        requires each { vec_len rows ≡ plan.nodes }
-        requires rows { AreRowsOf J.node_rows 0 rows.items }
+        requires each { vec_len histories ≡ plan.nodes }
+        requires histories { AreHistoriesOf J.node_histories 0 histories.items }
         ensures { IfOk result (λ foundation. foundation.plan ≡ plan) }
     {
         let database = Database::<J>::new(alloc, core)?;
         let cushion = Pincushion::new(alloc, &database)?;
-        let nodes = nodes(alloc, plan, rows, &database)?;
+        let nodes = nodes(alloc, plan, histories, &database)?;
         Ok(Foundation {
             database,
             cushion,

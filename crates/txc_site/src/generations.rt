@@ -9,10 +9,10 @@ ghost use Rattle.txc_site.specs.Plans.{IsPlan};
 use crate::application::Application;
 use crate::change::Change;
 use crate::error::{GenerationError, OpenError, SiteError};
+use crate::histories::over_new_histories;
 use crate::opening::opened;
 use crate::plan::Plan;
 use crate::returning::{Generation, Returning};
-use crate::rows::over_new_rows;
 use crate::writing::Written;
 use std::alloc::Global;
 use std::sync::Wait;
@@ -79,7 +79,7 @@ where
     ensures refused { IfErr result (IsGenerationRefused A.numbers) }
 {
     let Begun { core, front: begun } = begun;
-    let (outputs, core) = over_new_rows::<A, D, V, R>(rt, alloc, plan, core, count, visitors)?;
+    let (outputs, core) = over_new_histories::<A, D, V, R>(rt, alloc, plan, core, count, visitors)?;
     let ended = whole_front(&core, &begun)?;
     let generation = Generation {
         number,

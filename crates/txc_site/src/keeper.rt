@@ -44,8 +44,8 @@ pub struct KeptNode {
     pub ended: Ended,
     /// How many entries were swept. None where there was no horizon.
     pub swept: Option<Result<usize, NodeError>>,
-    /// How many records there is room for after those that the keeper has seen.
-    pub records_left: usize,
+    /// How many records there is room for after those that the keeper has seen, where they are stored.
+    pub records_left: Option<usize>,
 }
 
 /// What a keeper did, and what room is left.
@@ -87,7 +87,7 @@ fn advance<A: App, J: Naming>(
     node: &SharedNode<A, J>,
     pass: &mut NodePass<J>,
 ) -> (usize, Ended)
-    ensures did { HasTakenEvents J.node_rows pass.old result.0 result.1 pass.new }
+    ensures did { HasTakenEvents J.node_histories pass.old result.0 result.1 pass.new }
     ensures settings { pass.new.settings ≡ pass.old.settings }
     ensures pass { pass.new.pass ≡ pass.old.pass }
 {
@@ -111,7 +111,7 @@ fn sweep<A: App, J: Naming>(
     pass: &mut NodePass<J>,
     horizon: Option<Stamp>,
 ) -> Option<Result<usize, NodeError>>
-    ensures did { HasSwept J.node_rows pass.old horizon result pass.new }
+    ensures did { HasSwept J.node_histories pass.old horizon result pass.new }
     ensures settings { pass.new.settings ≡ pass.old.settings }
     ensures pass { pass.new.pass ≡ pass.old.pass }
 {
@@ -144,7 +144,7 @@ fn stations<'a, A: App, J: Naming>(
 
 impl<A: App, J: Naming> Station<'_, A, J> {
     fn keep(self, rt: &impl Wait, alloc: Global, horizon: Option<Stamp>) -> (KeptNode, Self)
-        ensures { HasKeptNode J.node_rows horizon self.entry.pass result.0 result.1.pass }
+        ensures { HasKeptNode J.node_histories horizon self.entry.pass result.0 result.1.pass }
     {
         let Station { node, mut pass } = self;
         let (taken, ended) = advance(rt, alloc, node, &mut pass);
@@ -240,7 +240,7 @@ fn keep_all<'a, A: App, J: Naming>(
     requires none_left { left.items ≡ [] }
     requires room { vec_len stations ≤ vec_capacity nodes }
     requires room_left { vec_len stations ≤ vec_capacity left }
-    ensures { HaveKept J.node_rows (ok_of horizon.now) (map (λ s. s.pass) stations.entry.items) result.0.items
+    ensures { HaveKept J.node_histories (ok_of horizon.now) (map (λ s. s.pass) stations.entry.items) result.0.items
         (map (λ s. s.pass) result.1.items) }
 {
     for station in stations {
@@ -303,7 +303,7 @@ impl<'a, A: App, J: Naming> Keeper<'a, A, J> {
         ensures no_horizon { IfOk result.0 (λ kept. IfErr kept.horizon
             (MayRefuse J.database_row IsVacuumRefused)) }
         ensures nodes { IfOk result.0 (λ kept.
-            HaveKept J.node_rows (ok_of kept.horizon) self.entry kept.nodes.items result.1) }
+            HaveKept J.node_histories (ok_of kept.horizon) self.entry kept.nodes.items result.1) }
         ensures refused { IfErr result.0 (λ error. (error ≡ DbError.Memory)
             ⊎ MayRefuse J.database_row IsHoldRefused error) }
         ensures unchanged { OnErr result.0 (result.1 ≡ self.entry) }

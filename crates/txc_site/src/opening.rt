@@ -9,8 +9,8 @@ ghost use Rattle.txc_site.specs.Writes.{IsWritten};
 use crate::application::{Application, registry};
 use crate::change::Change;
 use crate::error::{OpenError, SiteError};
+use crate::histories::over_new_histories;
 use crate::plan::Plan;
-use crate::rows::over_new_rows;
 use crate::visitor::Visitor;
 use crate::writing::{Written, write_change};
 use std::alloc::Global;
@@ -69,7 +69,9 @@ where
         return Err(OpenError::Site(SiteError::Plan));
     }
     let (opening, core) = opened::<A, D, O, R>(rt, alloc, plan, opening)?;
-    let (outputs, _core) = over_new_rows::<A, D, V, R>(rt, alloc, plan, core, count, visitors)?;
+    let (outputs, _core) = over_new_histories::<A, D, V, R>(
+        rt, alloc, plan, core, count, visitors,
+    )?;
     Ok(Visited { opening, outputs })
 }
 

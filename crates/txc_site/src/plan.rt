@@ -1,5 +1,6 @@
 //! How a site is made.
-ghost use Rattle.std.specs.Prelude.{◌≡◌, ◌↔◌, IsTrue};
+ghost use Rattle.std.specs.Prelude.{◌≡◌, ◌≤◌, ◌↔◌, IsTrue, IfSome};
+ghost use Rattle.txc_stream.specs.declared.row.TheConstants.{MAX_CAPACITY as MAX_ROOM};
 ghost use Rattle.txc_site.specs.Plans.{IsPlan};
 
 use txc_node::{MAX_CAPACITY, MAX_RECENT};
@@ -11,12 +12,12 @@ pub const MAX_NODES: usize = 64;
 
 /// How a site is made, and how long it lasts.
 ///
-/// Its histories have room for `events` and for `records`, which is fixed once it is made and never given
-/// back. Each commit that changes something is an event, and so is each pin: one for each
+/// Its database's history has room for `events`, which is fixed once it is made and never given back. Each commit that changes something is an event, and so is each pin: one for each
 /// [`Keeper::keep`](crate::Keeper::keep), and one for each transaction whose newest pin is too old. Once
 /// there are as many, no commit and no pin is made any more, and a transaction without a pin that its bounds
-/// allow is refused. Each lookup, insertion, event taken and sweep is a record of its node; once there are
-/// as many, the node has nothing and keeps nothing, and all calls are computed. So a site of `e` events ends
+/// allow is refused. Each lookup, insertion, event taken and sweep is a record of its node. These exist in the
+/// proofs alone, unless the plan asks for `records`; then, once there are as many, the node has nothing and keeps
+/// nothing, and all calls are computed. So a site of `e` events ends
 /// after `e` commits and pins: at ten a second [`Plan::DEFAULT`] lasts 109 minutes.
 /// [`Keeper::keep`](crate::Keeper::keep) tells what is left.
 ///
@@ -36,12 +37,13 @@ pub struct Plan {
     pub permits: u64,
     /// How many commits and pins there is room for, from 1 to [`txc_stream::MAX_CAPACITY`].
     pub events: usize,
-    /// How many records of each node there is room for, from 1 to [`txc_stream::MAX_CAPACITY`].
-    pub records: usize,
+    /// How many records of each node are stored, where anybody can read them: from 1 to
+    /// [`txc_stream::MAX_CAPACITY`]. Without a number none is, and a node's history has no end.
+    pub records: Option<usize>,
 }
 
 impl Plan {
-    /// One node of 4,096 entries, and room for 65,536 events and 1,048,576 records.
+    /// One node of 4,096 entries whose records are not stored, and room for 65,536 events.
     pub const DEFAULT: Plan = Plan {
         nodes: 1,
         capacity: 4096,
@@ -49,8 +51,18 @@ impl Plan {
         renew_after: 5000,
         permits: 64,
         events: 65_536,
-        records: 1_048_576,
+        records: None,
     };
+
+    // Whether as many records may be stored.
+    fn has_room(&self) -> bool
+        ensures { IsTrue result ↔ IfSome self.now.records (λ room. (1 ≤ room) × (room ≤ MAX_ROOM)) }
+    {
+        match self.records {
+            Some(room) => 1 <= room && room <= MAX_ROOM,
+            None => true,
+        }
+    }
 
     /// Whether each number is within its limits.
     pub fn is_sound(&self) -> bool
@@ -66,7 +78,6 @@ impl Plan {
             && self.permits <= MAX_PERMITS
             && 1 <= self.events
             && self.events <= MAX_ROOM
-            && 1 <= self.records
-            && self.records <= MAX_ROOM
+            && self.has_room()
     }
 }

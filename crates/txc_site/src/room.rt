@@ -1,5 +1,6 @@
 //! How much room is left in the histories.
 ghost use Rattle.std.specs.Prelude.{◌≡◌, ◌+◌, length};
+ghost use Rattle.txc_site.specs.Histories.{IsRoomLeft};
 
 use txc_db::{HistoryFront, Naming};
 use txc_shared::NodePass;
@@ -11,10 +12,12 @@ pub fn events_left(front: &HistoryFront) -> usize
     front.events().capacity() - front.len()
 }
 
-/// How many records there is room for after those that the pass has seen.
-pub fn records_left<J: Naming>(pass: &NodePass<J>) -> usize
-    ensures { result + length pass.now.records ≡ length (J.node_rows pass.now.settings.number) }
+/// How many records there is room for after those that the pass has seen, where they are stored. A history that
+/// is not stored has no end.
+pub fn records_left<J: Naming>(pass: &NodePass<J>) -> Option<usize>
+    ensures { IsRoomLeft (J.node_histories pass.now.settings.number) pass.now.records result }
 {
     let front = pass.records();
-    front.row().capacity() - front.len()
+    let row = front.row()?;
+    Some(row.capacity() - front.len())
 }

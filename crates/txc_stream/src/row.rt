@@ -1,4 +1,7 @@
-ghost use Rattle.std.specs.Prelude.{◌≡◌, ℕ, ◌+◌, ◌<◌, ◌≤◌, ◌++◌, ◌∷◌, ◌⊎◌, [], length, Some, IfOk, OnOk, IfErr, IfSome, MatchOption, slice_get, slice_index, ◌↔◌, IsSome, IsNone, IsTrue};
+ghost use Rattle.std.specs.Prelude.{◌≡◌, ℕ, ◌+◌, ◌^◌, ◌<◌, ◌≤◌, ◌++◌, ◌∷◌, ◌⊎◌, [], length, Some, IfOk, OnOk, IfErr, IfSome, MatchOption, slice_get, ◌↔◌, IsSome, IsNone, IsTrue};
+ghost use Rattle.txc_stream.specs.Names.{stored, HasRow};
+ghost use Rattle.txc_stream.specs.Shown.{HasCells, shown_by_seen};
+ghost use Rattle.txc_stream.specs.Seen.{IsCellAfter};
 ghost use mathlib.Core.List.{IsPrefix};
 
 use crate::seen::Seen;
@@ -34,14 +37,15 @@ impl<T: Drop> Drop for EventRow<T> {
     }
 }
 
-/// A prefix of a row, as somebody has seen it.
+/// A prefix of a history, as somebody has seen it.
 ///
-/// Contracts see it as a record: `row`, the names of all cells of its row, and `list`, the records seen. It
+/// Contracts see it as a record: `name`, what its history is called, and `list`, the records seen. A history
+/// that is stored in a row is called by the names of all cells of that row. A front
 /// has neither a lifetime nor a handle, so whoever owns the row can own its fronts too. It takes as much as a
 /// number, however many records it shows.
 #[derive(Drop)]
 pub struct Front<T> {
-    seen: Seen<T>,
+    pub(crate) seen: Seen<T>,
     len: usize,
 }
 
@@ -113,7 +117,7 @@ impl<T> EventRow<T> {
 
     // Nothing was seen of the row.
     fn unseen(&self) -> Seen<T>
-        ensures { (result.row ≡ self.now) × (result.list ≡ []) }
+        ensures { (result.name ≡ stored self.now) × (result.list ≡ []) }
     {
         Seen {
             marker: PhantomData,
@@ -122,7 +126,7 @@ impl<T> EventRow<T> {
 
     /// A front that shows nothing yet.
     pub fn start(&self) -> Front<T>
-        ensures row { result.row ≡ self.now }
+        ensures name { result.name ≡ stored self.now }
         ensures list { result.list ≡ [] }
     {
         let _capacity = self.cells.len();
@@ -134,7 +138,7 @@ impl<T> EventRow<T> {
 
     /// The record at a place that the front shows, counted from 0.
     pub fn get<'a>(&'a self, front: &Front<T>, at: usize) -> &'a T
-        requires row { front.now.row ≡ self.now }
+        requires row { front.now.name ≡ stored self.now }
         requires shown { at < length front.now.list }
         ensures { slice_get front.now.list at ≡ Some result.now }
     {
@@ -152,8 +156,8 @@ impl<T> EventRow<T> {
     /// Lengthens the front by the next record, if there is one by now. That `None` means that its cell was
     /// not set when it was read is no clause, since a cell may be set at any moment.
     pub fn next<'a>(&'a self, front: &mut Front<T>) -> Option<&'a T>
-        requires { front.old.row ≡ self.now }
-        ensures row { front.new.row ≡ front.old.row }
+        requires { front.old.name ≡ stored self.now }
+        ensures name { front.new.name ≡ front.old.name }
         ensures list { MatchOption result
             (front.new.list ≡ front.old.list)
             (λ added. front.new.list ≡ front.old.list ++ added.now ∷ []) }
@@ -174,8 +178,8 @@ impl<T> EventRow<T> {
     /// Of two fronts of this row, one is a prefix of the other. This is a lemma: it does nothing when it
     /// runs.
     pub fn agree(&self, one: &Front<T>, other: &Front<T>)
-        requires one { one.now.row ≡ self.now }
-        requires other { other.now.row ≡ self.now }
+        requires one { one.now.name ≡ stored self.now }
+        requires other { other.now.name ≡ stored self.now }
         ensures { IsPrefix one.now.list other.now.list ⊎ IsPrefix other.now.list one.now.list }
     {
         one.agree(other);
@@ -188,8 +192,8 @@ impl<T: Drop> EventRow<T> {
     /// Sets the cell after the front to the record, and lengthens the front by it. Nothing else refuses it
     /// than a full row and a cell that is set; then nothing has changed.
     pub fn append(&self, front: &mut Front<T>, value: Box<T>) -> Result<(), AppendError<T>>
-        requires { front.old.row ≡ self.now }
-        ensures row { front.new.row ≡ front.old.row }
+        requires { front.old.name ≡ stored self.now }
+        ensures name { front.new.name ≡ front.old.name }
         ensures after { OnOk result (front.new.list ≡ front.old.list ++ value.value ∷ []) }
         ensures unchanged { IfErr result (λ e. front.new.list ≡ front.old.list) }
         ensures handed_back { IfErr result (λ e. handed_back e ≡ value.value) }
@@ -222,8 +226,7 @@ impl<T> Front<T> {
     /// How many records it shows.
     pub fn len(&self) -> usize
         ensures shown { result ≡ length self.now.list }
-        ensures room { result ≤ length self.now.row }
-        ensures most { length self.now.row ≤ MAX_CAPACITY }
+        ensures room { HasCells self.now.name result }
     {
         self.len
     }
@@ -245,9 +248,9 @@ impl<T> Front<T> {
         }
     }
 
-    /// Of two fronts of one row, one is a prefix of the other. This is a lemma: it does nothing when it runs.
+    /// Of two fronts of one history, one is a prefix of the other. This is a lemma: it does nothing when it runs.
     pub fn agree(&self, other: &Front<T>)
-        requires { self.now.row ≡ other.now.row }
+        requires { self.now.name ≡ other.now.name }
         ensures { IsPrefix self.now.list other.now.list ⊎ IsPrefix other.now.list self.now.list }
     {
         self.seen.agree(&other.seen);
@@ -255,8 +258,8 @@ impl<T> Front<T> {
 
     /// Takes over what the other front shows beyond this one, so that this one shows the longer list.
     pub fn longer(&mut self, other: &Front<T>)
-        requires { other.now.row ≡ self.old.row }
-        ensures row { self.new.row ≡ self.old.row }
+        requires { other.now.name ≡ self.old.name }
+        ensures name { self.new.name ≡ self.old.name }
         ensures one { (self.new.list ≡ self.old.list) ⊎ (self.new.list ≡ other.now.list) }
         ensures this { IsPrefix self.old.list self.new.list }
         ensures that { IsPrefix other.now.list self.new.list }
@@ -270,13 +273,33 @@ impl<T> Front<T> {
 
     // Shows one record more, which the note knows.
     fn show(&mut self, note: &Note<T>)
-        requires room { length self.old.list < length self.old.row }
-        requires cell { note.now.cell ≡ slice_index self.old.row (length self.old.list) }
+        requires cell { IsCellAfter self.old.name (length self.old.list) note.now.cell }
         requires known { IsSome note.now.known }
-        ensures row { self.new.row ≡ self.old.row }
+        ensures name { self.new.name ≡ self.old.name }
         ensures list { IfSome note.now.known (λ added. self.new.list ≡ self.old.list ++ added ∷ []) }
     {
         self.seen.add(note);
+        self.len += 1;
+    }
+
+    // A front that shows nothing, where nothing was seen of a history that is not stored.
+    pub(crate) fn of_none(seen: Seen<T>) -> Front<T>
+        requires name { ¬ (HasRow seen.name) }
+        requires none { seen.list ≡ [] }
+        ensures { result ≡ shown_by_seen seen }
+    {
+        Front { seen, len: 0 }
+    }
+
+    // Shows what was seen, one record more of a history that is not stored.
+    pub(crate) fn show_one_more(&mut self, seen: Seen<T>)
+        requires name { seen.name ≡ self.old.name }
+        requires unstored { ¬ (HasRow seen.name) }
+        requires more { length seen.list ≡ length self.old.list + 1 }
+        requires room { length seen.list < 2 ^ 64 }
+        ensures { self.new ≡ shown_by_seen seen }
+    {
+        self.seen = seen;
         self.len += 1;
     }
 }

@@ -1,22 +1,23 @@
-//! What was seen of a row's cells.
+//! What was seen of a history.
 
-ghost use Rattle.std.specs.Prelude.{◌≡◌, ℕ, ◌<◌, ◌⊎◌, List, length, slice_get, slice_index};
+ghost use Rattle.std.specs.Prelude.{◌≡◌, ℕ, ◌<◌, ◌⊎◌, List, length, slice_get};
 ghost use Rattle.std.specs.Coded.{coded_list};
-ghost use Rattle.txc_stream.specs.Seen.{stand, with_known};
+ghost use Rattle.txc_stream.specs.Names.{Name, coded_name};
+ghost use Rattle.txc_stream.specs.Seen.{begins, IsCellAt, IsCellAfter, with_known};
 ghost use mathlib.Core.List.{IsPrefix};
 
 use once_cell::race::Note;
 use std::marker::{Model, PhantomData};
 
-/// The records that were seen in the first cells of a row. It takes no bytes: what it knows is for the proofs alone.
+/// The first records of a history, as they were seen. It takes no bytes: what it knows is for the proofs alone.
 pub(crate) struct Seen<T> {
     pub(crate) marker: PhantomData<*const T>,
-    pub(crate) ghost row: { List ℕ },
+    pub(crate) ghost name: { Name } by { coded_name },
     pub(crate) ghost list: { List T } by { coded_list T.code },
 }
 
 impl<T> Model for Seen<T> {
-    ghost also_owns = { λ s. stand T.row s.list s.row };
+    ghost also_owns = { λ s. begins T.row s.list s.name };
 }
 
 impl<T> Drop for Seen<T> {
@@ -25,7 +26,7 @@ impl<T> Drop for Seen<T> {
     }
 }
 
-// What is known of a cell, every thread knows alike.
+// What is known of a history, every thread knows alike.
 unsafe impl<T> Send for Seen<T> {}
 
 unsafe impl<T> Sync for Seen<T> {}
@@ -40,21 +41,21 @@ impl<T> Seen<T> {
         }
     }
 
-    /// Of what was seen of one row by two, one list is a prefix of the other. There is nothing to run.
+    /// Of what was seen of one history by two, one list is a prefix of the other. There is nothing to run.
     pub(crate) fn agree(&self, other: &Seen<T>)
-        requires { self.now.row ≡ other.now.row }
+        requires { self.now.name ≡ other.now.name }
         ensures { IsPrefix self.now.list other.now.list ⊎ IsPrefix other.now.list self.now.list }
     {}
 
-    /// Lets a note know the record at a place. There is nothing to run.
+    /// Lets a note know the record at a place of a stored history. There is nothing to run.
     pub(crate) fn tell(&self, at: usize, note: &mut Note<T>)
-        requires { (at < length self.now.list) × (note.old.cell ≡ slice_index self.now.row at) }
+        requires { (at < length self.now.list) × IsCellAt self.now.name at note.old.cell }
         ensures { (note.new.cell ≡ note.old.cell) × (note.new.known ≡ slice_get self.now.list at) }
     {}
 
-    /// One record more, where the note knows one. There is nothing to run.
+    /// One record more of a stored history, where the note knows one. There is nothing to run.
     pub(crate) fn add(&mut self, note: &Note<T>)
-        requires { (length self.old.list < length self.old.row) × (note.now.cell ≡ slice_index self.old.row (length self.old.list)) }
-        ensures { (self.new.row ≡ self.old.row) × (self.new.list ≡ with_known self.old.list note.now.known) }
+        requires { IsCellAfter self.old.name (length self.old.list) note.now.cell }
+        ensures { (self.new.name ≡ self.old.name) × (self.new.list ≡ with_known self.old.list note.now.known) }
     {}
 }

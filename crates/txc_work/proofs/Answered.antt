@@ -1,4 +1,5 @@
 -- What is known of the results of a batch.
+use Rattle.txc_stream.specs.Names.{Name}
 use Rattle.std.proofs.Common.{◌≡◌, ℕ, ◌<◌, true, nat_lt, List, length, slice_index_or, All, Contains, IsPermutation, Result, Ok, Err, IsErrAnd, ◌∙◌, sym, ap, subst, arith}
 use Rattle.std.proofs.lemmas.Bool.Decides.{nat_tests}
 use Rattle.std.proofs.lemmas.List.{get_or-map, length-map}
@@ -23,10 +24,10 @@ of_same_batch jobs others meets also same shared results all =
     all
 
 -- an outcome that meets its job where clients have some functions does so where they have the same
-pub with_functions : (next : Next) (row : List ℕ) (node_rows : ℕ → List ℕ) (given functions : List ℕ) (job : Job) (outcome : Outcome)
-    → given ≡ functions → Meets next row node_rows given job outcome → Meets next row node_rows functions job outcome
-with_functions next row node_rows given functions job outcome same met =
-    subst (λ (fs : List ℕ). Meets next row node_rows fs job outcome) same met
+pub with_functions : (next : Next) (row : List ℕ) (node_histories : ℕ → Name) (given functions : List ℕ) (job : Job) (outcome : Outcome)
+    → given ≡ functions → Meets next row node_histories given job outcome → Meets next row node_histories functions job outcome
+with_functions next row node_histories given functions job outcome same met =
+    subst (λ (fs : List ℕ). Meets next row node_histories fs job outcome) same met
 
 -- what a `?` passes on is the error that was there
 pub passed_err : {T E : Type 0} (r : Result T E) (e f : E) → IsErrAnd r (λ x. x ≡ e) → e ≡ f → r ≡ Err f

@@ -1,4 +1,5 @@
 -- How a job's calls go.
+use Rattle.txc_stream.specs.Names.{Name}
 use Rattle.std.proofs.Common.{◌≡◌, ◌∙◌, ℕ, suc, ◌<◌, List, ◌∷◌, ◌++◌, length, get_or, take, drop, Result, Ok, Err, IfErr, IsErrAnd, sym, ap, subst}
 use Rattle.std.proofs.lemmas.List.{take-append-drop}
 use Rattle.std.proofs.Math.Seq.{drop-cons}
@@ -18,13 +19,13 @@ passed_on (Ok x) e P h k = absurd h
 passed_on (Err x) e P h k = subst P (sym h) k
 
 -- where the keys before this one were answered, its call is the first that was refused
-pub refused_at : (next : Next) (row : List ℕ) (node_rows : ℕ → List ℕ) (objects : Objects) (bounds : Bounds) (keys : List Call) (i : ℕ) (key copy : Call)
+pub refused_at : (next : Next) (row : List ℕ) (node_histories : ℕ → Name) (objects : Objects) (bounds : Bounds) (keys : List Call) (i : ℕ) (key copy : Call)
     (old new : RoTxnValue) (result : Result (List ℕ) TxnError) (error : TxnError)
     → IsTxn next old.txn → AllIdle old.txn.objects → old.txn.objects ≡ objects
     → i < length keys → key ≡ get_or keys i key → copy ≡ key → keys_of old.txn.core.recorded ≡ take i keys
-    → old.txn.core.bounds ≡ bounds → result ≡ Err error → HasRun next row node_rows old copy new (turn_of_result result)
-    → IsRefusedAt next row node_rows (numbers_of objects) bounds keys error
-refused_at next row node_rows objects bounds keys i key copy old new result error meant idle of below at same answered bounded is run = record {
+    → old.txn.core.bounds ≡ bounds → result ≡ Err error → HasRun next row node_histories old copy new (turn_of_result result)
+    → IsRefusedAt next row node_histories (numbers_of objects) bounds keys error
+refused_at next row node_histories objects bounds keys i key copy old new result error meant idle of below at same answered bounded is run = record {
   before = take i keys;
   key = key;
   after = drop (suc i) keys;
@@ -36,5 +37,5 @@ refused_at next row node_rows objects bounds keys i key copy old new result erro
   of_functions = ap numbers_of of;
   bounded = bounded;
   answered = answered;
-  run = subst (λ r. HasRun next row node_rows old key new (turn_of_result r)) is (subst (λ k. HasRun next row node_rows old k new (turn_of_result result)) same run);
+  run = subst (λ r. HasRun next row node_histories old key new (turn_of_result r)) is (subst (λ k. HasRun next row node_histories old k new (turn_of_result result)) same run);
 }

@@ -1,4 +1,5 @@
 -- What a batch of jobs comes to.
+use Rattle.txc_stream.specs.Names.{Name}
 use Rattle.std.specs.Prelude.{◌≡◌, ℕ, ◌≤◌, ◌==◌, ◌⊎◌, nat_le, List, ◌∷◌, ◌++◌, map, count_by, Contains, Err}
 use Rattle.std.specs.List.{filter}
 use Rattle.txc_tags.specs.Keys.{Call}
@@ -34,7 +35,7 @@ pub record IsReceiptOfJob (next : Next) (row : List ℕ) (job : Job) (receipt : 
 
 -- In a transaction with these bounds, whose pin set means what it says and whose objects are those of these
 -- functions, all idle, the keys before this one were answered; and the call of this one came to the refusal.
-pub record IsRefusedAt (next : Next) (row : List ℕ) (node_rows : ℕ → List ℕ) (functions : List ℕ)
+pub record IsRefusedAt (next : Next) (row : List ℕ) (node_histories : ℕ → Name) (functions : List ℕ)
     (bounds : Bounds) (keys : List Call) (error : TxnError) : Type 0 where
   pub before : List Call
   pub key : Call
@@ -47,14 +48,14 @@ pub record IsRefusedAt (next : Next) (row : List ℕ) (node_rows : ℕ → List 
   pub of_functions : numbers_of old.txn.objects ≡ functions
   pub bounded : old.txn.core.bounds ≡ bounds
   pub answered : keys_of old.txn.core.recorded ≡ before
-  pub run : HasRun next row node_rows old key new (turn_of_result (Err error))
+  pub run : HasRun next row node_histories old key new (turn_of_result (Err error))
 
 -- A receipt is the job's. A refusal is out of memory, or that of the first of the job's calls that was
 -- refused, in a transaction of these functions.
-abbrev pub Meets : Next → List ℕ → (ℕ → List ℕ) → List ℕ → Job → Outcome → Type 0
-Meets next row node_rows functions job (outcomes.Receipt receipt) = IsReceiptOfJob next row job receipt
-Meets next row node_rows functions job (outcomes.Refused error) =
-    (error ≡ refusals.Memory) ⊎ IsRefusedAt next row node_rows functions job.bounds job.keys.items error
+abbrev pub Meets : Next → List ℕ → (ℕ → Name) → List ℕ → Job → Outcome → Type 0
+Meets next row node_histories functions job (outcomes.Receipt receipt) = IsReceiptOfJob next row job receipt
+Meets next row node_histories functions job (outcomes.Refused error) =
+    (error ≡ refusals.Memory) ⊎ IsRefusedAt next row node_histories functions job.bounds job.keys.items error
 
 -- the result has the number of a job of the batch, and an outcome that meets that job
 abbrev pub IsResultOf : List Job → (Job → Outcome → Type 0) → Receipted → Type 0

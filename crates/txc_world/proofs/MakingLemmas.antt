@@ -10,6 +10,7 @@ use Rattle.txc_shared.specs.Nodes.{NodeValue}
 use Rattle.txc_shared.specs.declared.settings.NodeSettings.{NodeSettings}
 use Rattle.txc_world.specs.declared.settings.WorldSettings.{WorldSettings}
 use Rattle.txc_world.specs.Parts.{IsPartOf}
+use Rattle.txc_stream.specs.Names.{HasRow}
 use Rattle.txc_world.specs.Ports.{ArePorts, IsNodeOf}
 use Rattle.txc_world.specs.Making.{node_settings, AreNewNodes, IsNewNode}
 use Rattle.txc_world.proofs.PartLemmas.{part_itself}
@@ -32,6 +33,7 @@ new_nodes_push settings passes seen nodes n number is are new =
 new_node_is : (settings : NodeSettings) (row_cap actors : ℕ) (whole : FrontValue) (n : NodeValue) → IsNewNode settings row_cap (actors + 1) whole n
     → IsNodeOf whole actors n
 new_node_is settings row_cap actors whole n new = record {
+  kind = subst HasRow (sym new.name) tt;
   row = ap (λ (f : FrontValue). f.events) new.seen_is;
   seen = λ w. subst (IsPartOf whole) (sym new.seen_is) (part_itself whole);
   passes = new.passes_are;

@@ -65,6 +65,7 @@ module _ (p : PortsValue) (d : DatabaseValue) where
   -- the ports over a database of the same row whose history has grown
   node_grows : (n : NodeValue) → IsPartOf (front_of d) (whole_of p) → IsNodeOf (whole_of p) p.actors n → IsNodeOf (front_of d) p.actors n
   node_grows n grown is = record {
+    kind = is.kind;
     row = is.row ∙ grown.row;
     seen = λ w. part_then (front_of d) (whole_of p) n.seen grown (is.seen w);
     passes = is.passes;

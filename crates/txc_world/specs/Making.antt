@@ -1,5 +1,6 @@
 -- The ports of a new world.
 use Rattle.std.specs.Prelude.{◌≡◌, ℕ, ◌+◌, false, List, [], Some, length, slice_get}
+use Rattle.txc_stream.specs.Names.{stored}
 use Rattle.txc_db.specs.Seen.{FrontValue}
 use Rattle.txc_shared.specs.declared.settings.NodeSettings.{NodeSettings}
 use Rattle.txc_shared.specs.Nodes.{NodeValue, start_of}
@@ -10,7 +11,9 @@ use Rattle.txc_world.specs.Ports.{PortsValue, whole_of}
 pub record IsNewNode (settings : NodeSettings) (row_cap passes : ℕ) (seen : FrontValue) (n : NodeValue)
     : Type 0 where
   pub settings_are : n.settings ≡ settings
-  pub cells : length n.cells ≡ row_cap
+  pub row : List ℕ
+  pub name : n.name ≡ stored row
+  pub cells : length row ≡ row_cap
   pub records : n.records ≡ []
   pub passes_are : n.passes ≡ passes
   pub cache : n.cache ≡ start_of settings

@@ -8,6 +8,7 @@ use Rattle.txc_db.specs.DatabaseValue.{DatabaseValue, front_of}
 use Rattle.txc_db.specs.Calls.{IsLeft}
 use Rattle.txc_cushion.specs.Cushion.{CushionValue}
 use Rattle.txc_cushion.specs.Cushion.{cushion_front}
+use Rattle.txc_stream.specs.Names.{HasRow}
 use Rattle.txc_shared.specs.Nodes.{NodeValue}
 use Rattle.txc_world.specs.Parts.{IsPartOf}
 
@@ -24,9 +25,10 @@ pub record PortsValue : Type 0 where
 abbrev pub whole_of : PortsValue → FrontValue
 whole_of p = front_of p.database
 
--- What is true of a node: what it has seen is of the row, and, unless it is broken, a part of the whole;
+-- What is true of a node: its history is stored. What it has seen is of the row, and, unless it is broken, a part of the whole;
 -- each actor has a pass, by its number, and the keeper has the last one.
 pub record IsNodeOf (whole : FrontValue) (actors : ℕ) (n : NodeValue) : Type 0 where
+  pub kind : HasRow n.name
   pub row : n.seen.events ≡ whole.events
   pub seen : n.broken ≡ false → IsPartOf whole n.seen
   pub passes : n.passes ≡ actors + 1

@@ -1,5 +1,6 @@
 //! Steps at a node, for one thread.
 ghost use Rattle.std.specs.Prelude.{◌≡◌, ◌<◌, IfSome, false};
+ghost use Rattle.txc_stream.specs.Names.{HasRow};
 ghost use Rattle.txc_node.specs.Counts.{AreCountsOf};
 ghost use Rattle.std.specs.Option.{option_map};
 ghost use Rattle.txc_db.specs.DatabaseValue.{front_of};
@@ -113,8 +114,9 @@ pub(crate) fn sweep<A: App>(
     node.sweep(alloc, pass, horizon)
 }
 
-/// The counts of the records that a front shows.
+/// The counts of the records that a front shows, which are stored.
 pub(crate) fn counts_of(front: &NodeFront) -> Counts
+    requires { HasRow front.now.name }
     ensures { AreCountsOf front.now.records result }
 {
     let mut counts = Counts::new();

@@ -1,6 +1,7 @@
 //! The plain ports of a world.
 ghost use Rattle.std.specs.Prelude.{◌≡◌, ◌+◌, false, ◌≤◌, ◌<◌, length, IfSome, IfOk, OnErr, slice_get, Some, All};
 ghost use Rattle.std.specs.Option.{option_map};
+ghost use Rattle.txc_stream.specs.Names.{HasRow};
 ghost use Rattle.txc_app.specs.Claims.{IsTrueIn, entry_shown};
 
 use crate::nodes;
@@ -93,6 +94,7 @@ impl<A: App> Ports<A> {
     pub(crate) fn node(&self, at: usize) -> &StoredNode<A>
         requires { at < length self.now.nodes }
         ensures there { slice_get self.now.nodes at ≡ Some result.now }
+        ensures kind { HasRow result.now.name }
         ensures row { result.now.seen.events ≡ self.now.database.events }
         ensures seen { result.now.broken ≡ false → IsPartOf (whole_of self.now) result.now.seen }
         ensures passes { result.now.passes ≡ self.now.actors + 1 }

@@ -37,7 +37,7 @@ loop-turn-init g c =
       settings = settings_stay old new same;
       longer = history_stays old new same;
       functions = c.start-turn.ensures.functions;
-      run = run_begun g.A.App.next g.J.Naming.database_row g.J.Naming.node_rows before c.args.key after c.start-turn.result begun;
+      run = run_begun g.A.App.next g.J.Naming.database_row g.J.Naming.node_histories before c.args.key after c.start-turn.result begun;
       missing = λ members none. ((c.start-turn.ensures.leads.begins members).absent none).1;
     }
 
@@ -59,7 +59,7 @@ loop-turn-preserved g c =
       settings = settings_then c.args.txn.now.core c.loop-turn.txn.core c.next-turn.new.self.core inv.settings on.settings;
       longer = prefix_then c.args.txn.now.core.seen.history c.loop-turn.txn.core.seen.history c.next-turn.new.self.core.seen.history inv.longer on.longer;
       functions = on.functions ∙ inv.functions;
-      run = run_asked g.A.App.next g.J.Naming.database_row g.J.Naming.node_rows began c.args.key before after c.loop-turn.turn c.next-turn.result c.in-Ask.request c.ask-reply.result
+      run = run_asked g.A.App.next g.J.Naming.database_row g.J.Naming.node_histories began c.args.key before after c.loop-turn.turn c.next-turn.result c.in-Ask.request c.ask-reply.result
           c.in-Ask.is c.ask-reply.ensures.answer c.ask-reply.ensures.row c.ask-reply.ensures.refused c.ask-reply.ensures.left on inv.run;
       missing = λ members none. absurd (cc (inv.missing members none, c.in-Ask.is));
     }

@@ -23,7 +23,7 @@ invariant-loop-turn g l = record {
   settings : KeepsSettings l.fn.txn.core l.txn.core;
   longer : IsPrefix l.fn.txn.core.seen.history l.txn.core.seen.history;
   functions : numbers_of l.txn.objects ≡ numbers_of l.fn.txn.objects;
-  run : HasRun g.A.App.next g.J.Naming.database_row g.J.Naming.node_rows (record { txn = l.fn.txn; passes = l.fn.ports }) l.fn.key
+  run : HasRun g.A.App.next g.J.Naming.database_row g.J.Naming.node_histories (record { txn = l.fn.txn; passes = l.fn.ports }) l.fn.key
       (record { txn = l.txn; passes = l.ports }) l.turn;
   missing : l.fn.txn.core.pins.members ≢ [] → IsNone (activity_of l.fn.txn.objects l.fn.key.function)
       → l.turn ≡ Refused (errors.Call (NoFunction l.fn.key.function));

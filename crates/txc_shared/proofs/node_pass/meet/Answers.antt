@@ -1,5 +1,5 @@
 use Rattle.std.proofs.Common.{◌≡◌, ap, sym, subst, ◌∙◌}
-use Rattle.txc_stream.proofs.Offered.{longer_is}
+use Rattle.txc_stream.proofs.Offered.{longer_is, prefix_trans}
 use Rattle.txc_node.specs.Cache.{Cache}
 use Rattle.txc_shared.specs.Histories.{IsLegal}
 use Rattle.txc_shared.specs.Nodes.{start_of}
@@ -10,25 +10,27 @@ use Rattle.txc_shared.proofs.node_pass.meet.Goals as goal
 pub invariant_of-one : goal.invariant_of-one
 invariant_of-one g c =
     let same : c.one.inside.settings ≡ c.other.inside.settings = ap (λ (p : PassValue). p.settings) c.one.view_is ∙ (c.requires ∙ sym (ap (λ (p : PassValue). p.settings) c.other.view_is)) in (
-      c.longer.ensures.cells ∙ c.one.invariant.0,
+      c.longer.ensures.name ∙ c.one.invariant.0,
       c.longer-3.ensures.events ∙ c.one.invariant.1,
-      c.count_records-one-inside.ensures,
+      c.one.invariant.2,
+      prefix_trans c.one.inside.own.list c.one.inside.records.records c.longer.new.self.records c.one.invariant.3 c.longer.ensures.this,
       met_legal c.legal_histories.ensures.longer c.one.inside.events.history c.other.inside.events.history c.longer-3.new.self.history (start_of c.one.inside.settings)
-          c.one.inside.records.records c.other.inside.records.records c.longer.new.self.records c.longer-3.ensures.this c.longer-3.ensures.that c.one.invariant.3
-          (subst (λ (s : Cache). IsLegal c.other.inside.events.history s c.other.inside.records.records) (ap start_of (sym same)) c.other.invariant.3) c.longer.ensures.one,
+          c.one.inside.records.records c.other.inside.records.records c.longer.new.self.records c.longer-3.ensures.this c.longer-3.ensures.that c.one.invariant.4
+          (subst (λ (s : Cache). IsLegal c.other.inside.events.history s c.other.inside.records.records) (ap start_of (sym same)) c.other.invariant.4) c.longer.ensures.one,
     )
 
 pub invariant_of-other : goal.invariant_of-other
 invariant_of-other g c =
     let same : c.one.inside.settings ≡ c.other.inside.settings = ap (λ (p : PassValue). p.settings) c.one.view_is ∙ (c.requires ∙ sym (ap (λ (p : PassValue). p.settings) c.other.view_is)) in
     let legal = met_legal c.legal_histories.ensures.longer c.one.inside.events.history c.other.inside.events.history c.longer-3.new.self.history (start_of c.one.inside.settings)
-    c.one.inside.records.records c.other.inside.records.records c.longer.new.self.records c.longer-3.ensures.this c.longer-3.ensures.that c.one.invariant.3
-    (subst (λ (s : Cache). IsLegal c.other.inside.events.history s c.other.inside.records.records) (ap start_of (sym same)) c.other.invariant.3) c.longer.ensures.one in
+    c.one.inside.records.records c.other.inside.records.records c.longer.new.self.records c.longer-3.ensures.this c.longer-3.ensures.that c.one.invariant.4
+    (subst (λ (s : Cache). IsLegal c.other.inside.events.history s c.other.inside.records.records) (ap start_of (sym same)) c.other.invariant.4) c.longer.ensures.one in
     let records = longer_is c.other.inside.records.records c.longer.new.self.records c.longer-2.new.self.records c.longer.ensures.that c.longer-2.ensures.one c.longer-2.ensures.that in
     let history = longer_is c.other.inside.events.history c.longer-3.new.self.history c.longer-4.new.self.history c.longer-3.ensures.that c.longer-4.ensures.one c.longer-4.ensures.that in (
-      c.longer-2.ensures.cells ∙ c.other.invariant.0,
+      c.longer-2.ensures.name ∙ c.other.invariant.0,
       c.longer-4.ensures.events ∙ c.other.invariant.1,
-      c.count_records-other-inside.ensures,
+      c.other.invariant.2,
+      prefix_trans c.other.inside.own.list c.other.inside.records.records c.longer-2.new.self.records c.other.invariant.3 c.longer-2.ensures.this,
       legal_as c.longer-4.new.self.history c.longer-3.new.self.history (start_of c.other.inside.settings) (start_of c.one.inside.settings) c.longer-2.new.self.records c.longer.new.self.records
           history (ap start_of (sym same)) records legal,
     )
@@ -37,11 +39,11 @@ pub returns-clause-other : goal.returns-clause-other
 returns-clause-other g c =
     let records = longer_is c.other.inside.records.records c.longer.new.self.records c.longer-2.new.self.records c.longer.ensures.that c.longer-2.ensures.one c.longer-2.ensures.that in
     let history = longer_is c.other.inside.events.history c.longer-3.new.self.history c.longer-4.new.self.history c.longer-3.ensures.that c.longer-4.ensures.one c.longer-4.ensures.that in
-    λ i. record { settings = (c.other.view_is i).settings; pass = (c.other.view_is i).pass; records = records i; history = history i }
+    λ i. record { settings = (c.other.view_is i).settings; pass = (c.other.view_is i).pass; own = (c.other.view_is i).own; records = records i; history = history i }
 
 pub returns-clause-legal : goal.returns-clause-legal
 returns-clause-legal g c =
     let same : c.one.inside.settings ≡ c.other.inside.settings = ap (λ (p : PassValue). p.settings) c.one.view_is ∙ (c.requires ∙ sym (ap (λ (p : PassValue). p.settings) c.other.view_is)) in
     met_legal c.legal_histories.ensures.longer c.one.inside.events.history c.other.inside.events.history c.longer-3.new.self.history (start_of c.one.inside.settings)
-    c.one.inside.records.records c.other.inside.records.records c.longer.new.self.records c.longer-3.ensures.this c.longer-3.ensures.that c.one.invariant.3
-    (subst (λ (s : Cache). IsLegal c.other.inside.events.history s c.other.inside.records.records) (ap start_of (sym same)) c.other.invariant.3) c.longer.ensures.one
+    c.one.inside.records.records c.other.inside.records.records c.longer.new.self.records c.longer-3.ensures.this c.longer-3.ensures.that c.one.invariant.4
+    (subst (λ (s : Cache). IsLegal c.other.inside.events.history s c.other.inside.records.records) (ap start_of (sym same)) c.other.invariant.4) c.longer.ensures.one

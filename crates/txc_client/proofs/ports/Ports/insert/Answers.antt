@@ -20,9 +20,9 @@ returns-clause-passes g c =
 
 pub returns-clause-left : goal.returns-clause-left
 returns-clause-left g c =
-    let leaves = InsertLeaves g.J.Naming.node_rows c.args.entry in
+    let leaves = InsertLeaves g.J.Naming.node_histories c.args.entry in
     let passes = c.self.inside.passes.items in
     let within : c.args.node < length passes = subst (λ (v : List PassValue). c.args.node < length v) (sym c.self.view_is) c.requires.node in
     subst (λ (v : List PassValue). IsCallAt c.args.node leaves v (slice_set passes c.args.node c.insert.new.self)) c.self.view_is
     (called_at passes c.args.node leaves c.index_mut-pass.result.now c.insert.new.self within c.index_mut-pass.ensures.value c.insert.ensures.longer
-    (inserted g.J.Naming.node_rows c.index_mut-pass.result.now c.insert.new.self c.args.entry c.insert.result c.insert.ensures.made c.insert.ensures.left c.insert.ensures.refused))
+    (inserted g.J.Naming.node_histories c.index_mut-pass.result.now c.insert.new.self c.args.entry c.insert.result c.insert.ensures.made c.insert.ensures.left c.insert.ensures.refused))

@@ -27,7 +27,7 @@ returns-clause-left g c =
     let old = c.index_mut-pass.result.now in
     let new = c.lookup.new.self in
     let looked = c.lookup.ensures in
-    let leaves = LookupLeaves g.J.Naming.node_rows c.args.key.now c.args.lo c.args.hi c.match-lookup.result in
+    let leaves = LookupLeaves g.J.Naming.node_histories c.args.key.now c.args.lo c.args.hi c.match-lookup.result in
     let passes = c.self.inside.passes.items in
     let within : c.args.node < length passes = subst (λ (v : List PassValue). c.args.node < length v) (sym c.self.view_is) c.requires in
     subst (λ (v : List PassValue). IsCallAt c.args.node leaves v (slice_set passes c.args.node c.lookup.new.self)) c.self.view_is
@@ -35,14 +35,14 @@ returns-clause-left g c =
     (elim c.match-lookup.branch [
       | in-Ok-Some w ↦
           let is : c.lookup.result ≡ Ok (Some w.in-Ok-Some.finding) = cc in
-          subst (λ (o : Option (Answered Shown)). LookupLeaves g.J.Naming.node_rows c.args.key.now c.args.lo c.args.hi o old new) (sym w.result-is)
-          (lookup_hit g.J.Naming.node_rows old new c.lookup.result (λ f. f.entry) c.args.key.now c.args.lo c.args.hi looked.found looked.left looked.refused
+          subst (λ (o : Option (Answered Shown)). LookupLeaves g.J.Naming.node_histories c.args.key.now c.args.lo c.args.hi o old new) (sym w.result-is)
+          (lookup_hit g.J.Naming.node_histories old new c.lookup.result (λ f. f.entry) c.args.key.now c.args.lo c.args.hi looked.found looked.left looked.refused
           w.in-Ok-Some.finding w.shown_by.result is w.shown_by.ensures.answer)
       | in-Ok-None w ↦
           let is : c.lookup.result ≡ Ok None = cc in
-          subst (λ (o : Option (Answered Shown)). LookupLeaves g.J.Naming.node_rows c.args.key.now c.args.lo c.args.hi o old new) (sym w.result-is)
-          (lookup_miss g.J.Naming.node_rows old new c.lookup.result (λ f. f.entry) c.args.key.now c.args.lo c.args.hi looked.found looked.left looked.refused is)
+          subst (λ (o : Option (Answered Shown)). LookupLeaves g.J.Naming.node_histories c.args.key.now c.args.lo c.args.hi o old new) (sym w.result-is)
+          (lookup_miss g.J.Naming.node_histories old new c.lookup.result (λ f. f.entry) c.args.key.now c.args.lo c.args.hi looked.found looked.left looked.refused is)
       | in-Err w ↦
-          subst (λ (o : Option (Answered Shown)). LookupLeaves g.J.Naming.node_rows c.args.key.now c.args.lo c.args.hi o old new) (sym w.result-is)
-          (lookup_refused g.J.Naming.node_rows old new c.lookup.result (λ f. f.entry) c.args.key.now c.args.lo c.args.hi looked.found looked.left looked.refused _ w.in-Err.is)
+          subst (λ (o : Option (Answered Shown)). LookupLeaves g.J.Naming.node_histories c.args.key.now c.args.lo c.args.hi o old new) (sym w.result-is)
+          (lookup_refused g.J.Naming.node_histories old new c.lookup.result (λ f. f.entry) c.args.key.now c.args.lo c.args.hi looked.found looked.left looked.refused _ w.in-Err.is)
     ]))

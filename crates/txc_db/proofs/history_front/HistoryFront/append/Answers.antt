@@ -11,7 +11,7 @@ invariant_of-self c =
     let e = c.args.event.value in
     let old = c.self.inside.front.list in
     let beside = subst (λ (v : FrontValue). e.tags ≡ tags_between (state_at v.history (length v.history)) (state_after_event (state_at v.history (length v.history)) e)) (sym c.self.view_is) c.requires.tagged in (
-      c.self.invariant.0 ∙ sym c.append.ensures.row,
+      c.append.ensures.name ∙ c.self.invariant.0,
       elim c.match-append.branch [
         | in-Ok w ↦ subst AreTagged (sym w.in-Ok.ensures.after) (tagged_pushed old e c.self.invariant.1 beside)
         | in-Err w ↦ subst AreTagged (sym w.in-Err.ensures.unchanged) c.self.invariant.1

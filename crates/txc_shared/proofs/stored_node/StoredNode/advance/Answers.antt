@@ -2,10 +2,12 @@ use Rattle.std.proofs.Common.{◌≡◌, inl, inr, ◌+◌, refl, ap, sym, subst
 use Rattle.txc_db.specs.History.{tags_at}
 use Rattle.txc_node.specs.declared.op.Op.{Op}
 use Rattle.txc_node.specs.declared.op.Op.TheVariants.{Event}
+use Rattle.txc_node.specs.declared.record.Record.{Record}
 use Rattle.txc_node.specs.declared.reply.Reply.TheVariants as replies
 use Rattle.txc_node.specs.Cache.{closed_count}
 use Rattle.txc_shared.specs.Histories.{next_record}
 use Rattle.txc_shared.specs.Nodes.{start_of, NodeValue, LogValue, HasTags, after_call, seeing, next_event}
+use Rattle.txc_shared.specs.Locked.{record_in}
 use Rattle.txc_shared.proofs.Nodes.{stepped, broke, may_take, tags_in_longer, called}
 use Rattle.txc_shared.proofs.stored_node.StoredNode.advance.Goals as goal
 
@@ -41,18 +43,15 @@ invariant_of-self-else-not-append g c =
     let here : HasTags seen stamp tags = subst (λ k. HasTags seen k tags) (sym c.after-stamp.ensures) has in
     let held = c.nodes_go_on.ensures.sees g.A.App.next c.self.inside.seen.history seen (start_of c.self.inside.settings) rs core c.self.inside.broken c.longer-2.ensures.this c.self.invariant in
     let whole : c.self.inside.broken ≡ false = ap (λ (n : NodeValue). n.broken) c.self.view_is ∙ c.in_ok-check_whole.ensures.only_if in
-    let made = c.deref_mut.ensures.value ∙ (c.in_ok-next.ensures.ok ∙ c.next_record.ensures) in
-    let record_is : c.set_reply.new.next ≡ next_record c.args.pass rs (Event stamp tags) (replies.Closed (closed_count core stamp tags)) =
-    c.set_reply.ensures ∙ ((λ i. record (made i) { reply = replies.Closed c.in-Ok.closed })
-    ∙ (λ i. next_record c.args.pass rs (Event stamp (c.in_ok-copy.ensures i)) (replies.Closed (c.in-Ok.ensures.answer i)))) in
+    let record_is = c.answered-next.ensures.answered (next_record c.args.pass rs (Event stamp tags) (replies.Closed (closed_count core stamp tags))) c.in_ok-prepared.ensures.awaits (ap replies.Closed c.in-Ok.ensures.answer) in
     stepped g.A.App.next seen (start_of c.self.inside.settings) c.nodes_go_on.ensures.step rs c.append.new.self.records core c.event.new.self c.self.inside.broken
-    c.args.pass (Event stamp tags) c.set_reply.new.next held whole (may_take g.A.App.next seen core stamp tags (c.in-Ok.ensures.only_if.0 refl) here.0 here.1)
+    c.args.pass (Event stamp tags) (record_in c.answered-next.result) held whole (may_take g.A.App.next seen core stamp tags (c.in-Ok.ensures.only_if.0 refl) here.0 here.1)
     record_is (ap (λ (l : LogValue). l.records) (c.if-not-append.ensures.after refl)) c.in-Ok.ensures.after
 
 pub returns-clause-after : goal.returns-clause-after
 returns-clause-after g c =
     let inside = c.self.inside in
-    let n : NodeValue = record { settings = inside.settings; cells = inside.log.cells; records = inside.log.records; passes = inside.log.passes; cache = inside.core; seen = inside.seen; broken = inside.broken } in
+    let n : NodeValue = record { settings = inside.settings; name = inside.log.name; records = inside.log.records; passes = inside.log.passes; cache = inside.core; seen = inside.seen; broken = inside.broken } in
     let stamp = c.after-stamp.result in
     let tags = c.in_ok-tags.tags in
     let seen = c.longer-2.new.self.history in
@@ -64,13 +63,20 @@ returns-clause-after g c =
     let here : HasTags seen stamp tags = subst (λ k. HasTags seen k tags) (sym c.after-stamp.ensures) has in
     let stamp_is : stamp ≡ c.args.self.now.cache.processed + 1 = c.in-Ok.ensures.only_if.0 refl ∙ ap (λ (m : NodeValue). m.cache.processed + 1) c.self.view_is in
     let op_is : ◌≡◌ {A = Op} (Event stamp tags) (next_event (seeing c.args.self.now c.longer-2.new.self)) = λ i. Event (stamp_is i) ((here.1 ∙ ap (tags_at seen) stamp_is) i) in
-    let made = c.deref_mut.ensures.value ∙ (c.in_ok-next.ensures.ok ∙ c.next_record.ensures) in
-    let record_is : c.set_reply.new.next ≡ next_record c.args.pass n.records (Event stamp tags) (replies.Closed (closed_count n.cache stamp tags)) =
-    c.set_reply.ensures ∙ ((λ i. record (made i) { reply = replies.Closed c.in-Ok.closed })
-    ∙ (λ i. next_record c.args.pass n.records (Event stamp (c.in_ok-copy.ensures i)) (replies.Closed (c.in-Ok.ensures.answer i)))) in (
-      called n c.longer-2.new.self c.args.pass (Event stamp tags) c.set_reply.new.next c.append.new.self c.event.new.self record_is (c.if-not-append.ensures.after refl) c.in-Ok.ensures.after
+    let record_is = c.answered-next.ensures.answered (next_record c.args.pass n.records (Event stamp tags) (replies.Closed (closed_count n.cache stamp tags))) c.in_ok-prepared.ensures.awaits (ap replies.Closed c.in-Ok.ensures.answer) in (
+      called n c.longer-2.new.self c.args.pass (Event stamp tags) (record_in c.answered-next.result) c.append.new.self c.event.new.self record_is (c.if-not-append.ensures.after refl) c.in-Ok.ensures.after
           ∙ (λ i. after_call (seeing (c.self.view_is i) c.longer-2.new.self) c.args.pass (op_is i)),
       stamp_is,
       here.0,
       c.in-Ok.ensures.answer ∙ (λ i. closed_count (c.self.view_is i).cache stamp (here.1 i)),
     )
+
+pub append-requires-clause-by : goal.append-requires-clause-by
+append-requires-clause-by g c =
+    let stamp = c.after-stamp.result in
+    let tags = c.in_ok-tags.tags in
+    ap (λ (r : Record). r.pass) (c.answered-next.ensures.answered (next_record c.args.pass c.self.inside.log.records (Event stamp tags) (replies.Closed (closed_count c.self.inside.core stamp tags)))
+    c.in_ok-prepared.ensures.awaits (ap replies.Closed c.in-Ok.ensures.answer))
+
+pub append-requires-clause-suits : goal.append-requires-clause-suits
+append-requires-clause-suits g c = c.answered-next.ensures.suits c.self.inside.log.name c.in_ok-prepared.ensures.suits

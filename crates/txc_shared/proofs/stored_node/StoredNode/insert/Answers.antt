@@ -1,9 +1,11 @@
 use Rattle.std.proofs.Common.{◌≡◌, refl, ap, ◌∙◌, false}
 use Rattle.txc_node.specs.declared.op.Op.TheVariants.{Insert}
 use Rattle.txc_node.specs.declared.reply.Reply.TheVariants as replies
+use Rattle.txc_node.specs.declared.record.Record.{Record}
 use Rattle.txc_node.specs.Cache.{outcome}
 use Rattle.txc_shared.specs.Histories.{next_record}
 use Rattle.txc_shared.specs.Nodes.{start_of, NodeValue, LogValue, after_call, seeing, insertion_of}
+use Rattle.txc_shared.specs.Locked.{record_in}
 use Rattle.txc_shared.proofs.Nodes.{stepped, broke, may_insert, called}
 use Rattle.txc_shared.proofs.stored_node.StoredNode.insert.Goals as goal
 
@@ -28,26 +30,28 @@ invariant_of-self-else-not-append g c =
     let held = c.nodes_go_on.ensures.sees g.A.App.next c.self.inside.seen.history seen (start_of c.self.inside.settings) rs core c.self.inside.broken c.longer.ensures.this c.self.invariant in
     let right = c.true_entries_stay.ensures g.A.App.next c.args.front.now.history seen e c.longer.ensures.that c.requires.is_true in
     let whole : c.self.inside.broken ≡ false = ap (λ (n : NodeValue). n.broken) c.self.view_is ∙ c.in_ok-check_whole.ensures.only_if in
-    let made = c.deref_mut.ensures.value ∙ (c.in_ok-next.ensures.ok ∙ c.next_record.ensures) in
-    let record_is : c.set_reply.new.next ≡ next_record c.args.pass rs (Insert e) (replies.Inserted (outcome core e)) =
-    c.set_reply.ensures ∙ ((λ i. record (made i) { reply = replies.Inserted c.in_ok-inserted.inserted })
-    ∙ (λ i. next_record c.args.pass rs (Insert (c.in_ok-copy.ensures i)) (replies.Inserted (c.in_ok-inserted.ensures.answer i)))) in
+    let record_is = c.answered-next.ensures.answered (next_record c.args.pass rs (Insert e) (replies.Inserted (outcome core e))) c.in_ok-prepared.ensures.awaits (ap replies.Inserted c.in_ok-inserted.ensures.answer) in
     stepped g.A.App.next seen (start_of c.self.inside.settings) c.nodes_go_on.ensures.step rs c.append.new.self.records core c.insert.new.self c.self.inside.broken
-    c.args.pass (Insert e) c.set_reply.new.next held whole (may_insert g.A.App.next seen core e c.known-known.ensures.ordered c.bytes-bytes.ensures.bound right)
+    c.args.pass (Insert e) (record_in c.answered-next.result) held whole (may_insert g.A.App.next seen core e c.known-known.ensures.ordered c.bytes-bytes.ensures.bound right)
     record_is (ap (λ (l : LogValue). l.records) (c.if-not-append.ensures.after refl)) c.in_ok-inserted.ensures.after
 
 pub returns-clause-after : goal.returns-clause-after
 returns-clause-after g c =
     let e = c.args.entry in
     let inside = c.self.inside in
-    let n : NodeValue = record { settings = inside.settings; cells = inside.log.cells; records = inside.log.records; passes = inside.log.passes; cache = inside.core; seen = inside.seen; broken = inside.broken } in
-    let made = c.deref_mut.ensures.value ∙ (c.in_ok-next.ensures.ok ∙ c.next_record.ensures) in
-    let record_is : c.set_reply.new.next ≡ next_record c.args.pass n.records (Insert e) (replies.Inserted (outcome n.cache e)) =
-    c.set_reply.ensures ∙ ((λ i. record (made i) { reply = replies.Inserted c.in_ok-inserted.inserted })
-    ∙ (λ i. next_record c.args.pass n.records (Insert (c.in_ok-copy.ensures i)) (replies.Inserted (c.in_ok-inserted.ensures.answer i)))) in
-    called n c.longer.new.self c.args.pass (Insert e) c.set_reply.new.next c.append.new.self c.insert.new.self record_is (c.if-not-append.ensures.after refl) c.in_ok-inserted.ensures.after
+    let n : NodeValue = record { settings = inside.settings; name = inside.log.name; records = inside.log.records; passes = inside.log.passes; cache = inside.core; seen = inside.seen; broken = inside.broken } in
+    let record_is = c.answered-next.ensures.answered (next_record c.args.pass n.records (Insert e) (replies.Inserted (outcome n.cache e))) c.in_ok-prepared.ensures.awaits (ap replies.Inserted c.in_ok-inserted.ensures.answer) in
+    called n c.longer.new.self c.args.pass (Insert e) (record_in c.answered-next.result) c.append.new.self c.insert.new.self record_is (c.if-not-append.ensures.after refl) c.in_ok-inserted.ensures.after
     ∙ ap (λ (m : NodeValue). after_call (seeing m c.longer.new.self) c.args.pass (Insert e)) c.self.view_is
 
 pub returns-clause-answer : goal.returns-clause-answer
 returns-clause-answer g c =
     c.of-insertion.ensures ∙ (ap insertion_of c.in_ok-inserted.ensures.answer ∙ ap (λ (n : NodeValue). insertion_of (outcome n.cache c.args.entry)) c.self.view_is)
+
+pub append-requires-clause-by : goal.append-requires-clause-by
+append-requires-clause-by g c =
+    ap (λ (r : Record). r.pass) (c.answered-next.ensures.answered (next_record c.args.pass c.self.inside.log.records (Insert c.args.entry) (replies.Inserted (outcome c.self.inside.core c.args.entry)))
+    c.in_ok-prepared.ensures.awaits (ap replies.Inserted c.in_ok-inserted.ensures.answer))
+
+pub append-requires-clause-suits : goal.append-requires-clause-suits
+append-requires-clause-suits g c = c.answered-next.ensures.suits c.self.inside.log.name c.in_ok-prepared.ensures.suits

@@ -1,9 +1,12 @@
 use Rattle.std.proofs.Common.{◌≡◌, refl, ap, ◌∙◌, false}
 use Rattle.txc_node.specs.declared.op.Op.TheVariants.{Sweep}
+use Rattle.txc_node.specs.declared.record.Record.{Record}
+use Rattle.txc_node.specs.Cache.{swept_count}
 use Rattle.txc_node.specs.declared.reply.Reply.TheVariants as replies
 use Rattle.txc_shared.specs.Histories.{next_record}
-use Rattle.txc_shared.specs.Nodes.{start_of, NodeValue, LogValue}
-use Rattle.txc_shared.proofs.Nodes.{stepped, broke, may_sweep}
+use Rattle.txc_shared.specs.Nodes.{start_of, NodeValue, LogValue, after_call}
+use Rattle.txc_shared.specs.Locked.{record_in}
+use Rattle.txc_shared.proofs.Nodes.{stepped, broke, may_sweep, called}
 use Rattle.txc_shared.proofs.stored_node.StoredNode.sweep.Goals as goal
 
 pub invariant_of-self : goal.invariant_of-self
@@ -17,9 +20,24 @@ invariant_of-self-else-not-append g c =
     let rs = c.self.inside.log.records in
     let op = Sweep c.args.horizon in
     let whole : c.self.inside.broken ≡ false = ap (λ (n : NodeValue). n.broken) c.self.view_is ∙ c.in_ok-check_whole.ensures.only_if in
-    let made = c.deref_mut.ensures.value ∙ (c.in_ok-next.ensures.ok ∙ c.next_record.ensures) in
-    let record_is : c.set_reply.new.next ≡ next_record c.args.pass rs op (replies.Swept c.sweep-dropped.result) =
-    c.set_reply.ensures ∙ (λ i. record (made i) { reply = replies.Swept c.sweep-dropped.result }) in
+    let record_is = c.answered-next.ensures.answered (next_record c.args.pass rs op (replies.Swept (swept_count c.self.inside.core c.args.horizon))) c.in_ok-prepared.ensures.awaits (ap replies.Swept c.sweep-dropped.ensures.answer) in
     stepped g.A.App.next c.self.inside.seen.history (start_of c.self.inside.settings) c.nodes_go_on.ensures.step rs c.append.new.self.records c.self.inside.core c.sweep-dropped.new.self c.self.inside.broken
-    c.args.pass op c.set_reply.new.next c.self.invariant whole (may_sweep g.A.App.next c.self.inside.seen.history c.self.inside.core c.args.horizon)
-    (record_is ∙ (λ i. next_record c.args.pass rs op (replies.Swept (c.sweep-dropped.ensures.answer i)))) (ap (λ (l : LogValue). l.records) (c.if-not-append.ensures.after refl)) c.sweep-dropped.ensures.after
+    c.args.pass op (record_in c.answered-next.result) c.self.invariant whole (may_sweep g.A.App.next c.self.inside.seen.history c.self.inside.core c.args.horizon)
+    record_is (ap (λ (l : LogValue). l.records) (c.if-not-append.ensures.after refl)) c.sweep-dropped.ensures.after
+
+pub append-requires-clause-by : goal.append-requires-clause-by
+append-requires-clause-by g c =
+    ap (λ (r : Record). r.pass) (c.answered-next.ensures.answered (next_record c.args.pass c.self.inside.log.records (Sweep c.args.horizon) (replies.Swept (swept_count c.self.inside.core c.args.horizon)))
+    c.in_ok-prepared.ensures.awaits (ap replies.Swept c.sweep-dropped.ensures.answer))
+
+pub append-requires-clause-suits : goal.append-requires-clause-suits
+append-requires-clause-suits g c = c.answered-next.ensures.suits c.self.inside.log.name c.in_ok-prepared.ensures.suits
+
+pub returns-clause-after : goal.returns-clause-after
+returns-clause-after g c =
+    let inside = c.self.inside in
+    let n : NodeValue = record { settings = inside.settings; name = inside.log.name; records = inside.log.records; passes = inside.log.passes; cache = inside.core; seen = inside.seen; broken = inside.broken } in
+    let op = Sweep c.args.horizon in
+    let record_is = c.answered-next.ensures.answered (next_record c.args.pass n.records op (replies.Swept (swept_count n.cache c.args.horizon))) c.in_ok-prepared.ensures.awaits (ap replies.Swept c.sweep-dropped.ensures.answer) in
+    called n inside.seen c.args.pass op (record_in c.answered-next.result) c.append.new.self c.sweep-dropped.new.self record_is (c.if-not-append.ensures.after refl) c.sweep-dropped.ensures.after
+    ∙ ap (λ (m : NodeValue). after_call m c.args.pass op) c.self.view_is

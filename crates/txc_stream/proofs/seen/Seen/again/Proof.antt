@@ -22,7 +22,7 @@ use denote.Param.Laws.{param_laws}
 use denote.Triple.Walked.{Stays, stay_dropped, walk_of, Goes-dropped}
 use Rattle.once_cell.proofs.Notes.{token}
 use Rattle.std.proofs.raw_atomic.Walks.{proved_at, leaves}
-use Rattle.txc_stream.specs.Seen.{stand}
+use Rattle.txc_stream.specs.Seen.{begins}
 use Rattle.txc_stream.proofs.Standing.{Seen, Data, seen_made}
 use Rattle.txc_stream.proofs.Shared.{seen_reads}
 use Rattle.txc_stream.specs.contracts.seen.Seen.again.{ended, clauses}
@@ -43,7 +43,7 @@ again_spec 𝓤 𝓛 𝓜 𝓡 wired T L =
     -- [what the `&` holds; κ; μ]
     suffices ! (Run (vptr b o ∷ [])) (subst (λ (us : List Val). ent 𝓤 (Run (vptr b o ∷ [])) (Run us)) (sym (λ i. are.0.0 i ++ [])) (id⊢ 𝓤 (Run (vptr b o ∷ [])))) $
     enter ! 𝓣.C 𝓣.Λ fn (vptr b o ∷ []) Post $ alloc_all ! (λ l. pass_all ! refl ((tt, tt), tt) $
-    move ! (0 ∷ 1 ∷ []) $ use2 𝓛 (later (‵ (stand R x.list x.row) ⊛ ‵ (flft κ q))) (seen_reads 𝓛 R κ q x b o) $ await ! tt $ split ! $
+    move ! (0 ∷ 1 ∷ []) $ use2 𝓛 (later (‵ (begins R x.list x.name) ⊛ ‵ (flft κ q))) (seen_reads 𝓛 R κ q x b o) $ await ! tt $ split ! $
     -- [what it knows; κ; μ]
     sets ! (agg ! (no_more !)) refl (tt, tt) $ sets ! (agg ! (and_then ! (get ! refl) (no_more !))) refl (tt, (tt, tt)) $ use0 𝓛 (‵ (Data 𝓛 R)) (seen_made 𝓛 R) $ fjoin ! $
     nothing ! $ move ! (3 ∷ 0 ∷ []) $ join ! $ move ! (2 ∷ 0 ∷ []) $ join ! $ use0 𝓛 (raw (fact 𝓤 Told)) (fact_i 𝓤 Told (emp 𝓤) refl) $ nothing ! $ nothing ! $ fjoin ! $

@@ -22,8 +22,9 @@ use denote.Param.Laws.{param_laws}
 use denote.Triple.Walked.{Stays, stay_dropped, walk_of, Goes-dropped}
 use mathlib.Core.List.{IsPrefix}
 use Rattle.std.proofs.raw_atomic.Walks.{proved_at, leaves}
-use Rattle.txc_stream.specs.Seen.{stand}
-use Rattle.txc_stream.proofs.Standing.{Seen, stand_agree}
+use Rattle.txc_stream.specs.Names.{Name}
+use Rattle.txc_stream.specs.Seen.{begins}
+use Rattle.txc_stream.proofs.Standing.{Seen, begins_agree}
 use Rattle.txc_stream.proofs.Shared.{seen_reads}
 use Rattle.txc_stream.specs.contracts.seen.Seen.agree.{ended, clauses}
 use Rattle.txc_stream.specs.contracts.seen.Seen.agree.Key.{name as #self}
@@ -39,15 +40,15 @@ agree_spec 𝓤 𝓛 𝓜 𝓡 wired T L =
     let κs = z.0.0 in let qs = z.0.1 in let Post : Val → SProp 𝓤 = (walk_of 𝓛 En hs c).post z in let Run : List Val → SProp 𝓤 = λ ws. WpFn 𝓤 H 𝓣.C 𝓣.Λ fn ws Post in
     let b : ℕ = z.0.3.0.ref_ptr.0 in let o : ℕ = z.0.3.0.ref_ptr.1 in let x = z.0.3.0.now in let κ : Lft = κs.0 in let q : Share = qs.0 in let μ : Lft = κs.1.1.0 in let r : Share = qs.1.1.0 in
     let b' : ℕ = z.0.3.1.0.ref_ptr.0 in let o' : ℕ = z.0.3.1.0.ref_ptr.1 in let y = z.0.3.1.0.now in let κ' : Lft = κs.1.0 in let q' : Share = qs.1.0 in let So : Type 0 = IsPrefix x.list y.list ⊎ IsPrefix y.list x.list in
-    qed 𝓛 (((‵ (flft κ q) ⊛ ‵ (flft κ' q') ⊛ ‵ (flft μ r) ⊛ ‵ ftrue) ⊛ ‵ (owns (types_at En.signature.params κs) z.0.3 z.0.4)) ∷ raw (fact 𝓤 (μ ⊑ T.lives)) ∷ raw (fact 𝓤 (x.row ≡ y.row)) ∷ []) ∵
-    move ! (2 ∷ []) $ heard ! (x.row ≡ y.row) (λ same. keep ! (0 ∷ []) $ split ! $ split3 ! $ move ! (2 ∷ []) $ split ! $ move ! (4 ∷ []) $ fsplit3 ! $ fsplit ! $ move ! (2 ∷ []) $ fsplit ! $ keep ! (3 ∷ 1 ∷ 7 ∷ 8 ∷ 5 ∷ []) $
+    qed 𝓛 (((‵ (flft κ q) ⊛ ‵ (flft κ' q') ⊛ ‵ (flft μ r) ⊛ ‵ ftrue) ⊛ ‵ (owns (types_at En.signature.params κs) z.0.3 z.0.4)) ∷ raw (fact 𝓤 (μ ⊑ T.lives)) ∷ raw (fact 𝓤 (x.name ≡ y.name)) ∷ []) ∵
+    move ! (2 ∷ []) $ heard ! (x.name ≡ y.name) (λ same. keep ! (0 ∷ []) $ split ! $ split3 ! $ move ! (2 ∷ []) $ split ! $ move ! (4 ∷ []) $ fsplit3 ! $ fsplit ! $ move ! (2 ∷ []) $ fsplit ! $ keep ! (3 ∷ 1 ∷ 7 ∷ 8 ∷ 5 ∷ []) $
     -- [what the one `&` holds; the other; κ; κ'; μ]
     suffices ! (Run (vptr b o ∷ vptr b' o' ∷ [])) (subst (λ (us : List Val). ent 𝓤 (Run (vptr b o ∷ vptr b' o' ∷ [])) (Run us)) (sym (λ i. are.0.0 i ++ (are.1.0.0 i ++ []))) (id⊢ 𝓤 (Run (vptr b o ∷ vptr b' o' ∷ [])))) $
     enter ! 𝓣.C 𝓣.Λ fn (vptr b o ∷ vptr b' o' ∷ []) Post $ alloc_all ! (λ l. pass_all ! refl ((tt, tt), ((tt, tt), tt)) $
-    move ! (0 ∷ 2 ∷ []) $ use2 𝓛 (later (‵ (stand R x.list x.row) ⊛ ‵ (flft κ q))) (seen_reads 𝓛 R κ q x b o) $ await ! tt $ split ! $
-    move ! (2 ∷ 3 ∷ []) $ use2 𝓛 (later (‵ (stand R y.list y.row) ⊛ ‵ (flft κ' q'))) (seen_reads 𝓛 R κ' q' y b' o') $ await ! tt $ split ! $
+    move ! (0 ∷ 2 ∷ []) $ use2 𝓛 (later (‵ (begins R x.list x.name) ⊛ ‵ (flft κ q))) (seen_reads 𝓛 R κ q x b o) $ await ! tt $ split ! $
+    move ! (2 ∷ 3 ∷ []) $ use2 𝓛 (later (‵ (begins R y.list y.name) ⊛ ‵ (flft κ' q'))) (seen_reads 𝓛 R κ' q' y b' o') $ await ! tt $ split ! $
     -- [what the other knows; κ'; what the one knows; κ; μ]
-    move ! (2 ∷ []) $ rewrite ! 0 (λ (row : List ℕ). ‵ (stand R x.list row)) same refl $ move ! (0 ∷ 1 ∷ []) $ use2 𝓛 (raw (fact 𝓤 So)) (stand_agree 𝓛 R x.list y.list y.row) $ heard ! So (λ so.
+    move ! (2 ∷ []) $ rewrite ! 0 (λ (n : Name). ‵ (begins R x.list n)) same refl $ move ! (0 ∷ 1 ∷ []) $ use2 𝓛 (raw (fact 𝓤 So)) (begins_agree 𝓛 R x.list y.list y.name) $ heard ! So (λ so.
     -- [κ'; κ; μ]
     nothing ! $ nothing ! $ fjoin ! $ nothing ! $ fjoin ! $ move ! (3 ∷ []) $ nothing ! $ move ! (1 ∷ 0 ∷ []) $ join ! $ move ! (2 ∷ 0 ∷ []) $ join ! $ move ! (2 ∷ 0 ∷ []) $ join ! $
     sets ! (of_opd ! (unit_lit !)) refl (tt, tt) $ feq_i ! (List Val) (vunit ∷ []) (vunit ∷ []) refl $ use0 𝓛 (raw (fact 𝓤 So)) (fact_i 𝓤 So (emp 𝓤) so) $

@@ -1,5 +1,5 @@
 -- What stands at a place goes to the note of its cell. No code does it.
-use Rattle.std.proofs.Common.{◌≡◌, ℕ, ◌<◌, List, [], ◌∷◌, ◌++◌, length, slice_index, slice_get, refl, sym, subst, w64}
+use Rattle.std.proofs.Common.{◌≡◌, ℕ, ◌<◌, List, [], ◌∷◌, ◌++◌, length, slice_get, refl, sym, subst, w64}
 use mir.Syntax.{a_type}
 use mir.Val.{Val, vptr, vint, vunit}
 use mir.MapTy.{inst_fn}
@@ -7,7 +7,7 @@ use base.Logic.{SProp, ent, emp, id⊢, apply∗, all, all_e}
 use base.Fml.{Lft, Share, ftrue, flft}
 use prog.Wp.{WpFn}
 use types.Logic.{sem}
-use types.Kit.{‵, raw, ◌⊛◌, later, ◌$◌, ◌∵◌, !, qed, by, move, keep, drop, split, split3, join, fsplit, fsplit3, fjoin, suffices, use0, use1, use2, await, rewrite, feq_i}
+use types.Kit.{‵, raw, ◌⊛◌, later, ◌$◌, ◌∵◌, !, qed, by, move, keep, drop, split, split3, join, fsplit, fsplit3, fjoin, suffices, use0, use1, use2, await, feq_i}
 use types.Run.{of_opd, returns, enter, unit_lit}
 use types.ByLocal.{alloc_all, pass_all, free_all, look_at, sets}
 use contract.Monad.{fact, fact_i}
@@ -26,8 +26,8 @@ use Rattle.std.specs.declared.option.Option.{Option}
 use Rattle.std.proofs.raw_atomic.Walks.{proved_at, leaves}
 use Rattle.once_cell.proofs.Notes as notes
 use Rattle.once_cell.proofs.Notes.{Note}
-use Rattle.txc_stream.specs.Seen.{stand}
-use Rattle.txc_stream.proofs.Standing.{Seen, stand_at}
+use Rattle.txc_stream.specs.Seen.{begins, IsCellAt}
+use Rattle.txc_stream.proofs.Standing.{Seen, begins_at}
 use Rattle.txc_stream.proofs.Shared.{seen_reads}
 use Rattle.txc_stream.specs.contracts.seen.Seen.tell.{ended, clauses}
 use Rattle.txc_stream.specs.contracts.seen.Seen.tell.Key.{name as #self}
@@ -43,7 +43,7 @@ tell_spec 𝓤 𝓛 𝓜 𝓡 wired T L =
     let κs = z.0.0 in let qs = z.0.1 in let Post : Val → SProp 𝓤 = (walk_of 𝓛 En hs c).post z in let Run : List Val → SProp 𝓤 = λ ws. WpFn 𝓤 H 𝓣.C 𝓣.Λ fn ws Post in
     let b : ℕ = z.0.3.0.ref_ptr.0 in let o : ℕ = z.0.3.0.ref_ptr.1 in let s = z.0.3.0.now in let κ : Lft = κs.0 in let q : Share = qs.0 in let i : ℕ = z.0.3.1.0 in let μ : Lft = κs.1.1.0 in let r : Share = qs.1.1.0 in
     let κ' : Lft = κs.1.0 in let q' : Share = qs.1.0 in let m = z.0.3.1.1.0 in let nb₀ : ℕ = m.ref_ptr.0 in let no₀ : ℕ = m.ref_ptr.1 in let ν₀ : ℕ = m.ghost_name in let γ : ℕ = m.now.cell in
-    let at : ℕ = slice_index s.row i in let known : Option R.Denot = slice_get s.list i in let Asked : Type 0 = (i < length s.list) × (γ ≡ at) in
+    let known : Option R.Denot = slice_get s.list i in let Asked : Type 0 = (i < length s.list) × IsCellAt s.name i γ in
     let Shuts = notes.Shuts 𝓛 R κ' q' nb₀ no₀ ν₀ in let n : (Note 𝓛 R).Denot = record { marker = m.now.marker; cell = γ; known = known } in let Told : Type 0 = (γ ≡ γ) × (known ≡ known) in
     let Vs : List Val = vptr b o ∷ vint w64 i ∷ vptr nb₀ no₀ ∷ [] in
     qed 𝓛 (((‵ (flft κ q) ⊛ ‵ (flft κ' q') ⊛ ‵ (flft μ r) ⊛ ‵ ftrue) ⊛ ‵ (owns (types_at En.signature.params κs) z.0.3 z.0.4)) ∷ raw (fact 𝓤 (μ ⊑ T.lives)) ∷ raw (fact 𝓤 Asked) ∷ []) ∵
@@ -53,8 +53,8 @@ tell_spec 𝓤 𝓛 𝓜 𝓡 wired T L =
     enter ! 𝓣.C 𝓣.Λ fn Vs Post $ alloc_all ! (λ l. pass_all ! refl ((tt, tt), ((tt, record { fits = are.1.0.1 }), ((tt, tt), tt))) $
     move ! (0 ∷ 3 ∷ []) $ use2 𝓛 (later (‵ (noted R γ m.now.known) ⊛ raw (all 𝓤 Shuts))) (notes.note_opens 𝓛 R κ' q' nb₀ no₀ ν₀ m.now) $ await ! tt $ split ! $ drop ! $ move ! (1 ∷ []) $ fsplit ! $ drop ! $
     -- [what the `&` holds; the way back; κ; μ]
-    move ! (0 ∷ 2 ∷ []) $ use2 𝓛 (later (‵ (stand R s.list s.row) ⊛ ‵ (flft κ q))) (seen_reads 𝓛 R κ q s b o) $ await ! tt $ split ! $
-    use1 𝓛 (‵ (noted R at known)) (stand_at 𝓛 R s.list s.row i asked.0) $ rewrite ! 0 (λ (k : ℕ). ‵ (noted R k known)) (sym asked.1) refl $
+    move ! (0 ∷ 2 ∷ []) $ use2 𝓛 (later (‵ (begins R s.list s.name) ⊛ ‵ (flft κ q))) (seen_reads 𝓛 R κ q s b o) $ await ! tt $ split ! $
+    use1 𝓛 (‵ (noted R γ known)) (begins_at 𝓛 R s.list s.name i γ asked.0 asked.1) $
     move ! (2 ∷ []) $ use1 𝓛 (raw (Shuts n)) (all_e 𝓤 Shuts n) $ move ! (1 ∷ 0 ∷ []) $ use2 𝓛 (later (‵ (notes.lent 𝓛 R κ' q' nb₀ no₀ ν₀ n) ⊛ ‵ (flft κ' q'))) (apply∗ 𝓤 (sem 𝓛 (noted R γ known)) _) $ await ! tt $ split ! $
     -- [the note; κ'; κ; μ]
     feq_i ! (List Val) z.0.4.1.1.0 (vptr nb₀ no₀ ∷ []) are.1.1.0.0 $ fjoin ! $ nothing ! $ move ! (1 ∷ 0 ∷ []) $ fjoin ! $ nothing ! $ fjoin ! $ nothing ! $ fjoin ! $

@@ -1,7 +1,7 @@
 use Rattle.std.proofs.Common.{subst}
 use Rattle.txc_site.specs.declared.plan.Plan.{Plan}
 use Rattle.txc_site.specs.Sites.{HaveCome}
-use Rattle.txc_site.proofs.rows.over_rows.Goals as goal
+use Rattle.txc_site.proofs.histories.over_histories.Goals as goal
 
 -- the foundation has this plan
 pub returns-clause-gives : goal.returns-clause-gives

@@ -1,0 +1,61 @@
+//! Records of steps that are still to be made, in the proofs alone. What a cache will reply is known by the cache
+//! and the step.
+ghost use Rattle.txc_shared.specs.Planned.{planned_record};
+
+use txc_node::{Entry, NodeCore, Op, Record};
+use txc_stamp::Stamp;
+use txc_stream::Drafts;
+use txc_tags::TagSet;
+
+/// A step of a pass, and the cache that is to make it.
+#[derive(Drop)]
+pub(crate) struct Planned<'a> {
+    pub(crate) pass: usize,
+    pub(crate) turn: usize,
+    pub(crate) op: &'a Op,
+    pub(crate) core: &'a NodeCore,
+}
+
+/// The record of a planned step.
+pub(crate) struct AsPlanned;
+
+impl<'a> Drafts<Planned<'a>, Record> for AsPlanned {
+    ghost record_of = { λ p. planned_record p.pass p.turn p.op.now p.core.now };
+}
+
+/// An insertion of a pass, of an entry that is not copied.
+#[derive(Drop)]
+pub(crate) struct Insertable<'a> {
+    pub(crate) pass: usize,
+    pub(crate) turn: usize,
+    pub(crate) entry: &'a Entry,
+    pub(crate) core: &'a NodeCore,
+}
+
+/// The record of an insertion.
+pub(crate) struct AsInsertion;
+
+impl<'a> Drafts<Insertable<'a>, Record> for AsInsertion {
+    ghost use Rattle.txc_node.specs.declared.op.Op.TheVariants.{Insert};
+
+    ghost record_of = { λ p. planned_record p.pass p.turn (Insert p.entry.now) p.core.now };
+}
+
+/// An event that a pass takes, with tags that are not copied.
+#[derive(Drop)]
+pub(crate) struct Takeable<'a> {
+    pub(crate) pass: usize,
+    pub(crate) turn: usize,
+    pub(crate) stamp: Stamp,
+    pub(crate) tags: &'a TagSet,
+    pub(crate) core: &'a NodeCore,
+}
+
+/// The record of an event.
+pub(crate) struct AsEvent;
+
+impl<'a> Drafts<Takeable<'a>, Record> for AsEvent {
+    ghost use Rattle.txc_node.specs.declared.op.Op.TheVariants.{Event};
+
+    ghost record_of = { λ p. planned_record p.pass p.turn (Event p.stamp p.tags.now) p.core.now };
+}

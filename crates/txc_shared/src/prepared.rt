@@ -1,0 +1,78 @@
+//! The record of a step, prepared before the step is made.
+ghost use Rattle.std.specs.Prelude.{◌≡◌, IfOk};
+ghost use Rattle.std.specs.Option.{option_map};
+ghost use Rattle.txc_stream.specs.Names.{Name};
+ghost use Rattle.txc_node.specs.declared.record.Record.{Record};
+ghost use Rattle.txc_shared.specs.Passes.{reply_of_found};
+ghost use Rattle.txc_shared.specs.Locked.{record_in, Suits, AwaitsReply};
+
+use crate::finding::Finding;
+use std::alloc::{AllocError, Global};
+use txc_app::App;
+use txc_node::{Record, Reply, Shown};
+use txc_stream::Draft;
+
+/// A record that waits for its step.
+#[derive(Drop)]
+pub(crate) enum Prepared {
+    /// For a row. Its reply is still to come.
+    Stored(Box<Record>),
+    /// For a history that exists in the proofs alone. It has the reply that the step will give.
+    Unstored(Draft<Record>),
+}
+
+impl Prepared {
+    /// The record with the reply of its step.
+    pub(crate) fn answered(self, reply: Reply<Shown>) -> Prepared
+        ensures suits { (name : Name) → Suits name self → Suits name result }
+        ensures answered { (r : Record) → AwaitsReply r self → reply ≡ r.reply → record_in result ≡ r }
+    {
+        match self {
+            Prepared::Stored(mut next) => {
+                set_reply(&mut next, reply);
+                Prepared::Stored(next)
+            }
+            Prepared::Unstored(draft) => Prepared::Unstored(draft),
+        }
+    }
+
+    /// The record of a lookup that will find this. Only a stored one takes memory.
+    pub(crate) fn with_found<A: App>(
+        self,
+        alloc: Global,
+        found: &Option<Finding<A>>,
+    ) -> Result<Prepared, AllocError>
+        ensures suits { IfOk result (λ next. (name : Name) → Suits name self → Suits name next) }
+        ensures answered { IfOk result (λ next. (r : Record) → AwaitsReply r self
+            → reply_of_found (option_map (λ f. f.entry) found.now) ≡ r.reply → record_in next ≡ r) }
+    {
+        match self {
+            Prepared::Stored(mut next) => {
+                set_reply(&mut next, reply_to(alloc, found)?);
+                Ok(Prepared::Stored(next))
+            }
+            Prepared::Unstored(draft) => Ok(Prepared::Unstored(draft)),
+        }
+    }
+}
+
+// The reply of a record whose room was made before the step.
+fn set_reply(next: &mut Record, reply: Reply<Shown>)
+    ensures { next.new ≡ record next.old { reply = reply } }
+{
+    next.reply = reply;
+}
+
+// What a lookup that found this is replied.
+fn reply_to<A: App>(alloc: Global, found: &Option<Finding<A>>) -> Result<Reply<Shown>, AllocError>
+    ensures { IfOk result (λ reply. reply ≡ reply_of_found (option_map (λ f. f.entry) found.now)) }
+{
+    let Some(finding) = found else {
+        return Ok(Reply::Miss);
+    };
+    Ok(Reply::Hit(Shown {
+        reach: finding.entry.reach,
+        value: finding.entry.value.copy(alloc)?,
+        tags: finding.entry.tags.copy(alloc)?,
+    }))
+}
