@@ -25,8 +25,8 @@ LIBRARIES = """txc_stamp txc_tags txc_node txc_rows txc_stream txc_db txc_app tx
     txc_ports txc_txn txc_client txc_players anyhow"""
 PAGES = 10_000
 MOST_PAGES = 1_000_000
-MOST_KB = 32_768
-GROWTH_KB = 1_024
+MOST_KB = 8_192
+GROWTH_KB = 512
 TIME = 600
 
 
