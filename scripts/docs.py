@@ -5,6 +5,7 @@
   WRONG_BODIES.md      its lists, from the crates' edits
   ARCHITECTURE.md      the table of proofs that other crates use
   GATE.md              the table of what the gate takes, from docs/gate.tsv
+  FIGURES.md           the table of wrong bodies that were seen refused, from docs/refused.tsv
   SCRIPTS.md           the examples, from examples/; the session of a world has to be that of its script
   CALLING.md           its code, from the tests
   EMBEDDING.md         its code, from the auction
@@ -14,7 +15,7 @@ usage: docs.py [--check]      --check writes nothing, and ends with 1 where a fi
 """
 import re, sys
 
-import claims, pages, promise
+import claims, pages, promise, refused
 from sources import ROOT, crates
 
 LISTS = "## All of them, by crate"
@@ -182,9 +183,15 @@ def gate(text):
     return start + TAKES + rows + re.sub(r"^(?:\|.*\n)*", "", after)
 
 
+def figures(text):
+    """Fills the table of wrong bodies that were seen refused."""
+    start, _, after = text.partition(refused.TABLE)
+    return start + refused.table() + re.sub(r"^(?:\|.*\n)*", "", after)
+
+
 def written():
     """Each file that is made by script, or has parts that are, beside its text."""
-    made = {"WRONG_BODIES.md": wrong_bodies, "SCRIPTS.md": scripts, "CALLING.md": calling, "EMBEDDING.md": calling, "ARCHITECTURE.md": architecture, "GATE.md": gate}
+    made = {"WRONG_BODIES.md": wrong_bodies, "SCRIPTS.md": scripts, "CALLING.md": calling, "EMBEDDING.md": calling, "ARCHITECTURE.md": architecture, "GATE.md": gate, "FIGURES.md": figures}
     texts = {ROOT / "docs" / name: make((ROOT / "docs" / name).read_text()) for name, make in made.items()}
     return {**texts, **pages.written(), promise.PAGE: promise.written()}
 
