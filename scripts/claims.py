@@ -10,7 +10,7 @@ from sources import ROOT
 
 README = ROOT / "README.md"
 # How many words a document may have, and all that are written by hand together.
-MOST_WORDS = {"README.md": 1_400, "docs/GATE.md": 900}
+MOST_WORDS = {"README.md": 1_400, "docs/GATE.md": 900, "docs/DECISIONS.md": 6_000}
 MOST_WORDS_OF_A_SENTENCE = 40
 # The commands of scripts, with which a line of a session begins.
 COMMANDS = set("put remove pin pins ro rw session call ask write step finish commit abort advance tidy counts insert lookup event sweep".split())
@@ -105,7 +105,7 @@ def words():
 
 def sentences(path):
     """The sentences of a document, each word of code as one word."""
-    text = re.sub(r"^(?:    .*| *\|.*|#.*|<!--.*|@.*)$", "", prose(path), flags=re.M)
+    text = re.sub(r"^(?:    .*| *\|.*|#.*|<!--.*|@.*)$", "", prose(path).replace("**", ""), flags=re.M)
     for block in re.split(r"\n\s*\n|\n\s*(?=- |\d+\. )", re.sub(r"`[^`\n]*`", "x", text)):
         yield from re.split(r"(?<=[.?!:])\s+(?=[A-Z`x(\[])", " ".join(block.split()))
 
