@@ -1,7 +1,8 @@
 #!/usr/bin/env python3
 """Writes the parts of docs/ that are made by script:
 
-  PROMISE.md, crates/  from the crates' src/ and specs/, and docs/promise.in.md (scripts/promise.py, scripts/pages.py)
+  PROMISE.md, promise/, crates/
+                       from the crates' src/ and specs/, and docs/promise.in.md (scripts/promise.py, scripts/pages.py)
   WRONG_BODIES.md      its lists, from the crates' edits
   ARCHITECTURE.md      the table of proofs that other crates use
   GATE.md              the table of what the gate takes, from docs/gate.tsv
@@ -193,7 +194,7 @@ def written():
     """Each file that is made by script, or has parts that are, beside its text."""
     made = {"WRONG_BODIES.md": wrong_bodies, "SCRIPTS.md": scripts, "CALLING.md": calling, "EMBEDDING.md": calling, "ARCHITECTURE.md": architecture, "GATE.md": gate, "FIGURES.md": figures}
     texts = {ROOT / "docs" / name: make((ROOT / "docs" / name).read_text()) for name, make in made.items()}
-    return {**texts, **pages.written(), promise.PAGE: promise.written()}
+    return {**texts, **pages.written(), **promise.written()}
 
 
 def main():
@@ -204,9 +205,9 @@ def main():
             path.write_text(text)
         elif not path.is_file() or path.read_text() != text:
             sys.exit(f"{path.relative_to(ROOT)} is not what scripts/docs.py writes: run `make docs`")
-    for path in sorted(set(pages.FOLDER.glob("*.md")) - set(texts)):
+    for path in sorted({*pages.FOLDER.glob("*.md"), *promise.FOLDER.glob("*.md")} - set(texts)):
         if is_check:
-            sys.exit(f"{path.relative_to(ROOT)} is of no crate: run `make docs`")
+            sys.exit(f"{path.relative_to(ROOT)} is made no more: run `make docs`")
         path.unlink()
     found = claims.faults()
     print("".join(f"{it}\n" for it in found), end="", file=sys.stderr)

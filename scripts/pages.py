@@ -7,9 +7,8 @@ from sources import ROOT
 
 FOLDER = ROOT / "docs/crates"
 HEAD = """
-Made by `make docs` from the crate's `src/` and `specs/`. A clause is shown as it is written. Below it stand its words, each a link to
-its definition, on the page of the crate that defines it. What is no link is of Rattle's own library:
-[how a clause is read](../PROMISE.md#how-a-clause-is-read).
+Made by `make docs` from the crate's `src/` and `specs/`. Below a clause stand its words, each a link to its definition. What is no link is of
+Rattle's own library: [how a clause is read](../promise/signs.md).
 """
 
 
