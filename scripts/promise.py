@@ -52,6 +52,12 @@ class Page:
         self.book, self.name, self.title = book, name, title
         self.lines, self.roots, self.shallow, self.elsewhere, self.shown, self.texts = [], [], [], [], [], []
 
+    @property
+    def number(self):
+        """The number of its promise with a dot, on a page that has one."""
+        name = self.name.removeprefix("promise/").removesuffix(".md")
+        return f"{name}. " if name.isdigit() else ""
+
     def link(self, said, path, place=""):
         """A link to a path below docs/."""
         file = "" if path == self.name else os.path.relpath(path, os.path.dirname(self.name) or ".")
@@ -170,9 +176,9 @@ class Book:
         """Of each page of a promise its title and its first sentences."""
         text = ""
         for page in self.pages:
-            if page.name.removeprefix("promise/")[0].isdigit():
+            if page.number:
                 first = "\n".join(page.lines).partition("\n\n")[0].replace("\n", "\n   ")
-                text += f"{page.name.removeprefix('promise/').removesuffix('.md')}. {here.link(page.title, page.name)}. {first}\n"
+                text += f"{page.number}{here.link(page.title, page.name)}. {first}\n"
         return text.rstrip()
 
 
@@ -242,7 +248,7 @@ def written():
     check_signs(book)
     names, found = Names(book), {}
     for page in book.pages:
-        head = f"# {page.title}\n\n{MADE}\n\n" if page.title else ""
+        head = f"# {page.number}{page.title}\n\n{MADE}\n\n" if page.title else ""
         text = head + "\n".join(page.lines)
         text = text.replace("@promises", book.promises(page)).replace("@made", MADE)
         text = re.sub(r"(?m)^@signs$", lambda it: page.signs().rstrip(), text)
