@@ -59,10 +59,10 @@ def run(room, crate):
 
 
 def run_program(room, crate):
-    """The same of a program: whether it ended well, and printed first what its file stdout has."""
+    """The same of a program: whether it ended well, and printed what its file stdout has."""
     ran = told([f"{room}/kit/bin/rt", "try", *LIMITS], f"{room}/crates/{crate}")
     with open(f"{room}/crates/{crate}/stdout", encoding="utf-8") as it:
-        is_right = ran.stdout.startswith(it.read()) and "run=ended status=0" in ran.stdout
+        is_right = it.read() in ran.stdout and "run=ended status=0" in ran.stdout
     return int(is_right), [] if is_right else [crate], ran.stdout
 
 

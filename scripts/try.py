@@ -30,7 +30,7 @@ def main():
     found = [(it, mode_of(it, given.mode), settings_of(it, given.settings)) for it in scripts_of(given.script)]
     if len({tuple(how) for _, *how in found}) > 1:
         sys.exit(refused("these scripts have several modes or settings: try those of one at a time"))
-    print("compiling, some four minutes ..", file=sys.stderr, flush=True)
+    print("compiling, two to four minutes ..", file=sys.stderr, flush=True)
     replies, statuses, said = run(found)
     say(said)
     for number, (script, mode, _) in enumerate(found):
