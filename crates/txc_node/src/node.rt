@@ -190,8 +190,14 @@ impl NodeCore {
         ensures refused { OnErr result (hi < lo) }
         ensures answer { IfOk result (λ r. option_map seen r ≡ lookup_answer self.now key.now lo hi) }
     {
-        let search = self.search(key, lo, hi)?;
-        Ok(self.hit(key, &search))
+        check_range(lo, hi)?;
+        let entries = self.entries.keyed();
+        let (found, _) = entries.best(self.processed, key, lo, hi);
+        let Some(found) = found else {
+            return Ok(None);
+        };
+        let place = Place::new(key, found.reach.lo());
+        Ok(hit_of(entries.get(&place), self.processed))
     }
 
     /// Searches for the entry that [`NodeCore::lookup`] lends, and changes nothing. [`NodeCore::hit`] lends it

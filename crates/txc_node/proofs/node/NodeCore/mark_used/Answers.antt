@@ -7,8 +7,8 @@ use Rattle.txc_node.proofs.LawLemmas.{lookup_keeps}
 use Rattle.txc_node.proofs.Moves.{after_found}
 use Rattle.txc_node.proofs.node.NodeCore.mark_used.Goals as goal
 
-pub invariant_of-self-in-Some : goal.invariant_of-self-in-Some
-invariant_of-self-in-Some c =
+pub invariant_of-self : goal.invariant_of-self
+invariant_of-self c =
     let a = c.args in
     let v = the_view c.self.inside in
     let s = a.search.now in
