@@ -32,7 +32,7 @@ pub use line_name::LineName;
 pub use reads::MAX_READS;
 pub use run::run_script;
 pub use unread::{Malformed, Unread};
-pub use word::{read_stamp, read_still};
+pub use word::{read_stamp, read_still, read_tags};
 pub use words::{
     WordsLeft, all_words, count_words, first_word, one_word, six_words, three_words, two_words,
 };

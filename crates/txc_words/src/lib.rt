@@ -11,4 +11,4 @@ mod refusals;
 pub use finding::find_after_name;
 pub use name::name_of;
 pub use parts::{LAST_MOMENT, read_change, read_moment, read_pin, read_place, read_query};
-pub use refusals::{OfAdd, OfDatabase, OfTransaction};
+pub use refusals::{write_add, write_database, write_transaction};
