@@ -14,11 +14,11 @@ use Rattle.txc_script.specs.declared.line_fault.CommandFault.TheVariants as faul
 use Rattle.txc_script.specs.declared.line_fault.WordFault.{WordFault}
 use Rattle.txc_script.specs.declared.line_fault.WordKind.{WordKind}
 use Rattle.txc_script.specs.declared.line_fault.WordKind.TheVariants.{Key}
-use Rattle.txc_script.specs.declared.line_name.LineName.{LineName}
+use Rattle.txc_words.specs.declared.name.LineName.{LineName}
 use Rattle.txc_words.specs.Names.{name_text}
 use Rattle.txc_words.specs.Faults.{moment, IsFaultAfter}
 use Rattle.txc_work.specs.declared.job.Job.{Job}
-use Rattle.txc_batch.specs.BatchFaults.{job_kinds, IsBadKey, IsBatchFault, IsJobFault, IsPreparingFault}
+use Rattle.txc_batch.specs.BatchFaults.{job_kinds, IsBadKey, IsBatchFault, IsJobFault, IsMisplaced, IsPreparingFault}
 use Rattle.txc_batch.specs.Orders.{AreJobWords, IsPreparing}
 use Rattle.txc_batch.specs.Queueing.{QueuedValue}
 
@@ -165,7 +165,7 @@ fault_of_job jobs all words word (faults.Usage line) e is h = absurd h
 fault_of_job jobs all words word (faults.Count wanted given) e is h = absurd h
 fault_of_job jobs all words word (faults.Word fault) e is h = inl (words, e ∙ ap (λ (w : List ℕ). w ∷ words) is, h)
 fault_of_job jobs all words word (faults.Few least given) e is h = inl (words, e ∙ ap (λ (w : List ℕ). w ∷ words) is, h)
-fault_of_job jobs all words word faults.AfterJob e is h = absurd h
+fault_of_job jobs all words word (faults.Misplaced place) e is h = absurd h
 
 -- a fault that is not that of an unknown name is in the words after a name, or in the place of the line
 known_fault : (jobs : List Job) (all words : List (List ℕ)) (name : LineName) (fault : CommandFault) → IsPreparing name → all ≡ name_text name ∷ words → IsPreparingFault jobs name words fault
@@ -175,7 +175,7 @@ known_fault jobs all words name (faults.Usage line) is e h known = inr (name, wo
 known_fault jobs all words name (faults.Count wanted given) is e h known = inr (name, words, is, e, h)
 known_fault jobs all words name (faults.Word fault) is e h known = inr (name, words, is, e, h)
 known_fault jobs all words name (faults.Few least given) is e h known = inr (name, words, is, e, h)
-known_fault jobs all words name faults.AfterJob is e h known = inr (name, words, is, e, h)
+known_fault jobs all words name (faults.Misplaced place) is e h known = inr (name, words, is, e, h)
 
 never_unknown : (name : LineName) (words : List (List ℕ)) (fault : CommandFault) (text : ExcerptValue) → IsFaultAfter name words fault → fault ≡ faults.Unknown text → ⊥
 never_unknown name words fault text h e = subst (IsFaultAfter name words) e h
@@ -186,14 +186,15 @@ pub fault_before : (jobs : List Job) (all words : List (List ℕ)) (word : List 
 fault_before jobs all words word name fault none is e named h =
     known_fault jobs all words name fault is (e ∙ ap (λ (w : List ℕ). w ∷ words) named) (subst (λ (js : List Job). IsPreparingFault js name words fault) (sym none) h) (λ text same. never_unknown name words fault text h same)
 
-after_some : (jobs : List Job) (name : LineName) (words : List (List ℕ)) → (jobs ≡ [] → ⊥) → IsPreparingFault jobs name words faults.AfterJob
-after_some [] name words some = absurd (some refl)
-after_some (job ∷ jobs) name words some = refl
+after_some : (jobs : List Job) (name : LineName) (words : List (List ℕ)) (fault : CommandFault) → (jobs ≡ [] → ⊥) → IsMisplaced fault → IsPreparingFault jobs name words fault
+after_some [] name words fault some h = absurd (some refl)
+after_some (job ∷ jobs) name words fault some h = h
 
 -- and after one
-pub fault_after : (jobs : List Job) (all words : List (List ℕ)) (word : List ℕ) (name : LineName) → (jobs ≡ [] → ⊥) → IsPreparing name → all ≡ word ∷ words → word ≡ name_text name
-    → IsBatchFault jobs all faults.AfterJob
-fault_after jobs all words word name some is e named = inr (name, words, is, e ∙ ap (λ (w : List ℕ). w ∷ words) named, after_some jobs name words some)
+pub fault_after : (jobs : List Job) (all words : List (List ℕ)) (word : List ℕ) (name : LineName) (fault : CommandFault) → (jobs ≡ [] → ⊥) → IsPreparing name → all ≡ word ∷ words → word ≡ name_text name
+    → IsMisplaced fault → IsBatchFault jobs all fault
+fault_after jobs all words word name fault some is e named h =
+    known_fault jobs all words name fault is (e ∙ ap (λ (w : List ℕ). w ∷ words) named) (after_some jobs name words fault some h) (λ text same. subst IsMisplaced same h)
 
 -- ---- the first two words, and the keys
 

@@ -6,8 +6,8 @@ use Rattle.std.specs.Fmt.{decimal}
 use Rattle.txc_rows.specs.declared.query.Change.{Change}
 use Rattle.txc_rows.specs.declared.query.Change.TheVariants as changes
 use Rattle.txc_script.specs.Words.{HasNoBlank, words_of}
-use Rattle.txc_script.specs.declared.line_name.LineName.{LineName}
-use Rattle.txc_script.specs.declared.line_name.LineName.TheVariants as names
+use Rattle.txc_words.specs.declared.name.LineName.{LineName}
+use Rattle.txc_words.specs.declared.name.LineName.TheVariants as names
 use Rattle.txc_script.specs.declared.line_fault.WordKind.{WordKind}
 use Rattle.txc_script.specs.LineFaults.{AreOfKinds}
 use Rattle.txc_script.proofs.Offered.{HasTexts, has_texts, words_alone}

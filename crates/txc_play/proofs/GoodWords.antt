@@ -10,8 +10,8 @@ use Rattle.txc_world.specs.declared.step.Step.TheVariants.{Actor, BeginIn, Keepe
 use Rattle.txc_script.specs.LineFaults.{AreOfKinds}
 use Rattle.txc_script.specs.declared.line_fault.WordKind.{WordKind}
 use Rattle.txc_script.specs.declared.line_fault.WordKind.TheVariants.{Key, Stamp}
-use Rattle.txc_script.specs.declared.line_name.LineName.{LineName}
-use Rattle.txc_script.specs.declared.line_name.LineName.TheVariants as names
+use Rattle.txc_words.specs.declared.name.LineName.{LineName}
+use Rattle.txc_words.specs.declared.name.LineName.TheVariants as names
 use Rattle.txc_script.proofs.Offered.{HasTexts, has_texts}
 use Rattle.txc_words.specs.Parts.{change_words, query_words}
 use Rattle.txc_words.specs.Faults.{function, kinds_after, moment, pair_kinds, place, row_kinds, second_of}

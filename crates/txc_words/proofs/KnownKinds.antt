@@ -13,8 +13,8 @@ use Rattle.txc_script.specs.declared.line_fault.CommandFault.TheVariants as faul
 use Rattle.txc_script.specs.declared.line_fault.WordFault.{WordFault}
 use Rattle.txc_script.specs.declared.line_fault.WordKind.{WordKind}
 use Rattle.txc_script.specs.declared.line_fault.WordKind.TheVariants.{QueryName, ChangeName}
-use Rattle.txc_script.specs.declared.line_name.LineName.{LineName}
-use Rattle.txc_script.specs.declared.line_name.LineName.TheVariants as names
+use Rattle.txc_words.specs.declared.name.LineName.{LineName}
+use Rattle.txc_words.specs.declared.name.LineName.TheVariants as names
 use Rattle.txc_words.specs.Parts.{AreChangeWords, ArePinWords, IsChangeInRange, IsIdRange, IsPair, IsQueryInRange, change_words, query_words, row_words}
 use Rattle.txc_words.specs.Faults.{IsFaultAfter, IsFirstBad, change_line, kinds_after, moment, pair_kinds, place, query_line, range_kinds, row_kinds, second_of, table}
 use Rattle.txc_words.proofs.WordParts.{apart, first_is, others_are}
@@ -115,4 +115,4 @@ none_after name words (faults.Word fault) h k =
     let bad = subst (λ (o : Option (List WordKind)). IsFirstBad name words o fault) k.known h in
     none_bad k.kinds words fault bad.1 k.good
 none_after name words (faults.Few least given) h k = h
-none_after name words faults.AfterJob h k = h
+none_after name words (faults.Misplaced place) h k = h
