@@ -1,5 +1,5 @@
 -- What is wrong with the words of a malformed line of a batch's script.
-use Rattle.std.proofs.Common.{◌≡◌, ℕ, ◌+◌, ◌≤◌, List, [], ◌∷◌, ◌++◌, Option, None, Some, IfNone, IfSome, map, length, take, refl, sym, ap, subst, ◌∙◌, inl, inr, append_assoc, arith}
+use Rattle.std.proofs.Common.{◌≡◌, ℕ, ◌+◌, ◌≤◌, List, [], ◌∷◌, ◌++◌, Option, None, Some, IfNone, IfSome, map, length, take, refl, sym, ap, subst, ◌∙◌, inl, inr, append_assoc, append-nil, arith}
 use Rattle.std.specs.Prelude.{codes}
 use Rattle.std.specs.List.{All}
 use Rattle.std.specs.Fmt.{decimal}
@@ -34,24 +34,16 @@ pub record HasTestedKeys (words left : List (List ℕ)) (number : ℕ) : Type 0 
 pub none_tested : (words : List (List ℕ)) → HasTestedKeys words words 0
 none_tested words = record { good = []; words_are = refl; are_good = All-nil (IsOfKind Key); counted = refl }
 
-one_more : {X : Type 0} (xs : List X) (y : X) (ys : List X) → xs ++ y ∷ ys ≡ (xs ++ y ∷ []) ++ ys
-one_more [] y ys = refl
-one_more (x ∷ xs) y ys = ap (λ (zs : List _). x ∷ zs) (one_more xs y ys)
-
 pub more_tested : (words left others : List (List ℕ)) (word : List ℕ) (number : ℕ) → HasTestedKeys words left number → left ≡ word ∷ others → IsOfKind Key word → HasTestedKeys words others (number + 1)
 more_tested words left others word number h e is = record {
   good = h.good ++ word ∷ [];
-  words_are = h.words_are ∙ ap (λ (ws : List (List ℕ)). h.good ++ ws) e ∙ one_more h.good word others;
+  words_are = h.words_are ∙ ap (λ (ws : List (List ℕ)). h.good ++ ws) e ∙ sym (append_assoc h.good (word ∷ []) others);
   are_good = All-push (IsOfKind Key) h.good word h.are_good is;
   counted = omega (arith, h.counted, length-append h.good (word ∷ []));
 }
 
-append_none : {X : Type 0} (xs : List X) → xs ++ [] ≡ xs
-append_none [] = refl
-append_none (x ∷ xs) = ap (λ (zs : List _). x ∷ zs) (append_none xs)
-
 pub all_tested : (words left : List (List ℕ)) (number : ℕ) → HasTestedKeys words left number → length left ≡ 0 → All (IsOfKind Key) words
-all_tested words [] number h none = All-same (IsOfKind Key) words h.good (h.words_are ∙ append_none h.good) h.are_good
+all_tested words [] number h none = All-same (IsOfKind Key) words h.good (h.words_are ∙ append-nil h.good) h.are_good
 all_tested words (word ∷ left) number h none = absurd (omega (arith, none))
 
 -- ---- the words of a job
