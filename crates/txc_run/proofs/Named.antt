@@ -1,6 +1,6 @@
 -- The steps that the words of a line name.
 use Rattle.std.proofs.Common.{◌≡◌, ◌<◌, ◌≤◌, lit<, ℕ, Bool, false, List, [], ◌∷◌, ◌++◌, Some, None, Result, Ok, Err, IfErr, IfOk, length, refl, sym, ap, subst, ◌∙◌}
-use Rattle.std.specs.Prelude.{codes, IsErr, IsErrAnd, if◌then◌else◌}
+use Rattle.std.specs.Prelude.{codes, IsErr, IsErrAnd}
 use Rattle.std.specs.List.{AllByRecursion}
 use Rattle.std.specs.Str.{bytes_eq}
 use Rattle.txc_tags.specs.declared.tag.Tag.{Tag}
