@@ -52,7 +52,7 @@ returns-then-eq-4-clause-refused g c =
     (same_text c.in-Some.name.now c.as_slice-4.result.now (codes "sweep") c.eq-4.result c.as_slice-4.ensures c.eq-4.ensures c.if-eq-4.true) c.make_sweep.ensures.refused
 
 other : (text slice word : List ℕ) (r : Bool) → slice ≡ word → r ≡ bytes_eq text slice → r ≡ false → bytes_eq text word ≡ false
-other text slice word r is e no = ap (bytes_eq text) (sym is) ∙ sym e ∙ no
+other text slice word r is e h = ap (bytes_eq text) (sym is) ∙ sym e ∙ h
 
 pub returns-clause-refused : goal.returns-clause-refused
 returns-clause-refused g c = (
