@@ -13,8 +13,8 @@ use Rattle.txc_script.specs.declared.line_fault.CommandFault.TheVariants as faul
 use Rattle.txc_script.specs.declared.line_fault.WordFault.{WordFault}
 use Rattle.txc_script.specs.declared.line_fault.WordKind.{WordKind}
 use Rattle.txc_script.specs.declared.line_fault.WordKind.TheVariants.{Key, Stamp, QueryName, ChangeName}
-use Rattle.txc_script.specs.declared.line_name.LineName.{LineName}
-use Rattle.txc_script.specs.declared.line_name.LineName.TheVariants as names
+use Rattle.txc_words.specs.declared.name.LineName.{LineName}
+use Rattle.txc_words.specs.declared.name.LineName.TheVariants as names
 use Rattle.txc_play.specs.Tasks.{AreAfterPlace, LineAsksFor}
 use Rattle.txc_words.specs.Parts.{AreChangeWords, IsChangeInRange, IsIdRange, IsPair, IsQueryInRange, change_words, query_words, row_words}
 use Rattle.txc_words.specs.Names.{name_text}
@@ -87,4 +87,4 @@ nothing_wrong all (faults.Usage line) name words h e k = none_said all h.0 name 
 nothing_wrong all (faults.Count wanted given) name words h e k = none_said all h.0 name h.1 words (faults.Count wanted given) h.2 h.3 e k
 nothing_wrong all (faults.Word fault) name words h e k = none_said all h.0 name h.1 words (faults.Word fault) h.2 h.3 e k
 nothing_wrong all (faults.Few least given) name words h e k = h.3
-nothing_wrong all faults.AfterJob name words h e k = h.3
+nothing_wrong all (faults.Misplaced place) name words h e k = h.3

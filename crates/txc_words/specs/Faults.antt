@@ -9,8 +9,8 @@ use Rattle.txc_script.specs.declared.line_fault.CommandFault.TheVariants as faul
 use Rattle.txc_script.specs.declared.line_fault.WordFault.{WordFault}
 use Rattle.txc_script.specs.declared.line_fault.WordKind.{WordKind}
 use Rattle.txc_script.specs.declared.line_fault.WordKind.TheVariants.{Key, Stamp, Number, Text, QueryName, ChangeName}
-use Rattle.txc_script.specs.declared.line_name.LineName.{LineName}
-use Rattle.txc_script.specs.declared.line_name.LineName.TheVariants as names
+use Rattle.txc_words.specs.declared.name.LineName.{LineName}
+use Rattle.txc_words.specs.declared.name.LineName.TheVariants as names
 use Rattle.txc_tags.specs.declared.tag.TheConstants.{LAST_TABLE}
 use Rattle.txc_tags.specs.declared.key.TheConstants.{LAST_FUNCTION}
 use Rattle.txc_tags.specs.declared.text.number.TheConstants.{LAST_NUMBER}
@@ -92,6 +92,15 @@ first_kinds names.Ask = place ∷ QueryName ∷ []
 first_kinds names.Write = place ∷ ChangeName ∷ []
 first_kinds name = []
 
+-- how such a line is written
+abbrev pub usage_text : LineName → List ℕ
+usage_text names.Query =
+    codes "query STAMP by-id TABLE ID (or by-group TABLE GROUP, or all TABLE, or range TABLE FROM TO)"
+usage_text names.Ask =
+    codes "ask ACTOR by-id TABLE ID (or by-group TABLE GROUP, or all TABLE, or range TABLE FROM TO)"
+usage_text names.Write = codes "write ACTOR put TABLE ID GROUP BODY (or remove TABLE ID)"
+usage_text name = []
+
 -- the second of the words, or no bytes where there are fewer
 abbrev pub second_of : List (List ℕ) → List ℕ
 second_of (first ∷ second ∷ words) = second
@@ -110,11 +119,11 @@ IsFirstBad name words None fault = (2 ≤ length words) × IsBadWord (first_kind
 -- is not of its kind.
 abbrev pub IsFaultAfter : LineName → List (List ℕ) → CommandFault → Type 0
 IsFaultAfter name words (faults.Unknown text) = ⊥
-IsFaultAfter name words (faults.Usage line) =
-    (line ≡ name) × (kinds_after name (second_of words) ≡ None) × (length words < 2)
+IsFaultAfter name words (faults.Usage form) =
+    (form.now ≡ usage_text name) × (kinds_after name (second_of words) ≡ None) × (length words < 2)
 IsFaultAfter name words (faults.Count wanted given) =
     (kinds : List WordKind) × (kinds_after name (second_of words) ≡ Some kinds)
     × (wanted ≡ length kinds) × (given ≡ length words) × (given ≢ wanted)
 IsFaultAfter name words (faults.Word fault) = IsFirstBad name words (kinds_after name (second_of words)) fault
 IsFaultAfter name words (faults.Few least given) = ⊥
-IsFaultAfter name words faults.AfterJob = ⊥
+IsFaultAfter name words (faults.Misplaced place) = ⊥

@@ -5,9 +5,10 @@ ghost use Rattle.txc_script.specs.Words.{words_left};
 ghost use Rattle.txc_script.specs.declared.line_fault.WordKind.{WordKind};
 ghost use Rattle.txc_words.specs.Faults.{IsFaultAfter, kinds_after, second_of};
 
-use crate::kinds::{first_kinds, kinds_after};
+use crate::kinds::{first_kinds, kinds_after, usage_of};
+use crate::name::LineName;
 use std::alloc::Global;
-use txc_script::{CommandFault, LineName, WordsLeft, bad_word};
+use txc_script::{CommandFault, WordsLeft, bad_word};
 
 /// The second of the words, of which there are so many; no bytes where there is none.
 fn second_of(words: WordsLeft<'_>, count: usize) -> &[u8]
@@ -34,7 +35,7 @@ fn find_without_kinds(
     ensures { IsFaultAfter name (words_left words.entry) result }
 {
     if count < 2 {
-        return CommandFault::Usage(name);
+        return CommandFault::Usage(usage_of(name));
     }
     match bad_word(alloc, first_kinds(name), words.first(2)) {
         Some(fault) => CommandFault::Word(fault),
