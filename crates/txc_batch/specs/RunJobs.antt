@@ -2,6 +2,7 @@
 use Rattle.std.specs.Prelude.{◌≡◌, ◌⊎◌, ℕ, List, All, Contains, IsPermutation, Result, Ok, Err}
 use Rattle.std.specs.List.Sorted.{IsStrictlyIncreasing}
 use mathlib.Core.List.{IsPrefix}
+use Rattle.txc_stream.specs.Names.{Name}
 use Rattle.txc_db.specs.History.{History}
 use Rattle.txc_app.specs.Eval.{Next}
 use Rattle.txc_work.specs.Batches.{job_numbers, result_numbers, IsResultOf, Meets}
@@ -22,12 +23,12 @@ AgreesWith L (outcomes.Refused error) = Unit {0}
 -- numbers. It is a receipt, which answers its keys and is explained by its bounds; or a refusal that comes of one of
 -- its calls. What a receipt shows of the history goes on from the database's, or is a part of it.
 pub record HaveRun (next : Next) (s : BatchState) (ran : RanValue) : Type 0 where
-  pub node_rows : ℕ → List ℕ
-  pub rooms : HaveRoomsBy s.settings node_rows
+  pub node_histories : ℕ → Name
+  pub rooms : HaveRoomsBy s.settings node_histories
   pub settings : ran.settings ≡ s.settings
   pub once : IsPermutation (job_numbers s.jobs) (result_numbers ran.results)
   pub in_order : IsStrictlyIncreasing (result_numbers ran.results)
-  pub met : All (IsResultOf s.jobs (Meets next s.source.database.events node_rows s.functions)) ran.results
+  pub met : All (IsResultOf s.jobs (Meets next s.source.database.events node_histories s.functions)) ran.results
   pub agree : All (λ told. AgreesWith s.source.database.history told.outcome) ran.results
 
 -- the jobs ran, and have results; or one of them has none, or two; it is not that memory was refused

@@ -1,5 +1,6 @@
 -- The nodes and the clients of a batch, by its settings.
 use Rattle.std.specs.Prelude.{◌≡◌, ℕ, ◌<◌, List, Some, All, length, map, slice_get}
+use Rattle.txc_stream.specs.Names.{Name, stored, unstored}
 use Rattle.txc_settings.specs.declared.settings.Settings.{Settings}
 use Rattle.txc_shared.specs.declared.settings.NodeSettings.{NodeSettings}
 use Rattle.txc_client.specs.Txn.{ClientValue}
@@ -14,16 +15,21 @@ pub record AreNodesBy (s : Settings) (nodes : List NodeSettings) : Type 0 where
   pub count : length nodes ≡ s.nodes
   pub each : (number : ℕ) (node : NodeSettings) → slice_get nodes number ≡ Some node → node ≡ node_by s number
 
--- each row of a node has room for so many records
-abbrev pub HaveRoomsBy : Settings → (ℕ → List ℕ) → Type 0
-HaveRoomsBy s node_rows = (number : ℕ) → number < s.nodes → length (node_rows number) ≡ s.row_cap
+-- the history is stored in a row with room for so many records
+abbrev pub IsStoredFor : ℕ → Name → Type 0
+IsStoredFor room (stored cells) = length cells ≡ room
+IsStoredFor room (unstored number) = ⊥
 
--- as many clients as there are to be workers; each has a pass through each of the nodes, whose rows are these, and
--- renews a pin after that time
-pub record AreClientsBy (s : Settings) (node_rows : ℕ → List ℕ) (clients : List ClientValue) : Type 0 where
+-- the history of each node is stored with as much room as there is to be
+abbrev pub HaveRoomsBy : Settings → (ℕ → Name) → Type 0
+HaveRoomsBy s node_histories = (number : ℕ) → number < s.nodes → IsStoredFor s.row_cap (node_histories number)
+
+-- as many clients as there are to be workers; each has a pass through each of the nodes, whose histories are these,
+-- and renews a pin after that time
+pub record AreClientsBy (s : Settings) (node_histories : ℕ → Name) (clients : List ClientValue) : Type 0 where
   pub count : length clients ≡ s.workers
   pub nodes : All (λ client. AreNodesBy s (map (λ pass. pass.settings) client.passes)) clients
-  pub rooms : HaveRoomsBy s node_rows
+  pub rooms : HaveRoomsBy s node_histories
   pub renewal : All (λ client. client.renew_after ≡ s.renew_after) clients
 
 -- the results of jobs, and the settings of the clients that ran them and of their nodes

@@ -58,13 +58,13 @@ impl Ran {
         J: Naming + Send + Sync,
         H: Threads + Wait + Sync,
         ghost functions: { List ℕ }
-        requires clients { AreClientsBy settings J.node_rows clients.items }
+        requires clients { AreClientsBy settings J.node_histories clients.items }
         requires functions { All (λ client. numbers_of client.objects ≡ functions) clients.items }
         ensures settings { IfOk result (λ ran. ran.settings ≡ settings) }
         ensures once { IfOk result (λ ran. IsPermutation (job_numbers jobs.items) (result_numbers ran.results)) }
         ensures in_order { IfOk result (λ ran. IsStrictlyIncreasing (result_numbers ran.results)) }
         ensures met { IfOk result (λ ran.
-            All (IsResultOf jobs.items (Meets A.next J.database_row J.node_rows functions)) ran.results) }
+            All (IsResultOf jobs.items (Meets A.next J.database_row J.node_histories functions)) ran.results) }
         ensures named { IfErr result (NamesOneOf (job_numbers jobs.items)) }
     {
         let results = run_batch(rt, alloc, jobs, clients, &OpenGate)?;

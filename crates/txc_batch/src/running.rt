@@ -46,7 +46,7 @@ fn nodes<A: App, J: Naming>(
     rows: Vec<EventRow<Record>>,
     database: &Database<J>,
 ) -> Result<Vec<SharedNode<A, J>>, AllocError>
-    requires rows { AreRowsOf J.node_rows 0 rows.items }
+    requires rows { AreRowsOf J.node_histories 0 rows.items }
     requires count { vec_len rows ≡ settings.nodes }
     ensures { IfOk result (λ nodes. AreNodesBy settings nodes.items) }
 {
@@ -127,7 +127,7 @@ where
     H: Threads + Wait + Sync,
     ghost functions: { List ℕ }
     requires database { batch.source.database.events ≡ J.database_row }
-    requires rows { AreRowsOf J.node_rows 0 rows.items }
+    requires rows { AreRowsOf J.node_histories 0 rows.items }
     requires count { vec_len rows ≡ batch.settings.nodes }
     requires rooms { All (λ row. length row ≡ batch.settings.row_cap) rows.items }
     requires functions { batch.functions ≡ functions }

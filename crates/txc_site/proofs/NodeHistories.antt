@@ -1,5 +1,5 @@
 -- The nodes of a site and their histories, by their numbers.
-use Rattle.std.proofs.Common.{◌≡◌, ℕ, ◌+◌, suc, List, [], ◌∷◌, ◌++◌, get_or, map, All, refl, sym, ap, subst, ◌∙◌, arith}
+use Rattle.std.proofs.Common.{◌≡◌, ℕ, ◌+◌, ◌<◌, zero, suc, Option, List, [], ◌∷◌, ◌++◌, length, get_or, map, All, refl, sym, ap, subst, ◌∙◌, arith}
 use Rattle.std.specs.List.{range_with_len}
 use Rattle.txc_stream.specs.Names.{Name, stored}
 use Rattle.std.proofs.lemmas.List.FromFn.{map-range_with_len_more}
@@ -7,7 +7,7 @@ use Rattle.txc_shared.specs.declared.settings.NodeSettings.{NodeSettings}
 use Rattle.txc_site.specs.declared.plan.Plan.{Plan}
 use Rattle.txc_site.specs.Plans.{settings_of_node}
 use Rattle.txc_site.specs.declared.node_history.NodeHistory.{NodeHistory}
-use Rattle.txc_site.specs.Histories.{AreHistoriesOf, IsNew, history_name}
+use Rattle.txc_site.specs.Histories.{AreHistoriesOf, IsHistoryFor, IsNew, history_name}
 
 -- so many places later
 later_histories : (names : List Name) (name : Name) (n : ℕ) (histories : List NodeHistory) → AreHistoriesOf (λ k. get_or names k (stored [])) n histories
@@ -25,6 +25,14 @@ histories_by_place (x ∷ histories) new = (
   refl,
   later_histories (map history_name histories) (history_name x) 0 histories (histories_by_place histories (λ i d within. new (suc i) d (omega (arith, within)))),
 )
+
+-- each history that is stored so is called as the one at its place
+pub stored_so_by_place : (room : Option ℕ) (histories : List NodeHistory) → All (λ history. IsHistoryFor room (history_name history)) histories
+    → (number : ℕ) → number < length histories → IsHistoryFor room (get_or (map history_name histories) number (stored []))
+stored_so_by_place room [] so number within = absurd (omega (arith, within))
+stored_so_by_place room (x ∷ histories) so zero within = so 0 x within
+stored_so_by_place room (x ∷ histories) so (suc n) within =
+    stored_so_by_place room histories (λ i d less. so (suc i) d (omega (arith, less))) n (omega (arith, within))
 
 -- one history less is left
 pub one_history_less : (named : ℕ → Name) (n m : ℕ) (history : NodeHistory) (rest all : List NodeHistory) → AreHistoriesOf named n all

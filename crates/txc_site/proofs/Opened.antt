@@ -7,6 +7,7 @@ use Rattle.txc_shared.specs.declared.error.NodeError.{NodeError}
 use Rattle.txc_shared.specs.declared.error.NodeError.TheVariants as refusals
 use Rattle.txc_shared.specs.declared.settings.NodeSettings.{NodeSettings}
 use Rattle.txc_shared.specs.Refusals.{IsNewPassRefused, NodeMayRefuse}
+use Rattle.txc_stream.specs.Names.{Name}
 use Rattle.txc_site.specs.declared.error.OpenError.{OpenError}
 use Rattle.txc_site.specs.declared.error.OpenError.TheVariants as opens
 use Rattle.txc_site.specs.declared.error.SiteError.{SiteError}
@@ -17,23 +18,23 @@ use Rattle.txc_site.specs.Plans.{IsPlan}
 use Rattle.txc_site.specs.Sites.{IsClientRefused, IsDatabaseRefused, IsNoPass, IsRegistryRefused, IsSiteRefused}
 
 -- a node that refuses a new pass gives none
-pub no_new_pass : (rows : ℕ → List ℕ) (node : NodeSettings) (error : NodeError) → NodeMayRefuse rows (IsNewPassRefused node) error → IsNoPass error
-no_new_pass rows node refusals.Broken h = tt
-no_new_pass rows node refusals.EmptyRange (n, named, (never, made)) = absurd never
-no_new_pass rows node refusals.HistoryFull (n, named, (never, made)) = absurd never
-no_new_pass rows node refusals.PassesFull h = tt
-no_new_pass rows node refusals.Memory h = tt
+pub no_new_pass : (histories : ℕ → Name) (node : NodeSettings) (error : NodeError) → NodeMayRefuse histories (IsNewPassRefused node) error → IsNoPass error
+no_new_pass histories node refusals.Broken h = tt
+no_new_pass histories node refusals.EmptyRange (n, named, (never, made)) = absurd never
+no_new_pass histories node refusals.HistoryFull (n, named, (never, made)) = absurd never
+no_new_pass histories node refusals.PassesFull h = tt
+no_new_pass histories node refusals.Memory h = tt
 
 -- and so does a client of some node that refuses one
-pub no_pass : (rows : ℕ → List ℕ) (nodes : List NodeSettings) (error : NodeError)
-    → (error ≡ refusals.Memory) ⊎ Any (λ node. NodeMayRefuse rows (IsNewPassRefused node) error) nodes → IsNoPass error
-no_pass rows nodes refusals.Broken h = tt
-no_pass rows nodes refusals.EmptyRange (inl h) = absurd (cc h)
-no_pass rows nodes refusals.EmptyRange (inr (k, node, within, at, h)) = no_new_pass rows node refusals.EmptyRange h
-no_pass rows nodes refusals.HistoryFull (inl h) = absurd (cc h)
-no_pass rows nodes refusals.HistoryFull (inr (k, node, within, at, h)) = no_new_pass rows node refusals.HistoryFull h
-no_pass rows nodes refusals.PassesFull h = tt
-no_pass rows nodes refusals.Memory h = tt
+pub no_pass : (histories : ℕ → Name) (nodes : List NodeSettings) (error : NodeError)
+    → (error ≡ refusals.Memory) ⊎ Any (λ node. NodeMayRefuse histories (IsNewPassRefused node) error) nodes → IsNoPass error
+no_pass histories nodes refusals.Broken h = tt
+no_pass histories nodes refusals.EmptyRange (inl h) = absurd (cc h)
+no_pass histories nodes refusals.EmptyRange (inr (k, node, within, at, h)) = no_new_pass histories node refusals.EmptyRange h
+no_pass histories nodes refusals.HistoryFull (inl h) = absurd (cc h)
+no_pass histories nodes refusals.HistoryFull (inr (k, node, within, at, h)) = no_new_pass histories node refusals.HistoryFull h
+no_pass histories nodes refusals.PassesFull h = tt
+no_pass histories nodes refusals.Memory h = tt
 
 module _ (plan : Plan) (numbers : List ℕ) (sound : IsPlan plan) where
   pub database_so : (error : SiteError) → IsDatabaseRefused error → IsSiteRefused plan numbers error

@@ -5,6 +5,7 @@ use Rattle.txc_registry.specs.Objects.{Objects, HasTwice}
 use Rattle.txc_client.specs.Txn.{ClientValue}
 use Rattle.txc_db.specs.Refusals.{IsWant}
 use Rattle.txc_ports.specs.declared.error.TxnError.{TxnError}
+use Rattle.txc_stream.specs.Names.{Name}
 use Rattle.txc_shared.specs.declared.error.NodeError.{NodeError}
 use Rattle.txc_shared.specs.declared.error.NodeError.TheVariants as refusals
 use Rattle.txc_site.specs.declared.plan.Plan.{Plan}
@@ -12,6 +13,7 @@ use Rattle.txc_site.specs.declared.error.SiteError.{SiteError}
 use Rattle.txc_site.specs.declared.error.SiteError.TheVariants as sites
 use Rattle.txc_site.specs.declared.error.ReadError.{ReadError}
 use Rattle.txc_site.specs.declared.error.ReadError.TheVariants as reads
+use Rattle.txc_site.specs.Histories.{HaveHistoriesBy}
 use Rattle.txc_site.specs.Plans.{nodes_of, IsPlan}
 
 -- a client of a site: the site's plan, the client that reads, and what the objects do that a change calls
@@ -20,10 +22,12 @@ pub record SiteClientValue : Type 0 where
   pub reader : ClientValue
   pub writer : Objects
 
--- the client is new: it has a pass through each node of its site's plan, and has seen none of their records
-pub record IsNewClient (client : SiteClientValue) : Type 0 where
+-- The client is new: it has a pass through each node of its site's plan, and has seen none of their records. Each
+-- of these histories is stored as the plan says, or is not.
+pub record IsNewClient (named : ℕ → Name) (client : SiteClientValue) : Type 0 where
   pub planned : IsPlan client.plan
   pub nodes : map (λ pass. pass.settings) client.reader.passes ≡ nodes_of client.plan
+  pub histories : HaveHistoriesBy client.plan named
   pub unseen : All (λ pass. pass.records ≡ []) client.reader.passes
   pub renew_after : client.reader.renew_after ≡ client.plan.renew_after
 
@@ -44,7 +48,7 @@ IsRegistryRefused numbers (sites.Twice f) = HasTwice f numbers
 IsRegistryRefused numbers sites.Memory = Unit {0}
 IsRegistryRefused numbers error = ⊥
 
--- of the database and the rows of the nodes: the database can't be made; or out of memory
+-- of the database and the histories of the nodes: the database can't be made; or out of memory
 abbrev pub IsDatabaseRefused : SiteError → Type 0
 IsDatabaseRefused (sites.Database cause) = IsWant cause
 IsDatabaseRefused sites.Memory = Unit {0}

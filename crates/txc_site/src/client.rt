@@ -155,8 +155,8 @@ impl<'a, A: App, D: Definition, J: Naming> SiteClient<'a, A, D, J> {
         ensures { MatchOption (slice_get self.now.reader.passes node)
             (result ≡ None)
             (λ pass. MatchOption result
-                (¬ (HasRow (J.node_histories pass.settings.number)))
-                (AreCountsOf pass.records)) }
+            (¬ (HasRow (J.node_histories pass.settings.number)))
+            (AreCountsOf pass.records)) }
     {
         self.reader.counts(node)
     }

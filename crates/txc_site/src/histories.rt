@@ -3,7 +3,7 @@ ghost use Rattle.std.specs.Prelude.{◌≡◌, ◌≤◌, IfErr, IfOk, length, v
 ghost use Rattle.txc_db.specs.Shared.{IsDatabaseOf};
 ghost use Rattle.txc_site.specs.Opened.{IsVisitRefused};
 ghost use Rattle.txc_site.specs.Plans.{IsPlan};
-ghost use Rattle.txc_site.specs.Histories.{AreHistoriesOf};
+ghost use Rattle.txc_site.specs.Histories.{AreHistoriesOf, HaveHistoriesBy};
 ghost use Rattle.txc_site.specs.Sites.{HaveCome};
 
 use crate::application::Application;
@@ -67,6 +67,7 @@ where
     requires database { core.events ≡ J.database_row }
     requires each { vec_len histories ≡ plan.nodes }
     requires histories { AreHistoriesOf J.node_histories 0 histories.items }
+    requires stored_so { HaveHistoriesBy plan J.node_histories }
     ensures each { IfOk result (λ visited. vec_len visited.0 ≡ count) }
     ensures gives { IfOk result (λ visited.
         HaveCome (V.gives visitors.now plan J.database_row) visited.0.items) }

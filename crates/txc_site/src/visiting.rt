@@ -26,7 +26,7 @@ fn client<'a, A: Application<D>, D: Definition, J: Naming>(
     pool: &mut PermitPool,
 ) -> Result<SiteClient<'a, A, D, J>, SiteError>
     ensures plan { IfOk result (λ client. client.plan ≡ foundation.now.plan) }
-    ensures new { IfOk result IsNewClient }
+    ensures new { IfOk result (IsNewClient J.node_histories) }
     ensures reader { IfOk result (λ client. numbers_of client.reader.objects ≡ A.numbers) }
     ensures writer { IfOk result (λ client. numbers_of client.writer ≡ A.numbers) }
     ensures refused { IfErr result (IsClientRefused A.numbers) }
@@ -65,7 +65,8 @@ fn guests<'a, A: Application<D>, D: Definition, J: Naming>(
         map (λ guest. guest.number) guests.items ≡ numbers_below count) }
     ensures plan { IfOk result (λ guests.
         All (λ guest. guest.client.plan ≡ foundation.now.plan) guests.items) }
-    ensures new { IfOk result (λ guests. All (λ guest. IsNewClient guest.client) guests.items) }
+    ensures new { IfOk result (λ guests.
+        All (λ guest. IsNewClient J.node_histories guest.client) guests.items) }
     ensures refused { IfErr result (IsClientRefused A.numbers) }
 {
     let mut guests = Vec::with_capacity(alloc, count)?;
@@ -102,7 +103,7 @@ where
         rt,
         guests,
         &|guest: Guest<SiteClient<'_, A, D, J>>| -> V::Output
-            requires { IsNewClient guest.client }
+            requires { IsNewClient J.node_histories guest.client }
             ensures { V.gives visitors.entry.now guest.entry.client.plan J.database_row
                 guest.entry.number result }
         {

@@ -8,8 +8,8 @@ use txc_app::App;
 use txc_db::Naming;
 use txc_definition::Definition;
 
-/// What is done on each of the threads of a site. It is generic in what names the site's rows, so that nothing
-/// of one site is used with another.
+/// What is done on each of the threads of a site. It is generic in what names the site's histories, so that
+/// nothing of one site is used with another.
 pub trait Visitor<A: App, D: Definition> {
     ghost use Rattle.std.specs.Prelude.{List, ℕ};
     ghost use Rattle.txc_site.specs.declared.plan.Plan.{Plan};
@@ -29,6 +29,6 @@ pub trait Visitor<A: App, D: Definition> {
         client: &mut Option<SiteClient<'_, A, D, J>>,
     ) -> Self::Output
         requires some { IsSome client.old }
-        requires new { IfSome client.old IsNewClient }
+        requires new { IfSome client.old (IsNewClient J.node_histories) }
         ensures { IfSome client.old (λ client. gives self.now client.plan J.database_row number result) };
 }

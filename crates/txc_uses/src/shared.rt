@@ -1,5 +1,6 @@
-//! What stands under locks: a database, its pincushion and a node; and clients and updates over them.
-ghost use Rattle.std.specs.Prelude.{◌≡◌, ◌≤◌, length};
+//! What stands under locks: a database, its pincushion and two nodes; and clients and updates over them.
+ghost use Rattle.std.specs.Prelude.{◌≡◌, ◌≤◌, [], length};
+ghost use Rattle.txc_stream.specs.Names.{stored, unstored};
 ghost use Rattle.txc_registry.specs.Objects.{AllIdle};
 
 use crate::functions::{BOUNDS, functions};
@@ -17,12 +18,19 @@ use txc_rows::Query;
 use txc_rw::RwTxn;
 use txc_shared::{NodePass, NodeSettings, SharedNode, audit, meet};
 use txc_stamp::Stamp;
-use txc_stream::EventRow;
+use txc_stream::{EventRow, Pen};
 use txc_tags::{Key, Table, TagSet};
 use txc_txn::Session;
 
 const SETTINGS: NodeSettings = NodeSettings {
     number: 0,
+    capacity: 64,
+    recent: 16,
+};
+
+/// Those of the node whose history is not stored.
+const OTHERS: NodeSettings = NodeSettings {
+    number: 1,
     capacity: 64,
     recent: 16,
 };
@@ -108,7 +116,11 @@ fn records<J: Naming>(one: &mut NodePass<J>, other: &mut NodePass<J>) -> usize {
         return one.len().max(one.events().len());
     }
     meet(one, other);
-    one.records().len().max(audit(other).events() as usize)
+    let events = match audit(other) {
+        Some(counts) => counts.events() as usize,
+        None => 0,
+    };
+    one.records().len().max(events)
 }
 
 /// The steps of two passes.
@@ -117,8 +129,11 @@ fn step<J: Naming>(rt: &impl Wait, alloc: Global, node: &SharedNode<Program, J>)
     let mut other = node.pass(rt)?;
     let taken = take(rt, alloc, node, &mut one)?;
     find(rt, alloc, node, &mut one, &mut other)?;
-    let room = node.row().capacity().max(taken);
-    Ok(room.max(records(&mut one, &mut other)))
+    let room = match node.row() {
+        Some(row) => row.capacity(),
+        None => 0,
+    };
+    Ok(room.max(taken).max(records(&mut one, &mut other)))
 }
 
 /// Two transactions of a client, the first in a session.
@@ -188,23 +203,29 @@ fn work<J: Naming>(
     Ok(updated.max(client.node_count()))
 }
 
-/// All of it over these rows.
-fn over_rows<J: Naming>(
+/// All of it over these histories.
+fn over_histories<J: Naming>(
     rt: &impl Wait,
     alloc: Global,
     core: DbCore,
     row: EventRow<Record>,
+    pen: Pen<Record>,
 ) -> Result<(DbCore, usize)>
     requires database { core.events ≡ J.database_row }
-    requires node { row ≡ J.node_rows 0 }
+    requires node { stored row ≡ J.node_histories 0 }
+    requires other { unstored pen.number ≡ J.node_histories 1 }
+    requires none { pen.list ≡ [] }
 {
     let database = Database::<J>::new(alloc, core)?;
     let cushion = Pincushion::new(alloc, &database)?;
     let node = SharedNode::<Program, J>::new(alloc, SETTINGS, row, &database)?;
+    let other = SharedNode::<Program, J>::unstored(alloc, OTHERS, pen, &database)?;
     let asked = ask(rt, alloc, &database)?.max(stick(rt, alloc, &database, &cushion)?);
-    let taken = step(rt, alloc, &node)?.max(feed(&database)?);
+    let stepped = step(rt, alloc, &node)?.max(step(rt, alloc, &other)?);
+    let taken = stepped.max(feed(&database)?);
     let mut nodes = Vec::new(alloc);
     nodes.push(node)?;
+    nodes.push(other)?;
     let worked = work(rt, alloc, &database, &cushion, &nodes)?;
     Ok((database.into_core(), asked.max(taken).max(worked)))
 }
@@ -213,5 +234,5 @@ fn over_rows<J: Naming>(
 pub fn shared(rt: &impl Wait, alloc: Global) -> Result<(DbCore, usize)> {
     let core = DbCore::new(alloc, 16)?;
     let row = EventRow::new(alloc, 64)?;
-    over_rows::<Brand>(rt, alloc, core, row)
+    over_histories::<Brand>(rt, alloc, core, row, Pen::new())
 }

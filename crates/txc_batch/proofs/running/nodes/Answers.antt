@@ -13,8 +13,8 @@ loop-row-preserved g c =
     let step = c.in-Some.ensures.steps.0 in
     let more : vec_len c.push.new.self ≡ vec_len nodes + 1 = grind (arith, common_steps, c.in_ok-push.ensures.len) in
     record {
-      rows = subst (λ (n : ℕ). AreRowsOf g.J.Naming.node_rows n c.next.new.self.rest.items) (sym more)
-          (subst (λ (rows : List (List ℕ)). AreRowsOf g.J.Naming.node_rows (vec_len nodes) rows) step before.rows).1;
+      rows = subst (λ (n : ℕ). AreRowsOf g.J.Naming.node_histories n c.next.new.self.rest.items) (sym more)
+          (subst (λ (rows : List (List ℕ)). AreRowsOf g.J.Naming.node_histories (vec_len nodes) rows) step before.rows).1;
       each = grind (arith, common_steps, before.each, more, ap length step);
       made = one_node_more c.args.settings nodes.items c.push.new.self.items c.in_ok-new.field-0 before.made (c.in_ok-new.ensures ∙ numbered c.args.settings c.len-in-loop-row.result (length nodes.items) count) c.in_ok-push.ensures.items;
     }

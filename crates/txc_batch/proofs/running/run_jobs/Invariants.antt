@@ -1,11 +1,12 @@
 use Rattle.std.proofs.Common.{[], get_or}
+use Rattle.txc_stream.specs.Names.{stored}
 use Rattle.txc_batch.proofs.running.run_jobs.Given as goal
 
 -- the row of the database as it stood, and those that were just made
 abbrev pub ghosts-run_over : goal.ghosts-run_over
 ghosts-run_over g a = record {
   database_row = a.batch.source.database.events;
-  node_rows = λ n. get_or a.rows.items n [];
+  node_histories = λ n. stored (get_or a.rows.items n []);
 }
 
 -- those of the batch

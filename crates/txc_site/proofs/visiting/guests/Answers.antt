@@ -16,6 +16,6 @@ loop-number-preserved g c =
           All-same (λ guest. guest.client.plan ≡ c.args.foundation.now.plan) _ _ c.in_ok-push.ensures.items
           (All-push (λ guest. guest.client.plan ≡ c.args.foundation.now.plan) _ _ before.plan client.plan);
       new =
-          All-same (λ guest. IsNewClient guest.client) _ _ c.in_ok-push.ensures.items
-          (All-push (λ guest. IsNewClient guest.client) _ _ before.new client.new);
+          All-same (λ guest. IsNewClient g.J.Naming.node_histories guest.client) _ _ c.in_ok-push.ensures.items
+          (All-push (λ guest. IsNewClient g.J.Naming.node_histories guest.client) _ _ before.new client.new);
     }

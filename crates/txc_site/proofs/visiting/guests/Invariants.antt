@@ -7,5 +7,5 @@ invariant-loop-number g l = record {
   each : vec_len l.guests ≡ l.number;
   numbers : map (λ guest. guest.number) l.guests.items ≡ numbers_below l.number;
   plan : All (λ guest. guest.client.plan ≡ l.foundation.plan) l.guests.items;
-  new : All (λ guest. IsNewClient guest.client) l.guests.items;
+  new : All (λ guest. IsNewClient g.J.Naming.node_histories guest.client) l.guests.items;
 }

@@ -1,5 +1,10 @@
+use Rattle.std.proofs.Common.{◌==◌, if◌then◌else◌}
+use Rattle.txc_stream.specs.Names.{stored, unstored}
 use Rattle.txc_uses.proofs.shared.shared.Given as goal
 
--- the rows that were just made
-abbrev pub ghosts-over_rows : goal.ghosts-over_rows
-ghosts-over_rows g a = record { database_row = a.core.events; node_rows = λ n. a.row }
+-- the row that was just made, and the history of the pen that was
+abbrev pub ghosts-over_histories : goal.ghosts-over_histories
+ghosts-over_histories g a = record {
+  database_row = a.core.events;
+  node_histories = λ n. if n == 0 then stored a.row else unstored a.pen.number;
+}
