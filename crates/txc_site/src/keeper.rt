@@ -131,22 +131,24 @@ fn stations<'a, A: App, J: Naming>(
 
 /// Keeps the node of a station.
 #[tactic(auto, using(crate::proofs::Keeping::same_then))]
-fn keep_node<A: App, J: Naming>(
+fn keep_node<'a, A: App, J: Naming>(
     rt: &impl Wait,
     alloc: Global,
-    station: &mut Station<'_, A, J>,
+    station: Station<'a, A, J>,
     horizon: &Result<Horizon<J>, DbError>,
-) -> KeptNode
-    ensures { HasKeptNode J.node_histories (ok_of horizon.now) station.old result station.new }
+) -> (KeptNode, Station<'a, A, J>)
+    ensures { HasKeptNode J.node_histories (ok_of horizon.now) station.entry result.0 result.1 }
 {
-    let (taken, ended) = advance(rt, alloc, station);
-    let swept = sweep(rt, alloc, station, horizon);
-    KeptNode {
+    let mut station = station;
+    let (taken, ended) = advance(rt, alloc, &mut station);
+    let swept = sweep(rt, alloc, &mut station, horizon);
+    let kept = KeptNode {
         taken,
         ended,
         swept,
         records_left: records_left(station.pass()),
-    }
+    };
+    (kept, station)
 }
 
 /// Pins the present, and gives the pin to the pincushion, with no user. Where that does not take it, its hold
@@ -216,8 +218,8 @@ fn keep_all<'a, A: App, J: Naming>(
     requires room_left { vec_len stations ≤ vec_capacity left }
     ensures { HaveKept J.node_histories (ok_of horizon.now) stations.entry.items result.0.items result.1.items }
 {
-    for mut station in stations {
-        let kept = keep_node(rt, alloc, &mut station, horizon);
+    for station in stations {
+        let (kept, station) = keep_node(rt, alloc, station, horizon);
         nodes.push_reserved(kept);
         left.push_reserved(station);
     }

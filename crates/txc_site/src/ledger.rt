@@ -21,7 +21,6 @@ use txc_cushion::Pincushion;
 use txc_db::{Database, DbCore, DbError, HistoryFront, Naming};
 use txc_registry::{Cacheable, Registry};
 use txc_shared::{NodeError, NodeSettings, SharedNode};
-pub(crate) use update::Update;
 
 /// The database and its pincushion. Only this module and those below it reach them: whoever has a ledger
 /// commits by a [`Committer`], who counts it, and pins, retires and vacuums by values that show it.
