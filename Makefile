@@ -4,11 +4,12 @@
 # make prove: the gate: every proof, every test, and the wrong bodies that break a cache.
 # make edits [CRATE=NAME]: all wrong bodies, also those that `make prove` leaves out for its time.
 # make refusals [TEST=NAME]: every allocation of the tests and of the program, refused in its turn.
+# make soak: 3,000,000 lookups through one node that stores no records, in a process of a fixed size.
 # make docs: the parts of the documents and of the tests that are made by script.
 SCRIPT ?= examples/1_page.txc
 MODE ?=
 
-.PHONY: try run test prove edits refusals docs
+.PHONY: try run test prove edits refusals soak docs
 
 try run:
 	@scripts/$@.py $(if $(MODE),--mode "$(MODE)") $(if $(SETTINGS),--settings "$(SETTINGS)") "$(SCRIPT)"
@@ -24,6 +25,9 @@ edits:
 
 refusals:
 	scripts/refusals.sh $(TEST)
+
+soak:
+	@scripts/soak.py
 
 docs:
 	scripts/docs.py

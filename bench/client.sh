@@ -3,7 +3,7 @@
 # parts of a hit by themselves, at small and large nodes with short and long histories. The program's source lies in
 # bench/client_bench; it is proved and built in a temporary folder, over what is committed.
 #
-# usage: bench/client.sh [--capacities ENTRIES..] [--records RECORDS..] [--times]
+# usage: bench/client.sh [--stored] [--capacities ENTRIES..] [--records RECORDS..] [--times]
 #
 # It prints tables in markdown, of instructions (where valgrind is there) and blocks, and of processor time where `--times` asks
 # for it. bench/client_bench/times.py says what the rows mean.

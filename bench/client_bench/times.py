@@ -2,7 +2,7 @@
 """Measures what a client's calls cost on one thread, and the parts of a hit by themselves, from outside of the program
 client_bench. bench/client.sh runs it.
 
-usage: times.py PROGRAM [--capacities N..] [--records N..] [--times]
+usage: times.py PROGRAM [--stored] [--capacities N..] [--records N..] [--times]
 
 CAPACITIES are the most entries of the node (1024 65536), RECORDS the lengths to which its history and the database's are
 brought (1000 1000000); the entries alone take some of them, so that a short history may be longer. Of each pair there is a
@@ -10,9 +10,9 @@ column: the instructions of one call (by callgrind, where valgrind is there) and
 scripts/refuse.c). Both are the same on a loaded machine. Times are measured only where they are asked for: nanoseconds of
 processor time, the least of seven rounds in which the operations take turns.
 
-The program obeys lines. What a line costs is read before and after it; the same line with the number 0 is taken off, and what
-the beginning of a transaction or the making of a key takes, since these have rows of their own. Last comes a hit beside the
-sum of its parts.
+With --stored the nodes store their records: a hit is then made of more parts. The program obeys lines. What a line costs is
+read before and after it; the same line with the number 0 is taken off, and what the beginning of a transaction or the making
+of a key takes, since these have rows of their own. Last comes a hit beside the sum of its parts.
 
 Two rows say little. By itself the making of a key is left out by the compiler, and so is a front that is lengthened again by
 one that shows no more. So a look-up at a plain node, a record and an answer hold a key each, and the sum holds four. Where the
@@ -80,8 +80,9 @@ DROPPING = {
     "close": Operation("`advance`, of a commit that closes an entry", 160),
 }
 ALL = {**ON_ENTRIES, **DROPPING, **PARTS}
-# how often each part comes in a hit
-HIT = {"key": 1, "find": 1, "touch": 1, "value": 3, "tags": 2, "record": 1, "again": 1, "longer": 3, "lock": 1, "answer": 1}
+# how often each part comes in a hit, and in one of a node that stores its record
+HIT = {"key": 1, "touch": 1, "value": 2, "tags": 1, "again": 1, "longer": 3, "lock": 1, "answer": 1}
+STORED_HIT = {**HIT, "value": 3, "tags": 2, "record": 1}
 
 
 class Run:
@@ -223,14 +224,14 @@ def shown(number):
     return f"{number:,.0f}" if abs(number) >= 100 else f"{number:,.1f}"
 
 
-def table(title, columns):
+def table(title, columns, parts):
     """A row of each operation, and the sum of the parts of a hit; a column of each node and history."""
     heads = [f"{capacity:,} entries, {records:,} records" for capacity, records, _ in columns]
     print(f"\n| {title} | {' | '.join(heads)} |")
     print("|---" * (1 + len(columns)) + "|")
     for name, operation in ALL.items():
         print(f"| {operation.text} | {' | '.join(shown(spent[name]) for *_, spent in columns)} |")
-    sums = [sum(times * spent[part] for part, times in HIT.items()) for *_, spent in columns]
+    sums = [sum(times * spent[part] for part, times in parts.items()) for *_, spent in columns]
     print(f"| the parts of a hit, together | {' | '.join(map(shown, sums))} |")
     ratios = [spent["hit"] / it if it else 0 for (*_, spent), it in zip(columns, sums)]
     print(f"| a hit beside them | {' | '.join(f'{it:.2f}' for it in ratios)} |", flush=True)
@@ -239,10 +240,12 @@ def table(title, columns):
 def main():
     words = argparse.ArgumentParser(usage=__doc__.partition("usage: ")[2].partition("\n")[0])
     words.add_argument("program")
+    words.add_argument("--stored", action="store_true")
     words.add_argument("--capacities", nargs="+", type=int, default=[1_024, 65_536])
     words.add_argument("--records", nargs="+", type=int, default=[1_000, 1_000_000])
     words.add_argument("--times", action="store_true")
     options = words.parse_args()
+    parts = STORED_HIT if options.stored else HIT
     kinds = {"Blocks of one call": Blocks}
     if shutil.which("valgrind"):
         kinds = {"Instructions of one call": Instructions, **kinds}
@@ -253,11 +256,11 @@ def main():
             columns = []
             for capacity in options.capacities:
                 for records in options.records:
-                    run = kind([os.path.abspath(options.program), str(capacity), str(ROOM)], room)
+                    run = kind([os.path.abspath(options.program), str(capacity), str(ROOM), *["stored"] * options.stored], room)
                     columns.append((capacity, *costs(run, capacity, records)))
-            table(title, columns)
-    parts = ", ".join(f"{times} of {ALL[part].text}" for part, times in HIT.items())
-    print(f"\nThe parts of a hit: {parts}.")
+            table(title, columns, parts)
+    of_parts = ", ".join(f"{times} of {ALL[part].text}" for part, times in parts.items())
+    print(f"\nThe parts of a hit: {of_parts}.")
 
 
 if __name__ == "__main__":

@@ -221,11 +221,11 @@ fn keep<'a, J: Naming, R: Wait>(
     Some(keeper)
 }
 
-/// Counts how often the client asked the first node, and how often that had an answer.
-fn count_lookups<J: Naming>(client: &Guest<'_, J>, tally: &mut Tally)
+/// Counts how often the first node was asked by then, and how often that had an answer.
+fn count_lookups<J: Naming, R: Wait>(rt: &R, client: &mut Guest<'_, J>, tally: &mut Tally)
     ensures { tally.new ≡ record tally.old { lookups = tally.new.lookups; hits = tally.new.hits } }
 {
-    let Some(counts) = client.counts(0) else {
+    let Some(counts) = client.node_counts(rt, 0) else {
         return;
     };
     for function in 0..3u8 {
@@ -242,7 +242,7 @@ impl Visitor<Auction, AuctionFunction> for Crowd {
 
     ghost gives = { λ crowd plan row number tally. HasTallied crowd.arguments.pages crowd.arguments tally };
 
-    /// The first visitor keeps the site.
+    /// The first visitor keeps the site, and counts what its first node did.
     fn visit<J: Naming + Send + Sync, R: Wait>(
         &self,
         rt: &R,
@@ -264,7 +264,9 @@ impl Visitor<Auction, AuctionFunction> for Crowd {
             client = self.come(rt, alloc, client, Round { item, now }, &mut tally);
             keeper = keep(rt, alloc, keeper, now, &mut tally);
         }
-        count_lookups(&client, &mut tally);
+        if number == 0 {
+            count_lookups(rt, &mut client, &mut tally);
+        }
         tally.seen = self.see(rt, alloc, client, tally.last);
         tally
     }

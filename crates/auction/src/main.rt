@@ -34,7 +34,6 @@ fn hold<R: Threads + Wait + Sync>(
 {
     let plan = Plan {
         events: 2048,
-        records: Some(16_384),
         ..Plan::DEFAULT
     };
     let crowd = Crowd { arguments };

@@ -1,6 +1,6 @@
 -- The nodes and the clients of a batch, by its settings.
 use Rattle.std.specs.Prelude.{◌≡◌, ℕ, ◌<◌, List, Some, All, length, map, slice_get}
-use Rattle.txc_stream.specs.Names.{Name, stored, unstored}
+use Rattle.txc_stream.specs.Names.{Name, stored}
 use Rattle.txc_settings.specs.declared.settings.Settings.{Settings}
 use Rattle.txc_shared.specs.declared.settings.NodeSettings.{NodeSettings}
 use Rattle.txc_client.specs.Txn.{ClientValue}
@@ -15,14 +15,10 @@ pub record AreNodesBy (s : Settings) (nodes : List NodeSettings) : Type 0 where
   pub count : length nodes ≡ s.nodes
   pub each : (number : ℕ) (node : NodeSettings) → slice_get nodes number ≡ Some node → node ≡ node_by s number
 
--- the history is stored in a row with room for so many records
-abbrev pub IsStoredFor : ℕ → Name → Type 0
-IsStoredFor room (stored cells) = length cells ≡ room
-IsStoredFor room (unstored number) = ⊥
-
--- the history of each node is stored with as much room as there is to be
+-- the history of each node is stored, in a row with room for so many records
 abbrev pub HaveRoomsBy : Settings → (ℕ → Name) → Type 0
-HaveRoomsBy s node_histories = (number : ℕ) → number < s.nodes → IsStoredFor s.row_cap (node_histories number)
+HaveRoomsBy s node_histories = (number : ℕ) → number < s.nodes
+    → (row : List ℕ) × (node_histories number ≡ stored row) × (length row ≡ s.row_cap)
 
 -- as many clients as there are to be workers; each has a pass through each of the nodes, whose histories are these,
 -- and renews a pin after that time

@@ -1,6 +1,6 @@
 -- What one call through a pass leaves of all passes.
 use Rattle.txc_stream.specs.Names.{Name}
-use Rattle.std.proofs.Common.{◌≡◌, ℕ, ◌<◌, List, length, get_or, set, Option, Some, None, Result, Ok, Err, IfOk, IfErr, refl, sym, subst, inl, inr}
+use Rattle.std.proofs.Common.{◌≡◌, ℕ, ◌<◌, List, length, get_or, set, Option, Some, None, Result, Ok, Err, IfOk, OnOk, IfErr, refl, sym, subst, inl, inr}
 use Rattle.std.specs.Option.{option_map}
 use Rattle.std.proofs.lemmas.Option.{slice_get_read}
 use Rattle.txc_tags.specs.Keys.{Call}
@@ -9,11 +9,12 @@ use Rattle.txc_node.specs.declared.entry.Entry.{Entry}
 use Rattle.txc_node.specs.declared.hit.Shown.{Shown}
 use Rattle.txc_node.specs.declared.op.Op.TheVariants.{Lookup}
 use Rattle.txc_node.specs.declared.reply.Reply.TheVariants.{Hit}
+use Rattle.txc_node.specs.Counts.{Totals, AreCountsOf}
 use Rattle.txc_shared.specs.declared.error.NodeError.{NodeError}
 use Rattle.txc_shared.specs.declared.insertion.Insertion.{Insertion}
-use Rattle.txc_shared.specs.Passes.{PassValue, shown_of_entry, HasFound, HasGrown, HasInserted, HasMade, IsPassLeft}
-use Rattle.txc_shared.specs.Refusals.{IsLookupRefused, IsRefusedThrough, IsStepRefused, NodeMayRefuse}
-use Rattle.txc_client.specs.Ports.{InsertLeaves, IsCallAt, LookupLeaves}
+use Rattle.txc_shared.specs.Passes.{PassValue, shown_of_entry, GrowsByOthers, HasFound, HasGrown, HasInserted, HasMade, IsPassLeft}
+use Rattle.txc_shared.specs.Refusals.{IsCountRefused, IsLookupRefused, IsRefusedThrough, IsStepRefused, NodeMayRefuse}
+use Rattle.txc_client.specs.Ports.{CountsLeave, InsertLeaves, IsCallAt, LookupLeaves}
 
 pub called_at : (ps : List PassValue) (node : ℕ) (call : PassValue → PassValue → Type 0) (old new : PassValue) → node < length ps → old ≡ get_or ps node old
     → HasGrown old new → call old new → IsCallAt node call ps (set ps node new)
@@ -49,3 +50,19 @@ module _ (node_histories : ℕ → Name) (old new : PassValue) where
       → IfErr r (NodeMayRefuse node_histories (λ n. IsRefusedThrough IsStepRefused n old)) → InsertLeaves node_histories entry old new
   inserted entry (Ok insertion) made left refused = inl (insertion, made)
   inserted entry (Err e) made left refused = inr (record { error = e; reason = refused; left = left })
+
+  -- counts, by what they return
+  pub counted : (r : Result Totals NodeError) (counts : Totals) → r ≡ Ok counts → OnOk r (GrowsByOthers old.pass old.records new.records)
+      → IfOk r (AreCountsOf new.records) → CountsLeave node_histories (Some counts) old new
+  counted r counts is others right = (
+    subst (λ (q : Result Totals NodeError). OnOk q (GrowsByOthers old.pass old.records new.records)) is others,
+    subst (λ (q : Result Totals NodeError). IfOk q (AreCountsOf new.records)) is right,
+  )
+
+  pub count_refused : (r : Result Totals NodeError) (e : NodeError) → r ≡ Err e → IfErr r (IsPassLeft (node_histories old.settings.number) old new)
+      → IfErr r (NodeMayRefuse node_histories (λ n. IsRefusedThrough IsCountRefused n old)) → CountsLeave node_histories None old new
+  count_refused r e is left refused = record {
+    error = e;
+    reason = subst (λ (q : Result Totals NodeError). IfErr q (NodeMayRefuse node_histories (λ n. IsRefusedThrough IsCountRefused n old))) is refused;
+    left = subst (λ (q : Result Totals NodeError). IfErr q (IsPassLeft (node_histories old.settings.number) old new)) is left;
+  }

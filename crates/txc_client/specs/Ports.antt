@@ -8,11 +8,12 @@ use Rattle.txc_node.specs.declared.hit.Shown.{Shown}
 use Rattle.txc_node.specs.declared.op.Op.TheVariants.{Lookup}
 use Rattle.txc_node.specs.declared.reply.Reply.{Reply}
 use Rattle.txc_node.specs.declared.reply.Reply.TheVariants.{Hit, Miss}
+use Rattle.txc_node.specs.Counts.{Totals, AreCountsOf}
 use Rattle.txc_shared.specs.declared.error.NodeError.{NodeError}
 use Rattle.txc_shared.specs.declared.insertion.Insertion.{Insertion}
 use Rattle.txc_shared.specs.Nodes.{NodeValue}
-use Rattle.txc_shared.specs.Passes.{PassValue, HasGrown, HasInserted, HasMade, IsPassLeft}
-use Rattle.txc_shared.specs.Refusals.{IsLookupRefused, IsRefusedThrough, IsStepRefused, NodeMayRefuse}
+use Rattle.txc_shared.specs.Passes.{PassValue, GrowsByOthers, HasGrown, HasInserted, HasMade, IsPassLeft}
+use Rattle.txc_shared.specs.Refusals.{IsCountRefused, IsLookupRefused, IsRefusedThrough, IsStepRefused, NodeMayRefuse}
 use Rattle.txc_ports.specs.Exchanges.{Exchange}
 use Rattle.txc_ports.specs.Exchanges as exchanges
 
@@ -52,6 +53,12 @@ LookupLeaves node_histories key lo hi found old new = HasMade old new (Lookup ke
 abbrev pub InsertLeaves : (ℕ → Name) → Entry → PassValue → PassValue → Type 0
 InsertLeaves node_histories entry old new = ((insertion : Insertion) × HasInserted old new entry insertion)
     ⊎ IsCallRefused node_histories IsStepRefused old new
+
+-- the counts of all records of the node, which the pass was shown; or it was refused, and nothing was counted
+abbrev pub CountsLeave : (ℕ → Name) → Option Totals → PassValue → PassValue → Type 0
+CountsLeave node_histories (Some counts) old new =
+    GrowsByOthers old.pass old.records new.records × AreCountsOf new.records counts
+CountsLeave node_histories None old new = IsCallRefused node_histories IsCountRefused old new
 
 -- What an exchange leaves of the passes. A lookup is one lookup at the node that is named, of this call at these
 -- stamps; an insertion is one insertion of this entry there; and any other leaves every pass as it was.

@@ -10,6 +10,7 @@ ghost use Rattle.txc_shared.specs.Refusals.{IsNewPassRefused, NodeMayRefuse};
 ghost use Rattle.txc_registry.specs.Objects.{Objects};
 ghost use Rattle.txc_txn.specs.Core.{value_of, CoreHolds, IsCore, IsIdle};
 ghost use Rattle.txc_txn.specs.Kept.{IsTxn};
+ghost use Rattle.txc_client.specs.Ports.{CountsLeave, HaveGrown, IsCallAt};
 ghost use Rattle.txc_client.specs.Txn.{client_of};
 
 use crate::ports::Ports;
@@ -180,13 +181,28 @@ impl<'a, A: App, C: Cacheable, J: Naming> Client<'a, A, C, J> {
         ensures { MatchOption (slice_get self.now.passes node)
             (result ≡ None)
             (λ pass. MatchOption result
-                (¬ (HasRow (J.node_histories pass.settings.number)))
-                (AreCountsOf pass.records)) }
+            (¬ (HasRow (J.node_histories pass.settings.number)))
+            (AreCountsOf pass.records)) }
     {
         if node >= self.ports.len() {
             return None;
         }
         audit(self.ports.pass(node))
+    }
+
+    /// The counts of all records of a node, stored or not, which its pass is shown; none where there is no such
+    /// node, or it refuses. It takes the node's lock, and no memory.
+    pub fn node_counts(&mut self, rt: &impl Wait, node: usize) -> Option<Counts>
+        ensures same { self.new ≡ record self.old { passes = self.new.passes } }
+        ensures passes { HaveGrown self.old.passes self.new.passes }
+        ensures none { length self.old.passes ≤ node → (result ≡ None) × (self.new ≡ self.old) }
+        ensures left { node < length self.old.passes
+            → IsCallAt node (CountsLeave J.node_histories result) self.old.passes self.new.passes }
+    {
+        if node >= self.ports.len() {
+            return None;
+        }
+        self.ports.node_counts(rt, node)
     }
 }
 

@@ -9,7 +9,7 @@ use std::sync::Wait;
 use txc_app::App;
 use txc_cushion::Pincushion;
 use txc_db::{Answered, Database, HistoryFront, Naming};
-use txc_node::{Entry, Shown};
+use txc_node::{Counts, Entry, Shown};
 use txc_ports::{PortReply, PortRequest};
 use txc_shared::{Finding, NodeError, NodePass, SharedNode};
 use txc_stamp::Stamp;
@@ -40,7 +40,7 @@ impl<'a, A: App, J: Naming> Model for Ports<'a, A, J> {
 
 impl<'a, A: App, J: Naming> Ports<'a, A, J> {
     ghost use Rattle.txc_app.specs.Claims.{IsTrueIn, entry_shown};
-    ghost use Rattle.txc_client.specs.Ports.{HaveGrown, InsertLeaves, IsCallAt, LookupLeaves, PassesAfter};
+    ghost use Rattle.txc_client.specs.Ports.{CountsLeave, HaveGrown, InsertLeaves, IsCallAt, LookupLeaves, PassesAfter};
     ghost use Rattle.txc_client.specs.Run.{IsToldSo};
     ghost use Rattle.txc_ports.specs.Asking.{IsOfRow, IsReplyTo, MayAsk};
     ghost use Rattle.txc_ports.specs.Exchanges.{IsExchange};
@@ -82,6 +82,20 @@ impl<'a, A: App, J: Naming> Ports<'a, A, J> {
         ensures { result.now ≡ get_or self.now node result.now }
     {
         &self.passes[node]
+    }
+
+    /// The counts of all records of a node. A node that refuses counts nothing.
+    pub(crate) fn node_counts(&mut self, rt: &impl Wait, node: usize) -> Option<Counts>
+        requires { node < length self.old }
+        ensures passes { HaveGrown self.old self.new }
+        ensures left { IsCallAt node (CountsLeave J.node_histories result) self.old self.new }
+    {
+        let nodes = self.nodes;
+        let pass = &mut self.passes[node];
+        match pass.node_counts(rt, &nodes[node]) {
+            Ok(counts) => Some(counts),
+            Err(_) => None,
+        }
     }
 
     // What the node has of the call. A node that refuses has nothing.

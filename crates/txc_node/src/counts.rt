@@ -163,6 +163,19 @@ impl Counts {
         }
     }
 
+    /// A second one that shows the same. It takes no memory.
+    pub fn again(&self) -> Counts
+        ensures { result ≡ self.now }
+    {
+        Counts {
+            functions: self.functions,
+            replies: self.replies,
+            events: self.events,
+            closed: self.closed,
+            swept: self.swept,
+        }
+    }
+
     /// Counts a reply, to a step of that function, if it is of one. It takes no memory.
     pub fn count<H>(&mut self, function: Option<u8>, reply: &Reply<H>)
         requires function { IfSome function (λ f. f ≤ LAST_FUNCTION) }

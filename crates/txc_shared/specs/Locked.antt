@@ -2,7 +2,10 @@
 use Rattle.std.specs.Prelude.{◌≡◌, ℕ, ◌+◌, ◌^◌, ◌<◌, false, List, length}
 use mathlib.Core.List.{IsPrefix}
 use Rattle.txc_stream.specs.Names.{Name, HasRow}
+use Rattle.txc_node.specs.declared.hit.Shown.{Shown}
 use Rattle.txc_node.specs.declared.record.Record.{Record}
+use Rattle.txc_node.specs.declared.reply.Reply.{Reply}
+use Rattle.txc_node.specs.Counts.{own_counts, dropped_function, events_by, closed_by, swept_by}
 use Rattle.txc_shared.specs.declared.error.NodeError.{NodeError}
 use Rattle.txc_shared.specs.declared.error.NodeError.TheVariants.{HistoryFull, Memory}
 use Rattle.txc_shared.specs.declared.prepared.Prepared.{Prepared}
@@ -46,6 +49,14 @@ Suits name (Unstored draft) = ¬ (HasRow name)
 abbrev pub AwaitsReply : Record → Prepared → Type 0
 AwaitsReply r (Stored next) = record next.value { reply = r.reply } ≡ r
 AwaitsReply r (Unstored draft) = draft.value ≡ r
+
+-- both replies count alike, whatever a hit shows
+pub record DoCountAlike {H : Type 0} (one : Reply H) (other : Reply Shown) : Type 0 where
+  pub own : own_counts one ≡ own_counts other
+  pub dropped : dropped_function one ≡ dropped_function other
+  pub events : events_by one ≡ events_by other
+  pub closed : closed_by one ≡ closed_by other
+  pub swept : swept_by one ≡ swept_by other
 
 -- no record can be appended: the history is full, or has as many records as are counted
 abbrev pub IsRoomRefused : Name → List Record → NodeError → Type 0

@@ -33,6 +33,11 @@ IsLookupRefused n lo hi Broken = (n.broken ≡ true) ⊎ (MayBeForestalled n × 
 IsLookupRefused n lo hi EmptyRange = (n.broken ≡ false) × (hi < lo)
 IsLookupRefused n lo hi e = IsStepRefused n e × (lo ≤ hi)
 
+-- of counts: broken
+abbrev pub IsCountRefused : NodeValue → NodeError → Type 0
+IsCountRefused n Broken = n.broken ≡ true
+IsCountRefused n e = ⊥
+
 -- of a pass: broken, or too many passes; and then out of memory
 abbrev pub IsPassRefused : NodeValue → NodeError → Type 0
 IsPassRefused n Broken = n.broken ≡ true

@@ -4,10 +4,11 @@ ghost use Rattle.std.specs.Option.{option_map};
 ghost use mathlib.Core.List.{IsPrefix};
 ghost use Rattle.txc_node.specs.declared.op.Op.TheVariants.{Lookup, Insert, Sweep};
 ghost use Rattle.txc_node.specs.declared.reply.Reply.TheVariants.{Swept};
+ghost use Rattle.txc_node.specs.Counts.{AreCountsOf};
 ghost use Rattle.txc_app.specs.Claims.{IsTrueIn};
 ghost use Rattle.txc_shared.specs.Nodes.{NodeValue, IsHistoryFull, after_call, seeing, HasAdvanced};
-ghost use Rattle.txc_shared.specs.Passes.{PassValue, HasGrown, HasSeen, DoAgree, HasFound, HasMade, HasInserted, HasTaken, IsPassLeft};
-ghost use Rattle.txc_shared.specs.Refusals.{IsLookupRefused, IsStepRefused, IsNodeLeft, IsRefusedThrough, IsNewPassRefused};
+ghost use Rattle.txc_shared.specs.Passes.{PassValue, HasGrown, HasSeen, DoAgree, GrowsByOthers, HasFound, HasMade, HasInserted, HasTaken, IsPassLeft};
+ghost use Rattle.txc_shared.specs.Refusals.{IsLookupRefused, IsStepRefused, IsCountRefused, IsNodeLeft, IsRefusedThrough, IsNewPassRefused};
 ghost use Rattle.txc_shared.specs.Locked.{IsAhead, IsAdmitted, LiesUnderLock};
 
 use crate::advanced::Advanced;
@@ -23,7 +24,7 @@ use std::alloc::Global;
 use std::marker::Model;
 use txc_app::App;
 use txc_db::{Event, Feed, HistoryFront, Naming};
-use txc_node::{Entry, Record};
+use txc_node::{Counts, Entry, Record};
 use txc_stamp::Stamp;
 use txc_stream::{prefix_of_itself, prefix_of_prefix};
 use txc_tags::Key;
@@ -155,6 +156,27 @@ impl<A: App, J: Naming> Held<A, J> {
         let events = self.node.seen().again()?;
         let pass = self.node.pass()?;
         Ok(NodePass::new(settings, pass, records, events))
+    }
+
+    /// The counts of the node's records, which it shows to the pass.
+    pub(crate) fn node_counts(&mut self, pass: &mut NodePass<J>) -> Result<Counts, NodeError>
+        ensures named { self.old.name ≡ J.node_histories self.old.settings.number }
+        ensures after { OnOk result (self.new ≡ self.old) }
+        ensures unchanged { IfErr result (IsNodeLeft self.old self.new) }
+        ensures refused { IfErr result (IsRefusedThrough IsCountRefused self.old pass.old) }
+        ensures longer { HasGrown pass.old pass.new }
+        ensures shown { OnOk result (pass.new.records ≡ self.new.records) }
+        ensures others { OnOk result (GrowsByOthers pass.old.pass pass.old.records pass.new.records) }
+        ensures counts { IfOk result (AreCountsOf pass.new.records) }
+        ensures left { IfErr result (IsPassLeft (J.node_histories pass.old.settings.number) pass.old pass.new) }
+    {
+        self.admit(pass)?;
+        let Some(counts) = self.node.counts() else {
+            unreachable!();
+        };
+        let counts = counts.again();
+        self.show(pass);
+        Ok(counts)
     }
 
     /// Looks up the call of `key` at the stamps from `lo` to `hi`, both included.

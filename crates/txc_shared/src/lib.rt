@@ -3,6 +3,7 @@
 #![tactic(auto)]
 
 mod advanced;
+mod counting;
 mod error;
 mod finding;
 mod held;

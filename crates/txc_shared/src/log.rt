@@ -6,20 +6,22 @@ ghost use Rattle.txc_node.specs.declared.hit.Shown.{Shown};
 ghost use Rattle.txc_node.specs.declared.reply.Reply.{Reply};
 ghost use Rattle.txc_shared.specs.Histories.{records_of, next_record};
 ghost use Rattle.txc_shared.specs.Nodes.{NodeFrontValue};
-ghost use Rattle.txc_node.specs.declared.op.Op.TheVariants.{Insert, Event};
+ghost use Rattle.txc_node.specs.declared.op.Op.TheVariants.{Insert, Lookup, Event};
 ghost use Rattle.txc_shared.specs.Locked.{record_in, Suits, AwaitsReply, IsRoomRefused, CanGrow};
 
 use crate::error::NodeError;
 use crate::history::History;
 use crate::node_front::NodeFront;
-use crate::planned::{AsEvent, AsInsertion, AsPlanned, Insertable, Planned, Takeable};
+use crate::planned::{
+    AsEvent, AsInsertion, AsLookup, AsPlanned, Askable, Insertable, Planned, Takeable,
+};
 use crate::prepared::Prepared;
 use std::alloc::{AllocError, Global};
 use std::marker::Model;
 use txc_node::{Entry, NodeCore, Op, Record, Reply};
 use txc_stamp::Stamp;
 use txc_stream::Draft;
-use txc_tags::TagSet;
+use txc_tags::{Key, TagSet};
 
 /// The most passes of a node.
 pub const MAX_PASSES: usize = 4_096;
@@ -161,6 +163,53 @@ impl Log {
             Ok(Prepared::Stored(self.boxed(alloc, pass, op)?))
         } else {
             Ok(Prepared::Unstored(self.draft(pass, &op, core)))
+        }
+    }
+
+    // The record of a lookup, in the proofs alone. There is nothing to run.
+    fn draft_lookup(
+        &self,
+        pass: usize,
+        key: &Key,
+        lo: Stamp,
+        hi: Stamp,
+        core: &NodeCore,
+    ) -> Draft<Record>
+        requires { pass < self.now.passes }
+        ensures { result.value
+            ≡ next_record pass self.now.records (Lookup key.now lo hi) (step_reply core.now (Lookup key.now lo hi)) }
+    {
+        let askable = Askable {
+            pass,
+            turn: self.turn(pass),
+            key,
+            lo,
+            hi,
+            core,
+        };
+        Draft::of::<Askable<'_>, AsLookup>(&askable)
+    }
+
+    /// The record of a lookup that the cache is to make. Only a stored one takes memory.
+    pub(crate) fn prepare_lookup(
+        &self,
+        alloc: Global,
+        pass: usize,
+        key: &Key,
+        lo: Stamp,
+        hi: Stamp,
+        core: &NodeCore,
+    ) -> Result<Prepared, AllocError>
+        requires { pass < self.now.passes }
+        ensures suits { IfOk result (Suits self.now.name) }
+        ensures awaits { IfOk result (AwaitsReply
+            (next_record pass self.now.records (Lookup key.now lo hi) (step_reply core.now (Lookup key.now lo hi)))) }
+    {
+        if self.front().is_stored() {
+            let key = key.copy();
+            Ok(Prepared::Stored(self.boxed(alloc, pass, Op::Lookup { key, lo, hi })?))
+        } else {
+            Ok(Prepared::Unstored(self.draft_lookup(pass, key, lo, hi, core)))
         }
     }
 

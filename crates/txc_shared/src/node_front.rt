@@ -95,16 +95,17 @@ impl NodeFront {
         &self.front
     }
 
-    /// One of the records that it shows, where they are stored.
-    pub fn get(&self, at: usize) -> &Record
-        requires stored { HasRow self.now.name }
-        requires shown { at < length self.now.records }
-        ensures { slice_get self.now.records at ≡ Some result.now }
+    /// One of the records that it shows; none where they are not stored.
+    pub fn get(&self, at: usize) -> Option<&Record>
+        requires { at < length self.now.records }
+        ensures { MatchOption result
+            (¬ (HasRow self.now.name))
+            (λ step. slice_get self.now.records at ≡ Some step.now) }
     {
-        let Some(row) = &self.row else {
-            unreachable!();
-        };
-        row.get(&self.front, at)
+        match &self.row {
+            Some(row) => Some(row.get(&self.front, at)),
+            None => None,
+        }
     }
 
     /// How many records it shows.

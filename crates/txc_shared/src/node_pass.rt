@@ -1,7 +1,7 @@
 //! What a caller has seen of a node.
 ghost use Rattle.std.specs.Prelude.{◌≡◌, ◌+◌, ◌<◌, ◌≤◌, ◌⊎◌, [], ℕ, take, length, MatchOption};
 ghost use mathlib.Core.List.{IsPrefix};
-ghost use Rattle.txc_stream.specs.Names.{HasRow};
+ghost use Rattle.txc_stream.specs.Names.{stored, HasRow};
 ghost use Rattle.txc_node.specs.Counts.{AreCountsOf};
 ghost use Rattle.txc_shared.specs.Histories.{records_of, IsLegal};
 ghost use Rattle.txc_shared.specs.Nodes.{start_of};
@@ -13,7 +13,7 @@ use crate::settings::NodeSettings;
 use std::marker::{Model, PhantomData};
 use txc_db::{HistoryFront, Naming};
 use txc_node::{Counts, Record};
-use txc_stream::{Front, prefix_of_itself, prefix_of_prefix};
+use txc_stream::{EventRow, Front, prefix_of_itself, prefix_of_prefix};
 
 /// What a caller has seen of a node: a legal history of its records, and what they name of the database's
 /// history.
@@ -171,20 +171,18 @@ pub fn audit<J: Naming>(pass: &NodePass<J>) -> Option<Counts>
         (AreCountsOf pass.now.records) }
 {
     let records = pass.records();
-    if !records.is_stored() {
-        return None;
-    }
-    Some(count_records(records))
+    let row = records.row()?;
+    Some(count_records(row, records.front()))
 }
 
-// The counts of the records that a front shows.
-fn count_records(records: &NodeFront) -> Counts
-    requires { HasRow records.now.name }
-    ensures { AreCountsOf records.now.records result }
+// The counts of the records that a front of the row shows.
+fn count_records(row: &EventRow<Record>, front: &Front<Record>) -> Counts
+    requires { front.now.name ≡ stored row.now }
+    ensures { AreCountsOf front.now.list result }
 {
     let mut counts = Counts::new();
-    for at in 0..records.len() {
-        counts.add(records.get(at));
+    for at in 0..front.len() {
+        counts.add(row.get(front, at));
     }
     counts
 }

@@ -5,7 +5,7 @@ ghost use Rattle.txc_shared.specs.Planned.{planned_record};
 use txc_node::{Entry, NodeCore, Op, Record};
 use txc_stamp::Stamp;
 use txc_stream::Drafts;
-use txc_tags::TagSet;
+use txc_tags::{Key, TagSet};
 
 /// A step of a pass, and the cache that is to make it.
 #[derive(Drop)]
@@ -21,6 +21,26 @@ pub(crate) struct AsPlanned;
 
 impl<'a> Drafts<Planned<'a>, Record> for AsPlanned {
     ghost record_of = { λ p. planned_record p.pass p.turn p.op.now p.core.now };
+}
+
+/// A lookup of a pass, of a call that is not copied.
+#[derive(Drop)]
+pub(crate) struct Askable<'a> {
+    pub(crate) pass: usize,
+    pub(crate) turn: usize,
+    pub(crate) key: &'a Key,
+    pub(crate) lo: Stamp,
+    pub(crate) hi: Stamp,
+    pub(crate) core: &'a NodeCore,
+}
+
+/// The record of a lookup.
+pub(crate) struct AsLookup;
+
+impl<'a> Drafts<Askable<'a>, Record> for AsLookup {
+    ghost use Rattle.txc_node.specs.declared.op.Op.TheVariants.{Lookup};
+
+    ghost record_of = { λ p. planned_record p.pass p.turn (Lookup p.key.now p.lo p.hi) p.core.now };
 }
 
 /// An insertion of a pass, of an entry that is not copied.

@@ -5,11 +5,12 @@ ghost use mathlib.Core.List.{IsPrefix};
 ghost use Rattle.txc_stream.specs.Names.{stored, unstored, HasRow};
 ghost use Rattle.txc_node.specs.declared.op.Op.TheVariants.{Lookup, Sweep};
 ghost use Rattle.txc_node.specs.declared.reply.Reply.TheVariants.{Swept};
+ghost use Rattle.txc_node.specs.Counts.{AreCountsOf};
 ghost use Rattle.txc_app.specs.Claims.{IsTrueIn};
 ghost use Rattle.txc_shared.specs.Histories.{IsLegal};
 ghost use Rattle.txc_shared.specs.Nodes.{start_of};
-ghost use Rattle.txc_shared.specs.Passes.{HasGrown, HasFound, HasMade, HasInserted, HasTaken, IsPassLeft};
-ghost use Rattle.txc_shared.specs.Refusals.{IsLookupRefused, IsStepRefused, IsRefusedThrough, IsNewPassRefused, NodeMayRefuse};
+ghost use Rattle.txc_shared.specs.Passes.{HasGrown, GrowsByOthers, HasFound, HasMade, HasInserted, HasTaken, IsPassLeft};
+ghost use Rattle.txc_shared.specs.Refusals.{IsLookupRefused, IsStepRefused, IsCountRefused, IsRefusedThrough, IsNewPassRefused, NodeMayRefuse};
 
 use crate::advanced::Advanced;
 use crate::error::NodeError;
@@ -26,7 +27,7 @@ use std::marker::Model;
 use std::sync::{Mutex, Wait};
 use txc_app::App;
 use txc_db::{Database, HistoryFront, Naming};
-use txc_node::{Entry, MAX_CAPACITY, MAX_RECENT, Record};
+use txc_node::{Counts, Entry, MAX_CAPACITY, MAX_RECENT, Record};
 use txc_stamp::Stamp;
 use txc_stream::{EventRow, Pen};
 use txc_tags::Key;
@@ -131,6 +132,25 @@ impl<A: App, J: Naming> SharedNode<A, J> {
 }
 
 impl<J: Naming> NodePass<J> {
+    /// The counts of all records of the node, stored or not, which it shows to the pass. It takes no memory.
+    pub fn node_counts<A: App>(
+        &mut self,
+        rt: &impl Wait,
+        node: &SharedNode<A, J>,
+    ) -> Result<Counts, NodeError>
+        ensures longer { HasGrown self.old self.new }
+        ensures legal { IsLegal self.new.history (start_of self.new.settings) self.new.records }
+        ensures others { OnOk result (GrowsByOthers self.old.pass self.old.records self.new.records) }
+        ensures counts { IfOk result (AreCountsOf self.new.records) }
+        ensures left { IfErr result (IsPassLeft (J.node_histories self.old.settings.number) self.old self.new) }
+        ensures refused { IfErr result
+            (NodeMayRefuse J.node_histories (λ n. IsRefusedThrough IsCountRefused n self.old)) }
+    {
+        let counts = node.lock.lock(rt).node_counts(self);
+        self.is_legal();
+        counts
+    }
+
     /// Looks up the call of `key` at the stamps from `lo` to `hi`, both included. What it finds is true in
     /// the history of the front beside it.
     pub fn lookup<A: App>(

@@ -1,8 +1,9 @@
 //! The node for one thread, which its lock holds too.
-ghost use Rattle.std.specs.Prelude.{◌≡◌, ◌+◌, ◌<◌, ◌≤◌, ◌⊎◌, ◌↔◌, ◌++◌, ◌∷◌, [], true, false, length, Some, None, Ok, Err, IsOk, IfOk, OnOk, OnErr, IfErr, IfSome, IsTrue};
+ghost use Rattle.std.specs.Prelude.{◌≡◌, ◌+◌, ◌<◌, ◌≤◌, ◌⊎◌, ◌↔◌, ◌++◌, ◌∷◌, [], true, false, length, Some, None, Ok, Err, IsOk, IfOk, OnOk, OnErr, IfErr, IfSome, IsTrue, MatchOption};
 ghost use Rattle.txc_stream.specs.Names.{stored, unstored};
 ghost use Rattle.std.specs.Option.{option_map};
 ghost use Rattle.txc_node.specs.Cache.{lookup_answer, outcome, swept_count};
+ghost use Rattle.txc_node.specs.Counts.{AreCountsOf};
 ghost use Rattle.txc_node.specs.declared.op.Op.TheVariants.{Insert, Lookup, Sweep};
 ghost use Rattle.txc_app.specs.Claims.{IsTrueIn, entry_shown};
 ghost use Rattle.txc_shared.specs.Nodes.{NodeValue, start_of, after_call, seeing, IsLonger, HasTags, insertion_of, HasAdvanced, HasTakenAll};
@@ -12,6 +13,7 @@ ghost use Rattle.txc_shared.specs.Refusals.{CanRecord, IsStepRefused, IsLookupRe
 ghost use Rattle.txc_shared.specs.Locked.{IsRoomRefused, CanGrow};
 
 use crate::advanced::Advanced;
+use crate::counting::{count_step, reply_without_copies};
 use crate::error::NodeError;
 use crate::finding::Finding;
 use crate::history::History;
@@ -25,7 +27,7 @@ use std::marker::{Model, PhantomData};
 use txc_app::App;
 use txc_app::laws::true_entries_stay;
 use txc_db::{HistoryFront, states_stay};
-use txc_node::{Entry, MAX_CAPACITY, MAX_RECENT, NodeCore, Op, Record, Reply};
+use txc_node::{Counts, Entry, MAX_CAPACITY, MAX_RECENT, NodeCore, Op, Record, Reply};
 use txc_stamp::Stamp;
 use txc_stream::{EventRow, Pen};
 use txc_tags::{Key, TagSet};
@@ -40,12 +42,15 @@ pub struct StoredNode<A: App> {
     settings: NodeSettings,
     core: NodeCore,
     log: Log,
+    counts: Counts,
     seen: HistoryFront,
     broken: bool,
     of: PhantomData<A>,
 }
 
 impl<A: App> Model for StoredNode<A> {
+    ghost use Rattle.std.specs.Prelude.{◌≡◌, false};
+    ghost use Rattle.txc_node.specs.Counts.{AreCountsOf};
     ghost use Rattle.txc_shared.specs.Runs.{IsNode};
     ghost use Rattle.txc_shared.specs.Nodes.{NodeValue, start_of};
 
@@ -62,7 +67,8 @@ impl<A: App> Model for StoredNode<A> {
     } };
 
     ghost invariant = { λ n.
-        IsNode A.next n.seen.history (start_of n.settings) n.log.records n.core n.broken };
+        IsNode A.next n.seen.history (start_of n.settings) n.log.records n.core n.broken
+        × (n.broken ≡ false → AreCountsOf n.log.records n.counts) };
 }
 
 impl<A: App> StoredNode<A> {
@@ -136,6 +142,7 @@ impl<A: App> StoredNode<A> {
             settings,
             core,
             log,
+            counts: Counts::new(),
             seen,
             broken: false,
             of: PhantomData,
@@ -186,6 +193,18 @@ impl<A: App> StoredNode<A> {
         ensures { result ≡ records_of pass self.now.records }
     {
         self.log.turn(pass)
+    }
+
+    /// The counts of its records; none where it is broken.
+    pub fn counts(&self) -> Option<&Counts>
+        ensures { MatchOption result
+            (self.now.broken ≡ true)
+            (λ counts. AreCountsOf self.now.records counts.now) }
+    {
+        if self.broken {
+            return None;
+        }
+        Some(&self.counts)
     }
 
     /// Whether another record was found in its row.
@@ -321,16 +340,15 @@ impl<A: App> StoredNode<A> {
         }
         self.check_room()?;
         let finding = self.find(alloc, key, lo, hi)?;
-        let op = Op::Lookup {
-            key: key.copy(),
-            lo,
-            hi,
-        };
-        let prepared = self.log.prepare(alloc, pass, op, &self.core)?;
+        let prepared = self
+            .log
+            .prepare_lookup(alloc, pass, key, lo, hi, &self.core)?;
         let next = prepared.with_found(alloc, &finding)?;
         let Ok(_) = self.core.lookup(key, lo, hi) else {
             unreachable!();
         };
+        let reply = reply_without_copies(&finding);
+        count_step(&mut self.counts, Some(key.function()), &reply);
         if !self.log.append(pass, next) {
             self.broken = true;
             return Err(NodeError::Broken);
@@ -365,10 +383,13 @@ impl<A: App> StoredNode<A> {
         self.check_room()?;
         let _known = entry.reach.known();
         let _bytes = entry.value.bytes();
+        let function = entry.key.function();
         let prepared = self.log.prepare_insertion(alloc, pass, &entry, &self.core)?;
         let inserted = self.core.insert(entry)?;
         let insertion = Insertion::of(&inserted);
-        let next = prepared.answered(Reply::Inserted(inserted));
+        let reply = Reply::Inserted(inserted);
+        count_step(&mut self.counts, Some(function), &reply);
+        let next = prepared.answered(reply);
         self.seen.longer(front);
         if !self.log.append(pass, next) {
             self.broken = true;
@@ -430,7 +451,9 @@ impl<A: App> StoredNode<A> {
         let Ok(closed) = self.core.event(stamp, tags) else {
             unreachable!();
         };
-        let next = prepared.answered(Reply::Closed(closed));
+        let reply = Reply::Closed(closed);
+        count_step(&mut self.counts, None, &reply);
+        let next = prepared.answered(reply);
         self.seen.longer(front);
         if !self.log.append(pass, next) {
             self.broken = true;
@@ -454,7 +477,9 @@ impl<A: App> StoredNode<A> {
         let op = Op::Sweep { horizon };
         let prepared = self.log.prepare(alloc, pass, op, &self.core)?;
         let dropped = self.core.sweep(horizon);
-        let next = prepared.answered(Reply::Swept(dropped));
+        let reply = Reply::Swept(dropped);
+        count_step(&mut self.counts, None, &reply);
+        let next = prepared.answered(reply);
         if !self.log.append(pass, next) {
             self.broken = true;
             return Err(NodeError::Broken);

@@ -2,6 +2,7 @@
 ghost use Rattle.std.specs.Prelude.{◌≡◌, ◌+◌, ◌<◌, ◌≤◌, [], All, IfErr, IfOk, MatchOption, None, OnErr, OnOk, length, map, slice_get, vec_len};
 ghost use Rattle.txc_stream.specs.Names.{HasRow};
 ghost use Rattle.txc_node.specs.Counts.{AreCountsOf};
+ghost use Rattle.txc_client.specs.Ports.{CountsLeave, HaveGrown, IsCallAt};
 ghost use Rattle.txc_registry.specs.Objects.{AllIdle};
 ghost use Rattle.txc_site.specs.Counted.{counted_again};
 ghost use Rattle.txc_site.specs.Plans.{nodes_of};
@@ -188,5 +189,18 @@ impl<'a, A: App, D: Definition, J: Naming> SiteClient<'a, A, D, J> {
             (AreCountsOf pass.records)) }
     {
         self.reader.counts(node)
+    }
+
+    /// The counts of all records of a node, stored or not, which the client is then shown; none where there is no
+    /// such node, or it refuses. It takes the node's lock, and no memory.
+    pub fn node_counts(&mut self, rt: &impl Wait, node: usize) -> Option<Counts>
+        ensures same { self.new ≡ record self.old { reader = self.new.reader } }
+        ensures reader { self.new.reader ≡ record self.old.reader { passes = self.new.reader.passes } }
+        ensures passes { HaveGrown self.old.reader.passes self.new.reader.passes }
+        ensures none { length self.old.reader.passes ≤ node → (result ≡ None) × (self.new ≡ self.old) }
+        ensures left { node < length self.old.reader.passes
+            → IsCallAt node (CountsLeave J.node_histories result) self.old.reader.passes self.new.reader.passes }
+    {
+        self.reader.node_counts(rt, node)
     }
 }

@@ -121,7 +121,10 @@ pub(crate) fn counts_of(front: &NodeFront) -> Counts
 {
     let mut counts = Counts::new();
     for at in 0..front.len() {
-        counts.add(front.get(at));
+        let Some(step) = front.get(at) else {
+            unreachable!();
+        };
+        counts.add(step);
     }
     counts
 }

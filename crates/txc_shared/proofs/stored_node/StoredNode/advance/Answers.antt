@@ -1,15 +1,28 @@
-use Rattle.std.proofs.Common.{◌≡◌, inl, inr, ◌+◌, refl, ap, sym, subst, ◌∙◌, false}
+use Rattle.std.proofs.Common.{◌≡◌, inl, inr, ◌+◌, ℕ, Option, None, List, length, refl, ap, sym, subst, ◌∙◌, false, true≢false, arith}
 use Rattle.txc_db.specs.History.{tags_at}
 use Rattle.txc_node.specs.declared.op.Op.{Op}
 use Rattle.txc_node.specs.declared.op.Op.TheVariants.{Event}
 use Rattle.txc_node.specs.declared.record.Record.{Record}
+use Rattle.txc_node.specs.declared.hit.Shown.{Shown}
+use Rattle.txc_node.specs.declared.reply.Reply.{Reply}
 use Rattle.txc_node.specs.declared.reply.Reply.TheVariants as replies
 use Rattle.txc_node.specs.Cache.{closed_count}
+use Rattle.txc_node.specs.Counts.{AreCountsOf}
+use Rattle.txc_node.specs.Steps.{function_of}
 use Rattle.txc_shared.specs.Histories.{next_record}
 use Rattle.txc_shared.specs.Nodes.{start_of, NodeValue, LogValue, HasTags, after_call, seeing, next_event}
 use Rattle.txc_shared.specs.Locked.{record_in}
+use Rattle.txc_shared.proofs.Counting.{counts_alike}
 use Rattle.txc_shared.proofs.Nodes.{stepped, broke, may_take, tags_in_longer, called}
 use Rattle.txc_shared.proofs.stored_node.StoredNode.advance.Goals as goal
+
+pub count_step-requires-clause-room : goal.count_step-requires-clause-room
+count_step-requires-clause-room g c =
+    let whole : c.self.inside.broken ≡ false = ap (λ (n : NodeValue). n.broken) c.self.view_is ∙ c.in_ok-check_whole.ensures.only_if in
+    let all = (c.self.invariant.1 whole).all in
+    let same = ap (λ (n : NodeValue). length n.records) c.self.view_is in
+    let counted = c.in_ok-check_room.ensures.only_if.counted in
+    omega (arith, all, same, counted)
 
 pub invariant_of-self-then-not-append : goal.invariant_of-self-then-not-append
 invariant_of-self-then-not-append g c =
@@ -23,10 +36,12 @@ invariant_of-self-then-not-append g c =
       | inr other ↦ tags_in_longer c.states_stay.ensures.tags c.args.front.now.history seen number tags c.longer-2.ensures.that other
     ] in
     let here : HasTags seen stamp tags = subst (λ k. HasTags seen k tags) (sym c.after-stamp.ensures) has in
-    let held = c.nodes_go_on.ensures.sees g.A.App.next c.self.inside.seen.history seen (start_of c.self.inside.settings) c.self.inside.log.records core c.self.inside.broken c.longer-2.ensures.this c.self.invariant in
-    broke g.A.App.next seen (start_of c.self.inside.settings) c.nodes_go_on.ensures.breaks c.self.inside.log.records c.append.new.self.records core c.event.new.self c.self.inside.broken
-    (Event stamp tags) held (may_take g.A.App.next seen core stamp tags (c.in-Ok.ensures.only_if.0 refl) here.0 here.1)
-    (ap (λ (l : LogValue). l.records) (c.if-not-append.ensures.unchanged refl)) c.in-Ok.ensures.after
+    let held = c.nodes_go_on.ensures.sees g.A.App.next c.self.inside.seen.history seen (start_of c.self.inside.settings) c.self.inside.log.records core c.self.inside.broken c.longer-2.ensures.this c.self.invariant.0 in (
+      broke g.A.App.next seen (start_of c.self.inside.settings) c.nodes_go_on.ensures.breaks c.self.inside.log.records c.append.new.self.records core c.event.new.self c.self.inside.broken
+          (Event stamp tags) held (may_take g.A.App.next seen core stamp tags (c.in-Ok.ensures.only_if.0 refl) here.0 here.1)
+          (ap (λ (l : LogValue). l.records) (c.if-not-append.ensures.unchanged refl)) c.in-Ok.ensures.after,
+      λ whole. absurd (true≢false whole),
+    )
 
 pub invariant_of-self-else-not-append : goal.invariant_of-self-else-not-append
 invariant_of-self-else-not-append g c =
@@ -41,12 +56,20 @@ invariant_of-self-else-not-append g c =
       | inr other ↦ tags_in_longer c.states_stay.ensures.tags c.args.front.now.history seen number tags c.longer-2.ensures.that other
     ] in
     let here : HasTags seen stamp tags = subst (λ k. HasTags seen k tags) (sym c.after-stamp.ensures) has in
-    let held = c.nodes_go_on.ensures.sees g.A.App.next c.self.inside.seen.history seen (start_of c.self.inside.settings) rs core c.self.inside.broken c.longer-2.ensures.this c.self.invariant in
+    let held = c.nodes_go_on.ensures.sees g.A.App.next c.self.inside.seen.history seen (start_of c.self.inside.settings) rs core c.self.inside.broken c.longer-2.ensures.this c.self.invariant.0 in
     let whole : c.self.inside.broken ≡ false = ap (λ (n : NodeValue). n.broken) c.self.view_is ∙ c.in_ok-check_whole.ensures.only_if in
-    let record_is = c.answered-next.ensures.answered (next_record c.args.pass rs (Event stamp tags) (replies.Closed (closed_count core stamp tags))) c.in_ok-prepared.ensures.awaits (ap replies.Closed c.in-Ok.ensures.answer) in
-    stepped g.A.App.next seen (start_of c.self.inside.settings) c.nodes_go_on.ensures.step rs c.append.new.self.records core c.event.new.self c.self.inside.broken
-    c.args.pass (Event stamp tags) (record_in c.answered-next.result) held whole (may_take g.A.App.next seen core stamp tags (c.in-Ok.ensures.only_if.0 refl) here.0 here.1)
-    record_is (ap (λ (l : LogValue). l.records) (c.if-not-append.ensures.after refl)) c.in-Ok.ensures.after
+    let done : Reply Shown = replies.Closed c.in-Ok.closed in
+    let replied : done ≡ replies.Closed (closed_count core stamp tags) = ap replies.Closed c.in-Ok.ensures.answer in
+    let record_is = c.answered-next.ensures.answered (next_record c.args.pass rs (Event stamp tags) (replies.Closed (closed_count core stamp tags))) c.in_ok-prepared.ensures.awaits replied in
+    let records = ap (λ (l : LogValue). l.records) (c.if-not-append.ensures.after refl) in
+    let next = record_in c.answered-next.result in
+    let of : ◌≡◌ {A = Option ℕ} None (function_of next.op) = sym (ap (λ (r : Record). function_of r.op) record_is) in
+    let alike = counts_alike done next.reply (replied ∙ sym (ap (λ (r : Record). r.reply) record_is)) in (
+      stepped g.A.App.next seen (start_of c.self.inside.settings) c.nodes_go_on.ensures.step rs c.append.new.self.records core c.event.new.self c.self.inside.broken
+          c.args.pass (Event stamp tags) next held whole (may_take g.A.App.next seen core stamp tags (c.in-Ok.ensures.only_if.0 refl) here.0 here.1)
+          record_is records c.in-Ok.ensures.after,
+      λ kept. subst (λ (l : List Record). AreCountsOf l c.count_step.new.counts) (sym records) (c.count_step.ensures rs next (c.self.invariant.1 kept) of alike),
+    )
 
 pub returns-clause-after : goal.returns-clause-after
 returns-clause-after g c =

@@ -1,24 +1,36 @@
-use Rattle.std.proofs.Common.{◌≡◌, refl, ap, sym, subst, ◌∙◌, false, rules}
+use Rattle.std.proofs.Common.{◌≡◌, ℕ, Option, Some, List, length, refl, ap, sym, subst, ◌∙◌, false, true≢false, rules, arith}
 use Rattle.std.specs.Option.{option_map}
-use Rattle.txc_tags.specs.Keys.{Call}
 use Rattle.txc_app.specs.Claims.{entry_shown}
+use Rattle.txc_node.specs.declared.hit.Shown.{Shown}
 use Rattle.txc_node.specs.declared.record.Record.{Record}
+use Rattle.txc_node.specs.declared.reply.Reply.{Reply}
 use Rattle.txc_node.specs.declared.op.Op.TheVariants.{Lookup}
 use Rattle.txc_node.specs.Cache.{lookup_answer, after_lookup}
-use Rattle.txc_node.specs.Steps.{found_reply, step_reply}
+use Rattle.txc_node.specs.Counts.{AreCountsOf}
+use Rattle.txc_node.specs.Steps.{found_reply, function_of}
 use Rattle.txc_shared.specs.Histories.{next_record}
 use Rattle.txc_shared.specs.Nodes.{start_of, NodeValue, LogValue, after_call}
 use Rattle.txc_shared.specs.Passes.{reply_of_found}
-use Rattle.txc_shared.specs.Locked.{record_in, AwaitsReply}
+use Rattle.txc_shared.specs.Locked.{record_in, DoCountAlike}
 use Rattle.txc_shared.proofs.Nodes.{stepped, broke, may_look_up, found_replied, called}
 use Rattle.txc_shared.proofs.stored_node.StoredNode.lookup.Goals as goal
 
+pub count_step-requires-clause-room : goal.count_step-requires-clause-room
+count_step-requires-clause-room g c =
+    let whole : c.self.inside.broken ≡ false = ap (λ (n : NodeValue). n.broken) c.self.view_is ∙ c.in_ok-check_whole.ensures.only_if in
+    let all = (c.self.invariant.1 whole).all in
+    let same = ap (λ (n : NodeValue). length n.records) c.self.view_is in
+    let counted = c.in_ok-check_room.ensures.only_if.counted in
+    omega (arith, all, same, counted)
+
 pub invariant_of-self : goal.invariant_of-self
 invariant_of-self g c =
-    let next : c.lookup.follows.lender-at-none ≡ after_lookup c.self.inside.core c.args.key.now c.args.lo c.args.hi = search rules in
-    broke g.A.App.next c.self.inside.seen.history (start_of c.self.inside.settings) c.nodes_go_on.ensures.breaks c.self.inside.log.records c.append.new.self.records c.self.inside.core c.lookup.follows.lender-at-none c.self.inside.broken
-    (Lookup c.args.key.now c.args.lo c.args.hi) c.self.invariant (may_look_up g.A.App.next c.self.inside.seen.history c.self.inside.core c.args.key.now c.args.lo c.args.hi c.in-Ok.ensures.only_if)
-    (ap (λ (l : LogValue). l.records) (c.if-not-append.ensures.unchanged refl)) next
+    let next : c.lookup.follows.lender-at-none ≡ after_lookup c.self.inside.core c.args.key.now c.args.lo c.args.hi = search rules in (
+      broke g.A.App.next c.self.inside.seen.history (start_of c.self.inside.settings) c.nodes_go_on.ensures.breaks c.self.inside.log.records c.append.new.self.records c.self.inside.core c.lookup.follows.lender-at-none c.self.inside.broken
+          (Lookup c.args.key.now c.args.lo c.args.hi) c.self.invariant.0 (may_look_up g.A.App.next c.self.inside.seen.history c.self.inside.core c.args.key.now c.args.lo c.args.hi c.in-Ok.ensures.only_if)
+          (ap (λ (l : LogValue). l.records) (c.if-not-append.ensures.unchanged refl)) next,
+      λ whole. absurd (true≢false whole),
+    )
 
 pub invariant_of-self-else-not-append : goal.invariant_of-self-else-not-append
 invariant_of-self-else-not-append g c =
@@ -27,25 +39,30 @@ invariant_of-self-else-not-append g c =
     let op = Lookup key c.args.lo c.args.hi in
     let next : c.lookup.follows.lender-at-none ≡ after_lookup c.self.inside.core key c.args.lo c.args.hi = search rules in
     let whole : c.self.inside.broken ≡ false = ap (λ (n : NodeValue). n.broken) c.self.view_is ∙ c.in_ok-check_whole.ensures.only_if in
-    let awaits = subst (λ (k : Call). AwaitsReply (next_record c.args.pass rs (Lookup k c.args.lo c.args.hi) (step_reply c.self.inside.core (Lookup k c.args.lo c.args.hi))) c.in_ok-prepared.prepared) c.copy.ensures c.in_ok-prepared.ensures.awaits in
     let shown = lookup_answer c.self.inside.core key c.args.lo c.args.hi in
     let reply : reply_of_found (option_map (λ f. f.entry) c.in_ok-finding.finding) ≡ found_reply shown =
     ap reply_of_found (c.in_ok-finding.ensures.found ∙ ap (λ (n : NodeValue). option_map (entry_shown key) (lookup_answer n.cache key c.args.lo c.args.hi)) (sym c.self.view_is)) ∙ found_replied key shown in
-    let record_is = c.in_ok-next.ensures.answered (next_record c.args.pass rs op (found_reply shown)) awaits reply in
-    stepped g.A.App.next c.self.inside.seen.history (start_of c.self.inside.settings) c.nodes_go_on.ensures.step rs c.append.new.self.records c.self.inside.core c.lookup.follows.lender-at-none c.self.inside.broken
-    c.args.pass op (record_in c.in_ok-next.next) c.self.invariant whole (may_look_up g.A.App.next c.self.inside.seen.history c.self.inside.core key c.args.lo c.args.hi c.in-Ok.ensures.only_if)
-    record_is (ap (λ (l : LogValue). l.records) (c.if-not-append.ensures.after refl)) next
+    let record_is = c.in_ok-next.ensures.answered (next_record c.args.pass rs op (found_reply shown)) c.in_ok-prepared.ensures.awaits reply in
+    let records = ap (λ (l : LogValue). l.records) (c.if-not-append.ensures.after refl) in
+    let step = record_in c.in_ok-next.next in
+    let of : ◌≡◌ {A = Option ℕ} (Some c.function.result) (function_of step.op) = ap Some c.function.ensures.answer ∙ sym (ap (λ (r : Record). function_of r.op) record_is) in
+    let alike : DoCountAlike c.reply_without_copies-reply.result step.reply =
+    subst (λ (r : Reply Shown). DoCountAlike c.reply_without_copies-reply.result r) (reply ∙ sym (ap (λ (r : Record). r.reply) record_is)) c.reply_without_copies-reply.ensures in (
+      stepped g.A.App.next c.self.inside.seen.history (start_of c.self.inside.settings) c.nodes_go_on.ensures.step rs c.append.new.self.records c.self.inside.core c.lookup.follows.lender-at-none c.self.inside.broken
+          c.args.pass op step c.self.invariant.0 whole (may_look_up g.A.App.next c.self.inside.seen.history c.self.inside.core key c.args.lo c.args.hi c.in-Ok.ensures.only_if)
+          record_is records next,
+      λ kept. subst (λ (l : List Record). AreCountsOf l c.count_step.new.counts) (sym records) (c.count_step.ensures rs step (c.self.invariant.1 kept) of alike),
+    )
 
 pub append-requires-clause-by : goal.append-requires-clause-by
 append-requires-clause-by g c =
     let rs = c.self.inside.log.records in
     let key = c.args.key.now in
     let op = Lookup key c.args.lo c.args.hi in
-    let awaits = subst (λ (k : Call). AwaitsReply (next_record c.args.pass rs (Lookup k c.args.lo c.args.hi) (step_reply c.self.inside.core (Lookup k c.args.lo c.args.hi))) c.in_ok-prepared.prepared) c.copy.ensures c.in_ok-prepared.ensures.awaits in
     let shown = lookup_answer c.self.inside.core key c.args.lo c.args.hi in
     let reply : reply_of_found (option_map (λ f. f.entry) c.in_ok-finding.finding) ≡ found_reply shown =
     ap reply_of_found (c.in_ok-finding.ensures.found ∙ ap (λ (n : NodeValue). option_map (entry_shown key) (lookup_answer n.cache key c.args.lo c.args.hi)) (sym c.self.view_is)) ∙ found_replied key shown in
-    ap (λ (r : Record). r.pass) (c.in_ok-next.ensures.answered (next_record c.args.pass rs op (found_reply shown)) awaits reply)
+    ap (λ (r : Record). r.pass) (c.in_ok-next.ensures.answered (next_record c.args.pass rs op (found_reply shown)) c.in_ok-prepared.ensures.awaits reply)
 
 pub append-requires-clause-suits : goal.append-requires-clause-suits
 append-requires-clause-suits g c = c.in_ok-next.ensures.suits c.self.inside.log.name c.in_ok-prepared.ensures.suits
@@ -58,10 +75,9 @@ returns-clause-after g c =
     let n : NodeValue = record { settings = inside.settings; name = inside.log.name; records = inside.log.records; passes = inside.log.passes; cache = inside.core; seen = inside.seen; broken = inside.broken } in
     let op = Lookup key c.args.lo c.args.hi in
     let next : c.lookup.follows.lender-at-none ≡ after_lookup inside.core key c.args.lo c.args.hi = search rules in
-    let awaits = subst (λ (k : Call). AwaitsReply (next_record c.args.pass rs (Lookup k c.args.lo c.args.hi) (step_reply c.self.inside.core (Lookup k c.args.lo c.args.hi))) c.in_ok-prepared.prepared) c.copy.ensures c.in_ok-prepared.ensures.awaits in
     let shown = lookup_answer c.self.inside.core key c.args.lo c.args.hi in
     let reply : reply_of_found (option_map (λ f. f.entry) c.in_ok-finding.finding) ≡ found_reply shown =
     ap reply_of_found (c.in_ok-finding.ensures.found ∙ ap (λ (n : NodeValue). option_map (entry_shown key) (lookup_answer n.cache key c.args.lo c.args.hi)) (sym c.self.view_is)) ∙ found_replied key shown in
-    let record_is = c.in_ok-next.ensures.answered (next_record c.args.pass rs op (found_reply shown)) awaits reply in
+    let record_is = c.in_ok-next.ensures.answered (next_record c.args.pass rs op (found_reply shown)) c.in_ok-prepared.ensures.awaits reply in
     called n inside.seen c.args.pass op (record_in c.in_ok-next.next) c.append.new.self c.lookup.follows.lender-at-none record_is (c.if-not-append.ensures.after refl) next
     ∙ ap (λ (m : NodeValue). after_call m c.args.pass op) c.self.view_is

@@ -1,0 +1,34 @@
+//! Counts of the steps of a node.
+ghost use Rattle.std.specs.Prelude.{◌≡◌, ◌+◌, ◌^◌, ◌<◌, ◌≤◌, ◌++◌, ◌∷◌, [], List, IfSome};
+ghost use Rattle.std.specs.Option.{option_map};
+ghost use Rattle.txc_tags.specs.declared.key.TheConstants.{LAST_FUNCTION};
+ghost use Rattle.txc_node.specs.Steps.{function_of};
+ghost use Rattle.txc_node.specs.Counts.{AreCountsOf};
+ghost use Rattle.txc_node.specs.declared.record.Record.{Record};
+ghost use Rattle.txc_shared.specs.Passes.{reply_of_found};
+ghost use Rattle.txc_shared.specs.Locked.{DoCountAlike};
+
+use crate::finding::Finding;
+use txc_app::App;
+use txc_node::{Counts, Reply};
+
+/// Counts a step of that function by a reply that counts as the step's own does. It takes no memory.
+pub(crate) fn count_step<H>(counts: &mut Counts, function: Option<u8>, reply: &Reply<H>)
+    requires function { IfSome function (λ f. f ≤ LAST_FUNCTION) }
+    requires room { counts.old.replies + 1 < 2 ^ 64 }
+    ensures { (steps : List Record) (step : Record) → AreCountsOf steps counts.old
+        → function ≡ function_of step.op → DoCountAlike reply.now step.reply
+        → AreCountsOf (steps ++ step ∷ []) counts.new }
+{
+    counts.count(function, reply);
+}
+
+/// What counts as the reply to a lookup that found this does. Nothing is copied.
+pub(crate) fn reply_without_copies<A: App>(found: &Option<Finding<A>>) -> Reply<()>
+    ensures { DoCountAlike result (reply_of_found (option_map (λ f. f.entry) found.now)) }
+{
+    match found {
+        Some(_) => Reply::Hit(()),
+        None => Reply::Miss,
+    }
+}
