@@ -67,7 +67,7 @@ one_station_less olds all station rest before so_far step =
 
 -- one station more has a new pass
 module _ (stations more : List StationValue) (s : StationValue) (added : more ≡ stations ++ s ∷ []) where
-  settings_of : StationValue → NodeSettings
+  abbrev settings_of : StationValue → NodeSettings
   settings_of x = x.pass.settings
 
   pub one_station_more : (nodes : List NodeSettings) (i : ℕ) (node : NodeSettings) → i < length nodes

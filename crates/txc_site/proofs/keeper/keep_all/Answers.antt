@@ -17,7 +17,7 @@ pub loop-station-preserved : goal.loop-station-preserved
 loop-station-preserved g c =
     let before = c.loop-station.invariant in
     let step = c.in-Some.ensures.steps.0 in
-    let one = c.keep_node-kept in (
+    let one = c.keep_node-station in (
       before.0 ++ c.in-Some.station ∷ [],
       one_left_more g.J.Naming.node_histories (ok_of c.args.horizon.now) before.0 _ _ _ _ one.result.0 c.in-Some.station one.result.1 before.1 one.ensures c.push_reserved.ensures.items c.push_reserved-in-loop-station.ensures.items,
       one_station_less before.0 _ c.in-Some.station _ _ before.2 step,
