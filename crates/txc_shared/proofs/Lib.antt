@@ -2,7 +2,7 @@ pub mod Entries
 pub mod Histories
 pub mod Runs
 pub mod Turns
-pub mod Counting
+pub mod Alike
 pub mod Nodes
 pub mod Passes
 pub mod Locking

@@ -1,4 +1,4 @@
-use Rattle.std.proofs.Common.{ℕ, ◌+◌, ap, ◌∙◌}
+use Rattle.std.proofs.Common.{◌+◌, ap, ◌∙◌}
 use Rattle.txc_node.specs.Counts.{counts_of, sum_of, counts_if, one_evicted}
 use Rattle.txc_node.proofs.History.{counted_more}
 use Rattle.txc_shared.proofs.counting.count_step.Goals as goal

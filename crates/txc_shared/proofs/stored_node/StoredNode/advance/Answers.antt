@@ -12,7 +12,7 @@ use Rattle.txc_node.specs.Steps.{function_of}
 use Rattle.txc_shared.specs.Histories.{next_record}
 use Rattle.txc_shared.specs.Nodes.{start_of, NodeValue, LogValue, HasTags, after_call, seeing, next_event}
 use Rattle.txc_shared.specs.Locked.{record_in}
-use Rattle.txc_shared.proofs.Counting.{counts_alike}
+use Rattle.txc_shared.proofs.Alike.{counts_alike}
 use Rattle.txc_shared.proofs.Nodes.{stepped, broke, may_take, tags_in_longer, called}
 use Rattle.txc_shared.proofs.stored_node.StoredNode.advance.Goals as goal
 

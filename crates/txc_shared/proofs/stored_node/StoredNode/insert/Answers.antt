@@ -10,7 +10,7 @@ use Rattle.txc_node.specs.Steps.{function_of}
 use Rattle.txc_shared.specs.Histories.{next_record}
 use Rattle.txc_shared.specs.Nodes.{start_of, NodeValue, LogValue, after_call, seeing, insertion_of}
 use Rattle.txc_shared.specs.Locked.{record_in}
-use Rattle.txc_shared.proofs.Counting.{counts_alike}
+use Rattle.txc_shared.proofs.Alike.{counts_alike}
 use Rattle.txc_shared.proofs.Nodes.{stepped, broke, may_insert, called}
 use Rattle.txc_shared.proofs.stored_node.StoredNode.insert.Goals as goal
 

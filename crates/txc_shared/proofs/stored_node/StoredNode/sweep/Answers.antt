@@ -10,7 +10,7 @@ use Rattle.txc_node.specs.declared.reply.Reply.TheVariants as replies
 use Rattle.txc_shared.specs.Histories.{next_record}
 use Rattle.txc_shared.specs.Nodes.{start_of, NodeValue, LogValue, after_call}
 use Rattle.txc_shared.specs.Locked.{record_in}
-use Rattle.txc_shared.proofs.Counting.{counts_alike}
+use Rattle.txc_shared.proofs.Alike.{counts_alike}
 use Rattle.txc_shared.proofs.Nodes.{stepped, broke, may_sweep, called}
 use Rattle.txc_shared.proofs.stored_node.StoredNode.sweep.Goals as goal
 
