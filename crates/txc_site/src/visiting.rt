@@ -8,11 +8,11 @@ use crate::application::{Application, registry};
 use crate::client::SiteClient;
 use crate::error::{OpenError, SiteError};
 use crate::foundation::Foundation;
+use crate::ledger::Committers;
 use crate::visitor::Visitor;
 use std::alloc::Global;
 use std::sync::Wait;
 use std::thread::{self, Threads};
-use txc_client::Client;
 use txc_db::Naming;
 use txc_definition::Definition;
 use txc_permits::PermitPool;
@@ -23,6 +23,7 @@ fn client<'a, A: Application<D>, D: Definition, J: Naming>(
     rt: &impl Wait,
     alloc: Global,
     foundation: &'a Foundation<A, J>,
+    committers: &Committers<J>,
     pool: &mut PermitPool,
 ) -> Result<SiteClient<'a, A, D, J>, SiteError>
     ensures plan { IfOk result (λ client. client.plan ≡ foundation.now.plan) }
@@ -32,17 +33,15 @@ fn client<'a, A: Application<D>, D: Definition, J: Naming>(
     ensures refused { IfErr result (IsClientRefused A.numbers) }
 {
     let functions = registry::<A, D>(alloc, pool)?;
-    let reader = Client::new(
+    let reader = foundation.ledger.reader(
         rt,
         alloc,
-        &foundation.database,
-        &foundation.cushion,
         &foundation.nodes,
         functions,
         foundation.plan.renew_after,
     )?;
     let writer = registry::<A, D>(alloc, pool)?;
-    Ok(SiteClient::new(foundation, reader, writer))
+    Ok(SiteClient::new(foundation, reader, writer, committers.committer()))
 }
 
 /// The client of the thread of this number.
@@ -57,6 +56,7 @@ fn guests<'a, A: Application<D>, D: Definition, J: Naming>(
     rt: &impl Wait,
     alloc: Global,
     foundation: &'a Foundation<A, J>,
+    committers: &Committers<J>,
     pool: &mut PermitPool,
     count: usize,
 ) -> Result<Vec<Guest<SiteClient<'a, A, D, J>>>, SiteError>
@@ -71,7 +71,7 @@ fn guests<'a, A: Application<D>, D: Definition, J: Naming>(
 {
     let mut guests = Vec::with_capacity(alloc, count)?;
     for number in 0..count {
-        let client = client(rt, alloc, foundation, pool)?;
+        let client = client(rt, alloc, foundation, committers, pool)?;
         guests.push(Guest { number, client })?;
     }
     Ok(guests)
@@ -83,6 +83,7 @@ pub(crate) fn visit<A, D, V, J, R>(
     rt: &R,
     alloc: Global,
     foundation: &Foundation<A, J>,
+    committers: &Committers<J>,
     pool: &mut PermitPool,
     count: usize,
     visitors: &V,
@@ -98,7 +99,7 @@ where
         HaveCome (V.gives visitors.now foundation.now.plan J.database_row) outputs.items) }
     ensures refused { IfErr result (IsVisitRefused A.numbers) }
 {
-    let guests = guests::<A, D, J>(rt, alloc, foundation, pool, count)?;
+    let guests = guests::<A, D, J>(rt, alloc, foundation, committers, pool, count)?;
     let visited = thread::map_vec(
         rt,
         guests,
