@@ -157,7 +157,7 @@ fault_of_job jobs all words word (faults.Usage line) e is h = absurd h
 fault_of_job jobs all words word (faults.Count wanted given) e is h = absurd h
 fault_of_job jobs all words word (faults.Word fault) e is h = inl (words, e ∙ ap (λ (w : List ℕ). w ∷ words) is, h)
 fault_of_job jobs all words word (faults.Few least given) e is h = inl (words, e ∙ ap (λ (w : List ℕ). w ∷ words) is, h)
-fault_of_job jobs all words word (faults.Misplaced place) e is h = absurd h
+fault_of_job jobs all words word (faults.Misplaced text) e is h = absurd h
 
 -- a fault that is not that of an unknown name is in the words after a name, or in the place of the line
 known_fault : (jobs : List Job) (all words : List (List ℕ)) (name : LineName) (fault : CommandFault) → IsPreparing name → all ≡ name_text name ∷ words → IsPreparingFault jobs name words fault
@@ -167,7 +167,7 @@ known_fault jobs all words name (faults.Usage line) is e h known = inr (name, wo
 known_fault jobs all words name (faults.Count wanted given) is e h known = inr (name, words, is, e, h)
 known_fault jobs all words name (faults.Word fault) is e h known = inr (name, words, is, e, h)
 known_fault jobs all words name (faults.Few least given) is e h known = inr (name, words, is, e, h)
-known_fault jobs all words name (faults.Misplaced place) is e h known = inr (name, words, is, e, h)
+known_fault jobs all words name (faults.Misplaced text) is e h known = inr (name, words, is, e, h)
 
 never_unknown : (name : LineName) (words : List (List ℕ)) (fault : CommandFault) (text : ExcerptValue) → IsFaultAfter name words fault → fault ≡ faults.Unknown text → ⊥
 never_unknown name words fault text h e = subst (IsFaultAfter name words) e h

@@ -44,7 +44,7 @@ no_job_fault words q (faults.Usage line) h f = f
 no_job_fault words q (faults.Count wanted given) h f = f
 no_job_fault words q (faults.Word fault) h f = none_bad (job_kinds words) words fault f.1 (all_kinds words q h)
 no_job_fault words q (faults.Few least given) h f = absurd (omega (arith, three_words words q h, f.0, f.1, f.2))
-no_job_fault words q (faults.Misplaced place) h f = f
+no_job_fault words q (faults.Misplaced text) h f = f
 
 -- ---- words that are a change or a pin
 
@@ -70,4 +70,4 @@ nothing_wrong jobs line order (faults.Usage name) h f = none_after_name jobs lin
 nothing_wrong jobs line order (faults.Count wanted given) h f = none_after_name jobs line order (faults.Count wanted given) h f
 nothing_wrong jobs line order (faults.Word fault) h f = none_after_name jobs line order (faults.Word fault) h f
 nothing_wrong jobs line order (faults.Few least given) h f = none_after_name jobs line order (faults.Few least given) h f
-nothing_wrong jobs line order (faults.Misplaced place) h f = none_after_name jobs line order (faults.Misplaced place) h f
+nothing_wrong jobs line order (faults.Misplaced text) h f = none_after_name jobs line order (faults.Misplaced text) h f

@@ -27,7 +27,7 @@ IsJobFault words fault = ⊥
 
 -- it says where changes and pins stand
 abbrev pub IsMisplaced : CommandFault → Type 0
-IsMisplaced (faults.Misplaced place) = place.now ≡ codes "changes and pins stand before the first job"
+IsMisplaced (faults.Misplaced text) = text.now ≡ codes "changes and pins stand before the first job"
 IsMisplaced fault = ⊥
 
 -- what is wrong with a change or a pin: before the first job, what is wrong with its words; after one, that it

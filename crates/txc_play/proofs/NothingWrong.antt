@@ -87,4 +87,4 @@ nothing_wrong all (faults.Usage line) name words h e k = none_said all h.0 name 
 nothing_wrong all (faults.Count wanted given) name words h e k = none_said all h.0 name h.1 words (faults.Count wanted given) h.2 h.3 e k
 nothing_wrong all (faults.Word fault) name words h e k = none_said all h.0 name h.1 words (faults.Word fault) h.2 h.3 e k
 nothing_wrong all (faults.Few least given) name words h e k = h.3
-nothing_wrong all (faults.Misplaced place) name words h e k = h.3
+nothing_wrong all (faults.Misplaced text) name words h e k = h.3

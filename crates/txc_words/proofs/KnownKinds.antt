@@ -115,4 +115,4 @@ none_after name words (faults.Word fault) h k =
     let bad = subst (λ (o : Option (List WordKind)). IsFirstBad name words o fault) k.known h in
     none_bad k.kinds words fault bad.1 k.good
 none_after name words (faults.Few least given) h k = h
-none_after name words (faults.Misplaced place) h k = h
+none_after name words (faults.Misplaced text) h k = h

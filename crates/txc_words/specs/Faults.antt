@@ -2,7 +2,6 @@
 use Rattle.std.specs.Prelude.{◌≡◌, ◌≢◌, ◌<◌, ◌≤◌, ℕ, List, [], ◌∷◌, Option, Some, None, if◌then◌else◌, codes, length, take}
 use Rattle.std.specs.Str.{bytes_eq}
 use Rattle.txc_rows.specs.declared.row.TheConstants.{MAX_BODY_LEN}
-use Rattle.txc_script.specs.Excerpts.{excerpt_of}
 use Rattle.txc_script.specs.LineFaults.{IsBadWord}
 use Rattle.txc_script.specs.declared.line_fault.CommandFault.{CommandFault}
 use Rattle.txc_script.specs.declared.line_fault.CommandFault.TheVariants as faults
@@ -14,7 +13,6 @@ use Rattle.txc_words.specs.declared.name.LineName.TheVariants as names
 use Rattle.txc_tags.specs.declared.tag.TheConstants.{LAST_TABLE}
 use Rattle.txc_tags.specs.declared.key.TheConstants.{LAST_FUNCTION}
 use Rattle.txc_tags.specs.declared.text.number.TheConstants.{LAST_NUMBER}
-use Rattle.txc_words.specs.Names.{name_text}
 use Rattle.txc_words.specs.declared.parts.TheConstants.{LAST_MOMENT}
 
 -- ---- of which kinds words are to be
@@ -126,4 +124,4 @@ IsFaultAfter name words (faults.Count wanted given) =
     × (wanted ≡ length kinds) × (given ≡ length words) × (given ≢ wanted)
 IsFaultAfter name words (faults.Word fault) = IsFirstBad name words (kinds_after name (second_of words)) fault
 IsFaultAfter name words (faults.Few least given) = ⊥
-IsFaultAfter name words (faults.Misplaced place) = ⊥
+IsFaultAfter name words (faults.Misplaced text) = ⊥
