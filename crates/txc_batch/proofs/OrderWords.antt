@@ -11,7 +11,7 @@ use Rattle.txc_words.specs.declared.name.LineName.TheVariants as names
 use Rattle.txc_script.specs.declared.line_fault.WordKind.{WordKind}
 use Rattle.txc_script.specs.LineFaults.{AreOfKinds}
 use Rattle.txc_script.proofs.Offered.{HasTexts, has_texts, words_alone}
-use Rattle.txc_words.specs.Faults.{kinds_after, moment, pair_kinds, row_kinds, second_of}
+use Rattle.txc_words.specs.Faults.{kinds_after_name, moment, pair_kinds, row_kinds, second_of}
 use Rattle.txc_words.specs.Names.{name_text}
 use Rattle.txc_words.specs.Parts.{AreChangeWords, ArePinWords, row_words}
 use Rattle.txc_words.proofs.Offered.{HasKinds, apart, first_is, has_row, no_lone_change, of_kinds, others_are, pin_kinds, put_kinds, put_words, remove_kinds, remove_words}
@@ -106,7 +106,7 @@ no_name jobs line word words (Run q) e other none h = other (job_word line word 
 -- ---- the words after the name of a change or of a pin
 
 -- those that are all of their kinds ask for something
-pub good_order : (line : List ℕ) (name : LineName) (words : List (List ℕ)) (kinds : List WordKind) → IsPreparing name → words_of line ≡ name_text name ∷ words → kinds_after name (second_of words) ≡ Some kinds
+pub good_order : (line : List ℕ) (name : LineName) (words : List (List ℕ)) (kinds : List WordKind) → IsPreparing name → words_of line ≡ name_text name ∷ words → kinds_after_name name (second_of words) ≡ Some kinds
     → AreOfKinds kinds words → (order : Order) × AsksFor [] line order
 good_order line names.Put words kinds is e known good =
     let row = has_row words (of_kinds kinds row_kinds words known good) in

@@ -14,7 +14,7 @@ use Rattle.txc_words.specs.declared.name.LineName.{LineName}
 use Rattle.txc_words.specs.declared.name.LineName.TheVariants as names
 use Rattle.txc_script.proofs.Offered.{HasTexts, has_texts}
 use Rattle.txc_words.specs.Parts.{change_words, query_words}
-use Rattle.txc_words.specs.Faults.{function, kinds_after, moment, pair_kinds, place, row_kinds, second_of}
+use Rattle.txc_words.specs.Faults.{function, kinds_after_name, moment, pair_kinds, place, row_kinds, second_of}
 use Rattle.txc_words.proofs.Offered.{HasChange, HasQuery, has_change, has_query, has_row, of_kinds, put_words, remove_words}
 use Rattle.txc_play.specs.Tasks.{AreAfterPlace, LineAsksFor}
 use Rattle.txc_play.specs.declared.task.Task.{Task}
@@ -58,7 +58,7 @@ asks_write words c = (
 )
 
 -- words that are all of their kinds do so
-pub good_words : (name : LineName) (words : List (List ℕ)) (kinds : List WordKind) → kinds_after name (second_of words) ≡ Some kinds → AreOfKinds kinds words → Asks name words
+pub good_words : (name : LineName) (words : List (List ℕ)) (kinds : List WordKind) → kinds_after_name name (second_of words) ≡ Some kinds → AreOfKinds kinds words → Asks name words
 good_words names.Put words kinds e h =
     let row = has_row words (of_kinds kinds row_kinds words e h) in
     (tasks.One (Keeper (keeps.Write (changes.Put row.row))), (changes.Put row.row, put_words (codes "put" ∷ words) words (codes "put") row.row refl refl row.are, refl))

@@ -16,7 +16,7 @@ use Rattle.txc_script.specs.declared.line_fault.WordKind.TheVariants.{QueryName,
 use Rattle.txc_words.specs.declared.name.LineName.{LineName}
 use Rattle.txc_words.specs.declared.name.LineName.TheVariants as names
 use Rattle.txc_words.specs.Parts.{AreChangeWords, ArePinWords, IsChangeInRange, IsIdRange, IsPair, IsQueryInRange, change_words, query_words, row_words}
-use Rattle.txc_words.specs.Faults.{IsFaultAfter, IsFirstBad, change_line, kinds_after, moment, pair_kinds, place, query_line, range_kinds, row_kinds, second_of, table}
+use Rattle.txc_words.specs.Faults.{IsFaultAfter, IsFirstBad, change_line, kinds_after_name, moment, pair_kinds, place, query_line, range_kinds, row_kinds, second_of, table}
 use Rattle.txc_words.proofs.WordParts.{apart, first_is, others_are}
 
 some_kinds : (kinds : List WordKind) → Some kinds ≡ None → ⊥
@@ -26,7 +26,7 @@ some_kinds kinds e = cc
 
 pub record HasKinds (name : LineName) (words : List (List ℕ)) : Type 0 where
   pub kinds : List WordKind
-  pub known : kinds_after name (second_of words) ≡ Some kinds
+  pub known : kinds_after_name name (second_of words) ≡ Some kinds
   pub good : AreOfKinds kinds words
 
 pub as_words : (name : LineName) (words others : List (List ℕ)) → words ≡ others → HasKinds name others → HasKinds name words

@@ -62,26 +62,26 @@ change_line name =
 
 -- The kinds of the words after a line's name, the second of which is this one. In three lines that word names a
 -- query or a change, and the words are of no known kinds where it does not.
-abbrev pub kinds_after : LineName → List ℕ → Option (List WordKind)
-kinds_after names.Put second = Some row_kinds
-kinds_after names.Remove second = Some pair_kinds
-kinds_after names.Pin second = Some (moment ∷ [])
-kinds_after names.Query second = query_line Stamp second
-kinds_after names.Ro second = Some (place ∷ moment ∷ moment ∷ Stamp ∷ [])
-kinds_after names.Rw second = Some (place ∷ [])
-kinds_after names.Session second = Some (place ∷ moment ∷ moment ∷ [])
-kinds_after names.Call second = Some (place ∷ Key ∷ [])
-kinds_after names.Step second = Some (place ∷ [])
-kinds_after names.Finish second = Some (place ∷ [])
-kinds_after names.Ask second = query_line place second
-kinds_after names.Write second = change_line second
-kinds_after names.Pins second = Some (place ∷ [])
-kinds_after names.Commit second = Some (place ∷ [])
-kinds_after names.Abort second = Some (place ∷ [])
-kinds_after names.Advance second = Some (place ∷ [])
-kinds_after names.Sweep second = Some (place ∷ Stamp ∷ [])
-kinds_after names.Tidy second = Some (moment ∷ moment ∷ [])
-kinds_after names.Counts second = Some (place ∷ function ∷ [])
+abbrev pub kinds_after_name : LineName → List ℕ → Option (List WordKind)
+kinds_after_name names.Put second = Some row_kinds
+kinds_after_name names.Remove second = Some pair_kinds
+kinds_after_name names.Pin second = Some (moment ∷ [])
+kinds_after_name names.Query second = query_line Stamp second
+kinds_after_name names.Ro second = Some (place ∷ moment ∷ moment ∷ Stamp ∷ [])
+kinds_after_name names.Rw second = Some (place ∷ [])
+kinds_after_name names.Session second = Some (place ∷ moment ∷ moment ∷ [])
+kinds_after_name names.Call second = Some (place ∷ Key ∷ [])
+kinds_after_name names.Step second = Some (place ∷ [])
+kinds_after_name names.Finish second = Some (place ∷ [])
+kinds_after_name names.Ask second = query_line place second
+kinds_after_name names.Write second = change_line second
+kinds_after_name names.Pins second = Some (place ∷ [])
+kinds_after_name names.Commit second = Some (place ∷ [])
+kinds_after_name names.Abort second = Some (place ∷ [])
+kinds_after_name names.Advance second = Some (place ∷ [])
+kinds_after_name names.Sweep second = Some (place ∷ Stamp ∷ [])
+kinds_after_name names.Tidy second = Some (moment ∷ moment ∷ [])
+kinds_after_name names.Counts second = Some (place ∷ function ∷ [])
 
 -- the kinds of the first two words after the name of such a line
 abbrev pub first_kinds : LineName → List WordKind
@@ -118,10 +118,10 @@ IsFirstBad name words None fault = (2 ≤ length words) × IsBadWord (first_kind
 abbrev pub IsFaultAfter : LineName → List (List ℕ) → CommandFault → Type 0
 IsFaultAfter name words (faults.Unknown text) = ⊥
 IsFaultAfter name words (faults.Usage form) =
-    (form.now ≡ usage_text name) × (kinds_after name (second_of words) ≡ None) × (length words < 2)
+    (form.now ≡ usage_text name) × (kinds_after_name name (second_of words) ≡ None) × (length words < 2)
 IsFaultAfter name words (faults.Count wanted given) =
-    (kinds : List WordKind) × (kinds_after name (second_of words) ≡ Some kinds)
+    (kinds : List WordKind) × (kinds_after_name name (second_of words) ≡ Some kinds)
     × (wanted ≡ length kinds) × (given ≡ length words) × (given ≢ wanted)
-IsFaultAfter name words (faults.Word fault) = IsFirstBad name words (kinds_after name (second_of words)) fault
+IsFaultAfter name words (faults.Word fault) = IsFirstBad name words (kinds_after_name name (second_of words)) fault
 IsFaultAfter name words (faults.Few least given) = ⊥
 IsFaultAfter name words (faults.Misplaced text) = ⊥

@@ -1,6 +1,6 @@
 //! The kinds of the words of lines.
 ghost use Rattle.std.specs.Prelude.{◌≡◌, Some, None, IfSome, IfNone};
-ghost use Rattle.txc_words.specs.Faults.{change_line, first_kinds, kinds_after, place, query_line, usage_text};
+ghost use Rattle.txc_words.specs.Faults.{change_line, first_kinds, kinds_after_name, place, query_line, usage_text};
 ghost use Rattle.txc_script.specs.declared.line_fault.WordKind.{WordKind};
 
 use crate::name::LineName;
@@ -124,9 +124,9 @@ fn write_kinds(name: &[u8]) -> Option<&'static [WordKind]>
 }
 
 /// The kinds of the words after a line's name, of which the second may name a query or a change.
-pub fn kinds_after(name: LineName, second: &[u8]) -> Option<&'static [WordKind]>
-    ensures answer { IfSome result (λ kinds. kinds_after name second.now ≡ Some kinds.now) }
-    ensures refused { IfNone result (kinds_after name second.now ≡ None) }
+pub fn kinds_after_name(name: LineName, second: &[u8]) -> Option<&'static [WordKind]>
+    ensures answer { IfSome result (λ kinds. kinds_after_name name second.now ≡ Some kinds.now) }
+    ensures refused { IfNone result (kinds_after_name name second.now ≡ None) }
 {
     match name {
         LineName::Put => Some(PUT.as_slice()),
