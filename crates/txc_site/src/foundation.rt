@@ -2,7 +2,7 @@
 ghost use Rattle.std.specs.Prelude.{◌≡◌, ◌≤◌, IfOk, vec_len};
 ghost use Rattle.txc_db.specs.Shared.{IsDatabaseOf};
 ghost use Rattle.txc_site.specs.Plans.{nodes_of, IsPlan};
-ghost use Rattle.txc_site.specs.Histories.{AreHistoriesOf, HaveHistoriesBy, IsNew, history_name};
+ghost use Rattle.txc_site.specs.Histories.{AreHistoriesOf, IsNew, history_name};
 
 use crate::keeper::retire;
 use crate::node_history::NodeHistory;
@@ -22,10 +22,8 @@ pub(crate) struct Foundation<A: App, J: Naming> {
     pub(crate) cushion: Pincushion<J>,
     pub(crate) nodes: Vec<SharedNode<A, J>>,
     pub(crate) plan: Plan,
-    ghost sound: { IsPlan plan },
     ghost some: { 1 ≤ vec_len nodes },
     ghost planned: { nodes.items ≡ nodes_of plan },
-    ghost histories: { HaveHistoriesBy plan J.node_histories },
 }
 
 /// A node of the history.
@@ -84,7 +82,6 @@ impl<A: App, J: Naming> Foundation<A, J> {
         requires database { core.events ≡ J.database_row }
         requires each { vec_len histories ≡ plan.nodes }
         requires histories { AreHistoriesOf J.node_histories 0 histories.items }
-        requires stored_so { HaveHistoriesBy plan J.node_histories }
         ensures { IfOk result (λ foundation. foundation.plan ≡ plan) }
     {
         let database = Database::<J>::new(alloc, core)?;
