@@ -12,7 +12,7 @@ use Rattle.txc_ports.specs.Exchanges.{Exchange, IsExchange}
 use Rattle.txc_ports.proofs.Offered.{both_exchange, by_exchange}
 use Rattle.txc_txn.specs.Kept.{HasGoneOn}
 use Rattle.txc_client.specs.Ports.{PassesAfter}
-use Rattle.txc_client.specs.Run.{ExchangeLeads, ExchangesLead, HasBegun, HasRun, IsRefusedSo}
+use Rattle.txc_client.specs.Run.{ExchangeLeads, ExchangesLead, HasBegun, HasRun, IsToldSo}
 use Rattle.txc_client.specs.Txn.{RoTxnValue}
 
 module _ (next : Next) (row : List ℕ) (node_histories : ℕ → Name) where
@@ -47,20 +47,20 @@ module _ (next : Next) (row : List ℕ) (node_histories : ℕ → Name) where
 
     -- a request that was answered, and what came of the reply, is an exchange more
     pub run_asked : (mid new : RoTxnValue) (then turn : Turn) (request : PortRequest) (reply : PortReply) → then ≡ Ask request
-        → IsReplyTo next request reply → IsOfRow row reply → IsExchange (IsRefusedSo row) request reply
+        → IsReplyTo next request reply → IsOfRow row reply → IsExchange (IsToldSo row) request reply
         → IsExchange (λ x. PassesAfter node_histories mid.passes x new.passes) request reply → HasGoneOn next mid.txn reply new.txn turn
         → HasRun next row node_histories old k mid then → HasRun next row node_histories old k new turn
-    run_asked mid new then turn request reply asks to of_row refused passes goes_on run =
-        let given : Exchange → Type 0 = λ x. IsAnsweredRight next x × IsRefusedSo row x in
+    run_asked mid new then turn request reply asks to of_row told passes goes_on run =
+        let given : Exchange → Type 0 = λ x. IsAnsweredRight next x × IsToldSo row x in
         let left : Exchange → Type 0 = λ x. PassesAfter node_histories mid.passes x new.passes in
         by_exchange (λ x. given x × left x)
         (λ q r. then ≡ Ask q → IsOfRow row r → HasGoneOn next mid.txn r new.txn turn → HasRun next row node_histories old k new turn)
         (λ x h asks of_row goes_on. run_on mid new then turn x run (record {
           asks = asks;
-          given = record { right = h.0.0; of_row = of_row; refused = h.0.1 };
+          given = record { right = h.0.0; of_row = of_row; told = h.0.1 };
           passes = h.1;
           goes_on = goes_on;
         }))
         request reply
-        (both_exchange given left request reply (both_exchange (IsAnsweredRight next) (IsRefusedSo row) request reply to refused) passes)
+        (both_exchange given left request reply (both_exchange (IsAnsweredRight next) (IsToldSo row) request reply to told) passes)
         asks of_row goes_on

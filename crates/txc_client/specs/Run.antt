@@ -1,10 +1,11 @@
 -- How a call of a transaction goes: what it asks and is replied, what each request leaves of the passes, and what
 -- comes of each reply.
 use Rattle.txc_stream.specs.Names.{Name}
-use Rattle.std.specs.Prelude.{◌≡◌, ℕ, List, [], ◌∷◌, Some, Result, Ok, Err}
+use Rattle.std.specs.Prelude.{◌≡◌, ℕ, List, [], ◌∷◌, length, Some, Result, Ok, Err}
+use Rattle.txc_rows.specs.RowTags.{query_tag}
 use Rattle.txc_tags.specs.Keys.{Call}
 use Rattle.txc_db.specs.Calls.{IsPinRefused, IsQueryRefused}
-use Rattle.txc_db.specs.Shared.{MayRefuse}
+use Rattle.txc_db.specs.Shared.{IsQueryAnswer, MayAnswer, MayRefuse}
 use Rattle.txc_cushion.specs.Refusals.{IsAddRefused}
 use Rattle.txc_cushion.specs.Shared.{CushionMayAnswer}
 use Rattle.txc_app.specs.Eval.{Next}
@@ -22,20 +23,25 @@ use Rattle.txc_txn.specs.Leading.{StartLeads}
 use Rattle.txc_client.specs.Ports.{PassesAfter}
 use Rattle.txc_client.specs.Txn.{RoTxnValue}
 
--- what the database or the pincushion refuses, some database or some pincushion of the row refuses so
-abbrev pub IsRefusedSo : List ℕ → Exchange → Type 0
-IsRefusedSo row (exchanges.Pin now at_least (Err error)) = MayRefuse row (λ d. IsPinRefused d at_least) error
-IsRefusedSo row (exchanges.AddPin pinned given (Err error)) =
+-- What the database or the pincushion refuses, some database or some pincushion of the row refuses so. A pin is the newest
+-- event of the history that it shows. What is found for a query, some database of the row answers so, over the largest reach
+-- that it can tell, and with the query's tag alone.
+abbrev pub IsToldSo : List ℕ → Exchange → Type 0
+IsToldSo row (exchanges.Pin now at_least (Ok pinned)) = pinned.stamp ≡ length pinned.front.history
+IsToldSo row (exchanges.Pin now at_least (Err error)) = MayRefuse row (λ d. IsPinRefused d at_least) error
+IsToldSo row (exchanges.AddPin pinned given (Err error)) =
     CushionMayAnswer row (λ c. IsAddRefused c pinned.stamp) error
-IsRefusedSo row (exchanges.Query query stamp (Err error)) =
+IsToldSo row (exchanges.Query query stamp (Ok found)) =
+    MayAnswer row (λ d. IsQueryAnswer d query stamp) found × (found.answer.tags ≡ query_tag query ∷ [])
+IsToldSo row (exchanges.Query query stamp (Err error)) =
     MayRefuse row (λ d. IsQueryRefused d query stamp) error
-IsRefusedSo row exchange = Unit {0}
+IsToldSo row exchange = Unit {0}
 
 -- the reply is one of the ports of the row, right in the history that it shows
 pub record IsGiven (next : Next) (row : List ℕ) (x : Exchange) : Type 0 where
   pub right : IsAnsweredRight next x
   pub of_row : IsOfRow row (reply_of x)
-  pub refused : IsRefusedSo row x
+  pub told : IsToldSo row x
 
 -- the call has begun, with this turn, and no pass was used
 pub record HasBegun (old : RoTxnValue) (k : Call) (new : RoTxnValue) (turn : Turn) : Type 0 where

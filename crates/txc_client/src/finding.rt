@@ -1,7 +1,8 @@
 //! Queries of transactions, asked at the locked database.
-ghost use Rattle.std.specs.Prelude.{◌≡◌, IfErr, IfOk};
+ghost use Rattle.std.specs.Prelude.{◌≡◌, ◌∷◌, [], IfErr, IfOk};
+ghost use Rattle.txc_rows.specs.RowTags.{query_tag};
 ghost use Rattle.txc_db.specs.Calls.{IsQueryRefused};
-ghost use Rattle.txc_db.specs.Shared.{MayRefuse};
+ghost use Rattle.txc_db.specs.Shared.{IsQueryAnswer, MayAnswer, MayRefuse};
 ghost use Rattle.txc_ports.specs.Asking.{IsFoundOver};
 
 use std::alloc::Global;
@@ -21,6 +22,8 @@ pub(crate) fn find<J: Naming>(
     stamp: Stamp,
 ) -> Result<Answered<Found>, DbError>
     ensures answer { IfOk result (λ found. IsFoundOver found.front.history query.now stamp found.answer) }
+    ensures database { IfOk result (MayAnswer J.database_row (λ d. IsQueryAnswer d query.now stamp)) }
+    ensures tag { IfOk result (λ found. found.answer.tags ≡ query_tag query.now ∷ []) }
     ensures row { IfOk result (λ found. found.front.events ≡ J.database_row) }
     ensures refused { IfErr result (MayRefuse J.database_row (λ d. IsQueryRefused d query.now stamp)) }
 {

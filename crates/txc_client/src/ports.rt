@@ -41,7 +41,7 @@ impl<'a, A: App, J: Naming> Model for Ports<'a, A, J> {
 impl<'a, A: App, J: Naming> Ports<'a, A, J> {
     ghost use Rattle.txc_app.specs.Claims.{IsTrueIn, entry_shown};
     ghost use Rattle.txc_client.specs.Ports.{CountsLeave, HaveGrown, InsertLeaves, IsCallAt, LookupLeaves, PassesAfter};
-    ghost use Rattle.txc_client.specs.Run.{IsRefusedSo};
+    ghost use Rattle.txc_client.specs.Run.{IsToldSo};
     ghost use Rattle.txc_ports.specs.Asking.{IsOfRow, IsReplyTo, MayAsk};
     ghost use Rattle.txc_ports.specs.Exchanges.{IsExchange};
 
@@ -156,7 +156,7 @@ impl<'a, A: App, J: Naming> Ports<'a, A, J> {
         requires may { MayAsk A.next J.database_row (length self.old) seen.now.history request }
         ensures answer { IsReplyTo A.next request result }
         ensures row { IsOfRow J.database_row result }
-        ensures refused { IsExchange (IsRefusedSo J.database_row) request result }
+        ensures told { IsExchange (IsToldSo J.database_row) request result }
         ensures passes { HaveGrown self.old self.new }
         ensures left { IsExchange (λ x. PassesAfter J.node_histories self.old x self.new) request result }
     {

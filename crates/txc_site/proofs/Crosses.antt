@@ -20,13 +20,19 @@ use Rattle.txc_client.proofs.Crosses.{client_send}
 use Rattle.txc_site.specs.contracts.client.SiteClient as SiteClient
 use Rattle.txc_site.specs.contracts.client.SiteClient.TheInside as inside
 use Rattle.txc_site.specs.contracts.foundation.Foundation as Foundation
+use Rattle.txc_site.specs.contracts.ledger.Ledger as Ledger
+use Rattle.txc_site.proofs.ledger.Committer.TheSendSync as committer
 use Rattle.txc_site.proofs.plan.Plan.TheSendSync as plan
+
+module _ (J : RattleType) (g : naming.Ghosts J.Denot) where
+  pub ledger_sync : IsSync (Ledger.the_row J g)
+  ledger_sync = declared_sync (Ledger.the_type J g) (database_sync J g, (cushion.the_sync J g, tt))
 
 module _ (A J : RattleType) (a : app.Ghosts A.Denot) (g : naming.Ghosts J.Denot) where
   pub foundation_sync : IsSync (Foundation.the_row A J a g)
   foundation_sync = declared_sync (Foundation.the_type A J a g) (
-    database_sync J g,
-    (cushion.the_sync J g, (Vec-sync (SharedNode.the_row A J a g) (node_sync A a J g), (plan.the_sync, tt))),
+    ledger_sync J g,
+    (Vec-sync (SharedNode.the_row A J a g) (node_sync A a J g), (plan.the_sync, tt)),
   )
 
 module _ (l : NamedLft) (A D J : RattleType) (a : app.Ghosts A.Denot) (d : definition.Ghosts D.Denot) (g : naming.Ghosts J.Denot) where
@@ -38,6 +44,6 @@ module _ (l : NamedLft) (A D J : RattleType) (a : app.Ghosts A.Denot) (d : defin
         as_row_send (shr_ref_field l (Foundation.the_row A J a g) tt) (shr_send _ _ _ (foundation_sync A J a g)),
         (
           client_send l A (Function.the_row D d) J a ghosts g object,
-          (registry.the_send A (Function.the_row D d) a ghosts object, tt),
+          (registry.the_send A (Function.the_row D d) a ghosts object, (committer.the_send J g, tt)),
         ),
       ))

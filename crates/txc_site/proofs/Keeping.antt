@@ -1,29 +1,37 @@
 -- What a keeper did with one node more.
-use Rattle.std.proofs.Common.{◌≡◌, ◌∙◌, ℕ, ◌+◌, ◌<◌, List, [], ◌∷◌, ◌++◌, Option, map, length, get_or, take, sym, ap, subst}
-use Rattle.std.proofs.lemmas.List.{append_assoc, map-append}
+use Rattle.std.proofs.Common.{◌≡◌, ◌∙◌, ℕ, ◌+◌, ◌<◌, List, [], ◌∷◌, ◌++◌, Option, map, length, get_or, take, sym, ap, subst, rules}
+use Rattle.std.proofs.lemmas.List.{append_assoc, map-append, take_more}
+use Rattle.std.proofs.lemmas.List.Elements.{All-append}
 use Rattle.std.specs.Prelude.{All}
 use Rattle.txc_stream.specs.Names.{Name}
-use Rattle.txc_client.proofs.Drawn.{none_seen, one_more, settings_of}
 use Rattle.txc_shared.specs.declared.advanced.Advanced.TheVariants as advances
 use Rattle.txc_shared.specs.declared.settings.NodeSettings.{NodeSettings}
 use Rattle.txc_shared.specs.Passes.{PassValue, HasGrown, HasTaken}
 use Rattle.txc_site.specs.Keeping.{HasKeptNode, HasTakenEach, HaveKept}
+use Rattle.txc_site.specs.Stations.{StationValue, HasNotRefused, IsSamePass}
 use Rattle.txc_site.specs.declared.keeper.KeptNode.{KeptNode}
 
 -- a pass that has grown is the same pass
 pub same_settings : (old new : PassValue) → HasGrown old new → new.settings ≡ old.settings
 same_settings old new grown = ap (λ (p : PassValue). p.settings) grown.is
 
-pub same_pass : (old new : PassValue) → HasGrown old new → new.pass ≡ old.pass
-same_pass old new grown = ap (λ (p : PassValue). p.pass) grown.is
+pub same_number : (old new : PassValue) → HasGrown old new → new.pass ≡ old.pass
+same_number old new grown = ap (λ (p : PassValue). p.pass) grown.is
+
+pub same_pass : (old new : StationValue) → HasGrown old.pass new.pass → IsSamePass old new
+same_pass old new grown =
+    record { settings = same_settings old.pass new.pass grown; pass = same_number old.pass new.pass grown }
+
+pub same_then : (old mid new : StationValue) → IsSamePass old mid → IsSamePass mid new → IsSamePass old new
+same_then old mid new a b = record { settings = b.settings ∙ a.settings; pass = b.pass ∙ a.pass }
 
 -- one event more was taken
-pub one_taken_more : (old last new : PassValue) (stamps : List ℕ) (stamp closed : ℕ) → HasTakenEach old stamps last
-    → HasTaken last new (advances.Taken stamp closed) → HasTakenEach old (stamp ∷ stamps) new
-one_taken_more old last new stamps stamp closed before taken = (last, closed, before, taken)
+pub one_taken_more : (old last new : StationValue) (stamps : List ℕ) (stamp closed : ℕ) → HasTakenEach old stamps last
+    → HasTaken last.pass new.pass (advances.Taken stamp closed) → HasNotRefused last new → HasTakenEach old (stamp ∷ stamps) new
+one_taken_more old last new stamps stamp closed before taken answered = (last, closed, before, taken, answered)
 
-one_kept_more : (histories : ℕ → Name) (h : Option ℕ) (olds : List PassValue) (all : List KeptNode) (news : List PassValue)
-    (old : PassValue) (kept : KeptNode) (new : PassValue) → HaveKept histories h olds all news → HasKeptNode histories h old kept new
+one_kept_more : (histories : ℕ → Name) (h : Option ℕ) (olds : List StationValue) (all : List KeptNode) (news : List StationValue)
+    (old : StationValue) (kept : KeptNode) (new : StationValue) → HaveKept histories h olds all news → HasKeptNode histories h old kept new
     → HaveKept histories h (olds ++ old ∷ []) (all ++ kept ∷ []) (news ++ new ∷ [])
 one_kept_more histories h [] [] [] old kept new before one = (one, tt)
 one_kept_more histories h (o ∷ olds) (k ∷ all) (n ∷ news) old kept new before one =
@@ -34,42 +42,45 @@ one_kept_more histories h (o ∷ olds) [] news old kept new before one = absurd 
 one_kept_more histories h (o ∷ olds) (k ∷ all) [] old kept new before one = absurd before
 
 -- none was kept
-pub none_kept : {T : Type 0} (pass : T → PassValue) (histories : ℕ → Name) (h : Option ℕ) (nodes : List KeptNode) (left : List T) → nodes ≡ []
-    → left ≡ [] → HaveKept histories h [] nodes (map pass left)
-none_kept {T} pass histories h nodes left no_node none =
-    subst (λ (all : List KeptNode). HaveKept histories h [] all (map pass left)) (sym no_node)
-    (subst (λ (xs : List T). HaveKept histories h [] [] (map pass xs)) (sym none) tt)
+pub none_kept : (histories : ℕ → Name) (h : Option ℕ) (nodes : List KeptNode) (left : List StationValue) → nodes ≡ [] → left ≡ []
+    → HaveKept histories h [] nodes left
+none_kept histories h nodes left no_node none =
+    subst (λ (all : List KeptNode). HaveKept histories h [] all left) (sym no_node)
+    (subst (λ (xs : List StationValue). HaveKept histories h [] [] xs) (sym none) tt)
 
 -- one station more was kept, and is left with those that were
-pub one_left_more : {T : Type 0} (pass : T → PassValue) (histories : ℕ → Name) (h : Option ℕ) (olds : List PassValue)
-    (nodes more : List KeptNode) (left others : List T) (kept : KeptNode) (station after : T)
-    → HaveKept histories h olds nodes (map pass left) → HasKeptNode histories h (pass station) kept (pass after)
+pub one_left_more : (histories : ℕ → Name) (h : Option ℕ) (olds : List StationValue) (nodes more : List KeptNode)
+    (left others : List StationValue) (kept : KeptNode) (station after : StationValue)
+    → HaveKept histories h olds nodes left → HasKeptNode histories h station kept after
     → more ≡ nodes ++ kept ∷ [] → others ≡ left ++ after ∷ []
-    → HaveKept histories h (olds ++ pass station ∷ []) more (map pass others)
-one_left_more pass histories h olds nodes more left others kept station after before one is added =
-    let news = ap (map pass) added ∙ map-append pass left (after ∷ []) in
-    subst (λ (all : List KeptNode). HaveKept histories h (olds ++ pass station ∷ []) all (map pass others)) (sym is)
-    (subst (λ (ps : List PassValue). HaveKept histories h (olds ++ pass station ∷ []) (nodes ++ kept ∷ []) ps) (sym news)
-    (one_kept_more histories h olds nodes (map pass left) (pass station) kept (pass after) before one))
+    → HaveKept histories h (olds ++ station ∷ []) more others
+one_left_more histories h olds nodes more left others kept station after before one is added =
+    subst (λ (all : List KeptNode). HaveKept histories h (olds ++ station ∷ []) all others) (sym is)
+    (subst (λ (xs : List StationValue). HaveKept histories h (olds ++ station ∷ []) (nodes ++ kept ∷ []) xs) (sym added)
+    (one_kept_more histories h olds nodes left station kept after before one))
 
 -- the stations that were kept and those that are not are all
-pub one_station_less : {T : Type 0} (pass : T → PassValue) (olds all : List PassValue) (station : T) (rest before : List T)
-    → olds ++ map pass before ≡ all → before ≡ station ∷ rest → (olds ++ pass station ∷ []) ++ map pass rest ≡ all
-one_station_less {T} pass olds all station rest before so_far step =
-    append_assoc olds (pass station ∷ []) (map pass rest)
-    ∙ sym (ap (λ (xs : List T). olds ++ map pass xs) step)
-    ∙ so_far
+pub one_station_less : (olds all : List StationValue) (station : StationValue) (rest before : List StationValue)
+    → olds ++ before ≡ all → before ≡ station ∷ rest → (olds ++ station ∷ []) ++ rest ≡ all
+one_station_less olds all station rest before so_far step =
+    append_assoc olds (station ∷ []) rest ∙ sym (ap (λ (xs : List StationValue). olds ++ xs) step) ∙ so_far
 
 -- one station more has a new pass
-module _ {T : Type 0} (pass : T → PassValue) (stations more : List T) (s : T) (added : more ≡ stations ++ s ∷ []) where
-  drawn : map pass more ≡ map pass stations ++ pass s ∷ []
-  drawn = ap (map pass) added ∙ map-append pass stations (s ∷ [])
+module _ (stations more : List StationValue) (s : StationValue) (added : more ≡ stations ++ s ∷ []) where
+  abbrev settings_of : StationValue → NodeSettings
+  settings_of x = x.pass.settings
 
   pub one_station_more : (nodes : List NodeSettings) (i : ℕ) (node : NodeSettings) → i < length nodes
-      → map settings_of (map pass stations) ≡ take i nodes → (pass s).settings ≡ node → node ≡ get_or nodes i node
-      → map settings_of (map pass more) ≡ take (i + 1) nodes
+      → map (λ x. x.pass.settings) stations ≡ take i nodes → s.pass.settings ≡ node → node ≡ get_or nodes i node
+      → map (λ x. x.pass.settings) more ≡ take (i + 1) nodes
   one_station_more nodes i node within before own at =
-      one_more (map pass stations) (map pass more) (pass s) drawn nodes i node within before own at
+      ap (map settings_of) added
+      ∙ map-append settings_of stations (s ∷ [])
+      ∙ ap (λ (l : List NodeSettings). l ++ s.pass.settings ∷ []) before
+      ∙ ap (λ (n : NodeSettings). take i nodes ++ n ∷ []) (own ∙ at)
+      ∙ sym (take_more nodes i node within)
 
-  pub none_has_seen : All (λ q. q.records ≡ []) (map pass stations) → (pass s).records ≡ [] → All (λ q. q.records ≡ []) (map pass more)
-  none_has_seen before own = none_seen (map pass stations) (map pass more) (pass s) drawn before own
+  pub none_has_seen : All (λ x. x.pass.records ≡ []) stations → s.pass.records ≡ [] → All (λ x. x.pass.records ≡ []) more
+  none_has_seen before own =
+      subst (All (λ x. x.pass.records ≡ [])) (sym added)
+      (All-append (λ x. x.pass.records ≡ []) stations (s ∷ []) before (λ k d within. search rules))

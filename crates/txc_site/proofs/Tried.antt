@@ -8,7 +8,7 @@ use Rattle.txc_rw.specs.Core.{RwValue}
 use Rattle.txc_site.specs.declared.error.WriteError.{WriteError}
 use Rattle.txc_site.specs.declared.writing.Attempt.{Attempt}
 use Rattle.txc_site.specs.declared.writing.Attempt.TheVariants as attempts
-use Rattle.txc_site.specs.Attempts.{IsAttempted}
+use Rattle.txc_site.specs.Attempts.{CountsAttempt, IsAttempted}
 use Rattle.txc_site.specs.Writes.{IsRefusedCommit, IsSiteWriteRefused}
 
 module _ {T : Type 0} (next : Next) (row : List ℕ) (makes : RwValue → T → Type 0) (refuses : TxnError → Type 0) (attempt : Attempt T) where
@@ -21,3 +21,8 @@ module _ {T : Type 0} (next : Next) (row : List ℕ) (makes : RwValue → T → 
   refused_so error did is tries =
       let so = subst (IsAttempted next row makes refuses) is did in
       so.1 tries
+
+-- a conflict was not committed
+pub uncounted_so : {T : Type 0} (attempt : Attempt T) (conflict : Answered ℕ) (old new : ℕ) → CountsAttempt attempt old new
+    → attempt ≡ attempts.Conflict conflict → new ≡ old
+uncounted_so {T} attempt conflict old new counted is = subst (λ (a : Attempt T). CountsAttempt a old new) is counted

@@ -1,5 +1,5 @@
 -- Only private functions need this file: what one run of a change came to.
-use Rattle.std.specs.Prelude.{ℕ, List}
+use Rattle.std.specs.Prelude.{◌≡◌, ℕ, List}
 use Rattle.txc_app.specs.Eval.{Next}
 use Rattle.txc_db.specs.declared.answered.CommitError.TheVariants as commits
 use Rattle.txc_ports.specs.declared.error.TxnError.{TxnError}
@@ -8,6 +8,7 @@ use Rattle.txc_site.specs.declared.error.WriteError.{WriteError}
 use Rattle.txc_site.specs.declared.error.WriteError.TheVariants as writes
 use Rattle.txc_site.specs.declared.writing.Attempt.{Attempt}
 use Rattle.txc_site.specs.declared.writing.Attempt.TheVariants as attempts
+use Rattle.txc_site.specs.Counted.{counted_again}
 use Rattle.txc_site.specs.Writes.{IsRefusedCommit, IsSiteWriteRefused, IsWritten}
 
 -- it is no list of conflicts, and no lack of memory for one
@@ -22,3 +23,8 @@ IsAttempted next row makes refuses (attempts.Done output committed) = IsWritten 
 IsAttempted next row makes refuses (attempts.Conflict conflict) = IsRefusedCommit row makes (commits.Conflict conflict)
 IsAttempted next row makes refuses (attempts.Refused error) =
     IsOfRun error × ((tries : ℕ) → IsSiteWriteRefused row makes refuses tries error)
+
+-- where it was done, the committer committed once more, and else not at all
+abbrev pub CountsAttempt : {T : Type 0} → Attempt T → ℕ → ℕ → Type 0
+CountsAttempt (attempts.Done output committed) old new = new ≡ counted_again old
+CountsAttempt attempt old new = new ≡ old

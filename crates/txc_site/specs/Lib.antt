@@ -1,8 +1,11 @@
 pub mod Attempts
+pub mod Counted
 pub mod Generations
 pub mod Keeping
 pub mod Opened
 pub mod Histories
 pub mod Plans
+pub mod Retired
 pub mod Sites
+pub mod Stations
 pub mod Writes

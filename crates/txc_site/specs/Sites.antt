@@ -16,20 +16,23 @@ use Rattle.txc_site.specs.declared.error.ReadError.TheVariants as reads
 use Rattle.txc_site.specs.Histories.{HaveHistoriesBy}
 use Rattle.txc_site.specs.Plans.{nodes_of, IsPlan}
 
--- a client of a site: the site's plan, the client that reads, and what the objects do that a change calls
+-- a client of a site: the site's plan, the client that reads, what the objects do that a change calls, and how often a
+-- change was committed
 pub record SiteClientValue : Type 0 where
   pub plan : Plan
   pub reader : ClientValue
   pub writer : Objects
+  pub commits : ℕ
 
 -- The client is new: it has a pass through each node of its site's plan, and has seen none of their records. Each
--- of these histories is stored as the plan says, or is not.
+-- of these histories is stored as the plan says, or is not. It has committed nothing.
 pub record IsNewClient (named : ℕ → Name) (client : SiteClientValue) : Type 0 where
   pub planned : IsPlan client.plan
   pub nodes : map (λ pass. pass.settings) client.reader.passes ≡ nodes_of client.plan
   pub histories : HaveHistoriesBy client.plan named
   pub unseen : All (λ pass. pass.records ≡ []) client.reader.passes
   pub renew_after : client.reader.renew_after ≡ client.plan.renew_after
+  pub commits : client.commits ≡ 0
 
 -- the numbers of so many threads
 abbrev pub numbers_below : ℕ → List ℕ

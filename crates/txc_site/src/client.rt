@@ -1,9 +1,10 @@
 //! Clients of a site.
-ghost use Rattle.std.specs.Prelude.{◌≡◌, ◌+◌, ◌<◌, ◌≤◌, [], All, IfErr, IfOk, MatchOption, None, length, map, slice_get, vec_len};
+ghost use Rattle.std.specs.Prelude.{◌≡◌, ◌+◌, ◌<◌, ◌≤◌, [], All, IfErr, IfOk, MatchOption, None, OnErr, OnOk, length, map, slice_get, vec_len};
 ghost use Rattle.txc_stream.specs.Names.{HasRow};
 ghost use Rattle.txc_node.specs.Counts.{AreCountsOf};
 ghost use Rattle.txc_client.specs.Ports.{CountsLeave, HaveGrown, IsCallAt};
 ghost use Rattle.txc_registry.specs.Objects.{AllIdle};
+ghost use Rattle.txc_site.specs.Counted.{counted_again};
 ghost use Rattle.txc_site.specs.Plans.{nodes_of};
 ghost use Rattle.txc_site.specs.Sites.{IsKeeperRefused, IsPageRefused};
 ghost use Rattle.txc_site.specs.Writes.{AreConflicts, IsWritten, IsSiteWriteRefused};
@@ -14,6 +15,7 @@ use crate::change::Change;
 use crate::error::{ReadError, SiteError, WriteError};
 use crate::foundation::Foundation;
 use crate::keeper::Keeper;
+use crate::ledger::Committer;
 use crate::page::Page;
 use crate::reading::{Shown, read_page};
 use crate::writing::{Written, write_change};
@@ -34,6 +36,7 @@ pub struct SiteClient<'a, A: App, D: Definition, J: Naming> {
     foundation: &'a Foundation<A, J>,
     reader: Client<'a, A, Function<D>, J>,
     writer: Registry<A, Function<D>>,
+    committer: Committer<J>,
 }
 
 impl<'a, A: App, D: Definition, J: Naming> Model for SiteClient<'a, A, D, J> {
@@ -42,7 +45,12 @@ impl<'a, A: App, D: Definition, J: Naming> Model for SiteClient<'a, A, D, J> {
 
     ghost Value = { SiteClientValue };
 
-    ghost view = { λ c. record { plan = c.foundation.now.plan; reader = c.reader; writer = c.writer } };
+    ghost view = { λ c. record {
+      plan = c.foundation.now.plan;
+      reader = c.reader;
+      writer = c.writer;
+      commits = c.committer;
+    } };
 
     ghost invariant = { λ c. AllIdle c.writer };
 }
@@ -52,15 +60,21 @@ impl<'a, A: App, D: Definition, J: Naming> SiteClient<'a, A, D, J> {
         foundation: &'a Foundation<A, J>,
         reader: Client<'a, A, Function<D>, J>,
         writer: Registry<A, Function<D>>,
+        committer: Committer<J>,
     ) -> Self
         requires { AllIdle writer }
-        ensures { result
-            ≡ record { plan = foundation.now.plan; reader = reader.entry; writer = writer } }
+        ensures { result ≡ record {
+          plan = foundation.now.plan;
+          reader = reader.entry;
+          writer = writer;
+          commits = committer;
+        } }
     {
         SiteClient {
             foundation,
             reader,
             writer,
+            committer,
         }
     }
 
@@ -85,24 +99,27 @@ impl<'a, A: App, D: Definition, J: Naming> SiteClient<'a, A, D, J> {
         ensures renew_after { result.1.reader.renew_after ≡ self.entry.reader.renew_after }
         ensures plan { result.1.plan ≡ self.entry.plan }
         ensures writer { result.1.writer ≡ self.entry.writer }
+        ensures commits { result.1.commits ≡ self.entry.commits }
     {
         let SiteClient {
             foundation,
             reader,
             writer,
+            committer,
         } = self;
         let (shown, reader) = read_page(rt, alloc, reader, bounds, page);
         let client = SiteClient {
             foundation,
             reader,
             writer,
+            committer,
         };
         (shown, client)
     }
 
     /// Runs the change in a read-write transaction, and commits that. After a conflict it runs the change
-    /// anew, in a new transaction, as often as there are tries. What is returned is of the last run. Where
-    /// it is refused, nothing was committed. Either way the client is returned.
+    /// anew, in a new transaction, as often as there are tries. What is returned is of the last run, which was
+    /// committed once. Where it is refused, nothing was. Either way the client is returned.
     pub fn write<C: Change<A, D>, R: Wait>(
         self,
         rt: &R,
@@ -117,18 +134,22 @@ impl<'a, A: App, D: Definition, J: Naming> SiteClient<'a, A, D, J> {
         ensures few { IfOk result.0 (λ written. vec_len written.conflicts + 1 ≤ tries) }
         ensures refused { IfErr result.0
             (IsSiteWriteRefused J.database_row (C.makes change.now) (C.refuses change.now) tries) }
-        ensures client { result.1 ≡ self.entry }
+        ensures committed { OnOk result.0
+            (result.1 ≡ record self.entry { commits = counted_again self.entry.commits }) }
+        ensures not_committed { OnErr result.0 (result.1 ≡ self.entry) }
     {
         let SiteClient {
             foundation,
             reader,
             writer,
+            mut committer,
         } = self;
         let (written, writer) = write_change(
             rt,
             alloc,
-            &foundation.database,
+            &foundation.ledger,
             writer,
+            &mut committer,
             tries,
             change,
         );
@@ -136,6 +157,7 @@ impl<'a, A: App, D: Definition, J: Naming> SiteClient<'a, A, D, J> {
             foundation,
             reader,
             writer,
+            committer,
         };
         (written, client)
     }
@@ -143,11 +165,18 @@ impl<'a, A: App, D: Definition, J: Naming> SiteClient<'a, A, D, J> {
     /// A keeper of the site, with a pass of its own through each node.
     pub fn keeper(&self, rt: &impl Wait, alloc: Global) -> Result<Keeper<'a, A, J>, SiteError>
         ensures nodes { IfOk result (λ keeper.
-            map (λ pass. pass.settings) keeper ≡ nodes_of self.now.plan) }
-        ensures records { IfOk result (λ keeper. All (λ pass. pass.records ≡ []) keeper) }
+            map (λ s. s.pass.settings) keeper ≡ nodes_of self.now.plan) }
+        ensures records { IfOk result (λ keeper. All (λ s. s.pass.records ≡ []) keeper) }
         ensures refused { IfErr result IsKeeperRefused }
     {
         Keeper::new(rt, alloc, self.foundation)
+    }
+
+    /// How often it has committed a change.
+    pub fn commits(&self) -> u64
+        ensures { result ≡ self.now.commits }
+    {
+        self.committer.commits()
     }
 
     /// The counts of what the client has seen of a node; none where there is no such node, or its records are not

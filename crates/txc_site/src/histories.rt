@@ -74,8 +74,16 @@ where
     ensures database { IfOk result (λ visited. IsDatabaseOf J.database_row visited.1) }
     ensures refused { IfErr result (IsVisitRefused A.numbers) }
 {
-    let foundation = Foundation::<A, J>::new(alloc, plan, core, histories)?;
+    let (foundation, committers) = Foundation::<A, J>::new(alloc, plan, core, histories)?;
     let mut pool = PermitPool::new(alloc, plan.permits)?;
-    let outputs = visit::<A, D, V, J, R>(rt, alloc, &foundation, &mut pool, count, visitors)?;
+    let outputs = visit::<A, D, V, J, R>(
+        rt,
+        alloc,
+        &foundation,
+        &committers,
+        &mut pool,
+        count,
+        visitors,
+    )?;
     Ok((outputs, foundation.into_core(rt, alloc)))
 }

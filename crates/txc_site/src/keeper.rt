@@ -8,17 +8,19 @@ ghost use Rattle.txc_db.specs.Shared.{MayRefuse};
 ghost use Rattle.txc_site.specs.Keeping.{HasKeptNode, HasSwept, HasTakenEvents, HaveKept, ok_of};
 ghost use Rattle.txc_site.specs.Plans.{nodes_of};
 ghost use Rattle.txc_site.specs.Sites.{IsKeeperRefused};
+ghost use Rattle.txc_site.specs.Stations.{IsSamePass};
 
 use crate::error::SiteError;
 use crate::foundation::Foundation;
+use crate::ledger::{Horizon, Ledger};
 use crate::room::{events_left, records_left};
+use crate::station::Station;
 use std::alloc::{AllocError, Global};
 use std::marker::Model;
 use std::sync::Wait;
 use txc_app::App;
-use txc_cushion::Pincushion;
-use txc_db::{Database, DbError, HistoryFront, Naming, Pinned};
-use txc_shared::{Advanced, NodeError, NodePass, SharedNode};
+use txc_db::{DbError, HistoryFront, Naming, Pinned};
+use txc_shared::{Advanced, NodeError, SharedNode};
 use txc_stamp::Stamp;
 
 /// The most events that a node takes in one call of [`Keeper::keep`].
@@ -50,7 +52,7 @@ pub struct KeptNode {
 
 /// What a keeper did, and what room is left.
 #[derive(Drop)]
-pub struct Kept {
+pub struct Kept<J: Naming> {
     /// The history, as it was seen once the present was pinned.
     pub seen: HistoryFront,
     /// How many events there is room for after those.
@@ -60,16 +62,9 @@ pub struct Kept {
     /// The stamps of the pins that were retired, and whose holds were taken away.
     pub retired: Result<Vec<Stamp>, AllocError>,
     /// The horizon that the vacuum left.
-    pub horizon: Result<Stamp, DbError>,
+    pub horizon: Result<Horizon<J>, DbError>,
     /// What was done with each node, in order.
     pub nodes: Vec<KeptNode>,
-}
-
-/// A node, and the keeper's pass through it.
-#[derive(Drop)]
-struct Station<'a, A: App, J: Naming> {
-    node: &'a SharedNode<A, J>,
-    pass: NodePass<J>,
 }
 
 /// Who pins the present, lets the nodes take events, and tidies. One of a site is enough.
@@ -79,21 +74,19 @@ pub struct Keeper<'a, A: App, J: Naming> {
     stations: Vec<Station<'a, A, J>>,
 }
 
-/// Lets the node take events through the pass, [`MAX_TAKEN`] at most.
-#[tactic(auto, using(crate::proofs::Keeping::same_settings, crate::proofs::Keeping::same_pass))]
+/// Lets the node take events, [`MAX_TAKEN`] at most.
+#[tactic(auto, using(crate::proofs::Keeping::same_then))]
 fn advance<A: App, J: Naming>(
     rt: &impl Wait,
     alloc: Global,
-    node: &SharedNode<A, J>,
-    pass: &mut NodePass<J>,
+    station: &mut Station<'_, A, J>,
 ) -> (usize, Ended)
-    ensures did { HasTakenEvents J.node_histories pass.old result.0 result.1 pass.new }
-    ensures settings { pass.new.settings ≡ pass.old.settings }
-    ensures pass { pass.new.pass ≡ pass.old.pass }
+    ensures did { HasTakenEvents J.node_histories station.old result.0 result.1 station.new }
+    ensures same { IsSamePass station.old station.new }
 {
     let mut taken = 0;
     for _ in 0..MAX_TAKEN {
-        match pass.advance(rt, alloc, node) {
+        match station.advance(rt, alloc) {
             Ok(Advanced::Taken { .. }) => taken += 1,
             Ok(Advanced::Idle) => return (taken, Ended::Idle),
             Err(error) => return (taken, Ended::Refused(error)),
@@ -102,22 +95,19 @@ fn advance<A: App, J: Naming>(
     (taken, Ended::Paused)
 }
 
-/// Sweeps the node through the pass, where there is a horizon.
-#[tactic(auto, using(crate::proofs::Keeping::same_settings, crate::proofs::Keeping::same_pass))]
+/// Sweeps the node, where there is a horizon.
 fn sweep<A: App, J: Naming>(
     rt: &impl Wait,
     alloc: Global,
-    node: &SharedNode<A, J>,
-    pass: &mut NodePass<J>,
-    horizon: Option<Stamp>,
+    station: &mut Station<'_, A, J>,
+    horizon: &Result<Horizon<J>, DbError>,
 ) -> Option<Result<usize, NodeError>>
-    ensures did { HasSwept J.node_histories pass.old horizon result pass.new }
-    ensures settings { pass.new.settings ≡ pass.old.settings }
-    ensures pass { pass.new.pass ≡ pass.old.pass }
+    ensures did { HasSwept J.node_histories station.old (ok_of horizon.now) result station.new }
+    ensures same { IsSamePass station.old station.new }
 {
     match horizon {
-        Some(horizon) => Some(pass.sweep(rt, alloc, node, horizon)),
-        None => None,
+        Ok(horizon) => Some(station.sweep(rt, alloc, horizon)),
+        Err(_) => None,
     }
 }
 
@@ -128,35 +118,37 @@ fn stations<'a, A: App, J: Naming>(
     alloc: Global,
     nodes: &'a [SharedNode<A, J>],
 ) -> Result<Vec<Station<'a, A, J>>, SiteError>
-    ensures nodes { IfOk result (λ stations.
-        map (λ pass. pass.settings) (map (λ s. s.pass) stations.items) ≡ nodes.now) }
-    ensures records { IfOk result (λ stations.
-        All (λ pass. pass.records ≡ []) (map (λ s. s.pass) stations.items)) }
+    ensures nodes { IfOk result (λ stations. map (λ s. s.pass.settings) stations.items ≡ nodes.now) }
+    ensures records { IfOk result (λ stations. All (λ s. s.pass.records ≡ []) stations.items) }
     ensures refused { IfErr result IsKeeperRefused }
 {
     let mut stations = Vec::with_capacity(alloc, nodes.len())?;
     for node in nodes {
-        let pass = node.pass(rt)?;
-        stations.push(Station { node, pass })?;
+        stations.push(Station::new(rt, node)?)?;
     }
     Ok(stations)
 }
 
-impl<A: App, J: Naming> Station<'_, A, J> {
-    fn keep(self, rt: &impl Wait, alloc: Global, horizon: Option<Stamp>) -> (KeptNode, Self)
-        ensures { HasKeptNode J.node_histories horizon self.entry.pass result.0 result.1.pass }
-    {
-        let Station { node, mut pass } = self;
-        let (taken, ended) = advance(rt, alloc, node, &mut pass);
-        let swept = sweep(rt, alloc, node, &mut pass, horizon);
-        let kept = KeptNode {
-            taken,
-            ended,
-            swept,
-            records_left: records_left(&pass),
-        };
-        (kept, Station { node, pass })
-    }
+/// Keeps the node of a station.
+#[tactic(auto, using(crate::proofs::Keeping::same_then))]
+fn keep_node<'a, A: App, J: Naming>(
+    rt: &impl Wait,
+    alloc: Global,
+    station: Station<'a, A, J>,
+    horizon: &Result<Horizon<J>, DbError>,
+) -> (KeptNode, Station<'a, A, J>)
+    ensures { HasKeptNode J.node_histories (ok_of horizon.now) station.entry result.0 result.1 }
+{
+    let mut station = station;
+    let (taken, ended) = advance(rt, alloc, &mut station);
+    let swept = sweep(rt, alloc, &mut station, horizon);
+    let kept = KeptNode {
+        taken,
+        ended,
+        swept,
+        records_left: records_left(station.pass()),
+    };
+    (kept, station)
 }
 
 /// Pins the present, and gives the pin to the pincushion, with no user. Where that does not take it, its hold
@@ -164,8 +156,7 @@ impl<A: App, J: Naming> Station<'_, A, J> {
 fn pin<J: Naming>(
     rt: &impl Wait,
     alloc: Global,
-    database: &Database<J>,
-    cushion: &Pincushion<J>,
+    ledger: &Ledger<J>,
     now: u64,
 ) -> Result<(HistoryFront, Result<Stamp, DbError>), DbError>
     ensures row { IfOk result (λ seen. seen.0.events ≡ J.database_row) }
@@ -176,62 +167,47 @@ fn pin<J: Naming>(
     ensures unseen { IfErr result (λ error. (error ≡ DbError.Memory)
         ⊎ MayRefuse J.database_row IsHoldRefused error) }
 {
-    match database.pin(rt, alloc, now, Stamp::ZERO) {
-        Ok(pinned) => {
-            if cushion.add(rt, &pinned).is_ok() {
-                let _ = cushion.give_back(rt, &[pinned.stamp]);
-            } else {
-                let _ = database.unpin(rt, pinned.stamp);
-            }
-            let Pinned {
-                stamp,
-                moment: _,
-                front,
-            } = pinned;
-            Ok((front, Ok(stamp)))
-        }
+    let pin = match ledger.pin(rt, alloc, now) {
+        Ok(pin) => pin,
         Err(cause) => {
-            let held = database.hold(rt, alloc)?;
-            let front = held.front().again();
-            let _ = database.release(rt, held);
-            Ok((front?, Err(cause)))
+            let front = ledger.seen(rt, alloc)?;
+            return Ok((front, Err(cause)));
         }
-    }
+    };
+    let Pinned {
+        stamp,
+        moment: _,
+        front,
+    } = match ledger.add(rt, pin) {
+        Ok(used) => ledger.give_back(rt, used),
+        Err(pin) => ledger.unpin(rt, pin),
+    };
+    Ok((front, Ok(stamp)))
 }
 
 /// Retires the pins that no transaction may use and that are too old, and takes their holds away.
 pub(crate) fn retire<J: Naming>(
     rt: &impl Wait,
     alloc: Global,
-    database: &Database<J>,
-    cushion: &Pincushion<J>,
+    ledger: &Ledger<J>,
     now: u64,
     age: u64,
 ) -> Result<Vec<Stamp>, AllocError>
     ensures { IfOk result (CushionMayAnswer J.database_row (λ c stamps. stamps.items ≡ retired c now age)) }
 {
-    let stamps = cushion.retire(rt, alloc, now, age)?;
-    for stamp in &stamps {
-        let _ = database.unpin(rt, *stamp);
+    let mut pins = ledger.retire(rt, alloc, now, age)?;
+    let count = pins.len();
+    for _ in 0..count {
+        ledger.unpin_retired(rt, pins.take());
     }
-    Ok(stamps)
+    Ok(pins.stamps())
 }
 
-/// The stamp, if there is one.
-fn stamp_of(horizon: &Result<Stamp, DbError>) -> Option<Stamp>
-    ensures { result ≡ ok_of horizon.now }
-{
-    match horizon {
-        Ok(stamp) => Some(*stamp),
-        Err(_) => None,
-    }
-}
-
-/// Keeps each node. There is room for what is done with them, and for the stations that are left.
+/// Keeps each node. There is room for what is done with them.
 fn keep_all<'a, A: App, J: Naming>(
     rt: &impl Wait,
     alloc: Global,
-    horizon: &Result<Stamp, DbError>,
+    horizon: &Result<Horizon<J>, DbError>,
     stations: Vec<Station<'a, A, J>>,
     mut nodes: Vec<KeptNode>,
     mut left: Vec<Station<'a, A, J>>,
@@ -240,11 +216,10 @@ fn keep_all<'a, A: App, J: Naming>(
     requires none_left { left.items ≡ [] }
     requires room { vec_len stations ≤ vec_capacity nodes }
     requires room_left { vec_len stations ≤ vec_capacity left }
-    ensures { HaveKept J.node_histories (ok_of horizon.now) (map (λ s. s.pass) stations.entry.items) result.0.items
-        (map (λ s. s.pass) result.1.items) }
+    ensures { HaveKept J.node_histories (ok_of horizon.now) stations.entry.items result.0.items result.1.items }
 {
     for station in stations {
-        let (kept, station) = station.keep(rt, alloc, stamp_of(horizon));
+        let (kept, station) = keep_node(rt, alloc, station, horizon);
         nodes.push_reserved(kept);
         left.push_reserved(station);
     }
@@ -252,12 +227,12 @@ fn keep_all<'a, A: App, J: Naming>(
 }
 
 impl<'a, A: App, J: Naming> Model for Keeper<'a, A, J> {
-    ghost use Rattle.std.specs.Prelude.{List, map};
-    ghost use Rattle.txc_shared.specs.Passes.{PassValue};
+    ghost use Rattle.std.specs.Prelude.{List};
+    ghost use Rattle.txc_site.specs.Stations.{StationValue};
 
-    ghost Value = { List PassValue };
+    ghost Value = { List StationValue };
 
-    ghost view = { λ k. map (λ s. s.pass) k.stations.items };
+    ghost view = { λ k. k.stations.items };
 }
 
 impl<'a, A: App, J: Naming> Keeper<'a, A, J> {
@@ -267,8 +242,8 @@ impl<'a, A: App, J: Naming> Keeper<'a, A, J> {
         foundation: &'a Foundation<A, J>,
     ) -> Result<Keeper<'a, A, J>, SiteError>
         ensures nodes { IfOk result (λ keeper.
-            map (λ pass. pass.settings) keeper ≡ nodes_of foundation.now.plan) }
-        ensures records { IfOk result (λ keeper. All (λ pass. pass.records ≡ []) keeper) }
+            map (λ s. s.pass.settings) keeper ≡ nodes_of foundation.now.plan) }
+        ensures records { IfOk result (λ keeper. All (λ s. s.pass.records ≡ []) keeper) }
         ensures refused { IfErr result IsKeeperRefused }
     {
         let stations = stations(rt, alloc, &foundation.nodes)?;
@@ -290,7 +265,7 @@ impl<'a, A: App, J: Naming> Keeper<'a, A, J> {
         alloc: Global,
         now: u64,
         age: u64,
-    ) -> (Result<Kept, DbError>, Self)
+    ) -> (Result<Kept<J>, DbError>, Self)
         ensures row { IfOk result.0 (λ kept. kept.seen.events ≡ J.database_row) }
         ensures events_left { IfOk result.0 (λ kept.
             kept.events_left + length kept.seen.history ≡ length J.database_row) }
@@ -312,7 +287,7 @@ impl<'a, A: App, J: Naming> Keeper<'a, A, J> {
             foundation,
             stations,
         } = self;
-        let (database, cushion) = (&foundation.database, &foundation.cushion);
+        let ledger = &foundation.ledger;
         let count = stations.len();
         let Ok(nodes) = Vec::with_capacity(alloc, count) else {
             let keeper = Keeper {
@@ -328,7 +303,7 @@ impl<'a, A: App, J: Naming> Keeper<'a, A, J> {
             };
             return (Err(DbError::Memory), keeper);
         };
-        let (seen, pinned) = match pin(rt, alloc, database, cushion, now) {
+        let (seen, pinned) = match pin(rt, alloc, ledger, now) {
             Ok(seen) => seen,
             Err(error) => return (
                 Err(error),
@@ -338,8 +313,8 @@ impl<'a, A: App, J: Naming> Keeper<'a, A, J> {
                 },
             ),
         };
-        let retired = retire(rt, alloc, database, cushion, now, age);
-        let horizon = database.vacuum(rt);
+        let retired = retire(rt, alloc, ledger, now, age);
+        let horizon = ledger.vacuum(rt);
         let (nodes, stations) = keep_all(rt, alloc, &horizon, stations, nodes, left);
         let events_left = events_left(&seen);
         let kept = Kept {

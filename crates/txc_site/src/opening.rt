@@ -10,6 +10,7 @@ use crate::application::{Application, registry};
 use crate::change::Change;
 use crate::error::{OpenError, SiteError};
 use crate::histories::over_new_histories;
+use crate::ledger::Ledger;
 use crate::plan::Plan;
 use crate::visitor::Visitor;
 use crate::writing::{Written, write_change};
@@ -17,7 +18,7 @@ use std::alloc::Global;
 use std::marker::Brand;
 use std::sync::Wait;
 use std::thread::Threads;
-use txc_db::{Database, DbCore, Naming};
+use txc_db::{DbCore, Naming};
 use txc_definition::Definition;
 use txc_permits::PermitPool;
 
@@ -123,12 +124,21 @@ where
     ensures refused { IfErr result
         (IsOpeningRefused A.numbers J.database_row (O.makes opening.now) (O.refuses opening.now)) }
 {
-    let database = Database::<J>::new(alloc, core)?;
+    let (ledger, committers) = Ledger::<J>::new(alloc, core)?;
+    let mut committer = committers.committer();
     let mut pool = PermitPool::new(alloc, plan.permits)?;
     let functions = registry::<A, D>(alloc, &mut pool)?;
-    let (written, _functions) = write_change(rt, alloc, &database, functions, 1, opening);
+    let (written, _functions) = write_change(
+        rt,
+        alloc,
+        &ledger,
+        functions,
+        &mut committer,
+        1,
+        opening,
+    );
     match written {
-        Ok(written) => Ok((written, database.into_core())),
+        Ok(written) => Ok((written, ledger.into_core())),
         Err(cause) => Err(OpenError::Opening(cause)),
     }
 }

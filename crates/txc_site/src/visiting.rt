@@ -10,11 +10,11 @@ use crate::application::{Application, registry};
 use crate::client::SiteClient;
 use crate::error::{OpenError, SiteError};
 use crate::foundation::Foundation;
+use crate::ledger::Committers;
 use crate::visitor::Visitor;
 use std::alloc::Global;
 use std::sync::Wait;
 use std::thread::{self, Threads};
-use txc_client::Client;
 use txc_db::Naming;
 use txc_definition::Definition;
 use txc_permits::PermitPool;
@@ -25,6 +25,7 @@ fn client<'a, A: Application<D>, D: Definition, J: Naming>(
     rt: &impl Wait,
     alloc: Global,
     foundation: &'a Foundation<A, J>,
+    committers: &Committers<J>,
     pool: &mut PermitPool,
 ) -> Result<SiteClient<'a, A, D, J>, SiteError>
     requires plan { IsPlan foundation.now.plan }
@@ -36,17 +37,15 @@ fn client<'a, A: Application<D>, D: Definition, J: Naming>(
     ensures refused { IfErr result (IsClientRefused A.numbers) }
 {
     let functions = registry::<A, D>(alloc, pool)?;
-    let reader = Client::new(
+    let reader = foundation.ledger.reader(
         rt,
         alloc,
-        &foundation.database,
-        &foundation.cushion,
         &foundation.nodes,
         functions,
         foundation.plan.renew_after,
     )?;
     let writer = registry::<A, D>(alloc, pool)?;
-    Ok(SiteClient::new(foundation, reader, writer))
+    Ok(SiteClient::new(foundation, reader, writer, committers.committer()))
 }
 
 /// The client of the thread of this number.
@@ -61,6 +60,7 @@ fn guests<'a, A: Application<D>, D: Definition, J: Naming>(
     rt: &impl Wait,
     alloc: Global,
     foundation: &'a Foundation<A, J>,
+    committers: &Committers<J>,
     pool: &mut PermitPool,
     count: usize,
 ) -> Result<Vec<Guest<SiteClient<'a, A, D, J>>>, SiteError>
@@ -77,7 +77,7 @@ fn guests<'a, A: Application<D>, D: Definition, J: Naming>(
 {
     let mut guests = Vec::with_capacity(alloc, count)?;
     for number in 0..count {
-        let client = client(rt, alloc, foundation, pool)?;
+        let client = client(rt, alloc, foundation, committers, pool)?;
         guests.push(Guest { number, client })?;
     }
     Ok(guests)
@@ -89,6 +89,7 @@ pub(crate) fn visit<A, D, V, J, R>(
     rt: &R,
     alloc: Global,
     foundation: &Foundation<A, J>,
+    committers: &Committers<J>,
     pool: &mut PermitPool,
     count: usize,
     visitors: &V,
@@ -106,7 +107,7 @@ where
         HaveCome (V.gives visitors.now foundation.now.plan J.database_row) outputs.items) }
     ensures refused { IfErr result (IsVisitRefused A.numbers) }
 {
-    let guests = guests::<A, D, J>(rt, alloc, foundation, pool, count)?;
+    let guests = guests::<A, D, J>(rt, alloc, foundation, committers, pool, count)?;
     let visited = thread::map_vec(
         rt,
         guests,

@@ -1,18 +1,20 @@
 //! The writing of changes.
-ghost use Rattle.std.specs.Prelude.{◌≡◌, ◌+◌, ◌≤◌, ◌<◌, IfErr, IfOk, vec_len};
+ghost use Rattle.std.specs.Prelude.{◌≡◌, ◌+◌, ◌≤◌, ◌<◌, IfErr, IfOk, OnErr, OnOk, vec_len};
 ghost use Rattle.txc_registry.specs.Objects.{AllIdle};
-ghost use Rattle.txc_site.specs.Attempts.{IsAttempted};
+ghost use Rattle.txc_site.specs.Attempts.{CountsAttempt, IsAttempted};
+ghost use Rattle.txc_site.specs.Counted.{counted_again};
 ghost use Rattle.txc_site.specs.Writes.{AreConflicts, IsWritten, IsSiteWriteRefused};
 
 use crate::change::Change;
 use crate::error::WriteError;
+use crate::ledger::{Committer, Ledger};
 use std::alloc::Global;
 use std::sync::Wait;
 use txc_app::App;
-use txc_db::{Answered, CommitError, Database, Naming};
+use txc_db::{Answered, CommitError, Naming};
 use txc_definition::{Definition, Function};
 use txc_registry::Registry;
-use txc_rw::{Committed, RwTxn};
+use txc_rw::Committed;
 use txc_stamp::Stamp;
 
 /// What a change came to, with the commit of its transaction, and the conflicts of the runs before.
@@ -34,30 +36,35 @@ pub(crate) enum Attempt<T> {
 fn run_once<A: App, D: Definition, J: Naming, C: Change<A, D>, R: Wait>(
     rt: &R,
     alloc: Global,
-    database: &Database<J>,
+    ledger: &Ledger<J>,
     registry: Registry<A, Function<D>>,
+    committer: &mut Committer<J>,
     change: &C,
 ) -> (Attempt<C::Output>, Registry<A, Function<D>>)
     requires { AllIdle registry }
     ensures attempted { IsAttempted A.next J.database_row (C.makes change.now) (C.refuses change.now) result.0 }
     ensures registry { result.1 ≡ registry }
+    ensures counted { CountsAttempt result.0 committer.old committer.new }
 {
-    let mut txn = match RwTxn::begin(rt, alloc, database, registry) {
-        Ok(txn) => txn,
+    let mut update = match ledger.update(rt, alloc, registry) {
+        Ok(update) => update,
         Err((cause, registry)) => return (Attempt::Refused(WriteError::Begin(cause)), registry),
     };
-    let output = match change.make(rt, alloc, &mut txn) {
+    let output = match update.make(rt, alloc, change) {
         Ok(output) => output,
-        Err(cause) => return (Attempt::Refused(WriteError::Change(cause)), txn.abort(rt)),
+        Err(cause) => return (
+            Attempt::Refused(WriteError::Change(cause)),
+            update.abort(rt),
+        ),
     };
-    match txn.commit(rt, alloc) {
+    match update.commit(rt, alloc, committer) {
         Ok((committed, registry)) => (Attempt::Done(output, committed), registry),
-        Err((txn, cause)) => {
+        Err((update, cause)) => {
             let attempt = match cause {
                 CommitError::Conflict(conflict) => Attempt::Conflict(conflict),
                 CommitError::Database(cause) => Attempt::Refused(WriteError::Commit(cause)),
             };
-            (attempt, txn.abort(rt))
+            (attempt, update.abort(rt))
         }
     }
 }
@@ -66,8 +73,9 @@ fn run_once<A: App, D: Definition, J: Naming, C: Change<A, D>, R: Wait>(
 pub(crate) fn write_change<A: App, D: Definition, J: Naming, C: Change<A, D>, R: Wait>(
     rt: &R,
     alloc: Global,
-    database: &Database<J>,
+    ledger: &Ledger<J>,
     registry: Registry<A, Function<D>>,
+    committer: &mut Committer<J>,
     tries: u32,
     change: &C,
 ) -> (
@@ -83,13 +91,15 @@ pub(crate) fn write_change<A: App, D: Definition, J: Naming, C: Change<A, D>, R:
     ensures refused { IfErr result.0
         (IsSiteWriteRefused J.database_row (C.makes change.now) (C.refuses change.now) tries) }
     ensures registry { result.1 ≡ registry }
+    ensures counted { OnOk result.0 (committer.new ≡ counted_again committer.old) }
+    ensures uncounted { OnErr result.0 (committer.new ≡ committer.old) }
 {
     let Ok(mut conflicts) = Vec::with_capacity(alloc, tries as usize) else {
         return (Err(WriteError::Memory), registry);
     };
     let mut registry = registry;
     for _ in 0..tries {
-        let (outcome, left) = run_once(rt, alloc, database, registry, change);
+        let (outcome, left) = run_once(rt, alloc, ledger, registry, committer, change);
         registry = left;
         match outcome {
             Attempt::Done(output, committed) => {

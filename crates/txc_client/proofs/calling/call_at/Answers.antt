@@ -60,7 +60,7 @@ loop-turn-preserved g c =
       longer = prefix_then c.args.txn.now.core.seen.history c.loop-turn.txn.core.seen.history c.next-turn.new.self.core.seen.history inv.longer on.longer;
       functions = on.functions ∙ inv.functions;
       run = run_asked g.A.App.next g.J.Naming.database_row g.J.Naming.node_histories began c.args.key before after c.loop-turn.turn c.next-turn.result c.in-Ask.request c.ask-reply.result
-          c.in-Ask.is c.ask-reply.ensures.answer c.ask-reply.ensures.row c.ask-reply.ensures.refused c.ask-reply.ensures.left on inv.run;
+          c.in-Ask.is c.ask-reply.ensures.answer c.ask-reply.ensures.row c.ask-reply.ensures.told c.ask-reply.ensures.left on inv.run;
       missing = λ members none. absurd (cc (inv.missing members none, c.in-Ask.is));
     }
 

@@ -9,7 +9,7 @@ loop-history-preserved g c =
     let before = c.loop-history.invariant in
     let step = c.in-Some.ensures.steps.0 in
     let more : vec_len c.push.new.self ≡ vec_len c.loop-history.nodes + 1 = grind (arith, common_steps) in
-    let its : c.in_ok-new_node.field-0 ≡ settings_of_node c.args.plan (vec_len c.loop-history.nodes) = cc c.in_ok-new_node.ensures in
+    let its : c.in_ok-node.field-0 ≡ settings_of_node c.args.plan (vec_len c.loop-history.nodes) = cc c.in_ok-node.ensures in
     record {
       histories = one_history_less g.J.Naming.node_histories _ _ _ _ _ before.histories step more;
       each = grind (arith, common_steps, before.each, ap length step);

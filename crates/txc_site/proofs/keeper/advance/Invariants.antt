@@ -1,12 +1,12 @@
 use Rattle.std.proofs.Common.{◌≡◌, ℕ, List, length}
 use Rattle.txc_site.specs.Keeping.{HasTakenEach}
+use Rattle.txc_site.specs.Stations.{IsSamePass}
 use Rattle.txc_site.proofs.keeper.advance.Given as goal
 
 -- the stamps of the events that were taken, the latest first
 abbrev pub invariant-loop : goal.invariant-loop
 invariant-loop g l = (stamps : List ℕ)
-    × HasTakenEach l.fn.pass stamps l.pass
+    × HasTakenEach l.fn.station stamps l.station
     × (l.taken ≡ length stamps)
     × (l.taken ≡ l.counter)
-    × (l.pass.settings ≡ l.fn.pass.settings)
-    × (l.pass.pass ≡ l.fn.pass.pass)
+    × IsSamePass l.fn.station l.station

@@ -4,6 +4,6 @@ use Rattle.txc_site.proofs.keeper.stations.Given as goal
 
 abbrev pub invariant-loop-node : goal.invariant-loop-node
 invariant-loop-node g l = record {
-  nodes : map (λ pass. pass.settings) (map (λ s. s.pass) l.stations.items) ≡ take l.node-index l.nodes;
-  records : All (λ pass. pass.records ≡ []) (map (λ s. s.pass) l.stations.items);
+  nodes : map (λ s. s.pass.settings) l.stations.items ≡ take l.node-index l.nodes;
+  records : All (λ s. s.pass.records ≡ []) l.stations.items;
 }

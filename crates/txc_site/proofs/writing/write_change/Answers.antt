@@ -3,7 +3,7 @@ use Rattle.std.proofs.lemmas.List.Elements.{All-push, All-same}
 use Rattle.txc_db.specs.declared.answered.CommitError.TheVariants as commits
 use Rattle.txc_registry.specs.Objects.{AllIdle}
 use Rattle.txc_site.specs.Writes.{IsRefusedCommit}
-use Rattle.txc_site.proofs.Tried.{conflict_so, refused_so}
+use Rattle.txc_site.proofs.Tried.{conflict_so, refused_so, uncounted_so}
 use Rattle.txc_site.proofs.writing.write_change.Goals as goal
 
 pub returns-in-Refused-clause-refused : goal.returns-in-Refused-clause-refused
@@ -21,6 +21,7 @@ loop-preserved g c =
     record {
       registry = c.run_once-outcome.ensures.registry ∙ before.registry;
       idle = subst AllIdle (sym c.run_once-outcome.ensures.registry) before.idle;
+      uncounted = uncounted_so c.run_once-outcome.result.0 c.in-Conflict.conflict _ _ c.run_once-outcome.ensures.counted c.in-Conflict.is ∙ before.uncounted;
       conflicts =
           All-same (λ x. IsRefusedCommit row makes (commits.Conflict x)) _ _ pushed.items
           (All-push (λ x. IsRefusedCommit row makes (commits.Conflict x)) _ _ before.conflicts conflict);
